@@ -1,0 +1,41 @@
+# The words of this repository: `make` proves and builds the program, `make test` is the gate.
+
+crates := $(shell sed -e 's/[ :].*//' -e '/^#/d' -e '/^$$/d' crates.txt)
+
+# Proves every crate and builds the program.
+.PHONY: all
+all:
+	cd crates/dwv && rt run -- check data/X1
+	@echo "The program is crates/dwv/out/dwv: copy it where you like."
+
+# Proves everything from nothing, tries the must-fail edits, and runs every test.
+.PHONY: test
+test:
+	rt ci
+	tests/real-programs.sh
+
+# Proves what changed, in every crate, over what earlier runs kept.
+.PHONY: check
+check:
+	rt all check
+
+# Runs the program on a file without proving it first: `make try FILE=/bin/true`.
+.PHONY: try
+try:
+	@echo "This proves nothing: it is a first look."
+	cd crates/dwv && rt try -- check $(abspath $(FILE))
+
+# Measures the program beside llvm-dwarfdump.
+.PHONY: bench
+bench:
+	bench/bench.py
+
+# Lays out every source file.
+.PHONY: fmt
+fmt:
+	for crate in $(crates); do (cd crates/$$crate && rt fmt) || exit 1; done
+
+# Removes what checks and builds kept.
+.PHONY: clean
+clean:
+	rm -rf crates/*/out bench/out tests/out

@@ -1,0 +1,21 @@
+-- The six sections that are looked for, by their names (DWARF 5, 7.5, 7.26 and 7.27).
+use Rattle.std.specs.Prelude.{◌≡◌, ℕ, List, take, codes}
+use Rattle.dw_elf.specs.declared.names.DebugSection.{DebugSection}
+use Rattle.dw_elf.specs.declared.names.DebugSection.TheVariants.{Abbrev, Info, Str, LineStr, StrOffsets, Addr}
+
+-- the name that a section header gives to one of the six
+abbrev pub name_of : DebugSection → List ℕ
+name_of Abbrev = codes ".debug_abbrev"
+name_of Info = codes ".debug_info"
+name_of Str = codes ".debug_str"
+name_of LineStr = codes ".debug_line_str"
+name_of StrOffsets = codes ".debug_str_offsets"
+name_of Addr = codes ".debug_addr"
+
+-- this is the name of one of the six
+abbrev pub IsWanted : List ℕ → Type 0
+IsWanted name = (s : DebugSection) × (name ≡ name_of s)
+
+-- a name that begins .zdebug_, which says that the section's bytes are compressed in an older way
+abbrev pub IsZdebug : List ℕ → Type 0
+IsZdebug name = take 8 name ≡ codes ".zdebug_"

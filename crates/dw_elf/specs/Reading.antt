@@ -1,0 +1,49 @@
+-- What is known while the headers are read: what the file header and a section header say, and what the
+-- section headers so far name.
+use Rattle.std.specs.Prelude.{◌≡◌, ◌≢◌, ℕ, ◌<◌, ◌≤◌, List, length, Option, Some, None}
+use Rattle.std.specs.Option.{option_copied}
+use Rattle.dw_elf.specs.declared.header.FileHeader.{FileHeader}
+use Rattle.dw_elf.specs.declared.section_header.SectionHeader.{SectionHeader}
+use Rattle.dw_elf.specs.declared.found.Found.{Found}
+use Rattle.dw_elf.specs.declared.names.DebugSection.{DebugSection}
+use Rattle.dw_elf.specs.declared.names.DebugSection.TheVariants.{Abbrev, Info, Str, LineStr, StrOffsets, Addr}
+use Rattle.dw_elf.specs.declared.TheConstants.{SECTION_LIMIT}
+use Rattle.dw_elf.specs.Elf.{file_type, table_offset, header_size, section_count, names_index, name_offset, section_type, section_flags, section_offset, section_size, section_name, section_bytes}
+use Rattle.dw_elf.specs.Names.{name_of}
+
+-- these are the fields of the file header
+pub record IsFileHeader (file : List ℕ) (header : FileHeader) : Type 0 where
+  pub kind : header.kind ≡ file_type file
+  pub table : header.table_offset ≡ table_offset file
+  pub size : header.header_size ≡ header_size file
+  pub count : header.section_count ≡ section_count file
+  pub names : header.names_index ≡ names_index file
+
+-- these are the fields of section header k
+pub record IsHeaderAt (file : List ℕ) (k : ℕ) (header : SectionHeader) : Type 0 where
+  pub name : header.name_offset ≡ name_offset file k
+  pub kind : header.kind ≡ section_type file k
+  pub flags : header.flags ≡ section_flags file k
+  pub offset : header.offset ≡ section_offset file k
+  pub size : header.size ≡ section_size file k
+
+-- the bytes that were found for a section
+abbrev pub slot : Found → DebugSection → Option (List ℕ)
+slot f Abbrev = option_copied f.abbrev
+slot f Info = option_copied f.info
+slot f Str = option_copied f.str
+slot f LineStr = option_copied f.line_str
+slot f StrOffsets = option_copied f.str_offsets
+slot f Addr = option_copied f.addr
+
+-- of the headers from 1 on and below k, none has this name, or one alone has it, and these are its bytes,
+-- within the limit
+abbrev pub IsSlot : List ℕ → ℕ → List ℕ → Option (List ℕ) → Type 0
+IsSlot file k name None = (j : ℕ) → 0 < j → j < k → section_name file j ≢ name
+IsSlot file k name (Some bytes) =
+    (j : ℕ) × ((0 < j) × (j < k)) × (section_name file j ≡ name) × ((i : ℕ) → 0 < i → i < k → section_name file i ≡ name → i ≡ j)
+    × (bytes ≡ section_bytes file j) × (length bytes ≤ SECTION_LIMIT)
+
+-- what was found is what the headers from 1 on and below k name
+abbrev pub SlotsUpTo : List ℕ → ℕ → Found → Type 0
+SlotsUpTo file k found = (s : DebugSection) → IsSlot file k (name_of s) (slot found s)

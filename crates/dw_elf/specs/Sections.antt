@@ -1,0 +1,28 @@
+-- The bytes of a section by its name, and the six sections of a file.
+use Rattle.std.specs.Prelude.{◌≡◌, ◌⊎◌, List, [], ℕ}
+use Rattle.dw_elf.specs.declared.sections.Sections.{Sections}
+use Rattle.dw_elf.specs.declared.names.DebugSection.TheVariants.{Abbrev, Info, Str, LineStr, StrOffsets, Addr}
+use Rattle.dw_elf.specs.Elf.{IsHeader, section_name, section_bytes}
+use Rattle.dw_elf.specs.Names.{name_of}
+use Rattle.dw_elf.specs.Checks.{HasNone}
+
+-- header k has this name, and no other header has it
+pub record HasOne (file name : List ℕ) (k : ℕ) : Type 0 where
+  pub header : IsHeader file k
+  pub named : section_name file k ≡ name
+  pub alone : (j : ℕ) → IsHeader file j → section_name file j ≡ name → j ≡ k
+
+-- the bytes of the section of this name: those of the one header that has it, or none where no header has it
+abbrev pub IsSection : List ℕ → List ℕ → List ℕ → Type 0
+IsSection file name bytes =
+    ((k : ℕ) × HasOne file name k × (bytes ≡ section_bytes file k))
+    ⊎ (HasNone file name × (bytes ≡ []))
+
+-- each of the six has the bytes of the section of its name
+pub record AreSections (file : List ℕ) (s : Sections) : Type 0 where
+  pub abbrev_is : IsSection file (name_of Abbrev) s.abbrev.now
+  pub info_is : IsSection file (name_of Info) s.info.now
+  pub str_is : IsSection file (name_of Str) s.str.now
+  pub line_str_is : IsSection file (name_of LineStr) s.line_str.now
+  pub str_offsets_is : IsSection file (name_of StrOffsets) s.str_offsets.now
+  pub addr_is : IsSection file (name_of Addr) s.addr.now

@@ -1,0 +1,83 @@
+//! The search for the six sections: the checks of the file, then of each header in order, then of all.
+
+ghost use Rattle.std.specs.Prelude.{◌≡◌, ℕ, List, ◌+◌, IfOk, IfErr, OnOk};
+ghost use Rattle.dw_elf.specs.declared.fault.ElfFault.{ElfFault as AnyFault};
+ghost use Rattle.dw_elf.specs.Elf.{IsHeader, section_count};
+ghost use Rattle.dw_elf.specs.Checks.{ChecksPass, Passes};
+ghost use Rattle.dw_elf.specs.Rules.{FailsAt, IsFault};
+ghost use Rattle.dw_elf.specs.Sections.{AreSections, IsSection};
+ghost use Rattle.dw_elf.specs.Reading.{SlotsUpTo};
+
+use crate::fault::{ElfFault, ElfRule};
+use crate::found::Found;
+use crate::names::DebugSection;
+use crate::section_table::SectionTable;
+use crate::sections::Sections;
+
+/// What is found once header `k` is taken in.
+fn with_header<'a>(table: &SectionTable<'a>, k: u16, found: Found<'a>) -> Result<Found<'a>, ElfRule>
+    requires header { IsHeader table.now.file.now k }
+    requires so_far { SlotsUpTo table.now.file.now k found }
+    ensures passes { OnOk result (Passes table.now.file.now k) }
+    ensures found { IfOk result (λ found. SlotsUpTo table.now.file.now (k + 1) found) }
+    ensures fails { IfErr result (λ rule. FailsAt table.now.file.now k rule k) }
+{
+    match table.check(k, &found) {
+        Ok(Some((section, bytes))) => Ok(found.put(section, bytes)),
+        Ok(None) => Ok(found),
+        Err(rule) => Err(rule),
+    }
+}
+
+/// The sections, once all headers are taken in.
+fn sections_of<'a>(file: &[u8], found: &Found<'a>) -> Sections<'a>
+    requires { SlotsUpTo file.now (section_count file.now) found.now }
+    ensures { AreSections file.now result }
+{
+    Sections {
+        abbrev: found.bytes(DebugSection::Abbrev),
+        info: found.bytes(DebugSection::Info),
+        str: found.bytes(DebugSection::Str),
+        line_str: found.bytes(DebugSection::LineStr),
+        str_offsets: found.bytes(DebugSection::StrOffsets),
+        addr: found.bytes(DebugSection::Addr),
+    }
+}
+
+/// Finds the six sections of a linked ELF-64 little-endian file. The slices are lent from the file,
+/// and no memory is taken.
+pub fn find<'a>(file: &'a [u8]) -> Result<Sections<'a>, ElfFault>
+    ensures passes { OnOk result (ChecksPass file.now) }
+    ensures sections { IfOk result (λ sections. AreSections file.now sections) }
+    ensures fault { IfErr result (λ fault. IsFault file.now fault) }
+{
+    let table = match SectionTable::of(file) {
+        Ok(table) => table,
+        Err(rule) => return Err(ElfFault { rule, section: 0 }),
+    };
+    let mut found = Found::new();
+    for k in 1..table.count {
+        found = match with_header(&table, k, found) {
+            Ok(found) => found,
+            Err(rule) => return Err(ElfFault { rule, section: k }),
+        };
+    }
+    if found.info.is_none() {
+        return Err(ElfFault {
+            rule: ElfRule::NoInfo,
+            section: 0,
+        });
+    }
+    Ok(sections_of(file, &found))
+}
+
+/// A file has one fault at most, and none where no check fails: so `find` has one answer.
+pub fn one_fault()
+    ensures one { (file : List ℕ) (e f : AnyFault) → IsFault file e → IsFault file f → e ≡ f }
+    ensures none { (file : List ℕ) (e : AnyFault) → IsFault file e → ¬ ChecksPass file }
+{}
+
+/// A file has one section at most of a name, and the bytes of the section are one list.
+pub fn one_section()
+    ensures { (file name a b : List ℕ) → IsSection file name a → IsSection file name b → a ≡ b }
+{}

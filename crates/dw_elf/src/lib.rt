@@ -1,0 +1,21 @@
+//! The six DWARF sections of a linked ELF-64 little-endian file, lent from its bytes.
+#![tactic(auto)]
+
+mod fault;
+mod fields;
+mod finding;
+mod found;
+mod header;
+mod names;
+mod section_header;
+mod section_table;
+mod sections;
+#[cfg(test)]
+mod tests;
+
+pub use crate::fault::{ElfFault, ElfRule, TooLarge};
+pub use crate::finding::{find, one_fault, one_section};
+pub use crate::sections::Sections;
+
+/// The most bytes that a section may have: 1 GiB.
+pub const SECTION_LIMIT: usize = 1_073_741_824;

@@ -1,0 +1,154 @@
+//! The table of section headers: the checks of the file, and those of one header.
+
+ghost use Rattle.std.specs.Prelude.{◌≡◌, ◌+◌, ◌*◌, ◌<◌, ◌≤◌, length, IfOk, IfErr, IfSome, IfNone, OnOk, OnSome};
+ghost use Rattle.dw_elf.specs.declared.TheConstants.{SECTION_LIMIT};
+ghost use Rattle.dw_elf.specs.Elf.{FILE_HEADER_SIZE, SECTION_HEADER_SIZE, table_offset, section_count, section_name, section_bytes, name_table, IsHeader};
+ghost use Rattle.dw_elf.specs.Names.{name_of, IsWanted, IsZdebug};
+ghost use Rattle.dw_elf.specs.Checks.{HasSectionTable, IsNamed, IsNamedBefore, Passes};
+ghost use Rattle.dw_elf.specs.Reading.{IsFileHeader};
+
+use crate::SECTION_LIMIT;
+use crate::fault::ElfRule;
+use crate::found::Found;
+use crate::header::{FileHeader, is_elf64};
+use crate::names::{DebugSection, is_zdebug, name_at, section_named};
+use crate::section_header::{
+    SECTION_HEADER_SIZE, SHF_COMPRESSED, SHT_NOBITS, SectionHeader, range,
+};
+
+/// A file that passes the checks of the file.
+#[derive(Clone, Copy)]
+pub(crate) struct SectionTable<'a> {
+    /// The bytes of the file.
+    pub file: &'a [u8],
+    /// Where the section headers begin, from the file's first byte.
+    pub start: u64,
+    /// The count of section headers, number 0 included.
+    pub count: u16,
+    /// The bytes of the name table.
+    pub names: &'a [u8],
+    ghost start_of_file: { start ≡ table_offset file.now },
+    ghost count_of_file: { count ≡ section_count file.now },
+    ghost names_of_file: { names.now ≡ name_table file.now },
+    ghost in_file: { start + SECTION_HEADER_SIZE * count ≤ length file.now },
+    ghost some: { 0 < count },
+}
+
+impl<'a> SectionTable<'a> {
+    ghost use Rattle.dw_elf.specs.Rules.{FailsAt};
+    ghost use Rattle.dw_elf.specs.Reading.{IsHeaderAt, slot, SlotsUpTo};
+
+    /// Asks the checks of the file.
+    pub(crate) fn of(file: &'a [u8]) -> Result<SectionTable<'a>, ElfRule>
+        ensures file { IfOk result (λ table. table.file ≡ file.entry) }
+        ensures passes { OnOk result (Passes file.now 0) }
+        ensures fails { IfErr result (λ rule. FailsAt file.now 0 rule 0) }
+    {
+        if !is_elf64(file) {
+            return Err(ElfRule::NotElf64);
+        }
+        let header = FileHeader::read(file);
+        if !header.is_linked(file) {
+            return Err(ElfRule::NotLinked);
+        }
+        let Some(table) = table_of(file, &header) else {
+            return Err(ElfRule::SectionTable);
+        };
+        Ok(table)
+    }
+
+    /// Asks the checks of header `k`, where `found` is what lower headers name. The answer is the
+    /// section that this header names, if it is looked for.
+    pub(crate) fn check(
+        &self,
+        k: u16,
+        found: &Found<'a>,
+    ) -> Result<Option<(DebugSection, &'a [u8])>, ElfRule>
+        requires header { IsHeader self.now.file.now k }
+        requires so_far { SlotsUpTo self.now.file.now k found.now }
+        ensures passes { OnOk result (Passes self.now.file.now k) }
+        ensures named { IfOk result (λ o. IfSome o (λ x. section_name self.now.file.now k ≡ name_of x.0)) }
+        ensures first { IfOk result (λ o. IfSome o (λ x. slot found.now x.0 ≡ None)) }
+        ensures bytes { IfOk result (λ o. IfSome o (λ x. x.1.now ≡ section_bytes self.now.file.now k)) }
+        ensures small { IfOk result (λ o. IfSome o (λ x. length x.1.now ≤ SECTION_LIMIT)) }
+        ensures other { IfOk result (λ o. IfNone o (¬ IsWanted (section_name self.now.file.now k))) }
+        ensures fails { IfErr result (λ rule. FailsAt self.now.file.now k rule k) }
+    {
+        let header = SectionHeader::read(self.file, self.start, k);
+        let Some(name) = name_at(self.names, header.name_offset) else {
+            return Err(ElfRule::SectionName);
+        };
+        if is_zdebug(name) {
+            return Err(ElfRule::Compressed);
+        }
+        let Some(section) = section_named(name) else {
+            return Ok(None);
+        };
+        if found.get(section).is_some() {
+            return Err(ElfRule::SectionTwice);
+        }
+        let bytes = self.bytes_of(k, &header)?;
+        Ok(Some((section, bytes)))
+    }
+
+    /// The bytes of one of the six sections, whose name no lower header has.
+    #[tactic(auto, unfolding(crate::specs::Elf::section_bytes))]
+    fn bytes_of(&self, k: u16, header: &SectionHeader) -> Result<&'a [u8], ElfRule>
+        requires header { IsHeader self.now.file.now k }
+        requires fields { IsHeaderAt self.now.file.now k header.now }
+        requires named { IsNamed self.now.file.now k }
+        requires plain { ¬ IsZdebug (section_name self.now.file.now k) }
+        requires wanted { IsWanted (section_name self.now.file.now k) }
+        requires once { ¬ IsNamedBefore self.now.file.now k }
+        ensures passes { OnOk result (Passes self.now.file.now k) }
+        ensures bytes { IfOk result (λ bytes. bytes.now ≡ section_bytes self.now.file.now k) }
+        ensures small { IfOk result (λ bytes. length bytes.now ≤ SECTION_LIMIT) }
+        ensures fails { IfErr result (λ rule. FailsAt self.now.file.now k rule k) }
+    {
+        if header.kind == SHT_NOBITS {
+            return Err(ElfRule::NoBits);
+        }
+        if header.flags & SHF_COMPRESSED != 0 {
+            return Err(ElfRule::Compressed);
+        }
+        let Some(bytes) = range(self.file, header.offset, header.size) else {
+            return Err(ElfRule::SectionRange);
+        };
+        if bytes.len() > SECTION_LIMIT {
+            return Err(ElfRule::TooLarge);
+        }
+        Ok(bytes)
+    }
+}
+
+/// The table that a file header leads to, if it is there as it must be.
+#[tactic(auto, unfolding(crate::specs::Elf::section_bytes))]
+fn table_of<'a>(file: &'a [u8], header: &FileHeader) -> Option<SectionTable<'a>>
+    requires long { FILE_HEADER_SIZE ≤ length file.now }
+    requires fields { IsFileHeader file.now header.now }
+    ensures file { IfSome result (λ table. table.file ≡ file.entry) }
+    ensures there { OnSome result (HasSectionTable file.now) }
+    ensures none { IfNone result (¬ HasSectionTable file.now) }
+{
+    let start = header.table_offset;
+    let count = header.section_count;
+    let index = header.names_index;
+    if header.header_size != SECTION_HEADER_SIZE || index == 0 || index >= count {
+        return None;
+    }
+    let size = u64::from(SECTION_HEADER_SIZE) * u64::from(count);
+    if range(file, start, size).is_none() {
+        return None;
+    }
+    let named = SectionHeader::read(file, start, index);
+    if named.kind == SHT_NOBITS {
+        return None;
+    }
+    let names = range(file, named.offset, named.size)?;
+    Some(SectionTable {
+        file,
+        start,
+        count,
+        names,
+    })
+}

@@ -1,0 +1,72 @@
+//! The six sections within the size limit, as `find` gives them or as a caller has them.
+
+ghost use Rattle.std.specs.Prelude.{◌≡◌, ◌<◌, ◌≤◌, ◌↔◌, ◌⊎◌, length, IfOk, IsErr};
+ghost use Rattle.dw_elf.specs.declared.TheConstants.{SECTION_LIMIT};
+
+use crate::SECTION_LIMIT;
+use crate::fault::TooLarge;
+
+/// The bytes of the six sections that are checked, each within `SECTION_LIMIT`. A section that a file
+/// does not have is empty.
+#[derive(Clone, Copy, Debug)]
+pub struct Sections<'a> {
+    /// .debug_abbrev: the abbreviation tables (DWARF 5, 7.5.3).
+    pub abbrev: &'a [u8],
+    /// .debug_info: the units and their entries (7.5.1).
+    pub info: &'a [u8],
+    /// .debug_str: the strings that entries share (7.5.5).
+    pub str: &'a [u8],
+    /// .debug_line_str: the strings that entries share with line tables (7.5.5).
+    pub line_str: &'a [u8],
+    /// .debug_str_offsets: offsets into .debug_str, by index (7.26).
+    pub str_offsets: &'a [u8],
+    /// .debug_addr: addresses, by index (7.27).
+    pub addr: &'a [u8],
+    ghost abbrev_fits: { length «abbrev».now ≤ SECTION_LIMIT },
+    ghost info_fits: { length info.now ≤ SECTION_LIMIT },
+    ghost str_fits: { length str.now ≤ SECTION_LIMIT },
+    ghost line_str_fits: { length line_str.now ≤ SECTION_LIMIT },
+    ghost str_offsets_fits: { length str_offsets.now ≤ SECTION_LIMIT },
+    ghost addr_fits: { length addr.now ≤ SECTION_LIMIT },
+}
+
+impl<'a> Sections<'a> {
+    /// The six slices as sections, where each of them is within the limit.
+    pub fn new(
+        abbrev: &'a [u8],
+        info: &'a [u8],
+        str: &'a [u8],
+        line_str: &'a [u8],
+        str_offsets: &'a [u8],
+        addr: &'a [u8],
+    ) -> Result<Sections<'a>, TooLarge>
+        ensures abbrev { IfOk result (λ s. s.abbrev ≡ «abbrev».entry) }
+        ensures info { IfOk result (λ s. s.info ≡ info.entry) }
+        ensures str { IfOk result (λ s. s.str ≡ str.entry) }
+        ensures line_str { IfOk result (λ s. s.line_str ≡ line_str.entry) }
+        ensures str_offsets { IfOk result (λ s. s.str_offsets ≡ str_offsets.entry) }
+        ensures addr { IfOk result (λ s. s.addr ≡ addr.entry) }
+        ensures too_large { IsErr result ↔ ((SECTION_LIMIT < length «abbrev».now)
+            ⊎ (SECTION_LIMIT < length info.now) ⊎ (SECTION_LIMIT < length str.now)
+            ⊎ (SECTION_LIMIT < length line_str.now) ⊎ (SECTION_LIMIT < length str_offsets.now)
+            ⊎ (SECTION_LIMIT < length addr.now)) }
+    {
+        if abbrev.len() > SECTION_LIMIT
+            || info.len() > SECTION_LIMIT
+            || str.len() > SECTION_LIMIT
+            || line_str.len() > SECTION_LIMIT
+            || str_offsets.len() > SECTION_LIMIT
+            || addr.len() > SECTION_LIMIT
+        {
+            return Err(TooLarge);
+        }
+        Ok(Sections {
+            abbrev,
+            info,
+            str,
+            line_str,
+            str_offsets,
+            addr,
+        })
+    }
+}
