@@ -1,0 +1,16 @@
+pub mod OneByte
+pub mod SpellingSteps
+pub mod AbbrevSteps
+pub mod Texts
+pub mod Keys
+pub mod Places
+pub mod MarkSteps
+pub mod AttributeLaws
+pub mod AttributesLaws
+pub mod DeclLaws
+pub mod TableLaws
+pub mod NumberFaults
+pub mod TableFaults
+pub mod FixedSums
+pub mod FewAttributes
+pub mod ValueAnswers

@@ -1,0 +1,75 @@
+-- One byte more of a LEB128 number.
+use Rattle.std.proofs.Common.{◌≡◌, ℕ, zero, suc, ◌+◌, ◌*◌, ◌^◌, ◌%◌, ◌<◌, ◌≤◌, List, length, get_or, drop, Ok, Err, refl, ap, ◌∙◌, arith}
+use Rattle.std.specs.Prelude.{bit_and, pos, ◌-ℤ◌}
+use Rattle.std.specs.Int.{w128}
+use Rattle.std.proofs.Common.{to_z, of_z}
+use Rattle.std.proofs.lemmas.Int.{ints}
+use Rattle.std.proofs.Math.Nat.{pow-suc, pow-le-pow_right}
+use Rattle.std.proofs.Math.Numerals.{add-one}
+use Rattle.std.proofs.lemmas.Nat.{and_mask, shl_whole, mul-add-lt, pow-add, one_shl}
+use Rattle.std.proofs.lemmas.Bool.{lt-ltb, le-ltb}
+use Rattle.std.proofs.lemmas.List.{at_drop_more, at_drop_all}
+use Rattle.dw_forms.specs.declared.leb.NumberFault.TheVariants.{Cut, BadNumber}
+use Rattle.dw_forms.specs.LebReading.{spelling_from}
+
+-- seven bits a place
+sevens : (k : ℕ) → 2 ^ (7 * k) ≡ 128 ^ k
+sevens zero = refl
+sevens (suc k) =
+    let e : 7 * suc k ≡ 7 * k + 7 = omega arith in
+    rw (e, pow-add, pow-suc 128 k) (ap (λ (p : ℕ). p * 128) (sevens k))
+
+-- the low seven bits of a byte, shifted to their place
+pub shifted : (b place low : ℕ) → low ≡ bit_and b 127 → place ≤ 9 → low * 2 ^ (7 * place) % 2 ^ 128 ≡ (b % 128) * 128 ^ place
+shifted b place low is le =
+    let low_seven : low ≡ b % 128 = is ∙ and_mask b 7 in
+    let below : b % 128 < 2 ^ 7 = omega arith in
+    let power : 2 ^ (7 * place) ≡ 128 ^ place = sevens place in
+    rw low_seven (shl_whole (b % 128) 7 (7 * place) 128 below (omega arith) ∙ ap (λ (p : ℕ). (b % 128) * p) power)
+
+pub next_small : (b place sum : ℕ) → sum < 128 ^ place → sum + (b % 128) * 128 ^ place < 128 ^ (place + 1)
+next_small b place sum lt =
+    let below : b % 128 < 128 = omega arith in
+    rw (add-one, pow-suc) (omega (arith, mul-add-lt (b % 128) (128 ^ place) sum 128 below lt))
+
+pub bits_70 : (place n : ℕ) → place ≤ 9 → n < 128 ^ (place + 1) → n < 2 ^ 70
+bits_70 place n le lt =
+    let positive : 0 < 128 = omega arith in
+    let p : place + 1 ≤ 10 = omega arith in
+    let most : 128 ^ (place + 1) ≤ 128 ^ 10 = pow-le-pow_right positive p in
+    omega arith
+
+pub step_end : (bytes : List ℕ) (place sum : ℕ) → place < length bytes → get_or bytes place 0 < 128
+    → spelling_from place sum (drop place bytes) ≡ Ok (record { sum = sum + (get_or bytes place 0 % 128) * 128 ^ place; last = get_or bytes place 0; len = place + 1 })
+unfolding spelling_from
+step_end bytes place sum lt low =
+    let e = lt-ltb (get_or bytes place 0) 128 low in
+    at_drop_more (spelling_from place sum) bytes place 0 lt ∙ rw e refl
+
+pub step_on : (bytes : List ℕ) (place sum : ℕ) → place < length bytes → 128 ≤ get_or bytes place 0 → place < 9
+    → spelling_from place sum (drop place bytes) ≡ spelling_from (place + 1) (sum + (get_or bytes place 0 % 128) * 128 ^ place) (drop (place + 1) bytes)
+unfolding spelling_from
+step_on bytes place sum lt high le =
+    at_drop_more (spelling_from place sum) bytes place 0 lt ∙ rw (le-ltb (get_or bytes place 0) 128 high, lt-ltb place 9 le) refl
+
+pub step_bad : (bytes : List ℕ) (place sum : ℕ) → place < length bytes → 128 ≤ get_or bytes place 0 → 9 ≤ place
+    → spelling_from place sum (drop place bytes) ≡ Err BadNumber
+unfolding spelling_from
+step_bad bytes place sum lt high le =
+    at_drop_more (spelling_from place sum) bytes place 0 lt ∙ rw (le-ltb (get_or bytes place 0) 128 high, le-ltb place 9 le) refl
+
+pub step_cut : (bytes : List ℕ) (place sum : ℕ) → length bytes ≤ place → spelling_from place sum (drop place bytes) ≡ Err Cut
+unfolding spelling_from
+step_cut bytes place sum le = at_drop_all (spelling_from place sum) bytes place le
+
+-- a difference of two numbers of at most 71 bits is computed as it is
+difference : (s p : ℕ) → s < 2 ^ 71 → p < 2 ^ 71 → to_z w128 (of_z w128 (to_z w128 s -ℤ to_z w128 p)) ≡ pos s -ℤ pos p
+difference s p small_s small_p = omega (arith, ints)
+
+-- a power of 128 is taken off
+pub taken_off : (s k : ℕ) → k ≤ 10 → s < 2 ^ 70 → to_z w128 (of_z w128 (to_z w128 s -ℤ to_z w128 (1 * 2 ^ (7 * k) % 2 ^ 128))) ≡ pos s -ℤ pos (128 ^ k)
+taken_off s k le lt =
+    let power : 1 * 2 ^ (7 * k) % 2 ^ 128 ≡ 128 ^ k = one_shl (7 * k) 128 (omega arith) ∙ sevens k in
+    let positive : 0 < 128 = omega arith in
+    let most : 128 ^ k ≤ 128 ^ 10 = pow-le-pow_right positive le in
+    rw power (difference s (128 ^ k) (omega arith) (omega arith))

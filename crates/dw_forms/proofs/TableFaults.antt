@@ -1,0 +1,195 @@
+-- The faults of a table are those that reading answers, so the same bytes have one at most.
+use Rattle.std.proofs.Common.{◌≡◌, ◌≢◌, ℕ, zero, suc, ◌+◌, ◌-◌, ◌<◌, ◌≤◌, Bool, true, false, eqb, ltb, List, [], ◌∷◌, ◌++◌, length, drop, Option, Some, None, Ok, Err, refl, sym, ap, subst, ◌∙◌, inl, inr, append_assoc, arith}
+use Rattle.std.specs.Prelude.{◌&&◌, ◌||◌, pos, Any}
+use Rattle.std.specs.List.{list_any}
+use Rattle.std.proofs.lemmas.Bool.{eq-eqb, ne_eqb, lt-ltb, le-ltb}
+use Rattle.std.proofs.lemmas.List.{append-nil, length-append, length-drop}
+use Rattle.std.proofs.lemmas.List.Folds.{list_any-from_Any}
+use Rattle.dw_forms.specs.declared.form.Form.{Form}
+use Rattle.dw_forms.specs.declared.form.Form.TheVariants as form
+use Rattle.dw_forms.specs.declared.decl.AttributeSpec.{AttributeSpec}
+use Rattle.dw_forms.specs.declared.abbrev_fault.DeclFault.{DeclFault}
+use Rattle.dw_forms.specs.declared.abbrev_fault.BrokenTable.{BrokenTable}
+use Rattle.dw_forms.specs.declared.abbrev_fault.AbbrevRule.TheVariants.{UnknownForm, AttributeTwice, BadChildren}
+use Rattle.dw_forms.specs.Front.{Takes}
+use Rattle.dw_forms.specs.AbbrevFaults.{fault_at}
+use Rattle.dw_forms.specs.FormCodes.{code_of, form_of}
+use Rattle.dw_forms.specs.Leb.{Uleb}
+use Rattle.dw_forms.specs.Abbrev.{Declaration, SpellsPair, SpellsFront, SpellsDecls, IsCode16, IsNewCode, AreAttributes, AreDeclarations, broken, NumberFails, ConstantFails, IsBadPair, PairFails, attribute_number, form_number, bad_pair, unknown_form, attribute_twice, constant_number, AttributesFail, DeclFails, code_number, code_twice, tag_number, bad_tag, children_cut, bad_children, attributes_fail, TableFails}
+use Rattle.dw_forms.specs.AbbrevReading.{number_at, signed_at, children_at, new_form_of, pair_at, attributes_from, attributes_of, has_code, decl_at, decls_from, decls_of, table_at}
+use Rattle.dw_forms.proofs.Keys.{lacks_test, apart_lacks}
+use Rattle.dw_forms.specs.FormLaws.{FormIs, form_of_says, form_of-code_of, code_some}
+use Rattle.dw_forms.proofs.NumberFaults.{uleb_refuses, sleb_refuses, reads_on, fault_is}
+use Rattle.dw_forms.proofs.AttributeLaws.{attribute_of, number_reader, after_numbers, numbers_again, not_bad, new_form_again, next_again as attribute_again}
+use Rattle.dw_forms.proofs.AttributesLaws.{spec_some, one_of as one_attribute}
+use Rattle.dw_forms.proofs.DeclLaws.{code_of_decl, after_tag, tag_is, children_again, next_again as decl_again}
+use Rattle.dw_forms.proofs.TableLaws.{decl_some, one_of as one_decl}
+
+-- ---- numbers
+
+number_refuses : (bytes : List ℕ) (fault : DeclFault) → NumberFails bytes fault → number_at bytes ≡ Err fault
+number_refuses bytes fault h = rw (uleb_refuses bytes h.0 h.1, h.2) refl
+
+constant_refuses : (bytes : List ℕ) (fault : DeclFault) → ConstantFails bytes fault → signed_at bytes ≡ Err fault
+constant_refuses bytes fault h = rw (sleb_refuses bytes h.0 h.1, h.2) refl
+
+reads : (bytes : List ℕ) (n : ℕ) (rest : List ℕ) → Takes Uleb bytes n rest → number_at bytes ≡ Ok (n, rest)
+reads bytes n rest t = reads_on number_at Uleb NumberFails number_reader bytes n rest t
+
+-- ---- a pair
+
+any_test : {X : Type 0} (key : X → ℕ) (n : ℕ) (xs : List X) → Any (λ x. key x ≡ n) xs → list_any (λ x. eqb (key x) n) xs ≡ true
+any_test key n xs h = list_any-from_Any (λ x. eqb (key x) n) xs (h.0, h.1, h.2, h.3, eq-eqb (key h.1) n h.4)
+
+or_true : (b : Bool) → (b || true) ≡ true
+or_true true = refl
+or_true false = refl
+
+bad_tests : (a c : ℕ) → IsBadPair a c → ((eqb a 0 && eqb c 0) ≡ false) × ((eqb a 0 || eqb c 0 || ltb 65535 a) ≡ true)
+bad_tests a c (inl h) =
+    let p : eqb a 0 ≡ true = eq-eqb a 0 h.0 in
+    let q : eqb c 0 ≡ false = ne_eqb c 0 (λ same. let k = h.1 in absurd (omega arith)) in
+    (rw (p, q) refl, rw p refl)
+bad_tests a c (inr (inl h)) =
+    let p : eqb a 0 ≡ false = ne_eqb a 0 (λ same. let k = h.0 in absurd (omega arith)) in
+    let q : eqb c 0 ≡ true = eq-eqb c 0 h.1 in
+    (rw p refl, rw (p, q) refl)
+bad_tests a c (inr (inr h)) =
+    let p : eqb a 0 ≡ false = ne_eqb a 0 (λ same. absurd (omega arith)) in
+    let q : ltb 65535 a ≡ true = lt-ltb 65535 a h in
+    (rw p refl, rw (p, q) (or_true (eqb c 0)))
+
+pair_on : (earlier : List AttributeSpec) (bytes : List ℕ) (a c : ℕ) (rest : List ℕ) → Takes SpellsPair bytes (a, c) rest → pair_at earlier bytes ≡ after_numbers earlier a c rest
+pair_on earlier bytes a c rest t = ap (pair_at earlier) t.parts ∙ numbers_again earlier [] t.text rest a c t.spelled
+
+no_form_on : (earlier : List AttributeSpec) (a c : ℕ) (o : Option Form) → FormIs c o → form_of c ≡ o → ((f : Form) → code_of f ≢ c) → new_form_of earlier a c ≡ Err (broken UnknownForm a)
+unfolding new_form_of
+no_form_on earlier a c None is e none = rw e refl
+no_form_on earlier a c (Some g) is e none = absurd (none g is)
+
+twice_on : (earlier : List AttributeSpec) (a : ℕ) (f : Form) → Any (λ s. s.attribute ≡ a) earlier → new_form_of earlier a (code_of f) ≡ Err (broken AttributeTwice a)
+unfolding new_form_of
+twice_on earlier a f any = rw (form_of-code_of f, any_test attribute_of a earlier any) refl
+
+pair_refuses : (earlier : List AttributeSpec) (bytes : List ℕ) (fault : DeclFault) → PairFails earlier bytes fault → pair_at earlier bytes ≡ Err fault
+unfolding pair_at
+pair_refuses earlier bytes fault (attribute_number h) = rw (number_refuses bytes fault h) refl
+pair_refuses earlier bytes fault (form_number a rest t h) = rw (reads bytes a rest t, number_refuses rest fault h) refl
+pair_refuses earlier bytes fault (bad_pair a c rest t bad is) =
+    let b = bad_tests a c bad in
+    pair_on earlier bytes a c rest t ∙ rw (b.0, b.1, is) refl
+pair_refuses earlier bytes fault (unknown_form a c rest t good some none is) =
+    let b = not_bad earlier [] a c good some in
+    pair_on earlier bytes a c rest t ∙ rw (b.0, b.1, no_form_on earlier a c (form_of c) (form_of_says c) refl none, is) refl
+pair_refuses earlier bytes fault (attribute_twice a f rest t good any is) =
+    let b = not_bad earlier [] a (code_of f) good (code_some f) in
+    pair_on earlier bytes a (code_of f) rest t ∙ rw (b.0, b.1, twice_on earlier a f any, is) refl
+pair_refuses earlier bytes fault (constant_number a rest t good lacks fails) =
+    let b = not_bad earlier [] a 0x21 good (omega arith) in
+    let new : new_form_of earlier a 0x21 ≡ Ok (form.ImplicitConst (pos 0)) = new_form_again earlier a (form.ImplicitConst (pos 0)) lacks in
+    pair_on earlier bytes a 0x21 rest t ∙ rw (b.0, b.1, new, constant_refuses rest fault fails) refl
+
+-- ---- all attributes
+
+front_refuses : (specs earlier : List AttributeSpec) (bound : ℕ) (text rest : List ℕ) (fault : DeclFault) → SpellsFront specs text → AreAttributes (earlier ++ specs) → length specs < bound → PairFails (earlier ++ specs) rest fault
+    → attributes_from bound earlier (text ++ rest) ≡ Err fault
+unfolding attributes_from
+front_refuses [] earlier zero text rest fault s a lt h = absurd (omega arith)
+front_refuses [] earlier (suc bound) text rest fault s a lt h =
+    rw (s, pair_refuses earlier rest fault (subst (λ (e : List AttributeSpec). PairFails e rest fault) (append-nil earlier) h)) refl
+front_refuses (s ∷ specs) earlier zero text rest fault p a lt h = absurd (omega arith)
+front_refuses (s ∷ specs) earlier (suc bound) text rest fault p a lt h =
+    let parts : text ++ rest ≡ p.0 ++ (p.1 ++ rest) = ap (λ (t : List ℕ). t ++ rest) p.2 ∙ append_assoc p.0 p.1 rest in
+    let first : pair_at earlier (text ++ rest) ≡ Ok (Some s, p.1 ++ rest) = ap (pair_at earlier) parts ∙ attribute_again earlier (p.1 ++ rest) p.0 s p.3 (one_attribute earlier s specs a) (apart_lacks attribute_of earlier s specs a.distinct) in
+    let regrouped : (earlier ++ s ∷ []) ++ specs ≡ earlier ++ s ∷ specs = append_assoc earlier (s ∷ []) specs in
+    rw first (front_refuses specs (earlier ++ s ∷ []) bound p.1 rest fault p.4 (subst AreAttributes (sym regrouped) a) (omega arith) (subst (λ (e : List AttributeSpec). PairFails e rest fault) (sym regrouped) h))
+
+front_fits : (specs : List AttributeSpec) (text : List ℕ) → SpellsFront specs text → length specs ≤ length text
+front_fits [] text s = omega arith
+front_fits (s ∷ specs) text p =
+    let n = spec_some p.0 s p.3 in
+    let m = front_fits specs p.1 p.4 in
+    omega (arith, ap length p.2, length-append p.0 p.1)
+
+attributes_refuse : (bytes : List ℕ) (fault : DeclFault) → AttributesFail bytes fault → attributes_of bytes ≡ Err fault
+attributes_refuse bytes fault f =
+    let n = front_fits f.specs f.text f.spelled in
+    ap attributes_of f.parts ∙ front_refuses f.specs [] (suc (length (f.text ++ f.rest))) f.text f.rest fault f.spelled f.allowed (omega (arith, length-append f.text f.rest)) f.fails
+
+-- ---- a declaration
+
+tag_on : (tag : ℕ) (b : Bool) → (eqb tag 0 || ltb 65535 tag) ≡ b → (IsCode16 tag → ⊥) → (eqb tag 0 || ltb 65535 tag) ≡ true
+tag_on tag true e bad = e
+tag_on tag false e bad = absurd (bad (tag_is tag e))
+
+tag_good : (tag : ℕ) → IsCode16 tag → (eqb tag 0 || ltb 65535 tag) ≡ false
+tag_good tag good =
+    let p : eqb tag 0 ≡ false = ne_eqb tag 0 (λ same. let h = good.some in absurd (omega arith)) in
+    let q : ltb 65535 tag ≡ false = le-ltb 65535 tag good.small in
+    rw (p, q) refl
+
+bad_byte : (byte : ℕ) (rest : List ℕ) → 1 < byte → children_at (byte ∷ rest) ≡ Err (broken BadChildren 0)
+bad_byte zero rest lt = absurd (omega arith)
+bad_byte (suc zero) rest lt = absurd (omega arith)
+bad_byte (suc (suc byte)) rest lt = refl
+
+module _ (earlier : List Declaration) (bytes : List ℕ) where
+  code_ne : (code : ℕ) → 0 < code → eqb code 0 ≡ false
+  code_ne code some = ne_eqb code 0 (λ same. absurd (omega arith))
+
+  new_test : (code : ℕ) → IsNewCode earlier code → has_code code earlier ≡ false
+  new_test code new = lacks_test code_of_decl code earlier new.new
+
+  decl_on : (code tag : ℕ) (behind : List ℕ) → Takes SpellsPair bytes (code, tag) behind → IsNewCode earlier code → decl_at earlier bytes ≡ after_tag code tag behind
+  unfolding decl_at
+  decl_on code tag behind t new =
+      let p = t.spelled in
+      let parts : bytes ≡ p.first ++ (p.second ++ behind) = t.parts ∙ ap (λ (x : List ℕ). x ++ behind) p.parts ∙ append_assoc p.first p.second behind in
+      let first : number_at bytes ≡ Ok (code, p.second ++ behind) = ap number_at parts ∙ number_reader.again p.first (p.second ++ behind) code p.is_first in
+      let second : number_at (p.second ++ behind) ≡ Ok (tag, behind) = number_reader.again p.second behind tag p.is_second in
+      rw (first, code_ne code new.some, new_test code new, second) refl
+
+  decl_refuses : (fault : DeclFault) → DeclFails earlier bytes fault → decl_at earlier bytes ≡ Err fault
+  unfolding decl_at
+  decl_refuses fault (code_number h) = rw (number_refuses bytes fault h) refl
+  decl_refuses fault (code_twice code rest t some any is) = rw (reads bytes code rest t, code_ne code some, any_test code_of_decl code earlier any, is) refl
+  decl_refuses fault (tag_number code rest t new h) = rw (reads bytes code rest t, code_ne code new.some, new_test code new, number_refuses rest fault h) refl
+  decl_refuses fault (bad_tag code tag rest t new bad is) =
+      decl_on code tag rest t new ∙ rw (tag_on tag (eqb tag 0 || ltb 65535 tag) refl bad, is) refl
+  decl_refuses fault (children_cut code tag t new good is) = decl_on code tag [] t new ∙ rw (tag_good tag good, is) refl
+  decl_refuses fault (bad_children code tag byte rest t new good big is) = decl_on code tag (byte ∷ rest) t new ∙ rw (tag_good tag good, bad_byte byte rest big, is) refl
+  decl_refuses fault (attributes_fail code tag children rest t new good h) =
+      decl_on code tag _ t new ∙ rw (tag_good tag good, children_again children rest, attributes_refuse rest fault h) refl
+
+-- ---- a table
+
+decls_refuse : (ds earlier : List Declaration) (bound len : ℕ) (text rest : List ℕ) (reason : DeclFault) → SpellsDecls ds text → AreDeclarations (earlier ++ ds) → length ds < bound → DeclFails (earlier ++ ds) rest reason
+    → decls_from bound len earlier (text ++ rest) ≡ Err (fault_at (len - length rest) reason)
+unfolding decls_from
+decls_refuse [] earlier zero len text rest reason s a lt h = absurd (omega arith)
+decls_refuse [] earlier (suc bound) len text rest reason s a lt h =
+    rw (s, decl_refuses earlier rest reason (subst (λ (e : List Declaration). DeclFails e rest reason) (append-nil earlier) h)) refl
+decls_refuse (d ∷ ds) earlier zero len text rest reason p a lt h = absurd (omega arith)
+decls_refuse (d ∷ ds) earlier (suc bound) len text rest reason p a lt h =
+    let parts : text ++ rest ≡ p.0 ++ (p.1 ++ rest) = ap (λ (t : List ℕ). t ++ rest) p.2 ∙ append_assoc p.0 p.1 rest in
+    let first : decl_at earlier (text ++ rest) ≡ Ok (Some d, p.1 ++ rest) = ap (decl_at earlier) parts ∙ decl_again earlier (p.1 ++ rest) p.0 d p.3 (one_decl earlier d ds a) (apart_lacks code_of_decl earlier d ds a.distinct) in
+    let regrouped : (earlier ++ d ∷ []) ++ ds ≡ earlier ++ d ∷ ds = append_assoc earlier (d ∷ []) ds in
+    rw first (decls_refuse ds (earlier ++ d ∷ []) bound len p.1 rest reason p.4 (subst AreDeclarations (sym regrouped) a) (omega arith) (subst (λ (e : List Declaration). DeclFails e rest reason) (sym regrouped) h))
+
+decls_fit : (ds : List Declaration) (text : List ℕ) → SpellsDecls ds text → length ds ≤ length text
+decls_fit [] text s = omega arith
+decls_fit (d ∷ ds) text p =
+    let n = decl_some p.0 d p.3 in
+    let m = decls_fit ds p.1 p.4 in
+    omega (arith, ap length p.2, length-append p.0 p.1)
+
+pub table_refuses : (section : List ℕ) (offset : ℕ) (fault : BrokenTable) → offset ≤ length section → TableFails section offset fault → table_at section offset ≡ Err fault
+table_refuses section offset fault within f =
+    let n = decls_fit f.ds f.text f.spelled in
+    let place : length section - length f.rest ≡ offset + length f.text = omega (arith, length-drop offset section, ap length f.parts, length-append f.text f.rest) in
+    let read : decls_of (length section) (drop offset section) ≡ Err (fault_at (length section - length f.rest) f.reason) =
+    ap (decls_of (length section)) f.parts ∙ decls_refuse f.ds [] (suc (length (f.text ++ f.rest))) (length section) f.text f.rest f.reason f.spelled f.allowed (omega (arith, length-append f.text f.rest)) f.fails in
+    rw (read, f.is, place) refl
+
+pub table_one_fault : (section : List ℕ) (offset : ℕ) (f g : BrokenTable) → offset ≤ length section → TableFails section offset f → TableFails section offset g → f ≡ g
+table_one_fault section offset f g within h k = fault_is (sym (table_refuses section offset f within h) ∙ table_refuses section offset g within k)

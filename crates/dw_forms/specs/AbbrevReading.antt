@@ -1,0 +1,142 @@
+-- Reading an abbreviation table from left to right, with the first fault that is met.
+use Rattle.std.specs.Prelude.{◌≡◌, ℕ, zero, suc, List, [], ◌∷◌, ◌++◌, length, drop, Option, Some, None, Bool, true, false, Result, Ok, Err, ◌==◌, nat_lt, ◌-◌, ◌&&◌, ◌||◌, if◌then◌else◌, ℤ}
+use Rattle.std.specs.List.{list_any}
+use Rattle.dw_forms.specs.Steps.{◌>>=◌}
+use Rattle.dw_forms.specs.declared.form.Form.{Form}
+use Rattle.dw_forms.specs.declared.form.Form.TheVariants.{ImplicitConst}
+use Rattle.dw_forms.specs.declared.leb.NumberFault.{NumberFault}
+use Rattle.dw_forms.specs.declared.decl.AttributeSpec.{AttributeSpec}
+use Rattle.dw_forms.specs.declared.abbrev_fault.AbbrevRule.TheVariants.{AbbrevCut, CodeTwice, BadTag, BadChildren, BadPair, UnknownForm, AttributeTwice}
+use Rattle.dw_forms.specs.declared.abbrev_fault.DeclFault.{DeclFault}
+use Rattle.dw_forms.specs.declared.abbrev_fault.DeclError.{DeclError}
+use Rattle.dw_forms.specs.declared.abbrev_fault.DeclError.TheVariants as errors
+use Rattle.dw_forms.specs.declared.abbrev_fault.BrokenTable.{BrokenTable}
+use Rattle.dw_forms.specs.declared.abbrev_fault.AbbrevFault.{AbbrevFault}
+use Rattle.dw_forms.specs.declared.abbrev_fault.AbbrevFault.TheVariants as table
+use Rattle.dw_forms.specs.Abbrev.{Declaration}
+use Rattle.dw_forms.specs.FormCodes.{form_of}
+use Rattle.dw_forms.specs.LebReading.{uleb_at, sleb_at}
+use Rattle.dw_forms.specs.AbbrevFaults.{fault_of, fault_at}
+
+-- what a function failed with is the fault that reading gives, unless memory ran out
+abbrev pub Fails : {Y : Type 0} → DeclError → Result Y DeclFault → Type 0
+Fails errors.Memory read = Unit {0}
+Fails (errors.Fault f) read = read ≡ Err f
+
+-- what a function returned, seen by view, is what reading gives, unless memory ran out
+abbrev pub Gives : {X Y : Type 0} → (X → Y) → Result X DeclError → Result Y DeclFault → Type 0
+Gives view (Ok x) read = read ≡ Ok (view x)
+Gives view (Err e) read = Fails e read
+
+-- a number and the bytes after it
+abbrev pub with_rest : {V : Type 0} → List ℕ → Result (V × ℕ) NumberFault → Result (V × List ℕ) DeclFault
+with_rest bytes (Ok r) = Ok (r.0, drop r.1 bytes)
+with_rest bytes (Err f) = Err (fault_of f)
+
+-- an unsigned number
+abbrev pub number_at : List ℕ → Result (ℕ × List ℕ) DeclFault
+number_at bytes = with_rest bytes (uleb_at bytes)
+
+-- a signed number
+abbrev pub signed_at : List ℕ → Result (ℤ × List ℕ) DeclFault
+signed_at bytes = with_rest bytes (sleb_at bytes)
+
+-- a fault, whatever was to be read
+abbrev pub failed : {A : Type 0} → DeclFault → Result A DeclFault
+failed f = Err f
+
+-- one answer for none, another for some
+abbrev pub on_option : {A : Type 0} {B : Type 0} → Option A → B → (A → B) → B
+on_option None none some = none
+on_option (Some x) none some = some x
+
+-- after form implicit_const its number stands in the table
+abbrev pub form_at : Form → List ℕ → Result (Form × List ℕ) DeclFault
+form_at (ImplicitConst number) bytes = do
+  n ← signed_at bytes
+  Ok (ImplicitConst n.0, n.1)
+form_at form bytes = Ok (form, bytes)
+
+-- whether one of these has the attribute
+abbrev pub has_attribute : ℕ → List AttributeSpec → Bool
+has_attribute attribute specs = list_any (λ spec. spec.attribute == attribute) specs
+
+-- the form of an attribute that none of the earlier ones is
+unfoldable pub new_form_of : List AttributeSpec → ℕ → ℕ → Result Form DeclFault
+new_form_of earlier attribute code =
+    on_option (form_of code) (Err (record { rule = UnknownForm; attribute = attribute })) (λ form.
+    if has_attribute attribute earlier then Err (record { rule = AttributeTwice; attribute = attribute }) else Ok form)
+
+-- the next pair after the earlier ones of its declaration, or none at the pair 0, 0
+unfoldable pub pair_at : List AttributeSpec → List ℕ → Result (Option AttributeSpec × List ℕ) DeclFault
+pair_at earlier bytes = do
+  a ← number_at bytes
+  f ← number_at a.1
+  if a.0 == 0 && f.0 == 0 then Ok (None, f.1) else (
+      if a.0 == 0 || f.0 == 0 || nat_lt 65535 a.0 then Err (record { rule = BadPair; attribute = 0 }) else (
+      new_form_of earlier a.0 f.0 >>= λ form.
+      form_at form f.1 >>= λ g.
+      Ok (Some (record { attribute = a.0; form = g.0 }), g.1)))
+
+-- all pairs, behind the earlier ones. There are fewer than this bound
+unfoldable pub attributes_from : ℕ → List AttributeSpec → List ℕ → Result (List AttributeSpec × List ℕ) DeclFault
+attributes_from zero earlier bytes = Err (record { rule = AbbrevCut; attribute = 0 })
+attributes_from (suc bound) earlier bytes =
+    pair_at earlier bytes >>= λ p. on_option p.0 (Ok (earlier, p.1)) (λ spec. attributes_from bound (earlier ++ spec ∷ []) p.1)
+
+-- all pairs of a declaration, up to the pair 0, 0
+abbrev pub attributes_of : List ℕ → Result (List AttributeSpec × List ℕ) DeclFault
+attributes_of bytes = attributes_from (suc (length bytes)) [] bytes
+
+-- the byte that says whether there are children
+abbrev pub children_at : List ℕ → Result (Bool × List ℕ) DeclFault
+children_at [] = Err (record { rule = AbbrevCut; attribute = 0 })
+children_at (zero ∷ bytes) = Ok (false, bytes)
+children_at (suc zero ∷ bytes) = Ok (true, bytes)
+children_at (suc (suc byte) ∷ bytes) = Err (record { rule = BadChildren; attribute = 0 })
+
+-- whether one of these has the code
+abbrev pub has_code : ℕ → List Declaration → Bool
+has_code code decls = list_any (λ d. d.code == code) decls
+
+-- the next declaration after the earlier ones of its table, or none at the code 0
+unfoldable pub decl_at : List Declaration → List ℕ → Result (Option Declaration × List ℕ) DeclFault
+decl_at earlier bytes = do
+  code ← number_at bytes
+  if code.0 == 0 then Ok (None, code.1) else (
+      if has_code code.0 earlier then Err (record { rule = CodeTwice; attribute = 0 }) else (
+      number_at code.1 >>= λ tag.
+      if tag.0 == 0 || nat_lt 65535 tag.0 then Err (record { rule = BadTag; attribute = 0 }) else (
+      children_at tag.1 >>= λ children.
+      attributes_of children.1 >>= λ attributes.
+      Ok (Some (record { code = code.0; tag = tag.0; has_children = children.0; attributes = attributes.0 }), attributes.1))))
+
+-- what a function failed with is the fault that reading a table gives, unless memory ran out
+abbrev pub TableFails : {Y : Type 0} → AbbrevFault → Result Y BrokenTable → Type 0
+TableFails table.Memory read = Unit {0}
+TableFails (table.Broken f) read = read ≡ Err f
+
+-- what a function returned, seen by view, is what reading a table gives, unless memory ran out
+abbrev pub TableGives : {X Y : Type 0} → (X → Y) → Result X AbbrevFault → Result Y BrokenTable → Type 0
+TableGives view (Ok x) read = read ≡ Ok (view x)
+TableGives view (Err e) read = TableFails e read
+
+-- the faults have this place
+abbrev pub placed : {A : Type 0} → ℕ → Result A DeclFault → Result A BrokenTable
+placed place (Ok x) = Ok x
+placed place (Err e) = Err (fault_at place e)
+
+-- all declarations up to the code 0, behind the earlier ones. There are fewer than this bound. The
+-- section that the bytes are the end of has this length
+unfoldable pub decls_from : ℕ → ℕ → List Declaration → List ℕ → Result (List Declaration × List ℕ) BrokenTable
+decls_from zero len earlier bytes = Err (record { rule = AbbrevCut; at = len - length bytes; attribute = 0 })
+decls_from (suc bound) len earlier bytes =
+    placed (len - length bytes) (decl_at earlier bytes) >>= λ d. on_option d.0 (Ok (earlier, d.1)) (λ decl. decls_from bound len (earlier ++ decl ∷ []) d.1)
+
+-- the declarations at the front of the end of a section of this length
+abbrev pub decls_of : ℕ → List ℕ → Result (List Declaration × List ℕ) BrokenTable
+decls_of len bytes = decls_from (suc (length bytes)) len [] bytes
+
+-- the table that begins at an offset of the section
+abbrev pub table_at : List ℕ → ℕ → Result (List Declaration) BrokenTable
+table_at section offset = decls_of (length section) (drop offset section) >>= λ x. Ok x.0

@@ -1,0 +1,10 @@
+-- Which fault of a value a number's fault is.
+use Rattle.dw_forms.specs.declared.leb.NumberFault.{NumberFault}
+use Rattle.dw_forms.specs.declared.leb.NumberFault.TheVariants as number
+use Rattle.dw_forms.specs.declared.value.ValueFault.{ValueFault}
+use Rattle.dw_forms.specs.declared.value.ValueFault.TheVariants.{Cut, BadNumber}
+
+-- a cut number is a cut value, a bad one a bad number
+abbrev pub fault_of : NumberFault → ValueFault
+fault_of number.Cut = Cut
+fault_of number.BadNumber = BadNumber

@@ -1,0 +1,140 @@
+//! Abbreviation tables (DWARF 5, 7.5.3).
+
+ghost use Rattle.std.specs.Prelude.{◌≡◌, ◌==◌, ◌<◌, [], ◌∷◌, ◌++◌, length, false, find, option_map, option_copied, option_and_then, slice_get, IfSome, IfNone, OnOk, All, ◌≢◌, ◌+◌, Some};
+ghost use Rattle.std.specs.Ordering.{nat_cmp};
+ghost use Rattle.std.specs.BTreeMap.{get};
+ghost use Rattle.dw_forms.specs.AbbrevFaults.{IfFault};
+ghost use Rattle.dw_forms.specs.Abbrev.{view};
+ghost use Rattle.dw_forms.specs.Places.{IsIndex, IsPlace, StandsAt};
+ghost use Rattle.dw_forms.specs.AbbrevReading.{has_code};
+
+use crate::abbrev_fault::AbbrevFault;
+use crate::decl::Decl;
+use std::alloc::Global;
+use std::collections::BTreeMap;
+use std::marker::Model;
+
+/// The declarations of one table, in their order.
+#[derive(Debug, Drop)]
+pub struct AbbrevTable {
+    decls: Vec<Decl>,
+    /// The places, from 0, of the declarations whose code isn't their place counted from 1.
+    elsewhere: BTreeMap<u64, usize>,
+}
+
+impl Model for AbbrevTable {
+    ghost use Rattle.std.specs.Prelude.{List};
+    ghost use Rattle.dw_forms.specs.Abbrev.{Declaration, views};
+    ghost use Rattle.dw_forms.specs.Places.{IsIndex};
+
+    ghost Value = { List Declaration };
+
+    ghost view = { λ t. views t.decls.items };
+
+    ghost invariant = { λ t. IsIndex t.decls.items t.elsewhere };
+}
+
+/// The place of the declaration with this code: the one that the code itself says, or one from the map.
+fn place_of(decls: &[Decl], elsewhere: &BTreeMap<u64, usize>, code: u64) -> Option<usize>
+    requires { IsIndex decls.now elsewhere.now }
+    ensures { IsPlace decls.now code result }
+{
+    if code != 0 && code <= decls.len() as u64 {
+        let place = (code - 1) as usize;
+        if decls[place].code == code {
+            return Some(place);
+        }
+    }
+    let Some(place) = elsewhere.get(&code).copied() else {
+        return None;
+    };
+    if place < decls.len() && decls[place].code == code {
+        Some(place)
+    } else {
+        None
+    }
+}
+
+/// Enters the place of the declaration with this new code that will be the next.
+fn make_room(
+    decls: &[Decl],
+    elsewhere: &mut BTreeMap<u64, usize>,
+    code: u64,
+) -> Result<(), AbbrevFault>
+    requires index { IsIndex decls.now elsewhere.old }
+    requires new { All (λ d. d.code ≢ code) decls.now }
+    ensures index { IsIndex decls.now elsewhere.new }
+    ensures entered { OnOk result (code ≢ length decls.now + 1 → get nat_cmp elsewhere.new code ≡ Some (length decls.now)) }
+    ensures err { IfFault result (λ _. ⊥) }
+{
+    if code != decls.len() as u64 + 1 {
+        elsewhere.insert(code, decls.len())?;
+    }
+    Ok(())
+}
+
+impl AbbrevTable {
+    /// A table without declarations.
+    pub(crate) fn new(alloc: Global) -> Self
+        ensures { result ≡ [] }
+    {
+        AbbrevTable {
+            decls: Vec::new(alloc),
+            elsewhere: BTreeMap::new(alloc),
+        }
+    }
+
+    /// Whether a declaration has this code.
+    pub(crate) fn has_code(&self, code: u64) -> bool
+        ensures { result ≡ has_code code self.now }
+    {
+        place_of(&self.decls, &self.elsewhere, code).is_some()
+    }
+
+    /// Adds a declaration with a new code.
+    pub(crate) fn push(&mut self, decl: Decl) -> Result<(), AbbrevFault>
+        requires { has_code decl.code self.old ≡ false }
+        ensures ok { OnOk result (self.new ≡ self.old ++ view decl ∷ []) }
+        ensures err { IfFault result (λ _. ⊥) }
+    {
+        make_room(&self.decls, &mut self.elsewhere, decl.code)?;
+        self.decls.push(decl)?;
+        Ok(())
+    }
+
+    /// How many declarations there are.
+    pub fn len(&self) -> usize
+        ensures { result ≡ length self.now }
+    {
+        self.decls.len()
+    }
+
+    /// Where the declaration with this code stands among the declarations, from 0.
+    pub fn place(&self, code: u64) -> Option<usize>
+        ensures within { IfSome result (λ place. place < length self.now) }
+        ensures found { IfSome result (λ place. StandsAt self.now place code) }
+        ensures none { IfNone result (All (λ d. d.code ≢ code) self.now) }
+        // The same declaration as `get` finds.
+        ensures exact { find (λ d. d.code == code) self.now ≡ option_and_then (slice_get self.now) result }
+    {
+        place_of(&self.decls, &self.elsewhere, code)
+    }
+
+    /// The declaration at this place, from 0.
+    pub fn decl(&self, place: usize) -> &Decl
+        requires { place < length self.now }
+        ensures { slice_get self.now place ≡ Some (view result.now) }
+    {
+        &self.decls[place]
+    }
+
+    /// The declaration with this code.
+    pub fn get(&self, code: u64) -> Option<&Decl>
+        ensures { option_map view (option_copied result) ≡ find (λ d. d.code == code) self.now }
+    {
+        match self.place(code) {
+            Some(place) => Some(self.decl(place)),
+            None => None,
+        }
+    }
+}

@@ -1,0 +1,271 @@
+//! Reading abbreviation tables (DWARF 5, 7.5.3).
+
+ghost use Rattle.std.specs.Prelude.{◌≡◌, ◌<◌, ◌≤◌, ℕ, [], ◌∷◌, ◌++◌, length, drop, false, option_map, IfOk, IfSome, OnOk};
+ghost use Rattle.dw_forms.specs.Front.{BeginsWith, BeginsWithNone};
+ghost use Rattle.dw_forms.specs.AbbrevFaults.{IfFault};
+ghost use Rattle.dw_forms.specs.Abbrev.{view, Decls, TableFails};
+ghost use Rattle.dw_forms.specs.Marks.{AreMarks};
+ghost use Rattle.dw_forms.specs.AbbrevReading.{Gives, has_attribute, has_code, number_at, signed_at, new_form_of, form_at, pair_at, attributes_of, children_at, decl_at, TableGives, placed, table_at};
+
+use crate::abbrev::AbbrevTable;
+use crate::abbrev_fault::{AbbrevFault, AbbrevRule, DeclError, DeclFault};
+use crate::constants::{Attribute, Tag};
+use crate::decl::{AttributeSpec, Decl};
+use crate::form::Form;
+use crate::leb::{read_sleb, read_uleb};
+use std::alloc::Global;
+
+/// An unsigned number, and the bytes after it.
+fn unsigned(bytes: &[u8]) -> Result<(u64, &[u8]), DeclError>
+    ensures exact { Gives (λ x. (x.0, x.1.now)) result (number_at bytes.now) }
+    ensures shorter { IfOk result (λ x. length x.1.now < length bytes.now) }
+{
+    let (number, len) = read_uleb(bytes)?;
+    Ok((number, &bytes[len..]))
+}
+
+/// A signed number, and the bytes after it.
+fn signed(bytes: &[u8]) -> Result<(i64, &[u8]), DeclError>
+    ensures exact { Gives (λ x. (x.0, x.1.now)) result (signed_at bytes.now) }
+    ensures shorter { IfOk result (λ x. length x.1.now < length bytes.now) }
+{
+    let (number, len) = read_sleb(bytes)?;
+    Ok((number, &bytes[len..]))
+}
+
+fn fault(rule: AbbrevRule, attribute: u16) -> DeclError
+    ensures { result ≡ DeclError.Fault (record { rule = rule; attribute = attribute }) }
+{
+    DeclError::Fault(DeclFault { rule, attribute })
+}
+
+/// The form, with the number that stands after an implicit constant.
+fn form_with_number(form: Form, bytes: &[u8]) -> Result<(Form, &[u8]), DeclError>
+    ensures exact { Gives (λ x. (x.0, x.1.now)) result (form_at form bytes.now) }
+    ensures within { IfOk result (λ x. length x.1.now ≤ length bytes.now) }
+{
+    match form {
+        Form::ImplicitConst(_) => {
+            let (number, rest) = signed(bytes)?;
+            Ok((Form::ImplicitConst(number), rest))
+        }
+        _ => Ok((form, bytes)),
+    }
+}
+
+/// Marks for no attributes, one for each code of 16 bits.
+fn no_marks(alloc: Global) -> Result<Vec<bool>, AbbrevFault>
+    ensures marks { IfOk result (λ marks. AreMarks [] marks.items) }
+    ensures err { IfFault result (λ _. ⊥) }
+{
+    let mut marks = Vec::new(alloc);
+    marks.resize(0x10000, false)?;
+    Ok(marks)
+}
+
+/// Sets the mark of an attribute.
+fn mark(earlier: &[AttributeSpec], marks: &mut [bool], attribute: Attribute)
+    requires { AreMarks earlier.now marks.old }
+    ensures { (spec : AttributeSpec) → spec.attribute ≡ attribute → AreMarks (earlier.now ++ spec ∷ []) marks.new }
+{
+    marks[usize::from(attribute.0)] = true;
+}
+
+/// Clears the marks of a declaration.
+fn unmark(specs: &[AttributeSpec], marks: &mut [bool])
+    requires { AreMarks specs.now marks.old }
+    ensures { AreMarks [] marks.new }
+{
+    for spec in specs {
+        marks[usize::from(spec.attribute.0)] = false;
+    }
+}
+
+/// Whether one of the earlier attributes is this one, by its mark.
+fn has_attribute(earlier: &[AttributeSpec], marks: &[bool], attribute: u16) -> bool
+    requires { AreMarks earlier.now marks.now }
+    ensures { result ≡ has_attribute attribute earlier.now }
+{
+    marks[usize::from(attribute)]
+}
+
+/// The form of an attribute that none of the earlier ones is.
+#[tactic(auto, unfolding(crate::specs::AbbrevReading::new_form_of))]
+fn new_form(
+    earlier: &[AttributeSpec],
+    marks: &[bool],
+    attribute: u16,
+    code: u64,
+) -> Result<Form, DeclError>
+    requires { AreMarks earlier.now marks.now }
+    ensures { Gives (λ form. form) result (new_form_of earlier.now attribute code) }
+{
+    let Some(form) = Form::from_code(code) else {
+        return Err(fault(AbbrevRule::UnknownForm, attribute));
+    };
+    if has_attribute(earlier, marks, attribute) {
+        return Err(fault(AbbrevRule::AttributeTwice, attribute));
+    }
+    Ok(form)
+}
+
+/// The next pair after the earlier ones of its declaration, or none at the pair 0, 0.
+#[tactic(auto, unfolding(crate::specs::AbbrevReading::pair_at))]
+fn next_attribute<'a>(
+    earlier: &[AttributeSpec],
+    marks: &[bool],
+    bytes: &'a [u8],
+) -> Result<(Option<AttributeSpec>, &'a [u8]), DeclError>
+    requires { AreMarks earlier.now marks.now }
+    ensures exact { Gives (λ x. (x.0, x.1.now)) result (pair_at earlier.now bytes.now) }
+    ensures shorter { IfOk result (λ x. length x.1.now < length bytes.now) }
+{
+    let (attribute, rest) = unsigned(bytes)?;
+    let (code, rest) = unsigned(rest)?;
+    if attribute == 0 && code == 0 {
+        return Ok((None, rest));
+    }
+    if attribute == 0 || code == 0 || attribute > 0xffff {
+        return Err(fault(AbbrevRule::BadPair, 0));
+    }
+    let attribute = attribute as u16;
+    let form = new_form(earlier, marks, attribute, code)?;
+    let (form, rest) = form_with_number(form, rest)?;
+    let spec = AttributeSpec {
+        attribute: Attribute(attribute),
+        form,
+    };
+    Ok((Some(spec), rest))
+}
+
+/// The pairs of a declaration, up to the pair 0, 0. No attribute is marked before and after.
+fn read_attributes<'a>(
+    alloc: Global,
+    marks: &mut [bool],
+    bytes: &'a [u8],
+) -> Result<(Vec<AttributeSpec>, &'a [u8]), DeclError>
+    requires { AreMarks [] marks.old }
+    ensures unmarked { OnOk result (AreMarks [] marks.new) }
+    ensures exact { Gives (λ x. (x.0.items, x.1.now)) result (attributes_of bytes.now) }
+    ensures few { IfOk result (λ x. length x.0.items ≤ 0x10000) }
+    ensures shorter { IfOk result (λ x. length x.1.now < length bytes.now) }
+{
+    let mut attributes = Vec::new(alloc);
+    let mut rest = bytes;
+    loop {
+        let (next, after) = match next_attribute(&attributes, marks, rest) {
+            Ok(found) => found,
+            Err(error) => return Err(error),
+        };
+        let Some(spec) = next else {
+            unmark(&attributes, marks);
+            return Ok((attributes, after));
+        };
+        mark(&attributes, marks, spec.attribute);
+        attributes.push(spec)?;
+        rest = after;
+    }
+}
+
+/// The byte that says whether entries have children, and the bytes after it.
+fn read_children(bytes: &[u8]) -> Result<(bool, &[u8]), DeclError>
+    ensures exact { Gives (λ x. (x.0, x.1.now)) result (children_at bytes.now) }
+    ensures shorter { IfOk result (λ x. length x.1.now < length bytes.now) }
+{
+    match bytes {
+        [] => Err(fault(AbbrevRule::AbbrevCut, 0)),
+        [0, rest @ ..] => Ok((false, rest)),
+        [1, rest @ ..] => Ok((true, rest)),
+        [_, ..] => Err(fault(AbbrevRule::BadChildren, 0)),
+    }
+}
+
+/// The next declaration after the earlier ones of its table, or none at the code 0.
+#[tactic(auto, unfolding(crate::specs::AbbrevReading::decl_at))]
+fn next_decl<'a>(
+    alloc: Global,
+    earlier: &AbbrevTable,
+    marks: &mut [bool],
+    bytes: &'a [u8],
+) -> Result<(Option<Decl>, &'a [u8]), DeclError>
+    requires { AreMarks [] marks.old }
+    ensures unmarked { OnOk result (AreMarks [] marks.new) }
+    ensures exact { Gives (λ x. (option_map view x.0, x.1.now)) result (decl_at earlier.now bytes.now) }
+    ensures new { IfOk result (λ x. IfSome x.0 (λ d. has_code d.code earlier.now ≡ false)) }
+    ensures shorter { IfOk result (λ x. length x.1.now < length bytes.now) }
+{
+    let (code, rest) = unsigned(bytes)?;
+    if code == 0 {
+        return Ok((None, rest));
+    }
+    if earlier.has_code(code) {
+        return Err(fault(AbbrevRule::CodeTwice, 0));
+    }
+    let (tag, rest) = unsigned(rest)?;
+    if tag == 0 || tag > 0xffff {
+        return Err(fault(AbbrevRule::BadTag, 0));
+    }
+    let (has_children, rest) = read_children(rest)?;
+    let (attributes, rest) = read_attributes(alloc, marks, rest)?;
+    let decl = Decl::new(code, Tag(tag as u16), has_children, attributes);
+    Ok((Some(decl), rest))
+}
+
+/// The next declaration, whose first byte is at this place.
+fn next_decl_at<'a>(
+    alloc: Global,
+    earlier: &AbbrevTable,
+    marks: &mut [bool],
+    bytes: &'a [u8],
+    place: usize,
+) -> Result<(Option<Decl>, &'a [u8]), AbbrevFault>
+    requires { AreMarks [] marks.old }
+    ensures unmarked { OnOk result (AreMarks [] marks.new) }
+    ensures exact { TableGives (λ x. (option_map view x.0, x.1.now)) result (placed place (decl_at earlier.now bytes.now)) }
+    ensures new { IfOk result (λ x. IfSome x.0 (λ d. has_code d.code earlier.now ≡ false)) }
+    ensures shorter { IfOk result (λ x. length x.1.now < length bytes.now) }
+{
+    match next_decl(alloc, earlier, marks, bytes) {
+        Ok(found) => Ok(found),
+        Err(error) => Err(error.at(place)),
+    }
+}
+
+/// The declarations from this offset on, up to the code 0.
+fn table(alloc: Global, section: &[u8], offset: usize) -> Result<AbbrevTable, AbbrevFault>
+    requires { offset ≤ length section.now }
+    ensures fewer { IfOk result (λ t. length t < length section.now) }
+    ensures exact { TableGives (λ t. t) result (table_at section.now offset) }
+{
+    let mut no_marks = no_marks(alloc)?;
+    let marks = no_marks.as_mut_slice();
+    let mut table = AbbrevTable::new(alloc);
+    let mut rest = &section[offset..];
+    loop {
+        let place = section.len() - rest.len();
+        let (next, after) = match next_decl_at(alloc, &table, marks, rest, place) {
+            Ok(found) => found,
+            Err(fault) => return Err(fault),
+        };
+        let Some(decl) = next else {
+            return Ok(table);
+        };
+        table.push(decl)?;
+        rest = after;
+    }
+}
+
+/// Reads the table that begins at this offset of .debug_abbrev. The section may go on behind it.
+pub fn read_table(alloc: Global, section: &[u8], offset: usize) -> Result<AbbrevTable, AbbrevFault>
+    requires { offset ≤ length section.now }
+    // Some bytes from there on are the table of these declarations, and no others there are any table.
+    ensures found { IfOk result (λ t. (len : ℕ) × BeginsWith Decls (drop offset section.now) t len) }
+    ensures none { IfFault result (λ _. BeginsWithNone Decls (drop offset section.now)) }
+    ensures fault { IfFault result (TableFails section.now offset) }
+    // Each declaration has a byte, and so has the end, so a place among them is below the section's length.
+    ensures fewer { IfOk result (λ t. length t < length section.now) }
+    // For callers that reason by steps.
+    ensures exact { TableGives (λ t. t) result (table_at section.now offset) }
+{
+    table(alloc, section, offset)
+}

@@ -1,0 +1,30 @@
+//! Numbers, abbreviation tables and attribute values of DWARF 5.
+#![tactic(auto)]
+
+mod abbrev;
+mod abbrev_fault;
+mod abbrev_reader;
+pub mod constants;
+mod decl;
+mod form;
+mod laws;
+mod leb;
+mod value;
+mod value_reader;
+
+pub use abbrev::AbbrevTable;
+pub use abbrev_fault::{AbbrevFault, AbbrevRule, BrokenTable};
+pub use abbrev_reader::read_table;
+pub use constants::{Attribute, Language, Tag};
+pub use decl::{AttributeSpec, Decl};
+pub use form::Form;
+pub use laws::{
+    fixed_values_take_their_sum, signed_numbers_are_apart, tables_are_apart,
+    unsigned_numbers_are_apart, values_are_apart,
+};
+pub use leb::{NumberFault, read_sleb, read_uleb};
+pub use value::{Value, ValueFault};
+pub use value_reader::{read_value, skip_value};
+
+#[cfg(test)]
+mod tests;

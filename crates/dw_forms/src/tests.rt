@@ -1,0 +1,5 @@
+//! Worked rows: numbers, tables and values.
+
+mod numbers;
+mod tables;
+mod values;

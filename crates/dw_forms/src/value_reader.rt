@@ -1,0 +1,309 @@
+//! Reading the values of attributes (DWARF 5, 7.5.6).
+
+ghost use Rattle.std.specs.Prelude.{◌≡◌, ◌+◌, ◌≤◌, ◌⊎◌, length, drop, IfOk, IfErr, OnErr, IsTrue};
+ghost use Rattle.dw_forms.specs.declared.form.Form.TheVariants.{Indirect};
+ghost use Rattle.dw_forms.specs.Front.{BeginsWith, BeginsWithNone};
+ghost use Rattle.dw_forms.specs.Value.{view, Val, ValFails};
+ghost use Rattle.dw_forms.specs.FormCodes.{form_of, is_allowed};
+ghost use Rattle.dw_forms.specs.Sizes.{rest_at};
+ghost use Rattle.dw_forms.specs.ValueReading.{Gives, fixed_at, block_at, counted_at, leb_counted_at, text_at, plain_at, named_at, value_at};
+
+use crate::form::Form;
+use crate::leb::{read_sleb, read_uleb};
+use crate::value::{Value, ValueFault};
+use byteorder::{ByteOrder, LittleEndian};
+use memchr::memchr;
+
+/// The number in the first bytes, lowest first.
+#[inline]
+#[tactic(auto, unfolding(crate::specs::ValueReading::fixed_at))]
+fn fixed(bytes: &[u8], size: usize) -> Result<u64, ValueFault>
+    requires some { 1 ≤ size }
+    requires few { size ≤ 8 }
+    ensures within { IfOk result (λ _. size ≤ length bytes.now) }
+    ensures exact { Gives (λ n. (n, drop size bytes.now)) result (fixed_at size bytes.now) }
+{
+    if bytes.len() < size {
+        return Err(ValueFault::Cut);
+    }
+    Ok(LittleEndian::read_uint(&bytes[..size], size))
+}
+
+/// An address. Each of the two sizes is read by one instruction.
+#[inline]
+fn address(bytes: &[u8], size: u8) -> Result<u64, ValueFault>
+    requires { (size ≡ 4) ⊎ (size ≡ 8) }
+    ensures within { IfOk result (λ _. size ≤ length bytes.now) }
+    ensures exact { Gives (λ n. (n, drop size bytes.now)) result (fixed_at size bytes.now) }
+{
+    if size == 8 {
+        fixed(bytes, 8)
+    } else {
+        fixed(bytes, 4)
+    }
+}
+
+/// An offset of 4 bytes.
+#[inline]
+#[tactic(auto, unfolding(crate::specs::ValueReading::fixed_at))]
+fn offset(bytes: &[u8]) -> Result<u32, ValueFault>
+    ensures within { IfOk result (λ _. 4 ≤ length bytes.now) }
+    ensures exact { Gives (λ n. (n, drop 4 bytes.now)) result (fixed_at 4 bytes.now) }
+{
+    if bytes.len() < 4 {
+        return Err(ValueFault::Cut);
+    }
+    Ok(LittleEndian::read_u32(&bytes[..4]))
+}
+
+/// As many bytes as a length says.
+#[inline]
+#[tactic(auto, unfolding(crate::specs::ValueReading::block_at))]
+fn block(bytes: &[u8], len: u64) -> Result<&[u8], ValueFault>
+    ensures within { IfOk result (λ _. len ≤ length bytes.now) }
+    ensures whole { IfOk result (λ content. length content.now ≡ len) }
+    ensures exact { Gives (λ content. (content.now, drop len bytes.now)) result (block_at len bytes.now) }
+{
+    if (bytes.len() as u64) < len {
+        return Err(ValueFault::Cut);
+    }
+    Ok(&bytes[..len as usize])
+}
+
+/// The bytes before the first zero byte.
+#[tactic(auto, unfolding(crate::specs::ValueReading::text_at))]
+fn text(bytes: &[u8]) -> Result<&[u8], ValueFault>
+    ensures within { IfOk result (λ text. length text.now + 1 ≤ length bytes.now) }
+    ensures exact { Gives (λ text. (text.now, drop (length text.now + 1) bytes.now)) result (text_at bytes.now) }
+{
+    let Some(end) = memchr(0, bytes) else {
+        return Err(ValueFault::Cut);
+    };
+    Ok(&bytes[..end])
+}
+
+/// As many bytes as a number of so many bytes says.
+#[tactic(auto, unfolding(crate::specs::ValueReading::counted_at))]
+fn counted(bytes: &[u8], size: usize) -> Result<&[u8], ValueFault>
+    requires some { 1 ≤ size }
+    requires few { size ≤ 8 }
+    ensures within { IfOk result (λ content. size + length content.now ≤ length bytes.now) }
+    ensures exact { Gives (λ content. (content.now, drop (size + length content.now) bytes.now)) result (counted_at size bytes.now) }
+{
+    let len = fixed(bytes, size)?;
+    block(&bytes[size..], len)
+}
+
+/// As many bytes as a LEB128 number says, and how many they are with that number.
+#[tactic(auto, unfolding(crate::specs::ValueReading::leb_counted_at, crate::specs::ValueReading::uleb_then))]
+fn leb_counted(bytes: &[u8]) -> Result<(&[u8], usize), ValueFault>
+    ensures within { IfOk result (λ x. x.1 ≤ length bytes.now) }
+    ensures exact { Gives (λ x. (x.0.now, drop x.1 bytes.now)) result (leb_counted_at bytes.now) }
+{
+    let (len, before) = read_uleb(bytes)?;
+    let content = block(&bytes[before..], len)?;
+    Ok((content, before + content.len()))
+}
+
+/// The value of a form that names no other form, and how many bytes it has.
+#[tactic(auto, unfolding(crate::specs::ValueReading::layout_at, crate::specs::ValueReading::uleb_then, crate::specs::ValueReading::sleb_then))]
+fn plain(form: Form, address_size: u8, bytes: &[u8]) -> Result<(Value<'_>, usize), ValueFault>
+    requires { (address_size ≡ 4) ⊎ (address_size ≡ 8) }
+    ensures within { IfOk result (λ x. x.1 ≤ length bytes.now) }
+    ensures exact { Gives (λ x. (view x.0, drop x.1 bytes.now)) result (plain_at form address_size bytes.now) }
+{
+    match form {
+        Form::Addr => Ok((
+            Value::Addr(address(bytes, address_size)?),
+            usize::from(address_size),
+        )),
+        Form::Block2 => {
+            let content = counted(bytes, 2)?;
+            Ok((Value::Block(content), 2 + content.len()))
+        }
+        Form::Block4 => {
+            let content = counted(bytes, 4)?;
+            Ok((Value::Block(content), 4 + content.len()))
+        }
+        Form::Data2 => Ok((Value::Unsigned(fixed(bytes, 2)?), 2)),
+        Form::Data4 => Ok((Value::Unsigned(fixed(bytes, 4)?), 4)),
+        Form::Data8 => Ok((Value::Unsigned(fixed(bytes, 8)?), 8)),
+        Form::Text => {
+            let text = text(bytes)?;
+            Ok((Value::Text(text), text.len() + 1))
+        }
+        Form::Block => {
+            let (content, len) = leb_counted(bytes)?;
+            Ok((Value::Block(content), len))
+        }
+        Form::Block1 => {
+            let content = counted(bytes, 1)?;
+            Ok((Value::Block(content), 1 + content.len()))
+        }
+        Form::Data1 => Ok((Value::Unsigned(fixed(bytes, 1)?), 1)),
+        Form::Flag => Ok((Value::Flag(fixed(bytes, 1)? != 0), 1)),
+        Form::Sdata => {
+            let (number, len) = read_sleb(bytes)?;
+            Ok((Value::Signed(number), len))
+        }
+        Form::Strp => Ok((Value::Str(offset(bytes)?), 4)),
+        Form::Udata => {
+            let (number, len) = read_uleb(bytes)?;
+            Ok((Value::Unsigned(number), len))
+        }
+        Form::RefAddr => Ok((Value::RefInfo(offset(bytes)?), 4)),
+        Form::Ref1 => Ok((Value::RefUnit(fixed(bytes, 1)?), 1)),
+        Form::Ref2 => Ok((Value::RefUnit(fixed(bytes, 2)?), 2)),
+        Form::Ref4 => Ok((Value::RefUnit(fixed(bytes, 4)?), 4)),
+        Form::Ref8 => Ok((Value::RefUnit(fixed(bytes, 8)?), 8)),
+        Form::RefUdata => {
+            let (number, len) = read_uleb(bytes)?;
+            Ok((Value::RefUnit(number), len))
+        }
+        Form::Indirect => Err(ValueFault::BadIndirect),
+        Form::SecOffset => Ok((Value::SecOffset(offset(bytes)?), 4)),
+        Form::Exprloc => {
+            let (content, len) = leb_counted(bytes)?;
+            Ok((Value::Expr(content), len))
+        }
+        Form::FlagPresent => Ok((Value::Flag(true), 0)),
+        Form::Strx => {
+            let (number, len) = read_uleb(bytes)?;
+            Ok((Value::StrIndex(number), len))
+        }
+        Form::Addrx => {
+            let (number, len) = read_uleb(bytes)?;
+            Ok((Value::AddrIndex(number), len))
+        }
+        Form::Data16 => Ok((Value::Wide(block(bytes, 16)?), 16)),
+        Form::LineStrp => Ok((Value::LineStr(offset(bytes)?), 4)),
+        Form::RefSig8 => Ok((Value::RefSig(fixed(bytes, 8)?), 8)),
+        Form::ImplicitConst(number) => Ok((Value::Signed(number), 0)),
+        Form::Loclistx => {
+            let (number, len) = read_uleb(bytes)?;
+            Ok((Value::LocIndex(number), len))
+        }
+        Form::Rnglistx => {
+            let (number, len) = read_uleb(bytes)?;
+            Ok((Value::RngIndex(number), len))
+        }
+        Form::Strx1 => Ok((Value::StrIndex(fixed(bytes, 1)?), 1)),
+        Form::Strx2 => Ok((Value::StrIndex(fixed(bytes, 2)?), 2)),
+        Form::Strx3 => Ok((Value::StrIndex(fixed(bytes, 3)?), 3)),
+        Form::Strx4 => Ok((Value::StrIndex(fixed(bytes, 4)?), 4)),
+        Form::Addrx1 => Ok((Value::AddrIndex(fixed(bytes, 1)?), 1)),
+        Form::Addrx2 => Ok((Value::AddrIndex(fixed(bytes, 2)?), 2)),
+        Form::Addrx3 => Ok((Value::AddrIndex(fixed(bytes, 3)?), 3)),
+        Form::Addrx4 => Ok((Value::AddrIndex(fixed(bytes, 4)?), 4)),
+    }
+}
+
+/// The value of the form with this code, which an indirect value names.
+fn named(
+    version: u16,
+    code: u64,
+    address_size: u8,
+    bytes: &[u8],
+) -> Result<(Value<'_>, usize), ValueFault>
+    requires { (address_size ≡ 4) ⊎ (address_size ≡ 8) }
+    ensures within { IfOk result (λ x. x.1 ≤ length bytes.now) }
+    ensures exact { Gives (λ x. (view x.0, drop x.1 bytes.now)) result (named_at version (form_of code) address_size bytes.now) }
+{
+    match Form::from_code(code) {
+        Some(form) if form.may_be_named(version) => plain(form, address_size, bytes),
+        _ => Err(ValueFault::BadIndirect),
+    }
+}
+
+/// The code of a form, and that form's value.
+#[cold]
+#[inline(never)]
+#[tactic(auto, unfolding(crate::specs::ValueReading::uleb_then))]
+fn indirect(version: u16, address_size: u8, bytes: &[u8]) -> Result<(Value<'_>, usize), ValueFault>
+    requires { (address_size ≡ 4) ⊎ (address_size ≡ 8) }
+    ensures within { IfOk result (λ x. x.1 ≤ length bytes.now) }
+    ensures exact { Gives (λ x. (view x.0, drop x.1 bytes.now)) result (value_at version Indirect address_size bytes.now) }
+{
+    let (code, before) = read_uleb(bytes)?;
+    let (value, len) = named(version, code, address_size, &bytes[before..])?;
+    Ok((value, before + len))
+}
+
+/// The value of any form, and how many bytes it has.
+#[inline]
+fn value(
+    version: u16,
+    form: Form,
+    address_size: u8,
+    bytes: &[u8],
+) -> Result<(Value<'_>, usize), ValueFault>
+    requires { (address_size ≡ 4) ⊎ (address_size ≡ 8) }
+    ensures within { IfOk result (λ x. x.1 ≤ length bytes.now) }
+    ensures exact { Gives (λ x. (view x.0, drop x.1 bytes.now)) result (value_at version form address_size bytes.now) }
+{
+    match form {
+        Form::Indirect => indirect(version, address_size, bytes),
+        _ => plain(form, address_size, bytes),
+    }
+}
+
+/// Reads the value at the front, in a form that the unit's version allows, and how many bytes it takes. Bytes may
+/// follow it.
+pub fn read_value(
+    version: u16,
+    form: Form,
+    address_size: u8,
+    bytes: &[u8],
+) -> Result<(Value<'_>, usize), ValueFault>
+    requires allowed { IsTrue (is_allowed version form) }
+    requires size { (address_size ≡ 4) ⊎ (address_size ≡ 8) }
+    // These bytes spell this value, and no others at the front spell any.
+    ensures found { IfOk result (λ r. BeginsWith (Val version form address_size) bytes.now (view r.0) r.1) }
+    ensures none { OnErr result (BeginsWithNone (Val version form address_size) bytes.now) }
+    ensures fault { IfErr result (ValFails version form address_size bytes.now) }
+    // For callers that reason by steps.
+    ensures exact { Gives (λ r. (view r.0, drop r.1 bytes.now)) result (value_at version form address_size bytes.now) }
+{
+    value(version, form, address_size, bytes)
+}
+
+/// The length of a value whose form has no one size. Only an indirect one is read for it.
+#[tactic(auto, unfolding(crate::specs::Sizes::rest_at, crate::specs::ValueReading::layout_at, crate::specs::ValueReading::uleb_then, crate::specs::ValueReading::sleb_then))]
+fn skip_long(version: u16, form: Form, address_size: u8, bytes: &[u8]) -> Result<usize, ValueFault>
+    requires { (address_size ≡ 4) ⊎ (address_size ≡ 8) }
+    ensures within { IfOk result (λ len. len ≤ length bytes.now) }
+    ensures exact { Gives (λ len. drop len bytes.now) result (rest_at version form address_size bytes.now) }
+{
+    match form {
+        Form::Udata | Form::RefUdata | Form::Strx | Form::Addrx | Form::Loclistx | Form::Rnglistx =>
+            Ok(read_uleb(bytes)?.1),
+        Form::Sdata => Ok(read_sleb(bytes)?.1),
+        Form::Block | Form::Exprloc => Ok(leb_counted(bytes)?.1),
+        Form::Block1 => Ok(1 + counted(bytes, 1)?.len()),
+        Form::Block2 => Ok(2 + counted(bytes, 2)?.len()),
+        Form::Block4 => Ok(4 + counted(bytes, 4)?.len()),
+        Form::Text => Ok(text(bytes)?.len() + 1),
+        _ => Ok(value(version, form, address_size, bytes)?.1),
+    }
+}
+
+/// How many bytes the value at the front takes, as `read_value` says it, without making the value.
+#[inline]
+#[tactic(auto, using(crate::specs::SizeLaws::rest_skips, crate::specs::SizeLaws::rest_cuts), unfolding(crate::specs::Sizes::rest_at))]
+pub fn skip_value(
+    version: u16,
+    form: Form,
+    address_size: u8,
+    bytes: &[u8],
+) -> Result<usize, ValueFault>
+    requires allowed { IsTrue (is_allowed version form) }
+    requires size { (address_size ≡ 4) ⊎ (address_size ≡ 8) }
+    ensures within { IfOk result (λ len. len ≤ length bytes.now) }
+    ensures exact { Gives (λ len. drop len bytes.now) result (rest_at version form address_size bytes.now) }
+{
+    match form.fixed_size(address_size) {
+        Some(size) if bytes.len() < size => Err(ValueFault::Cut),
+        Some(size) => Ok(size),
+        None => skip_long(version, form, address_size, bytes),
+    }
+}
