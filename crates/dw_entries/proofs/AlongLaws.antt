@@ -1,0 +1,217 @@
+-- How far the pass over a unit's body has come.
+use Rattle.std.proofs.Common.{◌≡◌, ◌≢◌, ℕ, suc, ◌+◌, ◌-◌, ◌<◌, ◌≤◌, Bool, map, true, false, cond, List, [], ◌∷◌, ◌++◌, length, reverse, Some, None, Ok, Err, refl, sym, ap, ◌∙◌, append_assoc, append-nil, arith, length-append, eq-eqb, eqb-true, true≢false}
+use Rattle.std.specs.Prelude.{◌==◌}
+use Rattle.std.proofs.lemmas.List.{nil_from_length, length-reverse}
+use Rattle.dw_entries.specs.declared.record.Record.{Record}
+use Rattle.dw_entries.specs.declared.record.Level.{Level}
+use Rattle.dw_entries.specs.declared.fault.Broken.{Broken}
+use Rattle.dw_entries.specs.declared.header.HeaderKind.{HeaderKind}
+use Rattle.dw_forms.specs.Abbrev.{Declaration}
+use Rattle.dw_entries.specs.Header.{fits_tag, header_size}
+use Rattle.dw_entries.specs.declared.fault.Failing.{Failing}
+use Rattle.dw_entries.specs.Grammar.{place_in, Context, Head, head_bytes}
+use Rattle.dw_entries.specs.Tree.{Node, node_bytes, leaf, parent}
+use Rattle.dw_entries.specs.Items.{Item, entry, null, AreItems, decl_of, item_bytes, items_bytes, node_items, depth_along, root_depth, tree_depth}
+use Rattle.dw_entries.specs.Reading.{seen, item_at, first_at}
+use Rattle.dw_entries.specs.Units.{nulls_bytes, head_of}
+use Rattle.dw_entries.specs.Faults.{Front, in_unit, Stops, BodyFails}
+use Rattle.dw_entries.specs.Walk.{Walk, walk_of, link_last, open_list, enter, leave, step, walk_along}
+use Rattle.dw_entries.specs.Stopped.{TreeOf}
+use Rattle.dw_entries.specs.Records.{node_records}
+use Rattle.dw_entries.specs.ReadingLaws.{item_some, item_takes, first_takes, seen_ok, seen_err, seen_entry, item_shorter}
+use Rattle.dw_entries.proofs.ItemLaws.{items_bytes-append, AreItems-append, node_of, node_spelled, nulls_spelled, depth_along-append}
+use Rattle.dw_entries.proofs.WalkLaws.{length-link_last, along_root}
+
+-- some items of a tree were taken, and this is what is left and what was made of them
+pub record Along (t : Context) (kind : HeaderKind) (unit at : ℕ) (body : List ℕ) (old : List Record) (rest : List ℕ) (w : Walk) : Type 0 where
+  pub first : Head
+  pub others : List Item
+  pub front : Front t kind body (entry first ∷ others) rest (length w.levels)
+  pub walked : walk_along t.table unit at (entry first ∷ others) (record { records = old; levels = [] }) ≡ w
+
+length-open_list : (b : Bool) (id : ℕ) (ls : List Level) → length (open_list b id ls) ≡ cond b (suc (length ls)) (length ls)
+length-open_list true id ls = refl
+length-open_list false id ls = refl
+
+-- after the first entry
+pub along_first : (t : Context) (kind : HeaderKind) (unit at : ℕ) (body : List ℕ) (old : List Record) (h : Head) (rest : List ℕ) (w : Walk) → first_at t kind body ≡ Ok (entry h, rest) → enter unit at (place_in t.table h.decl.code, h.decl) old [] ≡ w → Along t kind unit at body old rest w
+along_first t kind unit at body old h rest w read e =
+    let took = first_takes t kind body h rest read in
+    record {
+      first = h;
+      others = [];
+      front = record { are = (took.1, tt); fits = took.2; at_depth = ap (λ (d : ℕ). Some d) (sym (length-open_list h.decl.has_children (length old) []) ∙ ap (λ (x : Walk). length x.levels) e); parts = took.0 ∙ ap (λ (b : List ℕ). b ++ rest) (sym (append-nil (head_bytes h))) };
+      walked = e;
+    }
+
+-- a step changes the depth as its item does
+step_depth : (t : Context) (unit at : ℕ) (i : Item) (rs : List Record) (ls : List Level) → ls ≢ [] → depth_along (length ls) (i ∷ []) ≡ Some (length (step t.table unit at i (record { records = rs; levels = ls })).levels)
+step_depth t unit at i rs [] more = absurd (more refl)
+step_depth t unit at (null z) rs (l ∷ ls) more = refl
+step_depth t unit at (entry h) rs (l ∷ ls) more = ap (λ (d : ℕ). Some d) (sym (length-open_list h.decl.has_children (length rs) (record { parent = l.parent; last = Some (length rs) } ∷ ls)))
+
+walk_along-push : (t : Context) (unit at : ℕ) (is : List Item) (i : Item) (w : Walk) → walk_along t.table unit at (is ++ i ∷ []) w ≡ step t.table unit (at + length (items_bytes is)) i (walk_along t.table unit at is w)
+walk_along-push t unit at [] i w = let e : at ≡ at + 0 = omega arith in ap (λ (o : ℕ). step t.table unit o i w) e
+walk_along-push t unit at (j ∷ is) i w =
+    let e : (at + length (item_bytes j)) + length (items_bytes is) ≡ at + length (items_bytes (j ∷ is)) = omega (arith, length-append (item_bytes j) (items_bytes is)) in
+    walk_along-push t unit (at + length (item_bytes j)) is i (step t.table unit at j w) ∙ ap (λ (o : ℕ). step t.table unit o i (walk_along t.table unit (at + length (item_bytes j)) is (step t.table unit at j w))) e
+
+-- how many bytes the items so far took
+pub taken : (t : Context) (kind : HeaderKind) (unit at : ℕ) (body : List ℕ) (old : List Record) (rest : List ℕ) (w : Walk) (a : Along t kind unit at body old rest w) → length (items_bytes (entry a.first ∷ a.others)) ≡ length body - length rest
+taken t kind unit at body old rest w a = omega (arith, ap length a.front.parts, length-append (items_bytes (entry a.first ∷ a.others)) rest)
+
+-- after one more item
+pub along_next : (t : Context) (kind : HeaderKind) (unit at : ℕ) (body : List ℕ) (old : List Record) (rest : List ℕ) (w v : Walk) (i : Item) (after : List ℕ) → Along t kind unit at body old rest w → w.levels ≢ [] → item_at t rest ≡ Ok (i, after) → step t.table unit (at + (length body - length rest)) i w ≡ v → Along t kind unit at body old after v
+along_next t kind unit at body old rest w v i after a more read e =
+    let took = item_takes t rest i after read in
+    let is : List Item = entry a.first ∷ a.others in
+    let o : at + length (items_bytes is) ≡ at + (length body - length rest) = ap (λ (k : ℕ). at + k) (taken t kind unit at body old rest w a) in
+    let spelled : body ≡ items_bytes (is ++ i ∷ []) ++ after =
+    a.front.parts ∙ ap (λ (b : List ℕ). items_bytes is ++ b) (took.0 ∙ ap (λ (b : List ℕ). b ++ after) (sym (append-nil (item_bytes i)))) ∙ sym (append_assoc (items_bytes is) (item_bytes i ++ []) after) ∙ ap (λ (b : List ℕ). b ++ after) (sym (items_bytes-append is (i ∷ []))) in
+    let deep : tree_depth (is ++ i ∷ []) ≡ Some (length v.levels) =
+    depth_along-append (root_depth a.first) (length w.levels) a.others (i ∷ []) a.front.at_depth ∙ step_depth t unit (at + (length body - length rest)) i w.records w.levels more ∙ ap (λ (x : Walk). Some (length x.levels)) e in
+    record {
+      first = a.first;
+      others = a.others ++ i ∷ [];
+      front = record { are = AreItems-append t is (i ∷ []) a.front.are (took.1, tt); fits = a.front.fits; at_depth = deep; parts = spelled };
+      walked = walk_along-push t unit at is i (record { records = old; levels = [] }) ∙ ap (λ (k : ℕ). step t.table unit k i (walk_along t.table unit at is (record { records = old; levels = [] }))) o ∙ ap (step t.table unit (at + (length body - length rest)) i) a.walked ∙ e;
+    }
+
+head_is : (n : Node) (zs : List (List ℕ)) (h : Head) (is : List Item) → node_items n ++ map null zs ≡ entry h ∷ is → head_of n ≡ h
+head_is (leaf k) zs h is e = let same : entry k ≡ entry h = cc in cc
+head_is (parent k ns z) zs h is e = let same : entry k ≡ entry h = cc in cc
+
+abbrev walk : List Record → List Level → Walk
+walk rs ls = record { records = rs; levels = ls }
+
+walk_along-append : (t : Context) (unit at : ℕ) (is js : List Item) (w : Walk) → walk_along t.table unit at (is ++ js) w ≡ walk_along t.table unit (at + length (items_bytes is)) js (walk_along t.table unit at is w)
+walk_along-append t unit at [] js w = let e : at ≡ at + 0 = omega arith in ap (λ (o : ℕ). walk_along t.table unit o js w) e
+walk_along-append t unit at (i ∷ is) js w =
+    let e : (at + length (item_bytes i)) + length (items_bytes is) ≡ at + length (items_bytes (i ∷ is)) = omega (arith, length-append (item_bytes i) (items_bytes is)) in
+    walk_along-append t unit (at + length (item_bytes i)) is js (step t.table unit at i w) ∙ ap (λ (o : ℕ). walk_along t.table unit o js (walk_along t.table unit (at + length (item_bytes i)) is (step t.table unit at i w))) e
+
+along_nulls : (t : Context) (unit at : ℕ) (zs : List (List ℕ)) (rs : List Record) → walk_along t.table unit at (map null zs) (record { records = rs; levels = [] }) ≡ record { records = rs; levels = [] }
+along_nulls t unit at [] rs = refl
+along_nulls t unit at (z ∷ zs) rs = along_nulls t unit (at + length z) zs rs
+
+-- at the end of the tree and its nulls
+pub along_end : (t : Context) (kind : HeaderKind) (unit at : ℕ) (body : List ℕ) (old : List Record) (rest : List ℕ) (w : Walk) → Along t kind unit at body old rest w → w.levels ≡ [] → TreeOf t kind body rest unit at old w.records
+along_end t kind unit at body old rest w a e =
+    let deep : tree_depth (entry a.first ∷ a.others) ≡ Some 0 = a.front.at_depth ∙ ap (λ (ls : List Level). Some (length ls)) e in
+    let (n, zs, is, nulls, items) = node_of t a.first a.others a.front.are.0 a.front.are.1 deep in
+    let start : Walk = record { records = old; levels = [] } in
+    let spelled : items_bytes (node_items n ++ map null zs) ≡ node_bytes n ++ nulls_bytes zs = items_bytes-append (node_items n) (map null zs) ∙ ap (λ (x : List ℕ). x ++ items_bytes (map null zs)) (node_spelled n) ∙ ap (λ (x : List ℕ). node_bytes n ++ x) (nulls_spelled zs) in
+    let end : walk_along t.table unit at (node_items n ++ map null zs) start ≡ record { records = old ++ node_records t.table unit None 0 None (length old) at n; levels = [] } =
+    walk_along-append t unit at (node_items n) (map null zs) start ∙ ap (walk_along t.table unit (at + length (items_bytes (node_items n))) (map null zs)) (along_root t.table t unit at n old is) ∙ along_nulls t unit (at + length (items_bytes (node_items n))) zs (old ++ node_records t.table unit None 0 None (length old) at n) in
+    record {
+      root = n;
+      is = is;
+      tag = ap (λ (h : Head). fits_tag kind h.decl.tag) (head_is n zs a.first a.others items) ∙ a.front.fits;
+      nulls = zs;
+      are_nulls = nulls;
+      parts = a.front.parts ∙ ap (λ (b : List ℕ). b ++ rest) (ap items_bytes (sym items) ∙ spelled);
+      records = ap (λ (x : Walk). x.records) (sym a.walked ∙ ap (λ (js : List Item). walk_along t.table unit at js start) (sym items) ∙ end);
+    }
+
+stops_inside : (t : Context) (kind : HeaderKind) (i : Item) (is : List Item) (rest : List ℕ) (ls : List Level) (f : Failing) → ls ≢ [] → item_at t rest ≡ Err f → Stops t kind (i ∷ is) rest (length ls) f
+stops_inside t kind i is rest [] f more e = absurd (more refl)
+stops_inside t kind i is rest (l ∷ ls) f more e = e
+
+pub along_fault : (t : Context) (kind : HeaderKind) (unit header start : ℕ) (body : List ℕ) (old : List Record) (rest : List ℕ) (w : Walk) (f : Failing) (fault : Broken) → start ≡ header + header_size kind → Along t kind unit start body old rest w → w.levels ≢ [] → item_at t rest ≡ Err f → fault ≡ in_unit f header (start + (length body - length rest)) → BodyFails t kind header body fault
+along_fault t kind unit header start body old rest w f fault s a more read e = record {
+  items = entry a.first ∷ a.others;
+  rest = rest;
+  depth = length w.levels;
+  failing = f;
+  front = a.front;
+  stops = stops_inside t kind (entry a.first) a.others rest w.levels f more read;
+  is = e ∙ ap (λ (k : ℕ). in_unit f header (start + k)) (sym (taken t kind unit start body old rest w a)) ∙ ap (λ (k : ℕ). in_unit f header (k + length (items_bytes (entry a.first ∷ a.others)))) s;
+}
+
+pub first_fault : (t : Context) (kind : HeaderKind) (header start : ℕ) (body : List ℕ) (f : Failing) (fault : Broken) → start ≡ header + header_size kind → first_at t kind body ≡ Err f → fault ≡ in_unit f header start → BodyFails t kind header body fault
+first_fault t kind header start body f fault s read e = record {
+  items = [];
+  rest = body;
+  depth = 1;
+  failing = f;
+  front = record { are = tt; fits = tt; at_depth = refl; parts = refl };
+  stops = read;
+  is = e ∙ ap (in_unit f header) s ∙ (let z : header + header_size kind ≡ header + header_size kind + 0 = omega arith in ap (λ (k : ℕ). in_unit f header k) z);
+}
+
+-- ---- the same, in the words of the code
+
+reverse_some : (ls : List Level) → ls ≢ [] → reverse ls ≢ []
+reverse_some ls more e = more (nil_from_length ls (omega (arith, ap length e, length-reverse ls)))
+
+pub first_turn : (t : Context) (kind : HeaderKind) (unit at : ℕ) (body : List ℕ) (old records : List Record) (none levels : List Level) (d : ℕ × Declaration) (rest : List ℕ) → seen (decl_of t.table) (first_at t kind body) ≡ Ok (Some d, rest) → none ≡ [] → walk_of records levels ≡ enter unit at d old (reverse none) → Along t kind unit at body old rest (walk_of records levels)
+first_turn t kind unit at body old records none levels d rest read empty e =
+    let (h, was, is) = seen_entry t.table (first_at t kind body) d rest read in
+    let entered : enter unit at (place_in t.table h.decl.code, h.decl) old [] ≡ walk_of records levels = ap (λ (x : ℕ × Declaration). enter unit at x old []) is ∙ ap (λ (ls : List Level). enter unit at d old (reverse ls)) (sym empty) ∙ sym e in
+    along_first t kind unit at body old h rest (walk_of records levels) was entered
+
+pub next_turn : (t : Context) (kind : HeaderKind) (unit at : ℕ) (body : List ℕ) (old : List Record) (rest : List ℕ) (records : List Record) (levels : List Level) (more : List Record) (above : List Level) (after : List ℕ) → Along t kind unit at body old rest (walk_of records levels) → levels ≢ [] → seen (λ i. step t.table unit (at + (length body - length rest)) i (walk_of records levels)) (item_at t rest) ≡ Ok (walk_of more above, after) → Along t kind unit at body old after (walk_of more above)
+next_turn t kind unit at body old rest records levels more above after a some read =
+    let (i, was, is) = seen_ok (λ i. step t.table unit (at + (length body - length rest)) i (walk_of records levels)) (item_at t rest) (walk_of more above) after read in
+    along_next t kind unit at body old rest (walk_of records levels) (walk_of more above) i after a (reverse_some levels some) was is
+
+pub turn_shorter : {B : Type 0} (f : Item → B) (t : Context) (rest : List ℕ) (y : B) (after : List ℕ) → seen f (item_at t rest) ≡ Ok (y, after) → length after < length rest
+turn_shorter f t rest y after read = let (i, was, is) = seen_ok f (item_at t rest) y after read in item_shorter t rest i after was
+
+pub turn_fault : (t : Context) (kind : HeaderKind) (unit header start : ℕ) (body : List ℕ) (old : List Record) (rest : List ℕ) (records : List Record) (levels : List Level) (f : Failing) (fault : Broken) → start ≡ header + header_size kind → Along t kind unit start body old rest (walk_of records levels) → levels ≢ [] → seen (λ i. step t.table unit (start + (length body - length rest)) i (walk_of records levels)) (item_at t rest) ≡ Err f → fault ≡ in_unit f header (start + (length body - length rest)) → BodyFails t kind header body fault
+turn_fault t kind unit header start body old rest records levels f fault s a some read e =
+    along_fault t kind unit header start body old rest (walk_of records levels) f fault s a (reverse_some levels some) (seen_err (λ i. step t.table unit (start + (length body - length rest)) i (walk_of records levels)) (item_at t rest) f read) e
+
+-- what a test for an empty list says
+pub some_from : {A : Type 0} (xs : List A) (n : ℕ) → n ≡ length xs → false ≡ (n == 0) → xs ≢ []
+some_from xs n len e none = let z : n ≡ 0 = len ∙ ap length none in absurd (true≢false (sym (eq-eqb n 0 z) ∙ sym e))
+
+pub none_from : {A : Type 0} (xs : List A) (n : ℕ) → n ≡ length xs → true ≡ (n == 0) → xs ≡ []
+none_from xs n len e = nil_from_length xs (sym len ∙ eqb-true n 0 (sym e))
+
+-- ---- how much was made: one entry and one list for each item at most, and each item takes a byte
+
+step_records : (t : Context) (unit at : ℕ) (i : Item) (w : Walk) → length (step t.table unit at i w).records ≤ suc (length w.records)
+step_records t unit at (null z) w = omega arith
+step_records t unit at (entry h) w = by_levels w.levels
+  where
+    by_levels : (ls : List Level) → length (enter unit at (place_in t.table h.decl.code, h.decl) w.records ls).records ≤ suc (length w.records)
+    by_levels [] = omega (arith, length-append w.records (record { at = at; unit = unit; decl = place_in t.table h.decl.code; parent = None; depth = 0; next = None } ∷ []))
+    by_levels (l ∷ ls) = omega (arith, length-append (link_last l.last (length w.records) w.records) (record { at = at; unit = unit; decl = place_in t.table h.decl.code; parent = l.parent; depth = suc (length ls); next = None } ∷ []), length-link_last l.last (length w.records) w.records)
+
+open_list_few : (b : Bool) (id : ℕ) (ls : List Level) → length (open_list b id ls) ≤ suc (length ls)
+open_list_few true id ls = omega arith
+open_list_few false id ls = omega arith
+
+leave_few : (ls : List Level) → length (leave ls) ≤ length ls
+leave_few [] = omega arith
+leave_few (l ∷ ls) = omega arith
+
+step_levels : (t : Context) (unit at : ℕ) (i : Item) (w : Walk) → length (step t.table unit at i w).levels ≤ suc (length w.levels)
+step_levels t unit at (null z) w = let few = leave_few w.levels in omega (arith, few)
+step_levels t unit at (entry h) w = by_levels w.levels
+  where
+    by_levels : (ls : List Level) → length (enter unit at (place_in t.table h.decl.code, h.decl) w.records ls).levels ≤ suc (length ls)
+    by_levels [] = open_list_few h.decl.has_children (length w.records) []
+    by_levels (l ∷ ls) = open_list_few h.decl.has_children (length w.records) (record { parent = l.parent; last = Some (length w.records) } ∷ ls)
+
+walk_records : (t : Context) (unit at : ℕ) (is : List Item) (w : Walk) → AreItems t is → length (walk_along t.table unit at is w).records ≤ length w.records + length (items_bytes is)
+walk_records t unit at [] w p = omega arith
+walk_records t unit at (i ∷ is) w p =
+    let more = walk_records t unit (at + length (item_bytes i)) is (step t.table unit at i w) p.1 in
+    omega (arith, more, step_records t unit at i w, item_some t i p.0, length-append (item_bytes i) (items_bytes is))
+
+walk_levels : (t : Context) (unit at : ℕ) (is : List Item) (w : Walk) → AreItems t is → length (walk_along t.table unit at is w).levels ≤ length w.levels + length (items_bytes is)
+walk_levels t unit at [] w p = omega arith
+walk_levels t unit at (i ∷ is) w p =
+    let more = walk_levels t unit (at + length (item_bytes i)) is (step t.table unit at i w) p.1 in
+    omega (arith, more, step_levels t unit at i w, item_some t i p.0, length-append (item_bytes i) (items_bytes is))
+
+pub along_few : (t : Context) (kind : HeaderKind) (unit at : ℕ) (body : List ℕ) (old : List Record) (rest : List ℕ) (records : List Record) (levels : List Level) → Along t kind unit at body old rest (walk_of records levels)
+    → (length records ≤ length old + (length body - length rest)) × (length levels ≤ length body - length rest)
+along_few t kind unit at body old rest records levels a =
+    let is : List Item = entry a.first ∷ a.others in
+    let bytes = taken t kind unit at body old rest (walk_of records levels) a in
+    let r = walk_records t unit at is (walk old []) a.front.are in
+    let l = walk_levels t unit at is (walk old []) a.front.are in
+    (omega (arith, bytes, r, ap (λ (w : Walk). length w.records) a.walked), omega (arith, bytes, l, ap (λ (w : Walk). length w.levels) a.walked, length-reverse levels))

@@ -1,0 +1,163 @@
+-- What holds of the entries and of the units of a list: order, numbers in range, and where each unit begins.
+use Rattle.std.proofs.Common.{◌≡◌, ℕ, zero, suc, ◌+◌, ◌<◌, ◌≤◌, List, [], ◌∷◌, ◌++◌, length, Option, Some, None, refl, sym, ap, subst, ◌∙◌, arith, length-append}
+use Rattle.std.specs.Prelude.{slice_get, IfSome}
+use Rattle.std.specs.List.{AllByRecursion}
+use Rattle.std.proofs.lemmas.Option.{slice_get-map}
+use Rattle.dw_entries.specs.declared.record.Record.{Record}
+use Rattle.dw_entries.specs.Grammar.{head_bytes}
+use Rattle.dw_entries.specs.Header.{header_size}
+use Rattle.dw_entries.specs.HeaderLaws.{length-header}
+use Rattle.dw_entries.specs.Tree.{Node, Nodes, leaf, parent, none, ◌then◌, node_bytes}
+use Rattle.dw_entries.specs.Units.{DebugUnit, head_of, unit_bytes, AreUnits, units_bytes, Spells}
+use Rattle.dw_entries.specs.Entries.{Entry, node_count, nodes_count, first_id, node_entries, nodes_entries, entries_from, entries_of, PlacedUnit, placed_from, placed}
+use Rattle.dw_entries.specs.Records.{records_kept}
+use Rattle.dw_entries.specs.Scanned.{record_of, records_of}
+use Rattle.dw_entries.specs.Asked.{OffsetsRise}
+use Rattle.dw_entries.proofs.OrderLaws.{Rises, units_rise}
+use Rattle.dw_entries.proofs.HeadLaws.{all-append, all_get}
+
+-- ---- the entries stand in rising offset
+
+rises_low : (low high : ℕ) (rs : List Record) (j : ℕ) (r : Record) → Rises low high rs → slice_get rs j ≡ Some r → low ≤ r.at
+rises_low low high [] j r p is = absurd cc
+rises_low low high (q ∷ rs) zero r p is = let e : Some q ≡ Some r = is in let same : q ≡ r = cc in subst (λ (x : Record). low ≤ x.at) same p.0
+rises_low low high (q ∷ rs) (suc j) r p is = let more = rises_low (suc q.at) high rs j r p.1 is in omega (arith, more, p.0)
+
+rises_get : (low high : ℕ) (rs : List Record) (i j : ℕ) (a b : Record) → Rises low high rs → i < j → slice_get rs i ≡ Some a → slice_get rs j ≡ Some b → a.at < b.at
+rises_get low high [] i j a b p lt is_a is_b = absurd cc
+rises_get low high (r ∷ rs) i zero a b p lt is_a is_b = absurd (omega arith)
+rises_get low high (r ∷ rs) zero (suc j) a b p lt is_a is_b = let e : Some r ≡ Some a = is_a in let same : r ≡ a = cc in subst (λ (x : Record). x.at < b.at) same (rises_low (suc r.at) high rs j b p.1 is_b)
+rises_get low high (r ∷ rs) (suc i) (suc j) a b p lt is_a is_b = rises_get (suc r.at) high rs i j a b p.1 (omega arith) is_a is_b
+
+pub kept_get : (us : List DebugUnit) (i : ℕ) (e : Entry) → slice_get (entries_of us) i ≡ Some e → slice_get (records_of us) i ≡ Some (record_of us e)
+kept_get us i e is = slice_get-map (record_of us) (entries_of us) i ∙ rw is refl
+
+pub entries_rise : (a : List ℕ) (us : List DebugUnit) → AreUnits a us → OffsetsRise (entries_of us)
+entries_rise a us are i j d e lt is_d is_e =
+    rises_get 0 (0 + length (units_bytes us)) (records_of us) i j (record_of us d) (record_of us e)
+    (subst (Rises 0 (0 + length (units_bytes us))) (sym (records_kept us)) (units_rise a 0 0 0 us are)) lt (kept_get us i d is_d) (kept_get us j e is_e)
+
+-- ---- parents and siblings are entries
+
+-- the numbers of its parent and of its next sibling are below this
+pub record LinksBelow (high : ℕ) (e : Entry) : Type 0 where
+  pub parent : IfSome e.parent (λ id. id < high)
+  pub next : IfSome e.next (λ id. id < high)
+
+first_below : (high : ℕ) (ns : Nodes) (id : ℕ) → id + nodes_count ns ≤ high → IfSome (first_id ns id) (λ k. k < high)
+first_below high none id le = tt
+first_below high (n then ns) id le = omega (arith, some n)
+  where
+    some : (n : Node) → 0 < node_count n
+    some (leaf h) = omega arith
+    some (parent h ns z) = omega arith
+
+mutual
+  node_links : (high unit : ℕ) (above : Option ℕ) (depth : ℕ) (next : Option ℕ) (id at : ℕ) (n : Node) → IfSome above (λ k. k < high) → IfSome next (λ k. k < high) → id + node_count n ≤ high
+      → AllByRecursion (LinksBelow high) (node_entries unit above depth next id at n)
+  node_links high unit above depth next id at (leaf h) p q le = (record { parent = p; next = q }, tt)
+  node_links high unit above depth next id at (parent h ns z) p q le =
+      (record { parent = p; next = q }, nodes_links high unit id (suc depth) (suc id) (at + length (head_bytes h)) ns (omega arith) (omega arith))
+
+  nodes_links : (high unit above depth id at : ℕ) (ns : Nodes) → above < high → id + nodes_count ns ≤ high → AllByRecursion (LinksBelow high) (nodes_entries unit above depth id at ns)
+  nodes_links high unit above depth id at none p le = tt
+  nodes_links high unit above depth id at (n then ns) p le =
+      all-append (LinksBelow high) (node_entries unit (Some above) depth (first_id ns (id + node_count n)) id at n) (nodes_entries unit above depth (id + node_count n) (at + length (node_bytes n)) ns)
+      (node_links high unit (Some above) depth (first_id ns (id + node_count n)) id at n p (first_below high ns (id + node_count n) (omega arith)) (omega arith))
+      (nodes_links high unit above depth (id + node_count n) (at + length (node_bytes n)) ns p (omega arith))
+
+-- how many entries there are
+mutual
+  pub length-node_entries : (unit : ℕ) (above : Option ℕ) (depth : ℕ) (next : Option ℕ) (id at : ℕ) (n : Node) → length (node_entries unit above depth next id at n) ≡ node_count n
+  length-node_entries unit above depth next id at (leaf h) = refl
+  length-node_entries unit above depth next id at (parent h ns z) = ap suc (length-nodes_entries unit id (suc depth) (suc id) (at + length (head_bytes h)) ns)
+
+  pub length-nodes_entries : (unit above depth id at : ℕ) (ns : Nodes) → length (nodes_entries unit above depth id at ns) ≡ nodes_count ns
+  length-nodes_entries unit above depth id at none = refl
+  length-nodes_entries unit above depth id at (n then ns) =
+      omega (
+        arith,
+        length-append (node_entries unit (Some above) depth (first_id ns (id + node_count n)) id at n) (nodes_entries unit above depth (id + node_count n) (at + length (node_bytes n)) ns),
+        length-node_entries unit (Some above) depth (first_id ns (id + node_count n)) id at n,
+        length-nodes_entries unit above depth (id + node_count n) (at + length (node_bytes n)) ns,
+      )
+
+units_links : (high unit id at : ℕ) (us : List DebugUnit) → id + length (entries_from unit id at us) ≤ high → AllByRecursion (LinksBelow high) (entries_from unit id at us)
+units_links high unit id at [] le = tt
+units_links high unit id at (u ∷ us) le =
+    let first : List Entry = node_entries unit None 0 None id (at + header_size u.header.kind) u.root in
+    let more : List Entry = entries_from (suc unit) (id + node_count u.root) (at + length (unit_bytes u)) us in
+    let len = length-append first more in
+    let count = length-node_entries unit None 0 None id (at + header_size u.header.kind) u.root in
+    all-append (LinksBelow high) first more
+    (node_links high unit None 0 None id (at + header_size u.header.kind) u.root tt tt (omega (arith, le, len, count)))
+    (units_links high (suc unit) (id + node_count u.root) (at + length (unit_bytes u)) us (omega (arith, le, len, count)))
+
+pub links_below : (us : List DebugUnit) (id : ℕ) (e : Entry) → slice_get (entries_of us) id ≡ Some e → LinksBelow (length (entries_of us)) e
+links_below us id e is = all_get (LinksBelow (length (entries_of us))) (entries_of us) id e (units_links (length (entries_of us)) 0 0 0 us (omega arith)) is
+
+-- ---- the units, each where it stands
+
+pub placed_get : (at first : ℕ) (us : List DebugUnit) (k : ℕ) (u : DebugUnit) → slice_get us k ≡ Some u → (p : PlacedUnit) × (slice_get (placed_from at first us) k ≡ Some p) × (p.unit ≡ u)
+placed_get at first [] k u is = absurd cc
+placed_get at first (v ∷ us) zero u is = let e : Some v ≡ Some u = is in let same : v ≡ u = cc in (record { at = at; first = first; unit = v }, refl, same)
+placed_get at first (v ∷ us) (suc k) u is = placed_get (at + length (unit_bytes v)) (first + node_count v.root) us k u is
+
+pub length-placed_from : (at first : ℕ) (us : List DebugUnit) → length (placed_from at first us) ≡ length us
+length-placed_from at first [] = refl
+length-placed_from at first (u ∷ us) = ap suc (length-placed_from (at + length (unit_bytes u)) (first + node_count u.root) us)
+
+-- this entry is the first of the unit with this number and place
+pub record IsFirstEntry (number : ℕ) (p : PlacedUnit) (e : Entry) : Type 0 where
+  pub at : e.at ≡ p.at + header_size p.unit.header.kind
+  pub unit : e.unit ≡ number
+  pub parent : e.parent ≡ None
+  pub depth : e.depth ≡ 0
+  pub head : e.head ≡ head_of p.unit.root
+
+-- the entry with this number among these
+pub record HasFirst (entries : List Entry) (id number : ℕ) (p : PlacedUnit) : Type 0 where
+  pub entry : Entry
+  pub is_entry : slice_get entries id ≡ Some entry
+  pub is_first : IsFirstEntry number p entry
+
+behind_first : (es fs : List Entry) (k : ℕ) → slice_get (es ++ fs) (length es + k) ≡ slice_get fs k
+behind_first [] fs k = ap (slice_get fs) (let e : 0 + k ≡ k = omega arith in e)
+behind_first (x ∷ es) fs k = ap (slice_get (x ∷ es ++ fs)) (let e : suc (length es) + k ≡ suc (length es + k) = omega arith in e) ∙ behind_first es fs k
+
+first_here : (unit id at : ℕ) (u : DebugUnit) (more : List Entry) → HasFirst (node_entries unit None 0 None id (at + header_size u.header.kind) u.root ++ more) 0 unit (record { at = at; first = id; unit = u })
+first_here unit id at u more = go u.root refl
+  where
+    go : (n : Node) → u.root ≡ n → HasFirst (node_entries unit None 0 None id (at + header_size u.header.kind) n ++ more) 0 unit (record { at = at; first = id; unit = u })
+    go (leaf h) e = record { entry = _; is_entry = refl; is_first = record { at = refl; unit = refl; parent = refl; depth = refl; head = sym (ap head_of e) } }
+    go (parent h ns z) e = record { entry = _; is_entry = refl; is_first = record { at = refl; unit = refl; parent = refl; depth = refl; head = sym (ap head_of e) } }
+
+first_from : (unit id at : ℕ) (us : List DebugUnit) (k : ℕ) (p : PlacedUnit) → slice_get (placed_from at id us) k ≡ Some p
+    → (j : ℕ) × (p.first ≡ id + j) × HasFirst (entries_from unit id at us) j (unit + k) p
+first_from unit id at [] k p is = absurd cc
+first_from unit id at (u ∷ us) zero p is =
+    let e : ◌≡◌ {A = Option PlacedUnit} (Some (record { at = at; first = id; unit = u })) (Some p) = is in
+    let same : ◌≡◌ {A = PlacedUnit} (record { at = at; first = id; unit = u }) p = cc in
+    let number : unit ≡ unit + 0 = omega arith in
+    let here = first_here unit id at u (entries_from (suc unit) (id + node_count u.root) (at + length (unit_bytes u)) us) in
+    let P : PlacedUnit → Type 0 = λ q. HasFirst (entries_from unit id at (u ∷ us)) 0 unit q in
+    let Q : ℕ → Type 0 = λ n. HasFirst (entries_from unit id at (u ∷ us)) 0 n p in
+    (0, ap (λ (q : PlacedUnit). q.first) (sym same) ∙ (let z : id ≡ id + 0 = omega arith in z), subst Q number (subst P same here))
+first_from unit id at (u ∷ us) (suc k) p is =
+    let (j, first, has) = first_from (suc unit) (id + node_count u.root) (at + length (unit_bytes u)) us k p is in
+    let es : List Entry = node_entries unit None 0 None id (at + header_size u.header.kind) u.root in
+    let fs : List Entry = entries_from (suc unit) (id + node_count u.root) (at + length (unit_bytes u)) us in
+    let count = length-node_entries unit None 0 None id (at + header_size u.header.kind) u.root in
+    let number : suc unit + k ≡ unit + suc k = omega arith in
+    let P : ℕ → Type 0 = λ n. IsFirstEntry n p has.entry in
+    (length es + j, omega (arith, first, count), record { entry = has.entry; is_entry = behind_first es fs j ∙ has.is_entry; is_first = subst P number has.is_first })
+
+-- a unit's first entry
+pub first_entry : (us : List DebugUnit) (k : ℕ) (p : PlacedUnit) → slice_get (placed us) k ≡ Some p → HasFirst (entries_of us) p.first k p
+first_entry us k p is =
+    let (j, first, has) = first_from 0 0 0 us k p is in
+    let e : j ≡ p.first = omega (arith, first) in
+    let number : 0 + k ≡ k = omega arith in
+    let P : ℕ → Type 0 = λ i. HasFirst (entries_of us) i (0 + k) p in
+    let Q : ℕ → Type 0 = λ n. HasFirst (entries_of us) p.first n p in
+    subst Q number (subst P e has)

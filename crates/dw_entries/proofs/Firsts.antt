@@ -1,0 +1,196 @@
+-- The first failure of rules that are asked of entries one by one.
+use Rattle.std.proofs.Common.{◌≡◌, ℕ, ◌+◌, ◌<◌, ◌≤◌, List, length, Option, Some, refl, sym, ap, ◌∙◌, arith, subst, eq-or-lt_of_le, inl, inr, ◌⊎◌, get_or}
+use Rattle.std.specs.Prelude.{slice_get}
+use Rattle.std.proofs.lemmas.Option.{slice_get_within, slice_get-get_or}
+use Rattle.dw_forms.specs.Value.{Datum}
+use Rattle.dw_entries.specs.declared.rule.Rule.{Rule}
+use Rattle.dw_entries.specs.declared.fault.Broken.{Broken}
+use Rattle.dw_entries.specs.Rules.{number_of}
+use Rattle.dw_entries.specs.Entries.{Entry}
+use Rattle.dw_entries.specs.Places.{Place, at_header, at_entry, at_attribute, IsBefore, offset_of}
+use Rattle.dw_entries.specs.Failures.{Failure, Precedes, Names, HasNone, IsFirst, IsLeast}
+use Rattle.dw_entries.specs.Asked.{OffsetsRise, values_of, HasAttribute, AtAttributes, InList, AtEntries}
+
+-- the place is the entry at this offset, or an attribute of it
+abbrev pub IsAt : ℕ → Place → Type 0
+IsAt offset (at_header at) = ⊥
+IsAt offset (at_entry at) = at ≡ offset
+IsAt offset (at_attribute at k) = at ≡ offset
+
+before_le : (a b : ℕ) (p q : Place) → IsAt a p → IsAt b q → IsBefore p q → a ≤ b
+before_le a b (at_header p) q at_p at_q before = absurd at_p
+before_le a b (at_entry p) (at_header q) at_p at_q before = absurd at_q
+before_le a b (at_entry p) (at_entry q) at_p at_q before = omega arith
+before_le a b (at_entry p) (at_attribute q k) at_p at_q before = omega arith
+before_le a b (at_attribute p j) (at_header q) at_p at_q before = absurd at_q
+before_le a b (at_attribute p j) (at_entry q) at_p at_q before = omega arith
+before_le a b (at_attribute p j) (at_attribute q k) at_p at_q before =
+    elim before [ inl less ↦ omega arith | inr same ↦ omega (arith, same.0) ]
+
+same_place : (a b : ℕ) (p q : Place) → IsAt a p → IsAt b q → p ≡ q → a ≤ b
+same_place a b (at_header p) q at_p at_q same = absurd at_p
+same_place a b (at_entry p) (at_header q) at_p at_q same = absurd at_q
+same_place a b (at_entry p) (at_entry q) at_p at_q same = let e : p ≡ q = ap offset_of same in omega arith
+same_place a b (at_entry p) (at_attribute q k) at_p at_q same = let e : p ≡ q = ap offset_of same in omega arith
+same_place a b (at_attribute p j) (at_header q) at_p at_q same = absurd at_q
+same_place a b (at_attribute p j) (at_entry q) at_p at_q same = let e : p ≡ q = ap offset_of same in omega arith
+same_place a b (at_attribute p j) (at_attribute q k) at_p at_q same = let e : p ≡ q = ap offset_of same in omega arith
+
+precedes_le : (a b : ℕ) (f g : Failure) → IsAt a f.place → IsAt b g.place → Precedes f g → a ≤ b
+precedes_le a b f g at_f at_g precedes =
+    elim precedes [
+      | inl before ↦ before_le a b f.place g.place at_f at_g before
+      | inr same ↦ same_place a b f.place g.place at_f at_g same.0
+    ]
+
+three_ways : (i j : ℕ) → ((i < j) ⊎ (i ≡ j)) ⊎ (j < i)
+three_ways i j = grind arith
+
+pub same_some : {X : Type 0} (o : Option X) (x y : X) → o ≡ Some x → o ≡ Some y → x ≡ y
+same_some o x y p q = cc
+
+-- THE law of the order: where the items of a list rise in offset, and no failure of a later item precedes one of
+-- an earlier item, the first failure of the first item that has one is the first of all
+pub first_of_list : {X : Type 0} (xs : List X) (offset : X → ℕ) (Fails : ℕ → X → Failure → Type 0) (number : ℕ) (x : X) (broken : Broken)
+    → ((i j : ℕ) (a b : X) → i < j → slice_get xs i ≡ Some a → slice_get xs j ≡ Some b → offset a < offset b)
+    → ((i j : ℕ) (a b : X) (f g : Failure) → Fails i a f → Fails j b g → Precedes f g → offset a ≤ offset b)
+    → slice_get xs number ≡ Some x
+    → ((j : ℕ) (y : X) → j < number → slice_get xs j ≡ Some y → HasNone (Fails j y))
+    → IsFirst (Fails number x) broken
+    → IsFirst (InList xs Fails) broken
+first_of_list {X} xs offset Fails number x broken rise stands is_x passed first = record {
+  failure = first.failure;
+  fails = record { number = number; item = x; is_item = is_x; fails = first.fails };
+  named = first.named;
+  first = λ g fails precedes.
+      elim (three_ways fails.number number) [
+        | inl (inl less) ↦ passed fails.number fails.item less fails.is_item g fails.fails
+        | inl (inr same) ↦
+            let here : slice_get xs number ≡ Some fails.item = ap (λ (i : ℕ). slice_get xs i) (sym same) ∙ fails.is_item in
+            let one : fails.item ≡ x = same_some (slice_get xs number) fails.item x here is_x in
+            let P : X → Type 0 = λ y. Fails number y g in
+            let Q : ℕ → Type 0 = λ i. Fails i fails.item g in
+            first.first g (subst P one (subst Q same fails.fails)) precedes
+        | inr more ↦
+            let above = rise number fails.number x fails.item more is_x fails.is_item in
+            let below = stands fails.number number fails.item x g first.failure fails.fails first.fails precedes in
+            omega (arith, above, below)
+      ];
+}
+
+pub none_of_list : {X : Type 0} (xs : List X) (Fails : ℕ → X → Failure → Type 0)
+    → ((j : ℕ) (y : X) → j < length xs → slice_get xs j ≡ Some y → HasNone (Fails j y))
+    → HasNone (InList xs Fails)
+none_of_list xs Fails passed f fails =
+    passed fails.number fails.item (slice_get_within xs fails.number fails.item fails.is_item) fails.is_item f fails.fails
+
+pub more_of_list : {X : Type 0} (xs : List X) (Fails : ℕ → X → Failure → Type 0) (number : ℕ) (x : X) → slice_get xs number ≡ Some x
+    → ((j : ℕ) (y : X) → j < number → slice_get xs j ≡ Some y → HasNone (Fails j y))
+    → HasNone (Fails number x)
+    → (j : ℕ) (y : X) → j < number + 1 → slice_get xs j ≡ Some y → HasNone (Fails j y)
+more_of_list {X} xs Fails number x is_x passed here j y below is_y =
+    elim (eq-or-lt_of_le (let p : j ≤ number = omega arith in p)) [
+      | inl is ↦
+          let at_number : slice_get xs number ≡ Some y = let P : ℕ → Type 0 = λ i. slice_get xs i ≡ Some y in subst P is is_y in
+          let one = same_some (slice_get xs number) x y is_x at_number in
+          let P : X → Type 0 = λ z. HasNone (Fails number z) in
+          let Q : ℕ → Type 0 = λ i. HasNone (Fails i y) in
+          subst Q (sym is) (subst P one here)
+      | inr less ↦ passed j y less is_y
+    ]
+
+-- the same for entries
+pub first_of_entries : (entries : List Entry) (Fails : Entry → Failure → Type 0) (id : ℕ) (entry : Entry) (broken : Broken)
+    → OffsetsRise entries
+    → ((e : Entry) (f : Failure) → Fails e f → IsAt e.at f.place)
+    → slice_get entries id ≡ Some entry
+    → ((j : ℕ) (e : Entry) → j < id → slice_get entries j ≡ Some e → HasNone (Fails e))
+    → IsFirst (Fails entry) broken
+    → IsFirst (AtEntries entries Fails) broken
+first_of_entries entries Fails id entry broken rise stands =
+    first_of_list entries (λ e. e.at) (λ _. Fails) id entry broken rise
+    (λ i j a b f g f_fails g_fails. precedes_le a.at b.at f g (stands a f f_fails) (stands b g g_fails))
+
+pub none_of_entries : (entries : List Entry) (Fails : Entry → Failure → Type 0)
+    → ((j : ℕ) (e : Entry) → j < length entries → slice_get entries j ≡ Some e → HasNone (Fails e))
+    → HasNone (AtEntries entries Fails)
+none_of_entries entries Fails = none_of_list entries (λ _. Fails)
+
+pub more_entries : (entries : List Entry) (Fails : Entry → Failure → Type 0) (id : ℕ) (entry : Entry) → slice_get entries id ≡ Some entry
+    → ((j : ℕ) (e : Entry) → j < id → slice_get entries j ≡ Some e → HasNone (Fails e))
+    → HasNone (Fails entry)
+    → (j : ℕ) (e : Entry) → j < id + 1 → slice_get entries j ≡ Some e → HasNone (Fails e)
+more_entries entries Fails id entry = more_of_list entries (λ _. Fails) id entry
+
+-- where an entry's attribute does not precede another of it
+abbrev pub Among : ℕ → ℕ → Failure → Failure → Type 0
+Among j k f g = (j < k) ⊎ ((j ≡ k) × (number_of f.rule < number_of g.rule))
+
+before_in : (o j k : ℕ) → IsBefore (at_attribute o j) (at_attribute o k) → j < k
+before_in o j k before = elim before [ inl less ↦ absurd (omega arith) | inr same ↦ same.1 ]
+
+abbrev place_in : Place → ℕ
+place_in (at_header at) = 0
+place_in (at_entry at) = 0
+place_in (at_attribute at k) = k
+
+precedes_in : (o j k : ℕ) (f g : Failure) → f.place ≡ at_attribute o j → g.place ≡ at_attribute o k → Precedes f g → Among j k f g
+precedes_in o j k f g f_at g_at precedes =
+    elim precedes [
+      | inl before ↦
+          let P : Place → Type 0 = λ p. IsBefore p g.place in
+          let Q : Place → Type 0 = λ q. IsBefore (at_attribute o j) q in
+          inl (before_in o j k (subst Q g_at (subst P f_at before)))
+      | inr same ↦ inr (ap place_in (sym f_at ∙ same.0 ∙ g_at), same.1)
+    ]
+
+-- the first attribute at which a rule fails, by the least rule that does
+pub first_of_attributes : (Fails : Entry → ℕ → Datum → Rule → Type 0) (entry : Entry) (k attribute : ℕ) (value : Datum) (rule : Rule) (broken : Broken)
+    → HasAttribute entry k attribute value
+    → ((j a : ℕ) (v : Datum) → j < k → HasAttribute entry j a v → (r : Rule) → Fails entry a v r → ⊥)
+    → IsLeast (Fails entry attribute value) (Some rule)
+    → Names broken (record { rule = rule; place = at_attribute entry.at k; attribute = attribute })
+    → IsFirst (AtAttributes Fails entry) broken
+first_of_attributes Fails entry k attribute value rule broken has passed least named = record {
+  failure = record { rule = rule; place = at_attribute entry.at k; attribute = attribute };
+  fails = record { position = k; value = value; has = has; place = refl; fails = least.0 };
+  named = named;
+  first = λ g fails precedes.
+      elim (precedes_in entry.at fails.position k g (record { rule = rule; place = at_attribute entry.at k; attribute = attribute }) fails.place refl precedes) [
+        | inl less ↦ passed fails.position g.attribute fails.value less fails.has g.rule fails.fails
+        | inr same ↦
+            let here : HasAttribute entry k g.attribute fails.value = let P : ℕ → Type 0 = λ i. HasAttribute entry i g.attribute fails.value in subst P same.0 fails.has in
+            let one = same_some (slice_get (values_of entry.head) k) (g.attribute, fails.value) (attribute, value) here has in
+            let P : (ℕ × Datum) → Type 0 = λ q. Fails entry q.0 q.1 g.rule in
+            least.1 g.rule (subst P one fails.fails) same.1
+      ];
+}
+
+pub none_of_attributes : (Fails : Entry → ℕ → Datum → Rule → Type 0) (entry : Entry)
+    → ((j a : ℕ) (v : Datum) → j < length (values_of entry.head) → HasAttribute entry j a v → (r : Rule) → Fails entry a v r → ⊥)
+    → HasNone (AtAttributes Fails entry)
+none_of_attributes Fails entry passed f fails =
+    passed fails.position f.attribute fails.value (slice_get_within (values_of entry.head) fails.position (f.attribute, fails.value) fails.has) fails.has f.rule fails.fails
+
+pub attributes_stand : (Fails : Entry → ℕ → Datum → Rule → Type 0) (e : Entry) (f : Failure) → AtAttributes Fails e f → IsAt e.at f.place
+attributes_stand Fails e f fails = let P : Place → Type 0 = λ p. IsAt e.at p in subst P (sym fails.place) refl
+
+-- the attribute that stands at a place of the list
+pub attribute_at : (entry : Entry) (items : List (ℕ × Datum)) (k : ℕ) (d : ℕ × Datum) → items ≡ values_of entry.head → k < length items
+    → HasAttribute entry k (get_or items k d).0 (get_or items k d).1
+attribute_at entry items k d same within =
+    ap (λ (xs : List (ℕ × Datum)). slice_get xs k) (sym same) ∙ slice_get-get_or items k d within
+
+pub more_attributes : (Fails : Entry → ℕ → Datum → Rule → Type 0) (entry : Entry) (items : List (ℕ × Datum)) (k : ℕ) (d : ℕ × Datum) → items ≡ values_of entry.head → k < length items
+    → ((j a : ℕ) (v : Datum) → j < k → HasAttribute entry j a v → (r : Rule) → Fails entry a v r → ⊥)
+    → ((r : Rule) → Fails entry (get_or items k d).0 (get_or items k d).1 r → ⊥)
+    → (j a : ℕ) (v : Datum) → j < k + 1 → HasAttribute entry j a v → (r : Rule) → Fails entry a v r → ⊥
+more_attributes Fails entry items k d same within passed here j a v below has r fails =
+    elim (eq-or-lt_of_le (let p : j ≤ k = omega arith in p)) [
+      | inl is ↦
+          let at_k : HasAttribute entry k a v = let P : ℕ → Type 0 = λ i. HasAttribute entry i a v in subst P is has in
+          let one = same_some (slice_get (values_of entry.head) k) (a, v) (get_or items k d) at_k (attribute_at entry items k d same within) in
+          let P : (ℕ × Datum) → Type 0 = λ q. Fails entry q.0 q.1 r in
+          here r (subst P one fails)
+      | inr less ↦ passed j a v less has r fails
+    ]

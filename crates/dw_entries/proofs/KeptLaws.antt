@@ -1,0 +1,220 @@
+-- What is kept of an entry and of its unit, and what stands in .debug_info where they point.
+use Rattle.std.proofs.Common.{◌≡◌, ℕ, zero, suc, ◌+◌, ◌-◌, ◌<◌, Bool, true, List, [], ◌∷◌, ◌++◌, length, take, drop, get_or, Option, Some, None, Ok, Err, false, refl, sym, ap, subst, ◌∙◌, arith}
+use Rattle.std.specs.Prelude.{slice_get, IfSome, IsSomeAnd, ◌==◌}
+use Rattle.std.specs.List.{AllZip, flat_map}
+use Rattle.std.proofs.lemmas.Option.{slice_get-map, slice_get_within, slice_get-get_or, get_or_from_slice_get}
+use Rattle.std.proofs.lemmas.Slice.Zip.{AllZip-right, AllZip-long}
+use Rattle.dw_forms.specs.declared.decl.Decl.{Decl}
+use Rattle.dw_forms.specs.Abbrev.{Declaration, view}
+use Rattle.dw_entries.specs.declared.fault.Failing.{Failing}
+use Rattle.dw_entries.specs.declared.header.HeaderKind.TheVariants.{Version4}
+use Rattle.dw_entries.specs.declared.header.UnitHeader.{UnitHeader}
+use Rattle.dw_entries.specs.declared.header.UnitType.{UnitType}
+use Rattle.dw_entries.specs.declared.lookup.UnitHead.{UnitHead}
+use Rattle.dw_entries.specs.declared.record.Record.{Record}
+use Rattle.dw_entries.specs.declared.record.UnitRecord.{UnitRecord}
+use Rattle.dw_entries.specs.Grammar.{declared_in, place_in, attribute_bytes, Head}
+use Rattle.dw_entries.specs.Header.{type_of}
+use Rattle.dw_entries.specs.Tree.{leaf}
+use Rattle.dw_entries.specs.Reading.{seen, code_at}
+use Rattle.dw_entries.specs.ReadingLaws.{ok_pair}
+use Rattle.dw_entries.specs.Units.{DebugUnit, head_of}
+use Rattle.dw_entries.specs.Entries.{Entry, entries_of, PlacedUnit, placed}
+use Rattle.dw_entries.specs.Scanned.{table_of, record_of, records_of, IsKept, Scanned, units_of}
+use Rattle.dw_entries.specs.Lookups.{unit_head}
+use Rattle.dw_entries.proofs.ScanLaws.{rest_of}
+use Rattle.dw_entries.proofs.HeadLaws.{Stands, head_stands, stands_code, stands_within}
+use Rattle.dw_entries.proofs.EntryFacts.{placed_get, length-placed_from, kept_get, HasFirst, first_entry}
+
+one_some : {A : Type 0} (o : Option A) (x y : A) → o ≡ Some x → o ≡ Some y → x ≡ y
+one_some o x y p q = cc
+
+some_and : {A : Type 0} (o : Option A) (P : A → Type 0) → IsSomeAnd o P → (x : A) × (o ≡ Some x) × P x
+some_and (Some x) P p = (x, refl, p)
+some_and None P p = absurd p
+
+-- the declaration of a code stands at the code's place
+found_there : (table : List Declaration) (code : ℕ) (d : Declaration) → declared_in table code ≡ Some d → slice_get table (place_in table code) ≡ Some d
+unfolding place_in declared_in
+found_there [] code d e = let no : ◌≡◌ {A = Option Declaration} None (Some d) = e in absurd cc
+found_there (x ∷ table) code d e = by_code (found_there table code d) (x.code == code) refl
+  where
+    by_code : (declared_in table code ≡ Some d → slice_get table (place_in table code) ≡ Some d) → (b : Bool) → (x.code == code) ≡ b → slice_get (x ∷ table) (place_in (x ∷ table) code) ≡ Some d
+    by_code more true q = rw q (rw q at e)
+    by_code more false q =
+        let later : 1 + place_in table code ≡ suc (place_in table code) = omega arith in
+        rw (q, later) (more (rw q at e))
+
+table_is : (us : List DebugUnit) (number : ℕ) (u : DebugUnit) → slice_get us number ≡ Some u → table_of us number ≡ u.table
+table_is [] number u is = absurd cc
+table_is (v ∷ us) zero u is = let e : Some v ≡ Some u = is in let same : v ≡ u = cc in ap (λ (x : DebugUnit). x.table) same
+table_is (v ∷ us) (suc n) u is = table_is us n u is
+
+-- the record of the unit at this place
+pub unit_kept : (tables : List (List Declaration)) (rs : List UnitRecord) (ps : List PlacedUnit) → AllZip (IsKept tables) rs ps → (k : ℕ) (p : PlacedUnit) → slice_get ps k ≡ Some p
+    → (r : UnitRecord) × (slice_get rs k ≡ Some r) × IsKept tables r p
+unit_kept tables rs ps zip k p is =
+    let m = AllZip-right (IsKept tables) rs ps zip k in
+    let at_p : IsSomeAnd (slice_get rs k) (λ r. IsKept tables r p) = rw is at m in
+    some_and (slice_get rs k) (λ r. IsKept tables r p) at_p
+
+-- an entry of this number, with its unit and what is kept of both
+pub record KeptEntry (a info : List ℕ) (tables : List (List Declaration)) (rs : List UnitRecord) (records : List Record) (s : Scanned a info tables rs records) (id : ℕ) : Type 0 where
+  pub entry : Entry
+  pub is_entry : slice_get (entries_of (units_of s)) id ≡ Some entry
+  pub is_record : slice_get (records_of (units_of s)) id ≡ Some (record_of (units_of s) entry)
+  pub stands : Stands (units_of s) info entry
+  pub unit_record : UnitRecord
+  pub is_unit_record : slice_get rs entry.unit ≡ Some unit_record
+  pub header : unit_record.header ≡ stands.unit.header
+  pub table : slice_get tables unit_record.table ≡ Some stands.unit.table
+
+pub kept_entry : (a info : List ℕ) (tables : List (List Declaration)) (rs : List UnitRecord) (records : List Record) (s : Scanned a info tables rs records) (id : ℕ)
+    → id < length (entries_of (units_of s)) → KeptEntry a info tables rs records s id
+kept_entry a info tables rs records s id within = by_cases (slice_get (entries_of (units_of s)) id) refl
+  where
+    by_entry : (e : Entry) → slice_get (entries_of (units_of s)) id ≡ Some e → KeptEntry a info tables rs records s id
+    by_entry e is =
+        let stands = head_stands a info (units_of s) id e s.1.spells is in
+        let (p, is_p, same) = placed_get 0 0 (units_of s) e.unit stands.unit stands.is_unit in
+        let (r, is_r, kept) = unit_kept tables rs (placed (units_of s)) s.1.kept e.unit p is_p in
+        record {
+          entry = e;
+          is_entry = is;
+          is_record = kept_get (units_of s) id e is;
+          stands = stands;
+          unit_record = r;
+          is_unit_record = is_r;
+          header = kept.header ∙ ap (λ (u : DebugUnit). u.header) same;
+          table = kept.table ∙ ap (λ (u : DebugUnit). Some u.table) same;
+        }
+
+    by_cases : (o : Option Entry) → slice_get (entries_of (units_of s)) id ≡ o → KeptEntry a info tables rs records s id
+    by_cases (Some e) is = by_entry e is
+    by_cases None is =
+        let some = slice_get-get_or (entries_of (units_of s)) id (record { at = 0; unit = 0; parent = None; depth = 0; next = None; head = record { decl = record { code = 0; tag = 0; has_children = false; attributes = [] }; code = []; attributes = [] } }) within in
+        absurd cc
+
+-- an element that was read is the one that stands there
+pub read_is : {A : Type 0} (xs : List A) (k : ℕ) (x y : A) → slice_get xs k ≡ Some x → y ≡ get_or xs k y → y ≡ x
+read_is xs k x y is read = read ∙ get_or_from_slice_get xs k x y is
+
+module _ {a info : List ℕ} {tables : List (List Declaration)} {rs : List UnitRecord} {records : List Record} {s : Scanned a info tables rs records} {id : ℕ} (k : KeptEntry a info tables rs records s id) where
+  -- a fact of the entry of this number
+  pub of_entry : (P : Entry → Type 0) → P k.entry → IfSome (slice_get (entries_of (units_of s)) id) P
+  of_entry P p = rw k.is_entry p
+
+  pub from_entry : (P : Entry → Type 0) → IfSome (slice_get (entries_of (units_of s)) id) P → P k.entry
+  from_entry P p = rw k.is_entry at p
+
+  module _ (r : Record) (read : slice_get (records_of (units_of s)) id ≡ Some r) where
+    pub record_is : r ≡ record_of (units_of s) k.entry
+    record_is = one_some (slice_get (records_of (units_of s)) id) r (record_of (units_of s) k.entry) read k.is_record
+
+    pub unit_within : r.unit < length rs
+    unit_within = let e : r.unit ≡ k.entry.unit = ap (λ (q : Record). q.unit) record_is in let w = slice_get_within rs k.entry.unit k.unit_record k.is_unit_record in omega (arith, e, w)
+
+    pub at_within : r.at < length info
+    at_within = let e : r.at ≡ k.entry.at = ap (λ (q : Record). q.at) record_is in let w = stands_within (units_of s) info k.entry k.stands in omega (arith, e, w)
+
+    -- its code is read where it stands, and its values follow
+    code_read : seen (λ c. c.number) (code_at (take (length info - r.at) (drop r.at info))) ≡ Ok (k.entry.head.decl.code, flat_map attribute_bytes k.entry.head.attributes ++ k.stands.after)
+    code_read =
+        let e : r.at ≡ k.entry.at = ap (λ (q : Record). q.at) record_is in
+        let w = at_within in
+        ap (λ (b : List ℕ). seen (λ c. c.number) (code_at b)) (rest_of r.at info (omega (arith, w)) ∙ ap (λ (n : ℕ). drop n info) e)
+        ∙ stands_code (units_of s) info k.entry k.stands
+
+    pub never_unread : (f : Failing) → seen (λ c. c.number) (code_at (take (length info - r.at) (drop r.at info))) ≡ Err f → ⊥
+    never_unread f failed = let ok = code_read in cc
+
+    pub values_follow : (n : ℕ) (rest : List ℕ) → seen (λ c. c.number) (code_at (take (length info - r.at) (drop r.at info))) ≡ Ok (n, rest)
+        → IfSome (slice_get (entries_of (units_of s)) id) (λ e. (behind : List ℕ) × (rest ≡ flat_map attribute_bytes e.head.attributes ++ behind))
+    values_follow n rest got =
+        let pair = ok_pair {E = Failing} n k.entry.head.decl.code rest (flat_map attribute_bytes k.entry.head.attributes ++ k.stands.after) (sym got ∙ code_read) in
+        of_entry (λ e. (behind : List ℕ) × (rest ≡ flat_map attribute_bytes e.head.attributes ++ behind)) (k.stands.after, pair.1)
+
+    module _ (u : UnitRecord) (read_unit : u ≡ get_or rs r.unit u) where
+      unit_is : u ≡ k.unit_record
+      unit_is =
+          let e : r.unit ≡ k.entry.unit = ap (λ (q : Record). q.unit) record_is in
+          read_is rs r.unit k.unit_record u (ap (slice_get rs) e ∙ k.is_unit_record) read_unit
+
+      pub header_is : IfSome (slice_get (entries_of (units_of s)) id) (λ e. IfSome (slice_get (units_of s) e.unit) (λ v. u.header ≡ v.header))
+      header_is = of_entry (λ e. IfSome (slice_get (units_of s) e.unit) (λ v. u.header ≡ v.header)) (rw k.stands.is_unit (ap (λ (q : UnitRecord). q.header) unit_is ∙ k.header))
+
+      pub is_table : slice_get tables u.table ≡ Some k.stands.unit.table
+      is_table = ap (λ (q : UnitRecord). slice_get tables q.table) unit_is ∙ k.table
+
+      pub table_within : u.table < length tables
+      table_within = slice_get_within tables u.table k.stands.unit.table is_table
+
+      -- its declaration stands in the table of its unit
+      module _ (t : List Declaration) (read_table : t ≡ get_or tables u.table t) where
+        decl_stands : slice_get t r.decl ≡ Some k.entry.head.decl
+        decl_stands =
+            let table : t ≡ table_of (units_of s) k.entry.unit = read_is tables u.table k.stands.unit.table t is_table read_table ∙ sym (table_is (units_of s) k.entry.unit k.stands.unit k.stands.is_unit) in
+            ap (λ (x : List Declaration). slice_get x r.decl) table ∙ ap (λ (q : Record). slice_get (table_of (units_of s) k.entry.unit) q.decl) record_is
+            ∙ found_there (table_of (units_of s) k.entry.unit) k.entry.head.decl.code k.entry.head.decl
+            (ap (λ (x : List Declaration). declared_in x k.entry.head.decl.code) (table_is (units_of s) k.entry.unit k.stands.unit k.stands.is_unit) ∙ k.stands.is.decl)
+
+        pub decl_within : r.decl < length t
+        decl_within = slice_get_within t r.decl k.entry.head.decl decl_stands
+
+        pub decl_is : (d : Declaration) → slice_get t r.decl ≡ Some d → IfSome (slice_get (entries_of (units_of s)) id) (λ e. d ≡ e.head.decl)
+        decl_is d found = of_entry (λ e. d ≡ e.head.decl) (one_some (slice_get t r.decl) d k.entry.head.decl found decl_stands)
+
+-- ---- a unit
+
+pub record KeptUnit (a info : List ℕ) (tables : List (List Declaration)) (rs : List UnitRecord) (records : List Record) (s : Scanned a info tables rs records) (number : ℕ) : Type 0 where
+  pub place : PlacedUnit
+  pub is_place : slice_get (placed (units_of s)) number ≡ Some place
+  pub unit_record : UnitRecord
+  pub is_unit_record : slice_get rs number ≡ Some unit_record
+  pub kept : IsKept tables unit_record place
+  pub first : HasFirst (entries_of (units_of s)) place.first number place
+
+pub kept_unit : (a info : List ℕ) (tables : List (List Declaration)) (rs : List UnitRecord) (records : List Record) (s : Scanned a info tables rs records) (number : ℕ) → number < length (units_of s) → KeptUnit a info tables rs records s number
+kept_unit a info tables rs records s number within = by_cases (slice_get (placed (units_of s)) number) refl
+  where
+    any : PlacedUnit
+    any = record { at = 0; first = 0; unit = record { header = record { unit_length = 0; kind = Version4; address_size = 0; abbrev_offset = 0 }; table = []; root = leaf (record { decl = record { code = 0; tag = 0; has_children = false; attributes = [] }; code = []; attributes = [] }); nulls = [] } }
+
+    by_cases : (o : Option PlacedUnit) → slice_get (placed (units_of s)) number ≡ o → KeptUnit a info tables rs records s number
+    by_cases (Some p) is =
+        let (r, is_r, kept) = unit_kept tables rs (placed (units_of s)) s.1.kept number p is in
+        record { place = p; is_place = is; unit_record = r; is_unit_record = is_r; kept = kept; first = first_entry (units_of s) number p is }
+    by_cases None is =
+        let some = slice_get-get_or (placed (units_of s)) number any (omega (arith, within, length-placed_from 0 0 (units_of s))) in
+        absurd cc
+
+abbrev told : ℕ → UnitHeader → UnitType → ℕ → UnitHead
+told offset header unit_type first = record { offset = offset; header = header; unit_type = unit_type; first = first }
+
+module _ {a info : List ℕ} {tables : List (List Declaration)} {rs : List UnitRecord} {records : List Record} {s : Scanned a info tables rs records} {number : ℕ} (k : KeptUnit a info tables rs records s number) where
+  pub number_within : number < length rs
+  number_within = slice_get_within rs number k.unit_record k.is_unit_record
+
+  module _ (u : UnitRecord) (read : u ≡ get_or rs number u) where
+    kept_is : IsKept tables u k.place
+    kept_is = let P : UnitRecord → Type 0 = λ q. IsKept tables q k.place in subst P (sym (read_is rs number k.unit_record u k.is_unit_record read)) k.kept
+
+    first_is : slice_get (entries_of (units_of s)) u.first ≡ Some k.first.entry
+    first_is = ap (slice_get (entries_of (units_of s))) kept_is.first ∙ k.first.is_entry
+
+    pub first_within : u.first < length (entries_of (units_of s))
+    first_within = slice_get_within (entries_of (units_of s)) u.first k.first.entry first_is
+
+    pub unit_told : (first : ℕ) (d : Decl) (t : UnitType) → first ≡ u.first → IfSome (slice_get (entries_of (units_of s)) first) (λ e. view d ≡ e.head.decl) → t ≡ type_of u.header.kind d.tag
+        → IfSome (slice_get (placed (units_of s)) number) (λ p. told u.at u.header t first ≡ unit_head p)
+    unit_told first d t same declared typed =
+        let of_first = rw (ap (slice_get (entries_of (units_of s))) same ∙ first_is) at declared in
+        let tag : d.tag ≡ (head_of k.place.unit.root).decl.tag = ap (λ (c : Declaration). c.tag) of_first ∙ ap (λ (h : Head). h.decl.tag) k.first.is_first.head in
+        let type_is : t ≡ type_of k.place.unit.header.kind (head_of k.place.unit.root).decl.tag =
+        typed ∙ ap (λ (h : UnitHeader). type_of h.kind d.tag) kept_is.header ∙ ap (type_of k.place.unit.header.kind) tag in
+        let number_is : first ≡ k.place.first = same ∙ kept_is.first in
+        rw k.is_place (λ i. told (kept_is.at i) (kept_is.header i) (type_is i) (number_is i))
+
+-- as many records as units
+pub units_counted : (a info : List ℕ) (tables : List (List Declaration)) (rs : List UnitRecord) (records : List Record) (s : Scanned a info tables rs records) → length rs ≡ length (units_of s)
+units_counted a info tables rs records s = sym (AllZip-long (IsKept tables) rs (placed (units_of s)) s.1.kept) ∙ length-placed_from 0 0 (units_of s)

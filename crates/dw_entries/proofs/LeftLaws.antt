@@ -1,0 +1,73 @@
+-- The attributes of an entry that stand in .debug_info, and the value of one of them.
+use Rattle.std.proofs.Common.{◌≡◌, ℕ, List, [], ◌∷◌, ◌++◌, map, Option, Some, None, true, false, eqb, refl, sym, ap, subst, ◌∙◌}
+use Rattle.std.specs.Prelude.{slice_get, IfSome, find}
+use Rattle.std.specs.List.{flat_map}
+use Rattle.std.proofs.lemmas.Bool.{ne_eqb, eq-eqb}
+use Rattle.std.proofs.lemmas.Option.{IfSome_then}
+use Rattle.dw_forms.specs.declared.decl.AttributeSpec.{AttributeSpec}
+use Rattle.dw_forms.specs.Abbrev.{Declaration}
+use Rattle.dw_forms.specs.Value.{Datum}
+use Rattle.dw_entries.specs.declared.header.UnitHeader.{UnitHeader}
+use Rattle.dw_entries.specs.declared.record.Record.{Record}
+use Rattle.dw_entries.specs.declared.record.UnitRecord.{UnitRecord}
+use Rattle.dw_entries.specs.Grammar.{Context, Attribute, AreAttributes, attribute_bytes}
+use Rattle.dw_entries.specs.Header.{version_of, IsSize}
+use Rattle.dw_entries.specs.Units.{DebugUnit, context_of, IsUnit}
+use Rattle.dw_entries.specs.Entries.{Entry, entries_of}
+use Rattle.dw_entries.specs.Scanned.{Scanned, units_of}
+use Rattle.dw_entries.specs.Asked.{value_of, values_of}
+use Rattle.dw_entries.specs.Values.{value_context, Begin, Left}
+use Rattle.dw_entries.specs.ValueLaws.{left_unique, without_table}
+use Rattle.dw_entries.specs.Lookups.{value_in}
+use Rattle.dw_entries.proofs.HeadLaws.{all_get}
+use Rattle.dw_entries.proofs.KeptLaws.{KeptEntry, of_entry, from_entry}
+
+module _ {a info : List ℕ} {tables : List (List Declaration)} {rs : List UnitRecord} {records : List Record} {s : Scanned a info tables rs records} {id : ℕ} (k : KeptEntry a info tables rs records s id)
+    (header : UnitHeader) (d : Declaration) (specs : List AttributeSpec) (bytes : List ℕ) (version : ℕ)
+    (of_unit : IfSome (slice_get (entries_of (units_of s)) id) (λ e. IfSome (slice_get (units_of s) e.unit) (λ v. header ≡ v.header)))
+    (of_decl : IfSome (slice_get (entries_of (units_of s)) id) (λ e. d ≡ e.head.decl))
+    (of_bytes : IfSome (slice_get (entries_of (units_of s)) id) (λ e. (behind : List ℕ) × (bytes ≡ flat_map attribute_bytes e.head.attributes ++ behind)))
+    (specs_are : specs ≡ d.attributes) (version_is : version ≡ version_of header.kind) where
+  header_same : header ≡ k.stands.unit.header
+  header_same = rw k.stands.is_unit at (from_entry k (λ e. IfSome (slice_get (units_of s) e.unit) (λ v. header ≡ v.header)) of_unit)
+
+  pub sized_here : IsSize header.address_size
+  sized_here =
+      let unit_is : IsUnit a k.stands.unit = all_get (IsUnit a) (units_of s) k.entry.unit k.stands.unit s.1.spells.are k.stands.is_unit in
+      subst (λ (h : UnitHeader). IsSize h.address_size) (sym header_same) unit_is.header.address_size
+
+  context_is : value_context version header.address_size ≡ value_context (version_of k.stands.unit.header.kind) k.stands.unit.header.address_size
+  context_is =
+      let v : version ≡ version_of k.stands.unit.header.kind = version_is ∙ ap (λ (h : UnitHeader). version_of h.kind) header_same in
+      λ i. value_context (v i) (header_same i).address_size
+
+  are_here : AreAttributes (value_context version header.address_size) specs k.entry.head.attributes
+  are_here =
+      let declared : specs ≡ k.entry.head.decl.attributes = specs_are ∙ ap (λ (c : Declaration). c.attributes) (from_entry k (λ e. d ≡ e.head.decl) of_decl) in
+      let bare = without_table (context_of k.stands.unit) k.entry.head.decl.attributes k.entry.head.attributes k.stands.is.attributes in
+      let P : Context → Type 0 = λ x. AreAttributes x k.entry.head.decl.attributes k.entry.head.attributes in
+      let Q : List AttributeSpec → Type 0 = λ ss. AreAttributes (value_context version header.address_size) ss k.entry.head.attributes in
+      subst Q (sym declared) (subst P (sym context_is) bare)
+
+  pub left_here : Left (value_context version header.address_size) specs bytes
+  left_here =
+      let b = from_entry k (λ e. (behind : List ℕ) × (bytes ≡ flat_map attribute_bytes e.head.attributes ++ behind)) of_bytes in
+      ((k.entry.head.attributes, b.0), record { are = are_here; spelled = b.1 })
+
+  -- whatever is known to be left is that
+  pub values_here : (m : Left (value_context version header.address_size) specs bytes) → IfSome (slice_get (entries_of (units_of s)) id) (λ e. map value_of m.0.0 ≡ values_of e.head)
+  unfolding left_here
+  values_here m =
+      let same : m.0.0 ≡ k.entry.head.attributes = ap (λ (z : Left (value_context version header.address_size) specs bytes). z.0.0) (left_unique (value_context version header.address_size) specs bytes m left_here) in
+      of_entry k (λ e. map value_of m.0.0 ≡ values_of e.head) (ap (map value_of) same)
+
+-- ---- the value of one attribute
+
+pub value_here : (values more : List (ℕ × Datum)) (code attribute : ℕ) (v : Datum) → values ≡ (code, v) ∷ more → code ≡ attribute → Some v ≡ value_in values attribute
+value_here values more code attribute v e same = rw (e, eq-eqb code attribute same) refl
+
+pub value_behind : (values more : List (ℕ × Datum)) (code attribute : ℕ) (v : Datum) → values ≡ (code, v) ∷ more → (code ≡ attribute → ⊥) → value_in values attribute ≡ value_in more attribute
+value_behind values more code attribute v e other = rw (e, ne_eqb code attribute other) refl
+
+pub value_nowhere : (values : List (ℕ × Datum)) (attribute : ℕ) → values ≡ [] → None ≡ value_in values attribute
+value_nowhere values attribute e = rw e refl

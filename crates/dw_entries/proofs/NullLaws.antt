@@ -1,0 +1,102 @@
+-- The nulls after a unit's tree.
+use Rattle.std.proofs.Common.{◌≡◌, ◌≢◌, ℕ, ◌+◌, ◌-◌, ◌<◌, map, true, false, List, [], ◌∷◌, ◌++◌, length, Ok, refl, sym, ap, ◌∙◌, append_assoc, append-nil, arith, length-append}
+use Rattle.std.proofs.lemmas.List.Concat.{flat_map-append}
+use Rattle.dw_entries.specs.declared.record.Record.{Record}
+use Rattle.dw_entries.specs.declared.header.HeaderKind.{HeaderKind}
+use Rattle.dw_entries.specs.declared.rule.Rule.TheVariants.{LeftOver}
+use Rattle.dw_entries.specs.declared.fault.Failing.{Failing}
+use Rattle.dw_entries.specs.Grammar.{Context}
+use Rattle.dw_entries.specs.Header.{fits_tag, header_size}
+use Rattle.dw_entries.specs.Tree.{Node, leaf, parent, node_bytes}
+use Rattle.dw_entries.specs.Items.{Item, null, items_bytes, node_items}
+use Rattle.dw_entries.specs.Reading.{Code, seen, code_at, null_first}
+use Rattle.dw_entries.specs.Units.{AreNulls, nulls_bytes, head_of}
+use Rattle.dw_entries.specs.Faults.{FitsUnit, in_unit, BodyFails}
+use Rattle.dw_entries.specs.Stopped.{TreeOf, AreAllNulls, NullsThen}
+use Rattle.dw_entries.specs.ReadingLaws.{code_takes, code_some, seen_ok}
+use Rattle.dw_entries.proofs.ItemLaws.{items_bytes-append, AreItems-append, node_are_items, node_spelled, nulls_are_items, nulls_spelled, whole_depth}
+
+-- some nulls were taken, and this is what is left
+pub record NullsTo (bytes rest : List ℕ) : Type 0 where
+  pub nulls : List (List ℕ)
+  pub are : AreNulls nulls
+  pub parts : bytes ≡ nulls_bytes nulls ++ rest
+
+nulls_bytes-append : (zs ws : List (List ℕ)) → nulls_bytes (zs ++ ws) ≡ nulls_bytes zs ++ nulls_bytes ws
+nulls_bytes-append zs ws = flat_map-append (λ (z : List ℕ). z) zs ws
+
+AreNulls-append : (zs ws : List (List ℕ)) → AreNulls zs → AreNulls ws → AreNulls (zs ++ ws)
+AreNulls-append [] ws p q = q
+AreNulls-append (z ∷ zs) ws p q = (p.0, AreNulls-append zs ws p.1 q)
+
+pub nulls_start : (bytes : List ℕ) → NullsTo bytes bytes
+nulls_start bytes = record { nulls = []; are = tt; parts = refl }
+
+pub nulls_next : (bytes rest after : List ℕ) → NullsTo bytes rest → seen (λ c. c.number) (code_at rest) ≡ Ok (0, after) → NullsTo bytes after
+nulls_next bytes rest after n e =
+    let (c, was, zero_code) = seen_ok (λ (c : Code). c.number) (code_at rest) 0 after e in
+    let took = code_takes rest c after was in
+    record {
+      nulls = n.nulls ++ c.bytes ∷ [];
+      are = AreNulls-append n.nulls (c.bytes ∷ []) n.are (rw zero_code at took.1, tt);
+      parts = n.parts ∙ ap (λ (b : List ℕ). nulls_bytes n.nulls ++ b) (took.0 ∙ ap (λ (b : List ℕ). b ++ after) (sym (append-nil c.bytes))) ∙ sym (append_assoc (nulls_bytes n.nulls) (c.bytes ++ []) after) ∙ ap (λ (b : List ℕ). b ++ after) (sym (nulls_bytes-append n.nulls (c.bytes ∷ [])));
+    }
+
+pub null_shorter : (rest after : List ℕ) → seen (λ c. c.number) (code_at rest) ≡ Ok (0, after) → length after < length rest
+null_shorter rest after e =
+    let (c, was, zero_code) = seen_ok (λ (c : Code). c.number) (code_at rest) 0 after e in
+    let took = code_takes rest c after was in
+    omega (arith, ap length took.0, length-append c.bytes after, code_some c.bytes c.number took.1)
+
+pub nulls_end : (bytes rest : List ℕ) → NullsTo bytes rest → rest ≡ [] → AreAllNulls bytes
+nulls_end bytes rest n e = (n.nulls, n.are, n.parts ∙ ap (λ (b : List ℕ). nulls_bytes n.nulls ++ b) e ∙ append-nil (nulls_bytes n.nulls))
+
+pub nulls_then : (bytes rest : List ℕ) → NullsTo bytes rest → rest ≢ [] → null_first (code_at rest) ≡ false → NullsThen bytes rest
+nulls_then bytes rest n more other = record { nulls = n.nulls; are = n.are; parts = n.parts; more = more; other = other }
+
+-- ---- the tree and the nulls
+
+together : (body tree rest : List ℕ) (zs ws : List (List ℕ)) (left : List ℕ) → body ≡ (tree ++ nulls_bytes zs) ++ rest → rest ≡ nulls_bytes ws ++ left → body ≡ (tree ++ nulls_bytes (zs ++ ws)) ++ left
+together body tree rest zs ws left p q =
+    p ∙ ap (λ (b : List ℕ). (tree ++ nulls_bytes zs) ++ b) q ∙ sym (append_assoc (tree ++ nulls_bytes zs) (nulls_bytes ws) left)
+    ∙ ap (λ (b : List ℕ). b ++ left) (append_assoc tree (nulls_bytes zs) (nulls_bytes ws) ∙ ap (λ (b : List ℕ). tree ++ b) (sym (nulls_bytes-append zs ws)))
+
+pub tree_end : (t : Context) (kind : HeaderKind) (body rest : List ℕ) (unit at : ℕ) (old new : List Record) → TreeOf t kind body rest unit at old new → AreAllNulls rest → TreeOf t kind body [] unit at old new
+tree_end t kind body rest unit at old new tree (zs, are, parts) = record {
+  root = tree.root;
+  is = tree.is;
+  tag = tree.tag;
+  nulls = tree.nulls ++ zs;
+  are_nulls = AreNulls-append tree.nulls zs tree.are_nulls are;
+  parts = together body (node_bytes tree.root) rest tree.nulls zs [] tree.parts (parts ∙ sym (append-nil (nulls_bytes zs)));
+  records = tree.records;
+}
+
+fits_node : (kind : HeaderKind) (n : Node) (is : List Item) → fits_tag kind (head_of n).decl.tag ≡ true → FitsUnit kind (node_items n ++ is)
+fits_node kind (leaf h) is e = e
+fits_node kind (parent h ns z) is e = e
+
+-- what comes after the nulls is left over
+pub left_over : (t : Context) (kind : HeaderKind) (header start unit : ℕ) (body rest left : List ℕ) (old new : List Record) → start ≡ header + header_size kind → TreeOf t kind body rest unit start old new → NullsThen rest left
+    → BodyFails t kind header body (in_unit (record { rule = LeftOver; attribute = 0 }) header (start + (length body - length left)))
+left_over t kind header start unit body rest left old new s tree then =
+    let zs : List (List ℕ) = tree.nulls ++ then.nulls in
+    let is : List Item = node_items tree.root ++ map null zs in
+    let spelled : items_bytes is ≡ node_bytes tree.root ++ nulls_bytes zs = items_bytes-append (node_items tree.root) (map null zs) ∙ ap (λ (b : List ℕ). b ++ items_bytes (map null zs)) (node_spelled tree.root) ∙ ap (λ (b : List ℕ). node_bytes tree.root ++ b) (nulls_spelled zs) in
+    let parts : body ≡ items_bytes is ++ left = together body (node_bytes tree.root) rest tree.nulls then.nulls left tree.parts then.parts ∙ ap (λ (b : List ℕ). b ++ left) (sym spelled) in
+    let f : Failing = record { rule = LeftOver; attribute = 0 } in
+    let here : start + (length body - length left) ≡ header + header_size kind + length (items_bytes is) = omega (arith, s, ap length parts, length-append (items_bytes is) left) in
+    record {
+      items = is;
+      rest = left;
+      depth = 0;
+      failing = f;
+      front = record {
+        are = AreItems-append t (node_items tree.root) (map null zs) (node_are_items t tree.root tree.is) (nulls_are_items t zs (AreNulls-append tree.nulls then.nulls tree.are_nulls then.are));
+        fits = fits_node kind tree.root (map null zs) tree.tag;
+        at_depth = whole_depth t tree.root zs tree.is;
+        parts = parts;
+      };
+      stops = (then.more, then.other, refl);
+      is = ap (λ (k : ℕ). in_unit f header k) here;
+    }

@@ -1,0 +1,89 @@
+-- One turn of the loop that reads attributes.
+use Rattle.std.proofs.Common.{◌≡◌, ℕ, suc, true, [], Some, ◌+◌, ◌<◌, ◌≤◌, List, ◌∷◌, length, drop, get_or, Result, Ok, Err, refl, sym, ap, ◌∙◌, add-one, drop-cons, drop_of_length-le}
+use Rattle.dw_forms.specs.declared.decl.AttributeSpec.{AttributeSpec}
+use Rattle.dw_forms.specs.Steps.{◌>>=◌}
+use Rattle.dw_entries.specs.declared.fault.Failing.{Failing}
+use Rattle.dw_entries.specs.Grammar.{Context}
+use Rattle.dw_forms.specs.declared.value.ValueFault.{ValueFault}
+use Rattle.dw_forms.specs.FormCodes.{is_allowed}
+use Rattle.dw_forms.specs.Value.{Datum}
+use Rattle.dw_forms.specs.ValueReading.{value_at}
+use Rattle.dw_forms.specs.Sizes.{rest_at, fixed_sum, ValuesEnd}
+use Rattle.dw_forms.specs.SizeLaws.{values_skip}
+use Rattle.dw_entries.specs.Reading.{fails, value_rule, after, as_attribute, attribute_at, attributes_at}
+
+abbrev done : {A : Type 0} → A → Result A Failing
+done x = Ok x
+
+ok_is : {A : Type 0} (x y : A) → done x ≡ done y → x ≡ y
+ok_is x y e = cc
+
+after_bind : {A B : Type 0} (r : Result (A × List ℕ) Failing) (f : A → B) → after (r >>= λ x. Ok (f x.0, x.1)) ≡ after r
+after_bind (Ok x) f = refl
+after_bind (Err e) f = refl
+
+after_ok : {A B : Type 0} (r : Result (A × List ℕ) Failing) (f : A × List ℕ → Result (B × List ℕ) Failing) (g : List ℕ → Result (List ℕ) Failing) (rest : List ℕ) → after r ≡ Ok rest → ((x : A × List ℕ) → after (f x) ≡ g x.1) → after (r >>= f) ≡ g rest
+after_ok (Ok x) f g rest e h = let same : x.1 ≡ rest = ok_is x.1 rest e in h x ∙ ap g same
+after_ok (Err d) f g rest e h = absurd cc
+
+after_err : {A B : Type 0} (r : Result (A × List ℕ) Failing) (f : A × List ℕ → Result (B × List ℕ) Failing) (d : Failing) → after r ≡ Err d → after (r >>= f) ≡ Err d
+after_err (Ok x) f d e = absurd cc
+after_err (Err c) f d e = let same : c ≡ d = cc in ap (λ (x : Failing). Err x) same
+
+attributes_cons : (t : Context) (f : AttributeSpec) (fs : List AttributeSpec) (bytes rest : List ℕ) → after (attribute_at t f bytes) ≡ Ok rest → after (attributes_at t (f ∷ fs) bytes) ≡ after (attributes_at t fs rest)
+unfolding attributes_at
+attributes_cons t f fs bytes rest e =
+    after_ok (attribute_at t f bytes) (λ p. attributes_at t fs p.1 >>= λ ps. Ok (p.0 ∷ ps.0, ps.1)) (λ b. after (attributes_at t fs b)) rest e (λ p. after_bind (attributes_at t fs p.1) (λ ps. p.0 ∷ ps))
+
+pub attributes_step : (t : Context) (i : ℕ) (fs : List AttributeSpec) (d : AttributeSpec) (bytes rest : List ℕ) (total : Result (List ℕ) Failing) → i < length fs → d ≡ get_or fs i d → after (attribute_at t d bytes) ≡ Ok rest → after (attributes_at t (drop i fs) bytes) ≡ total → after (attributes_at t (drop (i + 1) fs) rest) ≡ total
+attributes_step t i fs d bytes rest total lt is ok so_far =
+    let one : after (attributes_at t (drop i fs) bytes) ≡ after (attributes_at t (drop (i + 1) fs) rest) =
+    ap (λ (gs : List AttributeSpec). after (attributes_at t gs bytes)) (drop-cons fs i d lt) ∙ attributes_cons t (get_or fs i d) (drop (suc i) fs) bytes rest (ap (λ (s : AttributeSpec). after (attribute_at t s bytes)) (sym is) ∙ ok) ∙ simp add-one in
+    sym one ∙ so_far
+
+pub attributes_err : (t : Context) (i : ℕ) (fs : List AttributeSpec) (d : AttributeSpec) (bytes : List ℕ) (f : Failing) (total : Result (List ℕ) Failing) → i < length fs → d ≡ get_or fs i d → after (attribute_at t d bytes) ≡ Err f → after (attributes_at t (drop i fs) bytes) ≡ total → total ≡ Err f
+unfolding attributes_at
+attributes_err t i fs d bytes f total lt is err so_far =
+    sym so_far ∙ ap (λ (gs : List AttributeSpec). after (attributes_at t gs bytes)) (drop-cons fs i d lt) ∙ after_err (attribute_at t (get_or fs i d) bytes) (λ p. attributes_at t (drop (suc i) fs) p.1 >>= λ ps. Ok (p.0 ∷ ps.0, ps.1)) f (ap (λ (s : AttributeSpec). after (attribute_at t s bytes)) (sym is) ∙ err)
+
+pub attributes_end : (t : Context) (i : ℕ) (fs : List AttributeSpec) (bytes : List ℕ) → length fs ≤ i → after (attributes_at t (drop i fs) bytes) ≡ Ok bytes
+unfolding attributes_at
+attributes_end t i fs bytes le = ap (λ (gs : List AttributeSpec). after (attributes_at t gs bytes)) (drop_of_length-le fs le)
+
+-- ---- values that are skipped
+
+after_value : (code : ℕ) (bytes rest : List ℕ) (r : Result (Datum × List ℕ) ValueFault) → (r >>= λ x. Ok x.1) ≡ Ok rest → after (as_attribute code bytes r) ≡ Ok rest
+after_value code bytes rest (Ok x) e = let same : ◌≡◌ {A = Result (List ℕ) ValueFault} (Ok x.1) (Ok rest) = e in cc
+after_value code bytes rest (Err f) e = let no : ◌≡◌ {A = Result (List ℕ) ValueFault} (Err f) (Ok rest) = e in absurd cc
+
+after_value_err : (code : ℕ) (bytes : List ℕ) (f : ValueFault) (r : Result (Datum × List ℕ) ValueFault) → (r >>= λ x. Ok x.1) ≡ Err f → after (as_attribute code bytes r) ≡ fails (value_rule f) code
+after_value_err code bytes f (Ok x) e = let no : ◌≡◌ {A = Result (List ℕ) ValueFault} (Ok x.1) (Err f) = e in absurd cc
+after_value_err code bytes f (Err g) e = let same : ◌≡◌ {A = Result (List ℕ) ValueFault} (Err g) (Err f) = e in let is : g ≡ f = cc in ap (λ (h : ValueFault). fails (value_rule h) code) is
+
+-- one value is skipped
+pub attribute_skipped : (t : Context) (s : AttributeSpec) (version : ℕ) (bytes rest : List ℕ) → version ≡ t.version → true ≡ is_allowed version s.form → rest_at version s.form t.address_size bytes ≡ Ok rest → after (attribute_at t s bytes) ≡ Ok rest
+unfolding attribute_at rest_at
+attribute_skipped t s version bytes rest v allowed read =
+    let known : is_allowed t.version s.form ≡ true = ap (λ (n : ℕ). is_allowed n s.form) (sym v) ∙ sym allowed in
+    rw known (after_value s.attribute bytes rest (value_at t.version s.form t.address_size bytes) (ap (λ (n : ℕ). value_at n s.form t.address_size bytes >>= λ x. Ok x.1) (sym v) ∙ read))
+
+pub attribute_fails : (t : Context) (s : AttributeSpec) (version : ℕ) (bytes : List ℕ) (f : ValueFault) → version ≡ t.version → true ≡ is_allowed version s.form → rest_at version s.form t.address_size bytes ≡ Err f → after (attribute_at t s bytes) ≡ fails (value_rule f) s.attribute
+unfolding attribute_at rest_at
+attribute_fails t s version bytes f v allowed read =
+    let known : is_allowed t.version s.form ≡ true = ap (λ (n : ℕ). is_allowed n s.form) (sym v) ∙ sym allowed in
+    rw known (after_value_err s.attribute bytes f (value_at t.version s.form t.address_size bytes) (ap (λ (n : ℕ). value_at n s.form t.address_size bytes >>= λ x. Ok x.1) (sym v) ∙ read))
+
+attribute_is : (t : Context) (s : AttributeSpec) (bytes rest : List ℕ) (v : Datum) → is_allowed t.version s.form ≡ true → value_at t.version s.form t.address_size bytes ≡ Ok (v, rest) → after (attribute_at t s bytes) ≡ Ok rest
+unfolding attribute_at
+attribute_is t s bytes rest v allowed read = rw (allowed, read) refl
+
+-- values that are read one after another end where the last of them does
+pub values_after : (t : Context) (specs : List AttributeSpec) (bytes rest : List ℕ) → ValuesEnd t.version t.address_size specs bytes rest → after (attributes_at t specs bytes) ≡ Ok rest
+unfolding attributes_at
+values_after t [] bytes rest e = ap done e
+values_after t (s ∷ specs) bytes rest (allowed, v, next, read, more) =
+    attributes_cons t s specs bytes next (attribute_is t s bytes next v allowed read) ∙ values_after t specs next rest more
+
+-- values with a sum of sizes are skipped together
+pub fixed_after : (t : Context) (specs : List AttributeSpec) (version n : ℕ) (bytes : List ℕ) → version ≡ t.version → Some n ≡ fixed_sum version t.address_size specs → n ≤ length bytes → after (attributes_at t specs bytes) ≡ Ok (drop n bytes)
+fixed_after t specs version n bytes v e le = values_after t specs bytes (drop n bytes) (values_skip t.version t.address_size specs n bytes (ap (λ (k : ℕ). fixed_sum k t.address_size specs) (sym v) ∙ sym e) le)

@@ -1,0 +1,96 @@
+-- What taking a unit rests on.
+use Rattle.std.proofs.Common.{◌≡◌, ℕ, ◌+◌, ◌<◌, ◌≤◌, List, [], ◌∷◌, ◌++◌, length, Option, Some, None, Result, Ok, Err, refl, sym, ap, ◌∙◌, append_assoc, append-nil, arith, length-append}
+use Rattle.dw_forms.specs.declared.abbrev_fault.BrokenTable.{BrokenTable}
+use Rattle.dw_forms.specs.Abbrev.{Declaration}
+use Rattle.dw_forms.specs.AbbrevReading.{table_at}
+use Rattle.std.proofs.lemmas.Option.{slice_get_within}
+use Rattle.std.specs.Prelude.{slice_get}
+use Rattle.dw_entries.specs.declared.record.UnitRecord.{UnitRecord}
+use Rattle.dw_entries.specs.declared.record.Kept.{Kept}
+use Rattle.dw_entries.specs.Tables.{IsTableAt, AreTables, GrowsByOne}
+use Rattle.dw_entries.specs.declared.rule.Rule.{Rule}
+use Rattle.dw_entries.specs.declared.fault.Break.{Break}
+use Rattle.dw_entries.specs.declared.fault.Break.TheVariants.{Memory, Broken as Breaks}
+use Rattle.dw_entries.specs.declared.header.UnitHeader.{UnitHeader}
+use Rattle.dw_entries.specs.Header.{IsSize, header_size, header_bytes, header_fields, header_at}
+use Rattle.dw_entries.specs.Records.{node_records}
+use Rattle.byteorder.specs.Endian.{little_bytes}
+use Rattle.byteorder.specs.Numbers.{length-bytes_low_first}
+use Rattle.dw_entries.specs.HeaderLaws.{length-header}
+use Rattle.dw_entries.specs.Units.{DebugUnit, context_by, body_bytes}
+use Rattle.dw_entries.specs.Faults.{in_header, FailsBehind, FailsHere, BodyFails}
+use Rattle.dw_entries.specs.Stopped.{IfBroken, as_broken, BreaksBy, TreeOf, UnitTaken}
+use Rattle.dw_entries.proofs.HeaderReads.{AreBytes, header_takes}
+
+-- the table that is read from the tables is the one of the offset
+pub table_known : (a : List ℕ) (offset place : ℕ) (tables : List (List Declaration)) (table : List Declaration) → IsTableAt a tables offset place → slice_get tables place ≡ Some table → table_at a offset ≡ Ok table
+table_known a offset place tables table (t, got, known, few) e =
+    let same : ◌≡◌ {A = Option (List Declaration)} (Some t) (Some table) = sym got ∙ e in
+    let is : t ≡ table = cc in
+    rw is at known
+
+abbrev unit_record : ℕ → UnitHeader → ℕ → ℕ → UnitRecord
+unit_record at h place first = record { at = at; header = h; table = place; first = first }
+
+pub table_within : (a : List ℕ) (offset place : ℕ) (tables : List (List Declaration)) → IsTableAt a tables offset place → place < length tables
+table_within a offset place tables (t, got, known, few) = slice_get_within tables place t got
+
+module _ (a rest : List ℕ) (h : UnitHeader) (body : List ℕ) (bytes : AreBytes rest) (read : header_at (length a) rest ≡ Ok (h, body)) where
+  pub read_size : IsSize h.address_size
+  read_size = (header_takes (length a) rest h body bytes read).is.address_size
+
+  pub read_offset : h.abbrev_offset ≤ length a
+  read_offset = let t = (header_takes (length a) rest h body bytes read).is.table in omega (arith, t)
+
+  pub read_start : header_size h.kind + length body ≤ length rest
+  read_start =
+      let r = header_takes (length a) rest h body bytes read in
+      omega (arith, length-header h, ap length r.parts, length-append (header_bytes h) (body ++ r.after), length-append body r.after)
+
+  pub unit_taken : (at start place first unit : ℕ) (old new : Kept) (table : List Declaration)
+      → start ≡ at + header_size h.kind → first ≡ length old.records.items → unit ≡ length old.units.items
+      → IsTableAt a new.tables.kept.items h.abbrev_offset place → slice_get new.tables.kept.items place ≡ Some table
+      → AreTables a new.tables → GrowsByOne old.tables.kept.items new.tables.kept.items
+      → new.units.items ≡ old.units.items ++ unit_record at h place first ∷ []
+      → TreeOf (context_by h table) h.kind body [] unit start old.records.items new.records.items
+      → UnitTaken a rest at old new (4 + h.unit_length)
+  unit_taken at start place first unit old new table s few number there read_there tables stay units tree =
+      let r = header_takes (length a) rest h body bytes read in
+      let u : DebugUnit = record { header = h; table = table; root = tree.root; nulls = tree.nulls } in
+      let whole : body ≡ body_bytes u = tree.parts ∙ append-nil (body_bytes u) in
+      record {
+        taken = u;
+        is = record { header = r.is; table = table_known a h.abbrev_offset place new.tables.kept.items table there read_there; root = tree.is; tag = tree.tag; nulls = tree.are_nulls; unit_length = r.unit_length ∙ ap (λ (b : List ℕ). length (header_fields h ++ b)) whole };
+        after = r.after;
+        parts = r.parts ∙ ap (λ (b : List ℕ). header_bytes h ++ (b ++ r.after)) whole ∙ sym (append_assoc (header_bytes h) (body_bytes u) r.after);
+        len_is = omega (arith, r.unit_length, ap length whole, length-append (header_fields h) body, length-append (header_bytes h) (body_bytes u), length-header h, length-append (little_bytes 4 h.unit_length) (header_fields h), length-bytes_low_first 0 4 h.unit_length);
+        record_is = unit_record at h place first;
+        kept = record {
+          at = refl;
+          header = refl;
+          table = read_there;
+          first = few;
+        };
+        units = units;
+        records = tree.records ∙ ap (λ (k : ℕ). old.records.items ++ node_records table unit None 0 None (length old.records.items) k tree.root) s
+            ∙ ap (λ (n : ℕ). old.records.items ++ node_records table n None 0 None (length old.records.items) (at + header_size h.kind) tree.root) number;
+        tables = tables;
+        stay = stay;
+      }
+
+  pub body_fault : (at : ℕ) (table : List Declaration) (b : Break) → table_at a h.abbrev_offset ≡ Ok table → IfBroken (BodyFails (context_by h table) h.kind at body) b → IfBroken (FailsHere a at rest) b
+  body_fault at table Memory known f = tt
+  body_fault at table (Breaks b) known f =
+      let behind : FailsBehind at h body (table_at a h.abbrev_offset) b = rw known f in
+      rw read behind
+
+  pub table_fault : (at : ℕ) (b : Break) → BreaksBy b (table_at a h.abbrev_offset) → IfBroken (FailsHere a at rest) b
+  table_fault at Memory f = tt
+  table_fault at (Breaks b) f = rw read (behind (table_at a h.abbrev_offset) f)
+    where
+      behind : (r : Result (List Declaration) BrokenTable) → as_broken r ≡ Err b → FailsBehind at h body r b
+      behind (Ok t) e = absurd cc
+      behind (Err fault) e = cc
+
+pub header_fault : (a rest : List ℕ) (at : ℕ) (rule : Rule) → header_at (length a) rest ≡ Err rule → FailsHere a at rest (in_header rule at)
+header_fault a rest at rule read = rw read refl

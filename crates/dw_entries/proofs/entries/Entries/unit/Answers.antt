@@ -1,0 +1,14 @@
+use Rattle.std.proofs.Common.{arith}
+use Rattle.dw_entries.proofs.KeptLaws.{kept_unit, number_within, first_within, unit_told}
+use Rattle.dw_entries.proofs.entries.Entries.unit.Goals as goal
+
+pub index-unit-requires : goal.index-unit-requires
+index-unit-requires c = omega (arith, number_within (kept_unit _ _ _ _ _ c.args.self.now.scanned c.args.number c.requires))
+
+pub decl-requires : goal.decl-requires
+decl-requires c = omega (arith, c.new-first.ensures, first_within (kept_unit _ _ _ _ _ c.args.self.now.scanned c.args.number c.requires) c.index-unit.result.now c.index-unit.ensures)
+
+pub returns : goal.returns
+returns c =
+    unit_told (kept_unit _ _ _ _ _ c.args.self.now.scanned c.args.number c.requires) c.index-unit.result.now c.index-unit.ensures
+    c.new-first.result c.decl.result.now c.unit_type.result c.new-first.ensures c.decl.ensures c.unit_type.ensures

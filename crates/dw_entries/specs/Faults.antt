@@ -1,0 +1,102 @@
+-- The first place where no list of units goes on.
+use Rattle.std.specs.Prelude.{◌≡◌, ◌≢◌, ℕ, zero, suc, true, false, ◌+◌, List, [], ◌∷◌, ◌++◌, length, Some, Result, Ok, Err}
+use Rattle.dw_forms.specs.declared.abbrev_fault.AbbrevRule.{AbbrevRule}
+use Rattle.dw_forms.specs.declared.abbrev_fault.AbbrevRule.TheVariants as table
+use Rattle.dw_forms.specs.declared.abbrev_fault.BrokenTable.{BrokenTable}
+use Rattle.dw_forms.specs.Abbrev.{Declaration}
+use Rattle.dw_forms.specs.AbbrevReading.{table_at}
+use Rattle.dw_entries.specs.declared.rule.Rule.{Rule}
+use Rattle.dw_entries.specs.declared.rule.Rule.TheVariants.{AbbrevCut, AbbrevNumber, CodeTwice, BadTag, BadChildren, BadPair, UnknownForm, AttributeTwice, NoUnitEntry, LeftOver}
+use Rattle.dw_entries.specs.declared.fault.Section.TheVariants.{Abbrev, Info}
+use Rattle.dw_entries.specs.declared.fault.Failing.{Failing}
+use Rattle.dw_entries.specs.declared.fault.Broken.{Broken}
+use Rattle.dw_entries.specs.declared.header.HeaderKind.{HeaderKind}
+use Rattle.dw_entries.specs.declared.header.UnitHeader.{UnitHeader}
+use Rattle.dw_entries.specs.Grammar.{Context}
+use Rattle.dw_entries.specs.Header.{fits_tag, header_size, header_at}
+use Rattle.dw_entries.specs.Items.{Item, entry, null, AreItems, items_bytes, tree_depth}
+use Rattle.dw_entries.specs.Reading.{code_at, next_at, null_first}
+use Rattle.dw_entries.specs.Units.{DebugUnit, context_by, AreUnits, units_bytes}
+
+-- the rule of a table's fault, among all rules
+abbrev pub rule_of : AbbrevRule → Rule
+rule_of table.AbbrevCut = AbbrevCut
+rule_of table.AbbrevNumber = AbbrevNumber
+rule_of table.CodeTwice = CodeTwice
+rule_of table.BadTag = BadTag
+rule_of table.BadChildren = BadChildren
+rule_of table.BadPair = BadPair
+rule_of table.UnknownForm = UnknownForm
+rule_of table.AttributeTwice = AttributeTwice
+
+-- the fault of a table
+abbrev pub in_table : BrokenTable → Broken
+in_table f = record { rule = rule_of f.rule; section = Abbrev; at = f.at; attribute = f.attribute }
+
+-- the fault of a header at this offset
+abbrev pub in_header : Rule → ℕ → Broken
+in_header rule header = record { rule = rule; section = Info; at = header; attribute = 0 }
+
+-- a missing first entry stands at the header, and any other item where it is
+abbrev pub place_of : Rule → ℕ → ℕ → ℕ
+place_of NoUnitEntry header at = header
+place_of rule header at = at
+
+-- the fault of an item at this offset, in the unit of this header
+abbrev pub in_unit : Failing → ℕ → ℕ → Broken
+in_unit f header at = record { rule = f.rule; section = Info; at = place_of f.rule header at; attribute = f.attribute }
+
+-- ---- inside a unit
+
+-- the first of these items, if there is one, is an entry that fits the unit's type
+abbrev pub FitsUnit : HeaderKind → List Item → Type 0
+FitsUnit kind [] = Unit {0}
+FitsUnit kind (entry h ∷ is) = fits_tag kind h.decl.tag ≡ true
+FitsUnit kind (null z ∷ is) = ⊥
+
+-- these items spell the beginning of a unit's body, and so many lists are open after them
+pub record Front (x : Context) (kind : HeaderKind) (body : List ℕ) (is : List Item) (rest : List ℕ) (depth : ℕ) : Type 0 where
+  pub are : AreItems x is
+  pub fits : FitsUnit kind is
+  pub at_depth : tree_depth is ≡ Some depth
+  pub parts : body ≡ items_bytes is ++ rest
+
+-- an item is missing inside the tree, or something else than nulls comes after it
+abbrev pub Stops : Context → HeaderKind → List Item → List ℕ → ℕ → Failing → Type 0
+Stops x kind is rest zero f = (rest ≢ []) × (null_first (code_at rest) ≡ false) × (f ≡ record { rule = LeftOver; attribute = 0 })
+Stops x kind is rest (suc depth) f = next_at x kind is rest ≡ Err f
+
+-- some items begin the body of the unit, and it does not go on
+pub record BodyFails (x : Context) (kind : HeaderKind) (header : ℕ) (body : List ℕ) (broken : Broken) : Type 0 where
+  pub items : List Item
+  pub rest : List ℕ
+  pub depth : ℕ
+  pub failing : Failing
+  pub front : Front x kind body items rest depth
+  pub stops : Stops x kind items rest depth failing
+  pub is : broken ≡ in_unit failing header (header + header_size kind + length (items_bytes items))
+
+-- ---- the checks of a unit in their order: its header, its table, its items
+
+-- the fault behind a header at this offset, whose table reads so: an item of the body, or the table
+abbrev pub FailsBehind : ℕ → UnitHeader → List ℕ → Result (List Declaration) BrokenTable → Broken → Type 0
+FailsBehind header h body (Ok table) broken = BodyFails (context_by h table) h.kind header body broken
+FailsBehind header h body (Err f) broken = broken ≡ in_table f
+
+-- the fault of a unit at this offset whose header reads so
+abbrev pub FailsAs : List ℕ → ℕ → Result (UnitHeader × List ℕ) Rule → Broken → Type 0
+FailsAs «abbrev» header (Ok u) broken = FailsBehind header u.0 u.1 (table_at «abbrev» u.0.abbrev_offset) broken
+FailsAs «abbrev» header (Err rule) broken = broken ≡ in_header rule header
+
+-- these bytes, which are at this offset of .debug_info, begin with no unit, and this is why
+abbrev pub FailsHere : List ℕ → ℕ → List ℕ → Broken → Type 0
+FailsHere «abbrev» header rest broken = FailsAs «abbrev» header (header_at (length «abbrev») rest) broken
+
+-- whole units, and then bytes that are none, by the first check that fails
+pub record Fails («abbrev» info : List ℕ) (broken : Broken) : Type 0 where
+  pub units : List DebugUnit
+  pub rest : List ℕ
+  pub are : AreUnits «abbrev» units
+  pub parts : info ≡ units_bytes units ++ rest
+  pub more : rest ≢ []
+  pub fails : FailsHere «abbrev» (length (units_bytes units)) rest broken

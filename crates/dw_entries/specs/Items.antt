@@ -1,0 +1,67 @@
+-- A tree as the row of its items: each entry's head, and each closing null.
+use Rattle.std.specs.Prelude.{ℕ, zero, suc, List, [], ◌∷◌, ◌++◌, Option, Some, None, if◌then◌else◌}
+use Rattle.std.specs.List.{flat_map, AllByRecursion}
+use Rattle.dw_forms.specs.Abbrev.{Declaration}
+use Rattle.dw_entries.specs.Grammar.{place_in, Context, Head, head_bytes, IsHead, IsNull}
+use Rattle.dw_entries.specs.Tree.{Node, Nodes, leaf, parent, none, ◌then◌}
+
+-- an entry's head, or a null
+pub data Item : Type 0 where
+  entry : Head → Item
+  null : List ℕ → Item
+
+-- the place of an entry's declaration in the table, and the declaration; none at a null
+abbrev pub decl_of : List Declaration → Item → Option (ℕ × Declaration)
+decl_of table (entry h) = Some (place_in table h.decl.code, h.decl)
+decl_of table (null z) = None
+
+-- the bytes of an item
+abbrev pub item_bytes : Item → List ℕ
+item_bytes (entry h) = head_bytes h
+item_bytes (null z) = z
+
+-- the item is spelled by the grammar
+abbrev pub IsItem : Context → Item → Type 0
+IsItem x (entry h) = IsHead x h
+IsItem x (null z) = IsNull z
+
+-- each of the items is
+abbrev pub AreItems : Context → List Item → Type 0
+AreItems x is = AllByRecursion (IsItem x) is
+
+-- the bytes of items, joined
+abbrev pub items_bytes : List Item → List ℕ
+items_bytes is = flat_map item_bytes is
+
+-- how many lists of children are open after an item, where d + 1 are open before it
+abbrev pub depth_after : ℕ → Item → ℕ
+depth_after d (entry h) = if h.decl.has_children then suc (suc d) else suc d
+depth_after d (null z) = d
+
+-- how many are open after these items; none where an entry comes after the last list is closed
+abbrev pub depth_along : ℕ → List Item → Option ℕ
+depth_along d [] = Some d
+depth_along zero (entry h ∷ is) = None
+depth_along zero (null z ∷ is) = depth_along zero is
+depth_along (suc d) (i ∷ is) = depth_along (depth_after d i) is
+
+-- how many lists of children are open after the first entry of a tree
+abbrev pub root_depth : Head → ℕ
+root_depth h = if h.decl.has_children then 1 else 0
+
+-- how many are open after these items of one tree: before the first item the tree itself, and 0 after its end;
+-- none where they don't begin a tree
+abbrev pub tree_depth : List Item → Option ℕ
+tree_depth [] = Some 1
+tree_depth (entry h ∷ is) = depth_along (root_depth h) is
+tree_depth (null z ∷ is) = None
+
+-- a tree's items, each entry before its children
+abbrev mutual
+  pub node_items : Node → List Item
+  node_items (leaf h) = entry h ∷ []
+  node_items (parent h ns z) = entry h ∷ (nodes_items ns ++ null z ∷ [])
+
+  pub nodes_items : Nodes → List Item
+  nodes_items none = []
+  nodes_items (n then ns) = node_items n ++ nodes_items ns

@@ -1,0 +1,29 @@
+-- What the look-ups of entries and of units answer.
+use Rattle.std.specs.Prelude.{ℕ, List, length, ◌==◌, nat_lt, if◌then◌else◌, Option, Some, None, find, option_map}
+use Rattle.dw_forms.specs.Value.{Datum}
+use Rattle.dw_entries.specs.declared.lookup.Head.{Head}
+use Rattle.dw_entries.specs.declared.lookup.UnitHead.{UnitHead}
+use Rattle.dw_entries.specs.Header.{type_of}
+use Rattle.dw_entries.specs.Units.{head_of}
+use Rattle.dw_entries.specs.Entries.{Entry, PlacedUnit}
+use Rattle.dw_entries.specs.Asked.{values_of}
+
+-- the number k itself, where there are more entries than k
+abbrev pub nth_of : List Entry → ℕ → Option ℕ
+nth_of entries k = if nat_lt k (length entries) then Some k else None
+
+-- what is told of an entry besides its attributes
+abbrev pub entry_head : Entry → Head
+entry_head e = record { offset = e.at; tag = e.head.decl.tag; unit = e.unit; parent = e.parent; depth = e.depth; next_sibling = e.next }
+
+-- what is told of a unit; in version 4 the tag of its first entry says which type it has
+abbrev pub unit_head : PlacedUnit → UnitHead
+unit_head p = record { offset = p.at; header = p.unit.header; unit_type = type_of p.unit.header.kind (head_of p.unit.root).decl.tag; first = p.first }
+
+-- the value of the first of these attributes that has this code
+abbrev pub value_in : List (ℕ × Datum) → ℕ → Option Datum
+value_in values attribute = option_map (λ (a : ℕ × Datum). a.1) (find (λ (a : ℕ × Datum). a.0 == attribute) values)
+
+-- the value of an entry's attribute, if it has that attribute
+abbrev pub value_at_entry : Entry → ℕ → Option Datum
+value_at_entry e attribute = value_in (values_of e.head) attribute

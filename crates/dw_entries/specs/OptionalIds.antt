@@ -1,0 +1,27 @@
+-- A number or none, in four bytes.
+use Rattle.std.specs.Prelude.{◌≡◌, ℕ, true, false, ◌==◌, Option, Some, None, if◌then◌else◌, refl}
+use Rattle.std.proofs.Common.{ap, sym}
+use Rattle.std.proofs.lemmas.Bool.{eqb-true}
+use Rattle.dw_entries.specs.declared.id.OptionalId.TheInside.{Inside}
+
+-- the greatest number stands for none
+abbrev pub option_of : ℕ → Option ℕ
+option_of n = if n == 0xffffffff then None else Some n
+
+-- the number that stands for it
+abbrev pub number_of : Option ℕ → ℕ
+number_of None = 0xffffffff
+number_of (Some n) = n
+
+number_of-option_of : (n : ℕ) → number_of (option_of n) ≡ n
+number_of-option_of n = elim (n == 0xffffffff) as (λ b. b ≡ (n == 0xffffffff) → number_of (if b then None else Some n) ≡ n) [
+  | true ↦ λ e. sym (eqb-true n 0xffffffff (sym e))
+  | false ↦ λ e. refl
+] refl
+
+abbrev inside : ℕ → Inside
+inside n = record { number = n }
+
+-- the number comes back
+pub back : (i : Inside) → inside (number_of (option_of i.number)) ≡ i
+back i = ap inside (number_of-option_of i.number)

@@ -1,0 +1,93 @@
+-- What the entries are known by has one proof.
+use Rattle.std.proofs.Common.{ℕ, List, [], ◌∷◌}
+use Rattle.std.specs.Coded.{×_prop}
+use mathlib.Core.HLevel.{Σ_prop_path}
+use Rattle.std.proofs.Props.{props}
+use Rattle.dw_forms.specs.declared.decl.AttributeSpec.{AttributeSpec}
+use Rattle.dw_forms.specs.Leb.{IsEnded, Uleb}
+use Rattle.dw_entries.specs.declared.header.HeaderKind.{HeaderKind}
+use Rattle.dw_entries.specs.declared.header.HeaderKind.TheVariants.{Version4, CompileUnit, PartialUnit, TypeUnit}
+use Rattle.dw_entries.specs.declared.header.UnitHeader.{UnitHeader}
+use Rattle.dw_entries.specs.declared.record.Record.{Record}
+use Rattle.dw_entries.specs.declared.record.UnitRecord.{UnitRecord}
+use Rattle.std.specs.List.{AllZip}
+use Rattle.dw_forms.specs.Abbrev.{Declaration}
+use Rattle.dw_entries.specs.Entries.{PlacedUnit}
+use Rattle.dw_entries.specs.Choices.{size_unique}
+use Rattle.dw_entries.specs.Grammar.{Context, Attribute, IsAttribute, AreAttributes, Head, IsHead}
+use Rattle.dw_entries.specs.Header.{FitKind, IsHeader}
+use Rattle.dw_entries.specs.Tree.{Node, Nodes, leaf, parent, none, ◌then◌, IsNode, AreNodes}
+use Rattle.dw_entries.specs.Units.{DebugUnit, AreNulls, IsUnit, AreUnits, Spells}
+use Rattle.dw_entries.specs.Scanned.{IsKept, Holds, Scanned}
+use Rattle.dw_entries.specs.UnitLaws.{one_list}
+
+IsEnded-prop : (bytes : List ℕ) → IsProp (IsEnded bytes)
+IsEnded-prop [] = hlevel props
+IsEnded-prop (b ∷ []) = hlevel props
+IsEnded-prop (b ∷ c ∷ bytes) = ×_prop (hlevel props) (IsEnded-prop (c ∷ bytes))
+
+Uleb-prop : (bytes : List ℕ) (n : ℕ) → IsProp (Uleb bytes n)
+Uleb-prop bytes n = hlevel (props, IsEnded-prop)
+
+IsAttribute-prop : (t : Context) (spec : AttributeSpec) (a : Attribute) → IsProp (IsAttribute t spec a)
+IsAttribute-prop t spec a = hlevel props
+
+pub AreAttributes-prop : (t : Context) (specs : List AttributeSpec) (bs : List Attribute) → IsProp (AreAttributes t specs bs)
+AreAttributes-prop t [] [] = hlevel props
+AreAttributes-prop t [] (b ∷ bs) = hlevel props
+AreAttributes-prop t (s ∷ specs) [] = hlevel props
+AreAttributes-prop t (s ∷ specs) (b ∷ bs) = ×_prop (IsAttribute-prop t s b) (AreAttributes-prop t specs bs)
+
+IsHead-prop : (t : Context) (h : Head) → IsProp (IsHead t h)
+IsHead-prop t h = hlevel (props, Uleb-prop, AreAttributes-prop)
+
+mutual
+  IsNode-prop : (t : Context) (n : Node) → IsProp (IsNode t n)
+  IsNode-prop t (leaf h) = hlevel (props, IsHead-prop)
+  IsNode-prop t (parent h ns z) = hlevel (props, IsHead-prop, Uleb-prop, AreNodes-prop t ns)
+
+  AreNodes-prop : (t : Context) (ns : Nodes) → IsProp (AreNodes t ns)
+  AreNodes-prop t none = hlevel props
+  AreNodes-prop t (n then ns) = ×_prop (IsNode-prop t n) (AreNodes-prop t ns)
+
+AreNulls-prop : (zs : List (List ℕ)) → IsProp (AreNulls zs)
+AreNulls-prop [] = hlevel props
+AreNulls-prop (z ∷ zs) = ×_prop (Uleb-prop z 0) (AreNulls-prop zs)
+
+FitKind-prop : (kind : HeaderKind) → IsProp (FitKind kind)
+FitKind-prop Version4 = hlevel props
+FitKind-prop CompileUnit = hlevel props
+FitKind-prop PartialUnit = hlevel props
+FitKind-prop (TypeUnit signature type_offset) = hlevel props
+
+IsHeader-prop : (n : ℕ) (h : UnitHeader) → IsProp (IsHeader n h)
+IsHeader-prop n h = hlevel (props, FitKind-prop, size_unique)
+
+IsUnit-prop : (a : List ℕ) (u : DebugUnit) → IsProp (IsUnit a u)
+IsUnit-prop a u = hlevel (props, IsHeader-prop, IsNode-prop, AreNulls-prop)
+
+AreUnits-prop : (a : List ℕ) (us : List DebugUnit) → IsProp (AreUnits a us)
+AreUnits-prop a [] = hlevel props
+AreUnits-prop a (u ∷ us) = ×_prop (IsUnit-prop a u) (AreUnits-prop a us)
+
+pub Spells-prop : (a : List ℕ) (us : List DebugUnit) (info : List ℕ) → IsProp (Spells a us info)
+Spells-prop a us info = hlevel (props, AreUnits-prop)
+
+records_set : IsSet (List Record)
+records_set = hlevel props
+
+IsKept-prop : (tables : List (List Declaration)) (r : UnitRecord) (p : PlacedUnit) → IsProp (IsKept tables r p)
+IsKept-prop tables r p = hlevel props
+
+AllKept-prop : (tables : List (List Declaration)) (rs : List UnitRecord) (ps : List PlacedUnit) → IsProp (AllZip (IsKept tables) rs ps)
+AllKept-prop tables [] [] = hlevel props
+AllKept-prop tables [] (p ∷ ps) = hlevel props
+AllKept-prop tables (r ∷ rs) [] = hlevel props
+AllKept-prop tables (r ∷ rs) (p ∷ ps) = ×_prop (IsKept-prop tables r p) (AllKept-prop tables rs ps)
+
+Holds-prop : (a info : List ℕ) (tables : List (List Declaration)) (rs : List UnitRecord) (records : List Record) (us : List DebugUnit) → IsProp (Holds a info tables rs records us)
+Holds-prop a info tables rs records us = hlevel (props, Spells-prop, AllKept-prop, records_set)
+
+-- the units of a section, with what is kept of them
+pub scanned_unique : (a info : List ℕ) (tables : List (List Declaration)) (rs : List UnitRecord) (records : List Record) → IsProp (Scanned a info tables rs records)
+scanned_unique a info tables rs records p q = Σ_prop_path (Holds-prop a info tables rs records) (one_list a info p.0 q.0 p.1.spells q.1.spells)

@@ -1,0 +1,93 @@
+-- The groups of rules, in the order in which they are asked, and the number of a rule in its group's order.
+use Rattle.std.specs.Prelude.{ℕ}
+use Rattle.dw_entries.specs.declared.rule.Rule.{Rule}
+use Rattle.dw_entries.specs.declared.rule.Rule.TheVariants.{AbbrevCut, AbbrevNumber, CodeTwice, BadTag, BadChildren, BadPair, UnknownForm, AttributeTwice, UnitCut, Not32Bit, BadVersion, BadUnitType, BadAddressSize, BadAbbrevOffset, NoUnitEntry, WrongUnitTag, LeftOver, UndeclaredCode, Cut, BadNumber, BadIndirect, FormVersion, WrongClass, BadStrBase, StrIndex, StringEnd, BadAddrBase, AddrIndex, NoEntry, WrongKind, NotNextSibling, NoSignature, SignatureTwice, BadTypeOffset, MissingType, BadCount, ContainsItself, NoSize, SizeTooGreat, MemberOutside, EnumSize}
+
+-- the group of a rule: units with their tables and items, classes, strings and addresses, references, types and
+-- counts, containment, sizes; a group is asked only where no rule of an earlier one fails
+abbrev pub group_of : Rule → ℕ
+group_of AbbrevCut = 1
+group_of AbbrevNumber = 1
+group_of CodeTwice = 1
+group_of BadTag = 1
+group_of BadChildren = 1
+group_of BadPair = 1
+group_of UnknownForm = 1
+group_of AttributeTwice = 1
+group_of UnitCut = 1
+group_of Not32Bit = 1
+group_of BadVersion = 1
+group_of BadUnitType = 1
+group_of BadAddressSize = 1
+group_of BadAbbrevOffset = 1
+group_of NoUnitEntry = 1
+group_of WrongUnitTag = 1
+group_of LeftOver = 1
+group_of UndeclaredCode = 1
+group_of Cut = 1
+group_of BadNumber = 1
+group_of BadIndirect = 1
+group_of FormVersion = 1
+group_of WrongClass = 2
+group_of BadStrBase = 3
+group_of StrIndex = 3
+group_of StringEnd = 3
+group_of BadAddrBase = 3
+group_of AddrIndex = 3
+group_of NoEntry = 4
+group_of WrongKind = 4
+group_of NotNextSibling = 4
+group_of NoSignature = 4
+group_of SignatureTwice = 4
+group_of BadTypeOffset = 4
+group_of MissingType = 5
+group_of BadCount = 5
+group_of ContainsItself = 6
+group_of NoSize = 7
+group_of SizeTooGreat = 7
+group_of MemberOutside = 7
+group_of EnumSize = 7
+
+-- the number of a rule, as its code has it: where several rules of one letter fail at one place, the least is named
+abbrev pub number_of : Rule → ℕ
+number_of AbbrevCut = 1
+number_of AbbrevNumber = 2
+number_of CodeTwice = 3
+number_of BadTag = 4
+number_of BadChildren = 5
+number_of BadPair = 6
+number_of UnknownForm = 7
+number_of AttributeTwice = 8
+number_of UnitCut = 1
+number_of Not32Bit = 2
+number_of BadVersion = 3
+number_of BadUnitType = 4
+number_of BadAddressSize = 5
+number_of BadAbbrevOffset = 6
+number_of NoUnitEntry = 7
+number_of WrongUnitTag = 8
+number_of LeftOver = 9
+number_of UndeclaredCode = 1
+number_of Cut = 2
+number_of BadNumber = 3
+number_of BadIndirect = 4
+number_of FormVersion = 5
+number_of WrongClass = 1
+number_of BadStrBase = 1
+number_of StrIndex = 2
+number_of StringEnd = 3
+number_of BadAddrBase = 4
+number_of AddrIndex = 5
+number_of NoEntry = 1
+number_of WrongKind = 2
+number_of NotNextSibling = 3
+number_of NoSignature = 4
+number_of SignatureTwice = 5
+number_of BadTypeOffset = 6
+number_of MissingType = 1
+number_of BadCount = 2
+number_of ContainsItself = 1
+number_of NoSize = 1
+number_of SizeTooGreat = 2
+number_of MemberOutside = 3
+number_of EnumSize = 4

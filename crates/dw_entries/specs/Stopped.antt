@@ -1,0 +1,106 @@
+-- What is said of an answer, where memory did not run out.
+use Rattle.dw_forms.specs.declared.abbrev_fault.BrokenTable.{BrokenTable}
+use Rattle.dw_forms.specs.Abbrev.{Declaration}
+use Rattle.dw_entries.specs.Faults.{in_table}
+use Rattle.std.specs.Prelude.{◌≡◌, ◌≢◌, ℕ, true, false, List, ◌+◌, ◌++◌, ◌∷◌, length, None, [], Result, Ok, Err}
+use Rattle.dw_entries.specs.declared.record.Record.{Record}
+use Rattle.dw_entries.specs.declared.record.UnitRecord.{UnitRecord}
+use Rattle.dw_entries.specs.declared.record.Kept.{Kept}
+use Rattle.dw_entries.specs.Scanned.{IsKept}
+use Rattle.dw_entries.specs.Tables.{AreTables, GrowsByOne}
+use Rattle.dw_entries.specs.declared.fault.Failing.{Failing}
+use Rattle.dw_entries.specs.declared.fault.Broken.{Broken}
+use Rattle.dw_entries.specs.declared.fault.Break.{Break}
+use Rattle.dw_entries.specs.declared.fault.Break.TheVariants as breaks
+use Rattle.dw_entries.specs.declared.walk.Halt.{Halt}
+use Rattle.dw_entries.specs.declared.walk.Halt.TheVariants as halts
+use Rattle.dw_entries.specs.declared.header.HeaderKind.{HeaderKind}
+use Rattle.dw_entries.specs.Grammar.{Context}
+use Rattle.dw_entries.specs.Header.{fits_tag, header_size}
+use Rattle.dw_entries.specs.Reading.{code_at, null_first}
+use Rattle.dw_entries.specs.Tree.{Node, IsNode, node_bytes}
+use Rattle.dw_entries.specs.Units.{DebugUnit, IsUnit, unit_bytes, AreNulls, nulls_bytes, head_of}
+use Rattle.dw_entries.specs.Records.{node_records}
+use Rattle.dw_entries.specs.declared.fault.Stop.{Stop}
+use Rattle.dw_entries.specs.declared.fault.Stop.TheVariants as stops
+use Rattle.dw_entries.specs.declared.fault.Fault.{Fault}
+
+-- this holds of the fault, where memory did not run out
+abbrev pub IfBroken : (Broken → Type 0) → Break → Type 0
+IfBroken P breaks.Memory = Unit {0}
+IfBroken P (breaks.Broken b) = P b
+
+-- reading gives this fault, where memory did not run out
+abbrev pub HaltsBy : {Y : Type 0} → Halt → Result Y Failing → Type 0
+HaltsBy halts.Memory read = Unit {0}
+HaltsBy (halts.Failing f) read = read ≡ Err f
+
+-- what a function returned, by view, is what reading gives, where memory did not run out
+abbrev pub GivesUnlessMemory : {X Y : Type 0} → (X → Y) → Result X Halt → Result Y Failing → Type 0
+GivesUnlessMemory view (Ok x) read = read ≡ Ok (view x)
+GivesUnlessMemory view (Err e) read = HaltsBy e read
+
+-- the body spells a tree and nulls, and then the rest; the tree's entries come after the old ones
+pub record TreeOf (x : Context) (kind : HeaderKind) (body rest : List ℕ) (unit at : ℕ) (old new : List Record) : Type 0 where
+  pub root : Node
+  pub is : IsNode x root
+  pub tag : fits_tag kind (head_of root).decl.tag ≡ true
+  pub nulls : List (List ℕ)
+  pub are_nulls : AreNulls nulls
+  pub parts : body ≡ (node_bytes root ++ nulls_bytes nulls) ++ rest
+  pub records : new ≡ old ++ node_records x.table unit None 0 None (length old) at root
+
+-- the bytes are nulls
+abbrev pub AreAllNulls : List ℕ → Type 0
+AreAllNulls bytes = (nulls : List (List ℕ)) × AreNulls nulls × (bytes ≡ nulls_bytes nulls)
+
+-- nulls, and then something else
+pub record NullsThen (bytes left : List ℕ) : Type 0 where
+  pub nulls : List (List ℕ)
+  pub are : AreNulls nulls
+  pub parts : bytes ≡ nulls_bytes nulls ++ left
+  pub more : left ≢ []
+  pub other : null_first (code_at left) ≡ false
+
+-- a fault without its cycle
+abbrev pub broken_of : Fault → Broken
+broken_of f = record { rule = f.rule; section = f.section; at = f.at; attribute = f.attribute }
+
+-- a fault of bytes and not of types has no cycle
+pub record IsFault (P : Broken → Type 0) (f : Fault) : Type 0 where
+  pub holds : P (broken_of f)
+  pub cycle : f.cycle.items ≡ []
+
+-- this holds of the fault, where memory did not run out
+abbrev pub IfFault : (Broken → Type 0) → Stop → Type 0
+IfFault P stops.Memory = Unit {0}
+IfFault P (stops.Fault f) = IsFault P f
+
+-- what a table's fault is, in the words of all rules
+abbrev pub as_broken : Result (List Declaration) BrokenTable → Result (List Declaration) Broken
+as_broken (Ok table) = Ok table
+as_broken (Err f) = Err (in_table f)
+
+-- reading the table gives this fault, where memory did not run out
+abbrev pub BreaksBy : Break → Result (List Declaration) BrokenTable → Type 0
+BreaksBy breaks.Memory read = Unit {0}
+BreaksBy (breaks.Broken b) read = as_broken read ≡ Err b
+
+-- what a function returned, by view, is the table that is read, where memory did not run out
+abbrev pub ReadsTable : {X : Type 0} → (X → List Declaration) → Result X Break → Result (List Declaration) BrokenTable → Type 0
+ReadsTable view (Ok t) read = read ≡ Ok (view t)
+ReadsTable view (Err e) read = BreaksBy e read
+
+-- a unit begins the bytes, and what is kept of it comes after the old
+pub record UnitTaken («abbrev» rest : List ℕ) (at : ℕ) (old new : Kept) (len : ℕ) : Type 0 where
+  pub taken : DebugUnit
+  pub is : IsUnit «abbrev» taken
+  pub after : List ℕ
+  pub parts : rest ≡ unit_bytes taken ++ after
+  pub len_is : len ≡ length (unit_bytes taken)
+  pub record_is : UnitRecord
+  pub kept : IsKept new.tables.kept.items record_is (record { at = at; first = length old.records.items; unit = taken })
+  pub units : new.units.items ≡ old.units.items ++ record_is ∷ []
+  pub records : new.records.items ≡ old.records.items ++ node_records taken.table (length old.units.items) None 0 None (length old.records.items) (at + header_size taken.header.kind) taken.root
+  pub tables : AreTables «abbrev» new.tables
+  pub stay : GrowsByOne old.tables.kept.items new.tables.kept.items

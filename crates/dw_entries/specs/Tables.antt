@@ -1,0 +1,20 @@
+-- The abbreviation tables that units name, each kept once.
+use Rattle.std.specs.Prelude.{◌≡◌, ℕ, ◌≤◌, List, ◌++◌, length, slice_get, Some, Ok}
+use Rattle.std.specs.Ordering.{nat_cmp}
+use Rattle.std.specs.BTreeMap.{get}
+use Rattle.dw_forms.specs.Abbrev.{Declaration}
+use Rattle.dw_forms.specs.AbbrevReading.{table_at}
+use Rattle.dw_entries.specs.Grammar.{IsTable}
+use Rattle.dw_entries.specs.declared.tables.Tables.{Tables}
+
+-- the table that is kept at this place is the one that begins at this offset of .debug_abbrev
+abbrev pub IsTableAt : List ℕ → List (List Declaration) → ℕ → ℕ → Type 0
+IsTableAt «abbrev» tables offset place = (table : List Declaration) × (slice_get tables place ≡ Some table) × (table_at «abbrev» offset ≡ Ok table) × IsTable table
+
+-- each offset that has a place has its table there
+abbrev pub AreTables : List ℕ → Tables → Type 0
+AreTables «abbrev» t = (offset place : ℕ) → get nat_cmp t.places offset ≡ Some place → IsTableAt «abbrev» t.kept.items offset place
+
+-- the old tables keep their places, and there is one more at most
+abbrev pub GrowsByOne : List (List Declaration) → List (List Declaration) → Type 0
+GrowsByOne old new = (more : List (List Declaration)) × (new ≡ old ++ more) × (length more ≤ 1)

@@ -1,0 +1,15 @@
+-- What a token stands for.
+use Rattle.std.specs.Prelude.{ℕ, Option, Some, None}
+use Rattle.dw_entries.specs.declared.reading.Declared.{Declared}
+use Rattle.dw_entries.specs.declared.reading.Token.{Token}
+use Rattle.dw_entries.specs.declared.reading.Token.TheVariants.{Null, Entry}
+use Rattle.dw_forms.specs.Abbrev.{Declaration, view}
+
+-- a place in a table, and the declaration there
+abbrev pub declared_view : Declared → ℕ × Declaration
+declared_view d = (d.place, view d.decl.now)
+
+-- the place and the declaration of an entry; none at a null
+abbrev pub token_decl : Token → Option (ℕ × Declaration)
+token_decl Null = None
+token_decl (Entry d) = Some (declared_view d)

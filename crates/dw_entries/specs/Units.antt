@@ -1,0 +1,72 @@
+-- Units, and .debug_info as a row of them (DWARF 5, section 7.5.1).
+use Rattle.std.specs.Prelude.{◌≡◌, ℕ, true, List, ◌++◌, length, Ok}
+use Rattle.std.specs.List.{flat_map, AllByRecursion}
+use Rattle.dw_forms.specs.Abbrev.{Declaration}
+use Rattle.dw_forms.specs.AbbrevReading.{table_at}
+use Rattle.dw_entries.specs.declared.header.UnitHeader.{UnitHeader}
+use Rattle.dw_entries.specs.declared.context.UnitContext.{UnitContext}
+use Rattle.dw_entries.specs.Grammar.{Context, Head, IsNull}
+use Rattle.dw_entries.specs.Header.{version_of, fits_tag, header_bytes, header_fields, IsHeader}
+use Rattle.dw_entries.specs.Tree.{Node, leaf, parent, IsNode, node_bytes}
+
+-- a header, the table that it names, a tree, and the nulls after the tree
+pub record DebugUnit : Type 0 where
+  pub header : UnitHeader
+  pub table : List Declaration
+  pub root : Node
+  pub nulls : List (List ℕ)
+
+-- what a unit with this header and table is read by
+abbrev pub context_by : UnitHeader → List Declaration → Context
+context_by h table = record { table = table; address_size = h.address_size; version = version_of h.kind }
+
+-- what a reader of items goes by
+abbrev pub context_in : UnitContext → Context
+context_in c = record { table = c.table.now; address_size = c.address_size; version = c.version }
+
+-- what the bytes of a unit are read by
+abbrev pub context_of : DebugUnit → Context
+context_of u = context_by u.header u.table
+
+-- the first entry of a tree
+abbrev pub head_of : Node → Head
+head_of (leaf h) = h
+head_of (parent h ns z) = h
+
+-- the bytes of nulls, joined
+abbrev pub nulls_bytes : List (List ℕ) → List ℕ
+nulls_bytes zs = flat_map (λ z. z) zs
+
+-- each of them is a null
+abbrev pub AreNulls : List (List ℕ) → Type 0
+AreNulls zs = AllByRecursion IsNull zs
+
+-- the bytes behind the header
+abbrev pub body_bytes : DebugUnit → List ℕ
+body_bytes u = node_bytes u.root ++ nulls_bytes u.nulls
+
+-- the header, the tree and the nulls
+abbrev pub unit_bytes : DebugUnit → List ℕ
+unit_bytes u = header_bytes u.header ++ body_bytes u
+
+-- a unit whose table stands in these bytes of .debug_abbrev; unit_length counts all behind itself
+pub record IsUnit («abbrev» : List ℕ) (u : DebugUnit) : Type 0 where
+  pub header : IsHeader (length «abbrev») u.header
+  pub table : table_at «abbrev» u.header.abbrev_offset ≡ Ok u.table
+  pub root : IsNode (context_of u) u.root
+  pub tag : fits_tag u.header.kind (head_of u.root).decl.tag ≡ true
+  pub nulls : AreNulls u.nulls
+  pub unit_length : u.header.unit_length ≡ length (header_fields u.header ++ body_bytes u)
+
+-- each of them is a unit of a section with this .debug_abbrev
+abbrev pub AreUnits : List ℕ → List DebugUnit → Type 0
+AreUnits «abbrev» us = AllByRecursion (IsUnit «abbrev») us
+
+-- the bytes of units, joined
+abbrev pub units_bytes : List DebugUnit → List ℕ
+units_bytes us = flat_map unit_bytes us
+
+-- .debug_info has these bytes: the units, joined
+pub record Spells («abbrev» : List ℕ) (us : List DebugUnit) (info : List ℕ) : Type 0 where
+  pub are : AreUnits «abbrev» us
+  pub parts : info ≡ units_bytes us

@@ -1,0 +1,11 @@
+-- What an iterator over the units has left.
+use Rattle.std.specs.Prelude.{List, map, drop}
+use Rattle.dw_entries.specs.declared.lookup.UnitHead.{UnitHead}
+use Rattle.dw_entries.specs.declared.units.Units.{Units}
+use Rattle.dw_entries.specs.Entries.{placed}
+use Rattle.dw_entries.specs.Scanned.{units_of}
+use Rattle.dw_entries.specs.Lookups.{unit_head}
+
+-- the units from its number on
+abbrev pub units_left : Units → List UnitHead
+units_left it = map unit_head (drop it.number (placed (units_of it.entries.now.scanned)))

@@ -1,0 +1,18 @@
+-- The attributes of an entry that are still to be read from the front of some bytes.
+use Rattle.std.specs.Prelude.{◌≡◌, ℕ, List, [], ◌++◌}
+use Rattle.std.specs.List.{flat_map}
+use Rattle.dw_forms.specs.declared.decl.AttributeSpec.{AttributeSpec}
+use Rattle.dw_entries.specs.Grammar.{Context, Attribute, attribute_bytes, AreAttributes}
+
+-- what values are read by in a unit of this version with addresses of this size: no table is needed
+abbrev pub value_context : ℕ → ℕ → Context
+value_context version address_size = record { table = []; address_size = address_size; version = version }
+
+-- the bytes begin with attributes that are declared so, and go on
+pub record Begin (x : Context) (specs : List AttributeSpec) (bytes : List ℕ) (found : List Attribute × List ℕ) : Type 0 where
+  pub are : AreAttributes x specs found.0
+  pub spelled : bytes ≡ flat_map attribute_bytes found.0 ++ found.1
+
+-- the attributes at the front of the bytes, and the bytes behind them
+abbrev pub Left : Context → List AttributeSpec → List ℕ → Type 0
+Left x specs bytes = (found : List Attribute × List ℕ) × Begin x specs bytes found

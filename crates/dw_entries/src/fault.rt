@@ -1,0 +1,108 @@
+//! The first place where a rule is broken.
+
+ghost use Rattle.std.specs.Prelude.{◌≡◌};
+ghost use Rattle.dw_entries.specs.declared.fault.Stop.TheVariants.{Memory};
+
+use crate::rule::Rule;
+use std::alloc::{AllocError, AllocFailed};
+
+/// The section in which a fault stands: .debug_abbrev for a table's, .debug_info for all others.
+#[derive(Clone, Copy, Debug, PartialEq, Eq)]
+pub enum Section {
+    Abbrev,
+    Info,
+}
+
+impl Section {
+    ghost use Rattle.dw_entries.specs.RuleTexts.{section_text};
+
+    /// The section's name in the file.
+    #[tactic(auto, unfolding(crate::specs::RuleTexts::section_text))]
+    pub fn name(self) -> &'static str
+        ensures { result.now ≡ section_text self }
+    {
+        match self {
+            Section::Abbrev => ".debug_abbrev",
+            Section::Info => ".debug_info",
+        }
+    }
+}
+
+/// The first broken rule: its place in the section, and the attribute (0 for none). For a type that
+/// contains itself the cycle has the offsets of the entries, the first of them also last.
+#[derive(Debug, Drop)]
+pub struct Fault {
+    pub rule: Rule,
+    pub section: Section,
+    pub at: u32,
+    pub attribute: u16,
+    pub cycle: Vec<u32>,
+}
+
+/// Why a check gives no answer.
+#[derive(Debug, Drop)]
+pub enum Stop {
+    /// A growth was refused.
+    Memory,
+    /// A rule is broken.
+    Fault(Fault),
+}
+
+/// The rule that an item of a unit breaks, and the attribute whose value breaks it (0 for none).
+#[derive(Clone, Copy, Debug, PartialEq, Eq)]
+pub struct Failing {
+    pub rule: Rule,
+    pub attribute: u16,
+}
+
+/// A broken rule, its place in the section, and the attribute (0 for none).
+#[derive(Clone, Copy, Debug, PartialEq, Eq)]
+pub struct Broken {
+    pub rule: Rule,
+    pub section: Section,
+    pub at: u32,
+    pub attribute: u16,
+}
+
+/// Why a unit is not taken.
+#[derive(Debug, Drop)]
+pub enum Break {
+    Memory,
+    Broken(Broken),
+}
+
+impl From<AllocError> for Break {
+    ghost use Rattle.dw_entries.specs.declared.fault.Break.TheVariants.{Memory as NoRoom};
+
+    ghost from_gives = { λ _ e. e ≡ NoRoom };
+
+    fn from(_e: AllocError) -> Break {
+        Break::Memory
+    }
+}
+
+impl<T: Drop> From<AllocFailed<T>> for Break {
+    ghost use Rattle.dw_entries.specs.declared.fault.Break.TheVariants.{Memory as NoRoom};
+
+    ghost from_gives = { λ _ e. e ≡ NoRoom };
+
+    fn from(_e: AllocFailed<T>) -> Break {
+        Break::Memory
+    }
+}
+
+impl From<AllocError> for Stop {
+    ghost from_gives = { λ _ e. e ≡ Memory };
+
+    fn from(_e: AllocError) -> Stop {
+        Stop::Memory
+    }
+}
+
+impl<T: Drop> From<AllocFailed<T>> for Stop {
+    ghost from_gives = { λ _ e. e ≡ Memory };
+
+    fn from(_e: AllocFailed<T>) -> Stop {
+        Stop::Memory
+    }
+}

@@ -1,0 +1,35 @@
+//! The entries of .debug_info: units, each a header, a tree of entries and nulls.
+#![tactic(auto)]
+
+mod context;
+mod entries;
+mod fault;
+mod header;
+mod header_reader;
+mod id;
+mod laws;
+mod lookup;
+mod reading;
+mod record;
+mod rule;
+mod scanning;
+mod tables;
+mod unit;
+mod units;
+mod values;
+mod walk;
+
+pub use dw_forms::{Attribute, Tag, Value, constants};
+pub use entries::Entries;
+pub use fault::{Fault, Section, Stop};
+pub use header::{HeaderKind, UnitHeader, UnitType};
+pub use id::EntryId;
+pub use laws::{no_list, one_fault, one_list};
+pub use lookup::{Head, UnitHead};
+pub use rule::Rule;
+pub use scanning::scan;
+pub use units::Units;
+pub use values::Values;
+
+#[cfg(test)]
+mod tests;

@@ -1,0 +1,162 @@
+//! What is told of entries and units.
+
+ghost use Rattle.std.specs.Prelude.{◌≡◌, ◌++◌, ◌<◌, ℕ, List, length, slice_get, IfSome, option_map};
+ghost use Rattle.std.specs.List.{flat_map};
+ghost use Rattle.dw_forms.specs.Abbrev.{view as decl_view};
+ghost use Rattle.dw_forms.specs.Value.{view};
+ghost use Rattle.dw_entries.specs.Grammar.{attribute_bytes};
+ghost use Rattle.dw_entries.specs.Entries.{entries_of, placed};
+ghost use Rattle.dw_entries.specs.Scanned.{units_of};
+ghost use Rattle.dw_entries.specs.Asked.{values_of};
+ghost use Rattle.dw_entries.specs.ValuesLeft.{values_left};
+ghost use Rattle.dw_entries.specs.Lookups.{nth_of, entry_head, unit_head, value_at_entry};
+
+use crate::entries::Entries;
+use crate::header::{UnitHeader, UnitType};
+use crate::id::{EntryId, OptionalId};
+use crate::reading::read_code;
+use crate::values::Values;
+use dw_forms::{Attribute, Decl, Tag, Value};
+
+/// An entry without its attributes.
+#[derive(Clone, Copy, Debug, PartialEq, Eq)]
+pub struct Head {
+    /// Where the entry begins in .debug_info.
+    pub offset: u32,
+    pub tag: Tag,
+    /// The number of its unit.
+    pub unit: usize,
+    pub parent: Option<EntryId>,
+    /// How many entries are above it.
+    pub depth: usize,
+    pub next_sibling: Option<EntryId>,
+}
+
+/// A unit without its entries.
+#[derive(Clone, Copy, Debug, PartialEq, Eq)]
+pub struct UnitHead {
+    /// Where the unit's header begins in .debug_info.
+    pub offset: u32,
+    pub header: UnitHeader,
+    /// In version 4 it is told by the tag of the first entry.
+    pub unit_type: UnitType,
+    pub first: EntryId,
+}
+
+fn id_of(optional: OptionalId) -> Option<EntryId>
+    ensures { result ≡ optional }
+{
+    match optional.get() {
+        Some(number) => Some(EntryId::new(number)),
+        None => None,
+    }
+}
+
+impl<'a> Entries<'a> {
+    /// The declaration of an entry.
+    fn decl(&self, id: EntryId) -> &Decl
+        requires { id < length (entries_of (units_of self.now.scanned)) }
+        ensures { IfSome (slice_get (entries_of (units_of self.now.scanned)) id) (λ e. decl_view result.now ≡ e.head.decl) }
+    {
+        let record = self.record(id);
+        let unit = self.units[record.unit as usize];
+        self.tables[unit.table as usize].decl(record.decl as usize)
+    }
+
+    /// The bytes of an entry's values, and those behind them.
+    fn value_bytes(&self, id: EntryId) -> &'a [u8]
+        requires { id < length (entries_of (units_of self.now.scanned)) }
+        ensures { IfSome (slice_get (entries_of (units_of self.now.scanned)) id) (λ e. (rest : List ℕ) × (result.now ≡ flat_map attribute_bytes e.head.attributes ++ rest)) }
+    {
+        let record = self.record(id);
+        match read_code(&self.sections.info[record.at as usize..]) {
+            Ok((_, values)) => values,
+            Err(_) => unreachable!(),
+        }
+    }
+
+    /// The header of an entry's unit.
+    fn header_of(&self, id: EntryId) -> UnitHeader
+        requires { id < length (entries_of (units_of self.now.scanned)) }
+        ensures { IfSome (slice_get (entries_of (units_of self.now.scanned)) id) (λ e. IfSome (slice_get (units_of self.now.scanned) e.unit) (λ u. result ≡ u.header)) }
+    {
+        let record = self.record(id);
+        self.units[record.unit as usize].header
+    }
+
+    /// What is told of an entry besides its attributes.
+    pub fn head(&self, id: EntryId) -> Head
+        requires { id < length (entries_of (units_of self.now.scanned)) }
+        ensures { IfSome (slice_get (entries_of (units_of self.now.scanned)) id) (λ e. result ≡ entry_head e) }
+    {
+        let record = self.record(id);
+        Head {
+            offset: record.at,
+            tag: self.decl(id).tag,
+            unit: record.unit as usize,
+            parent: id_of(record.parent),
+            depth: record.depth as usize,
+            next_sibling: id_of(record.next),
+        }
+    }
+
+    /// The entry with this number. Entries are numbered from 0 in rising offset.
+    pub fn nth(&self, k: usize) -> Option<EntryId>
+        ensures { result ≡ nth_of (entries_of (units_of self.now.scanned)) k }
+    {
+        if k < self.count() {
+            Some(EntryId::new(k as u32))
+        } else {
+            None
+        }
+    }
+
+    /// How many units there are.
+    pub fn unit_count(&self) -> usize
+        ensures { result ≡ length (units_of self.now.scanned) }
+    {
+        self.units.len()
+    }
+
+    /// The unit with this number. Units are numbered in rising offset, from 0.
+    pub fn unit(&self, number: usize) -> UnitHead
+        requires { number < length (units_of self.now.scanned) }
+        ensures { IfSome (slice_get (placed (units_of self.now.scanned)) number) (λ p. result ≡ unit_head p) }
+    {
+        let unit = self.units[number];
+        let first = EntryId::new(unit.first);
+        UnitHead {
+            offset: unit.at,
+            header: unit.header,
+            unit_type: unit.header.kind.unit_type(self.decl(first).tag),
+            first,
+        }
+    }
+
+    /// The attributes of an entry in their order, each value decoded when it is asked.
+    pub fn values(&self, id: EntryId) -> Values<'_, 'a>
+        requires { id < length (entries_of (units_of self.now.scanned)) }
+        ensures { IfSome (slice_get (entries_of (units_of self.now.scanned)) id) (λ e. values_left result ≡ values_of e.head) }
+    {
+        let header = self.header_of(id);
+        Values {
+            specs: &self.decl(id).attributes,
+            bytes: self.value_bytes(id),
+            version: header.kind.version(),
+            address_size: header.address_size,
+        }
+    }
+
+    /// The value of an entry's attribute, if it has that attribute.
+    pub fn value(&self, id: EntryId, attribute: Attribute) -> Option<Value<'a>>
+        requires { id < length (entries_of (units_of self.now.scanned)) }
+        ensures { IfSome (slice_get (entries_of (units_of self.now.scanned)) id) (λ e. option_map view result ≡ value_at_entry e attribute) }
+    {
+        for (code, value) in self.values(id) {
+            if code == attribute {
+                return Some(value);
+            }
+        }
+        None
+    }
+}

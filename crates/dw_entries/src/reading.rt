@@ -1,0 +1,207 @@
+//! One item of a unit, read from the left.
+
+ghost use Rattle.std.specs.Prelude.{◌≡◌, Some, option_map, IfSome};
+ghost use Rattle.dw_forms.specs.Abbrev.{view};
+ghost use Rattle.dw_entries.specs.Grammar.{declared_in, place_in};
+ghost use Rattle.dw_entries.specs.Items.{decl_of};
+ghost use Rattle.dw_entries.specs.Reading.{Gives, seen, after, code_at, value_rule as rule_of_value, attribute_at, attributes_at, item_at, first_at};
+ghost use Rattle.dw_entries.specs.Token.{declared_view, token_decl};
+ghost use Rattle.dw_entries.specs.Units.{context_in};
+
+use crate::context::UnitContext;
+use crate::fault::Failing;
+use crate::header::HeaderKind;
+use crate::rule::Rule;
+use dw_forms::{Attribute, AttributeSpec, Decl, NumberFault, ValueFault, read_uleb, skip_value};
+
+/// A declaration, and its place in its table.
+#[derive(Clone, Copy)]
+pub struct Declared<'a> {
+    pub place: u32,
+    pub decl: &'a Decl,
+}
+
+/// An item: a null, or an entry of this declaration.
+#[derive(Clone, Copy)]
+pub enum Token<'a> {
+    Null,
+    Entry(Declared<'a>),
+}
+
+impl From<NumberFault> for Failing {
+    ghost use Rattle.dw_entries.specs.Reading.{number_rule};
+
+    ghost from_gives = { λ f e. e ≡ record { rule = number_rule f; attribute = 0 } };
+
+    fn from(fault: NumberFault) -> Failing {
+        let rule = match fault {
+            NumberFault::Cut => Rule::Cut,
+            NumberFault::BadNumber => Rule::BadNumber,
+        };
+        Failing { rule, attribute: 0 }
+    }
+}
+
+/// The rule that the fault of a value breaks.
+fn value_rule(fault: ValueFault) -> Rule
+    ensures { result ≡ rule_of_value fault }
+{
+    match fault {
+        ValueFault::Cut => Rule::Cut,
+        ValueFault::BadNumber => Rule::BadNumber,
+        ValueFault::BadIndirect => Rule::BadIndirect,
+    }
+}
+
+/// The code at the front, and the bytes behind it.
+#[inline]
+#[tactic(auto, unfolding(crate::specs::Reading::code_at))]
+pub fn read_code(bytes: &[u8]) -> Result<(u64, &[u8]), Failing>
+    ensures { Gives (λ x. (x.0, x.1.now)) result (seen (λ c. c.number) (code_at bytes.now)) }
+{
+    let (number, len) = read_uleb(bytes)?;
+    Ok((number, &bytes[len..]))
+}
+
+/// The number of an attribute.
+fn code_of(attribute: Attribute) -> u16
+    ensures { result ≡ attribute }
+{
+    attribute.0
+}
+
+/// The bytes behind the value of an attribute.
+#[tactic(auto, unfolding(crate::specs::Reading::attribute_at))]
+fn skip_attribute<'b>(
+    context: UnitContext<'_>,
+    spec: AttributeSpec,
+    bytes: &'b [u8],
+) -> Result<&'b [u8], Failing>
+    ensures { Gives (λ rest. rest.now) result
+        (after (attribute_at (context_in context.entry) spec bytes.now)) }
+{
+    if !spec.form.allowed(context.version) {
+        return Err(Failing {
+            rule: Rule::FormVersion,
+            attribute: code_of(spec.attribute),
+        });
+    }
+    match skip_value(context.version, spec.form, context.address_size, bytes) {
+        Ok(len) => Ok(&bytes[len..]),
+        Err(fault) => Err(Failing {
+            rule: value_rule(fault),
+            attribute: code_of(spec.attribute),
+        }),
+    }
+}
+
+/// The bytes behind the values of these attributes, one after another.
+fn skip_each<'b>(
+    context: UnitContext<'_>,
+    specs: &[AttributeSpec],
+    bytes: &'b [u8],
+) -> Result<&'b [u8], Failing>
+    ensures { Gives (λ rest. rest.now) result
+        (after (attributes_at (context_in context.entry) specs.now bytes.now)) }
+{
+    let mut rest = bytes;
+    for spec in specs {
+        rest = skip_attribute(context, *spec, rest)?;
+    }
+    Ok(rest)
+}
+
+/// The bytes behind the values of an entry. Values that have one size each are skipped together.
+#[inline]
+fn skip_attributes<'b>(
+    context: UnitContext<'_>,
+    decl: &Decl,
+    bytes: &'b [u8],
+) -> Result<&'b [u8], Failing>
+    ensures { Gives (λ rest. rest.now) result
+        (after (attributes_at (context_in context.entry) decl.now.attributes.items bytes.now)) }
+{
+    match decl.fixed_size(context.version, context.address_size) {
+        Some(size) if size <= bytes.len() => Ok(&bytes[size..]),
+        _ => skip_each(context, &decl.attributes, bytes),
+    }
+}
+
+/// The declaration with this code.
+fn find_decl(context: UnitContext<'_>, code: u64) -> Option<Declared<'_>>
+    ensures decl { option_map (λ d. view d.decl.now) result ≡ declared_in context.entry.table.now code }
+    ensures place { IfSome result
+        (λ d. d.place ≡ place_in context.entry.table.now (view d.decl.now).code) }
+{
+    match context.table.place(code) {
+        None => None,
+        Some(place) => Some(Declared {
+            place: place as u32,
+            decl: context.table.decl(place),
+        }),
+    }
+}
+
+/// The item at the front, and the bytes behind it.
+#[tactic(auto, unfolding(crate::specs::Reading::item_at, crate::specs::Reading::entry_at))]
+pub fn read_item<'a, 'b>(
+    context: UnitContext<'a>,
+    bytes: &'b [u8],
+) -> Result<(Token<'a>, &'b [u8]), Failing>
+    ensures { Gives (λ x. (token_decl x.0, x.1.now)) result
+        (seen (decl_of context.entry.table.now) (item_at (context_in context.entry) bytes.now)) }
+{
+    let (code, rest) = read_code(bytes)?;
+    if code == 0 {
+        return Ok((Token::Null, rest));
+    }
+    match find_decl(context, code) {
+        None => Err(Failing {
+            rule: Rule::UndeclaredCode,
+            attribute: 0,
+        }),
+        Some(declared) => {
+            let rest = skip_attributes(context, declared.decl, rest)?;
+            Ok((Token::Entry(declared), rest))
+        }
+    }
+}
+
+/// The first entry of a unit, and the bytes behind it.
+#[tactic(auto, unfolding(crate::specs::Reading::first_at, crate::specs::Reading::entry_at))]
+pub fn read_first<'a, 'b>(
+    context: UnitContext<'a>,
+    kind: HeaderKind,
+    bytes: &'b [u8],
+) -> Result<(Declared<'a>, &'b [u8]), Failing>
+    ensures { Gives (λ x. (Some (declared_view x.0), x.1.now)) result
+        (seen (decl_of context.entry.table.now) (first_at (context_in context.entry) kind bytes.now)) }
+{
+    let missing = Failing {
+        rule: Rule::NoUnitEntry,
+        attribute: 0,
+    };
+    if bytes.is_empty() {
+        return Err(missing);
+    }
+    let (code, rest) = read_code(bytes)?;
+    if code == 0 {
+        return Err(missing);
+    }
+    match find_decl(context, code) {
+        None => Err(Failing {
+            rule: Rule::UndeclaredCode,
+            attribute: 0,
+        }),
+        Some(declared) => {
+            if !kind.fits(declared.decl.tag) {
+                return Err(Failing {
+                    rule: Rule::WrongUnitTag,
+                    attribute: 0,
+                });
+            }
+            let rest = skip_attributes(context, declared.decl, rest)?;
+            Ok((declared, rest))
+        }
+    }
+}

@@ -1,0 +1,67 @@
+//! One unit: its header, its table, its tree and nulls.
+
+ghost use Rattle.std.specs.Prelude.{◌≡◌, ◌+◌, ◌≤◌, length, IfOk, IfErr};
+ghost use Rattle.dw_elf.specs.declared.TheConstants.{SECTION_LIMIT};
+ghost use Rattle.dw_entries.specs.Faults.{in_header, FailsHere};
+ghost use Rattle.dw_entries.specs.Stopped.{IfBroken, UnitTaken};
+ghost use Rattle.dw_entries.specs.Tables.{AreTables};
+
+use crate::context::UnitContext;
+use crate::fault::{Break, Broken, Section};
+use crate::header_reader::read_header;
+use crate::record::{Kept, UnitRecord};
+use crate::rule::Rule;
+use crate::walk::{UnitPlace, walk_unit};
+use std::alloc::Global;
+
+/// The fault of a header at this offset.
+fn in_header(rule: Rule, at: u32) -> Broken
+    ensures { result ≡ in_header rule at }
+{
+    Broken {
+        rule,
+        section: Section::Info,
+        at,
+        attribute: 0,
+    }
+}
+
+/// Takes the unit at the front of the rest of .debug_info, which is at `at`, and says how long it is.
+pub fn take_unit(
+    alloc: Global,
+    section: &[u8],
+    rest: &[u8],
+    at: usize,
+    kept: &mut Kept,
+) -> Result<usize, Break>
+    requires fits { at + length rest.now ≤ SECTION_LIMIT }
+    requires table_fits { length section.now ≤ SECTION_LIMIT }
+    requires tables { AreTables section.now kept.old.tables }
+    requires few_tables { length kept.old.tables.kept.items ≤ at }
+    requires few_entries { length kept.old.records.items ≤ at }
+    requires few_units { length kept.old.units.items ≤ at }
+    ensures unit { IfOk result (λ len. UnitTaken section.now rest.now at kept.old kept.new len) }
+    ensures fault { IfErr result (IfBroken (FailsHere section.now at rest.now)) }
+{
+    let at = at as u32;
+    let (header, body) = match read_header(section.len(), rest) {
+        Ok(found) => found,
+        Err(rule) => return Err(Break::Broken(in_header(rule, at))),
+    };
+    let table = kept.tables.place(alloc, section, header.abbrev_offset)?;
+    let record = UnitRecord {
+        at,
+        header,
+        table,
+        first: kept.records.len() as u32,
+    };
+    let place = UnitPlace {
+        number: kept.units.len() as u32,
+        header: at,
+        start: at + header.kind.size() as u32,
+    };
+    let context = UnitContext::new(&header, kept.tables.get(table));
+    walk_unit(alloc, context, header.kind, place, body, &mut kept.records)?;
+    kept.units.push(record)?;
+    Ok(4 + header.unit_length as usize)
+}

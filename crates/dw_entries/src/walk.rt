@@ -1,0 +1,179 @@
+//! One unit's tree and nulls, in one pass over its items.
+
+ghost use Rattle.std.specs.Prelude.{◌≡◌, ◌+◌, ◌^◌, ◌<◌, ◌≤◌, [], length, Ok, false, IfSome, IfNone, IfOk, OnOk, IfErr};
+ghost use Rattle.dw_elf.specs.declared.TheConstants.{SECTION_LIMIT};
+ghost use Rattle.dw_entries.specs.Header.{header_size};
+ghost use Rattle.dw_entries.specs.Reading.{code_at, item_at, seen, null_first};
+ghost use Rattle.dw_entries.specs.Faults.{BodyFails, in_unit};
+ghost use Rattle.dw_entries.specs.Walk.{step, walk_of};
+ghost use Rattle.dw_entries.specs.Stopped.{GivesUnlessMemory, IfBroken, TreeOf, AreAllNulls, NullsThen};
+ghost use Rattle.dw_entries.specs.Units.{context_in};
+
+use crate::context::UnitContext;
+use crate::fault::{Break, Broken, Failing, Section};
+use crate::header::HeaderKind;
+use crate::reading::{Token, read_code, read_first, read_item};
+use crate::record::{Level, Record, enter};
+use crate::rule::Rule;
+use std::alloc::{AllocError, Global};
+
+/// Why an item is not taken.
+#[derive(Debug, Drop)]
+pub enum Halt {
+    Memory,
+    Failing(Failing),
+}
+
+impl From<AllocError> for Halt {
+    ghost use Rattle.dw_entries.specs.declared.walk.Halt.TheVariants.{Memory};
+
+    ghost from_gives = { λ _ e. e ≡ Memory };
+
+    fn from(_e: AllocError) -> Halt {
+        Halt::Memory
+    }
+}
+
+/// The fault of an item at this offset, in the unit of this header. A missing first entry stands at the header.
+fn broken_at(failing: Failing, header: u32, at: u32) -> Broken
+    ensures { result ≡ in_unit failing header at }
+{
+    let at = match failing.rule {
+        Rule::NoUnitEntry => header,
+        _ => at,
+    };
+    Broken {
+        rule: failing.rule,
+        section: Section::Info,
+        at,
+        attribute: failing.attribute,
+    }
+}
+
+/// Takes one more item, which is at `at`.
+fn turn<'b>(
+    context: UnitContext<'_>,
+    rest: &'b [u8],
+    unit: u32,
+    at: u32,
+    records: &mut Vec<Record>,
+    levels: &mut Vec<Level>,
+) -> Result<&'b [u8], Halt>
+    requires few_entries { length records.old.items < 0xffffffff }
+    requires few_levels { length levels.old.items < 2 ^ 32 }
+    ensures { GivesUnlessMemory (λ after. (walk_of records.new.items levels.new.items, after.now)) result
+        (seen (λ i. step context.entry.table.now unit at i (walk_of records.old.items levels.old.items))
+        (item_at (context_in context.entry) rest.now)) }
+{
+    match read_item(context, rest) {
+        Err(failing) => Err(Halt::Failing(failing)),
+        Ok((token, after)) => {
+            match token {
+                Token::Null => {
+                    levels.pop();
+                }
+                Token::Entry(declared) => enter(records, levels, unit, at, declared)?,
+            }
+            Ok(after)
+        }
+    }
+}
+
+/// Where a unit is: its number, the offset of its header, and that of the bytes behind the header.
+#[derive(Clone, Copy)]
+pub struct UnitPlace {
+    pub number: u32,
+    pub header: u32,
+    pub start: u32,
+}
+
+/// Takes the tree at the front of a unit's body, and answers the bytes behind it.
+fn walk_tree<'b>(
+    alloc: Global,
+    context: UnitContext<'_>,
+    kind: HeaderKind,
+    place: UnitPlace,
+    body: &'b [u8],
+    records: &mut Vec<Record>,
+) -> Result<&'b [u8], Break>
+    requires start { place.start ≡ place.header + header_size kind }
+    requires fits { place.start + length body.now ≤ SECTION_LIMIT }
+    requires few_entries { length records.old.items ≤ place.header }
+    ensures tree { IfOk result (λ rest. TreeOf (context_in context.entry) kind body.now rest.now
+        place.number place.start records.old.items records.new.items) }
+    ensures fault { IfErr result (IfBroken (BodyFails (context_in context.entry) kind place.header body.now)) }
+{
+    let mut levels: Vec<Level> = Vec::new(alloc);
+    let (declared, mut rest) = match read_first(context, kind, body) {
+        Ok(found) => found,
+        Err(failing) => {
+            return Err(Break::Broken(broken_at(failing, place.header, place.start)));
+        }
+    };
+    enter(records, &mut levels, place.number, place.start, declared)?;
+    while !levels.is_empty() {
+        let at = place.start + (body.len() - rest.len()) as u32;
+        rest = match turn(context, rest, place.number, at, records, &mut levels) {
+            Ok(after) => after,
+            Err(Halt::Memory) => return Err(Break::Memory),
+            Err(Halt::Failing(failing)) => {
+                return Err(Break::Broken(broken_at(failing, place.header, at)));
+            }
+        };
+    }
+    Ok(rest)
+}
+
+/// The bytes after a null, if one stands here.
+fn skip_null(rest: &[u8]) -> Option<&[u8]>
+    ensures null { IfSome result (λ after. seen (λ c. c.number) (code_at rest.now) ≡ Ok (0, after.now)) }
+    ensures other { IfNone result (null_first (code_at rest.now) ≡ false) }
+{
+    match read_code(rest) {
+        Ok((code, after)) => { if code == 0 { Some(after) } else { None } }
+        Err(_) => None,
+    }
+}
+
+/// The bytes from the first item on that is no null, if there is one.
+fn behind_nulls(bytes: &[u8]) -> Option<&[u8]>
+    ensures left { IfSome result (λ left. NullsThen bytes.now left.now) }
+    ensures none { IfNone result (AreAllNulls bytes.now) }
+{
+    let mut rest = bytes;
+    while !rest.is_empty() {
+        match skip_null(rest) {
+            Some(after) => rest = after,
+            None => return Some(rest),
+        }
+    }
+    None
+}
+
+/// The entries of the unit's tree go to the end of the records. The body has nothing else than nulls behind it.
+pub fn walk_unit(
+    alloc: Global,
+    context: UnitContext<'_>,
+    kind: HeaderKind,
+    place: UnitPlace,
+    body: &[u8],
+    records: &mut Vec<Record>,
+) -> Result<(), Break>
+    requires start { place.start ≡ place.header + header_size kind }
+    requires fits { place.start + length body.now ≤ SECTION_LIMIT }
+    requires few_entries { length records.old.items ≤ place.header }
+    ensures tree { OnOk result (TreeOf (context_in context.entry) kind body.now []
+        place.number place.start records.old.items records.new.items) }
+    ensures fault { IfErr result (IfBroken (BodyFails (context_in context.entry) kind place.header body.now)) }
+{
+    let rest = walk_tree(alloc, context, kind, place, body, records)?;
+    match behind_nulls(rest) {
+        None => Ok(()),
+        Some(left) => Err(Break::Broken(Broken {
+            rule: Rule::LeftOver,
+            section: Section::Info,
+            at: place.start + (body.len() - left.len()) as u32,
+            attribute: 0,
+        })),
+    }
+}
