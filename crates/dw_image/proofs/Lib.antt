@@ -1,0 +1,4 @@
+pub mod JoinLemmas
+pub mod ChildLemmas
+pub mod LookupLemmas
+pub mod CountLemmas

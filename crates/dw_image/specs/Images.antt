@@ -1,0 +1,34 @@
+-- What an image is seen as: the sections that were verified, and the units that these spell, with their entries.
+use Rattle.std.specs.Prelude.{ℕ, List, length}
+use Rattle.std.specs.List.{count_by}
+use Rattle.dw_elf.specs.declared.sections.Sections.{Sections}
+use Rattle.dw_entries.specs.Units.{DebugUnit}
+use Rattle.dw_entries.specs.Entries.{Entry, entries_of}
+use Rattle.dw_entries.specs.Scanned.{units_of}
+use Rattle.dw_entries.specs.Views.{sections_of}
+use Rattle.dw_image.specs.declared.image.Image.{Image}
+use Rattle.dw_image.specs.Lookups.{is_type_entry}
+
+-- the sections that were verified
+unfoldable pub sections_in : Image → Sections
+sections_in i = sections_of i.entries
+
+-- the units of .debug_info, in order
+unfoldable pub units_in : Image → List DebugUnit
+units_in i = units_of i.entries.scanned
+
+-- the entries of the units, numbered from 0 in rising offset
+abbrev pub entries_in : Image → List Entry
+entries_in i = entries_of (units_in i)
+
+-- how many units there are
+abbrev pub unit_count : Image → ℕ
+unit_count i = length (units_in i)
+
+-- how many entries there are
+abbrev pub entry_count : Image → ℕ
+entry_count i = length (entries_in i)
+
+-- how many entries are types
+unfoldable pub type_count : Image → ℕ
+type_count i = count_by is_type_entry (entries_in i)

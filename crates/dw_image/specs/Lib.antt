@@ -1,0 +1,6 @@
+pub mod Lookups
+pub mod Images
+pub mod ChildrenLeft
+pub mod Valid
+pub mod First
+pub mod Headline

@@ -1,0 +1,82 @@
+//! The children of an entry, one by one.
+
+ghost use Rattle.std.specs.Prelude.{◌≡◌, ◌<◌, length, slice_get, IfSome};
+ghost use Rattle.dw_entries.specs.Entries.{entries_of};
+ghost use Rattle.dw_entries.specs.Scanned.{units_of};
+ghost use Rattle.dw_image.specs.Lookups.{is_number, children_of, siblings_from, IsLinked};
+
+use crate::image::Image;
+use dw_entries::{Entries, EntryId};
+
+/// The children of an entry that are left, in rising offset.
+#[derive(Drop)]
+pub struct Children<'i, 'a> {
+    entries: &'i Entries<'a>,
+    parent: EntryId,
+    next: Option<EntryId>,
+    ghost linked: { IsLinked (entries_of (units_of entries.now.scanned)) parent next },
+}
+
+impl<'i, 'a> Iterator for Children<'i, 'a> {
+    type Item = EntryId;
+
+    ghost use Rattle.std.specs.Iterator.{YieldsFirst, item_count};
+    ghost use Rattle.dw_image.specs.ChildrenLeft.{children_left};
+
+    ghost next_gives = { YieldsFirst children_left };
+
+    ghost remaining = { item_count children_left };
+
+    fn next(&mut self) -> Option<EntryId> {
+        let id = self.next?;
+        self.next = self.entries.head(id).next_sibling;
+        Some(id)
+    }
+}
+
+/// Whether an entry is a child of another.
+fn is_child(entries: &Entries<'_>, id: EntryId, parent: EntryId) -> bool
+    requires { id < length (entries_of (units_of entries.now.scanned)) }
+    ensures { IfSome (slice_get (entries_of (units_of entries.now.scanned)) id) (λ e. result ≡ is_number parent e.parent) }
+{
+    match entries.head(id).parent {
+        Some(above) => above == parent,
+        None => false,
+    }
+}
+
+/// The first child of an entry: the entry behind it, if that is a child.
+fn first_child(entries: &Entries<'_>, id: EntryId) -> Option<EntryId>
+    requires { id < length (entries_of (units_of entries.now.scanned)) }
+    ensures children { siblings_from (entries_of (units_of entries.now.scanned)) id result ≡ children_of (entries_of (units_of entries.now.scanned)) id }
+    ensures linked { IsLinked (entries_of (units_of entries.now.scanned)) id result }
+{
+    match entries.nth(id.number() + 1) {
+        Some(behind) => {
+            if is_child(entries, behind, id) {
+                Some(behind)
+            } else {
+                None
+            }
+        }
+        None => None,
+    }
+}
+
+impl<'a> Image<'a> {
+    ghost use Rattle.dw_image.specs.Images.{entries_in};
+    ghost use Rattle.dw_image.specs.ChildrenLeft.{children_left};
+
+    /// The children of an entry, in rising offset.
+    #[tactic(auto, unfolding(crate::specs::Images::units_in))]
+    pub fn children(&self, id: EntryId) -> Children<'_, 'a>
+        requires { id < length (entries_in self.now) }
+        ensures { children_left result ≡ children_of (entries_in self.now) id }
+    {
+        Children {
+            entries: &self.entries,
+            parent: id,
+            next: first_child(&self.entries, id),
+        }
+    }
+}

@@ -1,0 +1,56 @@
+//! The image of valid sections, and how much it holds.
+
+ghost use Rattle.std.specs.Prelude.{◌≡◌, ◌<◌, length, slice_get, IfSome};
+ghost use Rattle.dw_entries.specs.Entries.{entries_of};
+ghost use Rattle.dw_entries.specs.Scanned.{units_of};
+ghost use Rattle.dw_image.specs.Lookups.{is_type_entry};
+
+use dw_entries::Entries;
+
+/// The image of valid sections. Only `verify` makes one.
+#[derive(Drop)]
+pub struct Image<'a> {
+    pub(crate) entries: Entries<'a>,
+}
+
+/// Whether the entry with this number is a type.
+fn is_type(entries: &Entries<'_>, k: usize) -> bool
+    requires { k < length (entries_of (units_of entries.now.scanned)) }
+    ensures { IfSome (slice_get (entries_of (units_of entries.now.scanned)) k) (λ e. result ≡ is_type_entry e) }
+{
+    match entries.nth(k) {
+        Some(id) => entries.head(id).tag.is_type(),
+        None => false,
+    }
+}
+
+impl<'a> Image<'a> {
+    ghost use Rattle.dw_image.specs.Images.{unit_count, entry_count, type_count};
+
+    /// How many units there are.
+    #[tactic(auto, unfolding(crate::specs::Images::units_in))]
+    pub fn units(&self) -> usize
+        ensures { result ≡ unit_count self.now }
+    {
+        self.entries.unit_count()
+    }
+
+    /// How many entries there are.
+    #[tactic(auto, unfolding(crate::specs::Images::units_in))]
+    pub fn entries(&self) -> usize
+        ensures { result ≡ entry_count self.now }
+    {
+        self.entries.count()
+    }
+
+    /// How many entries are types, by their tags.
+    pub fn types(&self) -> usize
+        ensures { result ≡ type_count self.now }
+    {
+        let mut count = 0;
+        for k in 0..self.entries.count() {
+            count += usize::from(is_type(&self.entries, k));
+        }
+        count
+    }
+}

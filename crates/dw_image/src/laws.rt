@@ -1,0 +1,23 @@
+//! What holds of all sections.
+
+ghost use Rattle.std.specs.Prelude.{◌≡◌, List};
+ghost use Rattle.dw_elf.specs.declared.sections.Sections.{Sections};
+ghost use Rattle.dw_entries.specs.declared.fault.Fault.{Fault};
+ghost use Rattle.dw_entries.specs.Units.{DebugUnit};
+ghost use Rattle.dw_image.specs.Valid.{SpellsInfo, IsValid};
+ghost use Rattle.dw_image.specs.First.{IsFirstFault, IsOneFault};
+
+/// Two lists of units that spell the same sections are one.
+pub fn one_list()
+    ensures { (s : Sections) (units others : List DebugUnit) → SpellsInfo s units → SpellsInfo s others → units ≡ others }
+{}
+
+/// Sections are never both valid and faulty.
+pub fn valid_has_no_fault()
+    ensures { (s : Sections) (fault : Fault) → IsValid s → IsFirstFault s fault → ⊥ }
+{}
+
+/// There is one first fault at most, where several cycles count as one.
+pub fn one_first_fault()
+    ensures { (s : Sections) (fault other : Fault) → IsFirstFault s fault → IsFirstFault s other → IsOneFault fault other }
+{}

@@ -1,0 +1,17 @@
+//! The verifier: what sections are found to be, and look-ups in those that are sound.
+#![tactic(auto)]
+
+mod children;
+mod image;
+mod laws;
+mod lookup;
+mod verifying;
+
+pub use children::Children;
+pub use dw_entries::{EntryId, Fault, Head, Rule, Section};
+pub use image::Image;
+pub use laws::{one_first_fault, one_list, valid_has_no_fault};
+pub use verifying::{NoMemory, Verdict, verify};
+
+#[cfg(test)]
+mod tests;

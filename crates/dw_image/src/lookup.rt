@@ -1,0 +1,48 @@
+//! Look-ups of entries in an image.
+
+ghost use Rattle.std.specs.Prelude.{◌≡◌, ◌<◌, length, slice_get, IfSome, option_map};
+ghost use Rattle.dw_forms.specs.Value.{view};
+ghost use Rattle.dw_entries.specs.Lookups.{nth_of, entry_head, value_at_entry};
+ghost use Rattle.dw_image.specs.Images.{entries_in};
+ghost use Rattle.dw_image.specs.Lookups.{entry_at};
+
+use crate::image::Image;
+use dw_entries::{Attribute, EntryId, Head, Value};
+
+impl<'a> Image<'a> {
+    /// The entry that starts at this offset of .debug_info.
+    #[tactic(auto, unfolding(crate::specs::Images::units_in))]
+    pub fn entry(&self, offset: u32) -> Option<EntryId>
+        ensures exact { result ≡ entry_at (entries_in self.now) offset }
+        ensures within { IfSome result (λ id. id < length (entries_in self.now)) }
+    {
+        self.entries.find(offset)
+    }
+
+    /// The entry with this number. Entries are numbered from 0 in rising offset.
+    #[tactic(auto, unfolding(crate::specs::Images::units_in))]
+    pub fn nth(&self, k: usize) -> Option<EntryId>
+        ensures exact { result ≡ nth_of (entries_in self.now) k }
+        ensures within { IfSome result (λ id. id < length (entries_in self.now)) }
+    {
+        self.entries.nth(k)
+    }
+
+    /// What is told of an entry besides its attributes.
+    #[tactic(auto, unfolding(crate::specs::Images::units_in))]
+    pub fn head(&self, id: EntryId) -> Head
+        requires { id < length (entries_in self.now) }
+        ensures { IfSome (slice_get (entries_in self.now) id) (λ e. result ≡ entry_head e) }
+    {
+        self.entries.head(id)
+    }
+
+    /// The value of an entry's attribute, if it has that attribute.
+    #[tactic(auto, unfolding(crate::specs::Images::units_in))]
+    pub fn value(&self, id: EntryId, attribute: Attribute) -> Option<Value<'a>>
+        requires { id < length (entries_in self.now) }
+        ensures { IfSome (slice_get (entries_in self.now) id) (λ e. option_map view result ≡ value_at_entry e attribute) }
+    {
+        self.entries.value(id, attribute)
+    }
+}

@@ -1,0 +1,48 @@
+//! The verdict on six sections: the groups of rules in their order.
+
+ghost use Rattle.std.specs.Prelude.{IfOk, IfErr};
+ghost use Rattle.dw_image.specs.Headline.{IsImageOf, IsFaultOf, IsVerdictOf, IfFaulty};
+
+use crate::image::Image;
+use dw_elf::Sections;
+use dw_entries::{Fault, Stop, scan};
+use std::alloc::{AllocError, Global};
+
+/// A growth was refused.
+#[derive(Clone, Copy, Debug, PartialEq, Eq)]
+pub struct NoMemory;
+
+impl From<AllocError> for NoMemory {
+    fn from(_error: AllocError) -> NoMemory {
+        NoMemory
+    }
+}
+
+/// What sections are found to be.
+#[derive(Drop)]
+pub enum Verdict<'a> {
+    /// They are valid.
+    Sound(Image<'a>),
+    /// They are not: the first rule that fails, and where.
+    Fault(Fault),
+}
+
+/// Asks the groups of rules in their order.
+fn image_of<'a>(alloc: Global, sections: Sections<'a>) -> Result<Image<'a>, Stop>
+    ensures sound { IfOk result (IsImageOf sections.entry) }
+    ensures fault { IfErr result (IfFaulty (IsFaultOf sections.entry)) }
+{
+    let entries = scan(alloc, &sections)?;
+    Ok(Image { entries })
+}
+
+/// Whether the sections are valid: their image, or the first fault.
+pub fn verify<'a>(alloc: Global, sections: Sections<'a>) -> Result<Verdict<'a>, NoMemory>
+    ensures { IfOk result (IsVerdictOf sections.entry) }
+{
+    match image_of(alloc, sections) {
+        Ok(image) => Ok(Verdict::Sound(image)),
+        Err(Stop::Fault(fault)) => Ok(Verdict::Fault(fault)),
+        Err(Stop::Memory) => Err(NoMemory),
+    }
+}
