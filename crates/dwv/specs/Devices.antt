@@ -1,0 +1,18 @@
+-- What the calls of a device tell: which bytes were given, and how many calls failed.
+use Rattle.std.specs.Prelude.{ℕ, ◌+◌, ◌==◌, ◌&&◌, nat_lt, if◌then◌else◌, Result, Ok, Err, Option, None, Some, List, length, take}
+use Rattle.std.specs.Io.KnownBytes.{Consumes}
+
+-- the count after a read: one more at an error
+abbrev pub after_read : {E : Type 0} → ℕ → Result ℕ E → ℕ
+after_read count (Ok n) = count
+after_read count (Err e) = count + 1
+
+-- the count after a write: one more at an error, and where no byte was taken of some
+abbrev pub after_write : {E : Type 0} → ℕ → Result ℕ E → List ℕ → ℕ
+after_write count (Ok n) bytes = if n == 0 && nat_lt 0 (length bytes) then count + 1 else count
+after_write count (Err e) bytes = count + 1
+
+-- a reader whose known bytes were `old` and are `new` has given them up to their end or one past the limit
+abbrev pub TakesInput : ℕ → Option (List ℕ) → Option (List ℕ) → Type 0
+TakesInput limit None new = Unit {0}
+TakesInput limit (Some input) new = Consumes (Some input) new (take (limit + 1) input)

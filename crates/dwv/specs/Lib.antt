@@ -1,0 +1,6 @@
+pub mod Devices
+pub mod Digits
+pub mod Lines
+pub mod Objects
+pub mod Reports
+pub mod Ending

@@ -1,0 +1,55 @@
+-- The report of a request over the bytes of a file.
+use Rattle.std.specs.Prelude.{ℕ, ◌<◌, ◌≤◌, true, false, List, length, take, Option}
+use Rattle.std.specs.Io.KnownBytes.{Appends}
+use Rattle.dw_elf.specs.declared.fault.ElfRule.TheVariants as elf_rules
+use Rattle.dw_elf.specs.declared.fault.ElfFault.{ElfFault}
+use Rattle.dw_elf.specs.declared.sections.Sections.{Sections}
+use Rattle.dw_elf.specs.Checks.{ChecksPass}
+use Rattle.dw_elf.specs.Rules.{IsFault}
+use Rattle.dw_elf.specs.Sections.{AreSections}
+use Rattle.dw_entries.specs.declared.fault.Fault.{Fault as FirstFault}
+use Rattle.dw_image.specs.declared.image.Image.{Image}
+use Rattle.dw_image.specs.Headline.{IsImageOf, IsFaultOf}
+use Rattle.dw_image.specs.Images.{unit_count, entry_count, type_count}
+use Rattle.dwv.specs.Lines.{sound_line, elf_fault_line, fault_lines}
+use Rattle.dwv.specs.Objects.{sound_object, fault_object, elf_fault_object, object_line}
+use Rattle.dwv.specs.declared.request.Request.{Request}
+use Rattle.dwv.specs.declared.request.Request.TheVariants.{Check}
+use Rattle.dwv.specs.declared.request.Status.{Status}
+use Rattle.dwv.specs.declared.request.Status.TheVariants.{Sound, Fault}
+
+-- a fault of the file: an object in JSON where it is asked, else a line
+abbrev pub elf_fault_text : Request → ElfFault → List ℕ
+elf_fault_text (Check true) f = object_line (elf_fault_object f)
+elf_fault_text (Check false) f = elf_fault_line f
+
+-- a fault of the sections
+abbrev pub fault_text : Request → FirstFault → List ℕ
+fault_text (Check true) f = object_line (fault_object f)
+fault_text (Check false) f = fault_lines f
+
+-- what is written where the sections are sound
+abbrev pub sound_text : Request → Image → List ℕ
+sound_text (Check true) i = object_line (sound_object (unit_count i) (entry_count i) (type_count i))
+sound_text (Check false) i = sound_line (unit_count i) (entry_count i) (type_count i)
+
+-- a file that is not within the limit
+abbrev pub too_large : ElfFault
+too_large = record { rule = elf_rules.TooLarge; section = 0 }
+
+-- what is answered and written for these bytes of a file, where a file has at most `limit` of them:
+-- the fault of a longer file, the first check of the file that fails, the first fault of its sections, or what is asked of sound ones
+pub data Report (limit : ℕ) (request : Request) (bytes : List ℕ) : Status → List ℕ → Type 0 where
+  large : limit < length bytes → Report limit request bytes Fault (elf_fault_text request too_large)
+  fails : (f : ElfFault) → length bytes ≤ limit → IsFault bytes f → Report limit request bytes Fault (elf_fault_text request f)
+  fault : (s : Sections) (f : FirstFault) → length bytes ≤ limit → ChecksPass bytes → AreSections bytes s → IsFaultOf s f → Report limit request bytes Fault (fault_text request f)
+  sound : (s : Sections) (i : Image) → length bytes ≤ limit → ChecksPass bytes → AreSections bytes s → IsImageOf s i → Report limit request bytes Sound (sound_text request i)
+
+-- a writer whose known bytes were `old` and are `new` has taken the report of these bytes
+abbrev pub WritesReport : ℕ → Request → List ℕ → Status → Option (List ℕ) → Option (List ℕ) → Type 0
+WritesReport limit request input status old new = (text : List ℕ) × Report limit request input status text × Appends old new text
+
+-- it has taken a beginning of the report
+abbrev pub WritesBeginning : ℕ → Request → List ℕ → Option (List ℕ) → Option (List ℕ) → Type 0
+WritesBeginning limit request input old new =
+    (status : Status) × (text : List ℕ) × (n : ℕ) × Report limit request input status text × Appends old new (take n text)

@@ -1,0 +1,94 @@
+//! Which text answers a request over the bytes of a file.
+
+ghost use Rattle.std.specs.Prelude.{◌≡◌, IfOk};
+ghost use Rattle.dwv.specs.Reports.{fault_text, elf_fault_text, sound_text, Report};
+
+use crate::json::{put_elf_fault_object, put_fault_object, put_sound_object};
+use crate::lines::{put_elf_fault_line, put_fault_lines, put_sound_line};
+use crate::request::{Request, Status};
+use dw_elf::{ElfFault, ElfRule, find};
+use dw_image::{Fault, Image, NoMemory, Verdict, verify};
+use std::alloc::{AllocError, Global};
+
+/// What a request is answered, and the text that is written for it.
+#[derive(Drop)]
+pub struct Answer {
+    pub status: Status,
+    pub text: Vec<u8>,
+}
+
+/// What is written for a fault of the file.
+fn elf_fault_of(alloc: Global, request: Request, fault: ElfFault) -> Result<Vec<u8>, AllocError>
+    ensures { IfOk result (λ text. text.items ≡ elf_fault_text request fault) }
+{
+    let mut text = Vec::new(alloc);
+    match request {
+        Request::Check { json: true } => put_elf_fault_object(&mut text, alloc, fault)?,
+        Request::Check { json: false } => put_elf_fault_line(&mut text, fault)?,
+    }
+    Ok(text)
+}
+
+/// What is written for a fault of the sections.
+fn fault_of(alloc: Global, request: Request, fault: &Fault) -> Result<Vec<u8>, AllocError>
+    ensures { IfOk result (λ text. text.items ≡ fault_text request fault.now) }
+{
+    let mut text = Vec::new(alloc);
+    match request {
+        Request::Check { json: true } => put_fault_object(&mut text, alloc, fault)?,
+        Request::Check { json: false } => put_fault_lines(&mut text, fault)?,
+    }
+    Ok(text)
+}
+
+/// What is written where the sections are sound.
+fn sound_of(alloc: Global, request: Request, image: &Image<'_>) -> Result<Vec<u8>, AllocError>
+    ensures { IfOk result (λ text. text.items ≡ sound_text request image.now) }
+{
+    let mut text = Vec::new(alloc);
+    match request {
+        Request::Check { json: true } => put_sound_object(&mut text, alloc, image)?,
+        Request::Check { json: false } => put_sound_line(&mut text, image)?,
+    }
+    Ok(text)
+}
+
+/// The answer to a request over the bytes of a file.
+pub fn report(
+    alloc: Global,
+    limit: usize,
+    request: Request,
+    bytes: &[u8],
+) -> Result<Answer, NoMemory>
+    ensures { IfOk result (λ answer. Report limit request bytes.now answer.status answer.text.items) }
+{
+    if bytes.len() > limit {
+        let fault = ElfFault {
+            rule: ElfRule::TooLarge,
+            section: 0,
+        };
+        let text = elf_fault_of(alloc, request, fault)?;
+        let status = Status::Fault;
+        return Ok(Answer { status, text });
+    }
+    let sections = match find(bytes) {
+        Ok(sections) => sections,
+        Err(fault) => {
+            let text = elf_fault_of(alloc, request, fault)?;
+            let status = Status::Fault;
+            return Ok(Answer { status, text });
+        }
+    };
+    match verify(alloc, sections)? {
+        Verdict::Fault(fault) => {
+            let text = fault_of(alloc, request, &fault)?;
+            let status = Status::Fault;
+            Ok(Answer { status, text })
+        }
+        Verdict::Sound(image) => {
+            let text = sound_of(alloc, request, &image)?;
+            let status = Status::Sound;
+            Ok(Answer { status, text })
+        }
+    }
+}

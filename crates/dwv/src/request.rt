@@ -1,0 +1,54 @@
+//! What the program is asked, and what it answers.
+
+ghost use Rattle.std.specs.Prelude.{◌≡◌};
+ghost use Rattle.dwv.specs.declared.request.RunFault.TheVariants.{Memory};
+
+use dw_image::NoMemory;
+use std::alloc::{AllocError, AllocFailed};
+use thiserror::Error;
+
+/// What is asked of a file.
+#[derive(Clone, Copy, Debug, PartialEq, Eq)]
+pub enum Request {
+    /// Whether the file is sound: a line, or an object in JSON.
+    Check { json: bool },
+}
+
+/// How an answered request ends.
+#[derive(Clone, Copy, Debug, PartialEq, Eq)]
+pub enum Status {
+    /// The file is sound.
+    Sound,
+    /// The file breaks a rule.
+    Fault,
+}
+
+/// Why a request is not answered.
+#[derive(Clone, Copy, Debug, PartialEq, Eq, Error)]
+pub enum RunFault {
+    /// A read answered an error; nothing was written.
+    #[error("reading failed")]
+    ReadFailed,
+    /// A write answered an error, or took no byte; a beginning of the text was written.
+    #[error("writing failed")]
+    WriteFailed,
+    /// A growth was refused; nothing was written.
+    #[error("out of memory")]
+    Memory,
+}
+
+impl From<AllocError> for RunFault {
+    ghost from_gives = { λ _ fault. fault ≡ Memory };
+
+    fn from(_error: AllocError) -> RunFault {
+        RunFault::Memory
+    }
+}
+
+impl From<NoMemory> for RunFault {
+    ghost from_gives = { λ _ fault. fault ≡ Memory };
+
+    fn from(_error: NoMemory) -> RunFault {
+        RunFault::Memory
+    }
+}
