@@ -1,14 +1,23 @@
 //! The values of entries: one of each form, in their order, and one by one.
 
+ghost use Rattle.std.specs.Prelude.{◌<◌, length};
+ghost use Rattle.dw_entries.specs.Entries.{entries_of};
+ghost use Rattle.dw_entries.specs.Scanned.{units_of};
+
 use super::build::{joined, unit};
 use super::scanned;
 use super::vectors::{A, B};
 use crate::constants::{DW_AT_byte_size, DW_AT_encoding, DW_AT_name};
-use crate::{Attribute, Value};
+use crate::{Attribute, Entries, EntryId, Value};
+use std::alloc::Global;
+use std::process::Abort;
 use std::test::Fail;
 
-/// A form, the spelling of a value in .debug_info, and the value. The forms stand in the order of their codes.
-const ROWS: [(&[u8], &[u8], Value<'static>); 38] = [
+/// A form, the spelling of a value in .debug_info, and the value.
+type Row = (&'static [u8], &'static [u8], Value<'static>);
+
+/// The forms in the order of their codes.
+const ROWS: [Row; 38] = [
     (
         &[0x01],
         &[1, 2, 3, 4, 5, 6, 7, 8],
@@ -61,45 +70,84 @@ const ROWS: [(&[u8], &[u8], Value<'static>); 38] = [
     (&[0x2c], &[2, 2, 2, 2], Value::AddrIndex(0x02020202)),
 ];
 
-// An entry with all of the rows, attribute 1 in the first, 2 in the second, and so on; then data16.
-#[test]
-fn each_form(rt: HostRuntime) -> Result<(), Fail> {
-    let mut table = Vec::new(rt.alloc());
-    let mut items = Vec::new(rt.alloc());
-    table.extend_from_slice(&[1, 0x11, 0])?;
-    items.push(1)?;
-    let mut attribute = 0u8;
-    for (form, bytes, _) in ROWS {
-        attribute += 1;
-        table.push(attribute)?;
-        table.extend_from_slice(form)?;
-        items.extend_from_slice(bytes)?;
+/// The attribute of a row, by its place among them.
+fn attribute_of(place: usize) -> Result<u8, Fail> {
+    match u8::try_from(place.saturating_add(1)) {
+        Ok(attribute) => Ok(attribute),
+        Err(_) => Err("too many rows".into()),
     }
-    table.extend_from_slice(&[0x7f, 0x1e, 0, 0, 0])?;
-    items.extend_from_slice(&[3; 16])?;
-    let info = unit(rt.alloc(), 0, &items)?;
-    let entries = scanned(rt, &table, &info)?;
-    let Some(id) = entries.find(0x0c) else {
+}
+
+/// The pairs of a declaration with these rows, attribute 1 in the first, 2 in the second, and so on.
+fn pairs(alloc: Global, rows: &[Row]) -> Result<Vec<u8>, Fail> {
+    let mut made = Vec::new(alloc);
+    for (place, row) in rows.iter().enumerate() {
+        made.push(attribute_of(place)?)?;
+        made.extend_from_slice(row.0)?;
+    }
+    Ok(made)
+}
+
+/// The spellings of the values of these rows.
+fn spellings(alloc: Global, rows: &[Row]) -> Result<Vec<u8>, Fail> {
+    let mut made = Vec::new(alloc);
+    for row in rows {
+        made.extend_from_slice(row.1)?;
+    }
+    Ok(made)
+}
+
+/// Asks the entry at an offset for the value of each row, and behind them for data16.
+fn has_each(rt: &impl Abort, entries: &Entries<'_>, offset: u32, rows: &[Row]) -> Result<(), Fail> {
+    let Some(id) = entries.find(offset) else {
         return Err("no entry".into());
     };
     let mut values = entries.values(id);
-    let mut attribute = 0u16;
-    for (_, _, want) in ROWS {
-        attribute += 1;
-        assert_eq!(rt; values.next(), Some((Attribute(attribute), want)));
-        assert_eq!(rt; entries.value(id, Attribute(attribute)), Some(want));
+    for (place, row) in rows.iter().enumerate() {
+        let attribute = Attribute(u16::from(attribute_of(place)?));
+        assert_eq!(rt; values.next(), Some((attribute, row.2)));
+        assert_eq!(rt; entries.value(id, attribute), Some(row.2));
     }
     assert_eq!(rt;
         values.next(),
         Some((Attribute(0x7f), Value::Wide(&[3; 16])))
     );
     assert_eq!(rt; values.next(), None);
-    assert_eq!(rt;
-        entries.value(id, Attribute(0x7f)),
-        Some(Value::Wide(&[3; 16]))
-    );
     assert_eq!(rt; entries.value(id, Attribute(0x80)), None);
     Ok(())
+}
+
+/// A table whose one declaration has these rows, and then data16.
+fn table_of(alloc: Global, rows: &[Row]) -> Result<Vec<u8>, Fail> {
+    let pairs = pairs(alloc, rows)?;
+    joined(alloc, &[&[1, 0x11, 0], &pairs, &[0x7f, 0x1e, 0, 0, 0]])
+}
+
+/// A unit whose one entry has the values of these rows, and then of data16.
+fn unit_of(alloc: Global, rows: &[Row]) -> Result<Vec<u8>, Fail> {
+    let spellings = spellings(alloc, rows)?;
+    let items = joined(alloc, &[&[1], &spellings, &[3; 16]])?;
+    unit(alloc, 0, &items)
+}
+
+// An entry with all of the rows, and then data16.
+#[test]
+fn each_form(rt: HostRuntime) -> Result<(), Fail> {
+    let table = table_of(rt.alloc(), &ROWS)?;
+    let info = unit_of(rt.alloc(), &ROWS)?;
+    let entries = scanned(rt, &table, &info)?;
+    has_each(&rt, &entries, 0x0c, &ROWS)
+}
+
+/// How many attributes an entry has, as far as 255.
+fn attribute_count(entries: &Entries<'_>, id: EntryId) -> u8
+    requires { id < length (entries_of (units_of entries.now.scanned)) }
+{
+    let mut count = 0u8;
+    for _ in entries.values(id) {
+        count = count.saturating_add(1);
+    }
+    count
 }
 
 // The values of the entries of two units with one table.
@@ -117,7 +165,7 @@ fn entries_apart(rt: HostRuntime) -> Result<(), Fail> {
             Some(Value::Unsigned(4))
         );
         assert_eq!(rt; entries.value(id, DW_AT_encoding), Some(Value::Unsigned(5)));
-        assert_eq!(rt; entries.values(id).count(), 3);
+        assert_eq!(rt; attribute_count(&entries, id), 3);
     }
     let Some(id) = entries.find(0x23) else {
         return Err("no entry".into());
