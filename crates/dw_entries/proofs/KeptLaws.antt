@@ -21,7 +21,7 @@ use Rattle.dw_entries.specs.ReadingLaws.{ok_pair}
 use Rattle.dw_entries.specs.Units.{DebugUnit, head_of}
 use Rattle.dw_entries.specs.Entries.{Entry, entries_of, PlacedUnit, placed}
 use Rattle.dw_entries.specs.Scanned.{table_of, record_of, records_of, IsKept, Scanned, units_of}
-use Rattle.dw_entries.specs.Lookups.{unit_head}
+use Rattle.dw_entries.specs.Lookups.{IsDeclaredIn, unit_head}
 use Rattle.dw_entries.proofs.ScanLaws.{rest_of}
 use Rattle.dw_entries.proofs.HeadLaws.{Stands, head_stands, stands_code, stands_within}
 use Rattle.dw_entries.proofs.EntryFacts.{placed_get, length-placed_from, kept_get, HasFirst, first_entry}
@@ -94,6 +94,21 @@ kept_entry a info tables rs records s id within = by_cases (slice_get (entries_o
     by_cases None is =
         let some = slice_get-get_or (entries_of (units_of s)) id (record { at = 0; unit = 0; parent = None; depth = 0; next = None; head = record { decl = record { code = 0; tag = 0; has_children = false; attributes = [] }; code = []; attributes = [] } }) within in
         absurd cc
+
+-- an entry's declaration stands in the table of its unit
+pub declared_among : (a info : List ℕ) (tables : List (List Declaration)) (rs : List UnitRecord) (records : List Record) (s : Scanned a info tables rs records) (id : ℕ) (e : Entry)
+    → slice_get (entries_of (units_of s)) id ≡ Some e → IsDeclaredIn tables e.head.decl
+declared_among a info tables rs records s id e is =
+    let k = kept_entry a info tables rs records s id (slice_get_within (entries_of (units_of s)) id e is) in
+    let same : k.entry ≡ e = one_some (slice_get (entries_of (units_of s)) id) k.entry e k.is_entry is in
+    let P : Entry → Type 0 = λ x. IsDeclaredIn tables x.head.decl in
+    subst P same (record {
+      number = k.unit_record.table;
+      table = k.stands.unit.table;
+      is_table = k.table;
+      place = place_in k.stands.unit.table k.entry.head.decl.code;
+      is_decl = found_there k.stands.unit.table k.entry.head.decl.code k.entry.head.decl k.stands.is.decl;
+    })
 
 -- an element that was read is the one that stands there
 pub read_is : {A : Type 0} (xs : List A) (k : ℕ) (x y : A) → slice_get xs k ≡ Some x → y ≡ get_or xs k y → y ≡ x

@@ -20,4 +20,5 @@ pub mod KeptLaws
 pub mod LeftLaws
 pub mod UnitTurns
 pub mod FindLaws
+pub mod RunLaws
 pub mod FirstEntries

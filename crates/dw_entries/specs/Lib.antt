@@ -30,4 +30,5 @@ pub mod ValueLaws
 pub mod ValuesLeft
 pub mod Lookups
 pub mod UnitsLeft
+pub mod Runs
 pub mod Views

@@ -1,22 +1,22 @@
 //! What is told of entries and units.
 
-ghost use Rattle.std.specs.Prelude.{◌≡◌, ◌++◌, ◌<◌, ℕ, List, length, slice_get, IfSome, option_map};
+ghost use Rattle.std.specs.Prelude.{◌≡◌, ◌++◌, ◌<◌, ℕ, List, Some, length, slice_get, IfSome, option_map};
 ghost use Rattle.std.specs.List.{flat_map};
 ghost use Rattle.dw_forms.specs.Abbrev.{view as decl_view};
 ghost use Rattle.dw_forms.specs.Value.{view};
 ghost use Rattle.dw_entries.specs.Grammar.{attribute_bytes};
-ghost use Rattle.dw_entries.specs.Entries.{entries_of, placed};
+ghost use Rattle.dw_entries.specs.Entries.{Entry, entries_of, placed};
 ghost use Rattle.dw_entries.specs.Scanned.{units_of};
 ghost use Rattle.dw_entries.specs.Asked.{values_of};
 ghost use Rattle.dw_entries.specs.ValuesLeft.{values_left};
-ghost use Rattle.dw_entries.specs.Lookups.{nth_of, entry_head, unit_head, value_at_entry};
+ghost use Rattle.dw_entries.specs.Lookups.{IsDeclaredIn, nth_of, entry_head, unit_head, value_at_entry};
 
 use crate::entries::Entries;
 use crate::header::{UnitHeader, UnitType};
 use crate::id::{EntryId, OptionalId};
 use crate::reading::read_code;
 use crate::values::Values;
-use dw_forms::{Attribute, Decl, Tag, Value};
+use dw_forms::{AbbrevTable, Attribute, Decl, Tag, Value};
 
 /// An entry without its attributes.
 #[derive(Clone, Copy, Debug, PartialEq, Eq)]
@@ -53,8 +53,15 @@ fn id_of(optional: OptionalId) -> Option<EntryId>
 }
 
 impl<'a> Entries<'a> {
+    /// The abbreviation tables of the units, each once.
+    pub fn tables(&self) -> &[AbbrevTable]
+        ensures { (id : ℕ) (e : Entry) → slice_get (entries_of (units_of self.now.scanned)) id ≡ Some e → IsDeclaredIn result.now e.head.decl }
+    {
+        &self.tables
+    }
+
     /// The declaration of an entry.
-    fn decl(&self, id: EntryId) -> &Decl
+    pub fn decl(&self, id: EntryId) -> &Decl
         requires { id < length (entries_of (units_of self.now.scanned)) }
         ensures { IfSome (slice_get (entries_of (units_of self.now.scanned)) id) (λ e. decl_view result.now ≡ e.head.decl) }
     {

@@ -4,6 +4,7 @@ mod build;
 mod faults;
 mod lookups;
 mod rules;
+mod runs;
 mod trees;
 mod vectors;
 
