@@ -1,0 +1,61 @@
+-- The rule on classes, by declarations and by values.
+use Rattle.std.proofs.Common.{◌≡◌, ℕ, ◌<◌, Bool, true, false, List, length, Some, refl, sym, ap, ◌∙◌, arith, if◌then◌else◌, nat_eq}
+use Rattle.std.specs.Prelude.{slice_get, IfSome}
+use Rattle.std.proofs.lemmas.Option.{slice_get_within}
+use mathlib.Core.Logic.{∥∥₁_elim}
+use Rattle.dw_forms.specs.Value.{Datum}
+use Rattle.dw_forms.specs.declared.decl.AttributeSpec.{AttributeSpec}
+use Rattle.dw_entries.specs.declared.rule.Rule.TheVariants.{WrongClass}
+use Rattle.dw_entries.specs.declared.lookup.Head.{Head}
+use Rattle.dw_entries.specs.declared.lookup.UnitHead.{UnitHead}
+use Rattle.dw_entries.specs.Header.{version_of}
+use Rattle.dw_entries.specs.Units.{DebugUnit, Spells}
+use Rattle.dw_entries.specs.Entries.{Entry, entries_of, PlacedUnit, placed}
+use Rattle.dw_entries.specs.Lookups.{unit_head}
+use Rattle.dw_entries.specs.Rules.{number_of}
+use Rattle.dw_entries.specs.Failures.{IsLeast}
+use Rattle.dw_entries.proofs.HeadLaws.{head_stands}
+use Rattle.dw_entries.proofs.EntryFacts.{length-placed_from}
+use Rattle.dw_links.specs.declared.class.Class.{Class}
+use Rattle.dw_links.specs.Concerns.{Passes}
+use Rattle.dw_links.specs.Classes.{class_of, form_class, allows, allows_in, ClassFails}
+use Rattle.dw_links.proofs.Skips.{there}
+use Rattle.dw_links.proofs.FormClasses.{class_by_form}
+
+true_by_both : (b d e : Bool) → e ≡ true → (if b then (if d then true else e) else e) ≡ true
+true_by_both true true e is = refl
+true_by_both true false e is = is
+true_by_both false d e is = is
+
+allowed_in : (version attribute : ℕ) (c : Class) → allows attribute c ≡ true → allows_in version attribute c ≡ true
+allowed_in version attribute c is = true_by_both (nat_eq version 4) _ (allows attribute c) is
+
+-- an attribute whose form has a permitted class
+pub class_passes : (units : List PlacedUnit) (spec : AttributeSpec) (c : Class) → form_class spec.form ≡ Some c → allows spec.attribute c ≡ true → Passes (ClassFails units) spec
+class_passes units spec c form ok x a is head rule fails =
+    ∥∥₁_elim is.value (λ p q. absurd p)
+    (λ v.
+    let class : class_of a.value ≡ c = class_by_form x.version x.address_size spec.form a.bytes a.value c form v in
+    let both : allows_in (version_of fails.unit.unit.header.kind) spec.attribute c ≡ false =
+    ap (λ (k : Class). allows_in (version_of fails.unit.unit.header.kind) spec.attribute k) (sym class)
+    ∙ ap (λ (code : ℕ). allows_in (version_of fails.unit.unit.header.kind) code (class_of a.value)) (sym is.code) ∙ fails.class in
+    let no : true ≡ false = sym (allowed_in (version_of fails.unit.unit.header.kind) spec.attribute c ok) ∙ both in cc)
+
+-- a value of another class
+pub class_least : (units : List PlacedUnit) (head : Head) (a : ℕ) (v : Datum) (p : PlacedUnit) → slice_get units head.unit ≡ Some p → allows_in (version_of p.unit.header.kind) a (class_of v) ≡ false
+    → IsLeast (ClassFails units head a v) (Some WrongClass)
+class_least units head a v p is not_allowed = (
+  record { unit = p; in_unit = is; class = not_allowed; only = refl },
+  λ rule fails less. let same = ap number_of fails.only in omega (arith, same, less),
+)
+
+-- the unit with this number, as it was told
+pub unit_there : (us : List DebugUnit) (number : ℕ) (told : UnitHead) → number < length us → IfSome (slice_get (placed us) number) (λ p. told ≡ unit_head p)
+    → (p : PlacedUnit) × (slice_get (placed us) number ≡ Some p) × (told ≡ unit_head p)
+unit_there us number told below tells =
+    let (p, is) = there (placed us) number (omega (arith, below, length-placed_from 0 0 us)) in
+    (p, is, rw is at tells)
+
+-- each entry is in a unit
+pub in_units : («abbrev» info : List ℕ) (us : List DebugUnit) (id : ℕ) (e : Entry) → Spells «abbrev» us info → slice_get (entries_of us) id ≡ Some e → e.unit < length us
+in_units «abbrev» info us id e spells is = let stands = head_stands «abbrev» info us id e spells is in slice_get_within us e.unit stands.unit stands.is_unit

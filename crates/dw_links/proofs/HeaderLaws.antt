@@ -1,0 +1,168 @@
+-- The rules at the headers of type units.
+use Rattle.std.proofs.Common.{◌≡◌, ℕ, zero, suc, ◌+◌, [], ◌∷◌, length, length-append, ◌<◌, ◌≤◌, true, false, List, Option, Some, None, refl, sym, ap, ◌∙◌, arith, subst, inl, inr}
+use Rattle.std.specs.Prelude.{slice_get}
+use Rattle.std.specs.Ordering.{nat_cmp}
+use Rattle.std.specs.BTreeMap.{BTreeMap, get}
+use Rattle.dw_entries.specs.declared.rule.Rule.{Rule}
+use Rattle.dw_entries.specs.declared.rule.Rule.TheVariants.{SignatureTwice, BadTypeOffset}
+use Rattle.dw_entries.specs.declared.fault.Broken.{Broken}
+use Rattle.dw_entries.specs.declared.header.HeaderKind.{HeaderKind}
+use Rattle.dw_entries.specs.declared.header.HeaderKind.TheVariants.{Version4, CompileUnit, PartialUnit, TypeUnit}
+use Rattle.dw_entries.specs.Header.{header_size, header_bytes}
+use Rattle.dw_entries.specs.HeaderLaws.{length-header}
+use Rattle.dw_entries.specs.Units.{DebugUnit, unit_bytes, body_bytes}
+use Rattle.dw_entries.specs.Entries.{Entry, PlacedUnit, node_count, placed_from, placed}
+use Rattle.dw_entries.specs.Lookups.{entry_head}
+use Rattle.dw_entries.specs.Rules.{number_of}
+use Rattle.dw_entries.specs.Places.{at_header}
+use Rattle.dw_entries.specs.Failures.{Failure, Precedes, Names, HasNone, IsFirst, IsLeast}
+use Rattle.dw_entries.specs.Asked.{OffsetsRise, AtPlace}
+use Rattle.dw_entries.proofs.Firsts.{same_some, first_of_list, more_of_list, none_of_list, attributes_stand}
+use Rattle.dw_entries.proofs.FirstPlaces.{header_precedes_le, entry_after_header, first_at_place, none_at_place}
+use Rattle.dw_entries.specs.Runs.{IsEntryIn}
+use Rattle.dw_links.specs.References.{HasSignature, IsSignedBefore, HasType, TypeUnitFails, HeaderFails, AtHeader, HeaderFailures, AttributeFailures, ReferenceFails}
+use Rattle.dw_forms.specs.Codes.{is_type_tag}
+use Rattle.dw_links.specs.Signatures.{IsFirstSigned, AreSignatures, AreDistinct}
+use Rattle.dw_entries.proofs.RunLaws.{one_at, in_is_at}
+use Rattle.dw_links.proofs.Finds.{three_ways}
+
+pub not_before : (units : List PlacedUnit) (n s first number : ℕ) (table : BTreeMap ℕ ℕ) → AreSignatures units n table → Some first ≡ get nat_cmp table s → number ≤ first → IsSignedBefore units number s → ⊥
+not_before units n s first number table so is up before =
+    let P : Option ℕ → Type 0 = λ o. IsFirstSigned units s n o in
+    let found = subst P (sym is) (so s) in
+    let less = before.before in
+    found.2 before.earlier (omega (arith, less, up)) before.has
+
+pub typed : (entries : List Entry) (number offset id : ℕ) (read : Entry) → IsEntryIn entries number offset id → slice_get entries id ≡ Some read → is_type_tag read.head.decl.tag ≡ true → HasType entries number offset
+typed entries number offset id read found is tag = record {
+  id = id;
+  is_type = found;
+  tag = ap (λ (e : Entry). is_type_tag e.head.decl.tag) (same_some (slice_get entries id) found.entry read found.is_entry is) ∙ tag;
+}
+
+pub not_typed : (entries : List Entry) (number offset id : ℕ) (read : Entry) → OffsetsRise entries → IsEntryIn entries number offset id → slice_get entries id ≡ Some read → is_type_tag read.head.decl.tag ≡ false
+    → HasType entries number offset → ⊥
+not_typed entries number offset id read rise found is tag has =
+    let same = one_at entries offset has.id id rise (in_is_at entries number _ has.id has.is_type) (in_is_at entries number _ id found) in
+    let P : ℕ → Type 0 = λ i. slice_get entries i ≡ Some has.is_type.entry in
+    let one = same_some (slice_get entries id) has.is_type.entry read (subst P same has.is_type.is_entry) is in
+    let both : true ≡ false = sym has.tag ∙ ap (λ (e : Entry). is_type_tag e.head.decl.tag) one ∙ tag in cc
+
+pub none_typed : (entries : List Entry) (number offset : ℕ) → ((id : ℕ) → IsEntryIn entries number offset id → ⊥) → HasType entries number offset → ⊥
+none_typed entries number offset none has = none has.id has.is_type
+
+-- of the units, one after the other
+abbrev pub UnitsRise : List PlacedUnit → Type 0
+UnitsRise units = (i j : ℕ) (a b : PlacedUnit) → i < j → slice_get units i ≡ Some a → slice_get units j ≡ Some b → a.at < b.at
+
+pub first_header : (entries : List Entry) (units : List PlacedUnit) (number : ℕ) (u : PlacedUnit) (broken : Broken) → UnitsRise units → slice_get units number ≡ Some u
+    → ((j : ℕ) (v : PlacedUnit) → j < number → slice_get units j ≡ Some v → HasNone (AtHeader entries units j v))
+    → IsFirst (AtHeader entries units number u) broken
+    → IsFirst (HeaderFailures entries units) broken
+first_header entries units number u broken rise is passed first =
+    first_of_list units (λ u. u.at) (AtHeader entries units) number u broken rise
+    (λ i j a b f g f_fails g_fails. header_precedes_le a.at b.at f g f_fails.stands g_fails.stands) is passed first
+
+signed_twice : (entries : List Entry) (units : List PlacedUnit) (s i j : ℕ) → HasNone (HeaderFailures entries units) → i < j → HasSignature units s i → HasSignature units s j → ⊥
+signed_twice entries units s i j none less has_i has_j =
+    none (record { rule = SignatureTwice; place = at_header has_j.unit.at; attribute = 0 })
+    (record {
+      number = j;
+      item = has_j.unit;
+      is_item = has_j.is_unit;
+      fails = record {
+        stands = refl;
+        attribute = refl;
+        fails = let P : Option (ℕ × ℕ) → Type 0 = λ o. HeaderFails entries units j has_j.unit.at o SignatureTwice in
+            subst P (sym has_j.signed) (inl (refl, record { earlier = i; before = less; has = has_i }));
+      };
+    })
+
+pub distinct_from : (entries : List Entry) (units : List PlacedUnit) → HasNone (HeaderFailures entries units) → AreDistinct units
+distinct_from entries units none s i j has_i has_j =
+    elim (three_ways i j) [
+      | inl (inl less) ↦ absurd (signed_twice entries units s i j none less has_i has_j)
+      | inl (inr same) ↦ same
+      | inr more ↦ absurd (signed_twice entries units s j i none more has_j has_i)
+    ]
+
+-- what fails at an attribute never precedes what fails at a header
+pub attributes_after : (entries : List Entry) (units : List PlacedUnit) (f g : Failure) → AttributeFailures entries units f → HeaderFailures entries units g → Precedes f g → ⊥
+attributes_after entries units f g a h = entry_after_header a.item.at h.item.at f g (attributes_stand (λ e. ReferenceFails entries units (entry_head e)) a.item f a.fails) h.fails.stands
+
+-- a rule at the header of a type unit
+pub header_fails : (entries : List Entry) (units : List PlacedUnit) (number at signature t : ℕ) (o : Option (ℕ × ℕ)) (rule : Rule) (broken : Broken) → o ≡ Some (signature, t)
+    → IsLeast (TypeUnitFails entries units number at signature t) (Some rule)
+    → Names broken (record { rule = rule; place = at_header at; attribute = 0 })
+    → IsFirst (AtPlace (at_header at) (HeaderFails entries units number at o)) broken
+header_fails entries units number at signature t o rule broken is least named =
+    let P : Option (ℕ × ℕ) → Type 0 = λ x. IsFirst (AtPlace (at_header at) (HeaderFails entries units number at x)) broken in
+    subst P (sym is) (first_at_place (at_header at) (HeaderFails entries units number at (Some (signature, t))) rule broken least named)
+
+pub header_passes : (entries : List Entry) (units : List PlacedUnit) (number at signature t : ℕ) (o : Option (ℕ × ℕ)) → o ≡ Some (signature, t)
+    → IsLeast (TypeUnitFails entries units number at signature t) None
+    → HasNone (AtPlace (at_header at) (HeaderFails entries units number at o))
+header_passes entries units number at signature t o is least =
+    let P : Option (ℕ × ℕ) → Type 0 = λ x. HasNone (AtPlace (at_header at) (HeaderFails entries units number at x)) in
+    subst P (sym is) (none_at_place (at_header at) (HeaderFails entries units number at (Some (signature, t))) least)
+
+pub other_header_passes : (entries : List Entry) (units : List PlacedUnit) (number at : ℕ) (o : Option (ℕ × ℕ)) → o ≡ None → HasNone (AtPlace (at_header at) (HeaderFails entries units number at o))
+other_header_passes entries units number at o is =
+    let P : Option (ℕ × ℕ) → Type 0 = λ x. HasNone (AtPlace (at_header at) (HeaderFails entries units number at x)) in
+    subst P (sym is) (λ f fails. fails.fails)
+
+-- units stand in rising offset
+placed_from_rise : (at first : ℕ) (us : List DebugUnit) (i j : ℕ) (a b : PlacedUnit) → i < j → slice_get (placed_from at first us) i ≡ Some a → slice_get (placed_from at first us) j ≡ Some b → (at ≤ a.at) × (a.at < b.at)
+placed_from_rise at first [] i j a b lt is_a is_b = absurd cc
+placed_from_rise at first (u ∷ us) i zero a b lt is_a is_b = absurd (omega arith)
+placed_from_rise at first (u ∷ us) zero (suc j) a b lt is_a is_b =
+    let e : ◌≡◌ {A = Option PlacedUnit} (Some (record { at = at; first = first; unit = u })) (Some a) = is_a in
+    let same : ◌≡◌ {A = PlacedUnit} (record { at = at; first = first; unit = u }) a = cc in
+    let here : at ≡ a.at = ap (λ (x : PlacedUnit). x.at) same in
+    let least = placed_least (at + length (unit_bytes u)) (first + node_count u.root) us j b is_b in
+    let some = unit_some u in
+    (omega (arith, here), omega (arith, here, least, some))
+  where
+    unit_some : (u : DebugUnit) → 0 < length (unit_bytes u)
+    unit_some u = omega (arith, length-append (header_bytes u.header) (body_bytes u), length-header u.header, size_some u.header.kind)
+      where
+        size_some : (k : HeaderKind) → 0 < header_size k
+        size_some Version4 = omega arith
+        size_some CompileUnit = omega arith
+        size_some PartialUnit = omega arith
+        size_some (TypeUnit s t) = omega arith
+
+    placed_least : (at first : ℕ) (us : List DebugUnit) (j : ℕ) (b : PlacedUnit) → slice_get (placed_from at first us) j ≡ Some b → at ≤ b.at
+    placed_least at first [] j b is = absurd cc
+    placed_least at first (u ∷ us) zero b is =
+        let e : ◌≡◌ {A = Option PlacedUnit} (Some (record { at = at; first = first; unit = u })) (Some b) = is in
+        let same : ◌≡◌ {A = PlacedUnit} (record { at = at; first = first; unit = u }) b = cc in
+        let here : at ≡ b.at = ap (λ (x : PlacedUnit). x.at) same in omega (arith, here)
+    placed_least at first (u ∷ us) (suc j) b is = let more = placed_least (at + length (unit_bytes u)) (first + node_count u.root) us j b is in omega (arith, more)
+placed_from_rise at first (u ∷ us) (suc i) (suc j) a b lt is_a is_b =
+    let more = placed_from_rise (at + length (unit_bytes u)) (first + node_count u.root) us i j a b (omega arith) is_a is_b in
+    (omega (arith, more.0), more.1)
+
+pub placed_rise : (us : List DebugUnit) → UnitsRise (placed us)
+placed_rise us i j a b lt is_a is_b = (placed_from_rise 0 0 us i j a b lt is_a is_b).1
+
+-- one unit more
+pub more_headers : (entries : List Entry) (units : List PlacedUnit) (number : ℕ) (p : PlacedUnit) → slice_get units number ≡ Some p
+    → ((j : ℕ) (u : PlacedUnit) → j < number → slice_get units j ≡ Some u → HasNone (AtHeader entries units j u))
+    → HasNone (AtHeader entries units number p)
+    → (j : ℕ) (u : PlacedUnit) → j < number + 1 → slice_get units j ≡ Some u → HasNone (AtHeader entries units j u)
+more_headers entries units number p is = more_of_list units (AtHeader entries units) number p is
+
+pub headers_none : (entries : List Entry) (units : List PlacedUnit) → ((j : ℕ) (u : PlacedUnit) → j < length units → slice_get units j ≡ Some u → HasNone (AtHeader entries units j u)) → HasNone (HeaderFailures entries units)
+headers_none entries units = none_of_list units (AtHeader entries units)
+
+-- no type begins there, and no earlier unit has the signature
+pub least_type_offset : (entries : List Entry) (units : List PlacedUnit) (number at signature t : ℕ) → (IsSignedBefore units number signature → ⊥) → (HasType entries number (at + t) → ⊥)
+    → IsLeast (TypeUnitFails entries units number at signature t) (Some BadTypeOffset)
+least_type_offset entries units number at signature t first untyped = (
+  inr (refl, untyped),
+  λ rule fails less. elim fails [
+    | inl p ↦ first p.1
+    | inr p ↦ let same = ap number_of p.0 in omega (arith, same, less)
+  ],
+)

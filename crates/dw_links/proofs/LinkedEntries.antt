@@ -1,0 +1,189 @@
+-- Where no rule on strings, addresses and references fails, values lead somewhere.
+use Rattle.std.proofs.Common.{◌≡◌, ℕ, ◌+◌, ◌==◌, Bool, true, false, List, Option, Some, None, refl, sym, ap, ◌∙◌, subst, inl, inr, eq-eqb}
+use Rattle.std.specs.Prelude.{slice_get}
+use Rattle.std.proofs.lemmas.Bool.{eqb-true}
+use Rattle.dw_forms.specs.Codes.{is_type_tag}
+use Rattle.dw_forms.specs.Value.{Datum, address, block, unsigned, signed, wide, text, flag, str, line_str, str_index, ref_info, ref_unit, ref_sig, sec_offset, expr, addr_index, loc_index, rng_index}
+use Rattle.dw_entries.specs.declared.rule.Rule.{Rule}
+use Rattle.dw_entries.specs.declared.rule.Rule.TheVariants.{NoEntry, WrongKind, NotNextSibling, NoSignature, BadTypeOffset}
+use Rattle.dw_entries.specs.Units.{DebugUnit, Spells}
+use Rattle.dw_entries.specs.Entries.{Entry, PlacedUnit, entries_of, placed}
+use Rattle.dw_entries.specs.Places.{at_header, at_attribute}
+use Rattle.dw_entries.specs.Failures.{HasNone}
+use Rattle.dw_entries.specs.Asked.{OffsetsRise}
+use Rattle.dw_entries.specs.Lookups.{entry_head, value_at_entry}
+use Rattle.dw_entries.specs.Runs.{IsEntryIn, ReachesInUnit}
+use Rattle.dw_entries.proofs.EntryFacts.{entries_rise}
+use Rattle.dw_links.specs.declared.class.Class.TheVariants.{Reference}
+use Rattle.dw_links.specs.Classes.{class_of}
+use Rattle.dw_links.specs.References.{type_in, HasSignature, Reaches, permits, permits_form, IsOtherThan, is_reference_value, ReferenceFailsBy, TypeUnitFails, HeaderFails, ReferenceFailures}
+use Rattle.dw_links.specs.Targets.{entry_at, first_signed, reach_in_unit, reach_of, target_of}
+use Rattle.dw_links.specs.LinkLaws.{HaveTargets, HaveTypes}
+use Rattle.dw_links.proofs.HeaderLaws.{distinct_from, typed, not_typed}
+use Rattle.dw_links.proofs.ReferenceLaws.{reached_entry}
+use Rattle.dw_links.proofs.Reached.{in_place}
+use Rattle.dw_links.proofs.SlotLaws.{stands_at}
+use Rattle.dw_links.proofs.TargetLaws.{entry_at_is, reach_in_unit_is, at_reach_in_unit, at_first_signed, none_signed, type_of_unit_is, at_reach_of, reach_of_is}
+
+reference_value : (v : Datum) → class_of v ≡ Reference → is_reference_value v ≡ true
+reference_value (ref_info n) is = refl
+reference_value (ref_unit n) is = refl
+reference_value (ref_sig n) is = refl
+reference_value (address n) is = absurd cc
+reference_value (block n) is = absurd cc
+reference_value (unsigned n) is = absurd cc
+reference_value (signed n) is = absurd cc
+reference_value (wide n) is = absurd cc
+reference_value (text n) is = absurd cc
+reference_value (flag n) is = absurd cc
+reference_value (str n) is = absurd cc
+reference_value (line_str n) is = absurd cc
+reference_value (str_index n) is = absurd cc
+reference_value (sec_offset n) is = absurd cc
+reference_value (expr n) is = absurd cc
+reference_value (addr_index n) is = absurd cc
+reference_value (loc_index n) is = absurd cc
+reference_value (rng_index n) is = absurd cc
+
+-- ---- what no failure says
+
+-- no rule fails at the attribute
+pub passes_reference : (us : List DebugUnit) (id : ℕ) (e : Entry) (attribute : ℕ) (v : Datum) → HasNone (ReferenceFailures us) → slice_get (entries_of us) id ≡ Some e → value_at_entry e attribute ≡ Some v → is_reference_value v ≡ true
+    → (rule : Rule) → ReferenceFailsBy (entries_of us) (placed us) (entry_head e) attribute v rule → ⊥
+passes_reference us id e attribute v none is value reference rule fails =
+    let stands = stands_at e attribute v value in
+    none (record { rule = rule; place = at_attribute e.at stands.position; attribute = attribute })
+    (inr (record {
+      number = id;
+      item = e;
+      is_item = is;
+      fails = record { position = stands.position; value = v; has = stands.here; place = refl; fails = (reference, fails) };
+    }))
+
+-- nor at the header of a type unit
+passes_header : (us : List DebugUnit) (number signature type_offset : ℕ) (p : PlacedUnit) → HasNone (ReferenceFailures us) → slice_get (placed us) number ≡ Some p → type_in p.unit.header.kind ≡ Some (signature, type_offset)
+    → (rule : Rule) → TypeUnitFails (entries_of us) (placed us) number p.at signature type_offset rule → ⊥
+passes_header us number signature type_offset p none is kind rule fails =
+    none (record { rule = rule; place = at_header p.at; attribute = 0 })
+    (inl (record {
+      number = number;
+      item = p;
+      is_item = is;
+      fails = record {
+        stands = refl;
+        attribute = refl;
+        fails = let P : Option (ℕ × ℕ) → Type 0 = λ o. HeaderFails (entries_of us) (placed us) number p.at o rule in subst P (sym kind) fails;
+      };
+    }))
+
+no_answer : (o : Option ℕ) (k : ℕ) → o ≡ None → o ≡ Some k → ⊥
+no_answer o k none some = let both : ◌≡◌ {A = Option ℕ} None (Some k) = sym none ∙ some in cc
+
+in_the_unit : (es : List Entry) (us : List PlacedUnit) (number type_offset : ℕ) (p : PlacedUnit) (id : ℕ) → slice_get us number ≡ Some p → IsEntryIn es number (p.at + type_offset) id → ReachesInUnit es us number type_offset id
+in_the_unit es us number type_offset p id is found = record { unit = p; is_unit = is; target = found }
+
+-- the type of a type unit
+type_reached : (us : List DebugUnit) (number signature type_offset : ℕ) (p : PlacedUnit) → OffsetsRise (entries_of us) → HasNone (ReferenceFailures us) → slice_get (placed us) number ≡ Some p → type_in p.unit.header.kind ≡ Some (signature, type_offset)
+    → (id : ℕ) × (reach_in_unit (entries_of us) (placed us) number type_offset ≡ Some id)
+type_reached us number signature type_offset p rise none is kind = go (reach_in_unit (entries_of us) (placed us) number type_offset) refl
+  where
+    go : (o : Option ℕ) → reach_in_unit (entries_of us) (placed us) number type_offset ≡ o → (id : ℕ) × (reach_in_unit (entries_of us) (placed us) number type_offset ≡ Some id)
+    go (Some id) reached = (id, reached)
+    go None nowhere =
+        absurd (passes_header us number signature type_offset p none is kind BadTypeOffset (inr (
+          refl,
+          λ has.
+              no_answer (reach_in_unit (entries_of us) (placed us) number type_offset) has.id nowhere (reach_in_unit_is (entries_of us) (placed us) number type_offset has.id rise (in_the_unit (entries_of us) (placed us) number type_offset p has.id is has.is_type)),
+        )))
+
+-- ---- each reference reaches an entry
+
+-- what reaches an entry
+abbrev Reached : List DebugUnit → Entry → Datum → Type 0
+Reached us e v = (id : ℕ) × (reach_of (entries_of us) (placed us) (entry_head e) v ≡ Some id)
+
+by_offset : (us : List DebugUnit) (e : Entry) (attribute : ℕ) (v : Datum) (o : Option ℕ) → reach_of (entries_of us) (placed us) (entry_head e) v ≡ o
+    → ((k : ℕ) → Reaches (entries_of us) (placed us) (entry_head e) v k → reach_of (entries_of us) (placed us) (entry_head e) v ≡ Some k)
+    → (((k : ℕ) → Reaches (entries_of us) (placed us) (entry_head e) v k → ⊥) → ⊥) → Reached us e v
+by_offset us e attribute v (Some id) is over never = (id, is)
+by_offset us e attribute v None is over never = absurd (never (λ k reaches. no_answer (reach_of (entries_of us) (placed us) (entry_head e) v) k is (over k reaches)))
+
+by_signature : (us : List DebugUnit) (e : Entry) (signature : ℕ) (o : Option ℕ) → first_signed (placed us) signature ≡ o → OffsetsRise (entries_of us) → HasNone (ReferenceFailures us)
+    → (((number : ℕ) → HasSignature (placed us) signature number → ⊥) → ⊥) → Reached us e (ref_sig signature)
+by_signature us e signature None is rise none never =
+    absurd (never (λ number has. none_signed (placed us) signature is number has))
+by_signature us e signature (Some number) is rise none never =
+    let has = (at_first_signed (placed us) signature number is).1 in
+    let (id, reached) = type_reached us number signature has.type_offset has.unit rise none has.is_unit has.signed in
+    (id, rw is (type_of_unit_is (entries_of us) (placed us) number signature has.type_offset has.unit (Some id) has.is_unit has.signed reached))
+
+reached : (us : List DebugUnit) (id : ℕ) (e : Entry) (attribute : ℕ) (v : Datum) → OffsetsRise (entries_of us) → HasNone (ReferenceFailures us) → slice_get (entries_of us) id ≡ Some e → value_at_entry e attribute ≡ Some v → class_of v ≡ Reference
+    → Reached us e v
+reached us id e attribute (ref_info offset) rise none is value class =
+    by_offset us e attribute (ref_info offset) (entry_at (entries_of us) offset) refl (λ k. entry_at_is (entries_of us) offset k rise) (λ nowhere. passes_reference us id e attribute (ref_info offset) none is value refl NoEntry (refl, nowhere))
+reached us id e attribute (ref_unit offset) rise none is value class =
+    by_offset us e attribute (ref_unit offset) (reach_in_unit (entries_of us) (placed us) e.unit offset) refl (λ k. reach_in_unit_is (entries_of us) (placed us) e.unit offset k rise)
+    (λ nowhere. passes_reference us id e attribute (ref_unit offset) none is value refl NoEntry (refl, nowhere))
+reached us id e attribute (ref_sig signature) rise none is value class =
+    by_signature us e signature (first_signed (placed us) signature) refl rise none (λ unsigned. passes_reference us id e attribute (ref_sig signature) none is value refl NoSignature unsigned)
+reached us id e attribute (address n) rise none is value class = absurd cc
+reached us id e attribute (block n) rise none is value class = absurd cc
+reached us id e attribute (unsigned n) rise none is value class = absurd cc
+reached us id e attribute (signed n) rise none is value class = absurd cc
+reached us id e attribute (wide n) rise none is value class = absurd cc
+reached us id e attribute (text n) rise none is value class = absurd cc
+reached us id e attribute (flag n) rise none is value class = absurd cc
+reached us id e attribute (str n) rise none is value class = absurd cc
+reached us id e attribute (line_str n) rise none is value class = absurd cc
+reached us id e attribute (str_index n) rise none is value class = absurd cc
+reached us id e attribute (sec_offset n) rise none is value class = absurd cc
+reached us id e attribute (expr n) rise none is value class = absurd cc
+reached us id e attribute (addr_index n) rise none is value class = absurd cc
+reached us id e attribute (loc_index n) rise none is value class = absurd cc
+reached us id e attribute (rng_index n) rise none is value class = absurd cc
+
+true_unless : (b : Bool) → (b ≡ false → ⊥) → b ≡ true
+true_unless true never = refl
+true_unless false never = absurd (never refl)
+
+-- a next sibling that is no other than the one that is reached
+the_next : (next : Option ℕ) (id : ℕ) (Is : ℕ → Type 0) → Is id → (IsOtherThan next Is → ⊥) → next ≡ Some id
+the_next None id Is here never = absurd (never tt)
+the_next (Some n) id Is here never =
+    let same : (id == n) ≡ true = true_unless (id == n) (λ other. never (id, here, λ e. let both : true ≡ false = sym (rw e (eq-eqb n n refl)) ∙ other in cc)) in
+    ap Some (sym (eqb-true id n same))
+
+pub have_targets : («abbrev» info : List ℕ) (us : List DebugUnit) → Spells «abbrev» us info → HasNone (ReferenceFailures us) → HaveTargets us
+unfolding target_of
+have_targets «abbrev» info us spells none id e is attribute v value class =
+    let rise = entries_rise «abbrev» us spells.are in
+    let distinct = distinct_from (entries_of us) (placed us) (λ f fails. none f (inl fails)) in
+    let reference = reference_value v class in
+    let passes = passes_reference us id e attribute v none is value reference in
+    let (t, gives) = reached us id e attribute v rise none is value class in
+    let reaches = at_reach_of (entries_of us) (placed us) (entry_head e) v t gives in
+    let (target, is_target) = reached_entry (entries_of us) (placed us) (entry_head e) v t reaches in
+    record {
+      id = t;
+      target = target;
+      is_entry = is_target;
+      is_target = rw value gives;
+      reaches = reaches;
+      only = λ other also.
+          let two : Some other ≡ Some t = sym (reach_of_is (entries_of us) (placed us) (entry_head e) v other rise distinct also) ∙ gives in cc;
+      form = true_unless (permits_form (entry_head e) attribute v) (λ wrong. passes WrongKind (inl wrong));
+      kind = true_unless (permits (entry_head e) attribute target) (λ wrong. passes WrongKind (inr (record { id = t; target = target; is_target = is_target; reaches = reaches; wrong = wrong })));
+      sibling = λ sibling. the_next e.next t (Reaches (entries_of us) (placed us) (entry_head e) v) reaches (λ other. passes NotNextSibling (sibling, other));
+    }
+
+pub have_types : («abbrev» info : List ℕ) (us : List DebugUnit) → Spells «abbrev» us info → HasNone (ReferenceFailures us) → HaveTypes us
+have_types «abbrev» info us spells none = record {
+  distinct = distinct_from (entries_of us) (placed us) (λ f fails. none f (inl fails));
+  types = λ number signature type_offset p is kind.
+      let rise = entries_rise «abbrev» us spells.are in
+      let (id, gives) = type_reached us number signature type_offset p rise none is kind in
+      let found = in_place (entries_of us) (placed us) number type_offset p id is (at_reach_in_unit (entries_of us) (placed us) number type_offset id gives) in
+      typed (entries_of us) number (p.at + type_offset) id found.entry found found.is_entry
+      (true_unless (is_type_tag found.entry.head.decl.tag) (λ other. passes_header us number signature type_offset p none is kind BadTypeOffset
+      (inr (refl, not_typed (entries_of us) number (p.at + type_offset) id found.entry rise found found.is_entry other))));
+}

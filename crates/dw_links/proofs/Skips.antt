@@ -1,0 +1,68 @@
+-- No rule fails at an entry whose declaration has nothing that the rules are asked of.
+use Rattle.std.proofs.Common.{◌≡◌, ℕ, zero, suc, ◌+◌, ◌<◌, ◌≤◌, List, [], ◌∷◌, length, Some, refl, sym, ap, ◌∙◌, arith, subst, map, eq-or-lt_of_le, inl, inr}
+use Rattle.std.specs.Prelude.{slice_get, IfSome}
+use Rattle.dw_forms.specs.Value.{Datum}
+use Rattle.dw_forms.specs.Abbrev.{Declaration}
+use Rattle.dw_forms.specs.declared.decl.AttributeSpec.{AttributeSpec}
+use Rattle.dw_entries.specs.Grammar.{Context, Attribute, IsAttribute, AreAttributes}
+use Rattle.dw_entries.specs.Units.{DebugUnit, context_of, Spells}
+use Rattle.dw_entries.specs.Entries.{Entry, entries_of}
+use Rattle.dw_entries.specs.Asked.{value_of}
+use Rattle.dw_entries.specs.Lookups.{IsDeclaredIn, entry_head}
+use Rattle.dw_entries.specs.Failures.{HasNone}
+use Rattle.dw_entries.specs.Asked.{AtEntries}
+use Rattle.dw_entries.proofs.Firsts.{same_some, none_of_entries}
+use Rattle.dw_entries.proofs.HeadLaws.{head_stands}
+use Rattle.dw_links.specs.Concerns.{Rules, AtHead, AllPass, EachPasses, PassesAt}
+
+-- what stands at a place of a list
+pub there : {X : Type 0} (xs : List X) (k : ℕ) → k < length xs → (x : X) × (slice_get xs k ≡ Some x)
+there [] k below = absurd (omega arith)
+there (x ∷ xs) zero below = (x, refl)
+there (x ∷ xs) (suc k) below = there xs k (omega arith)
+
+-- one item more of a list
+pub one_more : {X : Type 0} (xs : List X) (P : X → Type 0) (k : ℕ) (x : X) → slice_get xs k ≡ Some x → ((j : ℕ) (y : X) → j < k → slice_get xs j ≡ Some y → P y) → P x
+    → (j : ℕ) (y : X) → j < k + 1 → slice_get xs j ≡ Some y → P y
+one_more {X} xs P k x is passed here j y below is_y =
+    elim (eq-or-lt_of_le (let p : j ≤ k = omega arith in p)) [
+      | inl same ↦ let Q : ℕ → Type 0 = λ i. slice_get xs i ≡ Some y in subst P (same_some (slice_get xs k) x y is (subst Q same is_y)) here
+      | inr less ↦ passed j y less is_y
+    ]
+
+-- an attribute of an entry, with what declares it
+pub record IsDeclared (x : Context) (specs : List AttributeSpec) (k : ℕ) (item : ℕ × Datum) : Type 0 where
+  pub spec : AttributeSpec
+  pub is_spec : slice_get specs k ≡ Some spec
+  pub attribute : Attribute
+  pub is_attribute : IsAttribute x spec attribute
+  pub item_is : value_of attribute ≡ item
+
+pub declared_so : (x : Context) (specs : List AttributeSpec) (bs : List Attribute) (k : ℕ) (item : ℕ × Datum) → AreAttributes x specs bs → slice_get (map value_of bs) k ≡ Some item → IsDeclared x specs k item
+declared_so x [] [] k item are is = absurd cc
+declared_so x [] (a ∷ bs) k item are is = absurd are
+declared_so x (s ∷ specs) [] k item are is = absurd are
+declared_so x (s ∷ specs) (a ∷ bs) zero item are is = record { spec = s; is_spec = refl; attribute = a; is_attribute = are.0; item_is = let e : Some (value_of a) ≡ Some item = is in same_some (Some item) (value_of a) item (sym e) refl }
+declared_so x (s ∷ specs) (a ∷ bs) (suc k) item are is =
+    let more = declared_so x specs bs k item are.1 is in
+    record { spec = more.spec; is_spec = more.is_spec; attribute = more.attribute; is_attribute = more.is_attribute; item_is = more.item_is }
+
+pub skipped : («abbrev» info : List ℕ) (us : List DebugUnit) (id : ℕ) (Fails : Rules) (d : Declaration) → Spells «abbrev» us info → IfSome (slice_get (entries_of us) id) (λ e. d ≡ e.head.decl)
+    → AllPass Fails d.attributes → PassesAt (entries_of us) id (AtHead Fails)
+skipped «abbrev» info us id Fails d spells decl pass e is f fails =
+    let stands = head_stands «abbrev» info us id e spells is in
+    let same : d ≡ e.head.decl = rw is at decl in
+    let here = declared_so (context_of stands.unit) e.head.decl.attributes e.head.attributes fails.position (f.attribute, fails.value) stands.is.attributes fails.has in
+    let at_spec : slice_get d.attributes fails.position ≡ Some here.spec = ap (λ (x : Declaration). slice_get x.attributes fails.position) same ∙ here.is_spec in
+    let P : (ℕ × Datum) → Type 0 = λ q. Fails (entry_head e) q.0 q.1 f.rule in
+    pass fails.position here.spec at_spec (context_of stands.unit) here.attribute here.is_attribute (entry_head e) f.rule (subst P (sym here.item_is) fails.fails)
+
+pub none_concerned : («abbrev» info : List ℕ) (us : List DebugUnit) (tables : List (List Declaration)) (Fails : Rules) → Spells «abbrev» us info
+    → ((id : ℕ) (e : Entry) → slice_get (entries_of us) id ≡ Some e → IsDeclaredIn tables e.head.decl)
+    → ((number : ℕ) (table : List Declaration) → slice_get tables number ≡ Some table → EachPasses Fails table)
+    → HasNone (AtEntries (entries_of us) (AtHead Fails))
+none_concerned «abbrev» info us tables Fails spells declared pass =
+    none_of_entries (entries_of us) (AtHead Fails)
+    (λ id e below is.
+    let d = declared id e is in
+    skipped «abbrev» info us id Fails e.head.decl spells (rw is refl) (pass d.number d.table d.is_table d.place e.head.decl d.is_decl) e is)

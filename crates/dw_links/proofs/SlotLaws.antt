@@ -1,0 +1,261 @@
+-- Where no rule on strings and addresses fails, texts and addresses lie within their sections.
+use Rattle.std.proofs.Common.{◌≡◌, ◌≢◌, ℕ, suc, ◌+◌, ◌*◌, ◌<◌, ◌≤◌, ◌==◌, ◌⊎◌, Bool, true, false, cond, List, [], ◌∷◌, length, find, Option, Some, None, IfSome, option_map, option_and_then, refl, sym, ap, ◌∙◌, subst, arith, inl, inr}
+use Rattle.std.specs.Prelude.{slice_get}
+use Rattle.std.proofs.lemmas.Option.{option_and_then_some}
+use Rattle.std.proofs.lemmas.Bool.{eqb-true}
+use Rattle.dw_elf.specs.declared.sections.Sections.{Sections}
+use Rattle.dw_forms.specs.Codes.{DW_AT_str_offsets_base, DW_AT_addr_base}
+use Rattle.dw_forms.specs.Value.{Datum, address, block, unsigned, signed, wide, text, flag, str, line_str, str_index, ref_info, ref_unit, ref_sig, sec_offset, expr, addr_index, loc_index, rng_index}
+use Rattle.dw_entries.specs.declared.rule.Rule.{Rule}
+use Rattle.dw_entries.specs.declared.rule.Rule.TheVariants.{BadStrBase, StrIndex, StringEnd, BadAddrBase, AddrIndex}
+use Rattle.dw_entries.specs.declared.header.UnitHeader.{UnitHeader}
+use Rattle.dw_entries.specs.Header.{IsSize, version_of}
+use Rattle.dw_entries.specs.Units.{DebugUnit}
+use Rattle.dw_entries.specs.Entries.{Entry, PlacedUnit, entries_of, placed}
+use Rattle.dw_entries.specs.Places.{at_attribute}
+use Rattle.dw_entries.specs.Failures.{HasNone}
+use Rattle.dw_entries.specs.Asked.{values_of}
+use Rattle.dw_entries.specs.Lookups.{entry_head, value_in, value_at_entry}
+use Rattle.dw_entries.proofs.EntryFacts.{first_entry}
+use Rattle.dw_entries.proofs.Firsts.{same_some}
+use Rattle.dw_links.specs.Contributions.{IsContribution, slot_count, slot_at}
+use Rattle.dw_links.specs.Bases.{section_offset_in, section_offset_of, base_in}
+use Rattle.dw_links.specs.Strings.{IsStringContribution, IsAddressContribution, StringIndexFails, AddressIndexFails, StringFailsIn, StringFailures}
+use Rattle.dw_links.specs.declared.unit_tables.UnitBases.{UnitBases}
+use Rattle.dw_links.specs.Tables.{bases_in}
+use Rattle.dw_links.specs.Texts.{text_of, address_of}
+use Rattle.dw_links.specs.AttributeTexts.{text_at, address_at}
+use Rattle.dw_links.specs.Slots.{IsTextSlot, TextLies, IsAddressSlot, AddressLies}
+
+-- ---- the attribute that a value is found at
+
+-- the position of an attribute with this code and value
+pub record Stands (values : List (ℕ × Datum)) (attribute : ℕ) (v : Datum) : Type 0 where
+  pub position : ℕ
+  pub here : slice_get values position ≡ Some (attribute, v)
+
+found_value : (values : List (ℕ × Datum)) (attribute : ℕ) (v : Datum) → value_in values attribute ≡ Some v → Stands values attribute v
+found_value [] attribute v is = absurd cc
+found_value ((code, value) ∷ values) attribute v is = go (code == attribute) refl is (found_value values attribute v)
+  where
+    go : (b : Bool) → (code == attribute) ≡ b → option_map (λ (a : ℕ × Datum). a.1) (cond b (Some (code, value)) (find (λ (a : ℕ × Datum). a.0 == attribute) values)) ≡ Some v → (value_in values attribute ≡ Some v → Stands values attribute v)
+        → Stands ((code, value) ∷ values) attribute v
+    go true passes e more =
+        let same : code ≡ attribute = eqb-true code attribute passes in
+        let one : value ≡ v = same_some (Some value) value v refl e in
+        record { position = 0; here = rw (same, one) refl }
+    go false fails e more = let rest = more e in record { position = suc rest.position; here = rest.here }
+
+-- an attribute of an entry stands at a position
+pub stands_at : (e : Entry) (attribute : ℕ) (v : Datum) → value_at_entry e attribute ≡ Some v → Stands (values_of e.head) attribute v
+stands_at e = found_value (values_of e.head)
+
+-- ---- what no failure says
+
+-- no rule fails at the attribute
+pub passes_string : (sections : Sections) (us : List DebugUnit) (id : ℕ) (e : Entry) (p : PlacedUnit) (attribute : ℕ) (v : Datum) → HasNone (StringFailures sections us) → slice_get (entries_of us) id ≡ Some e → slice_get (placed us) e.unit ≡ Some p
+    → value_at_entry e attribute ≡ Some v → (rule : Rule)
+    → StringFailsIn sections p.unit.header (base_in (entries_of us) p DW_AT_str_offsets_base) (base_in (entries_of us) p DW_AT_addr_base) (entry_head e) attribute v rule → ⊥
+passes_string sections us id e p attribute v none is is_unit value rule fails =
+    let stands = stands_at e attribute v value in
+    none (record { rule = rule; place = at_attribute e.at stands.position; attribute = attribute })
+    (record {
+      number = id;
+      item = e;
+      is_item = is;
+      fails = record { position = stands.position; value = v; has = stands.here; place = refl; fails = record { unit = p; in_unit = is_unit; fails = fails } };
+    })
+
+-- a base is what the first entry of a unit of version 5 says
+pub record SaysBase (es : List Entry) (p : PlacedUnit) (attribute base : ℕ) : Type 0 where
+  pub version : version_of p.unit.header.kind ≢ 4
+  pub first : Entry
+  pub is_first : slice_get es p.first ≡ Some first
+  pub value : value_at_entry first attribute ≡ Some (sec_offset base)
+
+offset_said : (v : Datum) (base : ℕ) → section_offset_in v ≡ Some base → v ≡ sec_offset base
+offset_said (sec_offset n) base is = ap sec_offset (same_some (Some n) n base refl is)
+offset_said (address n) base is = absurd cc
+offset_said (block n) base is = absurd cc
+offset_said (unsigned n) base is = absurd cc
+offset_said (signed n) base is = absurd cc
+offset_said (wide n) base is = absurd cc
+offset_said (text n) base is = absurd cc
+offset_said (flag n) base is = absurd cc
+offset_said (str n) base is = absurd cc
+offset_said (line_str n) base is = absurd cc
+offset_said (str_index n) base is = absurd cc
+offset_said (ref_info n) base is = absurd cc
+offset_said (ref_unit n) base is = absurd cc
+offset_said (ref_sig n) base is = absurd cc
+offset_said (expr n) base is = absurd cc
+offset_said (addr_index n) base is = absurd cc
+offset_said (loc_index n) base is = absurd cc
+offset_said (rng_index n) base is = absurd cc
+
+base_said : (es : List Entry) (p : PlacedUnit) (attribute base : ℕ) → base_in es p attribute ≡ Some base → SaysBase es p attribute base
+base_said es p attribute base is = go (version_of p.unit.header.kind == 4) refl is
+  where
+    go : (b : Bool) → (version_of p.unit.header.kind == 4) ≡ b → cond b None (option_and_then (λ first. section_offset_of first attribute) (slice_get es p.first)) ≡ Some base → SaysBase es p attribute base
+    go true four e = absurd cc
+    go false other e =
+        option_and_then_some (λ first. section_offset_of first attribute) (slice_get es p.first) base e
+        (λ first is_first says. option_and_then_some section_offset_in (value_at_entry first attribute) base says
+        (λ v value offset. record {
+          version = λ four. let both : false ≡ true = sym other ∙ ap (λ (n : ℕ). n == 4) four in cc;
+          first = first;
+          is_first = is_first;
+          value = value ∙ ap Some (offset_said v base offset);
+        }))
+
+-- so its contribution is never broken
+sound_strings : (sections : Sections) (us : List DebugUnit) (k : ℕ) (p : PlacedUnit) (base : ℕ) → HasNone (StringFailures sections us) → slice_get (placed us) k ≡ Some p → base_in (entries_of us) p DW_AT_str_offsets_base ≡ Some base
+    → (IsStringContribution sections base → ⊥) → ⊥
+sound_strings sections us k p base none is said broken =
+    let says = base_said (entries_of us) p DW_AT_str_offsets_base base said in
+    let has = first_entry us k p is in
+    let same = same_some (slice_get (entries_of us) p.first) has.entry says.first has.is_entry says.is_first in
+    let unit = sym (ap (λ (e : Entry). e.unit) same) ∙ has.is_first.unit in
+    passes_string sections us p.first says.first p DW_AT_str_offsets_base (sec_offset base) none says.is_first (ap (slice_get (placed us)) unit ∙ is) says.value BadStrBase
+    (sym (ap (λ (e : Entry). e.parent) same) ∙ has.is_first.parent, says.version, inl (refl, refl, broken))
+
+sound_addresses : (sections : Sections) (us : List DebugUnit) (k : ℕ) (p : PlacedUnit) (base : ℕ) → HasNone (StringFailures sections us) → slice_get (placed us) k ≡ Some p → base_in (entries_of us) p DW_AT_addr_base ≡ Some base
+    → (IsAddressContribution sections p.unit.header base → ⊥) → ⊥
+sound_addresses sections us k p base none is said broken =
+    let says = base_said (entries_of us) p DW_AT_addr_base base said in
+    let has = first_entry us k p is in
+    let same = same_some (slice_get (entries_of us) p.first) has.entry says.first has.is_entry says.is_first in
+    let unit = sym (ap (λ (e : Entry). e.unit) same) ∙ has.is_first.unit in
+    passes_string sections us p.first says.first p DW_AT_addr_base (sec_offset base) none says.is_first (ap (slice_get (placed us)) unit ∙ is) says.value BadAddrBase
+    (sym (ap (λ (e : Entry). e.parent) same) ∙ has.is_first.parent, says.version, inr (refl, refl, broken))
+
+-- ---- slots
+
+below_or_not : (k n : ℕ) → (k < n) ⊎ (n ≤ k)
+below_or_not k n = grind arith
+
+-- a slot below the count lies within the section
+slot_within : (section : List ℕ) (slot mark base index : ℕ) → IsSize slot → IsContribution section slot mark base → index < slot_count section slot base → base + slot * index + slot ≤ length section
+slot_within section slot mark base index size is below =
+    elim size [
+      | inl four ↦ let P : ℕ → Type 0 = λ n. index < slot_count section n base → base + n * index + n ≤ length section in
+          subst P (sym four) (λ under. let header = is.header in let ends = is.ends in let long = is.long in omega (arith, under, header, ends, long)) below
+      | inr eight ↦ let P : ℕ → Type 0 = λ n. index < slot_count section n base → base + n * index + n ≤ length section in
+          subst P (sym eight) (λ under. let header = is.header in let ends = is.ends in let long = is.long in omega (arith, under, header, ends, long)) below
+    ]
+
+-- what follows from a contribution that is never broken, where the contrary is known otherwise
+at_most : (a b : ℕ) → ((b < a) → ⊥) → a ≤ b
+at_most a b never = elim (below_or_not b a) [ inl more ↦ absurd (never more) | inr le ↦ le ]
+
+text_slot : (sections : Sections) (us : List DebugUnit) (id : ℕ) (e : Entry) (p : PlacedUnit) (attribute index base : ℕ) → HasNone (StringFailures sections us) → slice_get (entries_of us) id ≡ Some e → slice_get (placed us) e.unit ≡ Some p
+    → value_at_entry e attribute ≡ Some (str_index index) → base_in (entries_of us) p DW_AT_str_offsets_base ≡ Some base → IsTextSlot sections index base
+text_slot sections us id e p attribute index base none is is_unit value said = record {
+  within = at_most (base + 4 * index + 4) (length sections.str_offsets.now) (λ more. sound_strings sections us e.unit p base none is_unit said
+      (λ c. let lies = slot_within sections.str_offsets.now 4 0 base index (inl refl) c (in_count c) in omega (arith, lies, more)));
+  leads = at_most (slot_at sections.str_offsets.now 4 base index) (length sections.str.now) (λ more. sound_strings sections us e.unit p base none is_unit said
+      (λ c. never StringEnd (c, in_count c, λ ends. let last = ends.behind in let within = ends.within in omega (arith, last, within, more))));
+}
+  where
+    never : (rule : Rule) → StringIndexFails sections (Some base) index rule → ⊥
+    never rule fails =
+        let P : Option ℕ → Type 0 = λ o. StringIndexFails sections o index rule in
+        passes_string sections us id e p attribute (str_index index) none is is_unit value rule (subst P (sym said) fails)
+
+    in_count : IsStringContribution sections base → index < slot_count sections.str_offsets.now 4 base
+    in_count c = elim (below_or_not index (slot_count sections.str_offsets.now 4 base)) [ inl under ↦ under | inr over ↦ absurd (never StrIndex (c, over)) ]
+
+address_slot : (sections : Sections) (us : List DebugUnit) (id : ℕ) (e : Entry) (p : PlacedUnit) (attribute index base : ℕ) → HasNone (StringFailures sections us) → slice_get (entries_of us) id ≡ Some e → slice_get (placed us) e.unit ≡ Some p
+    → IsSize p.unit.header.address_size → value_at_entry e attribute ≡ Some (addr_index index) → base_in (entries_of us) p DW_AT_addr_base ≡ Some base → IsAddressSlot sections p.unit.header index base
+address_slot sections us id e p attribute index base none is is_unit size value said = record {
+  size = size;
+  within = at_most (base + p.unit.header.address_size * index + p.unit.header.address_size) (length sections.addr.now) (λ more. sound_addresses sections us e.unit p base none is_unit said
+      (λ c. let lies = slot_within sections.addr.now p.unit.header.address_size p.unit.header.address_size base index size c (in_count c) in omega (arith, lies, more)));
+}
+  where
+    never : (rule : Rule) → AddressIndexFails sections p.unit.header (Some base) index rule → ⊥
+    never rule fails =
+        let P : Option ℕ → Type 0 = λ o. AddressIndexFails sections p.unit.header o index rule in
+        passes_string sections us id e p attribute (addr_index index) none is is_unit value rule (subst P (sym said) fails)
+
+    in_count : IsAddressContribution sections p.unit.header base → index < slot_count sections.addr.now p.unit.header.address_size base
+    in_count c = elim (below_or_not index (slot_count sections.addr.now p.unit.header.address_size base)) [ inl under ↦ under | inr over ↦ absurd (never AddrIndex (c, over)) ]
+
+if_each : (o : Option ℕ) (P : ℕ → Type 0) → ((n : ℕ) → o ≡ Some n → P n) → IfSome o P
+if_each None P each = tt
+if_each (Some n) P each = each n refl
+
+-- ---- texts and addresses of entries
+
+pub text_lies : (sections : Sections) (us : List DebugUnit) (id : ℕ) (e : Entry) (p : PlacedUnit) (attribute : ℕ) (v : Datum) → HasNone (StringFailures sections us) → slice_get (entries_of us) id ≡ Some e → slice_get (placed us) e.unit ≡ Some p
+    → value_at_entry e attribute ≡ Some v → TextLies sections (base_in (entries_of us) p DW_AT_str_offsets_base) v
+text_lies sections us id e p attribute (str offset) none is is_unit value =
+    at_most offset (length sections.str.now) (λ more. passes_string sections us id e p attribute (str offset) none is is_unit value StringEnd
+    (λ ends. let last = ends.behind in let within = ends.within in omega (arith, last, within, more)))
+text_lies sections us id e p attribute (line_str offset) none is is_unit value =
+    at_most offset (length sections.line_str.now) (λ more. passes_string sections us id e p attribute (line_str offset) none is is_unit value StringEnd
+    (λ ends. let last = ends.behind in let within = ends.within in omega (arith, last, within, more)))
+text_lies sections us id e p attribute (str_index index) none is is_unit value =
+    if_each (base_in (entries_of us) p DW_AT_str_offsets_base) (IsTextSlot sections index) (λ base said. text_slot sections us id e p attribute index base none is is_unit value said)
+text_lies sections us id e p attribute (address n) none is is_unit value = tt
+text_lies sections us id e p attribute (block n) none is is_unit value = tt
+text_lies sections us id e p attribute (unsigned n) none is is_unit value = tt
+text_lies sections us id e p attribute (signed n) none is is_unit value = tt
+text_lies sections us id e p attribute (wide n) none is is_unit value = tt
+text_lies sections us id e p attribute (text n) none is is_unit value = tt
+text_lies sections us id e p attribute (flag n) none is is_unit value = tt
+text_lies sections us id e p attribute (ref_info n) none is is_unit value = tt
+text_lies sections us id e p attribute (ref_unit n) none is is_unit value = tt
+text_lies sections us id e p attribute (ref_sig n) none is is_unit value = tt
+text_lies sections us id e p attribute (sec_offset n) none is is_unit value = tt
+text_lies sections us id e p attribute (expr n) none is is_unit value = tt
+text_lies sections us id e p attribute (addr_index n) none is is_unit value = tt
+text_lies sections us id e p attribute (loc_index n) none is is_unit value = tt
+text_lies sections us id e p attribute (rng_index n) none is is_unit value = tt
+
+pub address_lies : (sections : Sections) (us : List DebugUnit) (id : ℕ) (e : Entry) (p : PlacedUnit) (attribute : ℕ) (v : Datum) → HasNone (StringFailures sections us) → slice_get (entries_of us) id ≡ Some e → slice_get (placed us) e.unit ≡ Some p
+    → IsSize p.unit.header.address_size → value_at_entry e attribute ≡ Some v → AddressLies sections p.unit.header (base_in (entries_of us) p DW_AT_addr_base) v
+address_lies sections us id e p attribute (addr_index index) none is is_unit size value =
+    if_each (base_in (entries_of us) p DW_AT_addr_base) (IsAddressSlot sections p.unit.header index) (λ base said. address_slot sections us id e p attribute index base none is is_unit size value said)
+address_lies sections us id e p attribute (address n) none is is_unit size value = tt
+address_lies sections us id e p attribute (block n) none is is_unit size value = tt
+address_lies sections us id e p attribute (unsigned n) none is is_unit size value = tt
+address_lies sections us id e p attribute (signed n) none is is_unit size value = tt
+address_lies sections us id e p attribute (wide n) none is is_unit size value = tt
+address_lies sections us id e p attribute (text n) none is is_unit size value = tt
+address_lies sections us id e p attribute (flag n) none is is_unit size value = tt
+address_lies sections us id e p attribute (str n) none is is_unit size value = tt
+address_lies sections us id e p attribute (line_str n) none is is_unit size value = tt
+address_lies sections us id e p attribute (str_index n) none is is_unit size value = tt
+address_lies sections us id e p attribute (ref_info n) none is is_unit size value = tt
+address_lies sections us id e p attribute (ref_unit n) none is is_unit size value = tt
+address_lies sections us id e p attribute (ref_sig n) none is is_unit size value = tt
+address_lies sections us id e p attribute (sec_offset n) none is is_unit size value = tt
+address_lies sections us id e p attribute (expr n) none is is_unit size value = tt
+address_lies sections us id e p attribute (loc_index n) none is is_unit size value = tt
+address_lies sections us id e p attribute (rng_index n) none is is_unit size value = tt
+
+-- ---- what is told of a value is told of the attribute
+
+pub text_told : (given sections : Sections) (entries : List Entry) (units : List PlacedUnit) (e : Entry) (p : PlacedUnit) (attribute : ℕ) (v : Datum) (bases : UnitBases) (answer : Option (List ℕ)) → given ≡ sections → bases ≡ bases_in entries p
+    → slice_get units e.unit ≡ Some p → Some v ≡ value_at_entry e attribute → answer ≡ text_of given bases.strings v → answer ≡ text_at sections entries units e attribute
+unfolding text_at
+text_told given sections entries units e p attribute v bases answer same of_unit is_unit value is =
+    let told : answer ≡ text_of sections (base_in entries p DW_AT_str_offsets_base) v = is ∙ ap (λ (s : Sections). text_of s bases.strings v) same ∙ ap (λ (b : UnitBases). text_of sections b.strings v) of_unit in
+    rw (is_unit, ← value) told
+
+pub address_told : (given sections : Sections) (entries : List Entry) (units : List PlacedUnit) (e : Entry) (p : PlacedUnit) (attribute : ℕ) (v : Datum) (header : UnitHeader) (bases : UnitBases) (answer : Option ℕ) → given ≡ sections → header ≡ p.unit.header
+    → bases ≡ bases_in entries p → slice_get units e.unit ≡ Some p → Some v ≡ value_at_entry e attribute → answer ≡ address_of given header bases.addresses v → answer ≡ address_at sections entries units e attribute
+unfolding address_at
+address_told given sections entries units e p attribute v header bases answer same of_header of_unit is_unit value is =
+    let told : answer ≡ address_of sections p.unit.header (base_in entries p DW_AT_addr_base) v =
+    is ∙ ap (λ (s : Sections). address_of s header bases.addresses v) same ∙ ap (λ (h : UnitHeader). address_of sections h bases.addresses v) of_header ∙ ap (λ (b : UnitBases). address_of sections p.unit.header b.addresses v) of_unit in
+    rw (is_unit, ← value) told
+
+pub no_text : (sections : Sections) (entries : List Entry) (units : List PlacedUnit) (e : Entry) (p : PlacedUnit) (attribute : ℕ) → slice_get units e.unit ≡ Some p → None ≡ value_at_entry e attribute → None ≡ text_at sections entries units e attribute
+unfolding text_at
+no_text sections entries units e p attribute is_unit value = rw (is_unit, ← value) refl
+
+pub no_address : (sections : Sections) (entries : List Entry) (units : List PlacedUnit) (e : Entry) (p : PlacedUnit) (attribute : ℕ) → slice_get units e.unit ≡ Some p → None ≡ value_at_entry e attribute → None ≡ address_at sections entries units e attribute
+unfolding address_at
+no_address sections entries units e p attribute is_unit value = rw (is_unit, ← value) refl

@@ -1,0 +1,264 @@
+-- What values reach, as a function and as a relation.
+use Rattle.std.proofs.Common.{◌≡◌, ℕ, ◌+◌, ◌<◌, ◌==◌, ◌&&◌, Bool, true, false, List, length, Option, Some, None, IfSome, IfNone, option_and_then, refl, sym, ap, ◌∙◌, subst, arith, eq-eqb, ne_eqb}
+use Rattle.std.specs.Prelude.{slice_get}
+use Rattle.std.specs.Ordering.{nat_cmp}
+use Rattle.std.specs.BTreeMap.{BTreeMap, get}
+use Rattle.std.proofs.lemmas.Option.{slice_get_within, option_and_then_some}
+use Rattle.std.proofs.lemmas.Bool.{eqb-true}
+use Rattle.dw_forms.specs.Value.{Datum, address, block, unsigned, signed, wide, text, flag, str, line_str, str_index, ref_info, ref_unit, ref_sig, sec_offset, expr, addr_index, loc_index, rng_index}
+use Rattle.dw_entries.specs.declared.lookup.Head.{Head}
+use Rattle.dw_entries.specs.Lookups.{entry_head, value_at_entry}
+use Rattle.dw_entries.specs.Asked.{OffsetsRise}
+use Rattle.dw_entries.specs.Entries.{Entry, PlacedUnit}
+use Rattle.dw_entries.specs.Runs.{IsEntryAt, IsEntryIn, ReachesInUnit}
+use Rattle.dw_entries.proofs.Firsts.{same_some}
+use Rattle.dw_links.specs.References.{type_in, HasSignature, ReachesBySignature, Reaches}
+use Rattle.dw_links.specs.Signatures.{IsFirstSigned, AreSignatures, AreDistinct}
+use Rattle.dw_links.specs.Targets.{entry_at, entry_in, is_signature_of, first_signed, reach_in_unit, type_of_unit, reach_of, target_of, HasFirstSigned}
+use Rattle.dw_links.proofs.Positions.{IsFirstAt, position_is, place_is, none_passes, answer_is}
+use Rattle.dw_links.proofs.ReferenceLaws.{reached_entry}
+
+-- ---- entries by their offsets
+
+pub entry_at_is : (entries : List Entry) (offset id : ℕ) → OffsetsRise entries → IsEntryAt entries offset id → entry_at entries offset ≡ Some id
+unfolding entry_at
+entry_at_is entries offset id rise found =
+    let begins = found.begins in
+    position_is (λ (e : Entry). e.at == offset) entries id
+    (record {
+      item = found.entry;
+      is_item = found.is_entry;
+      passes = eq-eqb found.entry.at offset begins;
+      before = λ j d lt at. ne_eqb d.at offset (λ same. omega (arith, rise j id d found.entry lt at found.is_entry, same, begins));
+    })
+
+pub at_entry_at : (entries : List Entry) (offset id : ℕ) → entry_at entries offset ≡ Some id → IsEntryAt entries offset id
+unfolding entry_at
+at_entry_at entries offset id is =
+    let first = place_is (λ (e : Entry). e.at == offset) entries id is in
+    record { entry = first.item; is_entry = first.is_item; begins = eqb-true first.item.at offset first.passes }
+
+both_true : (a b : Bool) → a ≡ true → b ≡ true → (a && b) ≡ true
+both_true true true p q = refl
+both_true true false p q = q
+both_true false b p q = p
+
+second_false : (a b : Bool) → b ≡ false → (a && b) ≡ false
+second_false true b is = is
+second_false false b is = refl
+
+each_true : (a b : Bool) → (a && b) ≡ true → (a ≡ true) × (b ≡ true)
+each_true true b is = (refl, is)
+each_true false b is = absurd cc
+
+pub entry_in_is : (entries : List Entry) (unit offset id : ℕ) → OffsetsRise entries → IsEntryIn entries unit offset id → entry_in entries unit offset ≡ Some id
+unfolding entry_in
+entry_in_is entries unit offset id rise found =
+    let begins = found.begins in
+    position_is (λ (e : Entry). e.unit == unit && e.at == offset) entries id
+    (record {
+      item = found.entry;
+      is_item = found.is_entry;
+      passes = both_true (found.entry.unit == unit) (found.entry.at == offset) (eq-eqb found.entry.unit unit found.in_unit) (eq-eqb found.entry.at offset begins);
+      before = λ j d lt at. second_false (d.unit == unit) (d.at == offset) (ne_eqb d.at offset (λ same. omega (arith, rise j id d found.entry lt at found.is_entry, same, begins)));
+    })
+
+pub at_entry_in : (entries : List Entry) (unit offset id : ℕ) → entry_in entries unit offset ≡ Some id → IsEntryIn entries unit offset id
+unfolding entry_in
+at_entry_in entries unit offset id is =
+    let first = place_is (λ (e : Entry). e.unit == unit && e.at == offset) entries id is in
+    let both = each_true (first.item.unit == unit) (first.item.at == offset) first.passes in
+    record { entry = first.item; is_entry = first.is_item; begins = eqb-true first.item.at offset both.1; in_unit = eqb-true first.item.unit unit both.0 }
+
+-- what a search by offset answers
+pub entry_at_answer : (entries : List Entry) (offset : ℕ) (answer : Option ℕ) → OffsetsRise entries → IfSome answer (IsEntryAt entries offset) → IfNone answer ((id : ℕ) → IsEntryAt entries offset id → ⊥) → answer ≡ entry_at entries offset
+entry_at_answer entries offset answer rise = answer_is (IsEntryAt entries offset) (entry_at entries offset) answer (at_entry_at entries offset) (λ id. entry_at_is entries offset id rise)
+
+-- ---- entries by their offsets from a header
+
+pub reach_in_unit_is : (entries : List Entry) (units : List PlacedUnit) (unit offset id : ℕ) → OffsetsRise entries → ReachesInUnit entries units unit offset id → reach_in_unit entries units unit offset ≡ Some id
+reach_in_unit_is entries units unit offset id rise reached = rw reached.is_unit (entry_in_is entries unit (reached.unit.at + offset) id rise reached.target)
+
+pub at_reach_in_unit : (entries : List Entry) (units : List PlacedUnit) (unit offset id : ℕ) → reach_in_unit entries units unit offset ≡ Some id → ReachesInUnit entries units unit offset id
+at_reach_in_unit entries units unit offset id is =
+    option_and_then_some (λ (u : PlacedUnit). entry_in entries unit (u.at + offset)) (slice_get units unit) id is
+    (λ u is_unit found. record { unit = u; is_unit = is_unit; target = at_entry_in entries unit (u.at + offset) id found })
+
+pub reach_in_unit_answer : (entries : List Entry) (units : List PlacedUnit) (unit offset : ℕ) (answer : Option ℕ) → OffsetsRise entries → IfSome answer (ReachesInUnit entries units unit offset)
+    → IfNone answer ((id : ℕ) → ReachesInUnit entries units unit offset id → ⊥) → answer ≡ reach_in_unit entries units unit offset
+reach_in_unit_answer entries units unit offset answer rise =
+    answer_is (ReachesInUnit entries units unit offset) (reach_in_unit entries units unit offset) answer (at_reach_in_unit entries units unit offset) (λ id. reach_in_unit_is entries units unit offset id rise)
+
+-- ---- type units by their signatures
+
+is_signed : (signature type_offset : ℕ) (o : Option (ℕ × ℕ)) → o ≡ Some (signature, type_offset) → is_signature_of signature o ≡ true
+is_signed signature type_offset o is = rw is (eq-eqb signature signature refl)
+
+signed_with : (signature : ℕ) (o : Option (ℕ × ℕ)) → is_signature_of signature o ≡ true → (type_offset : ℕ) × (o ≡ Some (signature, type_offset))
+signed_with signature None is = absurd cc
+signed_with signature (Some (other, type_offset)) is = let same : other ≡ signature = eqb-true other signature is in (type_offset, rw same refl)
+
+abbrev signs : ℕ → PlacedUnit → Bool
+signs signature u = is_signature_of signature (type_in u.unit.header.kind)
+
+signature_here : (units : List PlacedUnit) (signature number : ℕ) (u : PlacedUnit) → slice_get units number ≡ Some u → signs signature u ≡ true → HasSignature units signature number
+signature_here units signature number u is passes =
+    let (type_offset, kind) = signed_with signature (type_in u.unit.header.kind) passes in
+    record { unit = u; is_unit = is; type_offset = type_offset; signed = kind }
+
+-- the first unit that is found has the signature, and none before it
+pub at_first_signed : (units : List PlacedUnit) (signature number : ℕ) → first_signed units signature ≡ Some number → IsFirstSigned units signature (length units) (Some number)
+unfolding first_signed
+at_first_signed units signature number is =
+    let first = place_is (signs signature) units number is in
+    (slice_get_within units number first.item first.is_item, signature_here units signature number first.item first.is_item first.passes, λ j less has. none_before j first less has)
+  where
+    none_before : (j : ℕ) → IsFirstAt (signs signature) units number → j < number → HasSignature units signature j → ⊥
+    none_before j first less has =
+        let both : true ≡ false = sym (is_signed signature has.type_offset (type_in has.unit.unit.header.kind) has.signed) ∙ first.before j has.unit less has.is_unit in cc
+
+false_unless : (b : Bool) → (b ≡ true → ⊥) → b ≡ false
+false_unless true never = absurd (never refl)
+false_unless false never = refl
+
+pub first_signed_is : (units : List PlacedUnit) (signature below number : ℕ) → IsFirstSigned units signature below (Some number) → first_signed units signature ≡ Some number
+unfolding first_signed
+first_signed_is units signature below number (within, has, none) =
+    position_is (signs signature) units number
+    (record {
+      item = has.unit;
+      is_item = has.is_unit;
+      passes = is_signed signature has.type_offset (type_in has.unit.unit.header.kind) has.signed;
+      before = λ j u less at. false_unless (signs signature u) (λ passes. none j less (signature_here units signature j u at passes));
+    })
+
+-- the first unit of those that have a signature, of all units
+first_signed_answer : (units : List PlacedUnit) (signature below : ℕ) (answer : Option ℕ) → below ≡ length units → IsFirstSigned units signature below answer → answer ≡ first_signed units signature
+first_signed_answer units signature below (Some number) all is = sym (first_signed_is units signature below number is)
+first_signed_answer units signature below None all none = go (first_signed units signature) refl
+  where
+    go : (o : Option ℕ) → first_signed units signature ≡ o → None ≡ first_signed units signature
+    go None is = sym is
+    go (Some number) is =
+        let found = at_first_signed units signature number is in
+        absurd (none number (omega (arith, found.0, all)) found.1)
+
+-- the table of all units has them
+pub has_first_signed : (units : List PlacedUnit) (below : ℕ) (table : BTreeMap ℕ ℕ) → below ≡ length units → AreSignatures units below table → HasFirstSigned units table
+has_first_signed units below table all so signature = first_signed_answer units signature below (get nat_cmp table signature) all (so signature)
+
+-- where none is found, none has the signature
+pub none_signed : (units : List PlacedUnit) (signature : ℕ) → first_signed units signature ≡ None → (number : ℕ) → HasSignature units signature number → ⊥
+unfolding first_signed
+none_signed units signature none number has =
+    let both : true ≡ false = sym (is_signed signature has.type_offset (type_in has.unit.unit.header.kind) has.signed) ∙ none_passes (signs signature) units none number has.unit has.is_unit in cc
+
+-- the first unit that is found is the first of those that have the signature
+pub first_signed_all : (units : List PlacedUnit) (signature below : ℕ) (answer : Option ℕ) → length units ≡ below → answer ≡ first_signed units signature → IsFirstSigned units signature below answer
+first_signed_all units signature below answer all is = rw (is, ← all) (go (first_signed units signature) refl)
+  where
+    go : (o : Option ℕ) → first_signed units signature ≡ o → IsFirstSigned units signature (length units) (first_signed units signature)
+    go (Some number) found = rw found (at_first_signed units signature number found)
+    go None none = rw none (λ number less. none_signed units signature none number)
+
+-- ---- types by signatures
+
+pub type_of_unit_is : (entries : List Entry) (units : List PlacedUnit) (unit signature type_offset : ℕ) (u : PlacedUnit) (target : Option ℕ) → slice_get units unit ≡ Some u → type_in u.unit.header.kind ≡ Some (signature, type_offset)
+    → reach_in_unit entries units unit type_offset ≡ target → type_of_unit entries units unit ≡ target
+type_of_unit_is entries units unit signature type_offset u target is kind reached =
+    let P : Option PlacedUnit → Type 0 = λ o. option_and_then (λ (p : PlacedUnit). option_and_then (λ (type : ℕ × ℕ). reach_in_unit entries units unit type.1) (type_in p.unit.header.kind)) o ≡ target in
+    subst P (sym is) (rw kind reached)
+
+-- at the type offset of the first type unit that has the signature
+at_type : (entries : List Entry) (units : List PlacedUnit) (signature id : ℕ) → option_and_then (type_of_unit entries units) (first_signed units signature) ≡ Some id → ReachesBySignature entries units signature id
+at_type entries units signature id is =
+    option_and_then_some (type_of_unit entries units) (first_signed units signature) id is
+    (λ number found typed.
+    let has = (at_first_signed units signature number found).1 in
+    let reached = at_reach_in_unit entries units number has.type_offset id (sym (type_of_unit_is entries units number signature has.type_offset has.unit (reach_in_unit entries units number has.type_offset) has.is_unit has.signed refl) ∙ typed) in
+    let same = ap (λ (x : PlacedUnit). x.at) (same_some (slice_get units number) reached.unit has.unit reached.is_unit has.is_unit) in
+    let begins = reached.target.begins in
+    record {
+      number = number;
+      has = has;
+      target = record { entry = reached.target.entry; is_entry = reached.target.is_entry; begins = omega (arith, begins, same); in_unit = reached.target.in_unit };
+    })
+
+type_is : (entries : List Entry) (units : List PlacedUnit) (signature id : ℕ) → OffsetsRise entries → AreDistinct units → ReachesBySignature entries units signature id
+    → option_and_then (type_of_unit entries units) (first_signed units signature) ≡ Some id
+type_is entries units signature id rise distinct reached =
+    let first : IsFirstSigned units signature (length units) (Some reached.number) = (
+      slice_get_within units reached.number reached.has.unit reached.has.is_unit,
+      reached.has,
+      λ j less has. let same = distinct signature j reached.number has reached.has in omega (arith, same, less),
+    ) in
+    rw (first_signed_is units signature (length units) reached.number first)
+    (type_of_unit_is entries units reached.number signature reached.has.type_offset reached.has.unit (Some id) reached.has.is_unit reached.has.signed
+    (reach_in_unit_is entries units reached.number reached.has.type_offset id rise (record { unit = reached.has.unit; is_unit = reached.has.is_unit; target = reached.target })))
+
+-- ---- what a value reaches
+
+-- the entry that the function gives is reached
+pub at_reach_of : (entries : List Entry) (units : List PlacedUnit) (head : Head) (v : Datum) (id : ℕ) → reach_of entries units head v ≡ Some id → Reaches entries units head v id
+at_reach_of entries units head (address n) id is = absurd cc
+at_reach_of entries units head (block n) id is = absurd cc
+at_reach_of entries units head (unsigned n) id is = absurd cc
+at_reach_of entries units head (signed n) id is = absurd cc
+at_reach_of entries units head (wide n) id is = absurd cc
+at_reach_of entries units head (text n) id is = absurd cc
+at_reach_of entries units head (flag n) id is = absurd cc
+at_reach_of entries units head (str n) id is = absurd cc
+at_reach_of entries units head (line_str n) id is = absurd cc
+at_reach_of entries units head (str_index n) id is = absurd cc
+at_reach_of entries units head (ref_info offset) id is = at_entry_at entries offset id is
+at_reach_of entries units head (ref_unit offset) id is = at_reach_in_unit entries units head.unit offset id is
+at_reach_of entries units head (ref_sig signature) id is = at_type entries units signature id is
+at_reach_of entries units head (sec_offset n) id is = absurd cc
+at_reach_of entries units head (expr n) id is = absurd cc
+at_reach_of entries units head (addr_index n) id is = absurd cc
+at_reach_of entries units head (loc_index n) id is = absurd cc
+at_reach_of entries units head (rng_index n) id is = absurd cc
+
+-- an entry that is reached is the one that the function gives, where no two type units have one signature
+pub reach_of_is : (entries : List Entry) (units : List PlacedUnit) (head : Head) (v : Datum) (id : ℕ) → OffsetsRise entries → AreDistinct units → Reaches entries units head v id → reach_of entries units head v ≡ Some id
+reach_of_is entries units head (address n) id rise distinct reaches = absurd reaches
+reach_of_is entries units head (block n) id rise distinct reaches = absurd reaches
+reach_of_is entries units head (unsigned n) id rise distinct reaches = absurd reaches
+reach_of_is entries units head (signed n) id rise distinct reaches = absurd reaches
+reach_of_is entries units head (wide n) id rise distinct reaches = absurd reaches
+reach_of_is entries units head (text n) id rise distinct reaches = absurd reaches
+reach_of_is entries units head (flag n) id rise distinct reaches = absurd reaches
+reach_of_is entries units head (str n) id rise distinct reaches = absurd reaches
+reach_of_is entries units head (line_str n) id rise distinct reaches = absurd reaches
+reach_of_is entries units head (str_index n) id rise distinct reaches = absurd reaches
+reach_of_is entries units head (ref_info offset) id rise distinct reaches = entry_at_is entries offset id rise reaches
+reach_of_is entries units head (ref_unit offset) id rise distinct reaches = reach_in_unit_is entries units head.unit offset id rise reaches
+reach_of_is entries units head (ref_sig signature) id rise distinct reaches = type_is entries units signature id rise distinct reaches
+reach_of_is entries units head (sec_offset n) id rise distinct reaches = absurd reaches
+reach_of_is entries units head (expr n) id rise distinct reaches = absurd reaches
+reach_of_is entries units head (addr_index n) id rise distinct reaches = absurd reaches
+reach_of_is entries units head (loc_index n) id rise distinct reaches = absurd reaches
+reach_of_is entries units head (rng_index n) id rise distinct reaches = absurd reaches
+
+-- ---- what an attribute reaches
+
+-- what was asked of an entry's value is the target
+target_of_value : (entries : List Entry) (units : List PlacedUnit) (e : Entry) (attribute : ℕ) (v : Option Datum) (answer : Option ℕ) → v ≡ value_at_entry e attribute → answer ≡ option_and_then (reach_of entries units (entry_head e)) v
+    → answer ≡ target_of entries units e attribute
+unfolding target_of
+target_of_value entries units e attribute v answer value is = is ∙ ap (option_and_then (reach_of entries units (entry_head e))) value
+
+pub target_is : (entries : List Entry) (units : List PlacedUnit) (id attribute : ℕ) (v : Option Datum) (answer : Option ℕ) → IfSome (slice_get entries id) (λ e. v ≡ value_at_entry e attribute)
+    → IfSome (slice_get entries id) (λ e. answer ≡ option_and_then (reach_of entries units (entry_head e)) v) → IfSome (slice_get entries id) (λ e. answer ≡ target_of entries units e attribute)
+target_is entries units id attribute v answer value is = go (slice_get entries id) value is
+  where
+    go : (o : Option Entry) → IfSome o (λ e. v ≡ value_at_entry e attribute) → IfSome o (λ e. answer ≡ option_and_then (reach_of entries units (entry_head e)) v) → IfSome o (λ e. answer ≡ target_of entries units e attribute)
+    go None value is = tt
+    go (Some e) value is = target_of_value entries units e attribute v answer value is
+
+-- what is reached is an entry
+pub reach_within : (entries : List Entry) (units : List PlacedUnit) (head : Head) (v : Datum) (answer : Option ℕ) → answer ≡ reach_of entries units head v → IfSome answer (λ t. t < length entries)
+reach_within entries units head v None is = tt
+reach_within entries units head v (Some t) is =
+    let (e, is_e) = reached_entry entries units head v t (at_reach_of entries units head v t (sym is)) in
+    slice_get_within entries t e is_e

@@ -1,0 +1,20 @@
+-- Where a unit's contributions begin (DWARF 5, sections 7.26 and 7.27).
+use Rattle.std.specs.Prelude.{ℕ, ◌==◌, List, Option, None, Some, slice_get, if◌then◌else◌}
+use Rattle.std.specs.Option.{option_and_then}
+use Rattle.dw_forms.specs.Value.{Datum, sec_offset}
+use Rattle.dw_entries.specs.Header.{version_of}
+use Rattle.dw_entries.specs.Entries.{Entry}
+use Rattle.dw_entries.specs.Lookups.{value_at_entry}
+use Rattle.dw_entries.specs.Entries.{PlacedUnit}
+
+abbrev pub section_offset_in : Datum → Option ℕ
+section_offset_in (sec_offset offset) = Some offset
+section_offset_in _ = None
+
+abbrev pub section_offset_of : Entry → ℕ → Option ℕ
+section_offset_of entry attribute = option_and_then section_offset_in (value_at_entry entry attribute)
+
+-- the base that a unit's first entry gives to its contribution; in version 4 there is none
+abbrev pub base_in : List Entry → PlacedUnit → ℕ → Option ℕ
+base_in entries unit attribute =
+    if version_of unit.unit.header.kind == 4 then None else option_and_then (λ first. section_offset_of first attribute) (slice_get entries unit.first)

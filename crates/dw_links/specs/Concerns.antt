@@ -1,0 +1,40 @@
+-- Rules that are asked of the attributes of entries, and what a declaration already says of them.
+use Rattle.std.specs.Prelude.{◌≡◌, ℕ, List, Some, slice_get}
+use Rattle.dw_forms.specs.Value.{Datum}
+use Rattle.dw_forms.specs.Abbrev.{Declaration}
+use Rattle.dw_forms.specs.declared.decl.AttributeSpec.{AttributeSpec}
+use Rattle.dw_entries.specs.declared.rule.Rule.{Rule}
+use Rattle.dw_entries.specs.declared.fault.Broken.{Broken}
+use Rattle.dw_entries.specs.declared.lookup.Head.{Head}
+use Rattle.dw_entries.specs.Grammar.{Context, Attribute, IsAttribute}
+use Rattle.dw_entries.specs.Entries.{Entry}
+use Rattle.dw_entries.specs.Failures.{Failure, HasNone, IsFirst}
+use Rattle.dw_entries.specs.Asked.{AtAttributes}
+use Rattle.dw_entries.specs.Lookups.{entry_head}
+
+-- which rules fail at an attribute with a value, by what is told of its entry
+abbrev pub Rules : Type 1
+Rules = Head → ℕ → Datum → Rule → Type 0
+
+-- the failures of the rules at the attributes of an entry
+abbrev pub AtHead : Rules → Entry → Failure → Type 0
+AtHead Fails = AtAttributes (λ e. Fails (entry_head e))
+
+-- no rule fails at an attribute that is declared so
+abbrev pub Passes : Rules → AttributeSpec → Type 0
+Passes Fails spec = (x : Context) (a : Attribute) → IsAttribute x spec a → (head : Head) (rule : Rule) → Fails head a.code a.value rule → ⊥
+
+-- nor at any of a declaration
+abbrev pub AllPass : Rules → List AttributeSpec → Type 0
+AllPass Fails specs = (k : ℕ) (spec : AttributeSpec) → slice_get specs k ≡ Some spec → Passes Fails spec
+
+-- nor at any of these declarations
+abbrev pub EachPasses : Rules → List Declaration → Type 0
+EachPasses Fails decls = (place : ℕ) (decl : Declaration) → slice_get decls place ≡ Some decl → AllPass Fails decl.attributes
+
+-- no rule fails at the entry with this number, or the first that does is named
+abbrev pub PassesAt : List Entry → ℕ → (Entry → Failure → Type 0) → Type 0
+PassesAt entries id Fails = (e : Entry) → slice_get entries id ≡ Some e → HasNone (Fails e)
+
+abbrev pub FailsAt : List Entry → ℕ → (Entry → Failure → Type 0) → Broken → Type 0
+FailsAt entries id Fails broken = (e : Entry) → slice_get entries id ≡ Some e → IsFirst (Fails e) broken

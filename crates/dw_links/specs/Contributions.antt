@@ -1,0 +1,63 @@
+-- Contributions to .debug_str_offsets and .debug_addr (DWARF 5, sections 7.26 and 7.27), and the ends of strings.
+use Rattle.std.specs.Prelude.{◌≡◌, ℕ, ◌+◌, ◌-◌, ◌*◌, ◌/◌, ◌%◌, ◌<◌, ◌≤◌, List, length, drop, slice_index, Option, None, Some, ◌==◌}
+use Rattle.std.specs.List.{before_first}
+use Rattle.byteorder.specs.Endian.{little_number}
+use Rattle.dw_links.specs.declared.contribution.Contribution.{Contribution}
+use Rattle.dw_links.specs.declared.contribution.Contribution.TheVariants.{Absent, Broken, Sound}
+
+-- the number in so many bytes from a place on
+unfoldable pub number_at : ℕ → List ℕ → ℕ → ℕ
+number_at size section at = little_number size (drop at section)
+
+-- the length in the header before a base, which counts all bytes behind itself
+abbrev pub length_before : List ℕ → ℕ → ℕ
+length_before section base = number_at 4 section (base - 8)
+
+-- the first slot of a contribution is at the base, and its header of 8 bytes stands before it: a length, the
+-- version, and two bytes, which are the mark and 0; a slot has so many bytes
+pub record IsContribution (section : List ℕ) (slot mark base : ℕ) : Type 0 where
+  pub header : 8 ≤ base
+  pub within : base ≤ length section
+  pub is_32_bit : length_before section base < 0xfffffff0
+  pub long : 4 ≤ length_before section base
+  pub version : number_at 2 section (base - 4) ≡ 5
+  pub marked : number_at 1 section (base - 2) ≡ mark
+  pub zero_behind : number_at 1 section (base - 1) ≡ 0
+  pub slots : (length_before section base - 4) % slot ≡ 0
+  pub ends : base - 4 + length_before section base ≤ length section
+
+-- how many slots it has
+abbrev pub slot_count : List ℕ → ℕ → ℕ → ℕ
+slot_count section slot base = (length_before section base - 4) / slot
+
+-- the number in a slot
+abbrev pub slot_at : List ℕ → ℕ → ℕ → ℕ → ℕ
+slot_at section slot base index = number_at slot section (base + slot * index)
+
+-- the base that a contribution is named by
+abbrev pub base_of : Contribution → Option ℕ
+base_of Absent = None
+base_of (Broken base) = Some base
+base_of (Sound base count) = Some base
+
+-- what was read of the contribution that is named by a base
+abbrev pub IsRead : List ℕ → ℕ → ℕ → Contribution → Type 0
+IsRead section slot mark Absent = Unit {0}
+IsRead section slot mark (Broken base) = IsContribution section slot mark base → ⊥
+IsRead section slot mark (Sound base count) = IsContribution section slot mark base × (count ≡ slot_count section slot base)
+
+-- a string begins at the offset: a zero byte stands there or behind
+pub record Ends (section : List ℕ) (offset : ℕ) : Type 0 where
+  pub last : ℕ
+  pub behind : offset ≤ last
+  pub within : last < length section
+  pub is_zero : slice_index section last ≡ 0
+
+-- strings begin below this offset and nowhere else
+pub record IsEndOfStrings (section : List ℕ) (end : ℕ) : Type 0 where
+  pub below : (offset : ℕ) → offset < end → Ends section offset
+  pub above : (offset : ℕ) → end ≤ offset → Ends section offset → ⊥
+
+-- the string at an offset: the bytes before the first zero byte
+abbrev pub string_at : List ℕ → ℕ → List ℕ
+string_at section offset = before_first (λ byte. byte == 0) (drop offset section)

@@ -1,0 +1,15 @@
+pub mod Concerns
+pub mod Classes
+pub mod Contributions
+pub mod Bases
+pub mod Strings
+pub mod Texts
+pub mod Ready
+pub mod References
+pub mod Signatures
+pub mod Linkable
+pub mod Targets
+pub mod Tables
+pub mod AttributeTexts
+pub mod LinkLaws
+pub mod Slots

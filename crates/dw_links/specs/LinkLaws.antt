@@ -1,0 +1,50 @@
+-- What holds of the values of entries where no rule on strings, addresses and references fails.
+use Rattle.std.specs.Prelude.{◌≡◌, ℕ, ◌+◌, true, List, Some, slice_get, IsSome}
+use Rattle.dw_elf.specs.declared.sections.Sections.{Sections}
+use Rattle.dw_forms.specs.Codes.{DW_AT_sibling}
+use Rattle.dw_forms.specs.Value.{Datum}
+use Rattle.dw_entries.specs.Units.{DebugUnit}
+use Rattle.dw_entries.specs.Entries.{Entry, PlacedUnit, entries_of, placed}
+use Rattle.dw_entries.specs.Asked.{EachEntry}
+use Rattle.dw_entries.specs.Lookups.{entry_head, value_at_entry}
+use Rattle.dw_links.specs.declared.class.Class.{Class}
+use Rattle.dw_links.specs.declared.class.Class.TheVariants.{Address, Reference, String}
+use Rattle.dw_links.specs.Classes.{class_of}
+use Rattle.dw_links.specs.References.{type_in, Reaches, permits, permits_form, HasType}
+use Rattle.dw_links.specs.Signatures.{AreDistinct}
+use Rattle.dw_links.specs.Targets.{target_of}
+use Rattle.dw_links.specs.AttributeTexts.{text_at, address_at}
+
+-- a fact of each attribute that has a value of a class
+abbrev pub EachValue : Class → (Entry → ℕ → Datum → Type 0) → List Entry → Type 0
+EachValue class P entries = EachEntry (λ e. (attribute : ℕ) (v : Datum) → value_at_entry e attribute ≡ Some v → class_of v ≡ class → P e attribute v) entries
+
+-- the value reaches one entry, which is the attribute's target; the attribute may have this form and reach this entry, and
+-- a sibling attribute reaches the next sibling
+pub record HasTarget (entries : List Entry) (units : List PlacedUnit) (e : Entry) (attribute : ℕ) (v : Datum) : Type 0 where
+  pub id : ℕ
+  pub target : Entry
+  pub is_entry : slice_get entries id ≡ Some target
+  pub is_target : target_of entries units e attribute ≡ Some id
+  pub reaches : Reaches entries units (entry_head e) v id
+  pub only : (other : ℕ) → Reaches entries units (entry_head e) v other → other ≡ id
+  pub form : permits_form (entry_head e) attribute v ≡ true
+  pub kind : permits (entry_head e) attribute target ≡ true
+  pub sibling : attribute ≡ DW_AT_sibling → e.next ≡ Some id
+
+-- each value of class reference has a target
+abbrev pub HaveTargets : List DebugUnit → Type 0
+HaveTargets units = EachValue Reference (HasTarget (entries_of units) (placed units)) (entries_of units)
+
+-- no two type units have one signature, and a type begins at the type offset of each
+pub record HaveTypes (units : List DebugUnit) : Type 0 where
+  pub distinct : AreDistinct (placed units)
+  pub types : (number signature type_offset : ℕ) (p : PlacedUnit) → slice_get (placed units) number ≡ Some p → type_in p.unit.header.kind ≡ Some (signature, type_offset) → HasType (entries_of units) number (p.at + type_offset)
+
+-- each value of class string has a text
+abbrev pub HaveTexts : Sections → List DebugUnit → Type 0
+HaveTexts sections units = EachValue String (λ e attribute v. IsSome (text_at sections (entries_of units) (placed units) e attribute)) (entries_of units)
+
+-- each value of class address is an address
+abbrev pub HaveAddresses : Sections → List DebugUnit → Type 0
+HaveAddresses sections units = EachValue Address (λ e attribute v. IsSome (address_at sections (entries_of units) (placed units) e attribute)) (entries_of units)

@@ -1,0 +1,153 @@
+-- What references reach (DWARF 5, sections 2.3 and 7.5.5), and the rules on them.
+use Rattle.std.specs.Prelude.{◌≡◌, ◌≢◌, ℕ, ◌+◌, ◌<◌, ◌⊎◌, Bool, true, false, not, ◌&&◌, ◌==◌, List, [], ◌∷◌, Option, None, Some, slice_get, if◌then◌else◌}
+use Rattle.dw_forms.specs.Value.{Datum, flag, ref_info, ref_unit, ref_sig}
+use Rattle.dw_entries.specs.declared.header.HeaderKind.{HeaderKind}
+use Rattle.dw_entries.specs.declared.header.HeaderKind.TheVariants.{TypeUnit}
+use Rattle.dw_entries.specs.declared.rule.Rule.{Rule}
+use Rattle.dw_entries.specs.declared.rule.Rule.TheVariants.{NoEntry, WrongKind, NotNextSibling, NoSignature, SignatureTwice, BadTypeOffset}
+use Rattle.dw_entries.specs.declared.lookup.Head.{Head}
+use Rattle.dw_entries.specs.Lookups.{value_at_entry}
+use Rattle.dw_entries.specs.Units.{DebugUnit}
+use Rattle.dw_entries.specs.Entries.{Entry, entries_of}
+use Rattle.dw_entries.specs.Runs.{IsEntryAt, IsEntryIn, ReachesInUnit}
+use Rattle.dw_entries.specs.Places.{at_header}
+use Rattle.dw_entries.specs.Failures.{Failure}
+use Rattle.dw_entries.specs.Asked.{AtPlace, AtEntries, InList}
+use Rattle.dw_forms.specs.Codes.{DW_AT_sibling, DW_AT_import, DW_AT_specification, DW_AT_type, DW_AT_signature, DW_AT_declaration, DW_TAG_imported_unit, DW_TAG_structure_type, DW_TAG_union_type, DW_TAG_enumeration_type, DW_TAG_compile_unit, DW_TAG_partial_unit, is_type_tag}
+use Rattle.dw_entries.specs.Entries.{PlacedUnit, placed}
+use Rattle.dw_links.specs.Classes.{is_one_of}
+use Rattle.dw_links.specs.Concerns.{AtHead}
+
+-- the signature of a type unit, and how far behind its header's first byte its type begins
+abbrev pub type_in : HeaderKind → Option (ℕ × ℕ)
+type_in (TypeUnit signature type_offset) = Some (signature, type_offset)
+type_in _ = None
+
+-- the type unit with this number has the signature
+pub record HasSignature (units : List PlacedUnit) (signature number : ℕ) : Type 0 where
+  pub unit : PlacedUnit
+  pub is_unit : slice_get units number ≡ Some unit
+  pub type_offset : ℕ
+  pub signed : type_in unit.unit.header.kind ≡ Some (signature, type_offset)
+
+-- a signature reaches the entry at the type offset of a unit that has it
+pub record ReachesBySignature (entries : List Entry) (units : List PlacedUnit) (signature id : ℕ) : Type 0 where
+  pub number : ℕ
+  pub has : HasSignature units signature number
+  pub target : IsEntryIn entries number (has.unit.at + has.type_offset) id
+
+-- a value of an entry's attribute reaches the entry with this number
+abbrev pub Reaches : List Entry → List PlacedUnit → Head → Datum → ℕ → Type 0
+Reaches entries units head (ref_info offset) id = IsEntryAt entries offset id
+Reaches entries units head (ref_unit offset) id = ReachesInUnit entries units head.unit offset id
+Reaches entries units head (ref_sig signature) id = ReachesBySignature entries units signature id
+Reaches entries units head _ id = ⊥
+
+abbrev pub is_true : Option Datum → Bool
+is_true (Some (flag b)) = b
+is_true _ = false
+
+-- DW_AT_declaration is true
+abbrev pub is_declared : Entry → Bool
+is_declared entry = is_true (value_at_entry entry DW_AT_declaration)
+
+-- a structure, union or enumeration with a signature
+abbrev pub is_signed : Head → ℕ → Bool
+is_signed head attribute = attribute == DW_AT_signature && is_one_of (DW_TAG_structure_type ∷ DW_TAG_union_type ∷ DW_TAG_enumeration_type ∷ []) head.tag
+
+-- an attribute of the entry may reach the target
+abbrev pub permits : Head → ℕ → Entry → Bool
+permits head attribute target =
+    if attribute == DW_AT_type then is_type_tag target.head.decl.tag
+    else (if attribute == DW_AT_specification then not (target.at == head.offset) && is_declared target
+    else (if is_signed head attribute then target.head.decl.tag == head.tag
+    else (if attribute == DW_AT_import && head.tag == DW_TAG_imported_unit then is_one_of (DW_TAG_compile_unit ∷ DW_TAG_partial_unit ∷ []) target.head.decl.tag
+    else true)))
+
+abbrev pub is_signature : Datum → Bool
+is_signature (ref_sig signature) = true
+is_signature _ = false
+
+-- a structure, union or enumeration is signed in form ref_sig8
+abbrev pub permits_form : Head → ℕ → Datum → Bool
+permits_form head attribute v = if is_signed head attribute then is_signature v else true
+
+-- NoEntry: no entry is there, by an offset
+abbrev pub NoEntryThere : List Entry → List PlacedUnit → Head → Datum → Type 0
+NoEntryThere entries units head v = (is_signature v ≡ false) × ((id : ℕ) → Reaches entries units head v id → ⊥)
+
+-- it reaches an entry that is not permitted
+pub record ReachesWrong (entries : List Entry) (units : List PlacedUnit) (head : Head) (attribute : ℕ) (v : Datum) : Type 0 where
+  pub id : ℕ
+  pub target : Entry
+  pub is_target : slice_get entries id ≡ Some target
+  pub reaches : Reaches entries units head v id
+  pub wrong : permits head attribute target ≡ false
+
+-- WrongKind: its form or its target is not permitted
+abbrev pub IsWrongKind : List Entry → List PlacedUnit → Head → ℕ → Datum → Type 0
+IsWrongKind entries units head attribute v = (permits_form head attribute v ≡ false) ⊎ ReachesWrong entries units head attribute v
+
+-- NotNextSibling: there is no next sibling, or it reaches another entry
+abbrev pub IsOtherThan : Option ℕ → (ℕ → Type 0) → Type 0
+IsOtherThan None Reached = Unit {0}
+IsOtherThan (Some next) Reached = (id : ℕ) × Reached id × (id ≢ next)
+
+-- NoSignature: no type unit has the signature
+abbrev pub NoSignatureThere : List PlacedUnit → Datum → Type 0
+NoSignatureThere units (ref_sig signature) = (number : ℕ) → HasSignature units signature number → ⊥
+NoSignatureThere units _ = ⊥
+
+abbrev pub is_reference_value : Datum → Bool
+is_reference_value (ref_info offset) = true
+is_reference_value (ref_unit offset) = true
+is_reference_value (ref_sig signature) = true
+is_reference_value _ = false
+
+-- the rules at an attribute of class reference
+abbrev pub ReferenceFailsBy : List Entry → List PlacedUnit → Head → ℕ → Datum → Rule → Type 0
+ReferenceFailsBy entries units head attribute v NoEntry = NoEntryThere entries units head v
+ReferenceFailsBy entries units head attribute v WrongKind = IsWrongKind entries units head attribute v
+ReferenceFailsBy entries units head attribute v NotNextSibling = (attribute ≡ DW_AT_sibling) × IsOtherThan head.next_sibling (Reaches entries units head v)
+ReferenceFailsBy entries units head attribute v NoSignature = NoSignatureThere units v
+ReferenceFailsBy entries units head attribute v _ = ⊥
+
+abbrev pub ReferenceFails : List Entry → List PlacedUnit → Head → ℕ → Datum → Rule → Type 0
+ReferenceFails entries units head attribute v rule = (is_reference_value v ≡ true) × ReferenceFailsBy entries units head attribute v rule
+
+-- SignatureTwice: an earlier type unit has the signature
+pub record IsSignedBefore (units : List PlacedUnit) (number signature : ℕ) : Type 0 where
+  pub earlier : ℕ
+  pub before : earlier < number
+  pub has : HasSignature units signature earlier
+
+-- a type begins in the unit at this offset of .debug_info
+pub record HasType (entries : List Entry) (number offset : ℕ) : Type 0 where
+  pub id : ℕ
+  pub is_type : IsEntryIn entries number offset id
+  pub tag : is_type_tag is_type.entry.head.decl.tag ≡ true
+
+-- SignatureTwice and BadTypeOffset at the header of a type unit; BadTypeOffset: no type begins at its type offset
+abbrev pub TypeUnitFails : List Entry → List PlacedUnit → ℕ → (at signature type_offset : ℕ) → Rule → Type 0
+TypeUnitFails entries units number at signature type_offset rule =
+    ((rule ≡ SignatureTwice) × IsSignedBefore units number signature)
+    ⊎ ((rule ≡ BadTypeOffset) × (HasType entries number (at + type_offset) → ⊥))
+
+-- the rules at the header of a unit; only type units have any
+abbrev pub HeaderFails : List Entry → List PlacedUnit → ℕ → ℕ → Option (ℕ × ℕ) → Rule → Type 0
+HeaderFails entries units number at None rule = ⊥
+HeaderFails entries units number at (Some (signature, type_offset)) rule = TypeUnitFails entries units number at signature type_offset rule
+
+abbrev pub AtHeader : List Entry → List PlacedUnit → ℕ → PlacedUnit → Failure → Type 0
+AtHeader entries units number unit = AtPlace (at_header unit.at) (HeaderFails entries units number unit.at (type_in unit.unit.header.kind))
+
+-- the failures at the headers of units, and those at the attributes of entries
+abbrev pub HeaderFailures : List Entry → List PlacedUnit → Failure → Type 0
+HeaderFailures entries units = InList units (AtHeader entries units)
+
+abbrev pub AttributeFailures : List Entry → List PlacedUnit → Failure → Type 0
+AttributeFailures entries units = AtEntries entries (AtHead (ReferenceFails entries units))
+
+-- the failures of the rules on references
+abbrev pub ReferenceFailures : List DebugUnit → Failure → Type 0
+ReferenceFailures units f = HeaderFailures (entries_of units) (placed units) f ⊎ AttributeFailures (entries_of units) (placed units) f

@@ -1,0 +1,29 @@
+-- Texts and addresses that lie within their sections.
+use Rattle.std.specs.Prelude.{ℕ, ◌+◌, ◌*◌, ◌≤◌, length, Option, IfSome}
+use Rattle.dw_elf.specs.declared.sections.Sections.{Sections}
+use Rattle.dw_forms.specs.Value.{Datum, str, line_str, str_index, addr_index}
+use Rattle.dw_entries.specs.declared.header.UnitHeader.{UnitHeader}
+use Rattle.dw_entries.specs.Header.{IsSize}
+use Rattle.dw_links.specs.Contributions.{slot_at}
+
+-- the slot of an index lies within .debug_str_offsets, and the string that it leads to within .debug_str
+pub record IsTextSlot (sections : Sections) (index base : ℕ) : Type 0 where
+  pub within : base + 4 * index + 4 ≤ length sections.str_offsets.now
+  pub leads : slot_at sections.str_offsets.now 4 base index ≤ length sections.str.now
+
+-- the text of a value lies within its section, in a unit that has this base
+abbrev pub TextLies : Sections → (base : Option ℕ) → Datum → Type 0
+TextLies sections base (str offset) = offset ≤ length sections.str.now
+TextLies sections base (line_str offset) = offset ≤ length sections.line_str.now
+TextLies sections base (str_index index) = IfSome base (IsTextSlot sections index)
+TextLies sections base _ = Unit {0}
+
+-- the slot of an index lies within .debug_addr
+pub record IsAddressSlot (sections : Sections) (header : UnitHeader) (index base : ℕ) : Type 0 where
+  pub size : IsSize header.address_size
+  pub within : base + header.address_size * index + header.address_size ≤ length sections.addr.now
+
+-- the address of a value lies within its section, in a unit that has this base
+abbrev pub AddressLies : Sections → UnitHeader → (base : Option ℕ) → Datum → Type 0
+AddressLies sections header base (addr_index index) = IfSome base (IsAddressSlot sections header index)
+AddressLies sections header base _ = Unit {0}

@@ -1,0 +1,30 @@
+-- The texts and addresses of values (DWARF 5, sections 7.26 and 7.27).
+use Rattle.std.specs.Prelude.{ℕ, List, Option, None, Some}
+use Rattle.dw_elf.specs.declared.sections.Sections.{Sections}
+use Rattle.dw_forms.specs.Value.{Datum, address, text, str, line_str, str_index, addr_index}
+use Rattle.dw_entries.specs.declared.header.UnitHeader.{UnitHeader}
+use Rattle.dw_links.specs.Contributions.{slot_at, string_at}
+
+-- the text of an indexed string: the one that its slot leads to
+abbrev pub indexed_text : Sections → (base : Option ℕ) → ℕ → Option (List ℕ)
+indexed_text sections None index = None
+indexed_text sections (Some base) index = Some (string_at sections.str.now (slot_at sections.str_offsets.now 4 base index))
+
+-- the text of a value of class string, in a unit that has this base
+abbrev pub text_of : Sections → (base : Option ℕ) → Datum → Option (List ℕ)
+text_of sections base (text bytes) = Some bytes
+text_of sections base (str offset) = Some (string_at sections.str.now offset)
+text_of sections base (line_str offset) = Some (string_at sections.line_str.now offset)
+text_of sections base (str_index index) = indexed_text sections base index
+text_of sections base _ = None
+
+-- the number in the slot of an indexed address
+abbrev pub indexed_address : Sections → UnitHeader → (base : Option ℕ) → ℕ → Option ℕ
+indexed_address sections header None index = None
+indexed_address sections header (Some base) index = Some (slot_at sections.addr.now header.address_size base index)
+
+-- the address of a value of class address
+abbrev pub address_of : Sections → UnitHeader → (base : Option ℕ) → Datum → Option ℕ
+address_of sections header base (address n) = Some n
+address_of sections header base (addr_index index) = indexed_address sections header base index
+address_of sections header base _ = None

@@ -1,0 +1,107 @@
+//! The texts and addresses of entries' attributes.
+
+ghost use Rattle.std.specs.Prelude.{◌≡◌, ◌<◌, length, slice_get, IfSome, option_copied};
+ghost use Rattle.dw_forms.specs.Value.{view};
+ghost use Rattle.dw_entries.specs.Entries.{entries_of, placed};
+ghost use Rattle.dw_entries.specs.Scanned.{units_of};
+ghost use Rattle.dw_entries.specs.Views.{sections_of};
+ghost use Rattle.dw_entries.specs.Failures.{HasNone};
+ghost use Rattle.dw_links.specs.Strings.{StringFailures};
+ghost use Rattle.dw_links.specs.Tables.{bases_in, AreTables};
+ghost use Rattle.dw_links.specs.Texts.{text_of, address_of};
+ghost use Rattle.dw_links.specs.Slots.{TextLies, AddressLies};
+ghost use Rattle.dw_links.specs.AttributeTexts.{text_at, address_at};
+
+use crate::slots::{address_in_slot, text_in_slot};
+use crate::texts::string_from;
+use crate::unit_tables::{UnitBases, UnitTables};
+use dw_elf::Sections;
+use dw_entries::{Entries, EntryId, UnitHeader};
+use dw_forms::{Attribute, Value};
+
+/// The text of a value, if that is a string.
+fn text_of_value<'a>(
+    sections: &Sections<'a>,
+    base: Option<u32>,
+    value: Value<'a>,
+) -> Option<&'a [u8]>
+    requires { TextLies sections.now base (view value) }
+    ensures { option_copied result ≡ text_of sections.now base (view value.entry) }
+{
+    match value {
+        Value::Text(bytes) => Some(bytes),
+        Value::Str(offset) => Some(string_from(sections.str, offset as usize)),
+        Value::LineStr(offset) => Some(string_from(sections.line_str, offset as usize)),
+        Value::StrIndex(index) => text_in_slot(sections, base, index),
+        _ => None,
+    }
+}
+
+/// The address of a value, if that is an address.
+fn address_of_value(
+    sections: &Sections<'_>,
+    header: UnitHeader,
+    base: Option<u32>,
+    value: Value<'_>,
+) -> Option<u64>
+    requires { AddressLies sections.now header base (view value) }
+    ensures { result ≡ address_of sections.now header base (view value.entry) }
+{
+    match value {
+        Value::Addr(address) => Some(address),
+        Value::AddrIndex(index) => address_in_slot(sections, header, base, index),
+        _ => None,
+    }
+}
+
+impl UnitTables {
+    /// The bases of an entry's unit.
+    fn bases_of(&self, entries: &Entries<'_>, id: EntryId) -> UnitBases
+        requires id { id < length (entries_of (units_of entries.now.scanned)) }
+        requires tables { AreTables entries.now self.now }
+        ensures { IfSome (slice_get (entries_of (units_of entries.now.scanned)) id) (λ e. IfSome (slice_get (placed (units_of entries.now.scanned)) e.unit) (λ p. result ≡ bases_in (entries_of (units_of entries.now.scanned)) p)) }
+    {
+        self.bases[entries.unit_of(id)]
+    }
+
+    /// The text of an entry's attribute. None where the attribute is absent or no string.
+    pub fn text<'a>(
+        &self,
+        entries: &Entries<'a>,
+        id: EntryId,
+        attribute: Attribute,
+    ) -> Option<&'a [u8]>
+        requires id { id < length (entries_of (units_of entries.now.scanned)) }
+        requires tables { AreTables entries.now self.now }
+        requires strings { HasNone (StringFailures (sections_of entries.now) (units_of entries.now.scanned)) }
+        ensures { IfSome (slice_get (entries_of (units_of entries.now.scanned)) id) (λ e. option_copied result ≡ text_at (sections_of entries.now) (entries_of (units_of entries.now.scanned)) (placed (units_of entries.now.scanned)) e attribute) }
+    {
+        match entries.value(id, attribute) {
+            Some(value) => {
+                text_of_value(
+                    entries.sections(),
+                    self.bases_of(entries, id).strings,
+                    value,
+                )
+            }
+            None => None,
+        }
+    }
+
+    /// The address of an entry's attribute. None where the attribute is absent or no address.
+    pub fn address(&self, entries: &Entries<'_>, id: EntryId, attribute: Attribute) -> Option<u64>
+        requires id { id < length (entries_of (units_of entries.now.scanned)) }
+        requires tables { AreTables entries.now self.now }
+        requires strings { HasNone (StringFailures (sections_of entries.now) (units_of entries.now.scanned)) }
+        ensures { IfSome (slice_get (entries_of (units_of entries.now.scanned)) id) (λ e. result ≡ address_at (sections_of entries.now) (entries_of (units_of entries.now.scanned)) (placed (units_of entries.now.scanned)) e attribute) }
+    {
+        match entries.value(id, attribute) {
+            Some(value) => {
+                let header = entries.unit(entries.unit_of(id)).header;
+                let base = self.bases_of(entries, id).addresses;
+                address_of_value(entries.sections(), header, base, value)
+            }
+            None => None,
+        }
+    }
+}

@@ -1,0 +1,186 @@
+//! The classes of values (DWARF 5, section 7.5.5), and which attribute may have which.
+
+ghost use Rattle.std.specs.Prelude.{◌≡◌, ◌<◌, length, OnOk, IfErr};
+ghost use Rattle.dw_forms.specs.Value.{view};
+ghost use Rattle.dw_entries.specs.Entries.{placed};
+ghost use Rattle.dw_entries.specs.Scanned.{units_of};
+ghost use Rattle.dw_entries.specs.Stopped.{IsFault};
+ghost use Rattle.dw_entries.specs.Failures.{HasNone, IsFirst};
+ghost use Rattle.dw_links.specs.Classes.{class_of, form_class, allows, allows_in, ClassFailures};
+
+use crate::rules::{AttributeRules, check_entries, concerns_entries, fault_of};
+use dw_entries::constants::*;
+use dw_entries::{Entries, Fault, Head, Rule};
+use dw_forms::{Attribute, AttributeSpec, Form, Value};
+use std::alloc::Global;
+
+/// A class of values (DWARF 5, section 7.5.5). Values that lead into other sections are told apart by their forms alone.
+#[derive(Clone, Copy, Debug, PartialEq, Eq)]
+pub enum Class {
+    Address,
+    Block,
+    Constant,
+    /// A constant of 16 bytes. This project's choice: sizes and offsets are none.
+    WideConstant,
+    Exprloc,
+    Flag,
+    /// An index of a location list or a range list.
+    ListIndex,
+    Reference,
+    /// An offset into a section that has no strings.
+    SectionOffset,
+    String,
+}
+
+/// The class of a value.
+pub fn class_of_value(value: &Value<'_>) -> Class
+    ensures { result ≡ class_of (view value.now) }
+{
+    match value {
+        Value::Addr(_) | Value::AddrIndex(_) => Class::Address,
+        Value::Block(_) => Class::Block,
+        Value::Unsigned(_) | Value::Signed(_) => Class::Constant,
+        Value::Wide(_) => Class::WideConstant,
+        Value::Text(_) | Value::Str(_) | Value::LineStr(_) | Value::StrIndex(_) => Class::String,
+        Value::Flag(_) => Class::Flag,
+        Value::RefInfo(_) | Value::RefUnit(_) | Value::RefSig(_) => Class::Reference,
+        Value::SecOffset(_) => Class::SectionOffset,
+        Value::Expr(_) => Class::Exprloc,
+        Value::LocIndex(_) | Value::RngIndex(_) => Class::ListIndex,
+    }
+}
+
+/// The class of all values in a form; None for the form indirect, whose values name another form.
+pub fn class_of_form(form: Form) -> Option<Class>
+    ensures { result ≡ form_class form }
+{
+    Some(match form {
+        Form::Addr | Form::Addrx | Form::Addrx1 | Form::Addrx2 | Form::Addrx3 | Form::Addrx4 => {
+            Class::Address
+        }
+        Form::Block | Form::Block1 | Form::Block2 | Form::Block4 => Class::Block,
+        Form::Data1
+        | Form::Data2
+        | Form::Data4
+        | Form::Data8
+        | Form::Sdata
+        | Form::Udata
+        | Form::ImplicitConst(_) => Class::Constant,
+        Form::Data16 => Class::WideConstant,
+        Form::Text
+        | Form::Strp
+        | Form::LineStrp
+        | Form::Strx
+        | Form::Strx1
+        | Form::Strx2
+        | Form::Strx3
+        | Form::Strx4 => Class::String,
+        Form::Flag | Form::FlagPresent => Class::Flag,
+        Form::RefAddr
+        | Form::Ref1
+        | Form::Ref2
+        | Form::Ref4
+        | Form::Ref8
+        | Form::RefUdata
+        | Form::RefSig8 => Class::Reference,
+        Form::SecOffset => Class::SectionOffset,
+        Form::Exprloc => Class::Exprloc,
+        Form::Loclistx | Form::Rnglistx => Class::ListIndex,
+        Form::Indirect => return None,
+    })
+}
+
+/// Whether an attribute may have a value of this class. This project's choice: attributes without a line here may have any.
+fn is_allowed(attribute: Attribute, class: Class) -> bool
+    ensures { result ≡ allows attribute class }
+{
+    match attribute {
+        DW_AT_sibling
+        | DW_AT_import
+        | DW_AT_abstract_origin
+        | DW_AT_specification
+        | DW_AT_type
+        | DW_AT_signature => matches!(class, Class::Reference),
+        DW_AT_name => matches!(class, Class::String),
+        DW_AT_byte_size
+        | DW_AT_bit_size
+        | DW_AT_count
+        | DW_AT_byte_stride
+        | DW_AT_data_bit_offset => {
+            matches!(class, Class::Constant | Class::Exprloc | Class::Reference)
+        }
+        DW_AT_lower_bound | DW_AT_upper_bound | DW_AT_bit_stride => {
+            matches!(
+                class,
+                Class::Constant | Class::WideConstant | Class::Exprloc | Class::Reference
+            )
+        }
+        DW_AT_data_member_location => {
+            matches!(
+                class,
+                Class::Constant | Class::Exprloc | Class::SectionOffset | Class::ListIndex
+            )
+        }
+        DW_AT_encoding => matches!(class, Class::Constant | Class::WideConstant),
+        DW_AT_prototyped | DW_AT_declaration => matches!(class, Class::Flag),
+        DW_AT_str_offsets_base | DW_AT_addr_base => matches!(class, Class::SectionOffset),
+        _ => true,
+    }
+}
+
+/// The same in a unit of a version. Version 4 does not know the bases of contributions, so their codes may have any class there.
+pub fn is_allowed_in(version: u16, attribute: Attribute, class: Class) -> bool
+    ensures { result ≡ allows_in version attribute class }
+{
+    if version == 4 && matches!(attribute, DW_AT_str_offsets_base | DW_AT_addr_base) {
+        return true;
+    }
+    is_allowed(attribute, class)
+}
+
+/// The rule on classes.
+#[derive(Drop)]
+struct Classes<'r, 'a> {
+    entries: &'r Entries<'a>,
+}
+
+impl AttributeRules for Classes<'_, '_> {
+    ghost use Rattle.dw_links.specs.Classes.{ClassFails};
+
+    ghost may_ask = { λ rules head. head.unit < length (units_of rules.entries.now.scanned) };
+
+    ghost fails = { λ rules. ClassFails (placed (units_of rules.entries.now.scanned)) };
+
+    fn concerns(&self, spec: &AttributeSpec) -> bool {
+        match class_of_form(spec.form) {
+            Some(class) if is_allowed(spec.attribute, class) => false,
+            _ => true,
+        }
+    }
+
+    fn ask(&self, head: &Head, attribute: Attribute, value: &Value<'_>) -> Option<Rule> {
+        let unit = self.entries.unit(head.unit);
+        let version = unit.header.kind.version();
+        if is_allowed_in(version, attribute, class_of_value(value)) {
+            None
+        } else {
+            Some(Rule::WrongClass)
+        }
+    }
+}
+
+/// Finds the first attribute whose value has none of its classes: the fault `WrongClass` at the entry's offset.
+/// Nothing grows, so there is no want of memory.
+pub fn check_classes(alloc: Global, entries: &Entries<'_>) -> Result<(), Fault>
+    ensures ok { OnOk result (HasNone (ClassFailures (units_of entries.now.scanned))) }
+    ensures fault { IfErr result (IsFault (IsFirst (ClassFailures (units_of entries.now.scanned)))) }
+{
+    let rules = Classes { entries };
+    if !concerns_entries(&rules, entries) {
+        return Ok(());
+    }
+    match check_entries(&rules, entries) {
+        Ok(()) => Ok(()),
+        Err(broken) => Err(fault_of(alloc, broken)),
+    }
+}

@@ -1,0 +1,79 @@
+//! Which entries a reference may reach, by its attribute.
+
+ghost use Rattle.std.specs.Prelude.{◌≡◌, ◌<◌, Some, length, slice_get};
+ghost use Rattle.dw_forms.specs.Value.{view};
+ghost use Rattle.dw_entries.specs.Entries.{Entry, entries_of};
+ghost use Rattle.dw_entries.specs.Scanned.{units_of};
+ghost use Rattle.dw_links.specs.References.{is_declared, is_signed, is_signature, is_reference_value, permits, permits_form};
+
+use dw_entries::constants::*;
+use dw_entries::{Entries, EntryId, Head};
+use dw_forms::{Attribute, Value};
+
+/// Whether a value is a reference.
+pub fn is_reference(value: &Value<'_>) -> bool
+    ensures { result ≡ is_reference_value (view value.now) }
+{
+    matches!(
+        value,
+        Value::RefInfo(_) | Value::RefUnit(_) | Value::RefSig(_)
+    )
+}
+
+/// Whether a value is a signature.
+pub fn is_sig8(value: &Value<'_>) -> bool
+    ensures { result ≡ is_signature (view value.now) }
+{
+    matches!(value, Value::RefSig(_))
+}
+
+/// Whether an entry is declared and not defined.
+fn is_declared_entry(entries: &Entries<'_>, id: EntryId) -> bool
+    requires { id < length (entries_of (units_of entries.now.scanned)) }
+    ensures { (e : Entry) → slice_get (entries_of (units_of entries.now.scanned)) id ≡ Some e → result ≡ is_declared e }
+{
+    matches!(
+        entries.value(id, DW_AT_declaration),
+        Some(Value::Flag(true))
+    )
+}
+
+/// Whether an attribute is the signature of a structure, union or enumeration.
+fn is_signed_by(head: &Head, attribute: Attribute) -> bool
+    ensures { result ≡ is_signed head.now attribute }
+{
+    attribute == DW_AT_signature
+        && matches!(
+            head.tag,
+            DW_TAG_structure_type | DW_TAG_union_type | DW_TAG_enumeration_type
+        )
+}
+
+/// Whether an attribute of an entry may have a value of this form.
+pub fn is_permitted_form(head: &Head, attribute: Attribute, value: &Value<'_>) -> bool
+    ensures { result ≡ permits_form head.now attribute (view value.now) }
+{
+    !is_signed_by(head, attribute) || matches!(value, Value::RefSig(_))
+}
+
+/// Whether an attribute of an entry may reach a target. This project's choice: the type, the specification, the
+/// signature and the import of a unit have targets of their kinds, and other attributes may reach any entry.
+pub fn is_permitted(entries: &Entries<'_>, head: &Head, attribute: Attribute, id: EntryId) -> bool
+    requires { id < length (entries_of (units_of entries.now.scanned)) }
+    ensures { (target : Entry) → slice_get (entries_of (units_of entries.now.scanned)) id ≡ Some target → result ≡ permits head.now attribute target }
+{
+    let target = entries.head(id);
+    if attribute == DW_AT_type {
+        return target.tag.is_type();
+    }
+    if attribute == DW_AT_specification {
+        return target.offset != head.offset && is_declared_entry(entries, id);
+    }
+    if is_signed_by(head, attribute) {
+        return target.tag == head.tag;
+    }
+    if attribute == DW_AT_import && head.tag == DW_TAG_imported_unit {
+        return matches!(target.tag, DW_TAG_compile_unit | DW_TAG_partial_unit);
+    }
+    true
+}

@@ -1,0 +1,27 @@
+//! What the values of attributes lead to: strings, addresses and other entries.
+#![tactic(auto)]
+
+mod attribute_texts;
+mod class;
+mod contribution;
+mod headers;
+mod kinds;
+mod laws;
+mod links;
+mod references;
+mod rules;
+mod signatures;
+mod slots;
+mod strings;
+mod targets;
+mod texts;
+mod unit_tables;
+
+pub use class::{Class, check_classes, class_of_value};
+pub use laws::{one_entry_is_reached, references_have_targets, strings_have_texts};
+pub use links::{Links, link};
+pub use strings::check_strings;
+pub use unit_tables::UnitTables;
+
+#[cfg(test)]
+mod tests;

@@ -1,0 +1,89 @@
+//! Entries whose references all reach an entry, and what their attributes lead to.
+
+ghost use Rattle.std.specs.Prelude.{◌≡◌, ◌<◌, length, slice_get, option_copied, IfSome, OnOk, IfOk, IfErr};
+ghost use Rattle.dw_entries.specs.Entries.{entries_of, placed};
+ghost use Rattle.dw_entries.specs.Scanned.{units_of};
+ghost use Rattle.dw_entries.specs.Views.{sections_of};
+ghost use Rattle.dw_entries.specs.Stopped.{IfFault};
+ghost use Rattle.dw_entries.specs.Failures.{HasNone, IsFirst};
+ghost use Rattle.dw_links.specs.Classes.{ClassFailures};
+ghost use Rattle.dw_links.specs.Strings.{StringFailures};
+ghost use Rattle.dw_links.specs.References.{ReferenceFailures};
+ghost use Rattle.dw_links.specs.Tables.{AreTables};
+ghost use Rattle.dw_links.specs.Targets.{target_of};
+ghost use Rattle.dw_links.specs.AttributeTexts.{text_at, address_at};
+
+use crate::references::References;
+use crate::rules::fault_of;
+use crate::unit_tables::{UnitTables, read_tables};
+use dw_entries::{Entries, EntryId, Stop};
+use dw_forms::Attribute;
+use std::alloc::Global;
+
+/// Entries whose values all lead somewhere. Only `link` makes one.
+#[derive(Drop)]
+pub struct Links<'r, 'a> {
+    pub entries: &'r Entries<'a>,
+    tables: UnitTables,
+    pub ghost tables_are: { AreTables entries.now tables },
+    pub ghost classes: { HasNone (ClassFailures (units_of entries.now.scanned)) },
+    pub ghost strings: { HasNone (StringFailures (sections_of entries.now) (units_of entries.now.scanned)) },
+    pub ghost references: { HasNone (ReferenceFailures (units_of entries.now.scanned)) },
+}
+
+/// Links entries whose classes and strings hold. Else finds the first header of a type unit whose signature or type
+/// offset does not hold, else the first reference that does not (DWARF 5, sections 2.3 and 7.5.5). Want of memory
+/// comes where a table can't grow.
+pub fn link<'r, 'a>(alloc: Global, entries: &'r Entries<'a>) -> Result<Links<'r, 'a>, Stop>
+    requires classes { HasNone (ClassFailures (units_of entries.now.scanned)) }
+    requires strings { HasNone (StringFailures (sections_of entries.now) (units_of entries.now.scanned)) }
+    ensures ok { OnOk result (HasNone (ReferenceFailures (units_of entries.now.scanned))) }
+    ensures entries { IfOk result (λ links. links.entries ≡ entries.entry) }
+    ensures fault { IfErr result (IfFault (IsFirst (ReferenceFailures (units_of entries.now.scanned)))) }
+{
+    let Ok(tables) = read_tables(alloc, entries) else {
+        return Err(Stop::Memory);
+    };
+    let references = References {
+        entries,
+        signatures: &tables.signatures,
+    };
+    match references.check() {
+        Ok(()) => Ok(Links { entries, tables }),
+        Err(broken) => Err(Stop::Fault(fault_of(alloc, broken))),
+    }
+}
+
+impl<'a> Links<'_, 'a> {
+    /// The entry that an entry's attribute reaches. None where the attribute is absent or no reference.
+    pub fn target(&self, id: EntryId, attribute: Attribute) -> Option<EntryId>
+        requires { id < length (entries_of (units_of self.now.entries.now.scanned)) }
+        ensures exact { IfSome (slice_get (entries_of (units_of self.now.entries.now.scanned)) id) (λ e. result ≡ target_of (entries_of (units_of self.now.entries.now.scanned)) (placed (units_of self.now.entries.now.scanned)) e attribute) }
+        ensures within { IfSome result (λ t. t < length (entries_of (units_of self.now.entries.now.scanned))) }
+    {
+        self.tables.target(self.entries, id, attribute)
+    }
+
+    /// The text of an entry's attribute. None where the attribute is absent or no string.
+    pub fn text(&self, id: EntryId, attribute: Attribute) -> Option<&'a [u8]>
+        requires { id < length (entries_of (units_of self.now.entries.now.scanned)) }
+        ensures { IfSome (slice_get (entries_of (units_of self.now.entries.now.scanned)) id) (λ e. option_copied result ≡ text_at (sections_of self.now.entries.now) (entries_of (units_of self.now.entries.now.scanned)) (placed (units_of self.now.entries.now.scanned)) e attribute) }
+    {
+        self.tables.text(self.entries, id, attribute)
+    }
+
+    /// The address of an entry's attribute. None where the attribute is absent or no address.
+    pub fn address(&self, id: EntryId, attribute: Attribute) -> Option<u64>
+        requires { id < length (entries_of (units_of self.now.entries.now.scanned)) }
+        ensures { IfSome (slice_get (entries_of (units_of self.now.entries.now.scanned)) id) (λ e. result ≡ address_at (sections_of self.now.entries.now) (entries_of (units_of self.now.entries.now.scanned)) (placed (units_of self.now.entries.now.scanned)) e attribute) }
+    {
+        self.tables.address(self.entries, id, attribute)
+    }
+
+    /// The tables alone, for a caller who keeps them beside the entries.
+    pub fn into_tables(self) -> UnitTables
+        ensures { AreTables self.entry.entries.now result }
+    {
+        self.tables
+    }
+}

@@ -1,0 +1,126 @@
+//! Rules that are asked of each attribute of each entry, and the search for the first failure.
+
+ghost use Rattle.std.specs.Prelude.{ℕ, ◌≡◌, ◌<◌, [], length, Some, slice_get, OnOk, IfErr};
+ghost use Rattle.std.specs.Bool.{OnFalse};
+ghost use Rattle.dw_forms.specs.Value.{Datum, view};
+ghost use Rattle.dw_entries.specs.declared.lookup.Head.{Head as HeadData};
+ghost use Rattle.dw_entries.specs.declared.rule.Rule.{Rule as RuleName};
+ghost use Rattle.dw_entries.specs.Entries.{Entry, entries_of};
+ghost use Rattle.dw_entries.specs.Stopped.{broken_of};
+ghost use Rattle.dw_entries.specs.Scanned.{units_of};
+ghost use Rattle.dw_entries.specs.Lookups.{entry_head};
+ghost use Rattle.dw_entries.specs.Failures.{HasNone, IsFirst, IsLeast};
+ghost use Rattle.dw_entries.specs.Asked.{AtEntries};
+ghost use Rattle.dw_links.specs.Concerns.{AtHead, Passes, AllPass, EachPasses, PassesAt, FailsAt};
+
+use dw_entries::{Broken, Entries, EntryId, Fault, Head, Rule, Section};
+use dw_forms::{AbbrevTable, Attribute, AttributeSpec, Value};
+use std::alloc::Global;
+
+/// Rules that are asked of each attribute of each entry.
+pub trait AttributeRules {
+    /// The entries that they may be asked of.
+    ghost may_ask: { Self → HeadData → Type 0 };
+
+    /// Which rules fail at an attribute of an entry.
+    ghost fails: { Self → HeadData → ℕ → Datum → RuleName → Type 0 };
+
+    /// Whether a rule may fail at an attribute that is declared so.
+    fn concerns(&self, spec: &AttributeSpec) -> bool
+        ensures { OnFalse result (Passes (fails self.now) spec.now) };
+
+    /// The rule with the least number that fails at an attribute.
+    fn ask(&self, head: &Head, attribute: Attribute, value: &Value<'_>) -> Option<Rule>
+        requires { may_ask self.now head.now }
+        ensures { IsLeast (fails self.now head.now attribute (view value.now)) result };
+}
+
+/// The fault that names a broken rule. It has no cycle.
+pub fn fault_of(alloc: Global, broken: Broken) -> Fault
+    ensures broken { broken_of result ≡ broken }
+    ensures cycle { result.cycle.items ≡ [] }
+{
+    Fault {
+        rule: broken.rule,
+        section: broken.section,
+        at: broken.at,
+        attribute: broken.attribute,
+        cycle: Vec::new(alloc),
+    }
+}
+
+/// Whether a rule may fail at an attribute of a declaration.
+pub fn concerns_any<R: AttributeRules>(rules: &R, specs: &[AttributeSpec]) -> bool
+    ensures { OnFalse result (AllPass (R.fails rules.now) specs.now) }
+{
+    for spec in specs {
+        if rules.concerns(spec) {
+            return true;
+        }
+    }
+    false
+}
+
+/// Whether a rule may fail at an attribute of a declaration in a table.
+fn concerns_table<R: AttributeRules>(rules: &R, table: &AbbrevTable) -> bool
+    ensures { OnFalse result (EachPasses (R.fails rules.now) table.now) }
+{
+    for place in 0..table.len() {
+        if concerns_any(rules, &table.decl(place).attributes) {
+            return true;
+        }
+    }
+    false
+}
+
+/// Whether a rule may fail at an attribute of any entry, by the declarations alone.
+pub fn concerns_entries<R: AttributeRules>(rules: &R, entries: &Entries<'_>) -> bool
+    ensures { OnFalse result (HasNone (AtEntries (entries_of (units_of entries.now.scanned)) (AtHead (R.fails rules.now)))) }
+{
+    for table in entries.tables() {
+        if concerns_table(rules, table) {
+            return true;
+        }
+    }
+    false
+}
+
+/// The first failure among an entry's attributes.
+pub fn check_entry<R: AttributeRules>(
+    rules: &R,
+    entries: &Entries<'_>,
+    id: EntryId,
+) -> Result<(), Broken>
+    requires id { id < length (entries_of (units_of entries.now.scanned)) }
+    requires may { (e : Entry) → slice_get (entries_of (units_of entries.now.scanned)) id ≡ Some e → R.may_ask rules.now (entry_head e) }
+    ensures ok { OnOk result (PassesAt (entries_of (units_of entries.now.scanned)) id (AtHead (R.fails rules.now))) }
+    ensures err { IfErr result (FailsAt (entries_of (units_of entries.now.scanned)) id (AtHead (R.fails rules.now))) }
+{
+    if !concerns_any(rules, &entries.decl(id).attributes) {
+        return Ok(());
+    }
+    let head = entries.head(id);
+    for (attribute, value) in entries.values(id) {
+        if let Some(rule) = rules.ask(&head, attribute, &value) {
+            return Err(Broken {
+                rule,
+                section: Section::Info,
+                at: head.offset,
+                attribute: attribute.0,
+            });
+        }
+    }
+    Ok(())
+}
+
+/// The first failure among the attributes of all entries.
+pub fn check_entries<R: AttributeRules>(rules: &R, entries: &Entries<'_>) -> Result<(), Broken>
+    requires { (id : ℕ) (e : Entry) → slice_get (entries_of (units_of entries.now.scanned)) id ≡ Some e → R.may_ask rules.now (entry_head e) }
+    ensures ok { OnOk result (HasNone (AtEntries (entries_of (units_of entries.now.scanned)) (AtHead (R.fails rules.now)))) }
+    ensures err { IfErr result (IsFirst (AtEntries (entries_of (units_of entries.now.scanned)) (AtHead (R.fails rules.now)))) }
+{
+    for number in 0..entries.count() {
+        check_entry(rules, entries, entries.id(number))?;
+    }
+    Ok(())
+}

@@ -1,0 +1,91 @@
+//! The entries that references reach (DWARF 5, section 7.5.5), with the table of signatures.
+
+ghost use Rattle.std.specs.Prelude.{◌≡◌, ◌<◌, length, slice_get, IfSome, option_and_then};
+ghost use Rattle.dw_forms.specs.Value.{view};
+ghost use Rattle.dw_entries.specs.Entries.{entries_of, placed};
+ghost use Rattle.dw_entries.specs.Scanned.{units_of};
+ghost use Rattle.dw_entries.specs.Lookups.{entry_head};
+ghost use Rattle.dw_links.specs.Targets.{entry_at, first_signed, reach_in_unit, type_of_unit, reach_of, target_of, HasFirstSigned};
+
+use crate::signatures::type_in_header;
+use dw_entries::{Entries, EntryId};
+use dw_forms::{Attribute, Value};
+use std::collections::BTreeMap;
+
+/// The entry that begins at an offset of .debug_info.
+fn entry_from_start(entries: &Entries<'_>, offset: u32) -> Option<EntryId>
+    ensures { result ≡ entry_at (entries_of (units_of entries.now.scanned)) offset }
+{
+    entries.find(offset)
+}
+
+/// The entry that begins so far behind the first byte of a unit's header.
+fn entry_from_header(entries: &Entries<'_>, unit: usize, offset: u64) -> Option<EntryId>
+    requires { unit < length (units_of entries.now.scanned) }
+    ensures { result ≡ reach_in_unit (entries_of (units_of entries.now.scanned)) (placed (units_of entries.now.scanned)) unit offset }
+{
+    entries.find_in_unit(unit, offset)
+}
+
+/// The entry at the type offset of a unit, if that is a type unit.
+fn type_in_unit(entries: &Entries<'_>, unit: usize) -> Option<EntryId>
+    requires { unit < length (units_of entries.now.scanned) }
+    ensures { result ≡ type_of_unit (entries_of (units_of entries.now.scanned)) (placed (units_of entries.now.scanned)) unit }
+{
+    match type_in_header(entries.unit(unit).header.kind) {
+        Some((_, type_offset)) => entry_from_header(entries, unit, type_offset as u64),
+        None => None,
+    }
+}
+
+/// The type of the first type unit that has a signature.
+fn type_by_signature(
+    entries: &Entries<'_>,
+    signatures: &BTreeMap<u64, usize>,
+    signature: u64,
+) -> Option<EntryId>
+    requires { HasFirstSigned (placed (units_of entries.now.scanned)) signatures.now }
+    ensures { result ≡ option_and_then (type_of_unit (entries_of (units_of entries.now.scanned)) (placed (units_of entries.now.scanned))) (first_signed (placed (units_of entries.now.scanned)) signature) }
+{
+    match signatures.get(&signature) {
+        Some(unit) => type_in_unit(entries, *unit),
+        None => None,
+    }
+}
+
+/// The entry that a value of an entry's attribute reaches.
+fn reach(
+    entries: &Entries<'_>,
+    signatures: &BTreeMap<u64, usize>,
+    id: EntryId,
+    value: Value<'_>,
+) -> Option<EntryId>
+    requires id { id < length (entries_of (units_of entries.now.scanned)) }
+    requires signatures { HasFirstSigned (placed (units_of entries.now.scanned)) signatures.now }
+    ensures { IfSome (slice_get (entries_of (units_of entries.now.scanned)) id) (λ e. result ≡ reach_of (entries_of (units_of entries.now.scanned)) (placed (units_of entries.now.scanned)) (entry_head e) (view value.entry)) }
+{
+    match value {
+        Value::RefInfo(offset) => entry_from_start(entries, offset),
+        Value::RefUnit(offset) => entry_from_header(entries, entries.unit_of(id), offset),
+        Value::RefSig(signature) => type_by_signature(entries, signatures, signature),
+        _ => None,
+    }
+}
+
+/// Searches the entry that an entry's attribute reaches.
+pub(crate) fn find_target(
+    entries: &Entries<'_>,
+    signatures: &BTreeMap<u64, usize>,
+    id: EntryId,
+    attribute: Attribute,
+) -> Option<EntryId>
+    requires id { id < length (entries_of (units_of entries.now.scanned)) }
+    requires signatures { HasFirstSigned (placed (units_of entries.now.scanned)) signatures.now }
+    ensures exact { IfSome (slice_get (entries_of (units_of entries.now.scanned)) id) (λ e. result ≡ target_of (entries_of (units_of entries.now.scanned)) (placed (units_of entries.now.scanned)) e attribute) }
+    ensures within { IfSome result (λ t. t < length (entries_of (units_of entries.now.scanned))) }
+{
+    match entries.value(id, attribute) {
+        Some(value) => reach(entries, signatures, id, value),
+        None => None,
+    }
+}
