@@ -1,0 +1,168 @@
+-- A node on top of the stack, all of whose steps were looked at, is ranked.
+use Rattle.std.proofs.Common.{◌≡◌, ◌≢◌, ℕ, ◌+◌, ◌-◌, ◌<◌, ◌⊎◌, [], ◌∷◌, cond, length, get_or, take, inl, inr, arith, refl, sym, ◌∙◌, length-set, get_or-set_same}
+use Rattle.std.proofs.lemmas.Bool.{cases_lt}
+use Rattle.std.proofs.lemmas.List.{length_push, get_or_push, get_or_append_left, get_or-take, length-take-le}
+use Rattle.std.proofs.lemmas.List.Sums.{sum_by-set}
+use Rattle.dw_types.specs.declared.walk.Mark.{Mark}
+use Rattle.dw_types.specs.declared.walk.Mark.TheVariants.{Fresh, Open, Ranked}
+use Rattle.dw_types.specs.Graphs.{Graph, steps_of, step_at}
+use Rattle.dw_types.specs.Walks.{HasStack, HasRanks, IsWalk, stack_step, KeepsTaken, is_taken}
+use Rattle.dw_types.specs.WalkStates.{State, mark_of, with_rank}
+use Rattle.dw_types.proofs.ListLemmas.{at_set, at_push}
+use Rattle.dw_types.proofs.WalkLemmas.{IsTop, top-opened, in-graph}
+
+-- ranking the node on top of the stack, all of whose steps were looked at
+
+module _ (graph : Graph) (s : State) (node : ℕ) (h : IsWalk graph s) (t : IsTop s node) (all : get_or s.next node 0 ≡ length (steps_of graph node)) where
+  pub done-opened : mark_of s node ≡ Open
+  done-opened = top-opened graph s node h.coherent.stack t
+
+  pub done-in : node < length graph
+  done-in = in-graph graph s node h.coherent.places (λ e. let opened = done-opened in cc)
+
+  done-in_marks : node < length s.marks
+  done-in_marks = let e = h.coherent.places.marks in let below = done-in in omega arith
+
+  done-in_ranks : node < length s.ranks
+  done-in_ranks = let e = h.coherent.places.ranks in let below = done-in in omega arith
+
+  done-mark : (a : ℕ) → ((a ≡ node) × (mark_of (with_rank s node) a ≡ Ranked)) ⊎ ((a ≢ node) × (mark_of (with_rank s node) a ≡ mark_of s a))
+  done-mark a = at_set s.marks node a Ranked Fresh done-in_marks
+
+  done-rank : (a : ℕ) → ((a ≡ node) × (get_or (with_rank s node).ranks a 0 ≡ length s.by_rank)) ⊎ ((a ≢ node) × (get_or (with_rank s node).ranks a 0 ≡ get_or s.ranks a 0))
+  done-rank a = at_set s.ranks node a (length s.by_rank) 0 done-in_ranks
+
+  done-ranked : (a : ℕ) → mark_of s a ≡ Ranked → mark_of (with_rank s node) a ≡ Ranked
+  done-ranked a done = elim (done-mark a) [ inl p ↦ p.1 | inr p ↦ p.1 ∙ done ]
+
+  done-fresh : (a : ℕ) → mark_of (with_rank s node) a ≡ Fresh → mark_of s a ≡ Fresh
+  done-fresh a fresh = elim (done-mark a) [ inl p ↦ absurd cc | inr p ↦ sym p.1 ∙ fresh ]
+
+  -- each step of the node leads to one that was ranked, since none is above the top
+  done-leads : (k : ℕ) → k < length (steps_of graph node) → mark_of s (step_at graph node k) ≡ Ranked
+  done-leads k in_steps =
+      let some = t.some in
+      let below : length s.stack - 1 < length s.stack = omega arith in
+      let seen : k < get_or s.next (get_or s.stack (length s.stack - 1) 0) 0 = rw (t.top, all) in_steps in
+      elim (h.looks_up (length s.stack - 1) k below seen) [
+        | inl done ↦ rw t.top at done
+        | inr above ↦ let over = above.1 in let in_stack = above.2 in absurd (omega arith)
+      ]
+
+  -- a node that was ranked before has a rank below the new one, and keeps it
+  done-keeps : (a : ℕ) → mark_of s a ≡ Ranked → get_or (with_rank s node).ranks a 0 ≡ get_or s.ranks a 0
+  done-keeps a done =
+      elim (done-rank a) [ inl p ↦ absurd (let opened = done-opened in let e : mark_of s node ≡ Ranked = rw (← p.0) done in cc) | inr p ↦ p.1 ]
+
+  done-length : length (take (length s.stack - 1) s.stack) ≡ length s.stack - 1
+  done-length = length-take-le (length s.stack - 1) s.stack (omega arith)
+
+  done-at : (k : ℕ) → k < length s.stack - 1 → get_or (take (length s.stack - 1) s.stack) k 0 ≡ get_or s.stack k 0
+  done-at k below = get_or-take (length s.stack - 1) s.stack k 0 below
+
+  -- the node stood on top alone
+  done-other : (k : ℕ) → k < length s.stack - 1 → get_or s.stack k 0 ≢ node
+  done-other k below same = h.coherent.stack.once k (length s.stack - 1) below (let some = t.some in omega arith) (same ∙ sym t.top)
+
+  done-stack : HasStack graph (with_rank s node)
+  done-stack =
+      let short = done-length in
+      record {
+        opened = λ k in_stack.
+            let below : k < length s.stack - 1 = omega arith in
+            rw (done-at k below) (elim (done-mark (get_or s.stack k 0)) [ inl q ↦ absurd (done-other k below q.0) | inr q ↦ q.1 ∙ h.coherent.stack.opened k (omega arith) ]);
+        stacked = λ a opened. elim (done-mark a) [
+          | inl p ↦ absurd cc
+          | inr p ↦
+              let place = h.coherent.stack.stacked a (sym p.1 ∙ opened) in
+              let in_stack : place.0 < length s.stack = place.1 in
+              elim (cases_lt place.0 (length s.stack - 1)) [
+                | inl below ↦ (place.0, (omega arith), done-at place.0 below ∙ place.2)
+                | inr above ↦
+                    let last : place.0 ≡ length s.stack - 1 = omega arith in
+                    let e : get_or s.stack place.0 0 ≡ a = place.2 in
+                    absurd (p.0 (sym e ∙ (rw last t.top)))
+              ]
+        ];
+        once = λ i j lt in_stack same.
+            let below : j < length s.stack - 1 = omega arith in
+            h.coherent.stack.once i j lt (omega arith) (sym (done-at i (omega arith)) ∙ (same ∙ done-at j below));
+        steps = λ k in_stack.
+            let below : k + 1 < length s.stack - 1 = omega arith in
+            rw (done-at (k + 1) below, done-at k (omega arith)) (h.coherent.stack.steps k (omega arith));
+      }
+
+  done-ranks : HasRanks graph (with_rank s node)
+  done-ranks = record {
+    below = λ a done. let e = length_push s.by_rank node in elim (done-mark a) [
+      | inl p ↦ rw p.0 (rw (get_or-set_same s.ranks node (length s.by_rank) 0 done-in_ranks) (omega arith))
+      | inr p ↦ let was = sym p.1 ∙ done in let old = h.coherent.ranks.below a was in rw (done-keeps a was) (omega arith)
+    ];
+    listed = λ a done. elim (done-mark a) [
+      | inl p ↦ rw p.0 (rw (get_or-set_same s.ranks node (length s.by_rank) 0 done-in_ranks) (get_or_push s.by_rank node 0 (length s.by_rank) refl))
+      | inr p ↦
+          let was = sym p.1 ∙ done in
+          rw (done-keeps a was) (get_or_append_left s.by_rank (node ∷ []) 0 _ (h.coherent.ranks.below a was) ∙ h.coherent.ranks.listed a was)
+    ];
+    ranked = λ k below. elim (at_push s.by_rank k node 0 below) [
+      | inl p ↦ rw p.1 (get_or-set_same s.marks node Ranked Fresh done-in_marks, get_or-set_same s.ranks node (length s.by_rank) 0 done-in_ranks ∙ sym p.0)
+      | inr p ↦
+          let old = h.coherent.ranks.ranked k p.0 in
+          rw p.1 (done-ranked _ old.0, done-keeps _ old.0 ∙ old.1)
+    ];
+    leads = λ a k done in_steps. elim (done-mark a) [
+      | inl p ↦ done-ranked _ (rw p.0 (done-leads k (rw p.0 at in_steps)))
+      | inr p ↦ done-ranked _ (h.coherent.ranks.leads a k (sym p.1 ∙ done) in_steps)
+    ];
+    falls = λ a k done in_steps. elim (done-mark a) [
+      | inl p ↦
+          let leads = done-leads k (rw p.0 at in_steps) in
+          rw p.0 (rw (done-keeps (step_at graph node k) leads, get_or-set_same s.ranks node (length s.by_rank) 0 done-in_ranks) (h.coherent.ranks.below _ leads))
+      | inr p ↦
+          let was = sym p.1 ∙ done in
+          rw (done-keeps a was, done-keeps _ (h.coherent.ranks.leads a k was in_steps)) (h.coherent.ranks.falls a k was in_steps)
+    ];
+  }
+
+  pub done-keeps_taken : KeepsTaken s (with_rank s node)
+  done-keeps_taken = done-fresh
+
+  pub done-walk : IsWalk graph (with_rank s node)
+  done-walk = record {
+    coherent = record {
+      places = record {
+        marks = length-set s.marks node _ ∙ h.coherent.places.marks;
+        next = h.coherent.places.next;
+        ranks = length-set s.ranks node _ ∙ h.coherent.places.ranks;
+        few = h.coherent.places.few;
+      };
+      stack = done-stack;
+      counters = record {
+        within = h.coherent.counters.within;
+        small = h.coherent.counters.small;
+        fresh = λ a fresh. h.coherent.counters.fresh a (done-fresh a fresh);
+        ranked = λ a done. elim (done-mark a) [ inl p ↦ rw p.0 all | inr p ↦ h.coherent.counters.ranked a (sym p.1 ∙ done) ];
+      };
+      ranks = done-ranks;
+      turns =
+          let turns = h.coherent.turns in
+          let e = sum_by-set (λ (m : Mark). cond (is_taken m) 1 0) s.marks node Ranked Fresh done-in_marks in
+          let e' = rw done-opened at e in
+          omega arith;
+    };
+    looks_up = λ place k in_stack seen.
+        let short = done-length in
+        let below : place < length s.stack - 1 = omega arith in
+        rw (done-at place below) (elim (h.looks_up place k (omega arith) (rw (done-at place below) at seen)) [
+          | inl done ↦ inl (done-ranked _ done)
+          | inr above ↦
+              let in_stack : above.0 < length s.stack = above.2 in
+              elim (cases_lt above.0 (length s.stack - 1)) [
+                | inl under ↦ inr (above.0, above.1, (omega arith), done-at above.0 under ∙ above.3)
+                | inr over ↦
+                    let last : above.0 ≡ length s.stack - 1 = omega arith in
+                    let e : get_or s.stack above.0 0 ≡ stack_step graph s place k = above.3 in
+                    inl (rw (← e) (rw (last, t.top) (get_or-set_same s.marks node Ranked Fresh done-in_marks)))
+              ]
+        ]);
+  }

@@ -1,0 +1,36 @@
+-- The roles of entries, listed as a pass goes on.
+use Rattle.std.proofs.Common.{◌≡◌, ℕ, ◌+◌, ◌<◌, ◌≤◌, Bool, true, false, if◌then◌else◌, List, [], ◌∷◌, ◌++◌, Option, None, Some, map, take, length, arith, refl, sym, ap, ◌∙◌}
+use Rattle.std.proofs.lemmas.List.{get_or-map, get_or-take, length-map, length-take-le, map_push, take_more}
+use Rattle.dw_types.specs.declared.facts.Facts.{Facts}
+use Rattle.dw_types.specs.declared.kind.Role.TheVariants.{Members, Dimensions, Other}
+use Rattle.dw_types.specs.Entries.{entry_at, no_entry}
+use Rattle.dw_types.specs.Kinds.{has_members, is_array, is_members, role_in, role_of}
+use Rattle.dw_types.specs.Roles.{role_listed, roles_of_first}
+
+members-by : (a b : Bool) → is_members (if a then Members else if b then Dimensions else Other) ≡ a
+members-by true b = refl
+members-by false true = refl
+members-by false false = refl
+
+-- the entries with members are the structures and unions that are not declared
+pub members-role : (entry : Facts) → is_members (role_of entry) ≡ has_members entry
+members-role entry = members-by (has_members entry) (is_array entry)
+
+pub roles-length : (entries : List Facts) (count : ℕ) → count ≤ length entries → length (roles_of_first entries count) ≡ count
+roles-length entries count within = length-map (take count entries) role_of ∙ length-take-le count entries within
+
+-- one more role
+pub roles-more : (entries : List Facts) (count : ℕ) → count < length entries → roles_of_first entries count ++ role_of (entry_at entries count) ∷ [] ≡ roles_of_first entries (count + 1)
+roles-more entries count below = sym (map_push role_of (take count entries) (entry_at entries count)) ∙ ap (map role_of) (sym (take_more entries count no_entry below))
+
+-- a parent that was passed has its role in the list
+pub role-listed : (entries : List Facts) (count : ℕ) (parent : Option ℕ) → count ≤ length entries → ((p : ℕ) → parent ≡ Some p → p < count) → role_listed (roles_of_first entries count) parent ≡ role_in entries parent
+role-listed entries count None within before = refl
+role-listed entries count (Some p) within before =
+    let below : p < count = before p refl in
+    let long = length-take-le count entries within in
+    get_or-map role_of (take count entries) p no_entry Other (omega arith) ∙ ap role_of (get_or-take count entries p no_entry below)
+
+-- a parent that was passed is in the list
+pub parent-listed : (entries : List Facts) (count : ℕ) (parent : Option ℕ) → count ≤ length entries → ((p : ℕ) → parent ≡ Some p → p < count) → (p : ℕ) → parent ≡ Some p → p < length (roles_of_first entries count)
+parent-listed entries count parent within before p is = let long = roles-length entries count within in let below = before p is in omega arith

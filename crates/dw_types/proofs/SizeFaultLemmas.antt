@@ -1,0 +1,141 @@
+-- A first fault over capped sizes is the first fault over the sizes themselves.
+use Rattle.std.proofs.Common.{◌≡◌, ℕ, ◌^◌, ◌<◌, ◌≤◌, min, ℤ, pos, negsuc, Bool, true, false, not, ◌&&◌, ◌||◌, if◌then◌else◌, List, Option, Some, None, is_some, length, inl, inr, arith, refl, sym, ap, ◌∙◌}
+use Rattle.std.proofs.lemmas.Bool.{cases_lt, false_from_ne_true}
+use Rattle.dw_types.specs.declared.facts.Facts.{Facts}
+use Rattle.dw_types.specs.declared.constant.Constant.{Constant}
+use Rattle.dw_types.specs.declared.constant.Constant.TheVariants.{Absent, NotNumber, Unsigned, Signed}
+use Rattle.dw_entries.specs.declared.rule.Rule.{Rule}
+use Rattle.dw_entries.specs.declared.rule.Rule.TheVariants.{NoSize, SizeTooGreat, MemberOutside, EnumSize}
+use Rattle.dw_types.specs.declared.kind.Kind.{Kind}
+use Rattle.dw_types.specs.declared.kind.Role.{Role}
+use Rattle.dw_types.specs.declared.kind.Kind.TheVariants.{Enumeration}
+use Rattle.dw_types.specs.Constants.{is_present, natural_of}
+use Rattle.dw_types.specs.Entries.{entry_at, ParentsComeFirst, TargetsAreEntries}
+use Rattle.dw_types.specs.Extents.{bytes_end_past, end_past, is_number, is_outside, start_of, ends_past_container}
+use Rattle.dw_entries.specs.Rules.{number_of}
+use Rattle.dw_types.specs.Kinds.{is_enumeration, kind_of, parent_role}
+use Rattle.dw_types.specs.Shapes.{is_plain, stands_alone}
+use Rattle.dw_types.specs.SizeFaults.{breaks_size, differ, fails_size, has_wrong_size, is_too_great}
+use Rattle.dw_types.specs.SizeTables.{Size, cap_size}
+use Rattle.dw_types.specs.Sizes.{constant_or, size_of_kind, size_to, ObeysSizeLines}
+use Rattle.dw_types.specs.TypeFailures.{PassAll, IsFirstAt}
+
+-- the capped size passes each test as the size does, where it is compared with less than the limit
+
+great-same : (size : Size) → is_too_great (cap_size (2 ^ 63) size) ≡ is_too_great size
+great-same None = refl
+great-same (Some n) = elim (cases_lt n (2 ^ 63)) [ inl small ↦ grind arith | inr great ↦ grind arith ]
+
+past-same : (n : ℕ) (start : ℤ) (k : ℕ) → n < 2 ^ 63 → end_past n start (min (2 ^ 63) k) ≡ end_past n start k
+past-same n (pos start) k small = grind arith
+past-same n (negsuc start) k small = refl
+
+bytes-same : (n : ℕ) (start : Option ℤ) (size : Size) → n < 2 ^ 63 → bytes_end_past n start (cap_size (2 ^ 63) size) ≡ bytes_end_past n start size
+bytes-same n None size small = refl
+bytes-same n (Some start) None small = refl
+bytes-same n (Some start) (Some k) small = past-same n start k small
+
+differ-same : (a b : Size) → is_too_great a ≡ false → differ a (cap_size (2 ^ 63) b) ≡ differ a b
+differ-same None b small = refl
+differ-same (Some a) None small = refl
+differ-same (Some a) (Some b) small = grind arith
+
+if-same : (a b x y z w : Bool) → z ≡ w → (if a then x else if b then y else z) ≡ (if a then x else if b then y else w)
+if-same a b x y z w same = rw same refl
+
+cap-small : (size : Size) → is_too_great size ≡ false → cap_size (2 ^ 63) size ≡ size
+cap-small None small = refl
+cap-small (Some n) small = let below : n < 2 ^ 63 = grind arith in ap Some (omega arith)
+
+ends-same : (own : Size) (member : Facts) (size : Size) → is_too_great own ≡ false → ends_past_container own member (cap_size (2 ^ 63) size) ≡ ends_past_container own member size
+ends-same None member size small = refl
+ends-same (Some n) member size small =
+    let below : n < 2 ^ 63 = grind arith in
+    if-same (is_number member.bit_size && is_number member.data_bit_offset) (is_present member.bit_size) _ false _ _ (bytes-same n (start_of member) size below)
+
+enumeration-kind : (entry : Facts) → is_enumeration entry ≡ true → kind_of entry ≡ Enumeration
+enumeration-kind entry is = grind arith
+
+constant-small : (constant : Constant) (other : Size) → is_too_great (constant_or constant other) ≡ false → is_too_great (natural_of constant) ≡ false
+constant-small Absent other small = refl
+constant-small NotNumber other small = refl
+constant-small (Unsigned n) other small = small
+constant-small (Signed n) other small = small
+
+and-same : (test : Bool) (a b : Bool) → (test ≡ true → a ≡ b) → (test && a) ≡ (test && b)
+and-same true a b same = same refl
+and-same false a b same = refl
+
+-- a rule on sizes that is broken has one of four numbers
+number-few : (parent : Role) (entry : Facts) (size container type_size : Size) (rule : Rule) → breaks_size parent entry size container type_size rule ≡ true → number_of rule ≤ 4
+number-few parent entry size container type_size NoSize breaks = omega arith
+number-few parent entry size container type_size SizeTooGreat breaks = omega arith
+number-few parent entry size container type_size MemberOutside breaks = omega arith
+number-few parent entry size container type_size EnumSize breaks = omega arith
+number-few parent entry size container type_size _ breaks = absurd cc
+
+module _ (entries : List Facts) (parents : ParentsComeFirst entries) (targets : TargetsAreEntries entries) (exact found : ℕ → Size) (obeys : ObeysSizeLines entries exact)
+    (caps : (node : ℕ) → node < length entries → found node ≡ cap_size (2 ^ 63) (exact node)) where
+  -- the same entries have a size that is too great
+  great-at : (node : ℕ) → node < length entries → is_too_great (found node) ≡ is_too_great (exact node)
+  great-at node below = ap is_too_great (caps node below) ∙ great-same (exact node)
+
+  to-found : (target : Option ℕ) → ((to : ℕ) → target ≡ Some to → to < length entries) → size_to found target ≡ cap_size (2 ^ 63) (size_to exact target)
+  to-found None inside = refl
+  to-found (Some to) inside = caps to (inside to refl)
+
+  abbrev pub NoneGreatBefore : ℕ → Type 0
+  NoneGreatBefore node = (k : ℕ) → k < node → is_too_great (exact k) ≡ false
+
+  parent-small : (node : ℕ) → NoneGreatBefore node → (parent : Option ℕ) → ((p : ℕ) → parent ≡ Some p → p < node) → is_too_great (size_to exact parent) ≡ false
+  parent-small node none None before = refl
+  parent-small node none (Some p) before = none p (before p refl)
+
+  outside-same : (node : ℕ) → node < length entries → NoneGreatBefore node
+      → is_outside (parent_role entries node) (entry_at entries node) (size_to found (entry_at entries node).parent) (size_to found (entry_at entries node).type_target)
+      ≡ is_outside (parent_role entries node) (entry_at entries node) (size_to exact (entry_at entries node).parent) (size_to exact (entry_at entries node).type_target)
+  outside-same node below none =
+      let member = entry_at entries node in
+      let small = parent-small node none member.parent (parents node) in
+      let container : size_to found member.parent ≡ size_to exact member.parent =
+      to-found member.parent (λ p is. let before = parents node p is in omega arith) ∙ cap-small (size_to exact member.parent) small in
+      let type = to-found member.type_target (λ to is. (targets node to).0 is) in
+      rw (container, type) (ap (λ (b : Bool). is_plain (parent_role entries node) member && b) (ends-same (size_to exact member.parent) member (size_to exact member.type_target) small))
+
+  wrong-same : (node : ℕ) → node < length entries → is_too_great (exact node) ≡ false
+      → has_wrong_size (entry_at entries node) (size_to found (entry_at entries node).type_target) ≡ has_wrong_size (entry_at entries node) (size_to exact (entry_at entries node).type_target)
+  wrong-same node below small =
+      let entry = entry_at entries node in
+      and-same (is_enumeration entry) _ _ (λ is.
+      let line : exact node ≡ constant_or entry.byte_size (size_to exact entry.type_target) = obeys node below ∙ ap (λ (kind : Kind). size_of_kind kind entries exact node) (enumeration-kind entry is) in
+      let own = constant-small entry.byte_size (size_to exact entry.type_target) (rw line at small) in
+      ap (λ (b : Bool). (not (is_present entry.byte_size) && (not (is_some entry.type_target) && stands_alone entry)) || b)
+      (ap (differ (natural_of entry.byte_size)) (to-found entry.type_target (λ to target. (targets node to).0 target)) ∙ differ-same (natural_of entry.byte_size) (size_to exact entry.type_target) own))
+
+  fails-same : (node : ℕ) → node < length entries → NoneGreatBefore node → (rule : Rule) → (rule ≡ EnumSize → is_too_great (exact node) ≡ false)
+      → fails_size entries found node rule ≡ fails_size entries exact node rule
+  fails-same node below none SizeTooGreat small = great-at node below
+  fails-same node below none MemberOutside small = outside-same node below none
+  fails-same node below none EnumSize small = wrong-same node below (small refl)
+  fails-same node below none _ small = refl
+
+  not-great : (node : ℕ) → node < length entries → ¬ (fails_size entries found node SizeTooGreat ≡ true) → is_too_great (exact node) ≡ false
+  not-great node below never = sym (great-at node below) ∙ false_from_ne_true (is_too_great (found node)) never
+
+  -- where no entry breaks a rule by the capped sizes, none does by the sizes
+  pub pass-same : PassAll entries (fails_size entries found) → PassAll entries (fails_size entries exact)
+  pass-same pass node below rule fails =
+      let small = λ (k : ℕ) (within : k < length entries). not-great k within (pass k within SizeTooGreat) in
+      pass node below rule (fails-same node below (λ k earlier. small k (omega arith)) rule (λ _. small node below) ∙ fails)
+
+  -- the first entry that breaks a rule by the capped sizes is the first by the sizes
+  pub first-same : (node : ℕ) (rule : Rule) → IsFirstAt entries (fails_size entries found) node rule → IsFirstAt entries (fails_size entries exact) node rule
+  first-same node rule h =
+      let inside : node < length entries = h.inside in
+      let none : NoneGreatBefore node = λ k earlier. not-great k (omega arith) (h.before k earlier SizeTooGreat) in
+      record {
+        inside = h.inside;
+        breaks = sym (fails-same node inside none rule (λ is. not-great node inside (λ great. h.least SizeTooGreat great (rw is (omega arith))))) ∙ h.breaks;
+        least = λ other fails lower. h.least other (fails-same node inside none other (λ is. absurd (let few = number-few (parent_role entries node) (entry_at entries node) (found node) (size_to found (entry_at entries node).parent) (size_to found (entry_at entries node).type_target) rule h.breaks in let more : 4 < number_of rule = rw is at lower in omega arith)) ∙ fails) lower;
+        before = λ earlier lt other fails. h.before earlier lt other (fails-same earlier (omega arith) (λ k before. none k (omega arith)) other (λ is. none earlier lt) ∙ fails);
+      }

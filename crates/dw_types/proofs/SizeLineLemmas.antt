@@ -1,0 +1,199 @@
+-- The size lines read a table at steps by value alone, and may take capped sizes.
+use Rattle.std.proofs.Common.{◌⊎◌, inl, inr, ◌≡◌, ℕ, ◌*◌, ◌^◌, ◌<◌, min, Bool, true, false, not, ◌&&◌, if◌then◌else◌, List, map, Option, Some, None, length, arith, refl, sym, ap, ◌∙◌, get_or}
+use Rattle.std.proofs.Math.Nat.{mul_comm}
+use Rattle.dw_types.specs.declared.facts.Facts.{Facts}
+use Rattle.dw_types.specs.declared.constant.Constant.{Constant}
+use Rattle.dw_types.specs.declared.constant.Constant.TheVariants.{Absent, NotNumber, Unsigned, Signed}
+use Rattle.dw_types.specs.declared.kind.Kind.{Kind}
+use Rattle.dw_types.specs.declared.kind.Kind.TheVariants.{Declared, OwnSized, Pointer, Alias, Enumeration, Array, Subroutine, NoType}
+use Rattle.dw_types.specs.Constants.{is_present}
+use Rattle.dw_types.specs.ElementCounts.{element_count_by, size_from}
+use Rattle.dw_types.specs.Entries.{entry_at, TargetsAreEntries, children}
+use Rattle.dw_types.specs.Graphs.{IsStep}
+use Rattle.std.proofs.lemmas.Bool.{and_parts}
+use Rattle.dw_forms.specs.Codes.{DW_TAG_structure_type, DW_TAG_union_type}
+use Rattle.dw_types.specs.Kinds.{container_tags, has_members, is_one_of, passes_type_on, is_declared_type, kind_of}
+use Rattle.dw_types.specs.Orders.{Ranking, IsOrderOf}
+use Rattle.dw_types.specs.SizeTables.{Size, cap_size}
+use Rattle.dw_types.specs.Sizes.{has_elements, is_other_index, has_stride, size_of_kind, size_line, size_to, constant_or, times, array_size, is_regular, product_of, factor_of, dimensions}
+use Rattle.dw_types.specs.Steps.{by_value, by_type, by_signature}
+use Rattle.dw_types.proofs.CapLemmas.{cap-product}
+use Rattle.dw_types.proofs.ElementCountLemmas.{element_count_value}
+use Rattle.dw_types.proofs.StepLemmas.{step-from_by_value, length-by_value}
+use Rattle.dw_types.proofs.TableLemmas.{IsLocal, Lines, SameAtSteps}
+use Rattle.std.specs.List.{list_any}
+
+alias-passes : (entry : Facts) → kind_of entry ≡ Alias → passes_type_on entry ≡ true
+alias-passes entry is = grind arith
+
+enumeration-passes : (entry : Facts) → kind_of entry ≡ Enumeration → passes_type_on entry ≡ true
+enumeration-passes entry is = grind arith
+
+array-passes : (entry : Facts) → kind_of entry ≡ Array → passes_type_on entry ≡ true
+array-passes entry is = grind arith
+
+not-declared : (a b c d e f : Bool) → (if a then Pointer else if b then Alias else if c then Enumeration else if d then Array else if e then Subroutine else if f then OwnSized else NoType) ≡ Declared → ⊥
+not-declared true b c d e f is = cc
+not-declared false true c d e f is = cc
+not-declared false false true d e f is = cc
+not-declared false false false true e f is = cc
+not-declared false false false false true f is = cc
+not-declared false false false false false true is = cc
+not-declared false false false false false false is = cc
+
+declared-by : (entry : Facts) (declared : Bool) → is_declared_type entry ≡ declared → kind_of entry ≡ Declared → is_declared_type entry ≡ true
+declared-by entry true test is = test
+declared-by entry false test is = absurd (not-declared _ _ _ _ _ _ (rw test at is))
+
+declared-is : (entry : Facts) → kind_of entry ≡ Declared → is_declared_type entry ≡ true
+declared-is entry is = declared-by entry (is_declared_type entry) refl is
+
+-- the sizes at a target are the same, where a target that there is is a step
+to-same : (table other : ℕ → Size) (target : Option ℕ) → ((to : ℕ) → target ≡ Some to → table to ≡ other to) → size_to table target ≡ size_to other target
+to-same table other None same = refl
+to-same table other (Some to) same = same to refl
+
+module _ (entries : List Facts) where
+  at-step : (table other : ℕ → Size) (node to : ℕ) → SameAtSteps (by_value entries) table other node → IsStep (by_value entries) node to → table to ≡ other to
+  at-step table other node to same (k, below, is) = rw is at (same k below)
+
+  by-kind : (table other : ℕ → Size) (node : ℕ) (kind : Kind) → kind_of (entry_at entries node) ≡ kind → SameAtSteps (by_value entries) table other node
+      → size_of_kind kind entries table node ≡ size_of_kind kind entries other node
+  by-kind table other node Declared is same =
+      to-same table other (entry_at entries node).signature_target (λ to target. at-step table other node to same (step-from_by_value entries node to (by_signature (declared-is (entry_at entries node) is) target)))
+  by-kind table other node OwnSized is same = refl
+  by-kind table other node Pointer is same = refl
+  by-kind table other node Alias is same =
+      to-same table other (entry_at entries node).type_target (λ to target. at-step table other node to same (step-from_by_value entries node to (by_type (alias-passes (entry_at entries node) is) target)))
+  by-kind table other node Enumeration is same =
+      ap (constant_or (entry_at entries node).byte_size)
+      (to-same table other (entry_at entries node).type_target (λ to target. at-step table other node to same (step-from_by_value entries node to (by_type (enumeration-passes (entry_at entries node) is) target))))
+  by-kind table other node Array is same =
+      let e = to-same table other (entry_at entries node).type_target (λ to target. at-step table other node to same (step-from_by_value entries node to (by_type (array-passes (entry_at entries node) is) target))) in
+      ap (λ (size : Size). constant_or (entry_at entries node).byte_size (if is_regular entries node then times (constant_or (entry_at entries node).byte_stride size) (product_of (map (factor_of entries) (dimensions entries node))) else None)) e
+  by-kind table other node Subroutine is same = refl
+  by-kind table other node NoType is same = refl
+
+  -- the size lines read a table at steps by value alone
+  pub size_line-local : IsLocal (by_value entries) (size_line entries)
+  size_line-local table other node in_graph same = by-kind table other node (kind_of (entry_at entries node)) refl same
+
+-- capped sizes
+
+cap-twice : (limit : ℕ) (size : Size) → cap_size limit (cap_size limit size) ≡ cap_size limit size
+cap-twice limit None = refl
+cap-twice limit (Some n) = ap Some (omega arith)
+
+cap-to : (limit : ℕ) (table : ℕ → Size) (target : Option ℕ) → cap_size limit (size_to table target) ≡ cap_size limit (size_to (λ n. cap_size limit (table n)) target)
+cap-to limit table None = refl
+cap-to limit table (Some to) = sym (cap-twice limit (table to))
+
+cap-constant : (limit : ℕ) (constant : Constant) (a b : Size) → cap_size limit a ≡ cap_size limit b → cap_size limit (constant_or constant a) ≡ cap_size limit (constant_or constant b)
+cap-constant limit Absent a b same = same
+cap-constant limit NotNumber a b same = refl
+cap-constant limit (Unsigned n) a b same = refl
+cap-constant limit (Signed n) a b same = refl
+
+cap-factor : (limit a b p : ℕ) → min limit a ≡ min limit b → min limit (a * p) ≡ min limit (b * p)
+cap-factor limit a b p same = cap-product limit a p ∙ (ap (λ (n : ℕ). min limit (n * p)) same ∙ sym (cap-product limit b p))
+
+cap-times : (limit : ℕ) (a b p : Size) → cap_size limit a ≡ cap_size limit b → cap_size limit (times a p) ≡ cap_size limit (times b p)
+cap-times limit None None p same = refl
+cap-times limit None (Some b) p same = cc
+cap-times limit (Some a) None p same = cc
+cap-times limit (Some a) (Some b) None same = refl
+cap-times limit (Some a) (Some b) (Some p) same = let e : min limit a ≡ min limit b = cc in ap Some (cap-factor limit a b p e)
+
+cap-if : (limit : ℕ) (test : Bool) (a b : Size) → cap_size limit a ≡ cap_size limit b → cap_size limit (if test then a else None) ≡ cap_size limit (if test then b else None)
+cap-if limit true a b same = same
+cap-if limit false a b same = refl
+
+cap-kind : (limit : ℕ) (entries : List Facts) (table : ℕ → Size) (node : ℕ) (kind : Kind)
+    → cap_size limit (size_of_kind kind entries table node) ≡ cap_size limit (size_of_kind kind entries (λ n. cap_size limit (table n)) node)
+cap-kind limit entries table node Declared = cap-to limit table (entry_at entries node).signature_target
+cap-kind limit entries table node OwnSized = refl
+cap-kind limit entries table node Pointer = refl
+cap-kind limit entries table node Alias = cap-to limit table (entry_at entries node).type_target
+cap-kind limit entries table node Enumeration = cap-constant limit (entry_at entries node).byte_size _ _ (cap-to limit table (entry_at entries node).type_target)
+cap-kind limit entries table node Array =
+    cap-constant limit (entry_at entries node).byte_size _ _
+    (cap-if limit (is_regular entries node) _ _
+    (cap-times limit _ _ (product_of (map (factor_of entries) (dimensions entries node)))
+    (cap-constant limit (entry_at entries node).byte_stride _ _ (cap-to limit table (entry_at entries node).type_target))))
+cap-kind limit entries table node Subroutine = refl
+cap-kind limit entries table node NoType = refl
+
+-- a capped line may take capped sizes
+pub size_line-caps : (limit : ℕ) (entries : List Facts) (table : ℕ → Size) (node : ℕ)
+    → cap_size limit (size_line entries table node) ≡ cap_size limit (size_line entries (λ n. cap_size limit (table n)) node)
+size_line-caps limit entries table node = cap-kind limit entries table node (kind_of (entry_at entries node))
+
+-- a target is a place of a table of all entries
+pub type-in : (entries : List Facts) (sizes : List Size) (node : ℕ) → TargetsAreEntries entries → length sizes ≡ length entries → (to : ℕ) → (entry_at entries node).type_target ≡ Some to → to < length sizes
+type-in entries sizes node targets long to is = let below = (targets node to).0 is in omega arith
+
+pub signature-in : (entries : List Facts) (sizes : List Size) (node : ℕ) → TargetsAreEntries entries → length sizes ≡ length entries → (to : ℕ) → (entry_at entries node).signature_target ≡ Some to → to < length sizes
+signature-in entries sizes node targets long to is = let below = (targets node to).1 is in omega arith
+
+-- the size of an array by the factor of its children
+
+if-none : (limit : ℕ) (test : Bool) → None ≡ cap_size limit (if test then None else None)
+if-none limit true = refl
+if-none limit false = refl
+
+by-factor : (s p : Size) (has others strides : Bool)
+    → cap_size (2 ^ 63) (times s (size_from (element_count_value others strides has p))) ≡ cap_size (2 ^ 63) (if (has && not others) && (not false && not strides) then times s p else None)
+by-factor None p has others strides = if-none (2 ^ 63) ((has && not others) && (not false && not strides))
+by-factor (Some a) p true true strides = refl
+by-factor (Some a) p false true strides = refl
+by-factor (Some a) p true false true = refl
+by-factor (Some a) p false false true = refl
+by-factor (Some a) p false false false = refl
+by-factor (Some a) None true false false = refl
+by-factor (Some a) (Some q) true false false = let left = cap-product (2 ^ 63) q a in ap Some (omega (arith, left, mul_comm q a, mul_comm (min (2 ^ 63) q) a))
+
+pub array-by_element_count : (entries : List Facts) (table : ℕ → Size) (node : ℕ) → is_present (entry_at entries node).bit_stride ≡ false
+    → cap_size (2 ^ 63) (times (constant_or (entry_at entries node).byte_stride (size_to table (entry_at entries node).type_target)) (size_from (element_count_by entries (children entries node))))
+    ≡ cap_size (2 ^ 63) (array_size entries table node)
+array-by_element_count entries table node plain =
+    rw plain
+    (by-factor (constant_or (entry_at entries node).byte_stride (size_to table (entry_at entries node).type_target)) (product_of (map (factor_of entries) (dimensions entries node)))
+    (has_elements (dimensions entries node)) (list_any (is_other_index entries) (children entries node)) (list_any (has_stride entries) (dimensions entries node)))
+
+no-array : (test : Bool) (size : Size) → None ≡ cap_size (2 ^ 63) (if test && false then size else None)
+no-array true size = refl
+no-array false size = refl
+
+pub array-by_bits : (entries : List Facts) (table : ℕ → Size) (node : ℕ) → is_present (entry_at entries node).bit_stride ≡ true → None ≡ cap_size (2 ^ 63) (array_size entries table node)
+array-by_bits entries table node bits =
+    rw bits (no-array (has_elements (dimensions entries node) && not (list_any (is_other_index entries) (children entries node))) _)
+
+-- the capped lines
+abbrev pub capped_line : List Facts → Lines
+capped_line entries table node = cap_size (2 ^ 63) (size_line entries table node)
+
+pub capped_line-local : (entries : List Facts) → IsLocal (by_value entries) (capped_line entries)
+capped_line-local entries table other node in_graph same = ap (cap_size (2 ^ 63)) (size_line-local entries table other node in_graph same)
+
+-- a node that stands in an order is an entry
+pub ranked-in : (entries : List Facts) (order : Ranking) → IsOrderOf (by_value entries) order → (nodes : List ℕ) → nodes ≡ order.by_rank → (k : ℕ) → k < length nodes → get_or nodes k 0 < length entries
+ranked-in entries order h nodes is k below =
+    let here = h.ranked k (rw is at below) in
+    let long = length-by_value entries in
+    let e : get_or order.by_rank k 0 < length entries = let p = here.0 in omega arith in
+    rw is e
+
+-- a structure or union that is not declared has a size of its own
+
+container-tag : (tag : ℕ) → is_one_of container_tags tag ≡ true → (tag ≡ DW_TAG_structure_type) ⊎ (tag ≡ DW_TAG_union_type)
+container-tag tag is = grind arith
+
+not-declared_by : (b : Bool) → not b ≡ true → b ≡ false
+not-declared_by true e = cc
+not-declared_by false e = refl
+
+pub members-own : (entry : Facts) → has_members entry ≡ true → kind_of entry ≡ OwnSized
+members-own entry is =
+    let parts = and_parts (is_one_of container_tags entry.tag) (not entry.declared) is in
+    let plain = not-declared_by entry.declared parts.1 in
+    elim (container-tag entry.tag parts.0) [ inl structure ↦ rw (structure, plain) refl | inr union ↦ rw (union, plain) refl ]

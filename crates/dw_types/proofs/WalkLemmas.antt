@@ -1,0 +1,224 @@
+-- A node is taken up, or a step looked at: each turn of a walk leads to another state of one.
+use Rattle.std.proofs.Common.{◌≡◌, ◌≢◌, ℕ, ◌+◌, ◌-◌, ◌^◌, ◌<◌, ◌⊎◌, List, [], ◌∷◌, cond, length, get_or, inl, inr, arith, refl, sym, ap, ◌∙◌, length-set, get_or-set_same, count_by}
+use Rattle.std.proofs.lemmas.Bool.{cases_lt}
+use Rattle.std.proofs.lemmas.List.{length_push, get_or_push, get_or_past, get_or_append_left}
+use Rattle.std.proofs.lemmas.List.Sums.{sum_by-set}
+use Rattle.dw_types.specs.declared.walk.Mark.{Mark}
+use Rattle.dw_types.specs.declared.walk.Mark.TheVariants.{Fresh, Open, Ranked}
+use Rattle.dw_types.specs.Graphs.{Graph, steps_of, step_at, IsStep}
+use Rattle.dw_types.specs.Walks.{HasPlaces, HasStack, HasCounters, IsCoherent, IsWalk, LooksUp, LooksUpBut, KeepsTaken, work_left, is_taken}
+use Rattle.dw_types.specs.WalkStates.{State, mark_of, taken_up, with_step}
+use Rattle.dw_types.proofs.ListLemmas.{at_set, at_push}
+use Rattle.dw_types.proofs.TurnLemmas.{turns-le}
+
+-- the node on top of the stack
+pub record IsTop (s : State) (node : ℕ) : Type 0 where
+  pub some : 0 < length s.stack
+  pub top : get_or s.stack (length s.stack - 1) 0 ≡ node
+
+pub top-opened : (graph : Graph) (s : State) (node : ℕ) → HasStack graph s → IsTop s node → mark_of s node ≡ Open
+top-opened graph s node h t = rw (← t.top) (h.opened (length s.stack - 1) (let some = t.some in omega arith))
+
+-- a node with a mark other than `Fresh` is one of the graph
+pub in-graph : (graph : Graph) (s : State) (node : ℕ) → HasPlaces graph s → (mark_of s node ≡ Fresh → ⊥) → node < length graph
+in-graph graph s node h ne =
+    elim (cases_lt node (length graph)) [ inl below ↦ below | inr above ↦ absurd (ne (get_or_past s.marks node Fresh (let e = h.marks in omega arith))) ]
+
+-- looking at a step
+
+look-counters : (graph : Graph) (s : State) (node : ℕ) → IsCoherent graph s → IsTop s node → node < length s.next
+    → get_or s.next node 0 < length (steps_of graph node) → length (steps_of graph node) < 2 ^ 64 → HasCounters graph (with_step s node)
+look-counters graph s node h t in_graph more small =
+    let opened = top-opened graph s node h.stack t in
+    record {
+      within = λ a. elim (at_set s.next node a (get_or s.next node 0 + 1) 0 in_graph) [ inl p ↦ rw (p.1, p.0) (omega arith) | inr p ↦ rw p.1 (h.counters.within a) ];
+      small = λ a. elim (at_set s.next node a (get_or s.next node 0 + 1) 0 in_graph) [ inl p ↦ rw p.1 (omega arith) | inr p ↦ rw p.1 (h.counters.small a) ];
+      fresh = λ a fresh. elim (at_set s.next node a (get_or s.next node 0 + 1) 0 in_graph) [ inl p ↦ absurd (let e : mark_of s node ≡ Fresh = rw p.0 at fresh in cc) | inr p ↦ p.1 ∙ h.counters.fresh a fresh ];
+      ranked = λ a done. elim (at_set s.next node a (get_or s.next node 0 + 1) 0 in_graph) [ inl p ↦ absurd (let e : mark_of s node ≡ Ranked = rw p.0 at done in cc) | inr p ↦ p.1 ∙ h.counters.ranked a done ];
+    }
+
+pub look-coherent : (graph : Graph) (s : State) (node : ℕ) → IsCoherent graph s → IsTop s node → node < length s.next
+    → get_or s.next node 0 < length (steps_of graph node) → length (steps_of graph node) < 2 ^ 64 → IsCoherent graph (with_step s node)
+look-coherent graph s node h t in_graph more small = record {
+  places = record { marks = h.places.marks; next = length-set s.next node _ ∙ h.places.next; ranks = h.places.ranks; few = h.places.few };
+  stack = record { opened = h.stack.opened; stacked = h.stack.stacked; once = h.stack.once; steps = h.stack.steps };
+  counters = look-counters graph s node h t in_graph more small;
+  ranks = record { below = h.ranks.below; listed = h.ranks.listed; ranked = h.ranks.ranked; leads = h.ranks.leads; falls = h.ranks.falls };
+  turns = let turns = h.turns in let e = sum_by-set (λ (x : ℕ). x) s.next node (get_or s.next node 0 + 1) 0 in_graph in omega arith;
+}
+
+pub look-but : (graph : Graph) (s : State) (node : ℕ) → IsWalk graph s → node < length s.next
+    → LooksUpBut graph (with_step s node) (step_at graph node (get_or s.next node 0))
+look-but graph s node h in_graph place k in_stack seen =
+    elim (at_set s.next node (get_or s.stack place 0) (get_or s.next node 0 + 1) 0 in_graph) [
+      | inl p ↦ elim (cases_lt k (get_or s.next node 0)) [
+        | inl below ↦ inl (h.looks_up place k in_stack (rw p.0 below))
+        | inr above ↦ let last : k ≡ get_or s.next node 0 = omega arith in inr (rw (p.0, last) refl)
+      ]
+      | inr p ↦ inl (h.looks_up place k in_stack (rw p.1 at seen))
+    ]
+
+-- where the step leads to a node that was ranked, that is all
+pub looked-ranked : (graph : Graph) (s : State) (to : ℕ) → LooksUpBut graph s to → mark_of s to ≡ Ranked → LooksUp graph s
+looked-ranked graph s to but done place k in_stack seen =
+    elim (but place k in_stack seen) [ inl known ↦ known | inr here ↦ inl (rw here done) ]
+
+-- how many of the marks are of nodes that were taken up
+abbrev taken_count : List Mark → ℕ
+taken_count marks = count_by is_taken marks
+
+-- taking up a fresh node
+
+module _ (graph : Graph) (s : State) (node : ℕ) (h : IsCoherent graph s) (in_graph : node < length s.marks) (new : mark_of s node ≡ Fresh)
+    (link : 0 < length s.stack → IsStep graph (get_or s.stack (length s.stack - 1) 0) node) where
+  -- a mark afterwards is the one before, but for the node's own
+  up-mark : (a : ℕ) → ((a ≡ node) × (mark_of (taken_up s node) a ≡ Open)) ⊎ ((a ≢ node) × (mark_of (taken_up s node) a ≡ mark_of s a))
+  up-mark a = at_set s.marks node a Open Fresh in_graph
+
+  up-ranked : (a : ℕ) → mark_of s a ≡ Ranked → mark_of (taken_up s node) a ≡ Ranked
+  up-ranked a done =
+      elim (up-mark a) [ inl p ↦ absurd (let e : mark_of s node ≡ Ranked = rw (← p.0) done in cc) | inr p ↦ p.1 ∙ done ]
+
+  was-ranked : (a : ℕ) → mark_of (taken_up s node) a ≡ Ranked → mark_of s a ≡ Ranked
+  was-ranked a done = elim (up-mark a) [ inl p ↦ absurd cc | inr p ↦ sym p.1 ∙ done ]
+
+  pub was-fresh : (a : ℕ) → mark_of (taken_up s node) a ≡ Fresh → mark_of s a ≡ Fresh
+  was-fresh a done = elim (up-mark a) [ inl p ↦ absurd cc | inr p ↦ sym p.1 ∙ done ]
+
+  up-length : length (taken_up s node).stack ≡ length s.stack + 1
+  up-length = length_push s.stack node
+
+  up-stack : HasStack graph (taken_up s node)
+  up-stack = record {
+    opened = λ k in_stack. elim (at_push s.stack k node 0 in_stack) [
+      | inl p ↦ rw p.1 (get_or-set_same s.marks node Open Fresh in_graph)
+      | inr p ↦ rw p.1 (elim (up-mark (get_or s.stack k 0)) [ inl q ↦ q.1 | inr q ↦ q.1 ∙ h.stack.opened k p.0 ])
+    ];
+    stacked = λ a opened. elim (up-mark a) [
+      | inl p ↦ (length s.stack, (let e = up-length in omega arith), get_or_push s.stack node 0 (length s.stack) refl ∙ sym p.0)
+      | inr p ↦ let place = h.stack.stacked a (sym p.1 ∙ opened) in
+          (place.0, (let e = up-length in let below = place.1 in omega arith), get_or_append_left s.stack (node ∷ []) 0 place.0 place.1 ∙ place.2)
+    ];
+    once = λ i j lt in_stack same. elim (at_push s.stack j node 0 in_stack) [
+      | inl p ↦
+          let below : i < length s.stack = omega arith in
+          let e : get_or s.stack i 0 ≡ node = sym (get_or_append_left s.stack (node ∷ []) 0 i below) ∙ (same ∙ p.1) in
+          let opened : mark_of s node ≡ Open = rw (← e) (h.stack.opened i below) in
+          cc
+      | inr p ↦
+          let below : i < length s.stack = omega arith in
+          h.stack.once i j lt p.0 (sym (get_or_append_left s.stack (node ∷ []) 0 i below) ∙ (same ∙ p.1))
+    ];
+    steps = λ k in_stack. elim (at_push s.stack (k + 1) node 0 in_stack) [
+      | inl p ↦
+          let below : k < length s.stack = omega arith in
+          let last : length s.stack - 1 ≡ k = omega arith in
+          let e = get_or_append_left s.stack (node ∷ []) 0 k below in
+          rw (p.1, e) (rw last at (link (omega arith)))
+      | inr p ↦
+          let below : k < length s.stack = omega arith in
+          let e = get_or_append_left s.stack (node ∷ []) 0 k below in
+          rw (p.1, e) (h.stack.steps k p.0)
+    ];
+  }
+
+  pub up-coherent : IsCoherent graph (taken_up s node)
+  up-coherent = record {
+    places = record { marks = length-set s.marks node _ ∙ h.places.marks; next = h.places.next; ranks = h.places.ranks; few = h.places.few };
+    stack = up-stack;
+    counters = record {
+      within = h.counters.within;
+      small = h.counters.small;
+      fresh = λ a fresh. h.counters.fresh a (was-fresh a fresh);
+      ranked = λ a done. h.counters.ranked a (was-ranked a done);
+    };
+    ranks = record {
+      below = λ a done. h.ranks.below a (was-ranked a done);
+      listed = λ a done. h.ranks.listed a (was-ranked a done);
+      ranked = λ k below. let old = h.ranks.ranked k below in (up-ranked _ old.0, old.1);
+      leads = λ a k done in_steps. up-ranked _ (h.ranks.leads a k (was-ranked a done) in_steps);
+      falls = λ a k done in_steps. h.ranks.falls a k (was-ranked a done) in_steps;
+    };
+    turns =
+        let turns = h.turns in
+        let e = sum_by-set (λ (m : Mark). cond (is_taken m) 1 0) s.marks node Open Fresh in_graph in
+        let e' = rw new at e in
+        omega arith;
+  }
+
+  pub up-looks_up : LooksUpBut graph s node → LooksUp graph (taken_up s node)
+  up-looks_up but place k in_stack seen =
+      elim (at_push s.stack place node 0 in_stack) [
+        | inl p ↦
+            let none = h.counters.fresh node new in
+            let some : k < get_or s.next node 0 = rw p.1 at seen in
+            absurd (omega arith)
+        | inr p ↦
+            rw p.1 (elim (but place k p.0 (rw p.1 at seen)) [
+              | inl known ↦ elim known [
+                | inl done ↦ inl (up-ranked _ done)
+                | inr above ↦ inr (above.0, above.1, (let e = up-length in let b = above.2 in omega arith), get_or_append_left s.stack (node ∷ []) 0 above.0 above.2 ∙ above.3)
+              ]
+              | inr here ↦ inr (length s.stack, p.0, (let e = up-length in omega arith), get_or_push s.stack node 0 (length s.stack) refl ∙ sym here)
+            ])
+      ]
+
+-- a whole turn: the next step of the node on top is looked at
+
+module _ (graph : Graph) (s : State) (node to : ℕ) (h : IsWalk graph s) (t : IsTop s node) (more : get_or s.next node 0 < length (steps_of graph node))
+    (small : length (steps_of graph node) < 2 ^ 64) (leads : to ≡ step_at graph node (get_or s.next node 0)) where
+  turn-in : node < length s.next
+  turn-in =
+      let next = h.coherent.places.next in
+      let below = in-graph graph s node h.coherent.places (λ e. let opened = top-opened graph s node h.coherent.stack t in cc) in
+      omega arith
+
+  turn-coherent : IsCoherent graph (with_step s node)
+  turn-coherent = look-coherent graph s node h.coherent t turn-in more small
+
+  turn-but : LooksUpBut graph (with_step s node) to
+  turn-but = rw leads (look-but graph s node h turn-in)
+
+  -- to a node that was ranked
+  pub look-ranked_walk : mark_of s to ≡ Ranked → IsWalk graph (with_step s node)
+  look-ranked_walk done = record { coherent = turn-coherent; looks_up = looked-ranked graph (with_step s node) to turn-but done }
+
+  pub look-ranked_less : mark_of s to ≡ Ranked → work_left graph (with_step s node) < work_left graph s
+  look-ranked_less done = let few = turns-le graph (with_step s node) turn-coherent in omega arith
+
+  -- to a fresh node, which is taken up
+  module _ (new : mark_of s to ≡ Fresh) (in_graph : to < length graph) where
+    turn-in_marks : to < length s.marks
+    turn-in_marks = let e = h.coherent.places.marks in omega arith
+
+    turn-link : 0 < length s.stack → IsStep graph (get_or s.stack (length s.stack - 1) 0) to
+    turn-link some = rw t.top (get_or s.next node 0, more, sym leads)
+
+    turn-up : IsCoherent graph (taken_up (with_step s node) to)
+    turn-up = up-coherent graph (with_step s node) to turn-coherent turn-in_marks new turn-link
+
+    pub look-fresh_walk : IsWalk graph (taken_up (with_step s node) to)
+    look-fresh_walk = record { coherent = turn-up; looks_up = up-looks_up graph (with_step s node) to turn-coherent turn-in_marks new turn-link turn-but }
+
+    pub keeps-fresh : KeepsTaken s (taken_up (with_step s node) to)
+    keeps-fresh = was-fresh graph (with_step s node) to turn-coherent turn-in_marks new turn-link
+
+    pub look-fresh_less : work_left graph (taken_up (with_step s node) to) < work_left graph s
+    look-fresh_less = let few = turns-le graph (taken_up (with_step s node) to) turn-up in let long = length_push s.stack to in omega arith
+
+-- a walk with an empty stack takes up a fresh node
+module _ (graph : Graph) (s : State) (node : ℕ) (h : IsWalk graph s) (empty : s.stack ≡ []) (in_graph : node < length graph) (new : mark_of s node ≡ Fresh) where
+  first-in_marks : node < length s.marks
+  first-in_marks = let e = h.coherent.places.marks in omega arith
+
+  first-link : 0 < length s.stack → IsStep graph (get_or s.stack (length s.stack - 1) 0) node
+  first-link some = let none : length s.stack ≡ 0 = ap length empty in absurd (omega arith)
+
+  pub first-walk : IsWalk graph (taken_up s node)
+  first-walk = record {
+    coherent = up-coherent graph s node h.coherent first-in_marks new first-link;
+    looks_up = up-looks_up graph s node h.coherent first-in_marks new first-link (λ place k in_stack seen. inl (h.looks_up place k in_stack seen));
+  }
+
+  pub first-taken : (a : ℕ) → mark_of (taken_up s node) a ≡ Fresh → (a ≢ node) × (mark_of s a ≡ Fresh)
+  first-taken a fresh = elim (at_set s.marks node a Open Fresh first-in_marks) [ inl p ↦ absurd cc | inr p ↦ (p.0, sym p.1 ∙ fresh) ]

@@ -1,0 +1,12 @@
+use Rattle.dw_entries.specs.Scanned.{units_of}
+use Rattle.dw_types.proofs.FactsLemmas.{facts-below, tag-known}
+use Rattle.dw_types.proofs.entry_facts.EntryFacts.tag.Goals as goal
+
+pub id-id-requires : goal.id-id-requires
+id-id-requires c = facts-below (units_of c.self.inside.entries.now.scanned) c.args.self.now c.self.view_is c.args.node c.requires
+
+pub head-requires : goal.head-requires
+head-requires c = rw c.id-id.ensures (facts-below (units_of c.self.inside.entries.now.scanned) c.args.self.now c.self.view_is c.args.node c.requires)
+
+pub returns : goal.returns
+returns c = tag-known (units_of c.self.inside.entries.now.scanned) c.args.self.now c.self.view_is c.head.result c.id-id.result c.args.node c.id-id.ensures c.requires c.head.ensures

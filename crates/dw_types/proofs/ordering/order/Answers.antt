@@ -1,0 +1,48 @@
+use Rattle.std.proofs.Common.{ℕ, ◌<◌, length, arith, sym, refl}
+use Rattle.dw_types.specs.Walks.{IsWalk}
+use Rattle.dw_types.proofs.CycleLemmas.{no_cycle-from_falls}
+use Rattle.dw_types.proofs.EndLemmas.{start-walk, ranked-from_taken, falls-from_ranked}
+use Rattle.dw_types.proofs.TurnLemmas.{turns-room, turns-all}
+use Rattle.dw_types.proofs.WalkLemmas.{in-graph, first-walk}
+use Rattle.dw_types.proofs.ordering.order.Goals as goal
+
+pub loop-start-init : goal.loop-start-init
+loop-start-init g c =
+    let graph = g.G.StepGraph.graph c.args.graph.now in
+    let few = rw c.nodes-nodes.ensures at c.nodes-nodes.type_inv in
+    rw (c.in_ok-walk.ensures, c.nodes-nodes.ensures) (start-walk graph few, refl, λ node below. absurd (omega arith))
+
+pub take_up-requires-clause-room : goal.take_up-requires-clause-room
+take_up-requires-clause-room g c = let room = turns-room _ _ c.loop-start.invariant.0.coherent in omega arith
+
+pub empty_stack-requires : goal.empty_stack-requires
+empty_stack-requires g c =
+    let graph = g.G.StepGraph.graph c.args.graph.now in
+    let in_graph : c.loop-start.start < length graph = rw (← c.nodes-nodes.ensures) c.loop-start-test.true in
+    rw c.in_ok-take_up.ensures (first-walk graph c.loop-start.walk c.loop-start.start c.loop-start.invariant.0 c.loop-start.invariant.1 in_graph (sym c.in-Fresh.ensures))
+
+pub returns-clause-ok : goal.returns-clause-ok
+returns-clause-ok g c =
+    let graph = g.G.StepGraph.graph c.args.graph.now in
+    let s = c.loop-start.walk in
+    let sound : IsWalk graph s = c.loop-start.invariant.0 in
+    let over = rw c.nodes-nodes.ensures at c.loop-start-test.false in
+    let all = λ (node : ℕ) (below : node < length graph). ranked-from_taken graph s node sound c.loop-start.invariant.1 (c.loop-start.invariant.2 node (omega arith)) in
+    rw c.into_order.ensures record {
+      nodes = sound.coherent.places.ranks;
+      falls = falls-from_ranked graph s sound all;
+      turns = turns-all graph s sound.coherent all;
+      listed = λ node below. (sound.coherent.ranks.below node (all node below), sound.coherent.ranks.listed node (all node below));
+      ranked = λ k below.
+          let old = sound.coherent.ranks.ranked k below in
+          (in-graph graph s _ sound.coherent.places (λ fresh. let done = old.0 in cc), old.1);
+    }
+
+pub returns-clause-no_cycle : goal.returns-clause-no_cycle
+returns-clause-no_cycle g c =
+    let graph = g.G.StepGraph.graph c.args.graph.now in
+    let s = c.loop-start.walk in
+    let sound : IsWalk graph s = c.loop-start.invariant.0 in
+    let over = rw c.nodes-nodes.ensures at c.loop-start-test.false in
+    let all = λ (node : ℕ) (below : node < length graph). ranked-from_taken graph s node sound c.loop-start.invariant.1 (c.loop-start.invariant.2 node (omega arith)) in
+    no_cycle-from_falls graph s.ranks (falls-from_ranked graph s sound all)

@@ -1,0 +1,71 @@
+-- The count of a dimension (DWARF 5, 5.13).
+use Rattle.std.specs.Prelude.{ℕ, ◌^◌, ◌-◌, ℤ, pos, negsuc, ◌+ℤ◌, ◌-ℤ◌, Bool, false, ◌&&◌, ◌||◌, not, List, [], ◌∷◌, Option, Some, None, if◌then◌else◌, nat_eq}
+use Rattle.dw_types.specs.declared.constant.Constant.{Constant}
+use Rattle.dw_types.specs.declared.constant.Constant.TheVariants.{Absent, NotNumber, Unsigned, Signed}
+use Rattle.dw_types.specs.declared.facts.Facts.{Facts}
+use Rattle.dw_types.specs.declared.kind.Role.{Role}
+use Rattle.dw_forms.specs.Codes.{DW_TAG_array_type, DW_TAG_subrange_type, DW_LANG_C89, DW_LANG_C, DW_LANG_C_plus_plus, DW_LANG_C99, DW_LANG_C_plus_plus_11, DW_LANG_Rust, DW_LANG_C11, DW_LANG_C_plus_plus_14}
+use Rattle.dw_types.specs.Constants.{is_present, natural, natural_of, number_in}
+use Rattle.dw_types.specs.Entries.{entry_at}
+use Rattle.dw_types.specs.Kinds.{is_dimensions, is_one_of, parent_role}
+use Rattle.dw_types.specs.SizeTables.{Size}
+
+-- the tag of arrays, and that of subranges
+abbrev pub is_array_tag : ℕ → Bool
+is_array_tag tag = nat_eq tag DW_TAG_array_type
+
+abbrev pub is_subrange_tag : ℕ → Bool
+is_subrange_tag tag = nat_eq tag DW_TAG_subrange_type
+
+-- a child with tag subrange of an array
+abbrev pub is_dimension : Role → Facts → Bool
+is_dimension parent entry = is_subrange_tag entry.tag && is_dimensions parent
+
+-- the languages whose bounds are read: their default lower bound is 0 (DWARF 5, 7.12)
+abbrev pub counted_languages : List ℕ
+counted_languages = DW_LANG_C89 ∷ DW_LANG_C ∷ DW_LANG_C_plus_plus ∷ DW_LANG_C99 ∷ DW_LANG_C_plus_plus_11 ∷ DW_LANG_Rust ∷ DW_LANG_C11 ∷ DW_LANG_C_plus_plus_14 ∷ []
+
+-- the number is one of these languages
+abbrev pub is_counted_language : Option ℕ → Bool
+is_counted_language None = false
+is_counted_language (Some language) = is_one_of counted_languages language
+
+-- bounds are read where the unit names no language, or one of those
+abbrev pub reads_bounds : Constant → Bool
+reads_bounds language = not (is_present language) || is_counted_language (natural_of language)
+
+-- the lower bound, 0 where it is absent
+abbrev pub lower_of : Constant → Option ℤ
+lower_of Absent = Some (pos 0)
+lower_of NotNumber = None
+lower_of (Unsigned n) = Some (pos n)
+lower_of (Signed n) = Some n
+
+-- the upper bound, where the greatest number of 64 bits is read as -1
+abbrev pub upper_of : Constant → Option ℤ
+upper_of Absent = None
+upper_of NotNumber = None
+upper_of (Unsigned n) = Some (if nat_eq n (2 ^ 64 - 1) then negsuc 0 else pos n)
+upper_of (Signed n) = Some n
+
+-- upper - lower + 1, where both are known
+abbrev pub count_between : Option ℤ → Option ℤ → Option ℤ
+count_between None lower = None
+count_between (Some upper) None = None
+count_between (Some upper) (Some lower) = Some ((upper -ℤ lower) +ℤ pos 1)
+
+-- the count of a dimension, none where it is unknown
+abbrev pub count_of : Facts → Option ℤ
+count_of entry =
+    if is_present entry.count then number_in entry.count
+    else if reads_bounds entry.language then count_between (upper_of entry.upper_bound) (lower_of entry.lower_bound)
+    else None
+
+-- a known count of 0 or more
+abbrev pub known_natural : Option ℤ → Size
+known_natural None = None
+known_natural (Some n) = natural n
+
+-- the known count of a dimension, and none for any other entry
+abbrev pub count_at : List Facts → ℕ → Option ℕ
+count_at entries node = if is_dimension (parent_role entries node) (entry_at entries node) then known_natural (count_of (entry_at entries node)) else None

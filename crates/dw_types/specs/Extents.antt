@@ -1,0 +1,57 @@
+-- Whether a plain member ends inside its container (DWARF 5, 5.7.6).
+use Rattle.std.specs.Prelude.{ℕ, ◌+◌, ◌*◌, ℤ, pos, negsuc, ◌*ℤ◌, Bool, true, false, ◌&&◌, Option, None, Some, is_some, if◌then◌else◌, nat_lt}
+use Rattle.dw_types.specs.declared.facts.Facts.{Facts}
+use Rattle.dw_types.specs.declared.kind.Role.{Role}
+use Rattle.dw_types.specs.declared.constant.Constant.{Constant}
+use Rattle.dw_types.specs.Constants.{is_present, number_in, natural_of}
+use Rattle.dw_types.specs.Shapes.{is_plain}
+use Rattle.dw_types.specs.SizeTables.{Size}
+
+-- a number stands under the attribute
+abbrev pub is_number : Constant → Bool
+is_number constant = is_some (number_in constant)
+
+-- so many bits from a bit on end past n bytes, or one of the two numbers is negative
+abbrev pub bits_end_past : ℕ → Option ℕ → Option ℕ → Bool
+bits_end_past n None start = true
+bits_end_past n (Some size) None = true
+bits_end_past n (Some size) (Some start) = nat_lt (8 * n) (size + start)
+
+-- a number of bytes, in bits
+abbrev pub in_bits : Option ℤ → Option ℤ
+in_bits None = None
+in_bits (Some bytes) = Some (bytes *ℤ pos 8)
+
+-- the bit at which a member starts, by its location in bytes, else its offset in bits, else 0; none where that is no number
+abbrev pub start_of : Facts → Option ℤ
+start_of member =
+    if is_present member.data_member_location then in_bits (number_in member.data_member_location)
+    else if is_present member.data_bit_offset then number_in member.data_bit_offset
+    else Some (pos 0)
+
+-- so many bytes from a bit on end past n bytes, or that bit is negative
+abbrev pub end_past : ℕ → ℤ → ℕ → Bool
+end_past n (pos start) size = nat_lt (8 * n) (start + 8 * size)
+end_past n (negsuc start) size = true
+
+-- the same, where start and size are known
+abbrev pub bytes_end_past : ℕ → Option ℤ → Size → Bool
+bytes_end_past n None size = false
+bytes_end_past n (Some start) None = false
+bytes_end_past n (Some start) (Some size) = end_past n start size
+
+-- a member, whose type has a size, ends past the n bytes of its container; with a bit size it is asked by bits alone
+abbrev pub ends_past : ℕ → Facts → Size → Bool
+ends_past n member size =
+    if is_number member.bit_size && is_number member.data_bit_offset then bits_end_past n (natural_of member.bit_size) (natural_of member.data_bit_offset)
+    else if is_present member.bit_size then false
+    else bytes_end_past n (start_of member) size
+
+-- in a container without a size no member is outside
+abbrev pub ends_past_container : Size → Facts → Size → Bool
+ends_past_container None member size = false
+ends_past_container (Some n) member size = ends_past n member size
+
+-- a plain member, whose type has a size or none, ends past its container, whose size is its own byte size
+abbrev pub is_outside : Role → Facts → Size → Size → Bool
+is_outside parent member container size = is_plain parent member && ends_past_container container member size

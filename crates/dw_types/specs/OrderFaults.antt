@@ -1,0 +1,9 @@
+-- Why a graph has no order.
+use Rattle.dw_types.specs.declared.ranking.OrderFault.{OrderFault}
+use Rattle.dw_types.specs.declared.ranking.OrderFault.TheVariants.{Cycle, Memory}
+use Rattle.dw_types.specs.Graphs.{Graph, IsCycle}
+
+-- a fault that names a cycle names one of the graph
+abbrev pub IsFaultOf : Graph → OrderFault → Type 0
+IsFaultOf graph (Cycle nodes) = IsCycle graph nodes.items
+IsFaultOf graph Memory = Unit {0}

@@ -1,0 +1,17 @@
+-- Orders of graphs.
+use Rattle.std.specs.Prelude.{◌≡◌, ℕ, ◌+◌, ◌<◌, List, length, slice_index}
+use Rattle.dw_types.specs.Graphs.{Graph, FallsAlong, step_count}
+
+-- the rank of each node, the nodes by rising rank, and how many turns it took to rank them
+pub record Ranking : Type 0 where
+  pub ranks : List ℕ
+  pub by_rank : List ℕ
+  pub turns : ℕ
+
+-- each node has a rank, each step leads to a smaller one, and there were as many turns as nodes and steps
+pub record IsOrderOf (graph : Graph) (order : Ranking) : Type 0 where
+  pub nodes : length order.ranks ≡ length graph
+  pub falls : FallsAlong graph order.ranks
+  pub turns : order.turns ≡ length graph + step_count graph
+  pub listed : (node : ℕ) → node < length graph → (slice_index order.ranks node < length order.by_rank) × (slice_index order.by_rank (slice_index order.ranks node) ≡ node)
+  pub ranked : (k : ℕ) → k < length order.by_rank → (slice_index order.by_rank k < length graph) × (slice_index order.ranks (slice_index order.by_rank k) ≡ k)

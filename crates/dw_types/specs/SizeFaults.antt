@@ -1,0 +1,81 @@
+-- Which sizes are wrong (DWARF 5, 5.1, 5.5, 5.7 and 5.8).
+use Rattle.std.specs.Prelude.{ℕ, ◌^◌, Bool, true, false, ◌&&◌, ◌||◌, not, List, None, Some, is_some, nat_eq, nat_le}
+use Rattle.dw_types.specs.declared.facts.Facts.{Facts}
+use Rattle.dw_entries.specs.declared.fault.Broken.{Broken}
+use Rattle.dw_types.specs.declared.kind.Kind.{Kind}
+use Rattle.dw_types.specs.declared.kind.Kind.TheVariants.{Declared, OwnSized, Pointer, Alias, Enumeration, Array, Subroutine, NoType}
+use Rattle.dw_types.specs.declared.kind.Role.{Role}
+use Rattle.dw_entries.specs.declared.rule.Rule.{Rule}
+use Rattle.dw_entries.specs.declared.rule.Rule.TheVariants.{NoSize, SizeTooGreat, MemberOutside, EnumSize}
+use Rattle.dw_forms.specs.Codes.{DW_TAG_base_type}
+use Rattle.dw_types.specs.Constants.{is_present, is_negative, natural_of}
+use Rattle.dw_types.specs.Entries.{entry_at}
+use Rattle.dw_types.specs.Extents.{is_outside}
+use Rattle.dw_entries.specs.Failures.{Failure, IsFirst}
+use Rattle.dw_types.specs.Kinds.{has_members, is_array, is_enumeration, kind_of, parent_role}
+use Rattle.dw_types.specs.Shapes.{stands_alone}
+use Rattle.dw_types.specs.SizeTables.{Size}
+use Rattle.dw_types.specs.Sizes.{size_to, IsSizeTable}
+use Rattle.dw_types.specs.TypeFailures.{EntryFailures}
+
+-- the size of such an entry reads its own byte size
+abbrev pub reads_own : Kind → Bool
+reads_own Declared = false
+reads_own OwnSized = true
+reads_own Pointer = true
+reads_own Alias = false
+reads_own Enumeration = true
+reads_own Array = true
+reads_own Subroutine = false
+reads_own NoType = false
+
+-- where the byte size is absent: a base type without bit size, a structure or union that stands alone, or an array with a negative stride
+abbrev pub wants_own : Facts → Bool
+wants_own entry =
+    (nat_eq entry.tag DW_TAG_base_type && not (is_present entry.bit_size))
+    || ((has_members entry && stands_alone entry) || (is_array entry && is_negative entry.byte_stride))
+
+-- a negative byte size that is read, or none where one is wanted
+abbrev pub has_no_size : Facts → Bool
+has_no_size entry = (reads_own (kind_of entry) && is_negative entry.byte_size) || (not (is_present entry.byte_size) && wants_own entry)
+
+-- a size of 2^63 or more
+abbrev pub is_too_great : Size → Bool
+is_too_great None = false
+is_too_great (Some n) = nat_le (2 ^ 63) n
+
+-- two sizes that are known and not the same
+abbrev pub differ : Size → Size → Bool
+differ None b = false
+differ (Some a) None = false
+differ (Some a) (Some b) = not (nat_eq a b)
+
+-- an enumeration that stands alone with neither byte size nor type, or whose byte size is not the size of its type
+abbrev pub has_wrong_size : Facts → Size → Bool
+has_wrong_size entry type_size =
+    is_enumeration entry
+    && ((not (is_present entry.byte_size) && (not (is_some entry.type_target) && stands_alone entry))
+    || differ (natural_of entry.byte_size) type_size)
+
+-- the entry, whose parent is this to it, breaks a rule on sizes, where it, its container and its type have these sizes
+abbrev pub breaks_size : Role → Facts → Size → Size → Size → Rule → Bool
+breaks_size parent entry size container type_size NoSize = has_no_size entry
+breaks_size parent entry size container type_size SizeTooGreat = is_too_great size
+breaks_size parent entry size container type_size MemberOutside = is_outside parent entry container type_size
+breaks_size parent entry size container type_size EnumSize = has_wrong_size entry type_size
+breaks_size parent entry size container type_size _ = false
+
+-- the entry of a number breaks a rule on sizes, by a table of sizes
+abbrev pub fails_size : List Facts → (ℕ → Size) → ℕ → Rule → Bool
+fails_size entries table node rule =
+    breaks_size (parent_role entries node) (entry_at entries node) (table node) (size_to table (entry_at entries node).parent) (size_to table (entry_at entries node).type_target) rule
+
+-- the failures of the rules on sizes, by a table of sizes
+abbrev pub SizeFailures : List Facts → (ℕ → Size) → Failure → Type 0
+SizeFailures entries table = EntryFailures entries (fails_size entries table)
+
+-- over the one table of sizes this is the first failure
+pub record IsFirstSizeFault (entries : List Facts) (broken : Broken) : Type 0 where
+  pub table : ℕ → Size
+  pub is_table : IsSizeTable entries table
+  pub first : IsFirst (SizeFailures entries table) broken

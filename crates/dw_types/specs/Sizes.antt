@@ -1,0 +1,98 @@
+-- The size of each type entry (DWARF 5, 5.1 to 5.13).
+use Rattle.std.specs.Prelude.{◌≡◌, ℕ, ◌*◌, ◌<◌, Bool, true, false, ◌&&◌, ◌||◌, not, List, [], ◌∷◌, Option, Some, None, length, map, filter, if◌then◌else◌, nat_eq}
+use Rattle.std.specs.List.{list_any}
+use Rattle.dw_types.specs.declared.facts.Facts.{Facts}
+use Rattle.dw_types.specs.declared.constant.Constant.{Constant}
+use Rattle.dw_types.specs.declared.constant.Constant.TheVariants.{Absent, NotNumber, Unsigned, Signed}
+use Rattle.dw_types.specs.declared.kind.Kind.{Kind}
+use Rattle.dw_types.specs.declared.kind.Kind.TheVariants.{Declared, OwnSized, Pointer, Alias, Enumeration, Array, Subroutine, NoType}
+use Rattle.dw_forms.specs.Codes.{DW_TAG_enumeration_type, DW_TAG_generic_subrange, DW_TAG_subrange_type}
+use Rattle.dw_types.specs.Constants.{is_present, natural, natural_of}
+use Rattle.dw_types.specs.Counts.{count_of, known_natural}
+use Rattle.dw_types.specs.Entries.{entry_at, children}
+use Rattle.dw_types.specs.Kinds.{is_one_of, kind_of}
+use Rattle.dw_types.specs.SizeTables.{Size}
+
+-- a subrange
+abbrev pub is_subrange : List Facts → ℕ → Bool
+is_subrange entries node = nat_eq (entry_at entries node).tag DW_TAG_subrange_type
+
+-- the dimensions of an array: its children that are subranges
+abbrev pub dimensions : List Facts → ℕ → List ℕ
+dimensions entries array = filter (is_subrange entries) (children entries array)
+
+-- the product of two numbers that are known
+abbrev pub times : Size → Size → Size
+times None b = None
+times (Some a) None = None
+times (Some a) (Some b) = Some (a * b)
+
+-- the product of numbers, where all are known
+abbrev pub product_of : List Size → Size
+product_of [] = Some 1
+product_of (n ∷ rest) = times n (product_of rest)
+
+-- the count of a dimension, where it is known
+abbrev pub factor_of : List Facts → ℕ → Size
+factor_of entries dimension = known_natural (count_of (entry_at entries dimension))
+
+-- a stride of bits or of bytes
+abbrev pub has_stride : List Facts → ℕ → Bool
+has_stride entries node = is_present (entry_at entries node).bit_stride || is_present (entry_at entries node).byte_stride
+
+-- an enumeration or a generic subrange, which counts an array in another way
+abbrev pub is_other_index : List Facts → ℕ → Bool
+is_other_index entries node = is_one_of (DW_TAG_enumeration_type ∷ DW_TAG_generic_subrange ∷ []) (entry_at entries node).tag
+
+-- the list is not empty
+abbrev pub has_elements : {A : Type 0} → List A → Bool
+has_elements [] = false
+has_elements (x ∷ xs) = true
+
+-- an array with dimensions, without an index of another kind, and without a stride of bits or on a dimension
+abbrev pub is_regular : List Facts → ℕ → Bool
+is_regular entries array =
+    (has_elements (dimensions entries array) && not (list_any (is_other_index entries) (children entries array)))
+    && (not (is_present (entry_at entries array).bit_stride) && not (list_any (has_stride entries) (dimensions entries array)))
+
+-- the size at a target, none where there is none
+abbrev pub size_to : (ℕ → Size) → Option ℕ → Size
+size_to table None = None
+size_to table (Some to) = table to
+
+-- the number of 0 or more under an attribute, or another size where the attribute is absent
+abbrev pub constant_or : Constant → Size → Size
+constant_or Absent other = other
+constant_or NotNumber other = None
+constant_or (Unsigned n) other = Some n
+constant_or (Signed n) other = natural n
+
+-- element storage times all counts
+abbrev pub array_size : List Facts → (ℕ → Size) → ℕ → Size
+array_size entries table array =
+    if is_regular entries array then times (constant_or (entry_at entries array).byte_stride (size_to table (entry_at entries array).type_target)) (product_of (map (factor_of entries) (dimensions entries array)))
+    else None
+
+-- the size of an entry of a kind, by those of others: one equation for each row
+abbrev pub size_of_kind : Kind → List Facts → (ℕ → Size) → ℕ → Size
+size_of_kind Declared entries table node = size_to table (entry_at entries node).signature_target
+size_of_kind OwnSized entries table node = natural_of (entry_at entries node).byte_size
+size_of_kind Pointer entries table node = constant_or (entry_at entries node).byte_size (Some (entry_at entries node).address_size)
+size_of_kind Alias entries table node = size_to table (entry_at entries node).type_target
+size_of_kind Enumeration entries table node = constant_or (entry_at entries node).byte_size (size_to table (entry_at entries node).type_target)
+size_of_kind Array entries table node = constant_or (entry_at entries node).byte_size (array_size entries table node)
+size_of_kind Subroutine entries table node = None
+size_of_kind NoType entries table node = None
+
+-- the size of an entry, by those of others
+abbrev pub size_line : List Facts → (ℕ → Size) → ℕ → Size
+size_line entries table node = size_of_kind (kind_of (entry_at entries node)) entries table node
+
+-- at each entry the table has the size that its line says, and none at an entry that is no type
+abbrev pub ObeysSizeLines : List Facts → (ℕ → Size) → Type 0
+ObeysSizeLines entries table = (node : ℕ) → node < length entries → table node ≡ size_line entries table node
+
+-- the one table of sizes: no other has the sizes that its lines say
+pub record IsSizeTable (entries : List Facts) (table : ℕ → Size) : Type 0 where
+  pub obeys : ObeysSizeLines entries table
+  pub only : (other : ℕ → Size) → ObeysSizeLines entries other → (node : ℕ) → node < length entries → other node ≡ table node

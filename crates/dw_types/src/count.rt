@@ -1,0 +1,151 @@
+//! The count of a dimension (DWARF 5, 5.13).
+
+ghost use Rattle.std.specs.Prelude.{◌≡◌, ◌<◌, length, slice_get, IfSome};
+ghost use Rattle.dw_entries.specs.Entries.{entries_of};
+ghost use Rattle.dw_entries.specs.Lookups.{entry_head};
+ghost use Rattle.dw_entries.specs.Scanned.{units_of};
+ghost use Rattle.dw_types.specs.Constants.{IsOf64Bits};
+ghost use Rattle.dw_types.specs.Counts.{count_at, count_of, is_array_tag, is_dimension, is_subrange_tag, known_natural, lower_of, reads_bounds, upper_of};
+ghost use Rattle.dw_types.specs.Entries.{entry_at};
+ghost use Rattle.dw_types.specs.FactsOf.{facts_in};
+ghost use Rattle.dw_types.specs.Kinds.{is_dimensions, parent_role, role_in};
+
+use crate::constant::Constant;
+use crate::facts::Facts;
+use crate::facts_reader::UnitFacts;
+use crate::kind::Role;
+use crate::type_attributes::TypeAttributes;
+use dw_entries::constants::*;
+use dw_entries::{Entries, EntryId, Head};
+
+impl Constant {
+    /// Whether bounds are read in a unit of this language. This project's choice: they are where no
+    /// language is named, or one whose default lower bound is 0 and which the list has (DWARF 5, 7.12).
+    fn reads_bounds(&self) -> bool
+        ensures { result ≡ reads_bounds self.now }
+    {
+        if !self.is_present() {
+            return true;
+        }
+        match self.natural() {
+            Some(code) => code <= 0xffff
+                && matches!(
+                    Language(code as u16),
+                    DW_LANG_C89
+                        | DW_LANG_C
+                        | DW_LANG_C_plus_plus
+                        | DW_LANG_C99
+                        | DW_LANG_C_plus_plus_11
+                        | DW_LANG_Rust
+                        | DW_LANG_C11
+                        | DW_LANG_C_plus_plus_14
+                ),
+            None => false,
+        }
+    }
+
+    /// The upper bound. This project's choice: the greatest number of 64 bits is read as -1.
+    fn upper(&self) -> Option<i128>
+        ensures value { result ≡ upper_of self.now }
+        ensures range { IfSome result IsOf64Bits }
+    {
+        match self {
+            Constant::Unsigned(n) => Some(if *n == u64::MAX { -1 } else { i128::from(*n) }),
+            Constant::Signed(n) => Some(i128::from(*n)),
+            _ => None,
+        }
+    }
+
+    /// The lower bound, 0 where it is absent.
+    fn lower(&self) -> Option<i128>
+        ensures value { result ≡ lower_of self.now }
+        ensures range { IfSome result IsOf64Bits }
+    {
+        match self {
+            Constant::Absent => Some(0),
+            Constant::NotNumber => None,
+            Constant::Unsigned(n) => Some(i128::from(*n)),
+            Constant::Signed(n) => Some(i128::from(*n)),
+        }
+    }
+}
+
+impl Facts {
+    /// Whether the entry, whose parent is this to it, is a dimension of an array.
+    pub(crate) fn is_dimension(&self, parent: Role) -> bool
+        ensures { result ≡ is_dimension parent self.now }
+    {
+        matches!(self.tag, DW_TAG_subrange_type) && parent.is_dimensions()
+    }
+
+    /// The count of a dimension, which may be below 0, if it is known.
+    pub(crate) fn count(&self) -> Option<i128>
+        ensures { result ≡ count_of self.now }
+    {
+        if self.count.is_present() {
+            return self.count.number();
+        }
+        if !self.language.reads_bounds() {
+            return None;
+        }
+        let upper = self.upper_bound.upper()?;
+        let lower = self.lower_bound.lower()?;
+        Some(upper - lower + 1)
+    }
+
+    /// The count of a dimension, if it is known and 0 or more.
+    pub(crate) fn natural_count(&self) -> Option<u128>
+        ensures { result ≡ known_natural (count_of self.now) }
+    {
+        match self.count() {
+            Some(n) => if n < 0 { None } else { Some(n as u128) },
+            None => None,
+        }
+    }
+}
+
+fn is_array_tag(tag: Tag) -> bool
+    ensures { result ≡ is_array_tag tag }
+{
+    matches!(tag, DW_TAG_array_type)
+}
+
+fn is_subrange_tag(tag: Tag) -> bool
+    ensures { result ≡ is_subrange_tag tag }
+{
+    matches!(tag, DW_TAG_subrange_type)
+}
+
+/// Whether the parent of an entry, if it has one, is an array.
+fn is_in_array(entries: &Entries<'_>, parent: Option<EntryId>) -> bool
+    requires { IfSome parent (λ node. node < length (entries_of (units_of entries.now.scanned))) }
+    ensures { result ≡ is_dimensions (role_in (facts_in (units_of entries.now.scanned)) parent) }
+{
+    match parent {
+        Some(id) => is_array_tag(entries.head(id).tag),
+        None => false,
+    }
+}
+
+/// Whether an entry, of which this is told, is a dimension: a subrange that is a child of an array.
+fn is_dimension(entries: &Entries<'_>, id: EntryId, head: &Head) -> bool
+    requires id { id < length (entries_of (units_of entries.now.scanned)) }
+    requires head { IfSome (slice_get (entries_of (units_of entries.now.scanned)) id) (λ e. head.now ≡ entry_head e) }
+    ensures { result ≡ is_dimension (parent_role (facts_in (units_of entries.now.scanned)) id) (entry_at (facts_in (units_of entries.now.scanned)) id) }
+{
+    is_subrange_tag(head.tag) && is_in_array(entries, head.parent)
+}
+
+/// The known count of a dimension, and none for any other entry.
+pub fn count_at(entries: &Entries<'_>, id: EntryId) -> Option<u128>
+    requires { id < length (entries_of (units_of entries.now.scanned)) }
+    ensures { result ≡ count_at (facts_in (units_of entries.now.scanned)) id }
+{
+    let head = entries.head(id);
+    if !is_dimension(entries, id, &head) {
+        return None;
+    }
+    let unit = UnitFacts::read(entries, head.unit);
+    let found = TypeAttributes::read(entries, id);
+    Facts::without_targets(&head, unit, &found).natural_count()
+}

@@ -1,0 +1,152 @@
+//! The kinds of entries that types, counts and sizes tell apart (DWARF 5, chapter 5).
+
+ghost use Rattle.std.specs.Prelude.{◌≡◌};
+ghost use Rattle.dw_types.specs.Kinds.{has_members, is_array, is_declared_type, is_dimensions, is_enumeration, is_members, kind_of, passes_type_on, role_of};
+
+use crate::facts::Facts;
+use dw_entries::constants::*;
+
+/// The kinds of type entries that the size table tells apart.
+#[derive(Clone, Copy, Debug, PartialEq, Eq)]
+pub enum Kind {
+    /// A declared structure, union or enumeration: its definition has the size.
+    Declared,
+    /// A base type, a structure, a union, an unspecified type, or a type of another language.
+    OwnSized,
+    Pointer,
+    /// A typedef, const, volatile, restrict or atomic type.
+    Alias,
+    Enumeration,
+    Array,
+    Subroutine,
+    /// No type.
+    NoType,
+}
+
+/// What an entry is to its children.
+#[derive(Clone, Copy, Debug, PartialEq, Eq)]
+pub enum Role {
+    /// A structure or union that is not declared: its children with tag member are plain members.
+    Members,
+    /// An array: its children with tag subrange are dimensions.
+    Dimensions,
+    Other,
+}
+
+impl Role {
+    /// Whether children with tag member are plain members.
+    pub fn is_members(self) -> bool
+        ensures { result ≡ is_members self }
+    {
+        matches!(self, Role::Members)
+    }
+
+    /// Whether children with tag subrange are dimensions.
+    pub fn is_dimensions(self) -> bool
+        ensures { result ≡ is_dimensions self }
+    {
+        matches!(self, Role::Dimensions)
+    }
+}
+
+impl Facts {
+    /// The kind of the entry.
+    pub fn kind(&self) -> Kind
+        ensures { result ≡ kind_of self.now }
+    {
+        if self.is_declared_type() {
+            return Kind::Declared;
+        }
+        match self.tag {
+            DW_TAG_pointer_type => Kind::Pointer,
+            DW_TAG_typedef
+            | DW_TAG_const_type
+            | DW_TAG_volatile_type
+            | DW_TAG_restrict_type
+            | DW_TAG_atomic_type => Kind::Alias,
+            DW_TAG_enumeration_type => Kind::Enumeration,
+            DW_TAG_array_type => Kind::Array,
+            DW_TAG_subroutine_type => Kind::Subroutine,
+            DW_TAG_base_type
+            | DW_TAG_structure_type
+            | DW_TAG_union_type
+            | DW_TAG_unspecified_type
+            | DW_TAG_class_type
+            | DW_TAG_reference_type
+            | DW_TAG_string_type
+            | DW_TAG_ptr_to_member_type
+            | DW_TAG_set_type
+            | DW_TAG_subrange_type
+            | DW_TAG_file_type
+            | DW_TAG_packed_type
+            | DW_TAG_interface_type
+            | DW_TAG_shared_type
+            | DW_TAG_rvalue_reference_type
+            | DW_TAG_template_alias
+            | DW_TAG_coarray_type
+            | DW_TAG_dynamic_type
+            | DW_TAG_immutable_type => Kind::OwnSized,
+            _ => Kind::NoType,
+        }
+    }
+
+    /// What the entry is to its children.
+    pub fn role(&self) -> Role
+        ensures { result ≡ role_of self.now }
+    {
+        if self.has_members() {
+            Role::Members
+        } else if self.is_array() {
+            Role::Dimensions
+        } else {
+            Role::Other
+        }
+    }
+
+    /// Whether it is a typedef, const, volatile, restrict, atomic, array or enumeration.
+    pub fn passes_type_on(&self) -> bool
+        ensures { result ≡ passes_type_on self.now }
+    {
+        matches!(
+            self.tag,
+            DW_TAG_typedef
+                | DW_TAG_const_type
+                | DW_TAG_volatile_type
+                | DW_TAG_restrict_type
+                | DW_TAG_atomic_type
+                | DW_TAG_array_type
+                | DW_TAG_enumeration_type
+        )
+    }
+
+    /// Whether it is a structure or union that is not declared.
+    pub fn has_members(&self) -> bool
+        ensures { result ≡ has_members self.now }
+    {
+        matches!(self.tag, DW_TAG_structure_type | DW_TAG_union_type) && !self.declared
+    }
+
+    /// Whether it is a declared structure, union or enumeration.
+    pub fn is_declared_type(&self) -> bool
+        ensures { result ≡ is_declared_type self.now }
+    {
+        matches!(
+            self.tag,
+            DW_TAG_structure_type | DW_TAG_union_type | DW_TAG_enumeration_type
+        ) && self.declared
+    }
+
+    /// Whether it is an array.
+    pub fn is_array(&self) -> bool
+        ensures { result ≡ is_array self.now }
+    {
+        matches!(self.tag, DW_TAG_array_type)
+    }
+
+    /// Whether it is an enumeration that is not declared.
+    pub fn is_enumeration(&self) -> bool
+        ensures { result ≡ is_enumeration self.now }
+    {
+        matches!(self.tag, DW_TAG_enumeration_type) && !self.declared
+    }
+}

@@ -1,0 +1,43 @@
+//! Graphs of steps and their order; steps by value between types; counts of dimensions; sizes of types.
+#![tactic(auto)]
+
+mod by_value;
+mod constant;
+mod count;
+mod cycle;
+mod element_count;
+mod entry_facts;
+mod extent;
+mod facts;
+mod facts_reader;
+mod fault;
+mod graph;
+mod kind;
+mod laws;
+mod ordering;
+mod packed;
+mod ranking;
+mod roles;
+mod shapes;
+mod size_fault;
+mod size_line;
+mod size_table;
+mod sizing;
+mod type_attributes;
+mod walk;
+
+pub use by_value::ByValue;
+pub use constant::Constant;
+pub use count::count_at;
+pub use dw_entries::constants;
+pub use facts::Facts;
+pub use graph::StepGraph;
+pub use laws::container_has_its_own_size;
+pub use ordering::order;
+pub use packed::Packed;
+pub use ranking::{Order, OrderFault};
+pub use size_table::SizeTable;
+pub use sizing::sizes;
+
+#[cfg(test)]
+mod tests;

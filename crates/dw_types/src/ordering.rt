@@ -1,0 +1,95 @@
+//! The order of a graph: one walk with a stack, which looks at each step once.
+
+ghost use Rattle.std.specs.Prelude.{◌≡◌, ◌≢◌, ℕ, ◌+◌, ◌-◌, ◌^◌, ◌<◌, [], length, slice_index, Contains, IfOk, IfErr, OnOk};
+ghost use Rattle.dw_types.specs.Graphs.{steps_of, FollowsSteps, IsStep, IsCycle, HasNoCycle};
+ghost use Rattle.dw_types.specs.OrderFaults.{IsFaultOf};
+ghost use Rattle.dw_types.specs.Orders.{IsOrderOf};
+ghost use Rattle.dw_types.specs.Walks.{IsWalk, KeepsTaken, work_left};
+
+use crate::cycle::{place_of, place_of_least, round_from};
+use crate::graph::StepGraph;
+use crate::ranking::{Order, OrderFault};
+use crate::walk::{Mark, Walk};
+use std::alloc::Global;
+
+/// Ranks that fall along each step of a graph, or a cycle in it. Each node is taken up once, and each step
+/// looked at once.
+pub fn order<G: StepGraph>(alloc: Global, graph: &G) -> Result<Order, OrderFault>
+    ensures ok { IfOk result (IsOrderOf (G.graph graph.now)) }
+    ensures no_cycle { OnOk result (HasNoCycle (G.graph graph.now)) }
+    ensures err { IfErr result (IsFaultOf (G.graph graph.now)) }
+{
+    let nodes = graph.nodes();
+    let mut walk = Walk::new(alloc, nodes)?;
+    for start in 0..nodes {
+        if let Mark::Fresh = walk.mark(start) {
+            walk.take_up(start)?;
+            empty_stack(alloc, graph, &mut walk)?;
+        }
+    }
+    Ok(walk.into_order())
+}
+
+/// Looks at the steps of the nodes on the stack until each node is ranked.
+fn empty_stack<G: StepGraph>(alloc: Global, graph: &G, walk: &mut Walk) -> Result<(), OrderFault>
+    requires { IsWalk (G.graph graph.now) walk.old }
+    ensures is_walk { OnOk result (IsWalk (G.graph graph.now) walk.new) }
+    ensures empty { OnOk result (walk.new.stack ≡ []) }
+    ensures taken { OnOk result (KeepsTaken walk.old walk.new) }
+    ensures err { IfErr result (IsFaultOf (G.graph graph.now)) }
+{
+    while let Some(node) = walk.top() {
+        if walk.next(node) < graph.steps(node) {
+            follow_step(alloc, graph, walk, node)?;
+        } else {
+            walk.rank_top(node)?;
+        }
+    }
+    Ok(())
+}
+
+/// Looks at the next step of the node on top of the stack, and takes up the node that it leads to, if that
+/// is fresh.
+fn follow_step<G: StepGraph>(
+    alloc: Global,
+    graph: &G,
+    walk: &mut Walk,
+    node: usize,
+) -> Result<(), OrderFault>
+    requires is_walk { IsWalk (G.graph graph.now) walk.old }
+    requires some { 0 < length walk.old.stack }
+    requires top { slice_index walk.old.stack (length walk.old.stack - 1) ≡ node }
+    requires more { slice_index walk.old.next node < length (steps_of (G.graph graph.now) node) }
+    requires fits { length (steps_of (G.graph graph.now) node) < 2 ^ 64 }
+    ensures is_walk { OnOk result (IsWalk (G.graph graph.now) walk.new) }
+    ensures taken { OnOk result (KeepsTaken walk.old walk.new) }
+    ensures less { OnOk result (work_left (G.graph graph.now) walk.new < work_left (G.graph graph.now) walk.old) }
+    ensures err { IfErr result (IsFaultOf (G.graph graph.now)) }
+{
+    let to = graph.step(node, walk.next(node));
+    walk.count_step(node);
+    match walk.mark(to) {
+        Mark::Fresh => walk.take_up(to)?,
+        Mark::Open => return Err(OrderFault::Cycle(cycle_to(alloc, graph, walk.stack(), to)?)),
+        Mark::Ranked => {}
+    }
+    Ok(())
+}
+
+/// The cycle that a step from the top of the stack to a node on it closes, turned to begin with its least node.
+fn cycle_to<G: StepGraph>(
+    alloc: Global,
+    graph: &G,
+    stack: &[usize],
+    to: usize,
+) -> Result<Vec<usize>, OrderFault>
+    requires on_stack { Contains stack.now to }
+    requires once { (i j : ℕ) → i < j → j < length stack.now → slice_index stack.now i ≢ slice_index stack.now j }
+    requires steps { FollowsSteps (G.graph graph.now) stack.now }
+    requires closes { IsStep (G.graph graph.now) (slice_index stack.now (length stack.now - 1)) to }
+    ensures cycle { IfOk result (λ cycle. IsCycle (G.graph graph.now) cycle.items) }
+    ensures err { IfErr result (IsFaultOf (G.graph graph.now)) }
+{
+    let ring = &stack[place_of(stack, to)..];
+    Ok(round_from(alloc, ring, place_of_least(ring))?)
+}

@@ -1,0 +1,119 @@
+//! The one table of sizes, filled in the order of the ranks.
+
+ghost use Rattle.std.specs.Prelude.{◌≡◌, ℕ, ◌<◌, length, IfOk, IfErr, MatchOption};
+ghost use Rattle.dw_entries.specs.Entries.{entries_of};
+ghost use Rattle.dw_entries.specs.Scanned.{units_of};
+ghost use Rattle.dw_types.specs.CappedSizes.{ObeysCappedLines};
+ghost use Rattle.dw_types.specs.Entries.{OffsetsRise, ParentsComeFirst, TargetsAreEntries};
+ghost use Rattle.dw_entries.specs.Failures.{HasNone};
+ghost use Rattle.dw_types.specs.FactsOf.{facts_in};
+ghost use Rattle.dw_types.specs.Orders.{IsOrderOf};
+ghost use Rattle.dw_types.specs.SizeFaults.{IsFirstSizeFault, SizeFailures, fails_size};
+ghost use Rattle.dw_types.specs.Sizes.{IsSizeTable};
+ghost use Rattle.dw_types.specs.SizeTables.{size_at};
+ghost use Rattle.dw_types.specs.Steps.{by_value};
+ghost use Rattle.dw_entries.specs.Stopped.{IfFault};
+ghost use Rattle.dw_types.specs.TypeFailures.{IsFirstAt, PassAll};
+
+use crate::element_count::element_counts;
+use crate::entry_facts::EntryFacts;
+use crate::fault::fault_at_entry;
+use crate::ranking::Order;
+use crate::roles::Roles;
+use crate::size_line::capped_size;
+use crate::size_table::SizeTable;
+use dw_entries::{Entries, Rule, Stop};
+use dw_links::Links;
+use std::alloc::{AllocError, Global};
+
+/// Fills the table of capped sizes by rising rank.
+fn capped_sizes(
+    alloc: Global,
+    entries: &EntryFacts<'_, '_>,
+    order: &Order,
+) -> Result<SizeTable, AllocError>
+    requires parents { ParentsComeFirst entries.now }
+    requires targets { TargetsAreEntries entries.now }
+    requires order { IsOrderOf (by_value entries.now) order.now }
+    ensures long { IfOk result (λ table. length table ≡ length entries.now) }
+    ensures obeys { IfOk result (λ table. ObeysCappedLines entries.now (size_at table)) }
+{
+    let counts = element_counts(alloc, entries)?;
+    let mut sizes = SizeTable::new(alloc, entries.count())?;
+    for node in order.by_rank() {
+        let size = capped_size(entries, counts[*node], &sizes, *node);
+        sizes.set(*node, size);
+    }
+    Ok(sizes)
+}
+
+/// The first entry that breaks a rule on sizes, and the rule.
+fn first_wrong_size(
+    alloc: Global,
+    entries: &EntryFacts<'_, '_>,
+    sizes: &SizeTable,
+) -> Result<Option<(usize, Rule)>, AllocError>
+    requires parents { ParentsComeFirst entries.now }
+    requires targets { TargetsAreEntries entries.now }
+    requires sizes_in { length sizes.now ≡ length entries.now }
+    ensures { IfOk result (λ found. MatchOption found (PassAll entries.now (fails_size entries.now (size_at sizes.now))) (λ first. IsFirstAt entries.now (fails_size entries.now (size_at sizes.now)) first.0 first.1)) }
+{
+    let mut roles = Roles::new(alloc);
+    for node in 0..entries.count() {
+        let entry = entries.at(node);
+        let parent = roles.of_parent(entry.parent);
+        let size = sizes.at(node);
+        let container = sizes.get_to(entry.parent);
+        let type_size = sizes.get_to(entry.type_target);
+        if let Some(rule) = entry.broken_size(parent, size, container, type_size) {
+            return Ok(Some((node, rule)));
+        }
+        roles.push(&entry)?;
+    }
+    Ok(None)
+}
+
+/// The one table of sizes of entries with these facts, or the first fault of sizes.
+fn sizes_of_facts(
+    alloc: Global,
+    entries: &EntryFacts<'_, '_>,
+    order: &Order,
+) -> Result<SizeTable, Stop>
+    requires parents { ParentsComeFirst entries.now }
+    requires targets { TargetsAreEntries entries.now }
+    requires rising { OffsetsRise entries.now }
+    requires order { IsOrderOf (by_value entries.now) order.now }
+    ensures long { IfOk result (λ table. length table ≡ length entries.now) }
+    ensures only { IfOk result (λ table. IsSizeTable entries.now (size_at table)) }
+    ensures sound { IfOk result (λ table. HasNone (SizeFailures entries.now (size_at table))) }
+    ensures fault { IfErr result (IfFault (IsFirstSizeFault entries.now)) }
+{
+    let sizes = capped_sizes(alloc, entries, order)?;
+    match first_wrong_size(alloc, entries, &sizes)? {
+        None => Ok(sizes),
+        Some((node, rule)) => Err(Stop::Fault(fault_at_entry(
+            alloc,
+            rule,
+            entries.at(node).offset,
+        ))),
+    }
+}
+
+/// The one table of sizes, or the first fault of sizes. The links are those of the entries, and the order
+/// is that of their graph of steps by value, or of its packed form.
+pub fn sizes(
+    alloc: Global,
+    entries: &Entries<'_>,
+    links: &Links<'_, '_>,
+    order: &Order,
+) -> Result<SizeTable, Stop>
+    requires links { units_of links.now.entries.now.scanned ≡ units_of entries.now.scanned }
+    requires order { IsOrderOf (by_value (facts_in (units_of entries.now.scanned))) order.now }
+    ensures long { IfOk result (λ table. length table ≡ length (entries_of (units_of entries.now.scanned))) }
+    ensures only { IfOk result (λ table. IsSizeTable (facts_in (units_of entries.now.scanned)) (size_at table)) }
+    ensures sound { IfOk result (λ table. HasNone (SizeFailures (facts_in (units_of entries.now.scanned)) (size_at table))) }
+    ensures fault { IfErr result (IfFault (IsFirstSizeFault (facts_in (units_of entries.now.scanned)))) }
+{
+    let facts = EntryFacts::new(alloc, entries, links)?;
+    sizes_of_facts(alloc, &facts, order)
+}

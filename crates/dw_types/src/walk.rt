@@ -1,0 +1,127 @@
+//! The state of a walk over a graph.
+
+ghost use Rattle.std.specs.Prelude.{◌≡◌, ◌+◌, ◌-◌, ◌^◌, ◌<◌, [], length, replicate, slice_index, IfOk, OnOk, MatchOption};
+ghost use Rattle.dw_types.specs.WalkStates.{mark_of, taken_up, with_step, with_rank};
+
+use crate::ranking::Order;
+use std::alloc::{AllocError, Global};
+use std::marker::Model;
+
+/// How far a walk has come with a node.
+#[derive(Clone, Copy, Debug, PartialEq, Eq)]
+pub(crate) enum Mark {
+    /// Not taken up yet.
+    Fresh,
+    /// On the stack.
+    Open,
+    /// All its steps were looked at, and it has its rank.
+    Ranked,
+}
+
+/// A walk over a graph, which keeps its way in a stack.
+#[derive(Drop)]
+pub(crate) struct Walk {
+    marks: Vec<Mark>,
+    next: Vec<usize>,
+    ranks: Vec<usize>,
+    by_rank: Vec<usize>,
+    stack: Vec<usize>,
+    turns: u128,
+}
+
+impl Model for Walk {
+    ghost use Rattle.dw_types.specs.WalkStates.{State};
+
+    ghost Value = { State };
+
+    ghost view = { λ w. record { marks = w.marks.items; next = w.next.items; ranks = w.ranks.items; by_rank = w.by_rank.items; stack = w.stack.items; turns = w.turns } };
+}
+
+impl Walk {
+    /// The walk before its first turn.
+    pub(crate) fn new(alloc: Global, nodes: usize) -> Result<Self, AllocError>
+        ensures { IfOk result (λ walk. walk ≡ record { marks = replicate nodes Mark.Fresh; next = replicate nodes 0; ranks = replicate nodes 0; by_rank = []; stack = []; turns = 0 }) }
+    {
+        Ok(Walk {
+            marks: vec![in alloc; Mark::Fresh; nodes]?,
+            next: vec![in alloc; 0; nodes]?,
+            ranks: vec![in alloc; 0; nodes]?,
+            by_rank: Vec::new(alloc),
+            stack: Vec::new(alloc),
+            turns: 0,
+        })
+    }
+
+    /// How far it has come with a node.
+    pub(crate) fn mark(&self, node: usize) -> Mark
+        requires { node < length self.now.marks }
+        ensures { result ≡ mark_of self.now node }
+    {
+        self.marks[node]
+    }
+
+    /// How many steps of a node were looked at.
+    pub(crate) fn next(&self, node: usize) -> usize
+        requires { node < length self.now.next }
+        ensures { result ≡ slice_index self.now.next node }
+    {
+        self.next[node]
+    }
+
+    /// The nodes that were taken up and have no rank yet, each a step from the one before.
+    pub(crate) fn stack(&self) -> &[usize]
+        ensures { result.now ≡ self.now.stack }
+    {
+        self.stack.as_slice()
+    }
+
+    /// The node on top of the stack.
+    pub(crate) fn top(&self) -> Option<usize>
+        ensures { MatchOption result (self.now.stack ≡ []) (λ node. (0 < length self.now.stack) × (slice_index self.now.stack (length self.now.stack - 1) ≡ node)) }
+    {
+        self.stack.last().copied()
+    }
+
+    /// Puts a node on the stack.
+    pub(crate) fn take_up(&mut self, node: usize) -> Result<(), AllocError>
+        requires node_in { node < length self.old.marks }
+        requires room { self.old.turns + 1 < 2 ^ 128 }
+        ensures { OnOk result (self.new ≡ taken_up self.old node) }
+    {
+        self.stack.push(node)?;
+        self.marks[node] = Mark::Open;
+        self.turns += 1;
+        Ok(())
+    }
+
+    /// Counts the next step of a node as looked at.
+    pub(crate) fn count_step(&mut self, node: usize)
+        requires node_in { node < length self.old.next }
+        requires step_fits { slice_index self.old.next node + 1 < 2 ^ 64 }
+        requires room { self.old.turns + 1 < 2 ^ 128 }
+        ensures { self.new ≡ with_step self.old node }
+    {
+        self.next[node] += 1;
+        self.turns += 1;
+    }
+
+    /// Gives the next rank to the node on top of the stack, and takes it off.
+    pub(crate) fn rank_top(&mut self, node: usize) -> Result<(), AllocError>
+        requires marks { node < length self.old.marks }
+        requires ranks { node < length self.old.ranks }
+        ensures { OnOk result (self.new ≡ with_rank self.old node) }
+    {
+        self.by_rank.push(node)?;
+        self.ranks[node] = self.by_rank.len() - 1;
+        self.marks[node] = Mark::Ranked;
+        let _ = self.stack.pop();
+        Ok(())
+    }
+
+    /// The ranks and the turns of a walk.
+    pub(crate) fn into_order(self) -> Order
+        ensures { result ≡ record { ranks = self.ranks; by_rank = self.by_rank; turns = self.turns } }
+    {
+        Order::new(self.ranks, self.by_rank, self.turns)
+    }
+}
