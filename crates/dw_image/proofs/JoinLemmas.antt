@@ -1,33 +1,109 @@
 -- The groups of rules join: valid sections have no fault, and others have one.
-use Rattle.std.proofs.Common.{◌≡◌, List, sym, ◌∙◌, subst, inl}
+use Rattle.std.proofs.Common.{◌≡◌, ℕ, ◌<◌, ◌⊎◌, List, refl, sym, ap, ◌∙◌, subst, arith, inl, inr}
 use Rattle.dw_elf.specs.declared.sections.Sections.{Sections}
 use Rattle.dw_entries.specs.declared.fault.Fault.{Fault}
+use Rattle.dw_entries.specs.declared.fault.Broken.{Broken}
 use Rattle.dw_entries.specs.Units.{DebugUnit}
-use Rattle.dw_entries.specs.declared.entries.Entries.{Entries}
 use Rattle.dw_entries.specs.Entries.{entries_of}
 use Rattle.dw_entries.specs.Asked.{EachEntry}
+use Rattle.dw_entries.specs.Failures.{Failure, HasNone, IsFirst}
+use Rattle.dw_entries.specs.Stopped.{broken_of, IsFault}
 use Rattle.dw_entries.specs.UnitLaws.{one_list}
-use Rattle.dw_entries.specs.Stopped.{broken_of}
 use Rattle.dw_entries.proofs.FaultLaws.{no_list, one_fault}
 use Rattle.dw_entries.proofs.HeadLaws.{head_stands}
+use Rattle.dw_types.specs.FactsOf.{facts_in}
+use Rattle.dw_types.proofs.FactsLemmas.{facts-parents_first, facts-targets}
 use Rattle.dw_image.specs.declared.image.Image.{Image}
-use Rattle.dw_image.specs.Images.{sections_in, units_in}
-use Rattle.dw_image.specs.Valid.{SpellsInfo, IsValid}
-use Rattle.dw_image.specs.First.{IsFirstFault, in_trees, IsOneFault}
+use Rattle.dw_image.specs.Images.{sections_in, units_in, size_table_in}
+use Rattle.dw_image.specs.Valid.{SpellsInfo, HasSizes, IsValidBy, IsValid}
+use Rattle.dw_image.specs.First.{Group, classes, strings, references, shapes, cycles, sizes, turn_of, failures_of, FailsInTrees, IsFirstIn, FailsInGroup, IsFirstFault, in_trees, in_group, IsOneFault}
 use Rattle.dw_image.specs.Headline.{IsSpelled, IsImageOf, IsFaultOf}
+use Rattle.dw_image.proofs.OneFirst.{three_ways, one_first}
+use Rattle.dw_image.proofs.GroupLaws.{one_group, one_at_place}
+use Rattle.dw_image.proofs.SizeLaws.{none_by_size}
+use Rattle.dw_image.proofs.CycleLaws.{no_cycle_holds, cycle_failure, cycle_fails, contained_of}
+use Rattle.dw_image.proofs.ClassPromise.{classes_of}
+use Rattle.dw_image.proofs.TextPromise.{texts_of}
+use Rattle.dw_image.proofs.ReferencePromise.{references_of}
 
 -- two lists of units that spell the sections are one
 pub one_list_of : (s : Sections) (units others : List DebugUnit) → SpellsInfo s units → SpellsInfo s others → units ≡ others
 one_list_of s units others p q = one_list s.«abbrev».now s.info.now units others p q
 
+-- the rules of each group hold of valid sections
+holds_of : (s : Sections) (units : List DebugUnit) → IsValidBy s units → (group : Group) → HasNone (failures_of s units group)
+holds_of s units valid classes = valid.classes
+holds_of s units valid strings = valid.strings
+holds_of s units valid references = valid.references
+holds_of s units valid shapes = valid.shapes
+holds_of s units valid cycles = no_cycle_holds (facts_in units) valid.contained
+holds_of s units valid sizes = none_by_size (facts_in units) (facts-parents_first units) (facts-targets units) valid.sizes.0 valid.sizes.1.one valid.sizes.1.none
+
+-- a group where no rule fails has no first failure
+none_first : (Fails : Failure → Type 0) (fault : Fault) → HasNone Fails → IsFault (IsFirst Fails) fault → ⊥
+none_first Fails fault none first = none first.holds.failure first.holds.fails
+
+none_named : (s : Sections) (units : List DebugUnit) (group : Group) (fault : Fault) → HasNone (failures_of s units group) → IsFirstIn s units group fault → ⊥
+none_named s units classes fault none first = none_first (failures_of s units classes) fault none first
+none_named s units strings fault none first = none_first (failures_of s units strings) fault none first
+none_named s units references fault none first = none_first (failures_of s units references) fault none first
+none_named s units shapes fault none first = none_first (failures_of s units shapes) fault none first
+none_named s units cycles fault none first = none (cycle_failure (facts_in units) first.nodes) (cycle_fails (facts_in units) first.nodes first.is_cycle)
+none_named s units sizes fault none first = none_first (failures_of s units sizes) fault none first
+
 -- valid sections have no fault
 pub no_fault_of : (s : Sections) (fault : Fault) → IsValid s → IsFirstFault s fault → ⊥
 no_fault_of s fault valid (in_trees fails cycle) = no_list s.«abbrev».now s.info.now valid.0 (broken_of fault) valid.1.trees fails
+no_fault_of s fault valid (in_group group fails) =
+    let same = one_list_of s valid.0 fails.units valid.1.trees fails.spelled in
+    none_named s fails.units group fault (subst (λ units. HasNone (failures_of s units group)) same (holds_of s valid.0 valid.1 group)) fails.first
+
+-- a group's failure is of the first group that has one
+no_earlier : (s : Sections) (group later : Group) (fault other : Fault) → FailsInGroup s group fault → FailsInGroup s later other → turn_of group < turn_of later → ⊥
+no_earlier s group later fault other p q less =
+    let same = one_list_of s p.units q.units p.spelled q.spelled in
+    none_named s q.units group fault (q.before group less) (subst (λ units. IsFirstIn s units group fault) same p.first)
+
+one_of_group : (s : Sections) (units : List DebugUnit) (group : Group) (fault other : Fault) → SpellsInfo s units
+    → IsFault (IsFirst (failures_of s units group)) fault → IsFault (IsFirst (failures_of s units group)) other → IsOneFault fault other
+one_of_group s units group fault other spelled p q =
+    inl (record {
+      broken = one_first (failures_of s units group) (broken_of fault) (broken_of other) (one_at_place s units spelled.are group) p.holds q.holds;
+      cycle = p.cycle ∙ sym q.cycle;
+    })
+
+one_named : (s : Sections) (units : List DebugUnit) (group : Group) (fault other : Fault) → SpellsInfo s units → IsFirstIn s units group fault → IsFirstIn s units group other → IsOneFault fault other
+one_named s units classes fault other spelled p q = one_of_group s units classes fault other spelled p q
+one_named s units strings fault other spelled p q = one_of_group s units strings fault other spelled p q
+one_named s units references fault other spelled p q = one_of_group s units references fault other spelled p q
+one_named s units shapes fault other spelled p q = one_of_group s units shapes fault other spelled p q
+one_named s units cycles fault other spelled p q = inr (record { one = ap (λ (b : Broken). b.rule) p.named; two = ap (λ (b : Broken). b.rule) q.named })
+one_named s units sizes fault other spelled p q = one_of_group s units sizes fault other spelled p q
+
+one_in_group : (s : Sections) (group : Group) (fault other : Fault) → FailsInGroup s group fault → FailsInGroup s group other → IsOneFault fault other
+one_in_group s group fault other p q =
+    let same = one_list_of s p.units q.units p.spelled q.spelled in
+    one_named s q.units group fault other q.spelled (subst (λ units. IsFirstIn s units group fault) same p.first) q.first
+
+one_in_groups : (s : Sections) (group later : Group) (fault other : Fault) → FailsInGroup s group fault → FailsInGroup s later other → IsOneFault fault other
+one_in_groups s group later fault other p q =
+    elim (three_ways (turn_of group) (turn_of later)) [
+      | inl (inl less) ↦ absurd (no_earlier s group later fault other p q less)
+      | inl (inr same) ↦ one_in_group s later fault other (subst (λ g. FailsInGroup s g fault) (one_group group later same) p) q
+      | inr more ↦ absurd (no_earlier s later group other fault q p more)
+    ]
+
+-- the trees fail, or a group of rules behind them
+apart : (s : Sections) (group : Group) (fault other : Fault) → FailsInTrees s (broken_of fault) → FailsInGroup s group other → ⊥
+apart s group fault other p q = no_list s.«abbrev».now s.info.now q.units (broken_of fault) q.spelled p
 
 -- two first faults are one
 pub one_first_fault_of : (s : Sections) (fault other : Fault) → IsFirstFault s fault → IsFirstFault s other → IsOneFault fault other
 one_first_fault_of s fault other (in_trees p c) (in_trees q d) =
     inl (record { broken = one_fault s.«abbrev».now s.info.now (broken_of fault) (broken_of other) p q; cycle = c ∙ sym d })
+one_first_fault_of s fault other (in_trees p c) (in_group later q) = absurd (apart s later fault other p q)
+one_first_fault_of s fault other (in_group group p) (in_trees q d) = absurd (apart s group other fault q p)
+one_first_fault_of s fault other (in_group group p) (in_group later q) = one_in_groups s group later fault other p q
 
 -- each entry is spelled
 spelled_of : (s : Sections) (units : List DebugUnit) → SpellsInfo s units → EachEntry (IsSpelled s units) (entries_of units)
@@ -35,22 +111,22 @@ spelled_of s units spells = λ id e there.
     let stands = head_stands s.«abbrev».now s.info.now units id e spells there in
     record { unit = stands.unit; in_unit = stands.is_unit; head = stands.is; rest = stands.after; stands = stands.parts }
 
--- sections that some units spell, and their image
-pub image_of : (s : Sections) (image : Image) → sections_in image ≡ s → SpellsInfo (sections_in image) (units_in image) → IsImageOf s image
-image_of s image same spelled =
-    let here : SpellsInfo s (units_in image) = subst (λ t. SpellsInfo t (units_in image)) same spelled in
-    let valid : IsValid s = (units_in image, record { trees = here }) in
+-- sections of which all rules hold, and their image
+pub image_of : (s : Sections) (image : Image) → sections_in image ≡ s → IsValidBy (sections_in image) (units_in image) → HasSizes (facts_in (units_in image)) (size_table_in image) → IsImageOf s image
+image_of s image same holds measured =
+    let here : IsValidBy s (units_in image) = subst (λ t. IsValidBy t (units_in image)) same holds in
+    let valid : IsValid s = (units_in image, here) in
     record {
       sections = same;
-      trees = record { spelled = here; only = λ others spells. one_list_of s others (units_in image) spells here; entries = spelled_of s (units_in image) here };
+      trees = record { spelled = here.trees; only = λ others spells. one_list_of s others (units_in image) spells here.trees; entries = spelled_of s (units_in image) here.trees };
+      classes = classes_of (units_in image) here.classes;
+      texts = texts_of s (units_in image) here.strings;
+      references = references_of s (units_in image) here.trees here.references;
+      contained = contained_of (units_in image) here.shapes here.contained;
+      sizes = measured;
       valid = valid;
       faultless = λ fault first. no_fault_of s fault valid first;
     }
-
--- the image of the entries that a scan found
-pub image_of_entries : (s : Sections) (entries : Entries) → entries.sections ≡ s → IsImageOf s (record { entries = entries })
-unfolding sections_in units_in
-image_of_entries s entries same = image_of s (record { entries = entries }) same entries.scanned.1.spells
 
 -- a first fault
 pub fault_of : (s : Sections) (fault : Fault) → IsFirstFault s fault → IsFaultOf s fault

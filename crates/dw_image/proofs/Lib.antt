@@ -1,4 +1,16 @@
+pub mod StepLaws
+pub mod MeasureLemmas
+pub mod CycleLaws
+pub mod ReferencePromise
+pub mod AskLemmas
+pub mod SizeLaws
+pub mod ClassPromise
+pub mod TextPromise
+pub mod RuleLaws
+pub mod GroupLaws
+pub mod OneFirst
 pub mod JoinLemmas
 pub mod ChildLemmas
+pub mod ChildSteps
 pub mod LookupLemmas
 pub mod CountLemmas

@@ -1,19 +1,33 @@
 -- What a verdict says of the sections that were verified. This is the file to read first: the words behind it stand in
 -- Valid.antt, First.antt and Images.antt, and those of the grammar in the crates below.
-use Rattle.std.specs.Prelude.{◌≡◌, ℕ, List, ◌++◌, drop, slice_get, Some}
+use Rattle.std.specs.Prelude.{◌≡◌, ◌↔◌, ℕ, ◌<◌, true, List, ◌++◌, drop, slice_get, Option, None, Some}
 use Rattle.dw_elf.specs.declared.sections.Sections.{Sections}
+use Rattle.dw_forms.specs.Codes.{DW_AT_str_offsets_base, DW_AT_addr_base}
+use Rattle.dw_forms.specs.Value.{Datum, str, line_str, str_index, addr_index}
+use Rattle.dw_entries.specs.declared.header.UnitHeader.{UnitHeader}
 use Rattle.dw_entries.specs.declared.fault.Fault.{Fault as FirstFault}
 use Rattle.dw_entries.specs.declared.fault.Stop.{Stop}
 use Rattle.dw_entries.specs.declared.fault.Stop.TheVariants as stops
 use Rattle.dw_entries.specs.Grammar.{IsHead, head_bytes}
 use Rattle.dw_entries.specs.Units.{DebugUnit, context_of}
-use Rattle.dw_entries.specs.Entries.{Entry, entries_of}
-use Rattle.dw_entries.specs.Asked.{EachEntry}
+use Rattle.dw_entries.specs.Header.{version_of}
+use Rattle.dw_entries.specs.Entries.{Entry, entries_of, PlacedUnit, placed}
+use Rattle.dw_entries.specs.Asked.{EachEntry, HasAttribute}
+use Rattle.dw_entries.specs.Failures.{HasNone}
+use Rattle.dw_links.specs.Classes.{class_of, allows_in}
+use Rattle.dw_links.specs.Contributions.{slot_count, slot_at, Ends}
+use Rattle.dw_links.specs.Bases.{base_in}
+use Rattle.dw_links.specs.Strings.{IsStringContribution, IsAddressContribution}
+use Rattle.dw_links.specs.LinkLaws.{HaveTargets, HaveTypes}
+use Rattle.dw_types.specs.FactsOf.{facts_in}
+use Rattle.dw_types.specs.Graphs.{IsStep, HasNoCycle}
+use Rattle.dw_types.specs.Shapes.{ShapeFailures}
+use Rattle.dw_types.specs.Steps.{by_value, IsStepByValue}
 use Rattle.dw_image.specs.declared.image.Image.{Image}
 use Rattle.dw_image.specs.declared.verifying.Verdict.{Verdict}
 use Rattle.dw_image.specs.declared.verifying.Verdict.TheVariants.{Sound, Fault}
-use Rattle.dw_image.specs.Images.{sections_in, units_in}
-use Rattle.dw_image.specs.Valid.{SpellsInfo, IsValid}
+use Rattle.dw_image.specs.Images.{sections_in, units_in, size_table_in}
+use Rattle.dw_image.specs.Valid.{SpellsInfo, HasSizes, IsValid}
 use Rattle.dw_image.specs.First.{IsFirstFault}
 
 -- an entry of these units stands at its offset of .debug_info, by a declared abbreviation and with its attributes in their
@@ -32,10 +46,62 @@ pub record HasTrees (s : Sections) (units : List DebugUnit) : Type 0 where
   pub only : (others : List DebugUnit) → SpellsInfo s others → others ≡ units
   pub entries : EachEntry (IsSpelled s units) (entries_of units)
 
+-- each attribute of each entry, with its value
+abbrev pub EachValue : (Entry → ℕ → Datum → Type 0) → List Entry → Type 0
+EachValue P = EachEntry (λ e. (position attribute : ℕ) (v : Datum) → HasAttribute e position attribute v → P e attribute v)
+
+-- each value has one of the classes that its attribute may have in a unit of that version (DWARF 5, 7.5.4 and 7.5.5)
+abbrev pub HasClasses : List DebugUnit → Type 0
+HasClasses units =
+    EachValue (λ e attribute v. (unit : PlacedUnit) → slice_get (placed units) e.unit ≡ Some unit
+    → allows_in (version_of unit.unit.header.kind) attribute (class_of v) ≡ true) (entries_of units)
+
+-- an index is below the count of the unit's contribution to .debug_str_offsets, and a string begins where the slot says
+abbrev pub HasStringAt : Sections → (base : Option ℕ) → ℕ → Type 0
+HasStringAt s None index = ⊥
+HasStringAt s (Some base) index =
+    IsStringContribution s base × (index < slot_count s.str_offsets.now 4 base) × Ends s.str.now (slot_at s.str_offsets.now 4 base index)
+
+-- an index is below the count of the unit's contribution to .debug_addr
+abbrev pub HasAddressAt : Sections → UnitHeader → (base : Option ℕ) → ℕ → Type 0
+HasAddressAt s header None index = ⊥
+HasAddressAt s header (Some base) index = IsAddressContribution s header base × (index < slot_count s.addr.now header.address_size base)
+
+-- a string or an address is there, by the unit's contributions (DWARF 5, 7.26 and 7.27)
+abbrev pub LeadsToText : Sections → List Entry → PlacedUnit → Datum → Type 0
+LeadsToText s entries unit (str offset) = Ends s.str.now offset
+LeadsToText s entries unit (line_str offset) = Ends s.line_str.now offset
+LeadsToText s entries unit (str_index index) = HasStringAt s (base_in entries unit DW_AT_str_offsets_base) index
+LeadsToText s entries unit (addr_index index) = HasAddressAt s unit.unit.header (base_in entries unit DW_AT_addr_base) index
+LeadsToText s entries unit _ = Unit {0}
+
+-- each string ends in its section, and each index has its slot
+abbrev pub HasTexts : Sections → List DebugUnit → Type 0
+HasTexts s units =
+    EachValue (λ e attribute v. (unit : PlacedUnit) → slice_get (placed units) e.unit ≡ Some unit → LeadsToText s (entries_of units) unit v) (entries_of units)
+
+-- references: each reaches one entry, of a permitted kind, and a sibling attribute the next sibling; signatures are distinct,
+-- and a type begins at the type offset of each type unit (DWARF 5, 7.5.5)
+pub record HasReferences (units : List DebugUnit) : Type 0 where
+  pub targets : HaveTargets units
+  pub types : HaveTypes units
+
+-- containment: arrays and members have their types and no count is below 0; no list of steps by value returns to its start,
+-- where a step is from an entry to what it holds as its type, as the type of a plain member, or by its signature
+pub record HoldsNoneOfItself (units : List DebugUnit) : Type 0 where
+  pub shapes : HasNone (ShapeFailures (facts_in units))
+  pub steps : (from to : ℕ) → IsStep (by_value (facts_in units)) from to ↔ IsStepByValue (facts_in units) from to
+  pub none : HasNoCycle (by_value (facts_in units))
+
 -- sound: the image is of these sections, which are valid and have no fault; and what each group of rules promises
 pub record IsImageOf (s : Sections) (image : Image) : Type 0 where
   pub sections : sections_in image ≡ s
   pub trees : HasTrees s (units_in image)
+  pub classes : HasClasses (units_in image)
+  pub texts : HasTexts s (units_in image)
+  pub references : HasReferences (units_in image)
+  pub contained : HoldsNoneOfItself (units_in image)
+  pub sizes : HasSizes (facts_in (units_in image)) (size_table_in image)
   pub valid : IsValid s
   pub faultless : (fault : FirstFault) → IsFirstFault s fault → ⊥
 

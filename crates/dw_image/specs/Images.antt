@@ -6,6 +6,10 @@ use Rattle.dw_entries.specs.Units.{DebugUnit}
 use Rattle.dw_entries.specs.Entries.{Entry, entries_of}
 use Rattle.dw_entries.specs.Scanned.{units_of}
 use Rattle.dw_entries.specs.Views.{sections_of}
+use Rattle.dw_types.specs.FactsOf.{facts_in}
+use Rattle.dw_types.specs.Graphs.{Graph}
+use Rattle.dw_types.specs.Steps.{by_value}
+use Rattle.dw_types.specs.SizeTables.{Size, size_at}
 use Rattle.dw_image.specs.declared.image.Image.{Image}
 use Rattle.dw_image.specs.Lookups.{is_type_entry}
 
@@ -32,3 +36,11 @@ entry_count i = length (entries_in i)
 -- how many entries are types
 unfoldable pub type_count : Image → ℕ
 type_count i = count_by is_type_entry (entries_in i)
+
+-- the size of each entry, by its number
+unfoldable pub size_table_in : Image → ℕ → Size
+size_table_in i = size_at i.sizes
+
+-- the steps by value of each entry, by its number
+unfoldable pub steps_in : Image → Graph
+steps_in i = by_value (facts_in (units_in i))

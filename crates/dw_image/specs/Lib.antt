@@ -3,4 +3,5 @@ pub mod Images
 pub mod ChildrenLeft
 pub mod Valid
 pub mod First
+pub mod Measures
 pub mod Headline

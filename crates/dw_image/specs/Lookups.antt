@@ -1,6 +1,6 @@
 -- What the look-ups of an image answer, as functions of the list of its entries.
 use Rattle.std.specs.Prelude.{◌≡◌, ℕ, suc, ◌==◌, false, Bool, if◌then◌else◌, List, [], ◌∷◌, drop, slice_get, Option, Some, None, option_map}
-use Rattle.std.specs.Option.{ForSome}
+use Rattle.std.specs.Option.{ForSome, option_and_then}
 use Rattle.std.specs.List.{position_from}
 use Rattle.dw_forms.specs.Codes.{is_type_tag}
 use Rattle.dw_entries.specs.Entries.{Entry}
@@ -8,6 +8,10 @@ use Rattle.dw_entries.specs.Entries.{Entry}
 -- whether an entry is a type, by its tag
 abbrev pub is_type_entry : Entry → Bool
 is_type_entry e = is_type_tag e.head.decl.tag
+
+-- the number itself, where the entry is a type
+abbrev pub type_number : List Entry → ℕ → Option ℕ
+type_number entries id = option_and_then (λ e. if is_type_entry e then Some id else None) (slice_get entries id)
 
 -- the number of the entry that starts at this offset
 unfoldable pub entry_at : List Entry → ℕ → Option ℕ

@@ -3,14 +3,28 @@
 ghost use Rattle.std.specs.Prelude.{◌≡◌, ◌<◌, length, slice_get, IfSome};
 ghost use Rattle.dw_entries.specs.Entries.{entries_of};
 ghost use Rattle.dw_entries.specs.Scanned.{units_of};
+ghost use Rattle.dw_entries.specs.Failures.{HasNone};
+ghost use Rattle.dw_entries.specs.Views.{sections_of};
+ghost use Rattle.dw_links.specs.Strings.{StringFailures};
+ghost use Rattle.dw_links.specs.Tables.{AreTables};
+ghost use Rattle.dw_types.specs.FactsOf.{facts_in};
+ghost use Rattle.dw_image.specs.Measures.{AreMeasures};
 ghost use Rattle.dw_image.specs.Lookups.{is_type_entry};
 
 use dw_entries::Entries;
+use dw_links::UnitTables;
+use dw_types::{Packed, SizeTable};
 
 /// The image of valid sections. Only `verify` makes one.
 #[derive(Drop)]
 pub struct Image<'a> {
     pub(crate) entries: Entries<'a>,
+    pub(crate) tables: UnitTables,
+    pub(crate) steps: Packed,
+    pub(crate) sizes: SizeTable,
+    ghost linked: { AreTables entries tables },
+    ghost strings: { HasNone (StringFailures (sections_of entries) (units_of entries.scanned)) },
+    ghost measured: { AreMeasures (facts_in (units_of entries.scanned)) steps sizes },
 }
 
 /// Whether the entry with this number is a type.

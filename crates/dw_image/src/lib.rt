@@ -2,13 +2,17 @@
 #![tactic(auto)]
 
 mod children;
+mod id;
 mod image;
 mod laws;
 mod lookup;
+mod measuring;
+mod types;
 mod verifying;
 
 pub use children::Children;
 pub use dw_entries::{EntryId, Fault, Head, Rule, Section};
+pub use id::TypeId;
 pub use image::Image;
 pub use laws::{one_first_fault, one_list, valid_has_no_fault};
 pub use verifying::{NoMemory, Verdict, verify};

@@ -1,12 +1,17 @@
 //! Look-ups of entries in an image.
 
-ghost use Rattle.std.specs.Prelude.{◌≡◌, ◌<◌, length, slice_get, IfSome, option_map};
+ghost use Rattle.std.specs.Prelude.{◌≡◌, ◌<◌, length, slice_get, IfSome, option_map, option_copied};
+ghost use Rattle.dw_forms.specs.Codes.{DW_AT_name};
 ghost use Rattle.dw_forms.specs.Value.{view};
 ghost use Rattle.dw_entries.specs.Lookups.{nth_of, entry_head, value_at_entry};
-ghost use Rattle.dw_image.specs.Images.{entries_in};
+ghost use Rattle.dw_entries.specs.Entries.{placed};
+ghost use Rattle.dw_links.specs.AttributeTexts.{text_at};
+ghost use Rattle.dw_links.specs.Targets.{target_of};
+ghost use Rattle.dw_image.specs.Images.{sections_in, units_in, entries_in};
 ghost use Rattle.dw_image.specs.Lookups.{entry_at};
 
 use crate::image::Image;
+use dw_entries::constants::DW_AT_name;
 use dw_entries::{Attribute, EntryId, Head, Value};
 
 impl<'a> Image<'a> {
@@ -44,5 +49,24 @@ impl<'a> Image<'a> {
         ensures { IfSome (slice_get (entries_in self.now) id) (λ e. option_map view result ≡ value_at_entry e attribute) }
     {
         self.entries.value(id, attribute)
+    }
+
+    /// The entry that an entry's attribute reaches. None where the attribute is absent or no reference.
+    #[tactic(auto, unfolding(crate::specs::Images::units_in))]
+    pub fn target(&self, id: EntryId, attribute: Attribute) -> Option<EntryId>
+        requires { id < length (entries_in self.now) }
+        ensures exact { IfSome (slice_get (entries_in self.now) id) (λ e. result ≡ target_of (entries_in self.now) (placed (units_in self.now)) e attribute) }
+        ensures within { IfSome result (λ to. to < length (entries_in self.now)) }
+    {
+        self.tables.target(&self.entries, id, attribute)
+    }
+
+    /// The text of an entry's DW_AT_name, without its closing zero byte. None where the entry has no name.
+    #[tactic(auto, unfolding(crate::specs::Images::units_in, crate::specs::Images::sections_in))]
+    pub fn name_of(&self, id: EntryId) -> Option<&'a [u8]>
+        requires { id < length (entries_in self.now) }
+        ensures { IfSome (slice_get (entries_in self.now) id) (λ e. option_copied result ≡ text_at (sections_in self.now) (entries_in self.now) (placed (units_in self.now)) e DW_AT_name) }
+    {
+        self.tables.text(&self.entries, id, DW_AT_name)
     }
 }

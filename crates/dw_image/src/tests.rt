@@ -94,3 +94,91 @@ fn first_faults(rt: HostRuntime) -> Result<(), Fail> {
     }
     Ok(())
 }
+
+/// A table: a compile unit with a name, a base type with name and size, a structure with name and size, a member with name,
+/// type and location, an array with a type, and a dimension with a count.
+const TYPES: [u8; 52] = [
+    0x01, 0x11, 1, 0x03, 0x08, 0, 0, //
+    0x02, 0x24, 0, 0x03, 0x08, 0x0b, 0x0b, 0, 0, //
+    0x03, 0x13, 1, 0x03, 0x08, 0x0b, 0x0b, 0, 0, //
+    0x04, 0x0d, 0, 0x03, 0x08, 0x49, 0x11, 0x38, 0x0b, 0, 0, //
+    0x05, 0x01, 1, 0x49, 0x11, 0, 0, //
+    0x06, 0x21, 0, 0x37, 0x0b, 0, 0, //
+    0, 0,
+];
+
+/// A unit by it: `int`, a structure `s` of 16 bytes with the members `n` and `a`, and an array of three of `int`.
+const HOLDER: [u8; 42] = [
+    0x26, 0, 0, 0, 5, 0, 1, 8, 0, 0, 0, 0, //
+    0x01, b'u', 0, //
+    0x02, b'i', b'n', b't', 0, 4, //
+    0x03, b's', 0, 16, //
+    0x04, b'n', 0, 0x0f, 0, 0x04, b'a', 0, 0x24, 4, 0, //
+    0x05, 0x0f, 0x06, 3, 0, //
+    0,
+];
+
+#[test]
+fn types_of_entries(rt: HostRuntime) -> Result<(), Fail> {
+    let sections = Sections::new(&TYPES, &HOLDER, &[], &[], &[], &[])
+        .ok()
+        .ok_or("sections")?;
+    let image = match verify(rt.alloc(), sections) {
+        Ok(Verdict::Sound(image)) => image,
+        _ => return Err("not sound".into()),
+    };
+    assert_eq!(rt; (image.units(), image.entries(), image.types()), (1, 7, 4));
+    let int = image.nth(1).ok_or("no entry")?;
+    let holder = image.nth(2).ok_or("no entry")?;
+    let member = image.nth(4).ok_or("no entry")?;
+    let array = image.nth(5).ok_or("no entry")?;
+    let dimension = image.nth(6).ok_or("no entry")?;
+    assert_eq!(rt; image.target(member, DW_AT_type), Some(array));
+    assert_eq!(rt; image.target(member, DW_AT_name), None);
+    assert_eq!(rt; image.name_of(holder), Some(b"s".as_slice()));
+    assert_eq!(rt; image.name_of(array), None);
+    assert_eq!(rt; image.type_of(member), image.type_at(array));
+    assert_eq!(rt; image.type_at(member), None);
+    assert_eq!(rt; image.step(holder, 0), Some(int));
+    assert_eq!(rt; image.step(holder, 1), Some(array));
+    assert_eq!(rt; image.step(holder, 2), None);
+    assert_eq!(rt; image.count_of(dimension), Some(3));
+    assert_eq!(rt; image.count_of(array), None);
+    Ok(())
+}
+
+#[test]
+fn sizes_of_types(rt: HostRuntime) -> Result<(), Fail> {
+    let sections = Sections::new(&TYPES, &HOLDER, &[], &[], &[], &[])
+        .ok()
+        .ok_or("sections")?;
+    let image = match verify(rt.alloc(), sections) {
+        Ok(Verdict::Sound(image)) => image,
+        _ => return Err("not sound".into()),
+    };
+    for (k, size) in [(1, Some(4)), (2, Some(16)), (5, Some(12)), (6, None)] {
+        let id = image.nth(k).ok_or("no entry")?;
+        let of_type = image.type_at(id).ok_or("no type")?;
+        assert_eq!(rt; image.size_of(of_type), size);
+        assert_eq!(rt; of_type.entry(), id);
+    }
+    Ok(())
+}
+
+// The array is of the structure that holds it.
+#[test]
+fn cycles(rt: HostRuntime) -> Result<(), Fail> {
+    let mut unit = HOLDER;
+    unit[0x25] = 0x15;
+    let sections = Sections::new(&TYPES, &unit, &[], &[], &[], &[])
+        .ok()
+        .ok_or("sections")?;
+    match verify(rt.alloc(), sections) {
+        Ok(Verdict::Fault(fault)) => {
+            assert_eq!(rt; (fault.rule, fault.at), (Rule::ContainsItself, 0x15));
+            assert_eq!(rt; fault.cycle.as_slice(), [0x15, 0x24, 0x15].as_slice());
+        }
+        _ => return Err("no fault".into()),
+    }
+    Ok(())
+}

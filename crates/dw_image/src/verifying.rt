@@ -4,8 +4,10 @@ ghost use Rattle.std.specs.Prelude.{IfOk, IfErr};
 ghost use Rattle.dw_image.specs.Headline.{IsImageOf, IsFaultOf, IsVerdictOf, IfFaulty};
 
 use crate::image::Image;
+use crate::measuring::measure;
 use dw_elf::Sections;
 use dw_entries::{Fault, Stop, scan};
+use dw_links::{check_classes, check_strings, link};
 use std::alloc::{AllocError, Global};
 
 /// A growth was refused.
@@ -33,7 +35,27 @@ fn image_of<'a>(alloc: Global, sections: Sections<'a>) -> Result<Image<'a>, Stop
     ensures fault { IfErr result (IfFaulty (IsFaultOf sections.entry)) }
 {
     let entries = scan(alloc, &sections)?;
-    Ok(Image { entries })
+    if let Err(fault) = check_classes(alloc, &entries) {
+        return Err(Stop::Fault(fault));
+    }
+    if let Err(fault) = check_strings(alloc, &entries) {
+        return Err(Stop::Fault(fault));
+    }
+    let links = match link(alloc, &entries) {
+        Ok(links) => links,
+        Err(stop) => return Err(stop),
+    };
+    let (steps, sizes) = match measure(alloc, &entries, &links) {
+        Ok(measured) => measured,
+        Err(stop) => return Err(stop),
+    };
+    let tables = links.into_tables();
+    Ok(Image {
+        entries,
+        tables,
+        steps,
+        sizes,
+    })
 }
 
 /// Whether the sections are valid: their image, or the first fault.

@@ -2,7 +2,7 @@ use Rattle.std.proofs.Common.{subst, ap, ◌∙◌}
 use Rattle.dw_entries.specs.Entries.{entries_of}
 use Rattle.dw_entries.specs.Scanned.{units_of}
 use Rattle.dw_image.specs.Lookups.{siblings_from, IsLinked}
-use Rattle.dw_image.proofs.ChildLemmas.{linked_within, next_of_head, fewer_left}
+use Rattle.dw_image.proofs.ChildSteps.{linked_within, next_of_head, fewer_left}
 use Rattle.dw_image.proofs.children.ChildrenIterator.next.Goals as goal
 
 pub head-requires : goal.head-requires

@@ -1,0 +1,87 @@
+-- The groups in their order, as they are asked.
+use Rattle.std.proofs.Common.{◌≡◌, ℕ, ◌+◌, ◌<◌, List, refl, sym, subst, arith, inl, inr}
+use Rattle.dw_elf.specs.declared.sections.Sections.{Sections}
+use Rattle.dw_entries.specs.declared.fault.Fault.{Fault}
+use Rattle.dw_entries.specs.declared.fault.Stop.{Stop}
+use Rattle.dw_entries.specs.declared.fault.Stop.TheVariants as stops
+use Rattle.dw_entries.specs.declared.entries.Entries.{Entries}
+use Rattle.dw_entries.specs.Failures.{HasNone, IsFirst}
+use Rattle.dw_entries.specs.Scanned.{units_of}
+use Rattle.dw_entries.specs.Stopped.{IsFault, IfFault}
+use Rattle.dw_entries.specs.Units.{DebugUnit}
+use Rattle.dw_entries.specs.Views.{sections_of}
+use Rattle.dw_links.specs.Classes.{ClassFailures}
+use Rattle.dw_links.specs.Strings.{StringFailures}
+use Rattle.dw_links.specs.References.{ReferenceFailures}
+use Rattle.dw_types.specs.FactsOf.{facts_in}
+use Rattle.dw_image.specs.declared.image.Image.{Image}
+use Rattle.dw_image.specs.Images.{sections_in, units_in, size_table_in}
+use Rattle.dw_image.specs.First.{Group, classes, strings, references, turn_of, failures_of, IsFirstIn, IsFirstFault, in_group}
+use Rattle.dw_image.specs.Headline.{IsImageOf, IsFaultOf, IfFaulty}
+use Rattle.dw_image.specs.Measures.{AreMeasures, FailsInTypes}
+use Rattle.dw_image.proofs.GroupLaws.{HoldBefore, none_before, one_more}
+use Rattle.dw_image.proofs.JoinLemmas.{image_of, fault_of}
+use Rattle.dw_image.proofs.OneFirst.{three_ways}
+
+-- the first failure of a group, over the entries that a scan found
+faulty : (s : Sections) (entries : Entries) (group : Group) (fault : Fault) → entries.sections ≡ s
+    → HoldBefore (sections_of entries) (units_of entries.scanned) (turn_of group)
+    → IsFirstIn (sections_of entries) (units_of entries.scanned) group fault → IsFaultOf s fault
+faulty s entries group fault same before first =
+    fault_of s fault (subst (λ t. IsFirstFault t fault) same
+    (in_group group (record { units = entries.scanned.0; spelled = entries.scanned.1.spells; before = before; first = first })))
+
+pub wrong_class : (s : Sections) (entries : Entries) (fault : Fault) → entries.sections ≡ s → IsFault (IsFirst (ClassFailures (units_of entries.scanned))) fault → IsFaultOf s fault
+wrong_class s entries fault same first = faulty s entries classes fault same (none_before (sections_of entries) (units_of entries.scanned)) first
+
+-- classes hold
+abbrev ClassesHold : Entries → Type 0
+ClassesHold entries = HasNone (ClassFailures (units_of entries.scanned))
+
+-- strings hold
+abbrev StringsHold : Entries → Type 0
+StringsHold entries = HasNone (StringFailures (sections_of entries) (units_of entries.scanned))
+
+before_strings : (entries : Entries) → ClassesHold entries → HoldBefore (sections_of entries) (units_of entries.scanned) 3
+before_strings entries none = one_more (sections_of entries) (units_of entries.scanned) classes (none_before (sections_of entries) (units_of entries.scanned)) none
+
+before_references : (entries : Entries) → ClassesHold entries → StringsHold entries → HoldBefore (sections_of entries) (units_of entries.scanned) 4
+before_references entries none nor = one_more (sections_of entries) (units_of entries.scanned) strings (before_strings entries none) nor
+
+before_types : (entries : Entries) → ClassesHold entries → StringsHold entries → HasNone (ReferenceFailures (units_of entries.scanned)) → HoldBefore (sections_of entries) (units_of entries.scanned) 5
+before_types entries none nor neither = one_more (sections_of entries) (units_of entries.scanned) references (before_references entries none nor) neither
+
+pub wrong_string : (s : Sections) (entries : Entries) (fault : Fault) → entries.sections ≡ s → ClassesHold entries
+    → IsFault (IsFirst (StringFailures (sections_of entries) (units_of entries.scanned))) fault → IsFaultOf s fault
+wrong_string s entries fault same none first = faulty s entries strings fault same (before_strings entries none) first
+
+pub wrong_reference : (s : Sections) (entries : Entries) (stop : Stop) → entries.sections ≡ s → ClassesHold entries → StringsHold entries
+    → IfFault (IsFirst (ReferenceFailures (units_of entries.scanned))) stop → IfFaulty (IsFaultOf s) stop
+wrong_reference s entries stops.Memory same none nor first = tt
+wrong_reference s entries (stops.Fault fault) same none nor first = faulty s entries references fault same (before_references entries none nor) first
+
+wrong_types : (s : Sections) (entries : Entries) (fault : Fault) → entries.sections ≡ s → ClassesHold entries → StringsHold entries → HasNone (ReferenceFailures (units_of entries.scanned))
+    → FailsInTypes (sections_of entries) (units_of entries.scanned) fault → IsFaultOf s fault
+wrong_types s entries fault same none nor neither fails =
+    faulty s entries fails.group fault same
+    (λ earlier less. elim (three_ways 4 (turn_of earlier)) [
+      | inl (inl late) ↦ fails.before earlier late less
+      | inl (inr here) ↦ before_types entries none nor neither earlier (omega (arith, here))
+      | inr early ↦ before_types entries none nor neither earlier (omega (arith, early))
+    ])
+    fails.first
+
+pub wrong_type : (s : Sections) (entries : Entries) (stop : Stop) → entries.sections ≡ s → ClassesHold entries → StringsHold entries → HasNone (ReferenceFailures (units_of entries.scanned))
+    → IfFaulty (FailsInTypes (sections_of entries) (units_of entries.scanned)) stop → IfFaulty (IsFaultOf s) stop
+wrong_type s entries stops.Memory same none nor neither fails = tt
+wrong_type s entries (stops.Fault fault) same none nor neither fails = wrong_types s entries fault same none nor neither fails
+
+-- the image over the entries that a scan found, of which all rules hold
+pub image_of_entries : (s : Sections) (image : Image) → image.entries.sections ≡ s → ClassesHold image.entries → StringsHold image.entries → HasNone (ReferenceFailures (units_of image.entries.scanned))
+    → IsImageOf s image
+unfolding sections_in units_in size_table_in
+image_of_entries s image same none nor neither =
+    let m = image.measured in
+    image_of s image same
+    (record { trees = image.entries.scanned.1.spells; classes = none; strings = nor; references = neither; shapes = m.shapes; contained = m.contained; sizes = (size_table_in image, m.sizes) })
+    m.sizes

@@ -1,0 +1,34 @@
+-- What is made of the types of entries, and how it fails.
+use Rattle.std.specs.Prelude.{◌≡◌, ℕ, ◌<◌, List, length}
+use Rattle.dw_elf.specs.declared.sections.Sections.{Sections}
+use Rattle.dw_entries.specs.declared.fault.Fault.{Fault}
+use Rattle.dw_entries.specs.Failures.{HasNone}
+use Rattle.dw_entries.specs.Units.{DebugUnit}
+use Rattle.dw_types.specs.declared.facts.Facts.{Facts}
+use Rattle.dw_types.specs.declared.packed.Packed.{Packed}
+use Rattle.dw_types.specs.Graphs.{Graph, HasNoCycle}
+use Rattle.dw_types.specs.Packing.{cut}
+use Rattle.dw_types.specs.Shapes.{ShapeFailures}
+use Rattle.dw_types.specs.Steps.{by_value}
+use Rattle.dw_types.specs.SizeTables.{Size, size_at}
+use Rattle.dw_image.specs.First.{Group, turn_of, failures_of, IsFirstIn}
+use Rattle.dw_image.specs.Valid.{HasSizes}
+
+-- the graph that is packed in two vectors
+abbrev pub graph_of : Packed → Graph
+graph_of packed = cut packed.steps.items 0 packed.ends.items
+
+-- no rule on types fails, and these are the steps by value and the sizes
+pub record AreMeasures (facts : List Facts) (steps : Packed) (table : List Size) : Type 0 where
+  pub shapes : HasNone (ShapeFailures facts)
+  pub graph : graph_of steps ≡ by_value facts
+  pub contained : HasNoCycle (by_value facts)
+  pub long : length table ≡ length facts
+  pub sizes : HasSizes facts (size_at table)
+
+-- the first failure of the groups on types: no rule of an earlier one of them fails
+pub record FailsInTypes (s : Sections) (units : List DebugUnit) (fault : Fault) : Type 0 where
+  pub group : Group
+  pub late : 4 < turn_of group
+  pub before : (earlier : Group) → 4 < turn_of earlier → turn_of earlier < turn_of group → HasNone (failures_of s units earlier)
+  pub first : IsFirstIn s units group fault

@@ -1,0 +1,89 @@
+//! The groups of rules on types: shapes, containment, sizes.
+
+ghost use Rattle.std.specs.Prelude.{◌≡◌, ◌<◌, length, map, IfOk, IfErr};
+ghost use Rattle.dw_entries.specs.Entries.{entries_of};
+ghost use Rattle.dw_entries.specs.Scanned.{units_of};
+ghost use Rattle.dw_entries.specs.Views.{sections_of};
+ghost use Rattle.dw_types.specs.FactsOf.{facts_in};
+ghost use Rattle.dw_types.specs.Graphs.{IsCycle};
+ghost use Rattle.dw_types.specs.Steps.{by_value};
+ghost use Rattle.dw_image.specs.First.{offset_at, NamesCycle};
+ghost use Rattle.dw_image.specs.Headline.{IfFaulty};
+ghost use Rattle.dw_image.specs.Measures.{AreMeasures, FailsInTypes};
+
+use dw_entries::{Entries, Fault, Rule, Section, Stop};
+use dw_links::Links;
+use dw_types::{ByValue, OrderFault, Packed, SizeTable, order, sizes};
+use std::alloc::{AllocError, Global};
+
+/// Where the entry with a number begins.
+fn offset_of(entries: &Entries<'_>, number: usize) -> u32
+    requires { number < length (entries_of (units_of entries.now.scanned)) }
+    ensures { result ≡ offset_at (facts_in (units_of entries.now.scanned)) number }
+{
+    entries.head(entries.id(number)).offset
+}
+
+/// The offsets of entries, in their order.
+fn offsets_of(
+    alloc: Global,
+    entries: &Entries<'_>,
+    numbers: &[usize],
+) -> Result<Vec<u32>, AllocError>
+    requires { IsCycle (by_value (facts_in (units_of entries.now.scanned))) numbers.now }
+    ensures { IfOk result (λ offsets. offsets.items ≡ map (offset_at (facts_in (units_of entries.now.scanned))) numbers.now) }
+{
+    let mut offsets = Vec::with_capacity(alloc, numbers.len())?;
+    for k in 0..numbers.len() {
+        offsets.push(offset_of(entries, numbers[k]))?;
+    }
+    Ok(offsets)
+}
+
+/// The fault that names a cycle of steps by value.
+fn cycle_fault(alloc: Global, entries: &Entries<'_>, numbers: &[usize]) -> Result<Fault, AllocError>
+    requires { IsCycle (by_value (facts_in (units_of entries.now.scanned))) numbers.now }
+    ensures { IfOk result (NamesCycle (facts_in (units_of entries.now.scanned))) }
+{
+    let at = offset_of(entries, numbers[0]);
+    let cycle = offsets_of(alloc, entries, numbers)?;
+    Ok(Fault {
+        rule: Rule::ContainsItself,
+        section: Section::Info,
+        at,
+        attribute: 0,
+        cycle,
+    })
+}
+
+/// Follows the steps by value of entries, orders them and measures them by that order, or finds the first fault of the
+/// rules on types.
+pub fn measure(
+    alloc: Global,
+    entries: &Entries<'_>,
+    links: &Links<'_, '_>,
+) -> Result<(Packed, SizeTable), Stop>
+    requires { units_of links.now.entries.now.scanned ≡ units_of entries.now.scanned }
+    ensures sound { IfOk result (λ it. AreMeasures (facts_in (units_of entries.now.scanned)) it.0 it.1) }
+    ensures fault { IfErr result (IfFaulty (FailsInTypes (sections_of entries.now) (units_of entries.now.scanned))) }
+{
+    let by_value = match ByValue::new(alloc, entries, links) {
+        Ok(by_value) => by_value,
+        Err(stop) => return Err(stop),
+    };
+    let Ok(steps) = Packed::new(alloc, &by_value) else {
+        return Err(Stop::Memory);
+    };
+    drop(by_value);
+    match order(alloc, &steps) {
+        Ok(order) => match sizes(alloc, entries, links, &order) {
+            Ok(sizes) => Ok((steps, sizes)),
+            Err(stop) => Err(stop),
+        },
+        Err(OrderFault::Cycle(nodes)) => match cycle_fault(alloc, entries, nodes.as_slice()) {
+            Ok(fault) => Err(Stop::Fault(fault)),
+            Err(_) => Err(Stop::Memory),
+        },
+        Err(OrderFault::Memory) => Err(Stop::Memory),
+    }
+}

@@ -1,0 +1,80 @@
+//! Look-ups of types in an image: what holds which by value, how large they are, how many elements a dimension has.
+
+ghost use Rattle.std.specs.Prelude.{◌≡◌, ◌<◌, length, slice_get, IfSome, option_and_then};
+ghost use Rattle.dw_forms.specs.Codes.{DW_AT_type};
+ghost use Rattle.dw_entries.specs.Entries.{placed};
+ghost use Rattle.dw_links.specs.Targets.{target_of};
+ghost use Rattle.dw_types.specs.Counts.{count_at};
+ghost use Rattle.dw_types.specs.FactsOf.{facts_in};
+ghost use Rattle.dw_types.specs.Graphs.{steps_of};
+ghost use Rattle.dw_image.specs.Images.{units_in, entries_in, steps_in, size_table_in};
+ghost use Rattle.dw_image.specs.Lookups.{type_number};
+
+use crate::id::TypeId;
+use crate::image::Image;
+use dw_entries::EntryId;
+use dw_entries::constants::DW_AT_type;
+use dw_types::{StepGraph, count_at};
+
+impl Image<'_> {
+    /// The type at an entry. None where its tag is no type's.
+    #[tactic(auto, unfolding(crate::specs::Images::units_in))]
+    pub fn type_at(&self, id: EntryId) -> Option<TypeId>
+        requires { id < length (entries_in self.now) }
+        ensures exact { result ≡ type_number (entries_in self.now) id }
+        ensures within { IfSome result (λ it. it < length (entries_in self.now)) }
+    {
+        if self.entries.head(id).tag.is_type() {
+            Some(TypeId::new(id))
+        } else {
+            None
+        }
+    }
+
+    /// The type that an entry's DW_AT_type reaches (DWARF 5, section 2.2).
+    #[tactic(auto, unfolding(crate::specs::Images::units_in))]
+    pub fn type_of(&self, id: EntryId) -> Option<TypeId>
+        requires { id < length (entries_in self.now) }
+        ensures exact { IfSome (slice_get (entries_in self.now) id) (λ e. result ≡ option_and_then (type_number (entries_in self.now)) (target_of (entries_in self.now) (placed (units_in self.now)) e DW_AT_type)) }
+        ensures within { IfSome result (λ it. it < length (entries_in self.now)) }
+    {
+        match self.tables.target(&self.entries, id, DW_AT_type) {
+            Some(to) => self.type_at(to),
+            None => None,
+        }
+    }
+
+    /// The size of a type in bytes, below 2^63. None where its size is not known.
+    #[tactic(auto, unfolding(crate::specs::Images::units_in, crate::specs::Images::size_table_in))]
+    pub fn size_of(&self, id: TypeId) -> Option<u64>
+        requires { id < length (entries_in self.now) }
+        ensures { result ≡ size_table_in self.now id }
+    {
+        self.sizes.get(id.entry())
+    }
+
+    /// The known count of a dimension: how many elements it has (DWARF 5, section 5.13). None for any other entry.
+    #[tactic(auto, unfolding(crate::specs::Images::units_in))]
+    pub fn count_of(&self, id: EntryId) -> Option<u128>
+        requires { id < length (entries_in self.now) }
+        ensures { result ≡ count_at (facts_in (units_in self.now)) id }
+    {
+        count_at(&self.entries, id)
+    }
+
+    /// The k-th entry, from 0, that an entry holds by value: its type, the types of its plain members in their order,
+    /// what its signature names. None past the last.
+    #[tactic(auto, unfolding(crate::specs::Images::units_in, crate::specs::Images::steps_in))]
+    pub fn step(&self, id: EntryId, k: usize) -> Option<EntryId>
+        requires { id < length (entries_in self.now) }
+        ensures exact { result ≡ slice_get (steps_of (steps_in self.now) id) k }
+        ensures within { IfSome result (λ to. to < length (entries_in self.now)) }
+    {
+        let node = id.number();
+        if k < self.steps.steps(node) {
+            Some(self.entries.id(self.steps.step(node, k)))
+        } else {
+            None
+        }
+    }
+}
