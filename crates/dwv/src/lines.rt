@@ -21,17 +21,27 @@ fn put_offset(text: &mut Vec<u8>, n: u32) -> Result<(), AllocError>
 
 /// `sound: U units, E entries, T types`.
 #[tactic(auto, unfolding(crate::specs::Lines::sound_line))]
+fn put_counts(text: &mut Vec<u8>, units: u64, entries: u64, types: u64) -> Result<(), AllocError>
+    ensures ok { OnOk result (text.new.items ≡ text.old.items ++ sound_line units entries types) }
+{
+    text.extend_from_slice(b"sound: ")?;
+    put_decimal(text, units)?;
+    text.extend_from_slice(b" units, ")?;
+    put_decimal(text, entries)?;
+    text.extend_from_slice(b" entries, ")?;
+    put_decimal(text, types)?;
+    text.extend_from_slice(b" types\n")
+}
+
+/// The line of sound sections.
 pub fn put_sound_line(text: &mut Vec<u8>, image: &Image<'_>) -> Result<(), AllocError>
     ensures ok { OnOk result (text.new.items
         ≡ text.old.items ++ sound_line (unit_count image.now) (entry_count image.now) (type_count image.now)) }
 {
-    text.extend_from_slice(b"sound: ")?;
-    put_decimal(text, image.units() as u64)?;
-    text.extend_from_slice(b" units, ")?;
-    put_decimal(text, image.entries() as u64)?;
-    text.extend_from_slice(b" entries, ")?;
-    put_decimal(text, image.types() as u64)?;
-    text.extend_from_slice(b" types\n")
+    let units = image.units() as u64;
+    let entries = image.entries() as u64;
+    let types = image.types() as u64;
+    put_counts(text, units, entries, types)
 }
 
 /// `fault RULE NAME`.

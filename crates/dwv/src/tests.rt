@@ -3,7 +3,9 @@
 mod devices;
 mod elf;
 mod files;
+mod links;
 mod sections;
+mod types;
 mod units;
 mod words;
 
