@@ -13,6 +13,7 @@ all:
 test:
 	rt ci
 	tests/real-programs.sh
+	tests/hostile-files.py
 
 # Proves what changed, in every crate, over what earlier runs kept.
 .PHONY: check

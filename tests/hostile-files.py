@@ -1,0 +1,123 @@
+#!/usr/bin/env python3
+"""Runs `dwv check` on files that are small and mean work: deep trees, long chains, one string with many names.
+
+Each has to be answered with the stated line within the time limit, and no run may crash. It prints one line a file with the
+seconds it took, and ends with 'N passed, M failed'.
+"""
+import pathlib
+import struct
+import subprocess
+import sys
+import tempfile
+import time
+
+DWV = pathlib.Path(__file__).resolve().parent.parent / "crates/dwv/out/dwv"
+# Seconds that a run may take at most, far above what it takes, since other work may run beside it.
+LIMIT = 20
+MANY = 100_000
+
+
+def elf(sections):
+    """A linked ELF64 file with these sections, by name."""
+    names = b"\0" + b".shstrtab\0"
+    headers = [bytes(64)]
+    body = bytearray()
+    for name, data in sections:
+        at = len(names)
+        names += name.encode() + b"\0"
+        headers.append(struct.pack("<IIQQQQIIQQ", at, 1, 0, 0, 64 + len(body), len(data), 0, 0, 1, 0))
+        body += data
+    headers.append(struct.pack("<IIQQQQIIQQ", 1, 3, 0, 0, 64 + len(body), len(names), 0, 0, 1, 0))
+    body += names
+    start = 64 + len(body)
+    ident = b"\x7fELF\x02\x01\x01" + bytes(9)
+    head = ident + struct.pack("<HHIQQQIHHHHHH", 2, 62, 1, 0, 0, start, 0, 64, 0, 0, 64, len(headers), len(headers) - 1)
+    return head + bytes(body) + b"".join(headers)
+
+
+def unit(items, kind=1, more=b""):
+    """A version 5 unit: its header, and its items."""
+    body = struct.pack("<HBBI", 5, kind, 8, 0) + more + items
+    return struct.pack("<I", len(body)) + body
+
+
+# 1 compile unit, 2 base type with a size, 3 typedef with a type, 4 structure with a size, 5 member with a type, 6 array with a
+# type, 7 dimension with a count of 8 bytes, 8 variable with a name by offset, 9 type unit, 10 variable with a type by signature
+TABLE = bytes.fromhex(
+    "0111010000" "0224000b0b0000" "0316004913" "0000" "0413010b0b0000" "050d0049130000"
+    "0601014913" "0000" "07210037070000" "083400030e0000" "0941010000" "0a340049200000" "00")
+INT = bytes([2, 4])
+# Where the first item behind a compile unit's entry stands.
+FIRST = 13
+
+
+def typedefs(first, count):
+    """Typedefs in a row, each of the one before; the first is of the entry at an offset."""
+    out, to = bytearray(), first
+    at = FIRST + len(INT)
+    for _ in range(count):
+        out += b"\x03" + struct.pack("<I", to)
+        to, at = at, at + 5
+    return bytes(out)
+
+
+def files():
+    """Each file: its name, its sections, and the beginning of the line that it must get."""
+    def sections(info, strings=b""):
+        return [(".debug_abbrev", TABLE), (".debug_info", info), (".debug_str", strings)]
+
+    nested = b"\x01" + b"\x04\x01" * MANY + b"\0" * (MANY + 1)
+    yield f"{MANY:,} nested structures", sections(unit(nested)), f"sound: 1 units, {MANY + 1} entries, {MANY} types"
+
+    chain = b"\x01" + INT + typedefs(FIRST, MANY) + b"\0"
+    yield f"a chain of {MANY:,} typedefs", sections(unit(chain)), f"sound: 1 units, {MANY + 2} entries, {MANY + 1} types"
+
+    last = FIRST + len(INT) + 5 * (MANY - 1)
+    ring = b"\x01" + INT + typedefs(last, MANY) + b"\0"
+    yield f"a ring of {MANY:,} typedefs", sections(unit(ring)), f"fault C1 ContainsItself at .debug_info+0x{FIRST + len(INT):08x} "
+
+    text = b"a" * (4 << 20) + b"\0"
+    names = b"\x01" + b"\x08\0\0\0\0" * 2 * MANY + b"\0"
+    yield f"one string of 4 MB with {2 * MANY:,} names", sections(unit(names), text), f"sound: 1 units, {2 * MANY + 1} entries, 0 types"
+
+    counts = b"".join(b"\x07" + struct.pack("<Q", n) for n in (1 << 40, 1 << 40, 0))
+    array = b"\x01" + INT + b"\x06" + struct.pack("<I", FIRST) + counts + b"\0\0"
+    yield "an array of 2^40 by 2^40 by 0", sections(unit(array)), "sound: 1 units, 6 entries, 5 types"
+
+    ones = (b"\x07" + struct.pack("<Q", 1)) * MANY
+    array = b"\x01" + INT + b"\x06" + struct.pack("<I", FIRST) + ones + b"\0\0"
+    yield f"an array of {MANY:,} dimensions", sections(unit(array)), f"sound: 1 units, {MANY + 3} entries, {MANY + 2} types"
+
+    member = b"\x05" + struct.pack("<I", FIRST)
+    holder = b"\x01" + INT + b"\x04\x04" + member * MANY + b"\0\0"
+    yield f"a structure of {MANY:,} members", sections(unit(holder)), f"sound: 1 units, {MANY + 3} entries, 2 types"
+
+    signed = b"".join(unit(b"\x09" + INT + b"\0", 2, struct.pack("<QI", n, 25)) for n in range(MANY))
+    users = unit(b"\x01" + b"".join(b"\x0a" + struct.pack("<Q", n) for n in range(MANY)) + b"\0")
+    yield f"{MANY:,} type units and references to each", sections(signed + users), f"sound: {MANY + 1} units, {3 * MANY + 1} entries, {MANY} types"
+
+
+def main():
+    passed = failed = 0
+    with tempfile.TemporaryDirectory() as folder:
+        path = pathlib.Path(folder) / "file"
+        for name, sections, want in files():
+            path.write_bytes(elf(sections))
+            before = time.monotonic()
+            try:
+                ran = subprocess.run([DWV, "check", path], capture_output=True, text=True, timeout=LIMIT)
+                said = f"{ran.stdout}{ran.stderr}"
+            except subprocess.TimeoutExpired:
+                said = f"no answer within {LIMIT} seconds"
+            seconds = time.monotonic() - before
+            if said.startswith(want):
+                passed += 1
+                print(f"passed {name}: {seconds:.3f} s")
+            else:
+                failed += 1
+                print(f"FAILED {name}: {said[:200]!r}, {seconds:.3f} s")
+    print(f"{passed} passed, {failed} failed")
+    return 1 if failed else 0
+
+
+sys.exit(main())
