@@ -113,51 +113,70 @@ fn signatures(rt: HostRuntime) -> Result<(), Fail> {
     )
 }
 
+/// A unit of version 5: its length, and the items behind its header.
+fn unit(alloc: Global, length: u8, items: &[u8]) -> Result<Vec<u8>, Fail> {
+    let header = [length, 0, 0, 0, 5, 0, 1, 8, 0, 0, 0, 0];
+    Ok(joined(alloc, &[&header, items], &[])?)
+}
+
+/// Whether the report of a unit by table I, with one of its bytes changed, is this line.
+fn is_permitted(
+    alloc: Global,
+    unit: &[u8],
+    place: usize,
+    byte: u8,
+    line: &str,
+) -> Result<bool, Fail> {
+    let table = joined(alloc, &[&I, &[0]], &[])?;
+    let info = joined(alloc, &[unit], &[(place, byte)])?;
+    let sections = Sections::new(table.as_slice(), info.as_slice(), &[], &[], &[], &[]).ok();
+    is_line(alloc, sections.ok_or("sections")?, line)
+}
+
 #[test]
-fn imports_and_specifications(rt: HostRuntime) -> Result<(), Fail> {
-    let table = joined(rt.alloc(), &[&I, &[0]], &[])?;
-    let header = [5, 0, 1, 8, 0, 0, 0, 0];
-    let import = [1, 2, 0x0c, 0, 0, 0, 0];
-    let specification = [1, 3, 4, 0x0d, 0, 0, 0, 4, 0];
-    let signature = [1, 3, 5, 0x0d, 0, 0, 0, 0];
-    let wrong_import = "fault R2 WrongKind at .debug_info+0x0000000d attribute 0x18";
-    let wrong_specification = "fault R2 WrongKind at .debug_info+0x0000000e attribute 0x47";
-    check(
-        &rt,
-        table.as_slice(),
-        &[
-            (
-                &[&[0x0f, 0, 0, 0], &header, &import],
-                &[],
-                "sound: 1 units, 2 entries, 0 types",
-            ),
-            (
-                &[&[0x0f, 0, 0, 0], &header, &import],
-                &[(0x0e, 0x0d)],
-                wrong_import,
-            ),
-            (
-                &[&[0x11, 0, 0, 0], &header, &specification],
-                &[],
-                "sound: 1 units, 3 entries, 2 types",
-            ),
-            (
-                &[&[0x11, 0, 0, 0], &header, &specification],
-                &[(0x0f, 0x0e)],
-                wrong_specification,
-            ),
-            (
-                &[&[0x11, 0, 0, 0], &header, &specification],
-                &[(0x0f, 0x0c)],
-                wrong_specification,
-            ),
-            (
-                &[&[0x10, 0, 0, 0], &header, &signature],
-                &[],
-                "fault R2 WrongKind at .debug_info+0x0000000e attribute 0x69",
-            ),
-        ],
-    )
+fn imports(rt: HostRuntime) -> Result<(), Fail> {
+    let unit = unit(rt.alloc(), 0x0f, &[1, 2, 0x0c, 0, 0, 0, 0])?;
+    let rows = [
+        (0x0c, "sound: 1 units, 2 entries, 0 types"),
+        (
+            0x0d,
+            "fault R2 WrongKind at .debug_info+0x0000000d attribute 0x18",
+        ),
+    ];
+    for (byte, line) in rows {
+        assert!(rt;
+            is_permitted(rt.alloc(), unit.as_slice(), 0x0e, byte, line)?,
+            "{line}"
+        );
+    }
+    Ok(())
+}
+
+#[test]
+fn specifications(rt: HostRuntime) -> Result<(), Fail> {
+    let unit = unit(rt.alloc(), 0x11, &[1, 3, 4, 0x0d, 0, 0, 0, 4, 0])?;
+    let wrong = "fault R2 WrongKind at .debug_info+0x0000000e attribute 0x47";
+    let rows = [
+        (0x0d, "sound: 1 units, 3 entries, 2 types"),
+        (0x0e, wrong),
+        (0x0c, wrong),
+    ];
+    for (byte, line) in rows {
+        assert!(rt;
+            is_permitted(rt.alloc(), unit.as_slice(), 0x0f, byte, line)?,
+            "{line}"
+        );
+    }
+    Ok(())
+}
+
+// A structure has its signature in form ref_sig8 alone.
+#[test]
+fn signatures_by_offset(rt: HostRuntime) -> Result<(), Fail> {
+    let unit = unit(rt.alloc(), 0x10, &[1, 3, 5, 0x0d, 0, 0, 0, 0])?;
+    let line = "fault R2 WrongKind at .debug_info+0x0000000e attribute 0x69";
+    assert!(rt; is_permitted(rt.alloc(), unit.as_slice(), 0x0f, 0x0d, line)?);
+    Ok(())
 }
 
 /// Whether the report of unit J with these offsets and strings is this line.
