@@ -14,6 +14,7 @@ test:
 	rt ci
 	tests/real-programs.sh
 	tests/hostile-files.py
+	tests/refused-growths.py
 
 # Proves what changed, in every crate, over what earlier runs kept.
 .PHONY: check

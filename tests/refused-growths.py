@@ -1,0 +1,73 @@
+#!/usr/bin/env python3
+"""Refuses each growth of memory in turn: the answer is then want of memory, with nothing written, or the same as ever.
+
+Every request for memory that `dwv` makes on a file is refused once, by a malloc of our own (tests/refusing-malloc.c). It prints
+one line a command and ends with 'N passed, M failed'. Where there is no gcc it is skipped.
+"""
+import os
+import pathlib
+import shutil
+import subprocess
+import sys
+import tempfile
+
+HERE = pathlib.Path(__file__).resolve().parent
+DWV = HERE.parent / "crates/dwv/out/dwv"
+SMALL = HERE.parent / "crates/dwv/data/X1"
+MEMORY = (4, b"", b"dwv: out of memory\n")
+
+
+def ran(words, library, folder, refused):
+    """The status and both texts of a run in which one request is refused, and how many requests it made."""
+    count = folder / "requests"
+    count.unlink(missing_ok=True)
+    environment = dict(os.environ, LD_PRELOAD=str(library), REFUSED=str(refused), REQUESTS=str(count))
+    run = subprocess.run([DWV, *words], capture_output=True, env=environment, timeout=60)
+    return (run.returncode, run.stdout, run.stderr), int(count.read_text()) if count.exists() else 0
+
+
+def tried(words, library, folder):
+    """How many requests a run makes, how many of them end it when they are refused, and the first wrong answer."""
+    whole, requests = ran(words, library, folder, 0)
+    ended = 0
+    for number in range(1, requests + 1):
+        said, _ = ran(words, library, folder, number)
+        if said == MEMORY:
+            ended += 1
+        elif said != whole:
+            return requests, ended, f"request {number} refused: {said!r}"
+    return requests, ended, None
+
+
+def main():
+    if not shutil.which("gcc"):
+        print("skipped: gcc is not installed\n0 passed, 0 failed")
+        return 0
+    passed = failed = 0
+    with tempfile.TemporaryDirectory() as name:
+        folder = pathlib.Path(name)
+        library = folder / "refusing-malloc.so"
+        subprocess.run(["gcc", "-O1", "-shared", "-fPIC", "-o", library, HERE / "refusing-malloc.c", "-ldl"], check=True)
+        program = folder / "program"
+        subprocess.run(["gcc", "-gdwarf-5", "-O0", "-w", "-o", program, HERE / "programs/shapes.c", HERE / "programs/calls.c"], check=True)
+        for words in commands(program):
+            requests, ended, wrong = tried(words, library, folder)
+            line = " ".join(pathlib.Path(word).name for word in words)
+            if wrong is None and ended > 0:
+                passed += 1
+                print(f"passed dwv {line}: {requests} requests, {ended} of them end it with want of memory")
+            else:
+                failed += 1
+                print(f"FAILED dwv {line}: {wrong or 'no refused request ends it'}")
+    print(f"{passed} passed, {failed} failed")
+    return 1 if failed else 0
+
+
+def commands(program):
+    """The words of each run."""
+    for file in (SMALL, program):
+        yield ["check", str(file)]
+        yield ["check", "--json", str(file)]
+
+
+sys.exit(main())
