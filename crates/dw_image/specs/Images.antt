@@ -1,11 +1,13 @@
 -- What an image is seen as: the sections that were verified, and the units that these spell, with their entries.
-use Rattle.std.specs.Prelude.{ℕ, List, length}
+use Rattle.std.specs.Prelude.{ℕ, List, length, Option}
 use Rattle.std.specs.List.{count_by}
 use Rattle.dw_elf.specs.declared.sections.Sections.{Sections}
 use Rattle.dw_entries.specs.Units.{DebugUnit}
-use Rattle.dw_entries.specs.Entries.{Entry, entries_of}
+use Rattle.dw_forms.specs.Codes.{DW_AT_name}
+use Rattle.dw_entries.specs.Entries.{Entry, entries_of, placed}
 use Rattle.dw_entries.specs.Scanned.{units_of}
 use Rattle.dw_entries.specs.Views.{sections_of}
+use Rattle.dw_links.specs.AttributeTexts.{text_at}
 use Rattle.dw_types.specs.FactsOf.{facts_in}
 use Rattle.dw_types.specs.Graphs.{Graph}
 use Rattle.dw_types.specs.Steps.{by_value}
@@ -44,3 +46,7 @@ size_table_in i = size_at i.sizes
 -- the steps by value of each entry, by its number
 unfoldable pub steps_in : Image → Graph
 steps_in i = by_value (facts_in (units_in i))
+
+-- the name of an entry, if it has one
+unfoldable pub name_in : Image → Entry → Option (List ℕ)
+name_in i e = text_at (sections_in i) (entries_in i) (placed (units_in i)) e DW_AT_name

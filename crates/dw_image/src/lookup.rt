@@ -1,13 +1,11 @@
 //! Look-ups of entries in an image.
 
 ghost use Rattle.std.specs.Prelude.{◌≡◌, ◌<◌, length, slice_get, IfSome, option_map, option_copied};
-ghost use Rattle.dw_forms.specs.Codes.{DW_AT_name};
 ghost use Rattle.dw_forms.specs.Value.{view};
 ghost use Rattle.dw_entries.specs.Lookups.{nth_of, entry_head, value_at_entry};
 ghost use Rattle.dw_entries.specs.Entries.{placed};
-ghost use Rattle.dw_links.specs.AttributeTexts.{text_at};
 ghost use Rattle.dw_links.specs.Targets.{target_of};
-ghost use Rattle.dw_image.specs.Images.{sections_in, units_in, entries_in};
+ghost use Rattle.dw_image.specs.Images.{units_in, entries_in, name_in};
 ghost use Rattle.dw_image.specs.Lookups.{entry_at};
 
 use crate::image::Image;
@@ -62,10 +60,10 @@ impl<'a> Image<'a> {
     }
 
     /// The text of an entry's DW_AT_name, without its closing zero byte. None where the entry has no name.
-    #[tactic(auto, unfolding(crate::specs::Images::units_in, crate::specs::Images::sections_in))]
+    #[tactic(auto, unfolding(crate::specs::Images::units_in, crate::specs::Images::sections_in, crate::specs::Images::name_in))]
     pub fn name_of(&self, id: EntryId) -> Option<&'a [u8]>
         requires { id < length (entries_in self.now) }
-        ensures { IfSome (slice_get (entries_in self.now) id) (λ e. option_copied result ≡ text_at (sections_in self.now) (entries_in self.now) (placed (units_in self.now)) e DW_AT_name) }
+        ensures { IfSome (slice_get (entries_in self.now) id) (λ e. option_copied result ≡ name_in self.now e) }
     {
         self.tables.text(&self.entries, id, DW_AT_name)
     }
