@@ -1,3 +1,4 @@
 pub mod OutputLemmas
 pub mod ReportLemmas
 pub mod ObjectLemmas
+pub mod ShownLemmas

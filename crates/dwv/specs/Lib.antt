@@ -4,3 +4,4 @@ pub mod Lines
 pub mod Objects
 pub mod Reports
 pub mod Ending
+pub mod Shown

@@ -12,26 +12,34 @@ use Rattle.dw_image.specs.declared.image.Image.{Image}
 use Rattle.dw_image.specs.Headline.{IsImageOf, IsFaultOf}
 use Rattle.dw_image.specs.Images.{unit_count, entry_count, type_count}
 use Rattle.dwv.specs.Lines.{sound_line, elf_fault_line, fault_lines}
+use Rattle.dwv.specs.Shown.{show_lines, size_text, size_status, type_at_offset}
 use Rattle.dwv.specs.Objects.{sound_object, fault_object, elf_fault_object, object_line}
 use Rattle.dwv.specs.declared.request.Request.{Request}
-use Rattle.dwv.specs.declared.request.Request.TheVariants.{Check}
+use Rattle.dwv.specs.declared.request.Request.TheVariants.{Check, Show, Size}
 use Rattle.dwv.specs.declared.request.Status.{Status}
 use Rattle.dwv.specs.declared.request.Status.TheVariants.{Sound, Fault}
 
 -- a fault of the file: an object in JSON where it is asked, else a line
 abbrev pub elf_fault_text : Request → ElfFault → List ℕ
 elf_fault_text (Check true) f = object_line (elf_fault_object f)
-elf_fault_text (Check false) f = elf_fault_line f
+elf_fault_text _ f = elf_fault_line f
 
 -- a fault of the sections
 abbrev pub fault_text : Request → FirstFault → List ℕ
 fault_text (Check true) f = object_line (fault_object f)
-fault_text (Check false) f = fault_lines f
+fault_text _ f = fault_lines f
 
 -- what is written where the sections are sound
 abbrev pub sound_text : Request → Image → List ℕ
 sound_text (Check true) i = object_line (sound_object (unit_count i) (entry_count i) (type_count i))
 sound_text (Check false) i = sound_line (unit_count i) (entry_count i) (type_count i)
+sound_text Show i = show_lines i
+sound_text (Size offset) i = size_text i (type_at_offset i offset)
+
+-- what is answered there
+abbrev pub sound_status : Request → Image → Status
+sound_status (Size offset) i = size_status (type_at_offset i offset)
+sound_status _ i = Sound
 
 -- a file that is not within the limit
 abbrev pub too_large : ElfFault
@@ -43,7 +51,7 @@ pub data Report (limit : ℕ) (request : Request) (bytes : List ℕ) : Status �
   large : limit < length bytes → Report limit request bytes Fault (elf_fault_text request too_large)
   fails : (f : ElfFault) → length bytes ≤ limit → IsFault bytes f → Report limit request bytes Fault (elf_fault_text request f)
   fault : (s : Sections) (f : FirstFault) → length bytes ≤ limit → ChecksPass bytes → AreSections bytes s → IsFaultOf s f → Report limit request bytes Fault (fault_text request f)
-  sound : (s : Sections) (i : Image) → length bytes ≤ limit → ChecksPass bytes → AreSections bytes s → IsImageOf s i → Report limit request bytes Sound (sound_text request i)
+  sound : (s : Sections) (i : Image) → length bytes ≤ limit → ChecksPass bytes → AreSections bytes s → IsImageOf s i → Report limit request bytes (sound_status request i) (sound_text request i)
 
 -- a writer whose known bytes were `old` and are `new` has taken the report of these bytes
 abbrev pub WritesReport : ℕ → Request → List ℕ → Status → Option (List ℕ) → Option (List ℕ) → Type 0

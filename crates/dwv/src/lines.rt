@@ -12,7 +12,7 @@ use std::alloc::AllocError;
 
 /// An offset: `0x` and eight digits.
 #[tactic(auto, unfolding(crate::specs::Lines::offset_text))]
-fn put_offset(text: &mut Vec<u8>, n: u32) -> Result<(), AllocError>
+pub fn put_offset(text: &mut Vec<u8>, n: u32) -> Result<(), AllocError>
     ensures ok { OnOk result (text.new.items ≡ text.old.items ++ offset_text n) }
 {
     text.extend_from_slice(b"0x")?;

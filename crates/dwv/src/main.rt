@@ -11,6 +11,7 @@ mod output;
 mod report;
 mod request;
 mod running;
+mod shown;
 #[cfg(test)]
 mod tests;
 mod words;
@@ -47,6 +48,7 @@ fn answered<R: Env + Files + Print + AllocGlobal>(rt: &R) -> (u8, &'static str) 
     let (request, name) = match asked(rt) {
         Ok(asked) => asked,
         Err(WordsFault::BadUsage) => return (2, "dwv: bad usage"),
+        Err(WordsFault::BadOffset) => return (2, "dwv: bad offset"),
         Err(WordsFault::Memory) => return (4, "dwv: out of memory"),
     };
     let Ok(file) = fs::open(rt, name.as_str()) else {

@@ -1,11 +1,12 @@
 //! Which text answers a request over the bytes of a file.
 
 ghost use Rattle.std.specs.Prelude.{◌≡◌, IfOk};
-ghost use Rattle.dwv.specs.Reports.{fault_text, elf_fault_text, sound_text, Report};
+ghost use Rattle.dwv.specs.Reports.{fault_text, elf_fault_text, sound_text, sound_status, Report};
 
 use crate::json::{put_elf_fault_object, put_fault_object, put_sound_object};
 use crate::lines::{put_elf_fault_line, put_fault_lines, put_sound_line};
 use crate::request::{Request, Status};
+use crate::shown::{put_show_lines, put_size_at};
 use dw_elf::{ElfFault, ElfRule, find};
 use dw_image::{Fault, Image, NoMemory, Verdict, verify};
 use std::alloc::{AllocError, Global};
@@ -25,6 +26,8 @@ fn elf_fault_of(alloc: Global, request: Request, fault: ElfFault) -> Result<Vec<
     match request {
         Request::Check { json: true } => put_elf_fault_object(&mut text, alloc, fault)?,
         Request::Check { json: false } => put_elf_fault_line(&mut text, fault)?,
+        Request::Show => put_elf_fault_line(&mut text, fault)?,
+        Request::Size(_) => put_elf_fault_line(&mut text, fault)?,
     }
     Ok(text)
 }
@@ -37,20 +40,26 @@ fn fault_of(alloc: Global, request: Request, fault: &Fault) -> Result<Vec<u8>, A
     match request {
         Request::Check { json: true } => put_fault_object(&mut text, alloc, fault)?,
         Request::Check { json: false } => put_fault_lines(&mut text, fault)?,
+        Request::Show => put_fault_lines(&mut text, fault)?,
+        Request::Size(_) => put_fault_lines(&mut text, fault)?,
     }
     Ok(text)
 }
 
-/// What is written where the sections are sound.
-fn sound_of(alloc: Global, request: Request, image: &Image<'_>) -> Result<Vec<u8>, AllocError>
-    ensures { IfOk result (λ text. text.items ≡ sound_text request image.now) }
+/// What is answered where the sections are sound.
+fn sound_of(alloc: Global, request: Request, image: &Image<'_>) -> Result<Answer, AllocError>
+    ensures text { IfOk result (λ answer. answer.text.items ≡ sound_text request image.now) }
+    ensures status { IfOk result (λ answer. answer.status ≡ sound_status request image.now) }
 {
     let mut text = Vec::new(alloc);
+    let mut status = Status::Sound;
     match request {
         Request::Check { json: true } => put_sound_object(&mut text, alloc, image)?,
         Request::Check { json: false } => put_sound_line(&mut text, image)?,
+        Request::Show => put_show_lines(&mut text, image)?,
+        Request::Size(offset) => status = put_size_at(&mut text, image, offset)?,
     }
-    Ok(text)
+    Ok(Answer { status, text })
 }
 
 /// The answer to a request over the bytes of a file.
@@ -86,9 +95,8 @@ pub fn report(
             Ok(Answer { status, text })
         }
         Verdict::Sound(image) => {
-            let text = sound_of(alloc, request, &image)?;
-            let status = Status::Sound;
-            Ok(Answer { status, text })
+            let answer = sound_of(alloc, request, &image)?;
+            Ok(answer)
         }
     }
 }

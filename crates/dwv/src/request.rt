@@ -12,6 +12,10 @@ use thiserror::Error;
 pub enum Request {
     /// Whether the file is sound: a line, or an object in JSON.
     Check { json: bool },
+    /// Each entry on a line: its offset, its tag, its name and its size.
+    Show,
+    /// The size of the type whose entry begins at this offset of .debug_info.
+    Size(u32),
 }
 
 /// How an answered request ends.
@@ -21,6 +25,8 @@ pub enum Status {
     Sound,
     /// The file breaks a rule.
     Fault,
+    /// The file is sound, and no type's entry begins at the offset that was asked.
+    NotAType,
 }
 
 /// Why a request is not answered.

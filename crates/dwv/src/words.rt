@@ -10,6 +10,8 @@ use std::alloc::{AllocError, Global};
 pub enum WordsFault {
     /// The words have none of the program's forms.
     BadUsage,
+    /// The offset is not `0x` and 1 to 8 hexadecimal digits.
+    BadOffset,
     /// A growth was refused.
     Memory,
 }
@@ -20,18 +22,42 @@ impl From<AllocError> for WordsFault {
     }
 }
 
+/// The word that names the file.
+fn file_arg<'a>(alloc: Global) -> Arg<'a> {
+    Arg::new(alloc, "FILE")
+        .required(true)
+        .action(ArgAction::Set)
+}
+
 /// The forms of the words.
 fn forms<'a>(alloc: Global) -> Result<Command<'a>, AllocError> {
     let json = Arg::new(alloc, "json")
         .long("json")
         .action(ArgAction::SetTrue);
-    let file = Arg::new(alloc, "FILE")
+    let offset = Arg::new(alloc, "OFFSET")
         .required(true)
         .action(ArgAction::Set);
-    let check = Command::new(alloc, "check").arg(json)?.arg(file)?;
+    let check = Command::new(alloc, "check")
+        .arg(json)?
+        .arg(file_arg(alloc))?;
+    let show = Command::new(alloc, "show").arg(file_arg(alloc))?;
+    let size = Command::new(alloc, "size")
+        .arg(file_arg(alloc))?
+        .arg(offset)?;
     Command::new(alloc, "dwv")
         .no_binary_name(true)
-        .subcommand(check)
+        .subcommand(check)?
+        .subcommand(show)?
+        .subcommand(size)
+}
+
+/// The number of `0x` and 1 to 8 hexadecimal digits.
+fn offset_of(text: &str) -> Option<u32> {
+    let digits = text.strip_prefix("0x")?;
+    if digits.is_empty() || digits.len() > 8 || !digits.bytes().all(|b| b.is_ascii_hexdigit()) {
+        return None;
+    }
+    u32::from_str_radix(digits, 16).ok()
 }
 
 /// The request and the file's name that a command and its words give.
@@ -43,6 +69,16 @@ fn request_of<'a>(name: &str, matches: &ArgMatches<'a>) -> Result<(Request, &'a 
         "check" => Request::Check {
             json: matches.get_flag("json"),
         },
+        "show" => Request::Show,
+        "size" => {
+            let Some(text) = matches.get_str("OFFSET") else {
+                return Err(WordsFault::BadUsage);
+            };
+            let Some(offset) = offset_of(text) else {
+                return Err(WordsFault::BadOffset);
+            };
+            Request::Size(offset)
+        }
         _ => return Err(WordsFault::BadUsage),
     };
     Ok((request, file))
