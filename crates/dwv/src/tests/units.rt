@@ -278,6 +278,30 @@ fn both_versions(rt: HostRuntime) -> Result<(), Fail> {
     )
 }
 
+/// A table, units, an offset, and what `size` answers there.
+type SizeRow<'a> = (&'a [u8], &'a [&'a [u8]], u32, &'a str);
+
+#[test]
+fn sizes(rt: HostRuntime) -> Result<(), Fail> {
+    let rows: [SizeRow<'_>; 7] = [
+        (&A, &[&B], 0x0f, "size 4"),
+        (&A, &[&B], 0x0c, "not a type"),
+        (&A, &[&B], 0x10, "not a type"),
+        (&A, &[&LONG_CODE], 0x10, "size 4"),
+        (&T, &[&D], 0x16, "size 4"),
+        (&A, &[&B4], 0x0e, "size 4"),
+        (&A, &[&B4, &B], 0x25, "size 4"),
+    ];
+    for (table, units, offset, line) in &rows {
+        let info = joined(rt.alloc(), units, &[])?;
+        let sections = Sections::new(table, info.as_slice(), &[], &[], &[], &[]).ok();
+        let file = file_of(rt.alloc(), &sections.ok_or("sections")?)?;
+        let is_size = reports(rt.alloc(), file.as_slice(), Request::Size(*offset), line)?;
+        assert!(rt; is_size, "{offset:#x}");
+    }
+    Ok(())
+}
+
 // 100,000 structures, each inside the one before.
 #[test]
 fn deep_tree(rt: HostRuntime) -> Result<(), Fail> {
