@@ -1,10 +1,12 @@
 #!/usr/bin/env python3
 """Runs `dwv check` on files that are small and mean work: deep trees, long chains, one string with many names.
 
-Each has to be answered with the stated line within the time limit, and no run may crash. It prints one line a file with the
+Each has to be answered with the stated line within the time limit, and no run may crash. The lines of `show` of a deep tree
+are far more bytes than the memory that it may have: it has to say so, and to write nothing. It prints one line a run with the
 seconds it took, and ends with 'N passed, M failed'.
 """
 import pathlib
+import resource
 import struct
 import subprocess
 import sys
@@ -15,6 +17,8 @@ DWV = pathlib.Path(__file__).resolve().parent.parent / "crates/dwv/out/dwv"
 # Seconds that a run may take at most, far above what it takes, since other work may run beside it.
 LIMIT = 20
 MANY = 100_000
+# Bytes of memory that a run of `show` may have.
+MEMORY = 1 << 30
 
 
 def elf(sections):
@@ -61,13 +65,17 @@ def typedefs(first, count):
     return bytes(out)
 
 
+def deep():
+    """Structures, each inside the one before."""
+    return b"\x01" + b"\x04\x01" * MANY + b"\0" * (MANY + 1)
+
+
 def files():
     """Each file: its name, its sections, and the beginning of the line that it must get."""
     def sections(info, strings=b""):
         return [(".debug_abbrev", TABLE), (".debug_info", info), (".debug_str", strings)]
 
-    nested = b"\x01" + b"\x04\x01" * MANY + b"\0" * (MANY + 1)
-    yield f"{MANY:,} nested structures", sections(unit(nested)), f"sound: 1 units, {MANY + 1} entries, {MANY} types"
+    yield f"{MANY:,} nested structures", sections(unit(deep())), f"sound: 1 units, {MANY + 1} entries, {MANY} types"
 
     chain = b"\x01" + INT + typedefs(FIRST, MANY) + b"\0"
     yield f"a chain of {MANY:,} typedefs", sections(unit(chain)), f"sound: 1 units, {MANY + 2} entries, {MANY + 1} types"
@@ -97,16 +105,40 @@ def files():
     yield f"{MANY:,} type units and references to each", sections(signed + users), f"sound: {MANY + 1} units, {3 * MANY + 1} entries, {MANY} types"
 
 
+def limited():
+    """Limits the memory of the process that is about to run."""
+    resource.setrlimit(resource.RLIMIT_AS, (MEMORY, MEMORY))
+
+
+def checked(path):
+    """What `check` of a file says."""
+    ran = subprocess.run([DWV, "check", path], capture_output=True, text=True, timeout=LIMIT)
+    return f"{ran.stdout}{ran.stderr}"
+
+
+def shown(path):
+    """How `show` of a file ends where memory is limited: the status, the bytes written, and the line on standard error."""
+    ran = subprocess.run([DWV, "show", path], capture_output=True, timeout=LIMIT, preexec_fn=limited)
+    return f"status {ran.returncode}, {len(ran.stdout)} bytes written, {ran.stderr.decode()}"
+
+
+def runs():
+    """Each run: its name, the file's sections, what asks it, and the beginning of what it must say."""
+    for name, sections, want in files():
+        yield name, sections, checked, want
+    tree = [(".debug_abbrev", TABLE), (".debug_info", unit(deep()))]
+    yield f"show of {MANY:,} nested structures", tree, shown, "status 4, 0 bytes written, dwv: out of memory\n"
+
+
 def main():
     passed = failed = 0
     with tempfile.TemporaryDirectory() as folder:
         path = pathlib.Path(folder) / "file"
-        for name, sections, want in files():
+        for name, sections, ask, want in runs():
             path.write_bytes(elf(sections))
             before = time.monotonic()
             try:
-                ran = subprocess.run([DWV, "check", path], capture_output=True, text=True, timeout=LIMIT)
-                said = f"{ran.stdout}{ran.stderr}"
+                said = ask(path)
             except subprocess.TimeoutExpired:
                 said = f"no answer within {LIMIT} seconds"
             seconds = time.monotonic() - before

@@ -1,6 +1,7 @@
 #!/usr/bin/env bash
-# Runs `dwv check` on programs that compilers make, and compares its number of entries with readelf's.
-# It prints one line a program and ends with 'N passed, M failed'. What is not installed is skipped.
+# Runs dwv on programs that compilers make: the number of entries that `check` tells, and the depth and offset of each entry that
+# `show` lists, must be readelf's, and `size` must answer what `show` says of a type.
+# It prints one line a run and ends with 'N passed, M failed'. What is not installed is skipped.
 set -u
 cd "$(dirname "$0")/.." || exit 1
 
@@ -20,17 +21,59 @@ entries_of() {
     readelf --wide --debug-dump=info "$1" 2> /dev/null | grep -c 'Abbrev Number: [0-9]* (DW_TAG_'
 }
 
+# pass RUN: counts a run that said what it must.
+pass() {
+    passed=$((passed + 1))
+    echo "passed $1"
+}
+
+# fail RUN: counts one that did not.
+fail() {
+    failed=$((failed + 1))
+    echo "FAILED $1"
+}
+
 # check NAME FILE: the program must be sound, with readelf's number of entries.
 check() {
     local want said
     want=$(entries_of "$2")
     said=$("$dwv" check "$2" 2>&1)
     if [ "$want" -gt 0 ] && [[ $said =~ ^sound:\ [0-9]+\ units,\ ${want}\ entries,\ [0-9]+\ types$ ]]; then
-        passed=$((passed + 1))
-        echo "passed $1: $said"
+        pass "$1: $said"
     else
-        failed=$((failed + 1))
-        echo "FAILED $1: readelf lists $want entries, dwv says: $said"
+        fail "$1: readelf lists $want entries, dwv says: $said"
+    fi
+}
+
+# The depth and the offset of each entry, as readelf lists them.
+places_of() {
+    readelf --wide --debug-dump=info "$1" 2> /dev/null |
+        sed -n 's/^ *<\([0-9]*\)><\([0-9a-f]*\)>: Abbrev Number: [0-9]* (DW_TAG_.*/\1 \2/p'
+}
+
+# The same from the lines of `show`: a space and two more for each depth stand before the tag.
+shown_places() {
+    awk '{ at = substr($1, 3); sub(/^0+/, "", at); match($0, / +/); print (RLENGTH - 1) / 2, at }' "$1"
+}
+
+# show NAME FILE: there must be a line for each entry that readelf lists, and `size` must say of the first type with a size what
+# its line says, and of the first entry that it is no type.
+show() {
+    local at size said
+    "$dwv" show "$2" > "$built/shown"
+    shown_places "$built/shown" > "$built/said"
+    places_of "$2" > "$built/wanted"
+    if [ -s "$built/wanted" ] && cmp -s "$built/said" "$built/wanted"; then
+        pass "$1: show, $(wc -l < "$built/shown") lines"
+    else
+        fail "$1: show has other entries than readelf: $(diff "$built/said" "$built/wanted" | head -n 3)"
+    fi
+    read -r at size < <(sed -n 's/^\(0x[0-9a-f]*\) .* size \([0-9]*\)$/\1 \2/p' "$built/shown")
+    said="$("$dwv" size "$2" "$at"), $("$dwv" size "$2" "$(head -c 10 "$built/shown")")"
+    if [ "$said" = "size $size, not a type" ]; then
+        pass "$1: size at $at, $said"
+    else
+        fail "$1: size at $at must be $size, dwv says: $said"
     fi
 }
 
@@ -50,6 +93,7 @@ for compiler in gcc clang; do
             flags=(-gdwarf-$version $level -w)
             if "$compiler" "${flags[@]}" -o "$built/$name" "$sources/shapes.c" "$sources/calls.c"; then
                 check "$name" "$built/$name"
+                show "$name" "$built/$name"
             else
                 echo "skipped: $name does not compile"
             fi

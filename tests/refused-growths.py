@@ -68,6 +68,8 @@ def commands(program):
     for file in (SMALL, program):
         yield ["check", str(file)]
         yield ["check", "--json", str(file)]
+        yield ["show", str(file)]
+        yield ["size", str(file), "0x0f"]
 
 
 sys.exit(main())
