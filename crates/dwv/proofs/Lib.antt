@@ -2,3 +2,4 @@ pub mod OutputLemmas
 pub mod ReportLemmas
 pub mod ObjectLemmas
 pub mod ShownLemmas
+pub mod OffsetLemmas

@@ -5,3 +5,4 @@ pub mod Objects
 pub mod Reports
 pub mod Ending
 pub mod Shown
+pub mod Words

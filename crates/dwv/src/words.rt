@@ -1,5 +1,8 @@
 //! The words of the command line.
 
+ghost use Rattle.std.specs.Prelude.{SomeIff};
+ghost use Rattle.dwv.specs.Words.{IsOffset, offset_in};
+
 use crate::request::Request;
 use clap::error::ErrorKind;
 use clap::{Arg, ArgAction, ArgMatches, Command};
@@ -51,10 +54,13 @@ fn forms<'a>(alloc: Global) -> Result<Command<'a>, AllocError> {
         .subcommand(size)
 }
 
-/// The number of `0x` and 1 to 8 hexadecimal digits.
-fn offset_of(text: &str) -> Option<u32> {
+/// The number of an offset: `0x` and 1 to 8 hexadecimal digits.
+fn offset_of(text: &str) -> Option<u32>
+    ensures { SomeIff result (IsOffset text.now) (offset_in text.now) }
+{
     let digits = text.strip_prefix("0x")?;
-    if digits.is_empty() || digits.len() > 8 || !digits.bytes().all(|b| b.is_ascii_hexdigit()) {
+    // A plus would be read as a sign.
+    if digits.len() > 8 || digits.starts_with('+') {
         return None;
     }
     u32::from_str_radix(digits, 16).ok()
