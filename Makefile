@@ -15,6 +15,7 @@ test:
 	tests/real-programs.sh
 	tests/hostile-files.py
 	tests/refused-growths.py
+	tests/endings.sh
 
 # Proves what changed, in every crate, over what earlier runs kept.
 .PHONY: check
