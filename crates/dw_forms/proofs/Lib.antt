@@ -11,6 +11,9 @@ pub mod DeclLaws
 pub mod TableLaws
 pub mod NumberFaults
 pub mod TableFaults
+pub mod TailLaws
+pub mod RowLaws
+pub mod RowPlaces
 pub mod FixedSums
 pub mod FewAttributes
 pub mod ValueAnswers

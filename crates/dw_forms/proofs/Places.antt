@@ -4,15 +4,15 @@ use Rattle.std.specs.Prelude.{find, option_and_then, slice_get, IfSome, IfNone, 
 use Rattle.std.specs.List.{list_any}
 use Rattle.std.specs.Ordering.{nat_cmp}
 use Rattle.std.specs.BTreeMap.{BTreeMap, get}
-use Rattle.std.proofs.lemmas.Bool.{eq-eqb, ne_eqb, cases_lt}
+use Rattle.std.proofs.lemmas.Bool.{eq-eqb, cases_lt}
 use Rattle.std.proofs.lemmas.List.{get_or_append_left, get_or_at, length-append}
 use Rattle.std.proofs.lemmas.List.Elements.{All-map}
 use Rattle.dw_forms.specs.declared.decl.Decl.{Decl}
 use Rattle.dw_forms.specs.Abbrev.{view, views}
 use Rattle.dw_forms.specs.AbbrevReading.{has_code}
-use Rattle.dw_forms.specs.Places.{IsIndex, IsPlace, StandsAt}
+use Rattle.dw_forms.specs.Places.{IsIndex, IsRowIndex, IsPlace, StandsAt}
 use Rattle.dw_forms.proofs.AbbrevSteps.{has_code_views, find_views}
-use Rattle.dw_forms.proofs.Keys.{Apart, Lacks, lacks_from, lacks_test, apart_push}
+use Rattle.dw_forms.proofs.Keys.{Apart, Lacks, lacks_from, lacks_test, apart_push, find_at, find_none}
 
 abbrev pub code_of_decl : Decl → ℕ
 code_of_decl d = d.code
@@ -34,33 +34,31 @@ index_pushed ds m d index lacks here = record {
   ];
 }
 
+-- the same in a row, where the place is how far the code is below the base
+pub row_index_pushed : (ds : List Decl) (base : ℕ) (m : BTreeMap ℕ ℕ) (d : Decl) → IsRowIndex ds base m → Lacks code_of_decl d.code ds → (d.code + length ds ≢ base → get nat_cmp m d.code ≡ Some (length ds)) → IsRowIndex (ds ++ d ∷ []) base m
+row_index_pushed ds base m d index lacks here = record {
+  distinct = apart_push code_of_decl ds d index.distinct lacks;
+  complete = λ i e lt ne. elim (cases_lt i (length ds)) [
+    | inl low ↦
+        let p : get_or (ds ++ d ∷ []) i e ≡ get_or ds i e = get_or_append_left ds (d ∷ []) e i low in
+        rw p (index.complete i e low (rw p at ne))
+    | inr high ↦
+        let at_end : i ≡ length ds = omega (arith, length-append ds (d ∷ []), lt, high) in
+        let p : get_or (ds ++ d ∷ []) i e ≡ d = get_or_at ds d [] e i (sym at_end) in
+        rw (p, at_end) (here (rw (p, at_end) at ne))
+  ];
+}
+
 -- ---- what is found
-
-found_first : (code : ℕ) (d : Decl) (ds : List Decl) → d.code ≡ code → find (λ e. e.code == code) (d ∷ ds) ≡ Some d
-found_first code d ds e = rw (eq-eqb d.code code e) refl
-
-found_later : (code : ℕ) (d : Decl) (ds : List Decl) → d.code ≢ code → find (λ e. e.code == code) (d ∷ ds) ≡ find (λ e. e.code == code) ds
-found_later code d ds ne = rw (ne_eqb d.code code ne) refl
-
-pub find_at : (ds : List Decl) (code i : ℕ) (d : Decl) → Apart code_of_decl ds → i < length ds → (get_or ds i d).code ≡ code → find (λ e. e.code == code) ds ≡ Some (get_or ds i d)
-find_at [] code i d apart lt same = absurd (omega arith)
-find_at (e ∷ ds) code zero d apart lt same = found_first code e ds same
-find_at (e ∷ ds) code (suc i) d apart lt same =
-    found_later code e ds (λ here. apart 0 (suc i) d (omega arith) lt (here ∙ sym same))
-    ∙ find_at ds code i d (λ j k c less long. apart (suc j) (suc k) c (omega arith) (omega arith)) (omega arith) same
-
-pub find_none : (ds : List Decl) (code : ℕ) → Lacks code_of_decl code ds → find (λ e. e.code == code) ds ≡ None
-find_none [] code lacks = refl
-find_none (d ∷ ds) code lacks = found_later code d ds (lacks 0 d (omega arith)) ∙ find_none ds code (λ k e lt. lacks (suc k) e (omega arith))
 
 pub found_view : (ds : List Decl) (code i : ℕ) (d e : Decl) → Apart code_of_decl ds → IsPlace ds code (Some i) → e ≡ get_or ds i d → Some (view e) ≡ find (λ d. d.code == code) (views ds)
 found_view ds code i d e apart place is =
-    let whole : find (λ d. d.code == code) (views ds) ≡ Some (view (get_or ds i d)) = rw (find_views code ds, find_at ds code i d apart place.0 (place.1 d)) refl in
+    let whole : find (λ d. d.code == code) (views ds) ≡ Some (view (get_or ds i d)) = rw (find_views code ds, find_at code_of_decl code ds i d apart place.0 (place.1 d)) refl in
     ap (λ (x : Decl). Some (view x)) is ∙ sym whole
 
 pub none_view : (ds : List Decl) (code : ℕ) → IsPlace ds code None → None ≡ find (λ d. d.code == code) (views ds)
 none_view ds code lacks =
-    let whole : find (λ d. d.code == code) (views ds) ≡ None = rw (find_views code ds, find_none ds code lacks) refl in
+    let whole : find (λ d. d.code == code) (views ds) ≡ None = rw (find_views code ds, find_none code_of_decl code ds lacks) refl in
     sym whole
 
 -- ---- whether it is found

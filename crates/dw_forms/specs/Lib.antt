@@ -9,6 +9,9 @@ pub mod Abbrev
 pub mod AbbrevReading
 pub mod Marks
 pub mod Places
+pub mod Rows
+pub mod SharedTables
+pub mod RowStores
 pub mod ValueFaults
 pub mod Value
 pub mod ValueReading

@@ -54,7 +54,7 @@ fn form_with_number(form: Form, bytes: &[u8]) -> Result<(Form, &[u8]), DeclError
 }
 
 /// Marks for no attributes, one for each code of 16 bits.
-fn no_marks(alloc: Global) -> Result<Vec<bool>, AbbrevFault>
+pub(crate) fn no_marks(alloc: Global) -> Result<Vec<bool>, AbbrevFault>
     ensures marks { IfOk result (λ marks. AreMarks [] marks.items) }
     ensures err { IfFault result (λ _. ⊥) }
 {
@@ -182,7 +182,7 @@ fn read_children(bytes: &[u8]) -> Result<(bool, &[u8]), DeclError>
 
 /// The next declaration after the earlier ones of its table, or none at the code 0.
 #[tactic(auto, unfolding(crate::specs::AbbrevReading::decl_at))]
-fn next_decl<'a>(
+pub(crate) fn next_decl<'a>(
     alloc: Global,
     earlier: &AbbrevTable,
     marks: &mut [bool],

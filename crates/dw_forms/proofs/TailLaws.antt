@@ -1,0 +1,183 @@
+-- A declaration and the table behind it: they are a table where no code stands twice, and no other table begins there.
+use Rattle.std.proofs.Common.{◌≡◌, ℕ, zero, suc, ◌-◌, ◌<◌, List, [], ◌∷◌, ◌++◌, length, take, drop, Option, Some, None, Result, Ok, Err, refl, sym, ap, subst, ◌∙◌, append_assoc, arith}
+use Rattle.std.proofs.lemmas.List.{length-append, length-take, length-drop, take-append-drop, take_all, drop_at}
+use Rattle.std.proofs.lemmas.List.Elements.{All-cons}
+use Rattle.std.proofs.lemmas.Result.{MatchResult-at_ok}
+use Rattle.dw_forms.specs.declared.abbrev_fault.DeclFault.{DeclFault}
+use Rattle.dw_forms.specs.declared.row_reader.Started.{Started}
+use Rattle.dw_forms.specs.declared.abbrev_fault.DeclError.{DeclError}
+use Rattle.dw_forms.specs.declared.abbrev_fault.DeclError.TheVariants as errors
+use Rattle.dw_forms.specs.AbbrevFaults.{fault_at}
+use Rattle.dw_forms.specs.Front.{Takes}
+use Rattle.dw_forms.specs.Abbrev.{Declaration, view, SpellsTable, IsDeclaration, AreDeclarations, DeclFails, Decls}
+use Rattle.dw_forms.specs.AbbrevReading.{Fails, decl_at, decls_of, decls_from, table_at}
+use Rattle.dw_forms.specs.Readers.{read_is, not_both}
+use Rattle.dw_forms.specs.Rows.{NoTable, AreBehind, IfBroken}
+use Rattle.dw_forms.proofs.Keys.{Apart, Lacks}
+use Rattle.dw_forms.proofs.AttributesLaws.{uleb_some}
+use Rattle.dw_forms.proofs.DeclLaws.{code_of_decl, NextDecl, decl_says, end_again, next_again}
+use Rattle.dw_forms.proofs.TableLaws.{table_found, decls_again, decl_some, one_of}
+
+-- ---- one declaration
+
+taken : (bytes : List ℕ) (o : Option Declaration) (rest : List ℕ) → decl_at [] bytes ≡ Ok (o, rest) → Takes (NextDecl []) bytes o rest
+taken bytes o rest e = MatchResult-at_ok (λ (x : Option Declaration × List ℕ). Takes (NextDecl []) bytes x.0 x.1) (DeclFails [] bytes) (o, rest) e (decl_says [] bytes)
+
+-- what is left behind a declaration is an end of the section
+pub rest_at : (section : List ℕ) (offset : ℕ) (o : Option Declaration) (after : List ℕ) → decl_at [] (drop offset section) ≡ Ok (o, after) → after ≡ drop (length section - length after) section
+rest_at section offset o after e =
+    let t = taken (drop offset section) o after e in
+    let whole : section ≡ (take offset section ++ t.text) ++ after = sym (take-append-drop offset section) ∙ ap (λ (r : List ℕ). take offset section ++ r) t.parts ∙ sym (append_assoc (take offset section) t.text after) in
+    let long : length (take offset section ++ t.text) ≡ length section - length after = omega (arith, ap length whole, length-append (take offset section ++ t.text) after) in
+    sym (drop_at (take offset section ++ t.text) after (length section - length after) long) ∙ ap (drop (length section - length after)) (sym whole)
+
+-- the bytes from an offset on
+pub bytes_from : (section : List ℕ) (offset : ℕ) → take (length section - offset) (drop offset section) ≡ drop offset section
+bytes_from section offset = take_all (length section - offset) (drop offset section) (omega (arith, length-drop offset section))
+
+-- ---- one declaration more
+
+apart_cons : (d : Declaration) (ds : List Declaration) → Lacks code_of_decl d.code ds → Apart code_of_decl ds → Apart code_of_decl (d ∷ ds)
+apart_cons d ds lacks apart zero zero e less long = absurd (omega arith)
+apart_cons d ds lacks apart zero (suc j) e less long = λ same. lacks j e (omega arith) (sym same)
+apart_cons d ds lacks apart (suc i) zero e less long = absurd (omega arith)
+apart_cons d ds lacks apart (suc i) (suc j) e less long = apart i j e (omega arith) (omega arith)
+
+module _ (section : List ℕ) where
+  -- what is spelled at an offset is the table there
+  table_spelled : (offset : ℕ) (text rest : List ℕ) (ds : List Declaration) → drop offset section ≡ text ++ rest → Decls text ds → table_at section offset ≡ Ok ds
+  table_spelled offset text rest ds parts s =
+      let read : decls_of (length section) (drop offset section) ≡ Ok (ds, rest) = ap (decls_of (length section)) parts ∙ decls_again (length section) text rest ds s in
+      rw read refl
+
+  -- a declaration with a new code and the table behind it are a table
+  pub table_more : (offset next : ℕ) (d : Declaration) (ds : List Declaration) → decl_at [] (drop offset section) ≡ Ok (Some d, drop next section) → table_at section next ≡ Ok ds
+      → Lacks code_of_decl d.code ds → table_at section offset ≡ Ok (d ∷ ds)
+  table_more offset next d ds e is lacks =
+      let t = taken (drop offset section) (Some d) (drop next section) e in
+      let (len, b) = table_found section next ds is in
+      let text = take len (drop next section) in
+      let rest = drop len (drop next section) in
+      let parts : drop offset section ≡ (t.text ++ text) ++ rest =
+      t.parts ∙ ap (λ (r : List ℕ). t.text ++ r) (sym (take-append-drop len (drop next section))) ∙ sym (append_assoc t.text text rest) in
+      table_spelled offset (t.text ++ text) rest (d ∷ ds) parts (record {
+        spelled = (t.text, text, refl, t.spelled.0, b.spelled.spelled);
+        allowed = record {
+          each = All-cons IsDeclaration d ds t.spelled.1 b.spelled.allowed.each;
+          distinct = apart_cons d ds lacks b.spelled.allowed.distinct;
+        };
+      })
+
+  -- at the code 0 the table is empty
+  pub table_end : (offset : ℕ) (after : List ℕ) → decl_at [] (drop offset section) ≡ Ok (None, after) → table_at section offset ≡ Ok []
+  unfolding decls_from
+  table_end offset after e = rw e refl
+
+  table_fault : (offset : ℕ) (fault : DeclFault) → decl_at [] (drop offset section) ≡ Err fault → table_at section offset ≡ Err (fault_at (length section - length (drop offset section)) fault)
+  unfolding decls_from
+  table_fault offset fault e = rw e refl
+
+  -- where no declaration and no code 0 stands, no table begins
+  pub table_broken : (offset : ℕ) (fault : DeclFault) → decl_at [] (drop offset section) ≡ Err fault → NoTable section offset
+  table_broken offset fault e = λ ds is. not_both (sym (table_fault offset fault e) ∙ is)
+
+  -- ---- one declaration less
+
+  rest_allowed : (d : Declaration) (ds : List Declaration) → AreDeclarations (d ∷ ds) → AreDeclarations ds
+  rest_allowed d ds a = record {
+    each = λ k e lt. a.each (suc k) e (omega arith);
+    distinct = λ i j e less long. a.distinct (suc i) (suc j) e (omega arith) (omega arith);
+  }
+
+  first_lacks : (d : Declaration) (ds : List Declaration) → AreDeclarations (d ∷ ds) → Lacks code_of_decl d.code ds
+  first_lacks d ds a = λ k e lt same. a.distinct 0 (suc k) e (omega arith) (omega arith) (sym same)
+
+  -- the table of a declaration is the declaration with the table behind it
+  record IsSplit (next : ℕ) (d : Declaration) (all : List Declaration) : Type 0 where
+    pub ds : List Declaration
+    pub parts : all ≡ d ∷ ds
+    pub lacks : Lacks code_of_decl d.code ds
+    pub table : table_at section next ≡ Ok ds
+
+  pair_is : {x y : Option Declaration} {a b : List ℕ} → ◌≡◌ {A = Result (Option Declaration × List ℕ) DeclFault} (Ok (x, a)) (Ok (y, b)) → (x ≡ y) × (a ≡ b)
+  pair_is e = let same = read_is e in (ap (λ (p : Option Declaration × List ℕ). p.0) same, ap (λ (p : Option Declaration × List ℕ). p.1) same)
+
+  some_is : {x y : Declaration} → ◌≡◌ {A = Option Declaration} (Some x) (Some y) → x ≡ y
+  some_is e = cc
+
+  never_none : {x : Declaration} → ◌≡◌ {A = Option Declaration} None (Some x) → ⊥
+  never_none e = cc
+
+  split : (offset next : ℕ) (d : Declaration) (all : List Declaration) (text rest : List ℕ) → decl_at [] (drop offset section) ≡ Ok (Some d, drop next section)
+      → drop offset section ≡ text ++ rest → Decls text all → IsSplit next d all
+  split offset next d [] text rest e parts s = absurd (never_none (pair_is (sym (end_again [] rest text s.spelled) ∙ sym (ap (decl_at []) parts) ∙ e)).0)
+  split offset next d (c ∷ ds) text rest e parts s =
+      let p = s.spelled in
+      let regrouped : text ++ rest ≡ p.0 ++ (p.1 ++ rest) = ap (λ (t : List ℕ). t ++ rest) p.2 ∙ append_assoc p.0 p.1 rest in
+      let first = next_again [] (p.1 ++ rest) p.0 c p.3 (one_of [] c ds s.allowed) (λ k x lt. absurd (omega arith)) in
+      let same = pair_is (sym first ∙ ap (decl_at []) (sym (parts ∙ regrouped)) ∙ e) in
+      let c_is : c ≡ d = some_is same.0 in
+      record {
+        ds = ds;
+        parts = ap (λ (x : Declaration). x ∷ ds) c_is;
+        lacks = subst (λ (x : Declaration). Lacks code_of_decl x.code ds) c_is (first_lacks c ds s.allowed);
+        table = table_spelled next p.1 rest ds (sym same.1) (record { spelled = p.4; allowed = rest_allowed c ds s.allowed });
+      }
+
+  table_less : (offset next : ℕ) (d : Declaration) (all : List Declaration) → decl_at [] (drop offset section) ≡ Ok (Some d, drop next section) → table_at section offset ≡ Ok all → IsSplit next d all
+  table_less offset next d all e is =
+      let (len, b) = table_found section offset all is in
+      split offset next d all (take len (drop offset section)) (drop len (drop offset section)) e (sym (take-append-drop len (drop offset section))) b.spelled
+
+  -- where no table begins behind a declaration, none begins with it
+  pub none_before : (offset next : ℕ) (d : Declaration) → decl_at [] (drop offset section) ≡ Ok (Some d, drop next section) → NoTable section next → NoTable section offset
+  none_before offset next d e none = λ all is. let s = table_less offset next d all e is in none s.ds s.table
+
+  -- where the code stands in the table behind a declaration, no table begins with it
+  pub none_twice : (offset next : ℕ) (d : Declaration) (ds : List Declaration) → decl_at [] (drop offset section) ≡ Ok (Some d, drop next section) → table_at section next ≡ Ok ds
+      → (Lacks code_of_decl d.code ds → ⊥) → NoTable section offset
+  none_twice offset next d ds e is twice = λ all whole.
+      let s = table_less offset next d all e whole in
+      twice (subst (Lacks code_of_decl d.code) (read_is (sym s.table ∙ is)) s.lacks)
+
+  -- ---- some declarations
+
+  -- one more behind them
+  pub behind_push : (xs : List Started) (offset end next : ℕ) (s : Started) → AreBehind section xs offset end → s.start ≡ end → decl_at [] (drop end section) ≡ Ok (Some (view s.decl), drop next section)
+      → AreBehind section (xs ++ s ∷ []) offset next
+  behind_push [] offset end next s here start e = (start ∙ sym here, next, ap (λ (n : ℕ). decl_at [] (drop n section)) here ∙ e, refl)
+  behind_push (x ∷ xs) offset end next s p start e = (p.0, p.1, p.2, behind_push xs p.1 end next s p.3 start e)
+
+  -- the last of them, with those before it
+  pub behind_pop : (xs : List Started) (offset end : ℕ) (s : Started) → AreBehind section (xs ++ s ∷ []) offset end
+      → AreBehind section xs offset s.start × (decl_at [] (drop s.start section) ≡ Ok (Some (view s.decl), drop end section))
+  behind_pop [] offset end s p = (sym p.0, ap (λ (n : ℕ). decl_at [] (drop n section)) p.0 ∙ p.2 ∙ ap (λ (n : ℕ). Ok (Some (view s.decl), drop n section)) p.3)
+  behind_pop (x ∷ xs) offset end s p = let r = behind_pop xs p.1 end s p.3 in ((p.0, p.1, p.2, r.0), r.1)
+
+  -- where no table begins behind them, none begins with them
+  pub none_behind : (xs : List Started) (offset end : ℕ) → AreBehind section xs offset end → NoTable section end → NoTable section offset
+  none_behind [] offset end here none = subst (NoTable section) (sym here) none
+  none_behind (x ∷ xs) offset end p none = none_before offset p.1 (view x.decl) p.2 (none_behind xs p.1 end p.3 none)
+
+  pub front_fails : (error : DeclError) (xs : List Started) (offset end : ℕ) → AreBehind section xs offset end → Fails error (decl_at [] (drop end section))
+      → IfBroken (NoTable section offset) error
+  front_fails errors.Memory xs offset end behind e = tt
+  front_fails (errors.Fault fault) xs offset end behind e = none_behind xs offset end behind (table_broken end fault e)
+
+-- ---- a table and its bytes
+
+ds_fewer : (ds : List Declaration) (text : List ℕ) → SpellsTable ds text → length ds < length text
+ds_fewer [] text s = uleb_some text 0 s
+ds_fewer (d ∷ ds) text p =
+    let n = decl_some p.0 d p.3 in
+    let m = ds_fewer ds p.1 p.4 in
+    omega (arith, ap length p.2, length-append p.0 p.1)
+
+pub table_allowed : (section : List ℕ) (offset : ℕ) (ds : List Declaration) → table_at section offset ≡ Ok ds → AreDeclarations ds
+table_allowed section offset ds is = let (len, b) = table_found section offset ds is in b.spelled.allowed
+
+pub table_fewer : (section : List ℕ) (offset : ℕ) (ds : List Declaration) → table_at section offset ≡ Ok ds → length ds < length section
+table_fewer section offset ds is =
+    let (len, b) = table_found section offset ds is in
+    let n = ds_fewer ds (take len (drop offset section)) b.spelled.spelled in
+    omega (arith, length-take len (drop offset section), length-drop offset section)
