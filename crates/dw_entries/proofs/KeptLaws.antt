@@ -2,7 +2,7 @@
 use Rattle.std.proofs.Common.{◌≡◌, ℕ, zero, suc, ◌+◌, ◌-◌, ◌<◌, Bool, true, List, [], ◌∷◌, ◌++◌, length, take, drop, get_or, Option, Some, None, Ok, Err, false, refl, sym, ap, subst, ◌∙◌, arith}
 use Rattle.std.specs.Prelude.{slice_get, IfSome, IsSomeAnd, ◌==◌}
 use Rattle.std.specs.List.{AllZip, flat_map}
-use Rattle.std.proofs.lemmas.Option.{slice_get-map, slice_get_within, slice_get-get_or, get_or_from_slice_get}
+use Rattle.std.proofs.lemmas.Option.{slice_get_within, slice_get-get_or, get_or_from_slice_get}
 use Rattle.std.proofs.lemmas.Slice.Zip.{AllZip-right, AllZip-long}
 use Rattle.dw_forms.specs.declared.decl.Decl.{Decl}
 use Rattle.dw_forms.specs.Abbrev.{Declaration, view}
@@ -165,10 +165,10 @@ module _ {a info : List ℕ} {tables : List (List Declaration)} {rs : List UnitR
       table_within = slice_get_within tables u.table k.stands.unit.table is_table
 
       -- its declaration stands in the table of its unit
-      module _ (t : List Declaration) (read_table : t ≡ get_or tables u.table t) where
+      module _ (t : List Declaration) (read_table : slice_get tables u.table ≡ Some t) where
         decl_stands : slice_get t r.decl ≡ Some k.entry.head.decl
         decl_stands =
-            let table : t ≡ table_of (units_of s) k.entry.unit = read_is tables u.table k.stands.unit.table t is_table read_table ∙ sym (table_is (units_of s) k.entry.unit k.stands.unit k.stands.is_unit) in
+            let table : t ≡ table_of (units_of s) k.entry.unit = one_some (slice_get tables u.table) t k.stands.unit.table read_table is_table ∙ sym (table_is (units_of s) k.entry.unit k.stands.unit k.stands.is_unit) in
             ap (λ (x : List Declaration). slice_get x r.decl) table ∙ ap (λ (q : Record). slice_get (table_of (units_of s) k.entry.unit) q.decl) record_is
             ∙ found_there (table_of (units_of s) k.entry.unit) k.entry.head.decl.code k.entry.head.decl
             (ap (λ (x : List Declaration). declared_in x k.entry.head.decl.code) (table_is (units_of s) k.entry.unit k.stands.unit k.stands.is_unit) ∙ k.stands.is.decl)

@@ -1,5 +1,6 @@
 -- How far the scan of a section has come.
 use Rattle.std.proofs.Common.{◌≡◌, ℕ, suc, ◌+◌, ◌-◌, ◌<◌, ◌≤◌, List, [], ◌∷◌, ◌++◌, length, take, drop, None, refl, sym, ap, subst, ◌∙◌, append_assoc, append-nil, arith, length-append, length-drop, drop_at, drop-drop, drop_of_length-le, take_all, add-zero}
+use Rattle.std.proofs.lemmas.List.{length-map}
 use Rattle.std.proofs.lemmas.List.Concat.{flat_map-append}
 use Rattle.std.specs.List.{AllZip}
 use Rattle.dw_entries.proofs.TableSteps.{slice_get-more}
@@ -7,7 +8,8 @@ use Rattle.dw_forms.specs.Abbrev.{Declaration}
 use Rattle.dw_entries.specs.declared.record.Record.{Record}
 use Rattle.dw_entries.specs.declared.record.UnitRecord.{UnitRecord}
 use Rattle.dw_entries.specs.declared.record.Kept.{Kept}
-use Rattle.dw_entries.specs.Tables.{AreTables}
+use Rattle.dw_forms.specs.Rows.{table_in}
+use Rattle.dw_entries.specs.Tables.{tables_of, AreTables}
 use Rattle.dw_entries.specs.declared.fault.Broken.{Broken}
 use Rattle.dw_entries.specs.declared.fault.Break.{Break}
 use Rattle.dw_entries.specs.declared.fault.Break.TheVariants.{Memory, Broken as Breaks}
@@ -31,10 +33,10 @@ pub record Upto (a info : List ℕ) (header : ℕ) (kept : Kept) : Type 0 where
   pub parts : info ≡ units_bytes units ++ drop header info
   pub at : header ≡ length (units_bytes units)
   pub count : length kept.units.items ≡ length units
-  pub unit_records : AllZip (IsKept kept.tables.kept.items) kept.units.items (placed units)
+  pub unit_records : AllZip (IsKept (tables_of kept.tables)) kept.units.items (placed units)
   pub places : kept.records.items ≡ records_from 0 0 0 units
   pub tables : AreTables a kept.tables
-  pub few_tables : length kept.tables.kept.items ≤ length units
+  pub few_tables : length (tables_of kept.tables) ≤ length units
 
 records_from-push : (unit id at : ℕ) (us : List DebugUnit) (u : DebugUnit) → records_from unit id at (us ++ u ∷ []) ≡ records_from unit id at us ++ node_records u.table (unit + length us) None 0 None (id + length (records_from unit id at us)) ((at + length (units_bytes us)) + header_size u.header.kind) u.root
 records_from-push unit id at [] u =
@@ -103,7 +105,7 @@ upto_start a info kept t tables us e = record {
   unit_records = rw us tt;
   places = e;
   tables = tables;
-  few_tables = omega (arith, ap length t);
+  few_tables = omega (arith, ap length t, length-map kept.tables.kept.items (table_in kept.tables.rows.rows.items));
 }
 
 pub upto_next : (a info : List ℕ) (header : ℕ) (old new : Kept) (len : ℕ) → Upto a info header old → UnitTaken a (drop header info) header old new len → Upto a info (header + len) new
@@ -122,9 +124,9 @@ upto_next a info header old new len u t =
       parts = u.parts ∙ ap (λ (x : List ℕ). units_bytes u.units ++ x) (t.parts ∙ ap (λ (x : List ℕ). unit_bytes v ++ x) (sym left)) ∙ sym (append_assoc (units_bytes u.units) (unit_bytes v) _) ∙ ap (λ (x : List ℕ). x ++ drop (header + len) info) (sym (units_bytes-push u.units v));
       at = omega (arith, u.at, t.len_is, ap length (units_bytes-push u.units v), length-append (units_bytes u.units) (unit_bytes v));
       count = omega (arith, ap length t.units, length-append old.units.items (t.record_is ∷ []), u.count, length-append u.units (v ∷ []));
-      unit_records = rw (t.units, placed_from-push 0 0 0 u.units v, ← at, ← id) (AllKept-push new.tables.kept.items old.units.items (placed u.units) t.record_is (placed_at header (length records) v) (rw t.stay.1 (AllKept-more old.tables.kept.items t.stay.0 old.units.items (placed u.units) u.unit_records)) t.kept);
+      unit_records = rw (t.units, placed_from-push 0 0 0 u.units v, ← at, ← id) (AllKept-push (tables_of new.tables) old.units.items (placed u.units) t.record_is (placed_at header (length records) v) (rw t.stay.1 (AllKept-more (tables_of old.tables) t.stay.0 old.units.items (placed u.units) u.unit_records)) t.kept);
       tables = t.tables;
-      few_tables = omega (arith, ap length t.stay.1, length-append old.tables.kept.items t.stay.0, t.stay.2, u.few_tables, length-append u.units (v ∷ []));
+      few_tables = omega (arith, ap length t.stay.1, length-append (tables_of old.tables) t.stay.0, t.stay.2, u.few_tables, length-append u.units (v ∷ []));
       places = t.records
           ∙ ap (λ (n : ℕ). records ++ node_records v.table n None 0 None (length records) (header + size) v.root) n
           ∙ ap (λ (k : ℕ). records ++ node_records v.table (0 + length u.units) None 0 None k (header + size) v.root) id
@@ -146,7 +148,7 @@ few_units : (us : List DebugUnit) → length us ≤ length (units_bytes us)
 few_units [] = omega arith
 few_units (u ∷ us) = omega (arith, length-append (unit_bytes u) (units_bytes us), some_bytes u, few_units us)
 
-pub upto_few_tables : (a info : List ℕ) (header : ℕ) (kept : Kept) → Upto a info header kept → length kept.tables.kept.items ≤ header
+pub upto_few_tables : (a info : List ℕ) (header : ℕ) (kept : Kept) → Upto a info header kept → length (tables_of kept.tables) ≤ header
 upto_few_tables a info header kept u = omega (arith, u.few_tables, u.at, few_units u.units)
 
 pub upto_few_units : (a info : List ℕ) (header : ℕ) (kept : Kept) → Upto a info header kept → length kept.units.items ≤ header
@@ -155,7 +157,7 @@ upto_few_units a info header kept u = omega (arith, u.count, u.at, few_units u.u
 pub upto_few_entries : (a info : List ℕ) (header : ℕ) (kept : Kept) → Upto a info header kept → length kept.records.items ≤ header
 upto_few_entries a info header kept u = omega (arith, ap length u.places, u.at, few_entries a u.units u.are)
 
-pub upto_end : (a info : List ℕ) (header : ℕ) (kept : Kept) → Upto a info header kept → length info ≤ header → Scanned a info kept.tables.kept.items kept.units.items kept.records.items
+pub upto_end : (a info : List ℕ) (header : ℕ) (kept : Kept) → Upto a info header kept → length info ≤ header → Scanned a info (tables_of kept.tables) kept.units.items kept.records.items
 upto_end a info header kept u e =
     let whole : info ≡ units_bytes u.units = u.parts ∙ ap (λ (x : List ℕ). units_bytes u.units ++ x) (drop_of_length-le info e) ∙ append-nil (units_bytes u.units) in
     (u.units, record { spells = record { are = u.are; parts = whole }; kept = u.unit_records; entries = u.places ∙ sym (records_kept u.units) })

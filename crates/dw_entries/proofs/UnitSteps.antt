@@ -7,7 +7,7 @@ use Rattle.std.proofs.lemmas.Option.{slice_get_within}
 use Rattle.std.specs.Prelude.{slice_get}
 use Rattle.dw_entries.specs.declared.record.UnitRecord.{UnitRecord}
 use Rattle.dw_entries.specs.declared.record.Kept.{Kept}
-use Rattle.dw_entries.specs.Tables.{IsTableAt, AreTables, GrowsByOne}
+use Rattle.dw_entries.specs.Tables.{tables_of, IsTableAt, AreTables, GrowsByOne}
 use Rattle.dw_entries.specs.declared.rule.Rule.{Rule}
 use Rattle.dw_entries.specs.declared.fault.Break.{Break}
 use Rattle.dw_entries.specs.declared.fault.Break.TheVariants.{Memory, Broken as Breaks}
@@ -49,8 +49,8 @@ module _ (a rest : List ℕ) (h : UnitHeader) (body : List ℕ) (bytes : AreByte
 
   pub unit_taken : (at start place first unit : ℕ) (old new : Kept) (table : List Declaration)
       → start ≡ at + header_size h.kind → first ≡ length old.records.items → unit ≡ length old.units.items
-      → IsTableAt a new.tables.kept.items h.abbrev_offset place → slice_get new.tables.kept.items place ≡ Some table
-      → AreTables a new.tables → GrowsByOne old.tables.kept.items new.tables.kept.items
+      → IsTableAt a (tables_of new.tables) h.abbrev_offset place → slice_get (tables_of new.tables) place ≡ Some table
+      → AreTables a new.tables → GrowsByOne (tables_of old.tables) (tables_of new.tables)
       → new.units.items ≡ old.units.items ++ unit_record at h place first ∷ []
       → TreeOf (context_by h table) h.kind body [] unit start old.records.items new.records.items
       → UnitTaken a rest at old new (4 + h.unit_length)
@@ -60,7 +60,7 @@ module _ (a rest : List ℕ) (h : UnitHeader) (body : List ℕ) (bytes : AreByte
       let whole : body ≡ body_bytes u = tree.parts ∙ append-nil (body_bytes u) in
       record {
         taken = u;
-        is = record { header = r.is; table = table_known a h.abbrev_offset place new.tables.kept.items table there read_there; root = tree.is; tag = tree.tag; nulls = tree.are_nulls; unit_length = r.unit_length ∙ ap (λ (b : List ℕ). length (header_fields h ++ b)) whole };
+        is = record { header = r.is; table = table_known a h.abbrev_offset place (tables_of new.tables) table there read_there; root = tree.is; tag = tree.tag; nulls = tree.are_nulls; unit_length = r.unit_length ∙ ap (λ (b : List ℕ). length (header_fields h ++ b)) whole };
         after = r.after;
         parts = r.parts ∙ ap (λ (b : List ℕ). header_bytes h ++ (b ++ r.after)) whole ∙ sym (append_assoc (header_bytes h) (body_bytes u) r.after);
         len_is = omega (arith, r.unit_length, ap length whole, length-append (header_fields h) body, length-append (header_bytes h) (body_bytes u), length-header h, length-append (little_bytes 4 h.unit_length) (header_fields h), length-bytes_low_first 0 4 h.unit_length);

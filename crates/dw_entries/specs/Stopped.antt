@@ -7,7 +7,7 @@ use Rattle.dw_entries.specs.declared.record.Record.{Record}
 use Rattle.dw_entries.specs.declared.record.UnitRecord.{UnitRecord}
 use Rattle.dw_entries.specs.declared.record.Kept.{Kept}
 use Rattle.dw_entries.specs.Scanned.{IsKept}
-use Rattle.dw_entries.specs.Tables.{AreTables, GrowsByOne}
+use Rattle.dw_entries.specs.Tables.{tables_of, AreTables, GrowsByOne}
 use Rattle.dw_entries.specs.declared.fault.Failing.{Failing}
 use Rattle.dw_entries.specs.declared.fault.Broken.{Broken}
 use Rattle.dw_entries.specs.declared.fault.Break.{Break}
@@ -99,8 +99,8 @@ pub record UnitTaken («abbrev» rest : List ℕ) (at : ℕ) (old new : Kept) (l
   pub parts : rest ≡ unit_bytes taken ++ after
   pub len_is : len ≡ length (unit_bytes taken)
   pub record_is : UnitRecord
-  pub kept : IsKept new.tables.kept.items record_is (record { at = at; first = length old.records.items; unit = taken })
+  pub kept : IsKept (tables_of new.tables) record_is (record { at = at; first = length old.records.items; unit = taken })
   pub units : new.units.items ≡ old.units.items ++ record_is ∷ []
   pub records : new.records.items ≡ old.records.items ++ node_records taken.table (length old.units.items) None 0 None (length old.records.items) (at + header_size taken.header.kind) taken.root
   pub tables : AreTables «abbrev» new.tables
-  pub stay : GrowsByOne old.tables.kept.items new.tables.kept.items
+  pub stay : GrowsByOne (tables_of old.tables) (tables_of new.tables)

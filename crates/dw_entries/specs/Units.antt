@@ -3,6 +3,7 @@ use Rattle.std.specs.Prelude.{◌≡◌, ℕ, true, List, ◌++◌, length, Ok}
 use Rattle.std.specs.List.{flat_map, AllByRecursion}
 use Rattle.dw_forms.specs.Abbrev.{Declaration}
 use Rattle.dw_forms.specs.AbbrevReading.{table_at}
+use Rattle.dw_forms.specs.SharedTables.{declarations}
 use Rattle.dw_entries.specs.declared.header.UnitHeader.{UnitHeader}
 use Rattle.dw_entries.specs.declared.context.UnitContext.{UnitContext}
 use Rattle.dw_entries.specs.Grammar.{Context, Head, IsNull}
@@ -22,7 +23,7 @@ context_by h table = record { table = table; address_size = h.address_size; vers
 
 -- what a reader of items goes by
 abbrev pub context_in : UnitContext → Context
-context_in c = record { table = c.table.now; address_size = c.address_size; version = c.version }
+context_in c = record { table = declarations c.table; address_size = c.address_size; version = c.version }
 
 -- what the bytes of a unit are read by
 abbrev pub context_of : DebugUnit → Context

@@ -8,18 +8,18 @@ ghost use Rattle.dw_entries.specs.Stopped.{IfBroken, IfFault};
 ghost use Rattle.dw_entries.specs.Props.{scanned_unique};
 
 use crate::id::EntryId;
+use crate::kept_tables::KeptTables;
 use crate::record::{Record, UnitRecord};
 use dw_elf::Sections;
-use dw_forms::AbbrevTable;
 
 /// The entries of sections whose .debug_info is a row of units, numbered in rising offset.
 #[derive(Drop)]
 pub struct Entries<'a> {
     pub(crate) sections: Sections<'a>,
-    pub(crate) tables: Vec<AbbrevTable>,
+    pub(crate) tables: KeptTables,
     pub(crate) units: Vec<UnitRecord>,
     pub(crate) records: Vec<Record>,
-    pub ghost scanned: { Scanned sections.«abbrev».now sections.info.now tables.items units.items records.items } by { scanned_unique sections.«abbrev».now sections.info.now tables.items units.items records.items },
+    pub ghost scanned: { Scanned sections.«abbrev».now sections.info.now tables units.items records.items } by { scanned_unique sections.«abbrev».now sections.info.now tables units.items records.items },
 }
 
 impl<'a> Entries<'a> {

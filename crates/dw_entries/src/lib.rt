@@ -7,6 +7,7 @@ mod fault;
 mod header;
 mod header_reader;
 mod id;
+mod kept_tables;
 mod laws;
 mod lookup;
 mod reading;

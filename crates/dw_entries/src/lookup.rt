@@ -16,7 +16,7 @@ use crate::header::{UnitHeader, UnitType};
 use crate::id::{EntryId, OptionalId};
 use crate::reading::read_code;
 use crate::values::Values;
-use dw_forms::{AbbrevTable, Attribute, Decl, Tag, Value};
+use dw_forms::{Attribute, Decl, DeclRow, Tag, Value};
 
 /// An entry without its attributes.
 #[derive(Clone, Copy, Debug, PartialEq, Eq)]
@@ -53,11 +53,11 @@ fn id_of(optional: OptionalId) -> Option<EntryId>
 }
 
 impl<'a> Entries<'a> {
-    /// The abbreviation tables of the units, each once.
-    pub fn tables(&self) -> &[AbbrevTable]
+    /// The declarations of the units' abbreviation tables, each once, in rows.
+    pub fn rows(&self) -> &[DeclRow]
         ensures { (id : ℕ) (e : Entry) → slice_get (entries_of (units_of self.now.scanned)) id ≡ Some e → IsDeclaredIn result.now e.head.decl }
     {
-        &self.tables
+        self.tables.rows()
     }
 
     /// The declaration of an entry.
@@ -67,7 +67,7 @@ impl<'a> Entries<'a> {
     {
         let record = self.record(id);
         let unit = self.units[record.unit as usize];
-        self.tables[unit.table as usize].decl(record.decl as usize)
+        self.tables.get(unit.table).decl(record.decl as usize)
     }
 
     /// The bytes of an entry's values, and those behind them.

@@ -2,6 +2,7 @@
 
 ghost use Rattle.std.specs.Prelude.{◌≡◌, Some, option_map, IfSome};
 ghost use Rattle.dw_forms.specs.Abbrev.{view};
+ghost use Rattle.dw_forms.specs.SharedTables.{declarations};
 ghost use Rattle.dw_entries.specs.Grammar.{declared_in, place_in};
 ghost use Rattle.dw_entries.specs.Items.{decl_of};
 ghost use Rattle.dw_entries.specs.Reading.{Gives, seen, after, code_at, value_rule as rule_of_value, attribute_at, attributes_at, item_at, first_at};
@@ -129,9 +130,9 @@ fn skip_attributes<'b>(
 
 /// The declaration with this code.
 fn find_decl(context: UnitContext<'_>, code: u64) -> Option<Declared<'_>>
-    ensures decl { option_map (λ d. view d.decl.now) result ≡ declared_in context.entry.table.now code }
+    ensures decl { option_map (λ d. view d.decl.now) result ≡ declared_in (declarations context.entry.table) code }
     ensures place { IfSome result
-        (λ d. d.place ≡ place_in context.entry.table.now (view d.decl.now).code) }
+        (λ d. d.place ≡ place_in (declarations context.entry.table) (view d.decl.now).code) }
 {
     match context.table.place(code) {
         None => None,
@@ -149,7 +150,7 @@ pub fn read_item<'a, 'b>(
     bytes: &'b [u8],
 ) -> Result<(Token<'a>, &'b [u8]), Failing>
     ensures { Gives (λ x. (token_decl x.0, x.1.now)) result
-        (seen (decl_of context.entry.table.now) (item_at (context_in context.entry) bytes.now)) }
+        (seen (decl_of (declarations context.entry.table)) (item_at (context_in context.entry) bytes.now)) }
 {
     let (code, rest) = read_code(bytes)?;
     if code == 0 {
@@ -175,7 +176,7 @@ pub fn read_first<'a, 'b>(
     bytes: &'b [u8],
 ) -> Result<(Declared<'a>, &'b [u8]), Failing>
     ensures { Gives (λ x. (Some (declared_view x.0), x.1.now)) result
-        (seen (decl_of context.entry.table.now) (first_at (context_in context.entry) kind bytes.now)) }
+        (seen (decl_of (declarations context.entry.table)) (first_at (context_in context.entry) kind bytes.now)) }
 {
     let missing = Failing {
         rule: Rule::NoUnitEntry,

@@ -6,6 +6,7 @@ ghost use Rattle.dw_entries.specs.Faults.{Fails};
 ghost use Rattle.dw_entries.specs.Scanned.{Scanned};
 ghost use Rattle.dw_entries.specs.Scanned.{units_of};
 ghost use Rattle.dw_entries.specs.Stopped.{IfBroken, IfFault};
+ghost use Rattle.dw_entries.specs.Tables.{tables_of, AreTables};
 ghost use Rattle.dw_entries.specs.Units.{DebugUnit, Spells};
 ghost use Rattle.dw_entries.specs.Views.{sections_of};
 
@@ -21,11 +22,12 @@ use std::alloc::Global;
 fn scan_units(alloc: Global, section: &[u8], info: &[u8]) -> Result<Kept, Break>
     requires abbrev_fits { length section.now ≤ SECTION_LIMIT }
     requires info_fits { length info.now ≤ SECTION_LIMIT }
-    ensures all { IfOk result (λ kept. Scanned section.now info.now kept.tables.kept.items kept.units.items kept.records.items) }
+    ensures all { IfOk result (λ kept. Scanned section.now info.now (tables_of kept.tables) kept.units.items kept.records.items) }
+    ensures tables { IfOk result (λ kept. AreTables section.now kept.tables) }
     ensures fault { IfErr result (IfBroken (Fails section.now info.now)) }
 {
     let mut kept = Kept {
-        tables: Tables::new(alloc),
+        tables: Tables::new(alloc)?,
         units: Vec::new(alloc),
         records: Vec::new(alloc),
     };

@@ -1,23 +1,28 @@
 //! The abbreviation tables that units name, each kept once.
 
-ghost use Rattle.std.specs.Prelude.{◌≡◌, ◌^◌, ◌<◌, ◌≤◌, ℕ, [], List, length, slice_get, Some, OnOk, IfOk, IfErr, IfSome};
+ghost use Rattle.std.specs.Prelude.{◌≡◌, ◌^◌, ◌<◌, ◌≤◌, ℕ, [], All, List, length, slice_get, Some, OnOk, IfOk, IfErr};
 ghost use Rattle.dw_elf.specs.declared.TheConstants.{SECTION_LIMIT};
 ghost use Rattle.dw_forms.specs.AbbrevReading.{table_at};
+ghost use Rattle.dw_forms.specs.Rows.{table_in, IsIn, Stay};
+ghost use Rattle.dw_forms.specs.RowStores.{AreRows};
+ghost use Rattle.dw_forms.specs.SharedTables.{declarations};
 ghost use Rattle.dw_entries.specs.Faults.{rule_of};
 ghost use Rattle.dw_entries.specs.Grammar.{IsTable};
-ghost use Rattle.dw_entries.specs.Stopped.{BreaksBy, ReadsTable};
-ghost use Rattle.dw_entries.specs.Tables.{IsTableAt, AreTables, GrowsByOne};
+ghost use Rattle.dw_entries.specs.Stopped.{BreaksBy, IfBroken, ReadsTable};
+ghost use Rattle.dw_entries.specs.Tables.{tables_of, IsTableAt, AreTables, GrowsByOne};
 
 use crate::fault::{Break, Broken, Section};
+use crate::kept_tables::KeptTables;
 use crate::rule::Rule;
-use dw_forms::{AbbrevFault, AbbrevRule, AbbrevTable, read_table};
+use dw_forms::{AbbrevFault, AbbrevRule, DeclRows, RowPlace, SharedTable};
 use std::alloc::Global;
 use std::collections::BTreeMap;
 
-/// The tables that were read, and at which place the one of each offset is kept.
+/// The tables that were read, where each stands among the rows, and at which place the one of each offset is kept.
 #[derive(Debug, Drop)]
 pub struct Tables {
-    pub kept: Vec<AbbrevTable>,
+    pub rows: DeclRows,
+    pub kept: Vec<RowPlace>,
     pub places: BTreeMap<u32, u32>,
 }
 
@@ -37,15 +42,24 @@ fn table_rule(rule: AbbrevRule) -> Rule
     }
 }
 
-/// The table that begins at an offset of .debug_abbrev.
-fn unit_table(alloc: Global, section: &[u8], offset: usize) -> Result<AbbrevTable, Break>
+/// Where the table stands that begins at an offset of .debug_abbrev.
+fn unit_table(
+    alloc: Global,
+    rows: &mut DeclRows,
+    section: &[u8],
+    offset: usize,
+) -> Result<RowPlace, Break>
     requires offset { offset ≤ length section.now }
     requires fits { length section.now ≤ SECTION_LIMIT }
-    ensures read { ReadsTable (λ t. t) result (table_at section.now offset) }
-    ensures table { IfOk result IsTable }
+    requires rows { AreRows section.now rows.old }
+    ensures read { ReadsTable (table_in rows.new.rows.items) result (table_at section.now offset) }
+    ensures is_in { IfOk result (IsIn rows.new.rows.items) }
+    ensures table { IfOk result (λ place. IsTable (table_in rows.new.rows.items place)) }
+    ensures rows { OnOk result (AreRows section.now rows.new) }
+    ensures stay { OnOk result (Stay rows.old.rows.items rows.new.rows.items) }
 {
-    match read_table(alloc, section, offset) {
-        Ok(table) => Ok(table),
+    match rows.table(alloc, section, offset) {
+        Ok(place) => Ok(place),
         Err(AbbrevFault::Memory) => Err(Break::Memory),
         Err(AbbrevFault::Broken(broken)) => Err(Break::Broken(Broken {
             rule: table_rule(broken.rule),
@@ -58,14 +72,20 @@ fn unit_table(alloc: Global, section: &[u8], offset: usize) -> Result<AbbrevTabl
 
 impl Tables {
     /// No tables.
-    pub fn new(alloc: Global) -> Self
-        ensures none { result.kept.items ≡ [] }
-        ensures tables { (section : List ℕ) → AreTables section result }
+    pub fn new(alloc: Global) -> Result<Tables, Break>
+        ensures none { IfOk result (λ t. t.kept.items ≡ []) }
+        ensures tables { IfOk result (λ t. (section : List ℕ) → AreTables section t) }
+        ensures err { IfErr result (IfBroken (λ _. ⊥)) }
     {
-        Tables {
+        let rows = match DeclRows::new(alloc) {
+            Ok(rows) => rows,
+            Err(_) => return Err(Break::Memory),
+        };
+        Ok(Tables {
+            rows,
             kept: Vec::new(alloc),
             places: BTreeMap::new(alloc),
-        }
+        })
     }
 
     /// The place of the table that begins at an offset of .debug_abbrev. The table is read where no unit named it before.
@@ -73,16 +93,16 @@ impl Tables {
         requires offset { offset ≤ length section.now }
         requires tables { AreTables section.now self.old }
         requires fits { length section.now ≤ SECTION_LIMIT }
-        requires few { length self.old.kept.items < 2 ^ 32 }
-        ensures found { IfOk result (λ place. IsTableAt section.now self.new.kept.items offset place) }
+        requires few { length (tables_of self.old) < 2 ^ 32 }
+        ensures found { IfOk result (λ place. IsTableAt section.now (tables_of self.new) offset place) }
         ensures tables { OnOk result (AreTables section.now self.new) }
-        ensures stay { OnOk result (GrowsByOne self.old.kept.items self.new.kept.items) }
+        ensures stay { OnOk result (GrowsByOne (tables_of self.old) (tables_of self.new)) }
         ensures fault { IfErr result (λ e. BreaksBy e (table_at section.now offset)) }
     {
         if let Some(place) = self.places.get(&offset).copied() {
             return Ok(place);
         }
-        let table = unit_table(alloc, section, offset as usize)?;
+        let table = unit_table(alloc, &mut self.rows, section, offset as usize)?;
         let place = self.kept.len() as u32;
         self.places.insert(offset, place)?;
         self.kept.push(table)?;
@@ -90,17 +110,19 @@ impl Tables {
     }
 
     /// The tables, each at its place.
-    pub fn into_kept(self) -> Vec<AbbrevTable>
-        ensures { result.items ≡ self.kept.items }
+    pub fn into_kept(self) -> KeptTables
+        requires { All (IsIn self.rows.rows.items) self.kept.items }
+        ensures { result ≡ tables_of self }
     {
-        self.kept
+        KeptTables::new(self.rows.into_rows(), self.kept)
     }
 
     /// The table at a place.
-    pub fn get(&self, place: u32) -> &AbbrevTable
-        requires { place < length self.now.kept.items }
-        ensures { slice_get self.now.kept.items place ≡ Some result.now }
+    pub fn get(&self, place: u32) -> SharedTable<'_>
+        requires kept { All (IsIn self.now.rows.rows.items) self.now.kept.items }
+        requires place { place < length (tables_of self.now) }
+        ensures { slice_get (tables_of self.now) place ≡ Some (declarations result) }
     {
-        &self.kept[place as usize]
+        self.rows.get(self.kept[place as usize])
     }
 }

@@ -4,7 +4,7 @@ ghost use Rattle.std.specs.Prelude.{◌≡◌, ◌+◌, ◌≤◌, length, IfOk,
 ghost use Rattle.dw_elf.specs.declared.TheConstants.{SECTION_LIMIT};
 ghost use Rattle.dw_entries.specs.Faults.{in_header, FailsHere};
 ghost use Rattle.dw_entries.specs.Stopped.{IfBroken, UnitTaken};
-ghost use Rattle.dw_entries.specs.Tables.{AreTables};
+ghost use Rattle.dw_entries.specs.Tables.{tables_of, AreTables};
 
 use crate::context::UnitContext;
 use crate::fault::{Break, Broken, Section};
@@ -37,7 +37,7 @@ pub fn take_unit(
     requires fits { at + length rest.now ≤ SECTION_LIMIT }
     requires table_fits { length section.now ≤ SECTION_LIMIT }
     requires tables { AreTables section.now kept.old.tables }
-    requires few_tables { length kept.old.tables.kept.items ≤ at }
+    requires few_tables { length (tables_of kept.old.tables) ≤ at }
     requires few_entries { length kept.old.records.items ≤ at }
     requires few_units { length kept.old.units.items ≤ at }
     ensures unit { IfOk result (λ len. UnitTaken section.now rest.now at kept.old kept.new len) }

@@ -2,6 +2,7 @@
 
 ghost use Rattle.std.specs.Prelude.{◌≡◌, ◌+◌, ◌^◌, ◌<◌, ◌≤◌, [], length, Ok, false, IfSome, IfNone, IfOk, OnOk, IfErr};
 ghost use Rattle.dw_elf.specs.declared.TheConstants.{SECTION_LIMIT};
+ghost use Rattle.dw_forms.specs.SharedTables.{declarations};
 ghost use Rattle.dw_entries.specs.Header.{header_size};
 ghost use Rattle.dw_entries.specs.Reading.{code_at, item_at, seen, null_first};
 ghost use Rattle.dw_entries.specs.Faults.{BodyFails, in_unit};
@@ -62,7 +63,7 @@ fn turn<'b>(
     requires few_entries { length records.old.items < 0xffffffff }
     requires few_levels { length levels.old.items < 2 ^ 32 }
     ensures { GivesUnlessMemory (λ after. (walk_of records.new.items levels.new.items, after.now)) result
-        (seen (λ i. step context.entry.table.now unit at i (walk_of records.old.items levels.old.items))
+        (seen (λ i. step (declarations context.entry.table) unit at i (walk_of records.old.items levels.old.items))
         (item_at (context_in context.entry) rest.now)) }
 {
     match read_item(context, rest) {

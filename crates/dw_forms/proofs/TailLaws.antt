@@ -1,5 +1,5 @@
 -- A declaration and the table behind it: they are a table where no code stands twice, and no other table begins there.
-use Rattle.std.proofs.Common.{◌≡◌, ℕ, zero, suc, ◌-◌, ◌<◌, List, [], ◌∷◌, ◌++◌, length, take, drop, Option, Some, None, Result, Ok, Err, refl, sym, ap, subst, ◌∙◌, append_assoc, arith}
+use Rattle.std.proofs.Common.{◌≡◌, ◌≤◌, ℕ, zero, suc, ◌-◌, ◌<◌, List, [], ◌∷◌, ◌++◌, length, take, drop, Option, Some, None, Result, Ok, Err, refl, sym, ap, subst, ◌∙◌, append_assoc, arith}
 use Rattle.std.proofs.lemmas.List.{length-append, length-take, length-drop, take-append-drop, take_all, drop_at}
 use Rattle.std.proofs.lemmas.List.Elements.{All-cons}
 use Rattle.std.proofs.lemmas.Result.{MatchResult-at_ok}
@@ -7,16 +7,18 @@ use Rattle.dw_forms.specs.declared.abbrev_fault.DeclFault.{DeclFault}
 use Rattle.dw_forms.specs.declared.row_reader.Started.{Started}
 use Rattle.dw_forms.specs.declared.abbrev_fault.DeclError.{DeclError}
 use Rattle.dw_forms.specs.declared.abbrev_fault.DeclError.TheVariants as errors
-use Rattle.dw_forms.specs.AbbrevFaults.{fault_at}
+use Rattle.dw_forms.specs.declared.abbrev_fault.AbbrevFault.{AbbrevFault}
+use Rattle.dw_forms.specs.declared.abbrev_fault.AbbrevFault.TheVariants as table
+use Rattle.dw_forms.specs.AbbrevFaults.{fault_at, IfTableFault}
 use Rattle.dw_forms.specs.Front.{Takes}
-use Rattle.dw_forms.specs.Abbrev.{Declaration, view, SpellsTable, IsDeclaration, AreDeclarations, DeclFails, Decls}
-use Rattle.dw_forms.specs.AbbrevReading.{Fails, decl_at, decls_of, decls_from, table_at}
+use Rattle.dw_forms.specs.Abbrev.{Declaration, view, SpellsTable, IsDeclaration, AreDeclarations, DeclFails, Decls, TableFails}
+use Rattle.dw_forms.specs.AbbrevReading.{Fails, decl_at, decls_of, decls_from, table_at, TableFails as ReadingFails}
 use Rattle.dw_forms.specs.Readers.{read_is, not_both}
 use Rattle.dw_forms.specs.Rows.{NoTable, AreBehind, IfBroken}
 use Rattle.dw_forms.proofs.Keys.{Apart, Lacks}
 use Rattle.dw_forms.proofs.AttributesLaws.{uleb_some}
 use Rattle.dw_forms.proofs.DeclLaws.{code_of_decl, NextDecl, decl_says, end_again, next_again}
-use Rattle.dw_forms.proofs.TableLaws.{table_found, decls_again, decl_some, one_of}
+use Rattle.dw_forms.proofs.TableLaws.{table_found, table_fails, decls_again, decl_some, one_of}
 
 -- ---- one declaration
 
@@ -181,3 +183,8 @@ table_fewer section offset ds is =
     let (len, b) = table_found section offset ds is in
     let n = ds_fewer ds (take len (drop offset section)) b.spelled.spelled in
     omega (arith, length-take len (drop offset section), length-drop offset section)
+
+-- the fault that plain reading gives is the table's
+pub broken_by : (section : List ℕ) (offset : ℕ) (fault : AbbrevFault) → offset ≤ length section → ReadingFails fault (table_at section offset) → IfTableFault (TableFails section offset) fault
+broken_by section offset table.Memory within e = tt
+broken_by section offset (table.Broken f) within e = table_fails section offset within f e

@@ -29,3 +29,8 @@ abbrev pub IfFault : {X : Type 0} → Result X AbbrevFault → (BrokenTable → 
 IfFault (Ok x) P = Unit {0}
 IfFault (Err table.Memory) P = Unit {0}
 IfFault (Err (table.Broken f)) P = P f
+
+-- this holds of the fault, where memory did not run out
+abbrev pub IfTableFault : (BrokenTable → Type 0) → AbbrevFault → Type 0
+IfTableFault P table.Memory = Unit {0}
+IfTableFault P (table.Broken f) = P f

@@ -1,10 +1,10 @@
 //! The abbreviation tables of a section (DWARF 5, 7.5.3).
 
 ghost use Rattle.std.specs.Prelude.{◌≡◌, ◌<◌, ◌≤◌, [], ℕ, List, length, IfOk, IfErr, OnOk};
-ghost use Rattle.dw_forms.specs.AbbrevFaults.{IfFault};
-ghost use Rattle.dw_forms.specs.Abbrev.{AreDeclarations};
-ghost use Rattle.dw_forms.specs.AbbrevReading.{table_at, TableFails};
-ghost use Rattle.dw_forms.specs.Rows.{row_at, IsIn, table_in, IsTableIn, Stay, NoTable};
+ghost use Rattle.dw_forms.specs.AbbrevFaults.{IfFault, IfTableFault};
+ghost use Rattle.dw_forms.specs.Abbrev.{AreDeclarations, TableFails};
+ghost use Rattle.dw_forms.specs.AbbrevReading.{table_at, TableFails as ReadingFails};
+ghost use Rattle.dw_forms.specs.Rows.{IsIn, table_in, IsTableIn, Stay, NoTable};
 ghost use Rattle.dw_forms.specs.RowStores.{AreRows};
 ghost use Rattle.dw_forms.specs.SharedTables.{declarations};
 
@@ -30,7 +30,9 @@ pub struct DeclRows {
 fn fault_of_table(alloc: Global, section: &[u8], offset: usize) -> AbbrevFault
     requires offset { offset ≤ length section.now }
     requires none { NoTable section.now offset }
-    ensures { TableFails result (table_at section.now offset) }
+    ensures broken { IfTableFault (TableFails section.now offset) result }
+    // For callers that reason by steps.
+    ensures exact { ReadingFails result (table_at section.now offset) }
 {
     match read_table(alloc, section, offset) {
         Ok(_) => unreachable!(),
@@ -66,7 +68,9 @@ impl DeclRows {
         ensures fewer { IfOk result (λ p. length (table_in self.new.rows.items p) < length section.now) }
         ensures rows { OnOk result (AreRows section.now self.new) }
         ensures stay { OnOk result (Stay self.old.rows.items self.new.rows.items) }
-        ensures fault { IfErr result (λ e. TableFails e (table_at section.now offset)) }
+        ensures fault { IfErr result (IfTableFault (TableFails section.now offset)) }
+        // For callers that reason by steps.
+        ensures exact { IfErr result (λ e. ReadingFails e (table_at section.now offset)) }
     {
         if let Some(place) = self.starts.get(&offset).copied() {
             return Ok(place);

@@ -1,5 +1,5 @@
 use Rattle.std.proofs.Common.{arith}
-use Rattle.dw_entries.proofs.ScanLaws.{upto_next, upto_end, upto_few_tables, upto_few_units, upto_few_entries, unit_within, rest_of}
+use Rattle.dw_entries.proofs.ScanLaws.{upto_start, upto_next, upto_end, upto_few_tables, upto_few_units, upto_few_entries, unit_within, rest_of}
 use Rattle.dw_entries.proofs.scanning.scan_units.Goals as goal
 
 pub take_unit-requires-clause-few_tables : goal.take_unit-requires-clause-few_tables
@@ -21,3 +21,9 @@ loop-at-preserved c =
 
 pub returns-clause-all : goal.returns-clause-all
 returns-clause-all c = upto_end c.args.section.now c.args.info.now c.loop-at.at c.loop-at.kept c.loop-at.invariant.upto (omega arith)
+
+pub loop-at-init : goal.loop-at-init
+loop-at-init c = record {
+  upto = upto_start c.args.section.now c.args.info.now _ c.in_ok-new.ensures.none (c.in_ok-new.ensures.tables c.args.section.now) c.new-2.ensures.items c.new-3.ensures.items;
+  within = omega arith;
+}

@@ -1,4 +1,5 @@
 use Rattle.std.proofs.Common.{◌≡◌, ◌+◌, ◌-◌, length, [], ap, reverse, arith}
+use Rattle.dw_forms.specs.SharedTables.{declarations}
 use Rattle.dw_entries.specs.Units.{context_in}
 use Rattle.dw_entries.specs.Reading.{first_at}
 use Rattle.dw_entries.specs.Token.{declared_view}
@@ -10,7 +11,7 @@ use Rattle.dw_entries.proofs.walk.walk_tree.Goals as goal
 
 pub returns-in-Err-clause-fault : goal.returns-in-Err-clause-fault
 returns-in-Err-clause-fault c =
-    first_fault (context_in c.args.context) c.args.kind c.args.place.header c.args.place.start c.args.body.now c.in-Err.failing c.broken_at.result c.requires.start (seen_err (decl_of c.args.context.table.now) (first_at (context_in c.args.context) c.args.kind c.args.body.now) c.in-Err.failing c.in-Err.ensures) c.broken_at.ensures
+    first_fault (context_in c.args.context) c.args.kind c.args.place.header c.args.place.start c.args.body.now c.in-Err.failing c.broken_at.result c.requires.start (seen_err (decl_of (declarations c.args.context.table)) (first_at (context_in c.args.context) c.args.kind c.args.body.now) c.in-Err.failing c.in-Err.ensures) c.broken_at.ensures
 
 pub loop-place-init : goal.loop-place-init
 loop-place-init c =
@@ -18,7 +19,7 @@ loop-place-init c =
 
 pub loop-place-smaller : goal.loop-place-smaller
 loop-place-smaller c =
-    turn_shorter (λ i. step c.args.context.table.now c.args.place.number (c.args.place.start + (length c.args.body.now - length c.loop-place.rest.now)) i (walk_of c.loop-place.records.items c.loop-place.levels.items)) (context_in c.args.context) c.loop-place.rest.now (walk_of c.turn.new.records.items c.turn.new.levels.items) c.in-Ok-turn.after.now c.in-Ok-turn.ensures
+    turn_shorter (λ i. step (declarations c.args.context.table) c.args.place.number (c.args.place.start + (length c.args.body.now - length c.loop-place.rest.now)) i (walk_of c.loop-place.records.items c.loop-place.levels.items)) (context_in c.args.context) c.loop-place.rest.now (walk_of c.turn.new.records.items c.turn.new.levels.items) c.in-Ok-turn.after.now c.in-Ok-turn.ensures
 
 pub loop-place-preserved : goal.loop-place-preserved
 loop-place-preserved c =

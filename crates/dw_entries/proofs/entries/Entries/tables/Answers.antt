@@ -1,5 +1,0 @@
-use Rattle.dw_entries.proofs.KeptLaws.{declared_among}
-use Rattle.dw_entries.proofs.entries.Entries.tables.Goals as goal
-
-pub returns : goal.returns
-returns c = rw c.deref.ensures.value (declared_among _ _ _ _ _ c.args.self.now.scanned)
