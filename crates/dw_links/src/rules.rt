@@ -14,7 +14,7 @@ ghost use Rattle.dw_entries.specs.Asked.{AtEntries};
 ghost use Rattle.dw_links.specs.Concerns.{AtHead, Passes, AllPass, EachPasses, PassesAt, FailsAt};
 
 use dw_entries::{Broken, Entries, EntryId, Fault, Head, Rule, Section};
-use dw_forms::{AbbrevTable, Attribute, AttributeSpec, Value};
+use dw_forms::{Attribute, AttributeSpec, DeclRow, Value};
 use std::alloc::Global;
 
 /// Rules that are asked of each attribute of each entry.
@@ -61,12 +61,12 @@ pub fn concerns_any<R: AttributeRules>(rules: &R, specs: &[AttributeSpec]) -> bo
     false
 }
 
-/// Whether a rule may fail at an attribute of a declaration in a table.
-fn concerns_table<R: AttributeRules>(rules: &R, table: &AbbrevTable) -> bool
-    ensures { OnFalse result (EachPasses (R.fails rules.now) table.now) }
+/// Whether a rule may fail at an attribute of a declaration in a row.
+fn concerns_row<R: AttributeRules>(rules: &R, row: &DeclRow) -> bool
+    ensures { OnFalse result (EachPasses (R.fails rules.now) row.now) }
 {
-    for place in 0..table.len() {
-        if concerns_any(rules, &table.decl(place).attributes) {
+    for place in 0..row.len() {
+        if concerns_any(rules, &row.decl(place).attributes) {
             return true;
         }
     }
@@ -77,8 +77,8 @@ fn concerns_table<R: AttributeRules>(rules: &R, table: &AbbrevTable) -> bool
 pub fn concerns_entries<R: AttributeRules>(rules: &R, entries: &Entries<'_>) -> bool
     ensures { OnFalse result (HasNone (AtEntries (entries_of (units_of entries.now.scanned)) (AtHead (R.fails rules.now)))) }
 {
-    for table in entries.tables() {
-        if concerns_table(rules, table) {
+    for row in entries.rows() {
+        if concerns_row(rules, row) {
             return true;
         }
     }

@@ -6,6 +6,6 @@ use Rattle.dw_links.proofs.rules.concerns_entries.Goals as goal
 
 pub returns : goal.returns
 returns g c =
-    let tables = c.tables-table-items.result.now in
-    none_concerned _ _ (units_of c.args.entries.now.scanned) tables (g.R.AttributeRules.fails c.args.rules.now) c.args.entries.now.scanned.1.spells c.tables-table-items.ensures
-    (λ k table is. c.loop-table.invariant k table (omega (arith, slice_get_within tables k table is, c.loop-table-test.false)) is)
+    let rows = c.rows-row-items.result.now in
+    none_concerned _ _ (units_of c.args.entries.now.scanned) rows (g.R.AttributeRules.fails c.args.rules.now) c.args.entries.now.scanned.1.spells c.rows-row-items.ensures
+    (λ k row is. c.loop-row.invariant k row (omega (arith, slice_get_within rows k row is, c.loop-row-test.false)) is)

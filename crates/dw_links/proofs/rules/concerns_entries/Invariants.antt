@@ -4,5 +4,5 @@ use Rattle.dw_forms.specs.Abbrev.{Declaration}
 use Rattle.dw_links.specs.Concerns.{EachPasses}
 use Rattle.dw_links.proofs.rules.concerns_entries.Given as goal
 
-abbrev pub invariant-loop-table : goal.invariant-loop-table
-invariant-loop-table g l = (k : ℕ) (table : List Declaration) → k < l.table-index → slice_get l.table-items k ≡ Some table → EachPasses (g.R.AttributeRules.fails l.rules) table
+abbrev pub invariant-loop-row : goal.invariant-loop-row
+invariant-loop-row g l = (k : ℕ) (row : List Declaration) → k < l.row-index → slice_get l.row-items k ≡ Some row → EachPasses (g.R.AttributeRules.fails l.rules) row
