@@ -19,6 +19,7 @@ LIMIT = 20
 MANY = 100_000
 # Bytes of memory that a run of `show` may have.
 MEMORY = 1 << 30
+TABLES = 40_000
 
 
 def elf(sections):
@@ -39,10 +40,19 @@ def elf(sections):
     return head + bytes(body) + b"".join(headers)
 
 
-def unit(items, kind=1, more=b""):
-    """A version 5 unit: its header, and its items."""
-    body = struct.pack("<HBBI", 5, kind, 8, 0) + more + items
+def unit(items, kind=1, more=b"", table=0):
+    """A version 5 unit: its header with the offset of its table, and its items."""
+    body = struct.pack("<HBBI", 5, kind, 8, table) + more + items
     return struct.pack("<I", len(body)) + body
+
+
+def uleb(number):
+    """The number in the least bytes."""
+    out = bytearray()
+    while number >= 128:
+        out.append(number % 128 + 128)
+        number //= 128
+    return bytes(out) + bytes([number])
 
 
 # 1 compile unit, 2 base type with a size, 3 typedef with a type, 4 structure with a size, 5 member with a type, 6 array with a
@@ -103,6 +113,18 @@ def files():
     signed = b"".join(unit(b"\x09" + INT + b"\0", 2, struct.pack("<QI", n, 25)) for n in range(MANY))
     users = unit(b"\x01" + b"".join(b"\x0a" + struct.pack("<Q", n) for n in range(MANY)) + b"\0")
     yield f"{MANY:,} type units and references to each", sections(signed + users), f"sound: {MANY + 1} units, {3 * MANY + 1} entries, {MANY} types"
+
+    # Each declaration begins a table of its own, whose tail is the table of the next one.
+    codes = [uleb(n + 1) for n in range(TABLES)]
+    starts = [0]
+    for code in codes:
+        starts.append(starts[-1] + len(code) + 4)
+    row = b"".join(code + b"\x11\0\0\0" for code in codes) + b"\0"
+    units = [unit(code, table=start) for code, start in zip(codes, starts)]
+    shuffled = units[::2] + units[1::2][::-1]
+    for order, some in (("rising", units), ("falling", units[::-1]), ("mixed", shuffled)):
+        yield (f"{TABLES:,} units with overlapping tables, {order}", [(".debug_abbrev", row), (".debug_info", b"".join(some))],
+               f"sound: {TABLES} units, {TABLES} entries, 0 types")
 
 
 def limited():

@@ -5,6 +5,7 @@ mod faults;
 mod lookups;
 mod rules;
 mod runs;
+mod tails;
 mod trees;
 mod vectors;
 
