@@ -16,7 +16,7 @@ use Rattle.dw_image.specs.Valid.{HasSizes}
 
 -- the graph that is packed in two vectors
 abbrev pub graph_of : Packed → Graph
-graph_of packed = cut packed.steps.items 0 packed.ends.items
+graph_of packed = cut packed.steps 0 packed.ends
 
 -- no rule on types fails, and these are the steps by value and the sizes
 pub record AreMeasures (facts : List Facts) (steps : Packed) (table : List Size) : Type 0 where

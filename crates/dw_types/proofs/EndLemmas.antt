@@ -1,13 +1,14 @@
 -- How a walk begins, and what holds at its end.
-use Rattle.std.proofs.Common.{◌≡◌, ◌≢◌, ℕ, ◌^◌, ◌<◌, [], length, get_or, replicate, inl, inr, arith, refl, ap, sum, count_by, cond, zero, suc}
+use Rattle.std.proofs.Common.{◌≡◌, ◌≢◌, ℕ, ◌^◌, ◌+◌, ◌<◌, ◌∙◌, [], length, get_or, replicate, below_more, inl, inr, arith, refl, sym, ap, sum, count_by, cond, zero, suc}
 use Rattle.std.proofs.lemmas.Bool.{cases_lt}
 use Rattle.std.proofs.lemmas.List.{length-replicate, get_or-replicate, get_or_past}
 use Rattle.std.proofs.lemmas.List.Sums.{sum_by-cons}
 use Rattle.dw_types.specs.declared.walk.Mark.{Mark}
 use Rattle.dw_types.specs.declared.walk.Mark.TheVariants.{Fresh, Open, Ranked}
 use Rattle.dw_types.specs.Graphs.{Graph, steps_of, FallsAlong}
-use Rattle.dw_types.specs.Walks.{IsWalk, is_taken}
-use Rattle.dw_types.specs.WalkStates.{State, mark_of}
+use Rattle.dw_types.specs.Walks.{IsWalk, KeepsTaken, is_taken}
+use Rattle.dw_types.specs.WalkStates.{State, mark_of, taken_up}
+use Rattle.dw_types.proofs.ListLemmas.{at_set}
 
 get_or-same : {X : Type 0} (n k : ℕ) (x : X) → get_or (replicate n x) k x ≡ x
 get_or-same n k x = elim (cases_lt k n) [ inl below ↦ get_or-replicate n k x x below | inr above ↦ get_or_past (replicate n x) k x (let e = length-replicate n x in omega arith) ]
@@ -75,3 +76,9 @@ falls-from_ranked graph s h all node k in_steps =
       | inl below ↦ h.coherent.ranks.falls node k (all node below) in_steps
       | inr above ↦ absurd (let none : steps_of graph node ≡ [] = get_or_past graph node [] above in let some : k < length {A = ℕ} [] = rw none at in_steps in omega arith)
     ]
+
+-- where a node was taken up, and no node that was is fresh again, none up to it is fresh
+pub taken-more : (s new : State) (node : ℕ) → node < length s.marks → KeepsTaken (taken_up s node) new → ((k : ℕ) → k < node → mark_of s k ≢ Fresh) → (k : ℕ) → k < node + 1 → mark_of new k ≢ Fresh
+taken-more s new node inside keeps before = below_more _ _
+    (λ k below fresh. elim (at_set s.marks node k Open Fresh inside) [ inl here ↦ absurd (let same = here.0 in omega arith) | inr other ↦ before k below (sym other.1 ∙ keeps k fresh) ])
+    (λ fresh. elim (at_set s.marks node node Open Fresh inside) [ inl here ↦ let no : Open ≡ Fresh = sym here.1 ∙ keeps node fresh in cc | inr other ↦ other.0 refl ])

@@ -15,6 +15,8 @@ pub mod EndLemmas
 pub mod PackingLemmas
 pub mod CapLemmas
 pub mod StepLemmas
+pub mod StepListLemmas
+pub mod StepPackingLemmas
 pub mod RowLemmas
 pub mod RoleLemmas
 pub mod FirstLemmas

@@ -1,8 +1,8 @@
 -- A loop that packs one node after another.
-use Rattle.std.proofs.Common.{◌≡◌, ℕ, ◌+◌, ◌<◌, List, [], ◌∷◌, ◌++◌, length, get_or, take, inl, inr, arith, refl, sym, ◌∙◌, suc, length-append}
+use Rattle.std.proofs.Common.{◌≡◌, ℕ, ◌+◌, ◌<◌, List, [], ◌∷◌, ◌++◌, length, get_or, take, inl, inr, arith, refl, sym, ◌∙◌, ap, append_assoc, suc, length-append}
 use Rattle.std.proofs.lemmas.List.{get_or_append_left, get_or_push, length_push, take_more}
 use Rattle.dw_types.specs.Graphs.{Graph}
-use Rattle.dw_types.specs.Packing.{cut, begin_of, CutsInOrder}
+use Rattle.dw_types.specs.Packing.{cut, begin_of, CutsInOrder, LeadsBelow}
 use Rattle.dw_types.specs.PackingLaws.{cut-more}
 use Rattle.dw_types.proofs.ListLemmas.{at_push}
 
@@ -31,3 +31,12 @@ packs-more graph steps ends node below h =
             | inr p ↦ let old = h.in_order k p.0 in let fits = old.1 in rw (begin, p.1) (old.0, (omega arith))
           ];
     }
+
+-- one more step of a row
+pub row-more : (steps all row : List ℕ) (k : ℕ) → k < length row → all ≡ steps ++ take k row → all ++ get_or row k 0 ∷ [] ≡ steps ++ take (k + 1) row
+row-more steps all row k below is =
+    ap (λ (xs : List ℕ). xs ++ get_or row k 0 ∷ []) is ∙ (append_assoc steps (take k row) (get_or row k 0 ∷ []) ∙ ap (λ (xs : List ℕ). steps ++ xs) (sym (take_more row k 0 below)))
+
+-- one more step that leads to a node
+pub leads-more : (steps : List ℕ) (to nodes : ℕ) → LeadsBelow steps nodes → to < nodes → LeadsBelow (steps ++ to ∷ []) nodes
+leads-more steps to nodes leads below k within = elim (at_push steps k to 0 within) [ inl last ↦ rw last.1 below | inr before ↦ rw before.1 (leads k before.0) ]

@@ -1,20 +1,24 @@
 -- A loop that lists the steps by value of one entry after another.
-use Rattle.std.proofs.Common.{◌≡◌, ℕ, ◌+◌, ◌<◌, ◌≤◌, Bool, true, false, not, eqb, List, [], ◌∷◌, ◌++◌, Option, Some, None, length, get_or, set, inl, inr, arith, refl, sym, ap, ◌∙◌, suc, zero, length-set}
+use Rattle.std.proofs.Common.{◌≡◌, ◌≢◌, ℕ, ◌+◌, ◌<◌, ◌≤◌, Bool, true, false, not, eqb, List, [], ◌∷◌, ◌++◌, Option, Some, None, length, get_or, set, inl, inr, arith, refl, sym, ap, ◌∙◌, suc, zero}
 use Rattle.std.specs.List.{flat_map, range_with_len}
-use Rattle.std.proofs.lemmas.Bool.{eqb-true, false_from_ne_true, and_right, and_parts}
-use Rattle.std.proofs.lemmas.List.{append-nil, append_assoc, length_push, get_or_append_left, length-map, map_push, map-set, get_or-map}
+use Rattle.std.proofs.lemmas.Bool.{cases_eq, eqb-true, false_from_ne_true, and_right, and_parts}
+use Rattle.std.proofs.Math.Arith.{lt_of_le-ne}
+use Rattle.std.proofs.lemmas.List.{append-nil, append_assoc}
+use Rattle.std.proofs.lemmas.List.Elements.{All-append}
 use Rattle.std.proofs.lemmas.List.Concat.{flat_map-append}
 use Rattle.std.proofs.lemmas.List.FromFn.{length-range_with_len, get_or-range_with_len, fill_by_all}
-use Rattle.std.specs.Prelude.{Vec}
-use Rattle.std.specs.declared.alloc.Global.{Global}
+use Rattle.std.specs.Prelude.{All}
+use Rattle.std.specs.Option.{option_to_list}
 use Rattle.dw_types.specs.declared.facts.Facts.{Facts}
 use Rattle.dw_forms.specs.Codes.{DW_TAG_member}
 use Rattle.dw_types.specs.Entries.{entry_at, is_parent, ParentsComeFirst, TargetsAreEntries}
-use Rattle.dw_types.specs.Graphs.{Graph, step_at, LeadsToNodes}
+use Rattle.dw_types.specs.Graphs.{step_at, LeadsToNodes}
 use Rattle.dw_types.specs.Kinds.{has_members, is_declared_type, passes_type_on, is_one_of, container_tags, declarable_tags}
-use Rattle.dw_types.specs.Rows.{row_items}
+use Rattle.dw_types.specs.declared.step_list.Step.{Step}
+use Rattle.dw_types.specs.StepLists.{row_of, rows_of, steps_to, to_of}
 use Rattle.dw_types.specs.Steps.{is_plain_member, IsStepByValue, by_type, by_member, by_signature, targets_if, member_step, member_steps, own_steps, row_so_far, steps_by_value, by_value, IsMemberOf}
-use Rattle.dw_types.proofs.ListLemmas.{at_set, at_push}
+use Rattle.dw_types.proofs.StepListLemmas.{row-append, row-steps_to, row-steps_to_other}
+use Rattle.dw_types.proofs.StepPackingLemmas.{get_or-rows_of, length-rows_of}
 use Rattle.dw_types.proofs.StepLemmas.{by_value-from_step, length-by_value}
 
 pub range-more : (from n : ℕ) → range_with_len from (suc n) ≡ range_with_len from n ++ (from + n) ∷ []
@@ -67,12 +71,48 @@ member_steps-before entries node count first before =
     let at = get_or-range_with_len 0 count k 0 (omega arith) in
     no-member_before entries node (get_or (range_with_len 0 count) k 0) first (omega arith))
 
--- the rows of so many entries, and what they hold
-pub record HasRows (entries : List Facts) (rows : Graph) (count : ℕ) : Type 0 where
-  pub long : length rows ≡ count
-  pub rows_so_far : (node : ℕ) → node < count → get_or rows node [] ≡ row_so_far entries node count
+-- the steps of so many entries by their members: none of them comes from a later entry, and each leads to an entry
+pub record HasSteps (entries : List Facts) (steps : List Step) (count : ℕ) : Type 0 where
+  pub rows_so_far : (node : ℕ) → node < count → row_of steps node ≡ row_so_far entries node count
+  pub no_later : (node : ℕ) → count ≤ node → row_of steps node ≡ []
+  pub leads : All (λ step. to_of step < length entries) steps
 
-module _ (entries : List Facts) (rows : Graph) (count : ℕ) (first : ParentsComeFirst entries) (h : HasRows entries rows count) where
+pub steps-none : (entries : List Facts) → HasSteps entries [] 0
+steps-none entries = record { rows_so_far = λ node below. absurd (omega arith); no_later = λ node later. refl; leads = λ k step below. absurd (omega arith) }
+
+row-step : (node : ℕ) (to : Option ℕ) → row_of (steps_to node to) node ≡ option_to_list to
+row-step node None = refl
+row-step node (Some to) = row-steps_to node (Some to) to refl
+
+leads-step : (from bound : ℕ) (to : Option ℕ) → ((t : ℕ) → to ≡ Some t → t < bound) → All (λ step. to_of step < bound) (steps_to from to)
+leads-step from bound None below = λ k step inside. absurd (omega arith)
+leads-step from bound (Some to) below = λ k step inside. let first : k ≡ 0 = omega arith in rw first (below to refl)
+
+module _ (entries : List Facts) (steps : List Step) (count : ℕ) (first : ParentsComeFirst entries) (h : HasSteps entries steps count)
+    (type signature : Option ℕ) (type_is : option_to_list type ≡ targets_if (passes_type_on (entry_at entries count)) (entry_at entries count).type_target)
+    (signature_is : option_to_list signature ≡ targets_if (is_declared_type (entry_at entries count)) (entry_at entries count).signature_target)
+    (type_in : (to : ℕ) → type ≡ Some to → to < length entries) (signature_in : (to : ℕ) → signature ≡ Some to → to < length entries) where
+  abbrev pub with_own : List Step
+  with_own = (steps ++ steps_to count type) ++ steps_to count signature
+
+  own-row : (node : ℕ) → row_of with_own node ≡ (row_of steps node ++ row_of (steps_to count type) node) ++ row_of (steps_to count signature) node
+  own-row node = row-append (steps ++ steps_to count type) (steps_to count signature) node ∙ ap (λ (row : List ℕ). row ++ row_of (steps_to count signature) node) (row-append steps (steps_to count type) node)
+
+  -- the new entry has its own steps, and all others keep theirs
+
+  row-here : row_of with_own count ≡ own_steps (entry_at entries count)
+  row-here = own-row count ∙ rw (h.no_later count (omega arith), row-step count type, row-step count signature, type_is, signature_is) refl
+
+  row-kept : (node : ℕ) → count ≢ node → row_of with_own node ≡ row_of steps node
+  row-kept node other =
+      own-row node
+      ∙ rw (row-steps_to_other count node type other, row-steps_to_other count node signature other, append-nil (row_of steps node), append-nil (row_of steps node)) refl
+
+  leads-own : All (λ step. to_of step < length entries) with_own
+  leads-own =
+      All-append (λ step. to_of step < length entries) (steps ++ steps_to count type) (steps_to count signature)
+      (All-append (λ step. to_of step < length entries) steps (steps_to count type) h.leads (leads-step count (length entries) type type_in)) (leads-step count (length entries) signature signature_in)
+
   -- a new row has the entry's own steps
   new-row : own_steps (entry_at entries count) ≡ row_so_far entries count (count + 1)
   new-row = rw (member_steps-before entries count (count + 1) first (omega arith), append-nil (targets_if (passes_type_on (entry_at entries count)) (entry_at entries count).type_target)) refl
@@ -81,48 +121,57 @@ module _ (entries : List Facts) (rows : Graph) (count : ℕ) (first : ParentsCom
   old-row : (node : ℕ) → member_step entries node count ≡ [] → row_so_far entries node count ≡ row_so_far entries node (count + 1)
   old-row node none = rw (member_steps-more entries node count, none, append-nil (member_steps entries node count)) refl
 
-  -- a row of a node to which no step comes, with one more row
-  row-kept : (node : ℕ) → node < count + 1 → member_step entries node count ≡ [] → get_or (rows ++ own_steps (entry_at entries count) ∷ []) node [] ≡ row_so_far entries node (count + 1)
-  row-kept node below none =
-      let e = h.long in
-      let more = length_push rows (own_steps (entry_at entries count)) in
-      elim (at_push rows node (own_steps (entry_at entries count)) [] (omega arith)) [
-        | inl p ↦ let same : node ≡ count = p.0 ∙ h.long in rw (p.1, same) new-row
-        | inr p ↦ p.1 ∙ (h.rows_so_far node (let lt = p.0 in omega arith) ∙ old-row node none)
-      ]
+  row-so_far : (node : ℕ) → node < count + 1 → member_step entries node count ≡ [] → row_of with_own node ≡ row_so_far entries node (count + 1)
+  row-so_far node below none = elim (cases_eq node count) [
+    | inl same ↦ rw same (row-here ∙ new-row)
+    | inr other ↦ row-kept node (λ same. other (sym same)) ∙ (h.rows_so_far node (lt_of_le-ne (omega arith) other) ∙ old-row node none)
+  ]
 
-  pub rows-plain : ((node : ℕ) → member_step entries node count ≡ []) → HasRows entries (rows ++ own_steps (entry_at entries count) ∷ []) (count + 1)
-  rows-plain none = record {
-    long = let e = h.long in let more = length_push rows (own_steps (entry_at entries count)) in omega arith;
-    rows_so_far = λ node below. row-kept node below (none node);
+  pub steps-plain : ((node : ℕ) → member_step entries node count ≡ []) → HasSteps entries with_own (count + 1)
+  steps-plain none = record {
+    rows_so_far = λ node below. row-so_far node below (none node);
+    no_later = λ node later. row-kept node (λ same. omega arith) ∙ h.no_later node (omega arith);
+    leads = leads-own;
   }
 
-  pub rows-member : (parent to : ℕ) → IsMemberOf entries count parent to
-      → HasRows entries (set (rows ++ own_steps (entry_at entries count) ∷ []) parent (get_or (rows ++ own_steps (entry_at entries count) ∷ []) parent [] ++ to ∷ [])) (count + 1)
-  rows-member parent to m =
-      let own = own_steps (entry_at entries count) in
+  pub steps-member : (parent to : ℕ) → IsMemberOf entries count parent to → to < length entries → HasSteps entries (with_own ++ steps_to parent (Some to)) (count + 1)
+  steps-member parent to m inside =
       let before = m.before in
-      let e = h.long in
-      let more = length_push rows own in
-      let old = get_or_append_left rows (own ∷ []) [] parent (omega arith) ∙ h.rows_so_far parent before in
       let entry = entry_at entries parent in
-      let type = targets_if (passes_type_on entry) entry.type_target in
+      let own = targets_if (passes_type_on entry) entry.type_target in
       let so_far = member_steps entries parent count in
       let unsigned : targets_if (is_declared_type entry) entry.signature_target ≡ [] = no-signature_step entry entry.signature_target m.parent_has in
       let grown : row_so_far entries parent count ++ to ∷ [] ≡ row_so_far entries parent (count + 1) =
-      rw (unsigned, member_steps-more entries parent count, m.step, append-nil (type ++ so_far), append-nil (type ++ (so_far ++ to ∷ [])), append_assoc type so_far (to ∷ [])) refl in
+      rw (unsigned, member_steps-more entries parent count, m.step, append-nil (own ++ so_far), append-nil (own ++ (so_far ++ to ∷ [])), append_assoc own so_far (to ∷ [])) refl in
+      let row : (node : ℕ) → row_of (with_own ++ steps_to parent (Some to)) node ≡ row_of with_own node ++ row_of (steps_to parent (Some to)) node = λ node. row-append with_own (steps_to parent (Some to)) node in
+      let plain : (node : ℕ) → parent ≢ node → row_of (with_own ++ steps_to parent (Some to)) node ≡ row_of with_own node =
+      λ node other. row node ∙ rw (row-steps_to_other parent node (Some to) other) (append-nil (row_of with_own node)) in
       record {
-        long = length-set (rows ++ own ∷ []) parent _ ∙ (omega arith);
-        rows_so_far = λ node below.
-            elim (at_set (rows ++ own ∷ []) parent node (get_or (rows ++ own ∷ []) parent [] ++ to ∷ []) [] (omega arith)) [
-              | inl p ↦ p.1 ∙ rw (p.0, old) grown
-              | inr p ↦ p.1 ∙ row-kept node below (m.others node p.0)
-            ];
+        rows_so_far = λ node below. elim (cases_eq node parent) [
+          | inl same ↦
+              rw same
+              (row parent
+              ∙ (ap (λ (xs : List ℕ). row_of with_own parent ++ xs) (row-step parent (Some to))
+              ∙ (ap (λ (xs : List ℕ). xs ++ to ∷ []) (row-kept parent (λ e. omega arith) ∙ h.rows_so_far parent before) ∙ grown)))
+          | inr other ↦ plain node (λ same. other (sym same)) ∙ row-so_far node below (m.others node other)
+        ];
+        no_later = λ node later. plain node (λ same. omega arith) ∙ (row-kept node (λ same. omega arith) ∙ h.no_later node (omega arith));
+        leads = All-append (λ step. to_of step < length entries) with_own (steps_to parent (Some to)) leads-own (leads-step parent (length entries) (Some to) (λ t is. let same : to ≡ t = cc in omega arith));
       }
 
--- the rows of all entries are the graph of the steps by value
-pub rows-all : (entries : List Facts) (rows : Graph) → HasRows entries rows (length entries) → rows ≡ by_value entries
-rows-all entries rows h = fill_by_all (steps_by_value entries) rows (length entries) [] h.long h.rows_so_far
+-- the type of a plain member is an entry
+pub member-target : (entries : List Facts) → TargetsAreEntries entries → (child parent to : ℕ) → IsMemberOf entries child parent to → to < length entries
+member-target entries targets child parent to m = go (is_plain_member entries parent child) (entry_at entries child).type_target refl m.step
+  where
+    go : (b : Bool) (target : Option ℕ) → (entry_at entries child).type_target ≡ target → targets_if b target ≡ to ∷ [] → to < length entries
+    go true (Some t) at is = let same : t ≡ to = cc in let below = (targets child t).0 at in omega arith
+    go true None at is = absurd cc
+    go false target at is = absurd cc
+
+-- the steps of all entries are the graph of the steps by value
+pub steps-all : (entries : List Facts) (steps : List Step) → HasSteps entries steps (length entries) → rows_of steps (length entries) ≡ by_value entries
+steps-all entries steps h =
+    fill_by_all (steps_by_value entries) (rows_of steps (length entries)) (length entries) [] (length-rows_of steps (length entries)) (λ node below. get_or-rows_of steps (length entries) node below ∙ h.rows_so_far node below)
 
 -- a step by value leads to an entry
 step-to_entry : (entries : List Facts) → TargetsAreEntries entries → (from to : ℕ) → IsStepByValue entries from to → to < length entries
@@ -133,20 +182,3 @@ step-to_entry entries targets from to (by_signature declared is) = (targets from
 pub by_value-leads : (entries : List Facts) → TargetsAreEntries entries → LeadsToNodes (by_value entries)
 by_value-leads entries targets node k below =
     rw (length-by_value entries) (step-to_entry entries targets node (step_at (by_value entries) node k) (by_value-from_step entries node (step_at (by_value entries) node k) (k, below, refl)))
-
--- a vector of vectors as a list of lists, after a push and after a write
-
-pub items-push : (rows : List (Vec ℕ Global)) (more : Vec ℕ Global) → row_items (rows ++ more ∷ []) ≡ row_items rows ++ more.items ∷ []
-items-push rows more = map_push (λ (row : Vec ℕ Global). row.items) rows more
-
-pub items-set : (rows : List (Vec ℕ Global)) (place to : ℕ) (old new : Vec ℕ Global) → place < length rows → old ≡ get_or rows place old → new.items ≡ old.items ++ to ∷ []
-    → row_items (set rows place new) ≡ set (row_items rows) place (get_or (row_items rows) place [] ++ to ∷ [])
-items-set rows place to old new below is grown =
-    let old_row : get_or (row_items rows) place [] ≡ old.items = get_or-map (λ (row : Vec ℕ Global). row.items) rows place old [] below ∙ ap (λ (row : Vec ℕ Global). row.items) (sym is) in
-    map-set (λ (row : Vec ℕ Global). row.items) rows place new ∙ ap (λ (row : List ℕ). set (row_items rows) place row) (grown ∙ ap (λ (row : List ℕ). row ++ to ∷ []) (sym old_row))
-
-pub in-pushed : (old new : List (Vec ℕ Global)) (more : Vec ℕ Global) (place : ℕ) → new ≡ old ++ more ∷ [] → place < length (row_items old) → place < length new
-in-pushed old new more place is below =
-    let long = length_push old more in
-    let same = length-map old (λ (row : Vec ℕ Global). row.items) in
-    rw is (omega arith)

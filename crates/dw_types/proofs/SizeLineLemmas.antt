@@ -175,13 +175,9 @@ capped_line entries table node = cap_size (2 ^ 63) (size_line entries table node
 pub capped_line-local : (entries : List Facts) → IsLocal (by_value entries) (capped_line entries)
 capped_line-local entries table other node in_graph same = ap (cap_size (2 ^ 63)) (size_line-local entries table other node in_graph same)
 
--- a node that stands in an order is an entry
-pub ranked-in : (entries : List Facts) (order : Ranking) → IsOrderOf (by_value entries) order → (nodes : List ℕ) → nodes ≡ order.by_rank → (k : ℕ) → k < length nodes → get_or nodes k 0 < length entries
-ranked-in entries order h nodes is k below =
-    let here = h.ranked k (rw is at below) in
-    let long = length-by_value entries in
-    let e : get_or order.by_rank k 0 < length entries = let p = here.0 in omega arith in
-    rw is e
+-- the node of a rank is an entry
+pub ranked-in : (entries : List Facts) (order : Ranking) → IsOrderOf (by_value entries) order → (rank node : ℕ) → rank < length order.by_rank → node ≡ get_or order.by_rank rank 0 → node < length entries
+ranked-in entries order h rank node below is = let here = h.ranked rank below in let long = length-by_value entries in rw is (let p = here.0 in omega arith)
 
 -- a structure or union that is not declared has a size of its own
 

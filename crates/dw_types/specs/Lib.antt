@@ -14,6 +14,7 @@ pub mod Packing
 pub mod PackingLaws
 pub mod Steps
 pub mod Rows
+pub mod StepLists
 pub mod TypeFailures
 pub mod Counts
 pub mod Shapes
@@ -24,4 +25,5 @@ pub mod SizeFaults
 pub mod ElementCounts
 pub mod CappedSizes
 pub mod StoredSizes
+pub mod StoredCounts
 pub mod Roles

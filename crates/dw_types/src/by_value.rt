@@ -1,15 +1,16 @@
 //! The graph of steps by value: what an entry holds, and so may not hold itself (DWARF 5, chapter 5).
 
-ghost use Rattle.std.specs.Prelude.{◌≡◌, ℕ, ◌<◌, ◌↔◌, [], length, IfNone, IfSome, IfOk, IfErr, OnOk};
+ghost use Rattle.std.specs.Prelude.{◌≡◌, ℕ, ◌^◌, ◌<◌, ◌↔◌, [], Some, length, All, IfNone, IfSome, IfOk, IfErr, OnOk};
+ghost use Rattle.std.specs.Option.{option_to_list};
 ghost use Rattle.dw_entries.specs.Scanned.{units_of};
 ghost use Rattle.dw_types.specs.Entries.{entry_at, ParentsComeFirst, TargetsAreEntries, OffsetsRise};
 ghost use Rattle.dw_entries.specs.Failures.{HasNone, IsFirst};
 ghost use Rattle.dw_types.specs.FactsOf.{facts_in};
-ghost use Rattle.dw_types.specs.Graphs.{IsStep, LeadsToNodes};
-ghost use Rattle.dw_types.specs.Kinds.{parent_role};
-ghost use Rattle.dw_types.specs.Rows.{row_items};
+ghost use Rattle.dw_types.specs.Graphs.{IsStep};
+ghost use Rattle.dw_types.specs.Kinds.{is_declared_type, parent_role, passes_type_on};
 ghost use Rattle.dw_types.specs.Shapes.{ShapeFailures};
-ghost use Rattle.dw_types.specs.Steps.{by_value, member_step, own_steps, IsMemberOf, IsStepByValue};
+ghost use Rattle.dw_types.specs.StepLists.{rows_of, to_of};
+ghost use Rattle.dw_types.specs.Steps.{by_value, member_step, targets_if, IsMemberOf, IsStepByValue};
 ghost use Rattle.dw_entries.specs.Stopped.{IfFault};
 
 use crate::entry_facts::EntryFacts;
@@ -17,24 +18,36 @@ use crate::facts::Facts;
 use crate::fault::fault_at_entry;
 use crate::graph::StepGraph;
 use crate::kind::Role;
+use crate::packed::Packed;
 use crate::roles::Roles;
+use crate::step_list::Step;
 use dw_entries::{Entries, Stop};
 use dw_links::Links;
-use std::alloc::{AllocError, Global};
+use std::alloc::Global;
 
 impl Facts {
-    /// The steps that the entry makes by itself: to its type, and by its signature.
-    fn own_steps(&self, alloc: Global) -> Result<Vec<usize>, AllocError>
-        ensures { IfOk result (λ steps. steps.items ≡ own_steps self.now) }
+    /// The step that the entry makes to its type.
+    fn type_step(&self) -> Option<usize>
+        ensures step { option_to_list result ≡ targets_if (passes_type_on self.now) self.now.type_target }
+        ensures named { (to : ℕ) → result ≡ Some to → self.now.type_target ≡ Some to }
     {
-        let mut steps = Vec::new(alloc);
-        if let (true, Some(to)) = (self.passes_type_on(), self.type_target) {
-            steps.push(to)?;
+        if self.passes_type_on() {
+            self.type_target
+        } else {
+            None
         }
-        if let (true, Some(to)) = (self.is_declared_type(), self.signature_target) {
-            steps.push(to)?;
+    }
+
+    /// The step that the entry makes by its signature.
+    fn signature_step(&self) -> Option<usize>
+        ensures step { option_to_list result ≡ targets_if (is_declared_type self.now) self.now.signature_target }
+        ensures named { (to : ℕ) → result ≡ Some to → self.now.signature_target ≡ Some to }
+    {
+        if self.is_declared_type() {
+            self.signature_target
+        } else {
+            None
         }
-        Ok(steps)
     }
 }
 
@@ -57,11 +70,39 @@ fn member_of(
     Some((entry.parent?, entry.type_target?))
 }
 
+/// The steps by value of all entries, by the members that make them, or the first fault of their shapes.
+fn steps_of(alloc: Global, entries: &EntryFacts<'_, '_>) -> Result<Vec<Step>, Stop>
+    requires parents { ParentsComeFirst entries.now }
+    requires targets { TargetsAreEntries entries.now }
+    requires rising { OffsetsRise entries.now }
+    requires few { length entries.now < 2 ^ 32 }
+    ensures rows { IfOk result (λ steps. rows_of steps.items (length entries.now) ≡ by_value entries.now) }
+    ensures leads { IfOk result (λ steps. All (λ step. to_of step < length entries.now) steps.items) }
+    ensures sound { OnOk result (HasNone (ShapeFailures entries.now)) }
+    ensures fault { IfErr result (IfFault (IsFirst (ShapeFailures entries.now))) }
+{
+    let mut steps: Vec<Step> = Vec::with_capacity(alloc, entries.count())?;
+    let mut roles = Roles::new(alloc);
+    for child in 0..entries.count() {
+        let entry = entries.at(child);
+        let parent = roles.of_parent(entry.parent);
+        if let Some(rule) = entry.broken_shape(parent) {
+            return Err(Stop::Fault(fault_at_entry(alloc, rule, entry.offset)));
+        }
+        roles.push(&entry)?;
+        Step::add(&mut steps, child, entry.type_step())?;
+        Step::add(&mut steps, child, entry.signature_step())?;
+        if let Some((holder, to)) = member_of(entries, child, &entry, parent) {
+            Step::add(&mut steps, holder, Some(to))?;
+        }
+    }
+    Ok(steps)
+}
+
 /// The steps by value of each entry.
 #[derive(Drop)]
 pub struct ByValue {
-    rows: Vec<Vec<usize>>,
-    ghost leads: { LeadsToNodes (row_items rows.items) },
+    packed: Packed,
 }
 
 impl ByValue {
@@ -83,43 +124,36 @@ impl ByValue {
         requires parents { ParentsComeFirst entries.now }
         requires targets { TargetsAreEntries entries.now }
         requires rising { OffsetsRise entries.now }
+        requires few { length entries.now < 2 ^ 32 }
         ensures graph { IfOk result (λ it. ⟦<ByValue as StepGraph>⟧.graph it ≡ by_value entries.now) }
         ensures steps { IfOk result (λ it. (from to : ℕ) → IsStep (⟦<ByValue as StepGraph>⟧.graph it) from to ↔ IsStepByValue entries.now from to) }
         ensures sound { OnOk result (HasNone (ShapeFailures entries.now)) }
         ensures fault { IfErr result (IfFault (IsFirst (ShapeFailures entries.now))) }
     {
-        let mut rows: Vec<Vec<usize>> = Vec::new(alloc);
-        let mut roles = Roles::new(alloc);
-        for child in 0..entries.count() {
-            let entry = entries.at(child);
-            let parent = roles.of_parent(entry.parent);
-            if let Some(rule) = entry.broken_shape(parent) {
-                return Err(Stop::Fault(fault_at_entry(alloc, rule, entry.offset)));
-            }
-            roles.push(&entry)?;
-            rows.push(entry.own_steps(alloc)?)?;
-            if let Some((holder, to)) = member_of(entries, child, &entry, parent) {
-                rows[holder].push(to)?;
-            }
-        }
-        Ok(ByValue { rows })
+        let mut steps = steps_of(alloc, entries)?;
+        Step::sort(&mut steps)?;
+        let packed = Packed::of_steps(alloc, entries.count(), steps.as_slice())?;
+        Ok(ByValue { packed })
     }
 }
 
 impl StepGraph for ByValue {
-    ghost graph = { λ it. row_items it.rows.items };
+    ghost use Rattle.dw_types.specs.Packing.{cut};
+    ghost use Rattle.dw_types.specs.PackingLaws.{cut-leads};
 
-    ghost leads_to_nodes = { λ it. it.leads };
+    ghost graph = { λ it. cut it.packed.steps 0 it.packed.ends };
+
+    ghost leads_to_nodes = { λ it. cut-leads it.packed.steps it.packed.ends it.packed.in_order it.packed.leads };
 
     fn nodes(&self) -> usize {
-        self.rows.len()
+        self.packed.nodes()
     }
 
     fn steps(&self, node: usize) -> usize {
-        self.rows[node].len()
+        self.packed.steps(node)
     }
 
     fn step(&self, node: usize, k: usize) -> usize {
-        self.rows[node][k]
+        self.packed.step(node, k)
     }
 }

@@ -1,6 +1,6 @@
 //! The entries, each with its facts.
 
-ghost use Rattle.std.specs.Prelude.{◌≡◌, ◌<◌, length, List, IfOk, slice_get, IfSome};
+ghost use Rattle.std.specs.Prelude.{◌≡◌, ◌^◌, ◌<◌, length, List, IfOk, slice_get, IfSome};
 ghost use Rattle.dw_entries.specs.Scanned.{units_of};
 ghost use Rattle.dw_types.specs.declared.facts.Facts.{Facts as FactsOf};
 ghost use Rattle.dw_types.specs.Entries.{entry_at, OffsetsRise, ParentsComeFirst, TargetsAreEntries};
@@ -42,6 +42,7 @@ impl<'r, 'a> EntryFacts<'r, 'a> {
         ensures parents { IfOk result ParentsComeFirst }
         ensures targets { IfOk result TargetsAreEntries }
         ensures rising { IfOk result OffsetsRise }
+        ensures few { IfOk result (λ it. length it < 2 ^ 32) }
     {
         let mut units = Vec::new(alloc);
         for number in 0..entries.unit_count() {

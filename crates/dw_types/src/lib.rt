@@ -14,6 +14,7 @@ mod fault;
 mod graph;
 mod kind;
 mod laws;
+mod numbers;
 mod ordering;
 mod packed;
 mod ranking;
@@ -23,6 +24,7 @@ mod size_fault;
 mod size_line;
 mod size_table;
 mod sizing;
+mod step_list;
 mod type_attributes;
 mod walk;
 

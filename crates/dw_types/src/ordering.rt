@@ -8,6 +8,7 @@ ghost use Rattle.dw_types.specs.Walks.{IsWalk, KeepsTaken, work_left};
 
 use crate::cycle::{place_of, place_of_least, round_from};
 use crate::graph::StepGraph;
+use crate::numbers::Numbers;
 use crate::ranking::{Order, OrderFault};
 use crate::walk::{Mark, Walk};
 use std::alloc::Global;
@@ -42,7 +43,7 @@ fn empty_stack<G: StepGraph>(alloc: Global, graph: &G, walk: &mut Walk) -> Resul
         if walk.next(node) < graph.steps(node) {
             follow_step(alloc, graph, walk, node)?;
         } else {
-            walk.rank_top(node)?;
+            walk.rank_top(alloc, node)?;
         }
     }
     Ok(())
@@ -67,7 +68,7 @@ fn follow_step<G: StepGraph>(
     ensures err { IfErr result (IsFaultOf (G.graph graph.now)) }
 {
     let to = graph.step(node, walk.next(node));
-    walk.count_step(node);
+    walk.count_step(alloc, node)?;
     match walk.mark(to) {
         Mark::Fresh => walk.take_up(to)?,
         Mark::Open => return Err(OrderFault::Cycle(cycle_to(alloc, graph, walk.stack(), to)?)),
@@ -80,7 +81,7 @@ fn follow_step<G: StepGraph>(
 fn cycle_to<G: StepGraph>(
     alloc: Global,
     graph: &G,
-    stack: &[usize],
+    stack: &Numbers,
     to: usize,
 ) -> Result<Vec<usize>, OrderFault>
     requires on_stack { Contains stack.now to }
@@ -90,6 +91,8 @@ fn cycle_to<G: StepGraph>(
     ensures cycle { IfOk result (λ cycle. IsCycle (G.graph graph.now) cycle.items) }
     ensures err { IfErr result (IsFaultOf (G.graph graph.now)) }
 {
+    let stack = stack.to_vec(alloc)?;
+    let stack = stack.as_slice();
     let ring = &stack[place_of(stack, to)..];
     Ok(round_from(alloc, ring, place_of_least(ring))?)
 }

@@ -3,14 +3,15 @@
 ghost use Rattle.std.specs.Prelude.{◌≡◌, ◌<◌, length, slice_index};
 ghost use Rattle.dw_types.specs.declared.ranking.OrderFault.TheVariants.{Memory};
 
+use crate::numbers::Numbers;
 use std::alloc::AllocError;
 use std::marker::Model;
 
 /// The ranks of a graph's nodes, from 0: each step leads to a node of smaller rank.
 #[derive(Drop)]
 pub struct Order {
-    ranks: Vec<usize>,
-    by_rank: Vec<usize>,
+    ranks: Numbers,
+    by_rank: Numbers,
     turns: u128,
 }
 
@@ -19,12 +20,12 @@ impl Model for Order {
 
     ghost Value = { Ranking };
 
-    ghost view = { λ it. record { ranks = it.ranks.items; by_rank = it.by_rank.items; turns = it.turns } };
+    ghost view = { λ it. record { ranks = it.ranks; by_rank = it.by_rank; turns = it.turns } };
 }
 
 impl Order {
-    pub(crate) fn new(ranks: Vec<usize>, by_rank: Vec<usize>, turns: u128) -> Self
-        ensures { result ≡ record { ranks = ranks.items; by_rank = by_rank.items; turns = turns } }
+    pub(crate) fn new(ranks: Numbers, by_rank: Numbers, turns: u128) -> Self
+        ensures { result ≡ record { ranks = ranks; by_rank = by_rank; turns = turns } }
     {
         Order {
             ranks,
@@ -38,7 +39,7 @@ impl Order {
         requires { node < length self.now.ranks }
         ensures { result ≡ slice_index self.now.ranks node }
     {
-        self.ranks[node]
+        self.ranks.get(node)
     }
 
     /// How many turns the walk took. A turn is one node taken up or one step looked at.
@@ -48,11 +49,19 @@ impl Order {
         self.turns
     }
 
-    /// The nodes by rising rank.
-    pub(crate) fn by_rank(&self) -> &[usize]
-        ensures { result.now ≡ self.now.by_rank }
+    /// How many ranks there are.
+    pub(crate) fn count(&self) -> usize
+        ensures { result ≡ length self.now.by_rank }
     {
-        self.by_rank.as_slice()
+        self.by_rank.len()
+    }
+
+    /// The node of a rank.
+    pub(crate) fn node(&self, rank: usize) -> usize
+        requires { rank < length self.now.by_rank }
+        ensures { result ≡ slice_index self.now.by_rank rank }
+    {
+        self.by_rank.get(rank)
     }
 }
 

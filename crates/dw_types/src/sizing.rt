@@ -40,9 +40,10 @@ fn capped_sizes(
 {
     let counts = element_counts(alloc, entries)?;
     let mut sizes = SizeTable::new(alloc, entries.count())?;
-    for node in order.by_rank() {
-        let size = capped_size(entries, counts[*node], &sizes, *node);
-        sizes.set(*node, size);
+    for rank in 0..order.count() {
+        let node = order.node(rank);
+        let size = capped_size(entries, counts.get(node), &sizes, node);
+        sizes.set(node, size);
     }
     Ok(sizes)
 }

@@ -3,6 +3,7 @@
 ghost use Rattle.std.specs.Prelude.{◌≡◌, ◌+◌, ◌-◌, ◌^◌, ◌<◌, [], length, replicate, slice_index, IfOk, OnOk, MatchOption};
 ghost use Rattle.dw_types.specs.WalkStates.{mark_of, taken_up, with_step, with_rank};
 
+use crate::numbers::Numbers;
 use crate::ranking::Order;
 use std::alloc::{AllocError, Global};
 use std::marker::Model;
@@ -22,10 +23,10 @@ pub(crate) enum Mark {
 #[derive(Drop)]
 pub(crate) struct Walk {
     marks: Vec<Mark>,
-    next: Vec<usize>,
-    ranks: Vec<usize>,
-    by_rank: Vec<usize>,
-    stack: Vec<usize>,
+    next: Numbers,
+    ranks: Numbers,
+    by_rank: Numbers,
+    stack: Numbers,
     turns: u128,
 }
 
@@ -34,7 +35,7 @@ impl Model for Walk {
 
     ghost Value = { State };
 
-    ghost view = { λ w. record { marks = w.marks.items; next = w.next.items; ranks = w.ranks.items; by_rank = w.by_rank.items; stack = w.stack.items; turns = w.turns } };
+    ghost view = { λ w. record { marks = w.marks.items; next = w.next; ranks = w.ranks; by_rank = w.by_rank; stack = w.stack; turns = w.turns } };
 }
 
 impl Walk {
@@ -44,10 +45,10 @@ impl Walk {
     {
         Ok(Walk {
             marks: vec![in alloc; Mark::Fresh; nodes]?,
-            next: vec![in alloc; 0; nodes]?,
-            ranks: vec![in alloc; 0; nodes]?,
-            by_rank: Vec::new(alloc),
-            stack: Vec::new(alloc),
+            next: Numbers::zeros(alloc, nodes)?,
+            ranks: Numbers::zeros(alloc, nodes)?,
+            by_rank: Numbers::with_room(alloc, nodes)?,
+            stack: Numbers::with_room(alloc, 0)?,
             turns: 0,
         })
     }
@@ -65,21 +66,21 @@ impl Walk {
         requires { node < length self.now.next }
         ensures { result ≡ slice_index self.now.next node }
     {
-        self.next[node]
+        self.next.get(node)
     }
 
     /// The nodes that were taken up and have no rank yet, each a step from the one before.
-    pub(crate) fn stack(&self) -> &[usize]
+    pub(crate) fn stack(&self) -> &Numbers
         ensures { result.now ≡ self.now.stack }
     {
-        self.stack.as_slice()
+        &self.stack
     }
 
     /// The node on top of the stack.
     pub(crate) fn top(&self) -> Option<usize>
         ensures { MatchOption result (self.now.stack ≡ []) (λ node. (0 < length self.now.stack) × (slice_index self.now.stack (length self.now.stack - 1) ≡ node)) }
     {
-        self.stack.last().copied()
+        self.stack.last()
     }
 
     /// Puts a node on the stack.
@@ -95,26 +96,29 @@ impl Walk {
     }
 
     /// Counts the next step of a node as looked at.
-    pub(crate) fn count_step(&mut self, node: usize)
+    pub(crate) fn count_step(&mut self, alloc: Global, node: usize) -> Result<(), AllocError>
         requires node_in { node < length self.old.next }
         requires step_fits { slice_index self.old.next node + 1 < 2 ^ 64 }
         requires room { self.old.turns + 1 < 2 ^ 128 }
-        ensures { self.new ≡ with_step self.old node }
+        ensures { OnOk result (self.new ≡ with_step self.old node) }
     {
-        self.next[node] += 1;
+        let step = self.next.get(node) + 1;
+        self.next.set(alloc, node, step)?;
         self.turns += 1;
+        Ok(())
     }
 
     /// Gives the next rank to the node on top of the stack, and takes it off.
-    pub(crate) fn rank_top(&mut self, node: usize) -> Result<(), AllocError>
+    pub(crate) fn rank_top(&mut self, alloc: Global, node: usize) -> Result<(), AllocError>
         requires marks { node < length self.old.marks }
         requires ranks { node < length self.old.ranks }
         ensures { OnOk result (self.new ≡ with_rank self.old node) }
     {
+        let rank = self.by_rank.len();
         self.by_rank.push(node)?;
-        self.ranks[node] = self.by_rank.len() - 1;
+        self.ranks.set(alloc, node, rank)?;
         self.marks[node] = Mark::Ranked;
-        let _ = self.stack.pop();
+        self.stack.pop();
         Ok(())
     }
 

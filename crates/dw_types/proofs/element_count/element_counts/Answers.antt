@@ -13,16 +13,14 @@ pub loop-child-preserved : goal.loop-child-preserved
 loop-child-preserved c =
     elim c.match-parent.branch [
       | in-Some w ↦
-          let old = c.loop-child.counts.items in
+          let old = c.loop-child.counts in
           let parent = w.in-Some.parent in
           let is = sym c.parent.ensures ∙ w.in-Some.is in
           let first = c.requires c.loop-child.child parent is in
           let end = c.count-child-end.ensures in
           let below = c.loop-child-test.true in
-          let inside : parent < length old = let e = c.loop-child.invariant.long in omega arith in
-          let read : w.index.result.now ≡ get_or old parent NoDimension = get_or_read old parent w.index.result.now inside w.index.ensures NoDimension in
-          rw (w.counts-is, w.with_child.ensures, read) (counts-child c.args.entries.now old c.loop-child.child parent c.loop-child.invariant is (omega arith))
-      | in-None w ↦ rw w.counts-is (counts-plain c.args.entries.now c.loop-child.counts.items c.loop-child.child c.loop-child.invariant (sym c.parent.ensures ∙ w.in-None.is))
+          rw (w.counts-is, w.set.ensures, w.with_child-elements.ensures.grown, w.get.ensures.count) (counts-child c.args.entries.now old c.loop-child.child parent c.loop-child.invariant is (omega arith))
+      | in-None w ↦ rw w.counts-is (counts-plain c.args.entries.now c.loop-child.counts c.loop-child.child c.loop-child.invariant (sym c.parent.ensures ∙ w.in-None.is))
     ]
 
 all-children : (entries : List Facts) (counts : List ElementCount) (count : ℕ) → HasElementCounts entries counts count → count ≤ length entries → length entries ≤ count
@@ -31,4 +29,4 @@ all-children entries counts count h within over = let all : count ≡ length ent
 
 pub returns-clause-each : goal.returns-clause-each
 returns-clause-each c =
-    all-children c.args.entries.now c.loop-child.counts.items c.loop-child.child c.loop-child.invariant (rw (← c.count-child-end.ensures) c.loop-child.auto.child-end) (rw (← c.count-child-end.ensures) c.loop-child-test.false)
+    all-children c.args.entries.now c.loop-child.counts c.loop-child.child c.loop-child.invariant (rw (← c.count-child-end.ensures) c.loop-child.auto.child-end) (rw (← c.count-child-end.ensures) c.loop-child-test.false)

@@ -10,10 +10,10 @@ pub count_step-requires-clause-room : goal.count_step-requires-clause-room
 count_step-requires-clause-room g c = let room = turns-room _ _ c.requires.is_walk.coherent in omega arith
 
 pub take_up-requires-clause-room : goal.take_up-requires-clause-room
-take_up-requires-clause-room g c = rw c.count_step.ensures (let room = turns-room _ _ c.requires.is_walk.coherent in omega arith)
+take_up-requires-clause-room g c = rw c.in_ok-count_step.ensures (let room = turns-room _ _ c.requires.is_walk.coherent in omega arith)
 
 pub cycle_to-requires-clause-steps : goal.cycle_to-requires-clause-steps
-cycle_to-requires-clause-steps g c = rw (c.stack.ensures, c.count_step.ensures) c.requires.is_walk.coherent.stack.steps
+cycle_to-requires-clause-steps g c = rw (c.stack.ensures, c.in_ok-count_step.ensures) c.requires.is_walk.coherent.stack.steps
 
 pub returns-clause-is_walk : goal.returns-clause-is_walk
 returns-clause-is_walk g c =
@@ -25,12 +25,12 @@ returns-clause-is_walk g c =
     let leads = rw c.next.ensures at c.step-to.ensures in
     elim c.match-mark.branch [
       | in-Fresh+in_ok-take_up-in-Fresh w ↦
-          let new : mark_of s to ≡ Fresh = sym (rw c.count_step.ensures at w.in-Fresh.ensures) in
-          rw (w.walk-is, w.in_ok-take_up-in-Fresh.ensures, c.count_step.ensures)
+          let new : mark_of s to ≡ Fresh = sym (rw c.in_ok-count_step.ensures at w.in-Fresh.ensures) in
+          rw (w.walk-is, w.in_ok-take_up-in-Fresh.ensures, c.in_ok-count_step.ensures)
           (look-fresh_walk graph s node to c.requires.is_walk top c.requires.more c.requires.fits leads new (rw leads (g.met.G.StepGraph.leads_to_nodes c.args.graph.now node _ c.requires.more)))
       | in-Ranked w ↦
-          let done : mark_of s to ≡ Ranked = sym (rw c.count_step.ensures at w.in-Ranked.ensures) in
-          rw (w.walk-is, c.count_step.ensures) (look-ranked_walk graph s node to c.requires.is_walk top c.requires.more c.requires.fits leads done)
+          let done : mark_of s to ≡ Ranked = sym (rw c.in_ok-count_step.ensures at w.in-Ranked.ensures) in
+          rw (w.walk-is, c.in_ok-count_step.ensures) (look-ranked_walk graph s node to c.requires.is_walk top c.requires.more c.requires.fits leads done)
     ]
 
 pub returns-clause-less : goal.returns-clause-less
@@ -43,10 +43,10 @@ returns-clause-less g c =
     let leads = rw c.next.ensures at c.step-to.ensures in
     elim c.match-mark.branch [
       | in-Fresh+in_ok-take_up-in-Fresh w ↦
-          let new : mark_of s to ≡ Fresh = sym (rw c.count_step.ensures at w.in-Fresh.ensures) in
-          rw (w.walk-is, w.in_ok-take_up-in-Fresh.ensures, c.count_step.ensures)
+          let new : mark_of s to ≡ Fresh = sym (rw c.in_ok-count_step.ensures at w.in-Fresh.ensures) in
+          rw (w.walk-is, w.in_ok-take_up-in-Fresh.ensures, c.in_ok-count_step.ensures)
           (look-fresh_less graph s node to c.requires.is_walk top c.requires.more c.requires.fits leads new (rw leads (g.met.G.StepGraph.leads_to_nodes c.args.graph.now node _ c.requires.more)))
       | in-Ranked w ↦
-          let done : mark_of s to ≡ Ranked = sym (rw c.count_step.ensures at w.in-Ranked.ensures) in
-          rw (w.walk-is, c.count_step.ensures) (look-ranked_less graph s node to c.requires.is_walk top c.requires.more c.requires.fits leads done)
+          let done : mark_of s to ≡ Ranked = sym (rw c.in_ok-count_step.ensures at w.in-Ranked.ensures) in
+          rw (w.walk-is, c.in_ok-count_step.ensures) (look-ranked_less graph s node to c.requires.is_walk top c.requires.more c.requires.fits leads done)
     ]

@@ -1,16 +1,29 @@
-use Rattle.std.proofs.Common.{ℕ, ◌<◌, length, arith, sym, refl}
+use Rattle.std.proofs.Common.{ℕ, ◌<◌, ◌∙◌, below_more, length, arith, sym, refl}
 use Rattle.dw_types.specs.Walks.{IsWalk}
 use Rattle.dw_types.proofs.CycleLemmas.{no_cycle-from_falls}
-use Rattle.dw_types.proofs.EndLemmas.{start-walk, ranked-from_taken, falls-from_ranked}
+use Rattle.dw_types.proofs.EndLemmas.{start-walk, taken-more, ranked-from_taken, falls-from_ranked}
 use Rattle.dw_types.proofs.TurnLemmas.{turns-room, turns-all}
 use Rattle.dw_types.proofs.WalkLemmas.{in-graph, first-walk}
 use Rattle.dw_types.proofs.ordering.order.Goals as goal
+use Rattle.dw_types.proofs.ordering.order.Goals.{in-Fresh+in_ok-take_up+in_ok-empty_stack, in_default}
 
 pub loop-start-init : goal.loop-start-init
 loop-start-init g c =
     let graph = g.G.StepGraph.graph c.args.graph.now in
     let few = rw c.nodes-nodes.ensures at c.nodes-nodes.type_inv in
     rw (c.in_ok-walk.ensures, c.nodes-nodes.ensures) (start-walk graph few, refl, λ node below. absurd (omega arith))
+
+pub loop-start-preserved : goal.loop-start-preserved
+loop-start-preserved g c =
+    elim c.match-mark.branch [
+      | in-Fresh+in_ok-take_up+in_ok-empty_stack w ↦
+          rw w.walk-is (
+            w.in_ok-empty_stack.ensures.is_walk,
+            w.in_ok-empty_stack.ensures.empty,
+            taken-more c.loop-start.walk w.empty_stack.new.walk c.loop-start.start (let long = c.loop-start.invariant.0.coherent.places.marks in let test = c.loop-start-test.true in let nodes = c.nodes-nodes.ensures in omega arith) (rw w.in_ok-take_up.ensures at w.in_ok-empty_stack.ensures.taken) c.loop-start.invariant.2,
+          )
+      | in_default w ↦ rw w.walk-is (c.loop-start.invariant.0, c.loop-start.invariant.1, below_more _ _ c.loop-start.invariant.2 (λ fresh. w.in_default.not-Fresh (c.mark.ensures ∙ fresh)))
+    ]
 
 pub take_up-requires-clause-room : goal.take_up-requires-clause-room
 take_up-requires-clause-room g c = let room = turns-room _ _ c.loop-start.invariant.0.coherent in omega arith

@@ -1,6 +1,9 @@
-use Rattle.std.proofs.Common.{◌<◌, ◌≤◌, length, ◌∙◌}
+use Rattle.std.proofs.Common.{arith, ◌<◌, ◌≤◌, length, ◌∙◌}
+use Rattle.dw_entries.specs.Entries.{entries_of, placed}
 use Rattle.dw_entries.specs.Scanned.{units_of}
-use Rattle.dw_types.proofs.FactsLemmas.{facts-parents_first, facts-rise, facts-targets}
+use Rattle.dw_entries.proofs.FindLaws.{entries_counted}
+use Rattle.dw_entries.proofs.OrderLaws.{scanned_few}
+use Rattle.dw_types.proofs.FactsLemmas.{length-facts_of, facts-parents_first, facts-rise, facts-targets}
 use Rattle.dw_types.proofs.UnitLemmas.{units-all, units-more}
 use Rattle.dw_types.proofs.entry_facts.EntryFacts.new.Goals as goal
 
@@ -24,3 +27,9 @@ returns-clause-targets c = facts-targets (units_of c.args.entries.now.scanned)
 
 pub returns-clause-rising : goal.returns-clause-rising
 returns-clause-rising c = facts-rise _ (units_of c.args.entries.now.scanned) c.args.entries.now.scanned.1.spells.are
+
+pub returns-clause-few : goal.returns-clause-few
+returns-clause-few c =
+    let scanned = c.args.entries.now.scanned in
+    let long = length-facts_of (entries_of (units_of scanned)) (placed (units_of scanned)) in
+    rw long (omega (arith, entries_counted _ _ _ _ _ scanned, scanned_few _ _ _ _ _ scanned, c.args.entries.now.sections.info_fits))

@@ -6,7 +6,7 @@ use Rattle.dw_types.proofs.packed.Packed.new.Given as goal
 
 abbrev pub invariant-loop-k : goal.invariant-loop-k
 invariant-loop-k g l =
-    (l.steps.items ≡ l.initial.steps.items ++ take l.k (steps_of (g.G.StepGraph.graph l.graph) l.node)) × LeadsBelow l.steps.items l.nodes
+    (l.steps ≡ l.initial.steps ++ take l.k (steps_of (g.G.StepGraph.graph l.graph) l.node)) × LeadsBelow l.steps l.nodes
 
 abbrev pub invariant-loop-node : goal.invariant-loop-node
-invariant-loop-node g l = PacksUpTo (g.G.StepGraph.graph l.graph) l.steps.items l.ends.items l.node × LeadsBelow l.steps.items l.nodes
+invariant-loop-node g l = PacksUpTo (g.G.StepGraph.graph l.graph) l.steps l.ends l.node × LeadsBelow l.steps l.nodes

@@ -1,30 +1,27 @@
-use Rattle.std.proofs.Common.{◌<◌, ◌≤◌, ◌≡◌, length, get_or, arith}
-use Rattle.std.proofs.lemmas.List.{get_or_read}
+use Rattle.std.proofs.Common.{◌<◌, ◌≤◌, length, get_or, arith}
 use Rattle.dw_types.specs.Packing.{begin_of}
 use Rattle.dw_types.specs.PackingLaws.{length-cut, cut-length}
 use Rattle.dw_types.proofs.packed.PackedStepGraph.steps.Goals as goal
 
-pub index-requires : goal.index-requires
-index-requires c = let p = c.args.self.now in let all = length-cut p.steps.items 0 p.ends.items in omega (arith, c.requires, p.ends.ok.0)
+pub get-requires : goal.get-requires
+get-requires c = let p = c.args.self.now in let all = length-cut p.steps 0 p.ends in omega (arith, c.requires)
 
 pub begin-requires : goal.begin-requires
-begin-requires c = let p = c.args.self.now in let all = length-cut p.steps.items 0 p.ends.items in omega (arith, c.requires, p.ends.ok.0)
+begin-requires c = let p = c.args.self.now in let all = length-cut p.steps 0 p.ends in omega (arith, c.requires)
 
 pub overflow_sub-result : goal.overflow_sub-result
 overflow_sub-result c =
     let p = c.args.self.now in
-    let all = length-cut p.steps.items 0 p.ends.items in
-    let below : c.args.node < length p.ends.items = omega (arith, c.requires) in
+    let all = length-cut p.steps 0 p.ends in
+    let below : c.args.node < length p.ends = omega (arith, c.requires) in
     let here = p.in_order c.args.node below in
-    let rises : begin_of p.ends.items c.args.node ≤ get_or p.ends.items c.args.node 0 = here.0 in
-    let read : c.index.result.now ≡ get_or p.ends.items c.args.node 0 = get_or_read p.ends.items _ _ below c.index.ensures 0 in
-    omega (arith, c.begin.ensures)
+    let rises : begin_of p.ends c.args.node ≤ get_or p.ends c.args.node 0 = here.0 in
+    omega (arith, c.begin.ensures, c.get.ensures)
 
 pub returns : goal.returns
 returns c =
     let p = c.args.self.now in
-    let all = length-cut p.steps.items 0 p.ends.items in
-    let below : c.args.node < length p.ends.items = omega (arith, c.requires) in
-    let read : c.index.result.now ≡ get_or p.ends.items c.args.node 0 = get_or_read p.ends.items _ _ below c.index.ensures 0 in
-    let count = cut-length p.steps.items p.ends.items c.args.node p.in_order below in
-    omega (arith, c.begin.ensures)
+    let all = length-cut p.steps 0 p.ends in
+    let below : c.args.node < length p.ends = omega (arith, c.requires) in
+    let count = cut-length p.steps p.ends c.args.node p.in_order below in
+    omega (arith, c.begin.ensures, c.get.ensures)

@@ -1,0 +1,10 @@
+use Rattle.std.proofs.Common.{set, ap, ◌∙◌}
+use Rattle.std.proofs.lemmas.List.{map-set}
+use Rattle.dw_types.specs.declared.element_count.ElementCount.{ElementCount}
+use Rattle.dw_types.specs.StoredCounts.{count_in, counts_in}
+use Rattle.dw_types.proofs.element_count.ElementCounts.set.Goals as goal
+
+pub returns : goal.returns
+returns c =
+    let items = c.self.inside.counts.items in
+    rw (← c.self.view_is) (map-set count_in items c.args.node c.stored.result ∙ ap (λ (elements : ElementCount). set (counts_in items) c.args.node elements) c.stored.ensures)

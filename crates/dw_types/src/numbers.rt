@@ -1,0 +1,140 @@
+//! Vectors of numbers in four bytes each, while all of them fit.
+
+ghost use Rattle.std.specs.Prelude.{◌≡◌, ◌+◌, ◌-◌, ◌<◌, [], ◌∷◌, ◌++◌, ℕ, List, length, replicate, slice_index, slice_set, take, IfOk, MatchOption, OnOk};
+
+use std::alloc::{AllocError, Global};
+use std::marker::Model;
+
+/// Numbers in four bytes each. From the first one on that is added and does not fit, each has eight.
+#[derive(Drop)]
+pub(crate) struct Numbers {
+    small: Vec<u32>,
+    large: Vec<usize>,
+}
+
+impl Model for Numbers {
+    ghost Value = { List ℕ };
+
+    ghost view = { λ it. it.small.items ++ it.large.items };
+}
+
+impl Numbers {
+    /// No numbers, and room for so many.
+    pub(crate) fn with_room(alloc: Global, count: usize) -> Result<Self, AllocError>
+        ensures { IfOk result (λ it. it ≡ []) }
+    {
+        Ok(Numbers {
+            small: Vec::with_capacity(alloc, count)?,
+            large: Vec::new(alloc),
+        })
+    }
+
+    /// The number 0 so many times.
+    pub(crate) fn zeros(alloc: Global, count: usize) -> Result<Self, AllocError>
+        ensures { IfOk result (λ it. it ≡ replicate count 0) }
+    {
+        Ok(Numbers {
+            small: vec![in alloc; 0; count]?,
+            large: Vec::new(alloc),
+        })
+    }
+
+    /// How many numbers there are.
+    pub(crate) fn len(&self) -> usize
+        ensures { result ≡ length self.now }
+    {
+        self.small.len() + self.large.len()
+    }
+
+    /// The number at a place.
+    pub(crate) fn get(&self, place: usize) -> usize
+        requires { place < length self.now }
+        ensures { result ≡ slice_index self.now place }
+    {
+        self.get_behind(place, 0)
+    }
+
+    /// The number so many places behind another.
+    pub(crate) fn get_behind(&self, start: usize, count: usize) -> usize
+        requires { start + count < length self.now }
+        ensures { result ≡ slice_index self.now (start + count) }
+    {
+        let small = self.small.len();
+        let place = start + count;
+        if place < small {
+            self.small[place] as usize
+        } else {
+            self.large[place - small]
+        }
+    }
+
+    /// Adds a number at the end.
+    pub(crate) fn push(&mut self, number: usize) -> Result<(), AllocError>
+        ensures { OnOk result (self.new ≡ self.old ++ number ∷ []) }
+    {
+        if self.large.is_empty() && number <= 0xffff_ffff {
+            self.small.push(number as u32)?;
+        } else {
+            self.large.push(number)?;
+        }
+        Ok(())
+    }
+
+    /// Takes the last number away, if there is one.
+    pub(crate) fn pop(&mut self)
+        ensures { self.new ≡ take (length self.old - 1) self.old }
+    {
+        if self.large.is_empty() {
+            let _ = self.small.pop();
+        } else {
+            let _ = self.large.pop();
+        }
+    }
+
+    /// The last number, if there is one.
+    pub(crate) fn last(&self) -> Option<usize>
+        ensures { MatchOption result (self.now ≡ []) (λ last. (0 < length self.now) × (slice_index self.now (length self.now - 1) ≡ last)) }
+    {
+        let count = self.len();
+        if count == 0 {
+            None
+        } else {
+            Some(self.get(count - 1))
+        }
+    }
+
+    /// The numbers in eight bytes each.
+    pub(crate) fn to_vec(&self, alloc: Global) -> Result<Vec<usize>, AllocError>
+        ensures { IfOk result (λ all. all.items ≡ self.now) }
+    {
+        let count = self.len();
+        let mut all = Vec::with_capacity(alloc, count)?;
+        for place in 0..count {
+            all.push(self.get(place))?;
+        }
+        Ok(all)
+    }
+
+    /// Writes a number at a place.
+    pub(crate) fn set(
+        &mut self,
+        alloc: Global,
+        place: usize,
+        number: usize,
+    ) -> Result<(), AllocError>
+        requires { place < length self.old }
+        ensures { OnOk result (self.new ≡ slice_set self.old place number) }
+    {
+        if place < self.small.len() {
+            if number <= 0xffff_ffff {
+                self.small[place] = number as u32;
+                return Ok(());
+            }
+            self.large = self.to_vec(alloc)?;
+            self.small = Vec::new(alloc);
+        }
+        let behind = place - self.small.len();
+        self.large[behind] = number;
+        Ok(())
+    }
+}
