@@ -71,10 +71,7 @@ pub fn measure(
         Ok(by_value) => by_value,
         Err(stop) => return Err(stop),
     };
-    let Ok(steps) = Packed::new(alloc, &by_value) else {
-        return Err(Stop::Memory);
-    };
-    drop(by_value);
+    let steps = by_value.into_packed();
     match order(alloc, &steps) {
         Ok(order) => match sizes(alloc, entries, links, &order) {
             Ok(sizes) => Ok((steps, sizes)),

@@ -1,29 +1,28 @@
 -- The count of one entry.
-use Rattle.std.proofs.Common.{◌≡◌, ℕ, ◌<◌, Bool, true, false, ◌&&◌, if◌then◌else◌, List, length, Option, Some, None, IfSome, unwrap_or, inl, inr, refl, sym, ap, subst, ◌∙◌, arith}
+use Rattle.std.proofs.Common.{◌≡◌, ℕ, ◌<◌, Bool, true, false, ◌&&◌, if◌then◌else◌, List, length, Option, Some, IfSome, inl, inr, refl, sym, ap, subst, ◌∙◌, arith}
 use Rattle.std.specs.Prelude.{slice_get}
 use Rattle.std.proofs.lemmas.Bool.{and_parts}
 use Rattle.std.proofs.Common.{eqb-true}
-use Rattle.std.proofs.lemmas.Option.{slice_get_cases, slice_get_within}
+use Rattle.std.proofs.lemmas.Option.{IfSome_then, slice_get_cases, slice_get_within}
 use Rattle.dw_entries.specs.declared.lookup.Head.{Head}
-use Rattle.dw_entries.specs.Entries.{Entry, entries_of, placed}
+use Rattle.dw_entries.specs.Entries.{entries_of, placed}
 use Rattle.dw_entries.specs.Lookups.{entry_head}
 use Rattle.dw_entries.specs.Units.{DebugUnit, Spells}
 use Rattle.dw_entries.proofs.EntryFacts.{links_below}
 use Rattle.dw_entries.proofs.HeadLaws.{head_stands}
-use Rattle.dw_forms.specs.Codes.{DW_AT_signature, DW_AT_type, DW_TAG_subrange_type}
-use Rattle.dw_links.specs.Targets.{target_of}
+use Rattle.dw_forms.specs.Codes.{DW_AT_count, DW_AT_lower_bound, DW_AT_upper_bound, DW_TAG_subrange_type}
+use Rattle.dw_types.specs.declared.constant.Constant.{Constant}
+use Rattle.dw_types.specs.declared.constant.Constant.TheVariants.{Absent}
 use Rattle.dw_types.specs.declared.facts.Facts.{Facts}
 use Rattle.dw_types.specs.declared.facts_reader.UnitFacts.{UnitFacts}
 use Rattle.dw_types.specs.declared.kind.Role.TheVariants.{Members, Dimensions, Other}
-use Rattle.dw_types.specs.declared.type_attributes.TypeAttributes.{TypeAttributes}
-use Rattle.dw_types.specs.Counts.{count_at, count_of, is_array_tag, is_dimension, is_subrange_tag, known_natural}
+use Rattle.dw_types.specs.Counts.{count_at, count_from, is_array_tag, is_dimension, is_subrange_tag, known_natural}
 use Rattle.dw_types.specs.Entries.{entry_at}
-use Rattle.dw_types.specs.FactsOf.{facts_in, facts_read, is_asked}
-use Rattle.dw_types.specs.FactsMade.{facts_made}
+use Rattle.dw_types.specs.FactsOf.{constant_at, facts_in, is_asked}
 use Rattle.dw_types.specs.Kinds.{has_members, is_array, is_dimensions, parent_role, role_in, role_of}
 use Rattle.dw_types.specs.UnitsRead.{unit_facts, unit_facts_at}
-use Rattle.dw_types.proofs.FactsLemmas.{facts-asked, facts-get, facts-tag, parent-known, tag-known}
-use Rattle.dw_types.proofs.ReaderLemmas.{IsFound, all-made}
+use Rattle.dw_types.proofs.FactsLemmas.{length-facts_of, parent-known, tag-known}
+use Rattle.dw_types.proofs.ReaderLemmas.{count-is, fact-asked, language-is, lower_bound-is, upper_bound-is}
 use Rattle.dw_types.proofs.UnitLemmas.{unit-is_there}
 
 dimensions-by : (a b : Bool) → (a ≡ true → b ≡ false) → is_dimensions (if a then Members else if b then Dimensions else Other) ≡ b
@@ -76,28 +75,26 @@ module _ (a info : List ℕ) (us : List DebugUnit) (spells : Spells a us info) (
         rw same (slice_get_within us here.0.unit stands.unit stands.is_unit)
   ]
 
-  module _ (unit : UnitFacts) (found : TypeAttributes) (made : Facts) (is_unit : IfSome (slice_get (placed us) head.unit) (λ u. unit ≡ unit_facts u))
-      (is_found : IfSome (slice_get (entries_of us) id) (IsFound found)) (is_made : made ≡ facts_made head unit found (unwrap_or found.declaration false) head.parent None None) where
-    count-read : (e : Entry) → slice_get (entries_of us) id ≡ Some e → count_of made ≡ count_of (facts_read (entries_of us) (placed us) e)
-    count-read e is =
-        let entries = entries_of us in
-        let units = placed us in
-        let of_head : IfSome (Some e) (λ (x : Entry). head ≡ entry_head x) = rw is at is_head in
-        let at_unit : unit ≡ unit_facts_at units head.unit = unit-is_there us head.unit unit is_unit head-unit in
-        let of_unit : IfSome (Some e) (λ (x : Entry). unit ≡ unit_facts_at units x.unit) = at_unit ∙ ap (λ (h : Head). unit_facts_at units h.unit) of_head in
-        let of_found : IfSome (Some e) (IsFound found) = rw is at is_found in
-        let whole = all-made found entries units head unit (unwrap_or found.declaration false) head.parent (target_of entries units e DW_AT_type) (target_of entries units e DW_AT_signature) (Some e) of_head of_unit of_found refl refl refl refl in
-        ap count_of is_made ∙ ap count_of whole
+  -- what is read of its unit
+  pub unit-here : (unit : UnitFacts) → IfSome (slice_get (placed us) head.unit) (λ u. unit ≡ unit_facts u) → IfSome (slice_get (entries_of us) id) (λ e. unit ≡ unit_facts_at (placed us) e.unit)
+  unit-here unit is_unit =
+      let at_unit : unit ≡ unit_facts_at (placed us) head.unit = unit-is_there us head.unit unit is_unit head-unit in
+      IfSome_then (slice_get (entries_of us) id) is_head (λ e h. at_unit ∙ ap (λ (x : Head). unit_facts_at (placed us) x.unit) h)
 
-    -- the count of an entry that is a dimension
-    pub count-known : is_dimension (parent_role (facts_in us) id) (entry_at (facts_in us) id) ≡ true → known_natural (count_of made) ≡ count_at (facts_in us) id
-    count-known dimension = elim (slice_get_cases (entries_of us) id).1 [
-      | inr over ↦ absurd (omega (arith, over.0))
-      | inl here ↦
-          let e = here.0 in
-          let at = facts-get (entries_of us) (placed us) id e here.2 in
-          let tag : (entry_at (facts_in us) id).tag ≡ e.head.decl.tag = ap (λ (x : Facts). x.tag) at ∙ facts-tag (entries_of us) (placed us) e in
-          let subrange = (and_parts (is_subrange_tag (entry_at (facts_in us) id).tag) _ dimension).0 in
-          let asked : is_asked e.head.decl.tag ≡ true = subrange-asked e.head.decl.tag (rw tag at subrange) in
-          rw dimension (ap known_natural (count-read e here.2 ∙ ap count_of (sym (at ∙ facts-asked (entries_of us) (placed us) e asked))))
-    ]
+  -- the count of an entry that is a dimension
+  pub count-known : is_dimension (parent_role (facts_in us) id) (entry_at (facts_in us) id) ≡ true
+      → (count upper lower : Constant) (unit : UnitFacts) → IfSome (slice_get (entries_of us) id) (λ e. count ≡ constant_at e DW_AT_count)
+      → IfSome (slice_get (entries_of us) id) (λ e. upper ≡ constant_at e DW_AT_upper_bound) → IfSome (slice_get (entries_of us) id) (λ e. lower ≡ constant_at e DW_AT_lower_bound)
+      → IfSome (slice_get (placed us) head.unit) (λ u. unit ≡ unit_facts u)
+      → known_natural (count_from count unit.language upper lower) ≡ count_at (facts_in us) id
+  count-known dimension count upper lower unit is_count is_upper is_lower is_unit =
+      let facts = entry_at (facts_in us) id in
+      let tag : head.tag ≡ facts.tag = tag-known us (facts_in us) refl head id id refl (let long = length-facts_of (entries_of us) (placed us) in omega arith) is_head in
+      let subrange = (and_parts (is_subrange_tag facts.tag) _ dimension).0 in
+      let asked : is_asked head.tag ≡ true = subrange-asked head.tag (rw (← tag) at subrange) in
+      let of_unit = IfSome_then (slice_get (entries_of us) id) (unit-here unit is_unit) (λ e h. ap (λ (x : UnitFacts). x.language) h) in
+      let c = fact-asked us id head below is_head (λ (f : Facts). f.count) (λ e. constant_at e DW_AT_count) Absent (count-is (entries_of us) (placed us)) count asked is_count in
+      let u = fact-asked us id head below is_head (λ (f : Facts). f.upper_bound) (λ e. constant_at e DW_AT_upper_bound) Absent (upper_bound-is (entries_of us) (placed us)) upper asked is_upper in
+      let l = fact-asked us id head below is_head (λ (f : Facts). f.lower_bound) (λ e. constant_at e DW_AT_lower_bound) Absent (lower_bound-is (entries_of us) (placed us)) lower asked is_lower in
+      let g = fact-asked us id head below is_head (λ (f : Facts). f.language) (λ e. (unit_facts_at (placed us) e.unit).language) Absent (language-is (entries_of us) (placed us)) unit.language asked of_unit in
+      rw dimension (λ i. known_natural (count_from (c i) (g i) (u i) (l i)))

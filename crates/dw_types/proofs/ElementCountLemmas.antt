@@ -1,17 +1,19 @@
 -- The product of an array's counts, found child by child.
-use Rattle.std.proofs.Common.{◌≡◌, ◌≢◌, ℕ, ◌+◌, ◌^◌, ◌<◌, Bool, true, false, ◌||◌, if◌then◌else◌, eqb, List, [], ◌∷◌, ◌++◌, map, Option, Some, None, length, get_or, set, inl, inr, arith, refl, sym, ap, ◌∙◌, suc, length-set}
+use Rattle.std.proofs.Common.{◌≡◌, ◌≢◌, ℕ, ◌+◌, ◌^◌, ◌<◌, ◌≤◌, Bool, true, false, ◌||◌, if◌then◌else◌, eqb, List, [], ◌∷◌, ◌++◌, map, Option, Some, None, length, get_or, set, inl, inr, arith, refl, sym, ap, ◌∙◌, suc, zero, length-set}
 use Rattle.std.specs.List.{filter, list_any, range_with_len}
 use Rattle.std.proofs.lemmas.Bool.{eqb-true, eq-eqb, false_from_ne_true}
-use Rattle.std.proofs.lemmas.List.{append-nil, map-append}
+use Rattle.std.proofs.lemmas.List.{append-nil, length-map, map-append}
 use Rattle.std.proofs.lemmas.List.Elements.{filter-append}
 use Rattle.std.proofs.lemmas.List.Folds.{list_any-append}
 use Rattle.std.proofs.Math.Nat.{mul_assoc}
 use Rattle.dw_types.specs.declared.facts.Facts.{Facts}
 use Rattle.dw_types.specs.declared.element_count.ElementCount.{ElementCount}
 use Rattle.dw_types.specs.declared.element_count.ElementCount.TheVariants.{NoDimension, Known, Unknown}
-use Rattle.dw_types.specs.ElementCounts.{element_count_by, element_count_from, grown, with_child, children_before}
+use Rattle.dw_types.specs.ElementCounts.{element_count_by, element_count_from, grown, is_index, with_child, children_before}
 use Rattle.dw_types.specs.Entries.{entry_at, is_parent, is_child, children}
-use Rattle.dw_types.specs.SizeTables.{Size, cap_size}
+use Rattle.dw_types.specs.Orders.{Ranking}
+use Rattle.dw_types.specs.SizeTables.{Size, cap_size, size_at}
+use Rattle.dw_types.specs.StoredSizes.{count_at_size}
 use Rattle.dw_types.specs.Sizes.{is_subrange, is_other_index, has_stride, factor_of, product_of, times, has_elements}
 use Rattle.dw_types.proofs.CapLemmas.{cap-product}
 use Rattle.dw_types.proofs.ListLemmas.{at_set}
@@ -147,3 +149,60 @@ counts-child entries factors count parent h is inside =
             | inr p ↦ p.1 ∙ (h.each node below ∙ ap (element_count_by entries) (sym (child-none entries node count (parent-other (entry_at entries count).parent node parent is p.0))))
           ];
     }
+
+-- an entry that is no index changes no count
+
+or-none : (a b : Bool) → (a || b) ≡ false → (a ≡ false) × (b ≡ false)
+or-none true b is = absurd cc
+or-none false b is = (refl, is)
+
+with_child-none : (entries : List Facts) (child : ℕ) (elements : ElementCount) → is_index (entry_at entries child) ≡ false → with_child entries elements child ≡ elements
+with_child-none entries child elements is = let none = or-none (is_subrange entries child) (is_other_index entries child) is in rw (none.0, none.1) refl
+
+pub counts-none : (entries : List Facts) (factors : List ElementCount) (count : ℕ) → HasElementCounts entries factors count → is_index (entry_at entries count) ≡ false → HasElementCounts entries factors (count + 1)
+counts-none entries factors count h none = record {
+  long = h.long;
+  each = λ node below. h.each node below ∙ same node (is_child entries node count) refl;
+}
+  where
+    same : (node : ℕ) (child : Bool) → is_child entries node count ≡ child → element_count_by entries (children_before entries node count) ≡ element_count_by entries (children_before entries node (count + 1))
+    same node true is =
+        sym (ap (element_count_by entries) (child-more entries node count is)
+        ∙ (element_count_by-push entries (children_before entries node count) count ∙ with_child-none entries count (element_count_by entries (children_before entries node count)) none))
+    same node false is = ap (element_count_by entries) (sym (child-none entries node count is))
+
+pub counted-parent : (test : Bool) (parent : Option ℕ) (node : ℕ) → (if test then parent else None) ≡ Some node → parent ≡ Some node
+counted-parent true parent node is = is
+counted-parent false parent node is = absurd cc
+
+pub counts-uncounted : (entries : List Facts) (factors : List ElementCount) (count : ℕ) → HasElementCounts entries factors count → (if is_index (entry_at entries count) then (entry_at entries count).parent else None) ≡ None
+    → HasElementCounts entries factors (count + 1)
+counts-uncounted entries factors count h none = by (is_index (entry_at entries count)) refl none
+  where
+    by : (test : Bool) → is_index (entry_at entries count) ≡ test → (if test then (entry_at entries count).parent else None) ≡ None → HasElementCounts entries factors (count + 1)
+    by true is missing = counts-plain entries factors count h missing
+    by false is missing = counts-none entries factors count h is
+
+-- an entry whose size is not written yet has its count there
+abbrev pub HasCountsLeft : List Facts → Ranking → List Size → ℕ → Type 0
+HasCountsLeft entries order sizes rank = (node : ℕ) → node < length entries → rank ≤ get_or order.ranks node 0 → count_at_size (size_at sizes node) ≡ element_count_by entries (children entries node)
+
+count-same : (sizes : List Size) (node : ℕ) → get_or (map count_at_size sizes) node NoDimension ≡ count_at_size (get_or sizes node None)
+count-same [] node = refl
+count-same (size ∷ rest) zero = refl
+count-same (size ∷ rest) (suc node) = count-same rest node
+
+pub counts-left_all : (entries : List Facts) (order : Ranking) (counts : List ElementCount) (sizes : List Size) → counts ≡ map count_at_size sizes
+    → ((node : ℕ) → node < length entries → get_or counts node NoDimension ≡ element_count_by entries (children entries node)) → HasCountsLeft entries order sizes 0
+counts-left_all entries order counts sizes is each node below late = sym (count-same sizes node) ∙ (ap (λ (xs : List ElementCount). get_or xs node NoDimension) (sym is) ∙ each node below)
+
+pub counts-left_more : (entries : List Facts) (order : Ranking) (sizes : List Size) (rank node : ℕ) (size : Size) → node < length sizes → get_or order.ranks node 0 ≡ rank → HasCountsLeft entries order sizes rank
+    → HasCountsLeft entries order (set sizes node size) (rank + 1)
+counts-left_more entries order sizes rank node size inside ranked left other below late =
+    elim (at_set sizes node other size None inside) [
+      | inl here ↦ absurd (let same : get_or order.ranks other 0 ≡ rank = ap (λ (n : ℕ). get_or order.ranks n 0) here.0 ∙ ranked in omega arith)
+      | inr apart ↦ rw apart.1 (left other below (omega arith))
+    ]
+
+pub counts-long : (counts : List ElementCount) (sizes : List Size) → counts ≡ map count_at_size sizes → length sizes ≡ length counts
+counts-long counts sizes is = sym (ap (λ (xs : List ElementCount). length xs) is ∙ length-map sizes count_at_size)

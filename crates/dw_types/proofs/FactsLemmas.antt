@@ -70,11 +70,6 @@ module _ (entries : List Entry) (units : List PlacedUnit) (e : Entry) where
   unfolding facts_unread
   unread-within to = (λ is. absurd cc, λ is. absurd cc)
 
-  -- those of an entry that is asked are read
-  pub facts-asked : is_asked e.head.decl.tag ≡ true → facts_at entries units e ≡ facts_read entries units e
-  unfolding facts_at
-  facts-asked asked = rw asked refl
-
   pub facts-offset : (facts_at entries units e).offset ≡ e.at
   facts-offset = by_tag (λ facts. facts.offset ≡ e.at) read-offset unread-offset
 
@@ -141,9 +136,6 @@ module _ (us : List DebugUnit) (facts : List Facts) (same : facts_in us ≡ fact
         let at : P (facts_at (entries_of us) (placed us) there.0) = rw there.2 at is in
         rw (← same, ← here, facts-get (entries_of us) (placed us) id there.0 there.2) at
   ]
-
-  pub facts-known : (read : Facts) (id node : ℕ) → id ≡ node → node < length facts → IfSome (slice_get (entries_of us) id) (λ e. read ≡ facts_at (entries_of us) (placed us) e) → read ≡ entry_at facts node
-  facts-known read = known (λ x. read ≡ x)
 
   pub tag-known : (head : Head) (id node : ℕ) → id ≡ node → node < length facts → IfSome (slice_get (entries_of us) id) (λ e. head ≡ entry_head e) → head.tag ≡ (entry_at facts node).tag
   tag-known head id node here below is =

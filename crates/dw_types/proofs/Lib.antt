@@ -1,6 +1,5 @@
 pub mod ListLemmas
 pub mod PlainGraphLemmas
-pub mod AttributeLemmas
 pub mod ParentLemmas
 pub mod TargetLemmas
 pub mod FactsLemmas

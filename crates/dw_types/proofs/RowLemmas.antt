@@ -1,5 +1,5 @@
 -- A loop that lists the steps by value of one entry after another.
-use Rattle.std.proofs.Common.{◌≡◌, ◌≢◌, ℕ, ◌+◌, ◌<◌, ◌≤◌, Bool, true, false, not, eqb, List, [], ◌∷◌, ◌++◌, Option, Some, None, length, get_or, set, inl, inr, arith, refl, sym, ap, ◌∙◌, suc, zero}
+use Rattle.std.proofs.Common.{◌≡◌, ◌≢◌, ℕ, ◌+◌, ◌<◌, ◌≤◌, Bool, true, false, not, eqb, List, [], ◌∷◌, ◌++◌, Option, Some, None, length, get_or, inl, inr, arith, refl, sym, ap, ◌∙◌, suc, zero}
 use Rattle.std.specs.List.{flat_map, range_with_len}
 use Rattle.std.proofs.lemmas.Bool.{cases_eq, eqb-true, false_from_ne_true, and_right, and_parts}
 use Rattle.std.proofs.Math.Arith.{lt_of_le-ne}

@@ -1,6 +1,6 @@
 -- A first fault over capped sizes is the first fault over the sizes themselves.
-use Rattle.std.proofs.Common.{◌≡◌, ℕ, ◌^◌, ◌<◌, ◌≤◌, min, ℤ, pos, negsuc, Bool, true, false, not, ◌&&◌, ◌||◌, if◌then◌else◌, List, Option, Some, None, is_some, length, inl, inr, arith, refl, sym, ap, ◌∙◌}
-use Rattle.std.proofs.lemmas.Bool.{cases_lt, false_from_ne_true}
+use Rattle.std.proofs.Common.{◌≡◌, ℕ, ◌^◌, ◌<◌, ◌≤◌, min, ℤ, pos, negsuc, Bool, true, false, not, ◌&&◌, ◌||◌, if◌then◌else◌, List, Option, Some, None, IfSome, is_some, length, nat_eq, ◌⊎◌, inl, inr, arith, refl, sym, ap, ◌∙◌}
+use Rattle.std.proofs.lemmas.Bool.{cases_lt, eqb-true, false_from_ne_true}
 use Rattle.dw_types.specs.declared.facts.Facts.{Facts}
 use Rattle.dw_types.specs.declared.constant.Constant.{Constant}
 use Rattle.dw_types.specs.declared.constant.Constant.TheVariants.{Absent, NotNumber, Unsigned, Signed}
@@ -8,16 +8,18 @@ use Rattle.dw_entries.specs.declared.rule.Rule.{Rule}
 use Rattle.dw_entries.specs.declared.rule.Rule.TheVariants.{NoSize, SizeTooGreat, MemberOutside, EnumSize}
 use Rattle.dw_types.specs.declared.kind.Kind.{Kind}
 use Rattle.dw_types.specs.declared.kind.Role.{Role}
-use Rattle.dw_types.specs.declared.kind.Kind.TheVariants.{Enumeration}
-use Rattle.dw_types.specs.Constants.{is_present, natural_of}
+use Rattle.dw_types.specs.declared.kind.Kind.TheVariants.{Declared, OwnSized, Pointer, Alias, Enumeration, Array, Subroutine, NoType}
+use Rattle.dw_types.specs.Constants.{is_negative, is_present, natural_of}
 use Rattle.dw_types.specs.Entries.{entry_at, ParentsComeFirst, TargetsAreEntries}
 use Rattle.dw_types.specs.Extents.{bytes_end_past, end_past, is_number, is_outside, start_of, ends_past_container}
 use Rattle.dw_entries.specs.Rules.{number_of}
-use Rattle.dw_types.specs.Kinds.{is_enumeration, kind_of, parent_role}
+use Rattle.dw_forms.specs.Codes.{DW_TAG_array_type, DW_TAG_base_type, DW_TAG_enumeration_type, DW_TAG_pointer_type}
+use Rattle.dw_types.specs.Kinds.{container_tags, has_members, is_one_of, is_array, is_declared_type, is_enumeration, kind_of, parent_role}
 use Rattle.dw_types.specs.Shapes.{is_plain, stands_alone}
-use Rattle.dw_types.specs.SizeFaults.{breaks_size, differ, fails_size, has_wrong_size, is_too_great}
+use Rattle.dw_types.specs.SizeFaults.{breaks_size, differ, fails_size, has_no_size, has_wrong_size, is_too_great, reads_own, wants_own}
 use Rattle.dw_types.specs.SizeTables.{Size, cap_size}
-use Rattle.dw_types.specs.Sizes.{constant_or, size_of_kind, size_to, ObeysSizeLines}
+use Rattle.dw_types.specs.Sizes.{array_size, constant_or, is_regular, size_line, size_of_kind, size_to, times, ObeysSizeLines}
+use Rattle.dw_types.proofs.SizeLineLemmas.{declared-is}
 use Rattle.dw_types.specs.TypeFailures.{PassAll, IsFirstAt}
 
 -- the capped size passes each test as the size does, where it is compared with less than the limit
@@ -139,3 +141,127 @@ module _ (entries : List Facts) (parents : ParentsComeFirst entries) (targets : 
         least = λ other fails lower. h.least other (fails-same node inside none other (λ is. absurd (let few = number-few (parent_role entries node) (entry_at entries node) (found node) (size_to found (entry_at entries node).parent) (size_to found (entry_at entries node).type_target) rule h.breaks in let more : 4 < number_of rule = rw is at lower in omega arith)) ∙ fails) lower;
         before = λ earlier lt other fails. h.before earlier lt other (fails-same earlier (omega arith) (λ k before. none k (omega arith)) other (λ is. none earlier lt) ∙ fails);
       }
+
+-- an entry that has a size reads no negative byte size, and where it has no byte size it wants none
+
+own-or : (constant : Constant) (other : Size) (n : ℕ) → constant_or constant other ≡ Some n → ((constant ≡ Absent) × (other ≡ Some n)) ⊎ ((is_present constant ≡ true) × (is_negative constant ≡ false))
+own-or Absent other n is = inl (refl, is)
+own-or NotNumber other n is = absurd cc
+own-or (Unsigned m) other n is = inr (refl, refl)
+own-or (Signed (pos m)) other n is = inr (refl, refl)
+own-or (Signed (negsuc m)) other n is = absurd cc
+
+natural-own : (constant : Constant) (n : ℕ) → natural_of constant ≡ Some n → (is_present constant ≡ true) × (is_negative constant ≡ false)
+natural-own Absent n is = absurd cc
+natural-own NotNumber n is = absurd cc
+natural-own (Unsigned m) n is = (refl, refl)
+natural-own (Signed (pos m)) n is = (refl, refl)
+natural-own (Signed (negsuc m)) n is = absurd cc
+
+not-negative : (constant : Constant) (other : Size) (n : ℕ) → constant_or constant other ≡ Some n → is_negative constant ≡ false
+not-negative constant other n is = elim (own-or constant other n is) [ inl absent ↦ rw absent.0 refl | inr own ↦ own.1 ]
+
+if-some : (test : Bool) (size : Size) (n : ℕ) → (if test then size else None) ≡ Some n → size ≡ Some n
+if-some true size n is = is
+if-some false size n is = absurd cc
+
+times-some : (a b : Size) (n : ℕ) → times a b ≡ Some n → (m : ℕ) × (a ≡ Some m)
+times-some None b n is = absurd cc
+times-some (Some a) b n is = (a, refl)
+
+present-own : (reads present negative wants : Bool) → present ≡ true → negative ≡ false → ((reads && negative) || (not present && wants)) ≡ false
+present-own true present negative wants p n = rw (p, n) refl
+present-own false present negative wants p n = rw p refl
+
+absent-own : (reads present negative wants : Bool) → negative ≡ false → wants ≡ false → ((reads && negative) || (not present && wants)) ≡ false
+absent-own true true negative wants n w = rw n refl
+absent-own true false negative wants n w = rw (n, w) refl
+absent-own false true negative wants n w = refl
+absent-own false false negative wants n w = w
+
+unread-own : (reads present negative wants : Bool) → reads ≡ false → wants ≡ false → ((reads && negative) || (not present && wants)) ≡ false
+unread-own reads true negative wants r w = rw r refl
+unread-own reads false negative wants r w = rw (r, w) refl
+
+wants-none : (entry : Facts) → nat_eq entry.tag DW_TAG_base_type ≡ false → has_members entry ≡ false → is_array entry ≡ false → wants_own entry ≡ false
+wants-none entry base members array = rw (base, members, array) refl
+
+declared-wants : (entry : Facts) → is_declared_type entry ≡ true → wants_own entry ≡ false
+declared-wants entry is = wants-none entry (grind arith) (grind arith) (grind arith)
+
+tag-wants : (entry : Facts) (tag : ℕ) → entry.tag ≡ tag → nat_eq tag DW_TAG_base_type ≡ false → is_one_of container_tags tag ≡ false → nat_eq tag DW_TAG_array_type ≡ false → wants_own entry ≡ false
+tag-wants entry tag is base container array = rw (is, base, container, array) refl
+
+kind-pointer : (a b c d e f g : Bool) → (if a then Declared else if b then Pointer else if c then Alias else if d then Enumeration else if e then Array else if f then Subroutine else if g then OwnSized else NoType) ≡ Pointer → b ≡ true
+kind-pointer true b c d e f g is = cc
+kind-pointer false true c d e f g is = refl
+kind-pointer false false true d e f g is = cc
+kind-pointer false false false true e f g is = cc
+kind-pointer false false false false true f g is = cc
+kind-pointer false false false false false true g is = cc
+kind-pointer false false false false false false true is = cc
+kind-pointer false false false false false false false is = cc
+
+kind-enumeration : (a b c d e f g : Bool) → (if a then Declared else if b then Pointer else if c then Alias else if d then Enumeration else if e then Array else if f then Subroutine else if g then OwnSized else NoType) ≡ Enumeration → d ≡ true
+kind-enumeration true b c d e f g is = cc
+kind-enumeration false true c d e f g is = cc
+kind-enumeration false false true d e f g is = cc
+kind-enumeration false false false true e f g is = refl
+kind-enumeration false false false false true f g is = cc
+kind-enumeration false false false false false true g is = cc
+kind-enumeration false false false false false false true is = cc
+kind-enumeration false false false false false false false is = cc
+
+pointer-wants : (entry : Facts) → kind_of entry ≡ Pointer → wants_own entry ≡ false
+pointer-wants entry is = tag-wants entry DW_TAG_pointer_type (eqb-true entry.tag DW_TAG_pointer_type (kind-pointer _ _ _ _ _ _ _ is)) refl refl refl
+
+enumeration-wants : (entry : Facts) → kind_of entry ≡ Enumeration → wants_own entry ≡ false
+enumeration-wants entry is = tag-wants entry DW_TAG_enumeration_type (eqb-true entry.tag DW_TAG_enumeration_type (kind-enumeration _ _ _ _ _ _ _ is)) refl refl refl
+
+alias-wants : (entry : Facts) → kind_of entry ≡ Alias → wants_own entry ≡ false
+alias-wants entry is = wants-none entry (grind arith) (grind arith) (grind arith)
+
+array-wants : (entry : Facts) → kind_of entry ≡ Array → is_negative entry.byte_stride ≡ false → wants_own entry ≡ false
+array-wants entry is stride = let base : nat_eq entry.tag DW_TAG_base_type ≡ false = grind arith in let members : has_members entry ≡ false = grind arith in rw (base, members, stride) (and-none (is_array entry))
+  where
+    and-none : (b : Bool) → (b && false) ≡ false
+    and-none true = refl
+    and-none false = refl
+
+-- with a byte size of its own, or by other sizes where nothing is wanted
+own-part : (entry : Facts) (other : Size) (n : ℕ) → constant_or entry.byte_size other ≡ Some n → (other ≡ Some n → wants_own entry ≡ false) → has_no_size entry ≡ false
+own-part entry other n is wants = elim (own-or entry.byte_size other n is) [
+  | inl absent ↦ absent-own (reads_own (kind_of entry)) (is_present entry.byte_size) (is_negative entry.byte_size) (wants_own entry) (rw absent.0 refl) (wants absent.1)
+  | inr own ↦ present-own (reads_own (kind_of entry)) (is_present entry.byte_size) (is_negative entry.byte_size) (wants_own entry) own.0 own.1
+]
+
+sized-kind : (entries : List Facts) (table : ℕ → Size) (node : ℕ) (kind : Kind) → kind_of (entry_at entries node) ≡ kind → (n : ℕ) → size_of_kind kind entries table node ≡ Some n
+    → has_no_size (entry_at entries node) ≡ false
+sized-kind entries table node Declared is n sized =
+    let entry = entry_at entries node in
+    unread-own (reads_own (kind_of entry)) (is_present entry.byte_size) (is_negative entry.byte_size) (wants_own entry) (ap reads_own is) (declared-wants entry (declared-is entry is))
+sized-kind entries table node OwnSized is n sized =
+    let entry = entry_at entries node in
+    let own = natural-own entry.byte_size n sized in
+    present-own (reads_own (kind_of entry)) (is_present entry.byte_size) (is_negative entry.byte_size) (wants_own entry) own.0 own.1
+sized-kind entries table node Pointer is n sized = own-part (entry_at entries node) _ n sized (λ _. pointer-wants (entry_at entries node) is)
+sized-kind entries table node Alias is n sized =
+    let entry = entry_at entries node in
+    unread-own (reads_own (kind_of entry)) (is_present entry.byte_size) (is_negative entry.byte_size) (wants_own entry) (ap reads_own is) (alias-wants entry is)
+sized-kind entries table node Enumeration is n sized = own-part (entry_at entries node) _ n sized (λ _. enumeration-wants (entry_at entries node) is)
+sized-kind entries table node Array is n sized =
+    let entry = entry_at entries node in
+    own-part entry (array_size entries table node) n sized (λ other.
+    let product = if-some (is_regular entries node) _ n other in
+    let storage = times-some (constant_or entry.byte_stride (size_to table entry.type_target)) _ n product in
+    array-wants entry is (not-negative entry.byte_stride (size_to table entry.type_target) storage.0 storage.1))
+sized-kind entries table node Subroutine is n sized = absurd cc
+sized-kind entries table node NoType is n sized = absurd cc
+
+cap-some : {P : Type 0} (line found : Size) → found ≡ cap_size (2 ^ 63) line → ((n : ℕ) → line ≡ Some n → P) → IfSome found (λ _. P)
+cap-some None found is holds = rw is tt
+cap-some (Some n) found is holds = rw is (holds n refl)
+
+-- so a table that obeys the capped lines tells at which entries the byte size is not to be asked again
+pub sized-own : (entries : List Facts) (table : ℕ → Size) (node : ℕ) → table node ≡ cap_size (2 ^ 63) (size_line entries table node) → IfSome (table node) (λ _. has_no_size (entry_at entries node) ≡ false)
+sized-own entries table node obeys = cap-some (size_line entries table node) (table node) obeys (λ n is. sized-kind entries table node (kind_of (entry_at entries node)) refl n is)

@@ -45,7 +45,7 @@ declared-by : (entry : Facts) (declared : Bool) → is_declared_type entry ≡ d
 declared-by entry true test is = test
 declared-by entry false test is = absurd (not-declared _ _ _ _ _ _ (rw test at is))
 
-declared-is : (entry : Facts) → kind_of entry ≡ Declared → is_declared_type entry ≡ true
+pub declared-is : (entry : Facts) → kind_of entry ≡ Declared → is_declared_type entry ≡ true
 declared-is entry is = declared-by entry (is_declared_type entry) refl is
 
 -- the sizes at a target are the same, where a target that there is is a step

@@ -1,5 +1,5 @@
 -- A loop that packs the steps of one node after another, in the order of the nodes that they come from.
-use Rattle.std.proofs.Common.{◌≡◌, ℕ, ◌+◌, ◌-◌, ◌<◌, ◌≤◌, List, [], ◌∷◌, ◌++◌, length, take, drop, get_or, map, inl, inr, refl, sym, ap, ◌∙◌, arith, length-append}
+use Rattle.std.proofs.Common.{◌≡◌, ℕ, ◌+◌, ◌-◌, ◌<◌, ◌≤◌, List, [], ◌∷◌, ◌++◌, length, drop, get_or, map, inl, inr, refl, sym, ap, ◌∙◌, arith, length-append}
 use Rattle.std.specs.Prelude.{All}
 use Rattle.std.specs.List.{range_with_len, take_while}
 use Rattle.std.specs.List.Sorted.{IsNonDecreasingBy}
@@ -9,7 +9,6 @@ use Rattle.std.proofs.lemmas.List.Folds.{length-prefix_len}
 use Rattle.std.proofs.lemmas.List.FromFn.{get_or-range_with_len, length-range_with_len}
 use Rattle.std.proofs.lemmas.List.Sums.{prefix_len-le-length}
 use Rattle.dw_types.specs.declared.step_list.Step.{Step}
-use Rattle.dw_types.specs.Graphs.{Graph}
 use Rattle.dw_types.specs.Packing.{LeadsBelow, cut}
 use Rattle.dw_types.specs.StepLists.{from_of, is_from, row_of, rows_of, to_of}
 use Rattle.dw_types.proofs.PackingLemmas.{PacksUpTo, packs-more}

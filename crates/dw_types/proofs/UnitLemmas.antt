@@ -4,18 +4,17 @@ use Rattle.std.specs.Prelude.{slice_get, option_map}
 use Rattle.std.proofs.lemmas.List.{length-map, map_push, take_all, take_more}
 use Rattle.std.proofs.lemmas.Option.{get_or_from_slice_get, slice_get-map, slice_get_cases, slice_get_within}
 use Rattle.dw_forms.specs.Codes.{DW_AT_language}
-use Rattle.dw_forms.specs.Value.{Datum}
 use Rattle.dw_entries.specs.declared.lookup.UnitHead.{UnitHead}
 use Rattle.dw_entries.specs.Asked.{values_of}
 use Rattle.dw_entries.specs.Entries.{Entry, PlacedUnit, entries_of, placed}
 use Rattle.dw_entries.specs.Grammar.{Head}
-use Rattle.dw_entries.specs.Lookups.{unit_head, value_at_entry, value_in}
+use Rattle.dw_entries.specs.Lookups.{unit_head, value_in}
 use Rattle.dw_entries.specs.Units.{DebugUnit, Spells}
 use Rattle.dw_entries.proofs.EntryFacts.{first_entry, length-placed_from, placed_get}
 use Rattle.dw_entries.proofs.HeadLaws.{head_stands}
 use Rattle.dw_types.specs.declared.constant.Constant.{Constant}
 use Rattle.dw_types.specs.declared.facts_reader.UnitFacts.{UnitFacts}
-use Rattle.dw_types.specs.FactsOf.{constant_of, language_of}
+use Rattle.dw_types.specs.FactsOf.{constant_at, constant_of, language_of}
 use Rattle.dw_types.specs.UnitsRead.{all_unit_facts, unit_facts, unit_facts_at}
 
 -- the unit with a number, where it stands
@@ -34,24 +33,24 @@ first-below us k head below is =
     rw same (slice_get_within (entries_of us) p.0.first has.entry has.is_entry)
 
 -- the language is that of its first entry
-language-read : (us : List DebugUnit) (k : ℕ) (u : PlacedUnit) (o : Option Datum) → slice_get (placed us) k ≡ Some u
-    → IfSome (slice_get (entries_of us) u.first) (λ e. o ≡ value_at_entry e DW_AT_language) → constant_of o ≡ language_of u
-language-read us k u o is value =
+language-read : (us : List DebugUnit) (k : ℕ) (u : PlacedUnit) (language : Constant) → slice_get (placed us) k ≡ Some u
+    → IfSome (slice_get (entries_of us) u.first) (λ e. language ≡ constant_at e DW_AT_language) → language ≡ language_of u
+language-read us k u language is value =
     let has = first_entry us k u is in
-    let found : o ≡ value_at_entry has.entry DW_AT_language = rw has.is_entry at value in
-    ap constant_of (found ∙ ap (λ (h : Head). value_in (values_of h) DW_AT_language) has.is_first.head)
+    let found : language ≡ constant_at has.entry DW_AT_language = rw has.is_entry at value in
+    found ∙ ap (λ (h : Head). constant_of (value_in (values_of h) DW_AT_language)) has.is_first.head
 
-pub unit-read : (us : List DebugUnit) (k : ℕ) (head : UnitHead) (o : Option Datum) (language : Constant) → IfSome (slice_get (placed us) k) (λ u. head ≡ unit_head u)
-    → IfSome (slice_get (entries_of us) head.first) (λ e. o ≡ value_at_entry e DW_AT_language) → language ≡ constant_of o
+pub unit-read : (us : List DebugUnit) (k : ℕ) (head : UnitHead) (language : Constant) → IfSome (slice_get (placed us) k) (λ u. head ≡ unit_head u)
+    → IfSome (slice_get (entries_of us) head.first) (λ e. language ≡ constant_at e DW_AT_language)
     → IfSome (slice_get (placed us) k) (λ u. ◌≡◌ {A = UnitFacts} (record { address_size = head.header.address_size; language = language }) (unit_facts u))
-unit-read us k head o language is value same = go (slice_get (placed us) k) refl is
+unit-read us k head language is value = go (slice_get (placed us) k) refl is
   where
     go : (found : Option PlacedUnit) → slice_get (placed us) k ≡ found → IfSome found (λ u. head ≡ unit_head u)
         → IfSome found (λ u. ◌≡◌ {A = UnitFacts} (record { address_size = head.header.address_size; language = language }) (unit_facts u))
     go None none known = tt
     go (Some u) at known =
-        let first : IfSome (slice_get (entries_of us) u.first) (λ e. o ≡ value_at_entry e DW_AT_language) = rw known at value in
-        let spoken : language ≡ language_of u = same ∙ language-read us k u o at first in
+        let first : IfSome (slice_get (entries_of us) u.first) (λ e. language ≡ constant_at e DW_AT_language) = rw known at value in
+        let spoken : language ≡ language_of u = language-read us k u language at first in
         λ i. record { address_size = (known i).header.address_size; language = spoken i }
 
 -- the unit of an entry

@@ -54,12 +54,16 @@ count_between None lower = None
 count_between (Some upper) None = None
 count_between (Some upper) (Some lower) = Some ((upper -ℤ lower) +ℤ pos 1)
 
+-- the count that a count attribute gives, or else two bounds in a unit of a language; none where it is unknown
+abbrev pub count_from : (count language upper lower : Constant) → Option ℤ
+count_from count language upper lower =
+    if is_present count then number_in count
+    else if reads_bounds language then count_between (upper_of upper) (lower_of lower)
+    else None
+
 -- the count of a dimension, none where it is unknown
 abbrev pub count_of : Facts → Option ℤ
-count_of entry =
-    if is_present entry.count then number_in entry.count
-    else if reads_bounds entry.language then count_between (upper_of entry.upper_bound) (lower_of entry.lower_bound)
-    else None
+count_of entry = count_from entry.count entry.language entry.upper_bound entry.lower_bound
 
 -- a known count of 0 or more
 abbrev pub known_natural : Option ℤ → Size

@@ -1,9 +1,8 @@
 pub mod Constants
 pub mod Entries
 pub mod FactsOf
-pub mod AttributesRead
+pub mod FactsAsked
 pub mod UnitsRead
-pub mod FactsMade
 pub mod Kinds
 pub mod Graphs
 pub mod Orders
@@ -25,5 +24,4 @@ pub mod SizeFaults
 pub mod ElementCounts
 pub mod CappedSizes
 pub mod StoredSizes
-pub mod StoredCounts
 pub mod Roles

@@ -1,11 +1,36 @@
--- Sizes as they are kept: the greatest number of 64 bits stands for none.
-use Rattle.std.specs.Prelude.{ℕ, ◌^◌, ◌-◌, List, None, Some, map, if◌then◌else◌, nat_eq}
+-- Sizes and counts of elements as they are kept, in one number each.
+use Rattle.std.specs.Prelude.{ℕ, ◌^◌, ◌-◌, ◌<◌, suc, zero, List, None, Some, map}
+use Rattle.dw_types.specs.declared.element_count.ElementCount.{ElementCount}
+use Rattle.dw_types.specs.declared.element_count.ElementCount.TheVariants.{NoDimension, Known, Unknown}
 use Rattle.dw_types.specs.SizeTables.{Size}
 
--- the size that a number stands for
+-- the size that a number stands for: none for 0, or the number before it
 abbrev pub size_in : ℕ → Size
-size_in number = if nat_eq number (2 ^ 64 - 1) then None else Some number
+size_in zero = None
+size_in (suc n) = Some n
 
 -- the sizes that numbers stand for
 abbrev pub sizes_in : List ℕ → List Size
 sizes_in numbers = map size_in numbers
+
+-- the count of elements that is kept where a size may be kept later
+abbrev pub count_at_size : Size → ElementCount
+count_at_size None = NoDimension
+count_at_size (Some zero) = Unknown
+count_at_size (Some (suc n)) = Known n
+
+-- the count of elements that a number stands for
+abbrev pub count_in : ℕ → ElementCount
+count_in zero = NoDimension
+count_in (suc zero) = Unknown
+count_in (suc (suc n)) = Known n
+
+-- the counts that numbers stand for
+abbrev pub counts_in : List ℕ → List ElementCount
+counts_in numbers = map count_in numbers
+
+-- a count that a number of 64 bits stands for
+abbrev pub IsStorable : ElementCount → Type 0
+IsStorable NoDimension = Unit {0}
+IsStorable (Known n) = n < 2 ^ 64 - 2
+IsStorable Unknown = Unit {0}

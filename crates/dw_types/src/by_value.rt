@@ -14,7 +14,7 @@ ghost use Rattle.dw_types.specs.Steps.{by_value, member_step, targets_if, IsMemb
 ghost use Rattle.dw_entries.specs.Stopped.{IfFault};
 
 use crate::entry_facts::EntryFacts;
-use crate::facts::Facts;
+use crate::entry_reader::EntryReader;
 use crate::fault::fault_at_entry;
 use crate::graph::StepGraph;
 use crate::kind::Role;
@@ -25,14 +25,14 @@ use dw_entries::{Entries, Stop};
 use dw_links::Links;
 use std::alloc::Global;
 
-impl Facts {
+impl EntryReader<'_, '_, '_> {
     /// The step that the entry makes to its type.
     fn type_step(&self) -> Option<usize>
         ensures step { option_to_list result ≡ targets_if (passes_type_on self.now) self.now.type_target }
         ensures named { (to : ℕ) → result ≡ Some to → self.now.type_target ≡ Some to }
     {
         if self.passes_type_on() {
-            self.type_target
+            self.type_target()
         } else {
             None
         }
@@ -44,7 +44,7 @@ impl Facts {
         ensures named { (to : ℕ) → result ≡ Some to → self.now.signature_target ≡ Some to }
     {
         if self.is_declared_type() {
-            self.signature_target
+            self.signature_target()
         } else {
             None
         }
@@ -55,7 +55,7 @@ impl Facts {
 fn member_of(
     entries: &EntryFacts<'_, '_>,
     child: usize,
-    entry: &Facts,
+    entry: &EntryReader<'_, '_, '_>,
     parent: Role,
 ) -> Option<(usize, usize)>
     requires entry { entry.now ≡ entry_at entries.now child }
@@ -67,7 +67,7 @@ fn member_of(
     if !entry.is_plain(parent) {
         return None;
     }
-    Some((entry.parent?, entry.type_target?))
+    Some((entry.parent()?, entry.type_target()?))
 }
 
 /// The steps by value of all entries, by the members that make them, or the first fault of their shapes.
@@ -85,9 +85,9 @@ fn steps_of(alloc: Global, entries: &EntryFacts<'_, '_>) -> Result<Vec<Step>, St
     let mut roles = Roles::new(alloc);
     for child in 0..entries.count() {
         let entry = entries.at(child);
-        let parent = roles.of_parent(entry.parent);
+        let parent = roles.of_parent(entry.parent());
         if let Some(rule) = entry.broken_shape(parent) {
-            return Err(Stop::Fault(fault_at_entry(alloc, rule, entry.offset)));
+            return Err(Stop::Fault(fault_at_entry(alloc, rule, entry.offset())));
         }
         roles.push(&entry)?;
         Step::add(&mut steps, child, entry.type_step())?;
@@ -134,6 +134,13 @@ impl ByValue {
         Step::sort(&mut steps)?;
         let packed = Packed::of_steps(alloc, entries.count(), steps.as_slice())?;
         Ok(ByValue { packed })
+    }
+
+    /// The same graph in two vectors, as it is kept.
+    pub fn into_packed(self) -> Packed
+        ensures { ⟦<Packed as StepGraph>⟧.graph result ≡ ⟦<ByValue as StepGraph>⟧.graph self }
+    {
+        self.packed
     }
 }
 

@@ -5,16 +5,15 @@ ghost use Rattle.dw_entries.specs.Entries.{entries_of};
 ghost use Rattle.dw_entries.specs.Lookups.{entry_head};
 ghost use Rattle.dw_entries.specs.Scanned.{units_of};
 ghost use Rattle.dw_types.specs.Constants.{IsOf64Bits};
-ghost use Rattle.dw_types.specs.Counts.{count_at, count_of, is_array_tag, is_dimension, is_subrange_tag, known_natural, lower_of, reads_bounds, upper_of};
+ghost use Rattle.dw_types.specs.Counts.{count_at, count_from, count_of, is_array_tag, is_dimension, is_subrange_tag, known_natural, lower_of, reads_bounds, upper_of};
 ghost use Rattle.dw_types.specs.Entries.{entry_at};
 ghost use Rattle.dw_types.specs.FactsOf.{facts_in};
 ghost use Rattle.dw_types.specs.Kinds.{is_dimensions, parent_role, role_in};
 
 use crate::constant::Constant;
-use crate::facts::Facts;
+use crate::entry_reader::EntryReader;
 use crate::facts_reader::UnitFacts;
 use crate::kind::Role;
-use crate::type_attributes::TypeAttributes;
 use dw_entries::constants::*;
 use dw_entries::{Entries, EntryId, Head};
 
@@ -70,37 +69,55 @@ impl Constant {
     }
 }
 
-impl Facts {
+/// The count that a count attribute gives, or else two bounds in a unit of a language. It may be below 0.
+fn count_from(count: Constant, language: Constant, upper: Constant, lower: Constant) -> Option<i128>
+    ensures { result ≡ count_from count language upper lower }
+{
+    if count.is_present() {
+        return count.number();
+    }
+    if !language.reads_bounds() {
+        return None;
+    }
+    let (upper, lower) = (upper.upper()?, lower.lower()?);
+    Some(upper - lower + 1)
+}
+
+/// A count, if it is known and 0 or more.
+fn known_natural(count: Option<i128>) -> Option<u128>
+    ensures { result ≡ known_natural count }
+{
+    match count {
+        Some(n) => if n < 0 { None } else { Some(n as u128) },
+        None => None,
+    }
+}
+
+impl EntryReader<'_, '_, '_> {
     /// Whether the entry, whose parent is this to it, is a dimension of an array.
     pub(crate) fn is_dimension(&self, parent: Role) -> bool
         ensures { result ≡ is_dimension parent self.now }
     {
-        matches!(self.tag, DW_TAG_subrange_type) && parent.is_dimensions()
+        matches!(self.tag(), DW_TAG_subrange_type) && parent.is_dimensions()
     }
 
     /// The count of a dimension, which may be below 0, if it is known.
-    pub(crate) fn count(&self) -> Option<i128>
+    pub(crate) fn known_count(&self) -> Option<i128>
         ensures { result ≡ count_of self.now }
     {
-        if self.count.is_present() {
-            return self.count.number();
-        }
-        if !self.language.reads_bounds() {
-            return None;
-        }
-        let upper = self.upper_bound.upper()?;
-        let lower = self.lower_bound.lower()?;
-        Some(upper - lower + 1)
+        count_from(
+            self.count(),
+            self.language(),
+            self.upper_bound(),
+            self.lower_bound(),
+        )
     }
 
     /// The count of a dimension, if it is known and 0 or more.
     pub(crate) fn natural_count(&self) -> Option<u128>
         ensures { result ≡ known_natural (count_of self.now) }
     {
-        match self.count() {
-            Some(n) => if n < 0 { None } else { Some(n as u128) },
-            None => None,
-        }
+        known_natural(self.known_count())
     }
 }
 
@@ -145,7 +162,10 @@ pub fn count_at(entries: &Entries<'_>, id: EntryId) -> Option<u128>
     if !is_dimension(entries, id, &head) {
         return None;
     }
-    let unit = UnitFacts::read(entries, head.unit);
-    let found = TypeAttributes::read(entries, id);
-    Facts::without_targets(&head, unit, &found).natural_count()
+    known_natural(count_from(
+        Constant::read(entries, id, DW_AT_count),
+        UnitFacts::read(entries, head.unit).language,
+        Constant::read(entries, id, DW_AT_upper_bound),
+        Constant::read(entries, id, DW_AT_lower_bound),
+    ))
 }

@@ -1,13 +1,17 @@
 //! How many elements an array has: the product of the counts of its dimensions (DWARF 5, 5.5 and 5.13).
 
-ghost use Rattle.std.specs.Prelude.{◌≡◌, ◌<◌, ℕ, length, replicate, slice_index_or, slice_set, IfOk};
+ghost use Rattle.std.specs.Prelude.{◌≡◌, ◌<◌, ℕ, None, length, map, replicate, slice_index_or, slice_set, IfOk, OnOk, if◌then◌else◌};
 ghost use Rattle.dw_types.specs.Counts.{known_natural};
 ghost use Rattle.dw_types.specs.declared.element_count.ElementCount.TheVariants.{NoDimension};
-ghost use Rattle.dw_types.specs.ElementCounts.{element_count_by, grown, with_child, size_from};
-ghost use Rattle.dw_types.specs.Entries.{children, ParentsComeFirst};
-ghost use Rattle.dw_types.specs.StoredCounts.{count_in, IsStorable};
+ghost use Rattle.dw_types.specs.ElementCounts.{element_count_by, grown, is_index, with_child, size_from};
+ghost use Rattle.dw_types.specs.Entries.{children, entry_at, ParentsComeFirst};
+ghost use Rattle.dw_types.specs.SizeTables.{size_at};
+ghost use Rattle.dw_types.specs.StoredSizes.{count_at_size, count_in, IsStorable};
 
 use crate::entry_facts::EntryFacts;
+use crate::entry_reader::EntryReader;
+use crate::numbers::Numbers;
+use crate::size_table::SizeTable;
 use dw_entries::constants::*;
 use std::alloc::{AllocError, Global};
 use std::marker::Model;
@@ -19,6 +23,20 @@ pub enum ElementCount {
     NoDimension,
     Known(u64),
     Unknown,
+}
+
+impl EntryReader<'_, '_, '_> {
+    /// Its parent, where it bears on how many elements that has, were it an array.
+    fn counted_parent(&self) -> Option<usize>
+        ensures { result ≡ if is_index self.now then self.now.parent else None }
+    {
+        match self.tag() {
+            DW_TAG_subrange_type | DW_TAG_enumeration_type | DW_TAG_generic_subrange => {
+                self.parent()
+            }
+            _ => None,
+        }
+    }
 }
 
 impl ElementCount {
@@ -41,17 +59,21 @@ impl ElementCount {
     }
 
     /// With one more child. An index of another kind, and a stride on a dimension, leave the number unknown.
-    fn with_child(self, entries: &EntryFacts<'_, '_>, child: usize) -> ElementCount
-        requires child { child < length entries.now }
+    fn with_child(
+        self,
+        entries: &EntryFacts<'_, '_>,
+        child: usize,
+        entry: &EntryReader<'_, '_, '_>,
+    ) -> ElementCount
+        requires entry { entry.now ≡ entry_at entries.now child }
         requires storable { IsStorable self }
         ensures grown { result ≡ with_child entries.now self child }
         ensures storable { IsStorable result }
     {
-        match entries.tag(child) {
+        match entry.tag() {
             DW_TAG_enumeration_type | DW_TAG_generic_subrange => ElementCount::Unknown,
             DW_TAG_subrange_type => {
-                let entry = entries.at(child);
-                if entry.bit_stride.is_present() || entry.byte_stride.is_present() {
+                if entry.bit_stride().is_present() || entry.byte_stride().is_present() {
                     return ElementCount::Unknown;
                 }
                 self.grown(entry.natural_count())
@@ -72,32 +94,43 @@ impl ElementCount {
 }
 
 /// The number that stands for how many elements there are.
-fn stored(elements: ElementCount) -> u64
+fn stored(elements: ElementCount) -> usize
     requires { IsStorable elements }
     ensures { count_in result ≡ elements }
 {
     match elements {
-        ElementCount::NoDimension => u64::MAX,
-        ElementCount::Unknown => u64::MAX - 1,
-        ElementCount::Known(product) => product,
+        ElementCount::NoDimension => 0,
+        ElementCount::Unknown => 1,
+        ElementCount::Known(product) => product as usize + 2,
     }
 }
 
-/// How many elements each entry has, in eight bytes each.
+/// The count that a number stands for.
+fn count_in(number: usize) -> ElementCount
+    ensures count { result ≡ count_in number }
+    ensures storable { IsStorable result }
+{
+    match number {
+        0 => ElementCount::NoDimension,
+        1 => ElementCount::Unknown,
+        _ => ElementCount::Known((number - 2) as u64),
+    }
+}
+
+/// How many elements each entry has, in the numbers that are to keep the sizes.
 #[derive(Drop)]
 pub(crate) struct ElementCounts {
-    /// The greatest number stands for no dimension, and the one below it for an unknown number.
-    counts: Vec<u64>,
+    counts: Numbers,
 }
 
 impl Model for ElementCounts {
     ghost use Rattle.std.specs.Prelude.{List};
     ghost use Rattle.dw_types.specs.declared.element_count.ElementCount.{ElementCount as CountOf};
-    ghost use Rattle.dw_types.specs.StoredCounts.{counts_in};
+    ghost use Rattle.dw_types.specs.StoredSizes.{counts_in};
 
     ghost Value = { List CountOf };
 
-    ghost view = { λ it. counts_in it.counts.items };
+    ghost view = { λ it. counts_in it.counts };
 }
 
 impl ElementCounts {
@@ -105,33 +138,44 @@ impl ElementCounts {
     fn new(alloc: Global, count: usize) -> Result<Self, AllocError>
         ensures { IfOk result (λ counts. counts ≡ replicate count NoDimension) }
     {
-        let counts = vec![in alloc; u64::MAX; count]?;
+        let counts = Numbers::zeros(alloc, count)?;
         Ok(ElementCounts { counts })
     }
 
     /// How many elements an entry has.
-    pub(crate) fn get(&self, node: usize) -> ElementCount
+    fn get(&self, node: usize) -> ElementCount
         requires { node < length self.now }
         ensures count { result ≡ slice_index_or self.now node NoDimension }
         ensures storable { IsStorable result }
     {
-        let count = self.counts[node];
-        if count == u64::MAX {
-            ElementCount::NoDimension
-        } else if count == u64::MAX - 1 {
-            ElementCount::Unknown
-        } else {
-            ElementCount::Known(count)
-        }
+        count_in(self.counts.get(node))
     }
 
     /// Writes how many elements an entry has.
-    fn set(&mut self, node: usize, elements: ElementCount)
+    fn set(&mut self, alloc: Global, node: usize, elements: ElementCount) -> Result<(), AllocError>
         requires node { node < length self.old }
         requires storable { IsStorable elements }
-        ensures { self.new ≡ slice_set self.old node elements }
+        ensures { OnOk result (self.new ≡ slice_set self.old node elements) }
     {
-        self.counts[node] = stored(elements);
+        self.counts.set(alloc, node, stored(elements))?;
+        Ok(())
+    }
+
+    /// The same numbers as a table of sizes, which has the count of an entry until its size is written.
+    pub(crate) fn into_sizes(self) -> SizeTable
+        ensures { self ≡ map count_at_size result }
+    {
+        SizeTable::from_numbers(self.counts)
+    }
+}
+
+impl SizeTable {
+    /// How many elements an entry has whose size is not written yet.
+    pub(crate) fn count_at(&self, node: usize) -> ElementCount
+        requires { node < length self.now }
+        ensures { result ≡ count_at_size (size_at self.now node) }
+    {
+        count_in(self.number(node))
     }
 }
 
@@ -146,10 +190,11 @@ pub(crate) fn element_counts(
 {
     let mut counts = ElementCounts::new(alloc, entries.count())?;
     for child in 0..entries.count() {
-        match entries.parent(child) {
+        let entry = entries.at(child);
+        match entry.counted_parent() {
             Some(parent) => {
-                let elements = counts.get(parent).with_child(entries, child);
-                counts.set(parent, elements);
+                let elements = counts.get(parent).with_child(entries, child, &entry);
+                counts.set(alloc, parent, elements)?;
             }
             None => {}
         }

@@ -7,9 +7,9 @@ ghost use Rattle.dw_types.specs.Entries.{entry_at, OffsetsRise, ParentsComeFirst
 ghost use Rattle.dw_types.specs.FactsOf.{facts_in};
 ghost use Rattle.dw_types.specs.UnitsRead.{all_unit_facts};
 
-use crate::facts::Facts;
-use crate::facts_reader::{UnitFacts, number_of};
-use dw_entries::{Entries, Tag};
+use crate::entry_reader::EntryReader;
+use crate::facts_reader::UnitFacts;
+use dw_entries::Entries;
 use dw_links::Links;
 use std::alloc::{AllocError, Global};
 use std::marker::Model;
@@ -44,8 +44,9 @@ impl<'r, 'a> EntryFacts<'r, 'a> {
         ensures rising { IfOk result OffsetsRise }
         ensures few { IfOk result (λ it. length it < 2 ^ 32) }
     {
-        let mut units = Vec::new(alloc);
-        for number in 0..entries.unit_count() {
+        let count = entries.unit_count();
+        let mut units = Vec::with_capacity(alloc, count)?;
+        for number in 0..count {
             units.push(UnitFacts::read(entries, number))?;
         }
         Ok(EntryFacts {
@@ -62,31 +63,16 @@ impl<'r, 'a> EntryFacts<'r, 'a> {
         self.entries.count()
     }
 
-    /// The facts of an entry.
-    pub(crate) fn at(&self, node: usize) -> Facts
+    /// The entry with a number.
+    pub(crate) fn at(&self, node: usize) -> EntryReader<'_, 'r, 'a>
         requires { node < length self.now }
         ensures { result ≡ entry_at self.now node }
     {
-        let id = self.entries.id(node);
-        let unit = self.units[self.entries.unit_of(id)];
-        Facts::read(self.entries, self.links, id, unit)
-    }
-
-    /// The tag of an entry, which takes no look at its values.
-    pub(crate) fn tag(&self, node: usize) -> Tag
-        requires { node < length self.now }
-        ensures { result ≡ (entry_at self.now node).tag }
-    {
-        let id = self.entries.id(node);
-        self.entries.head(id).tag
-    }
-
-    /// The parent of an entry, which takes no look at its values.
-    pub(crate) fn parent(&self, node: usize) -> Option<usize>
-        requires { node < length self.now }
-        ensures { result ≡ (entry_at self.now node).parent }
-    {
-        let id = self.entries.id(node);
-        number_of(self.entries.head(id).parent)
+        EntryReader::new(
+            self.entries,
+            self.links,
+            self.units.as_slice(),
+            self.entries.id(node),
+        )
     }
 }

@@ -1,10 +1,13 @@
 //! Whether a plain member ends inside its container (DWARF 5, 5.7.6).
 
-ghost use Rattle.std.specs.Prelude.{◌≡◌, ◌^◌, pos, ◌≤ℤ◌, IfSome};
+ghost use Rattle.std.specs.Prelude.{◌≡◌, ◌^◌, ◌<◌, ℕ, pos, ◌≤ℤ◌, Some, length, IfSome};
 ghost use Rattle.dw_types.specs.Extents.{bits_end_past, end_past, ends_past, is_outside, start_of};
+ghost use Rattle.dw_types.specs.Sizes.{size_to};
+ghost use Rattle.dw_types.specs.SizeTables.{size_at};
 
-use crate::facts::Facts;
+use crate::entry_reader::EntryReader;
 use crate::kind::Role;
+use crate::size_table::SizeTable;
 
 /// Whether so many bits from a bit on end past some bytes, or one of the numbers is negative.
 fn bits_end_past(bytes: u64, size: Option<u64>, start: Option<u64>) -> bool
@@ -27,18 +30,20 @@ fn end_past(bytes: u64, start: i128, size: u64) -> bool
     u128::from(bytes) * 8 < start as u128 + u128::from(size) * 8
 }
 
-impl Facts {
+impl EntryReader<'_, '_, '_> {
     /// The bit at which a member starts, if it is known.
     fn start(&self) -> Option<i128>
         ensures value { result ≡ start_of self.now }
         ensures small { IfSome result (λ n. n ≤ℤ pos (2 ^ 70)) }
     {
-        if self.data_member_location.is_present() {
-            let bytes = self.data_member_location.number()?;
+        let location = self.data_member_location();
+        if location.is_present() {
+            let bytes = location.number()?;
             return Some(bytes * 8);
         }
-        if self.data_bit_offset.is_present() {
-            return self.data_bit_offset.number();
+        let offset = self.data_bit_offset();
+        if offset.is_present() {
+            return offset.number();
         }
         Some(0)
     }
@@ -47,14 +52,11 @@ impl Facts {
     fn ends_past(&self, bytes: u64, size: Option<u64>) -> bool
         ensures { result ≡ ends_past bytes self.now size }
     {
-        if self.bit_size.number().is_some() && self.data_bit_offset.number().is_some() {
-            return bits_end_past(
-                bytes,
-                self.bit_size.natural(),
-                self.data_bit_offset.natural(),
-            );
+        let bit_size = self.bit_size();
+        if bit_size.number().is_some() && self.data_bit_offset().number().is_some() {
+            return bits_end_past(bytes, bit_size.natural(), self.data_bit_offset().natural());
         }
-        if self.bit_size.is_present() {
+        if bit_size.is_present() {
             return false;
         }
         match (self.start(), size) {
@@ -64,20 +66,17 @@ impl Facts {
     }
 
     /// Whether the entry, whose parent is this to it, is a plain member that ends outside its container,
-    /// where the container and the entry's type have these sizes in bytes.
-    pub(crate) fn is_outside(
-        &self,
-        parent: Role,
-        container: Option<u64>,
-        type_size: Option<u64>,
-    ) -> bool
-        ensures { result ≡ is_outside parent self.now container type_size }
+    /// by the sizes of the container and of the entry's type.
+    pub(crate) fn is_outside(&self, parent: Role, sizes: &SizeTable) -> bool
+        requires container_in { (node : ℕ) → self.now.parent ≡ Some node → node < length sizes.now }
+        requires type_in { (node : ℕ) → self.now.type_target ≡ Some node → node < length sizes.now }
+        ensures { result ≡ is_outside parent self.now (size_to (size_at sizes.now) self.now.parent) (size_to (size_at sizes.now) self.now.type_target) }
     {
         if !self.is_plain(parent) {
             return false;
         }
-        match container {
-            Some(bytes) => self.ends_past(bytes, type_size),
+        match sizes.get_to(self.parent()) {
+            Some(bytes) => self.ends_past(bytes, sizes.get_to(self.type_target())),
             None => false,
         }
     }

@@ -3,7 +3,7 @@
 ghost use Rattle.std.specs.Prelude.{◌≡◌};
 ghost use Rattle.dw_types.specs.Kinds.{has_members, is_array, is_declared_type, is_dimensions, is_enumeration, is_members, kind_of, passes_type_on, role_of};
 
-use crate::facts::Facts;
+use crate::entry_reader::EntryReader;
 use dw_entries::constants::*;
 
 /// The kinds of type entries that the size table tells apart.
@@ -49,15 +49,15 @@ impl Role {
     }
 }
 
-impl Facts {
+impl EntryReader<'_, '_, '_> {
     /// The kind of the entry.
-    pub fn kind(&self) -> Kind
+    pub(crate) fn kind(&self) -> Kind
         ensures { result ≡ kind_of self.now }
     {
         if self.is_declared_type() {
             return Kind::Declared;
         }
-        match self.tag {
+        match self.tag() {
             DW_TAG_pointer_type => Kind::Pointer,
             DW_TAG_typedef
             | DW_TAG_const_type
@@ -91,7 +91,7 @@ impl Facts {
     }
 
     /// What the entry is to its children.
-    pub fn role(&self) -> Role
+    pub(crate) fn role(&self) -> Role
         ensures { result ≡ role_of self.now }
     {
         if self.has_members() {
@@ -104,11 +104,11 @@ impl Facts {
     }
 
     /// Whether it is a typedef, const, volatile, restrict, atomic, array or enumeration.
-    pub fn passes_type_on(&self) -> bool
+    pub(crate) fn passes_type_on(&self) -> bool
         ensures { result ≡ passes_type_on self.now }
     {
         matches!(
-            self.tag,
+            self.tag(),
             DW_TAG_typedef
                 | DW_TAG_const_type
                 | DW_TAG_volatile_type
@@ -120,33 +120,33 @@ impl Facts {
     }
 
     /// Whether it is a structure or union that is not declared.
-    pub fn has_members(&self) -> bool
+    pub(crate) fn has_members(&self) -> bool
         ensures { result ≡ has_members self.now }
     {
-        matches!(self.tag, DW_TAG_structure_type | DW_TAG_union_type) && !self.declared
+        matches!(self.tag(), DW_TAG_structure_type | DW_TAG_union_type) && !self.declared()
     }
 
     /// Whether it is a declared structure, union or enumeration.
-    pub fn is_declared_type(&self) -> bool
+    pub(crate) fn is_declared_type(&self) -> bool
         ensures { result ≡ is_declared_type self.now }
     {
         matches!(
-            self.tag,
+            self.tag(),
             DW_TAG_structure_type | DW_TAG_union_type | DW_TAG_enumeration_type
-        ) && self.declared
+        ) && self.declared()
     }
 
     /// Whether it is an array.
-    pub fn is_array(&self) -> bool
+    pub(crate) fn is_array(&self) -> bool
         ensures { result ≡ is_array self.now }
     {
-        matches!(self.tag, DW_TAG_array_type)
+        matches!(self.tag(), DW_TAG_array_type)
     }
 
     /// Whether it is an enumeration that is not declared.
-    pub fn is_enumeration(&self) -> bool
+    pub(crate) fn is_enumeration(&self) -> bool
         ensures { result ≡ is_enumeration self.now }
     {
-        matches!(self.tag, DW_TAG_enumeration_type) && !self.declared
+        matches!(self.tag(), DW_TAG_enumeration_type) && !self.declared()
     }
 }

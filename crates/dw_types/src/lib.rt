@@ -7,6 +7,7 @@ mod count;
 mod cycle;
 mod element_count;
 mod entry_facts;
+mod entry_reader;
 mod extent;
 mod facts;
 mod facts_reader;
@@ -25,7 +26,6 @@ mod size_line;
 mod size_table;
 mod sizing;
 mod step_list;
-mod type_attributes;
 mod walk;
 
 pub use by_value::ByValue;

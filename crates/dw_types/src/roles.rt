@@ -4,7 +4,7 @@ ghost use Rattle.std.specs.Prelude.{◌≡◌, ◌<◌, [], ◌∷◌, ◌++◌,
 ghost use Rattle.dw_types.specs.Kinds.{role_of};
 ghost use Rattle.dw_types.specs.Roles.{role_listed};
 
-use crate::facts::Facts;
+use crate::entry_reader::EntryReader;
 use crate::kind::Role;
 use std::alloc::{AllocError, Global};
 use std::marker::Model;
@@ -35,7 +35,7 @@ impl Roles {
     }
 
     /// Adds the next entry's.
-    pub(crate) fn push(&mut self, entry: &Facts) -> Result<(), AllocError>
+    pub(crate) fn push(&mut self, entry: &EntryReader<'_, '_, '_>) -> Result<(), AllocError>
         ensures { OnOk result (self.new ≡ self.old ++ role_of entry.now ∷ []) }
     {
         self.roles.push(entry.role())?;

@@ -4,32 +4,32 @@ ghost use Rattle.std.specs.Prelude.{◌≡◌, true};
 ghost use Rattle.dw_entries.specs.Failures.{IsLeast};
 ghost use Rattle.dw_types.specs.Shapes.{breaks_shape, has_bad_count, is_plain, misses_type, stands_alone};
 
-use crate::facts::Facts;
+use crate::entry_reader::EntryReader;
 use crate::kind::Role;
 use dw_entries::Rule;
 use dw_entries::constants::*;
 
-impl Facts {
+impl EntryReader<'_, '_, '_> {
     /// Whether the entry, whose parent is this to it, is a plain member.
     pub(crate) fn is_plain(&self, parent: Role) -> bool
         ensures { result ≡ is_plain parent self.now }
     {
-        matches!(self.tag, DW_TAG_member) && !self.declared && parent.is_members()
+        matches!(self.tag(), DW_TAG_member) && parent.is_members() && !self.declared()
     }
 
     /// Whether the entry takes nothing over from another one.
     pub(crate) fn stands_alone(&self) -> bool
         ensures { result ≡ stands_alone self.now }
     {
-        !self.has_specification && !self.has_abstract_origin
+        !self.has_specification() && !self.has_abstract_origin()
     }
 
     /// Whether a type is missing.
     fn misses_type(&self, parent: Role) -> bool
         ensures { result ≡ misses_type parent self.now }
     {
-        (self.is_array() || self.is_plain(parent))
-            && self.type_target.is_none()
+        self.type_target().is_none()
+            && (self.is_array() || self.is_plain(parent))
             && self.stands_alone()
     }
 
@@ -40,7 +40,7 @@ impl Facts {
         if !self.is_dimension(parent) {
             return false;
         }
-        match self.count() {
+        match self.known_count() {
             Some(n) => n < 0,
             None => false,
         }

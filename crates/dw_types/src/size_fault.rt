@@ -1,11 +1,14 @@
 //! Which sizes are wrong (DWARF 5, 5.1, 5.5, 5.7 and 5.8).
 
-ghost use Rattle.std.specs.Prelude.{◌≡◌, true};
+ghost use Rattle.std.specs.Prelude.{◌≡◌, ◌<◌, ℕ, Some, false, true, length, IfSome};
 ghost use Rattle.dw_entries.specs.Failures.{IsLeast};
 ghost use Rattle.dw_types.specs.SizeFaults.{breaks_size, differ, has_no_size, has_wrong_size, is_too_great, reads_own, wants_own};
+ghost use Rattle.dw_types.specs.Sizes.{size_to};
+ghost use Rattle.dw_types.specs.SizeTables.{size_at};
 
-use crate::facts::Facts;
+use crate::entry_reader::EntryReader;
 use crate::kind::{Kind, Role};
+use crate::size_table::SizeTable;
 use dw_entries::Rule;
 use dw_entries::constants::*;
 
@@ -41,15 +44,15 @@ fn differ(a: Option<u64>, b: Option<u64>) -> bool
     }
 }
 
-impl Facts {
+impl EntryReader<'_, '_, '_> {
     /// Whether something stands wrong where the byte size is absent.
     fn wants_own(&self) -> bool
         ensures { result ≡ wants_own self.now }
     {
-        match self.tag {
-            DW_TAG_base_type => !self.bit_size.is_present(),
-            DW_TAG_structure_type | DW_TAG_union_type => !self.declared && self.stands_alone(),
-            DW_TAG_array_type => self.byte_stride.is_negative(),
+        match self.tag() {
+            DW_TAG_base_type => !self.bit_size().is_present(),
+            DW_TAG_structure_type | DW_TAG_union_type => !self.declared() && self.stands_alone(),
+            DW_TAG_array_type => self.byte_stride().is_negative(),
             _ => false,
         }
     }
@@ -58,46 +61,48 @@ impl Facts {
     fn has_no_size(&self) -> bool
         ensures { result ≡ has_no_size self.now }
     {
-        if self.byte_size.is_present() {
-            return self.kind().reads_own() && self.byte_size.is_negative();
-        }
-        self.wants_own()
+        (self.kind().reads_own() && self.byte_size().is_negative())
+            || (self.wants_own() && !self.byte_size().is_present())
     }
 
     /// Whether it is an enumeration with neither a byte size nor a type, or with one that is not its type's.
-    fn has_wrong_size(&self, type_size: Option<u64>) -> bool
-        ensures { result ≡ has_wrong_size self.now type_size }
+    fn has_wrong_size(&self, sizes: &SizeTable) -> bool
+        requires { (node : ℕ) → self.now.type_target ≡ Some node → node < length sizes.now }
+        ensures { result ≡ has_wrong_size self.now (size_to (size_at sizes.now) self.now.type_target) }
     {
         if !self.is_enumeration() {
             return false;
         }
-        if !self.byte_size.is_present() {
-            return self.type_target.is_none() && self.stands_alone();
+        let own = self.byte_size();
+        if !own.is_present() {
+            return self.type_target().is_none() && self.stands_alone();
         }
-        differ(self.byte_size.natural(), type_size)
+        differ(own.natural(), sizes.get_to(self.type_target()))
     }
 
-    /// The rule on sizes that the entry breaks, whose parent is this to it: the one with the least number.
-    /// The sizes in bytes are those of the entry, of its parent and of its type.
+    /// The rule on sizes that the entry breaks, whose parent is this to it and whose size is this: the one with
+    /// the least number. Where it has a size, its byte size is not asked again.
     pub(crate) fn broken_size(
         &self,
         parent: Role,
         size: Option<u64>,
-        container: Option<u64>,
-        type_size: Option<u64>,
+        sizes: &SizeTable,
     ) -> Option<Rule>
-        ensures { IsLeast (λ rule. breaks_size parent self.now size container type_size rule ≡ true) result }
+        requires own { IfSome size (λ _. has_no_size self.now ≡ false) }
+        requires container_in { (node : ℕ) → self.now.parent ≡ Some node → node < length sizes.now }
+        requires type_in { (node : ℕ) → self.now.type_target ≡ Some node → node < length sizes.now }
+        ensures { IsLeast (λ rule. breaks_size parent self.now size (size_to (size_at sizes.now) self.now.parent) (size_to (size_at sizes.now) self.now.type_target) rule ≡ true) result }
     {
-        if self.has_no_size() {
+        if size.is_none() && self.has_no_size() {
             return Some(Rule::NoSize);
         }
         if is_too_great(size) {
             return Some(Rule::SizeTooGreat);
         }
-        if self.is_outside(parent, container, type_size) {
+        if self.is_outside(parent, sizes) {
             return Some(Rule::MemberOutside);
         }
-        if self.has_wrong_size(type_size) {
+        if self.has_wrong_size(sizes) {
             return Some(Rule::EnumSize);
         }
         None

@@ -9,7 +9,7 @@ ghost use Rattle.dw_types.specs.SizeTables.{cap_size, size_at};
 use crate::constant::Constant;
 use crate::element_count::ElementCount;
 use crate::entry_facts::EntryFacts;
-use crate::facts::Facts;
+use crate::entry_reader::EntryReader;
 use crate::kind::Kind;
 use crate::size_table::SizeTable;
 
@@ -51,7 +51,7 @@ fn capped_array(
     elements: ElementCount,
     sizes: &SizeTable,
     node: usize,
-    entry: &Facts,
+    entry: &EntryReader<'_, '_, '_>,
 ) -> Option<u64>
     requires entry { entry.now ≡ entry_at entries.now node }
     requires targets { TargetsAreEntries entries.now }
@@ -60,12 +60,12 @@ fn capped_array(
     ensures value { result ≡ cap_size (2 ^ 63) (array_size entries.now (size_at sizes.now) node) }
     ensures small { IfSome result (λ n. n ≤ 2 ^ 63) }
 {
-    if entry.bit_stride.is_present() {
+    if entry.bit_stride().is_present() {
         return None;
     }
     let storage = entry
-        .byte_stride
-        .natural_or(sizes.get_to(entry.type_target));
+        .byte_stride()
+        .natural_or(sizes.get_to(entry.type_target()));
     capped_times(storage, elements.size())
 }
 
@@ -84,14 +84,22 @@ pub(crate) fn capped_size(
     ensures small { IfSome result (λ n. n ≤ 2 ^ 63) }
 {
     let entry = entries.at(node);
-    let own = entry.byte_size;
     match entry.kind() {
-        Kind::Declared => capped(sizes.get_to(entry.signature_target)),
-        Kind::OwnSized => capped(own.natural()),
-        Kind::Pointer => capped(own.natural_or(Some(u64::from(entry.address_size)))),
-        Kind::Alias => capped(sizes.get_to(entry.type_target)),
-        Kind::Enumeration => capped(own.natural_or(sizes.get_to(entry.type_target))),
-        Kind::Array => capped(own.natural_or(capped_array(entries, elements, sizes, node, &entry))),
+        Kind::Declared => capped(sizes.get_to(entry.signature_target())),
+        Kind::OwnSized => capped(entry.byte_size().natural()),
+        Kind::Pointer => {
+            let own = entry.byte_size();
+            capped(own.natural_or(Some(u64::from(entry.address_size()))))
+        }
+        Kind::Alias => capped(sizes.get_to(entry.type_target())),
+        Kind::Enumeration => {
+            let own = entry.byte_size();
+            capped(own.natural_or(sizes.get_to(entry.type_target())))
+        }
+        Kind::Array => {
+            let own = entry.byte_size();
+            capped(own.natural_or(capped_array(entries, elements, sizes, node, &entry)))
+        }
         Kind::Subroutine | Kind::NoType => None,
     }
 }

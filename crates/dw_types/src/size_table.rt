@@ -1,10 +1,11 @@
 //! The table of sizes.
 
-ghost use Rattle.std.specs.Prelude.{◌≡◌, ◌<◌, ◌≤◌, ◌^◌, ℕ, Some, length, IfOk, IfSome, List, slice_set};
+ghost use Rattle.std.specs.Prelude.{◌≡◌, ◌<◌, ◌≤◌, ◌^◌, ℕ, Some, length, IfSome, List, OnOk, slice_set};
 ghost use Rattle.dw_types.specs.Sizes.{size_to};
 ghost use Rattle.dw_types.specs.SizeTables.{Size, size_at};
 ghost use Rattle.dw_types.specs.StoredSizes.{size_in, sizes_in};
 
+use crate::numbers::Numbers;
 use dw_entries::EntryId;
 use std::alloc::{AllocError, Global};
 use std::marker::Model;
@@ -12,23 +13,30 @@ use std::marker::Model;
 /// The size of each entry in bytes, or none, by the entry's number. An entry that is no type has none.
 #[derive(Drop)]
 pub struct SizeTable {
-    /// The greatest number stands for none.
-    sizes: Vec<u64>,
+    /// 0 stands for none, and each other number for the size before it.
+    sizes: Numbers,
 }
 
 impl Model for SizeTable {
     ghost Value = { List Size };
 
-    ghost view = { λ it. sizes_in it.sizes.items };
+    ghost view = { λ it. sizes_in it.sizes };
 }
 
 impl SizeTable {
-    /// A table for so many entries.
-    pub(crate) fn new(alloc: Global, count: usize) -> Result<Self, AllocError>
-        ensures { IfOk result (λ table. length table ≡ count) }
+    /// The sizes that numbers stand for.
+    pub(crate) fn from_numbers(sizes: Numbers) -> Self
+        ensures { result ≡ sizes_in sizes }
     {
-        let sizes = vec![in alloc; u64::MAX; count]?;
-        Ok(SizeTable { sizes })
+        SizeTable { sizes }
+    }
+
+    /// The number that stands for the size of an entry.
+    pub(crate) fn number(&self, node: usize) -> usize
+        requires { node < length self.now }
+        ensures { size_in result ≡ size_at self.now node }
+    {
+        self.sizes.get(node)
     }
 
     /// The size of an entry.
@@ -44,8 +52,10 @@ impl SizeTable {
         requires { node < length self.now }
         ensures { result ≡ size_at self.now node }
     {
-        let size = self.sizes[node];
-        if size == u64::MAX { None } else { Some(size) }
+        match self.number(node) {
+            0 => None,
+            number => Some((number - 1) as u64),
+        }
     }
 
     /// The size of the entry that is named, if one is.
@@ -60,19 +70,28 @@ impl SizeTable {
     }
 
     /// Writes the size of an entry, which is at most 2^63.
-    pub(crate) fn set(&mut self, node: usize, size: Option<u64>)
+    pub(crate) fn set(
+        &mut self,
+        alloc: Global,
+        node: usize,
+        size: Option<u64>,
+    ) -> Result<(), AllocError>
         requires node_in { node < length self.old }
         requires small { IfSome size (λ n. n ≤ 2 ^ 63) }
-        ensures { self.new ≡ slice_set self.old node size }
+        ensures { OnOk result (self.new ≡ slice_set self.old node size) }
     {
-        self.sizes[node] = stored(size);
+        self.sizes.set(alloc, node, stored(size))?;
+        Ok(())
     }
 }
 
 /// The number that stands for a size.
-fn stored(size: Option<u64>) -> u64
+fn stored(size: Option<u64>) -> usize
     requires { IfSome size (λ n. n ≤ 2 ^ 63) }
     ensures { size_in result ≡ size }
 {
-    size.unwrap_or(u64::MAX)
+    match size {
+        Some(size) => size as usize + 1,
+        None => 0,
+    }
 }

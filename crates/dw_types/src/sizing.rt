@@ -39,11 +39,11 @@ fn capped_sizes(
     ensures obeys { IfOk result (λ table. ObeysCappedLines entries.now (size_at table)) }
 {
     let counts = element_counts(alloc, entries)?;
-    let mut sizes = SizeTable::new(alloc, entries.count())?;
+    let mut sizes = counts.into_sizes();
     for rank in 0..order.count() {
         let node = order.node(rank);
-        let size = capped_size(entries, counts.get(node), &sizes, node);
-        sizes.set(node, size);
+        let size = capped_size(entries, sizes.count_at(node), &sizes, node);
+        sizes.set(alloc, node, size)?;
     }
     Ok(sizes)
 }
@@ -57,16 +57,14 @@ fn first_wrong_size(
     requires parents { ParentsComeFirst entries.now }
     requires targets { TargetsAreEntries entries.now }
     requires sizes_in { length sizes.now ≡ length entries.now }
+    requires obeys { ObeysCappedLines entries.now (size_at sizes.now) }
     ensures { IfOk result (λ found. MatchOption found (PassAll entries.now (fails_size entries.now (size_at sizes.now))) (λ first. IsFirstAt entries.now (fails_size entries.now (size_at sizes.now)) first.0 first.1)) }
 {
     let mut roles = Roles::new(alloc);
     for node in 0..entries.count() {
         let entry = entries.at(node);
-        let parent = roles.of_parent(entry.parent);
-        let size = sizes.at(node);
-        let container = sizes.get_to(entry.parent);
-        let type_size = sizes.get_to(entry.type_target);
-        if let Some(rule) = entry.broken_size(parent, size, container, type_size) {
+        let parent = roles.of_parent(entry.parent());
+        if let Some(rule) = entry.broken_size(parent, sizes.at(node), sizes) {
             return Ok(Some((node, rule)));
         }
         roles.push(&entry)?;
@@ -95,7 +93,7 @@ fn sizes_of_facts(
         Some((node, rule)) => Err(Stop::Fault(fault_at_entry(
             alloc,
             rule,
-            entries.at(node).offset,
+            entries.at(node).offset(),
         ))),
     }
 }

@@ -14,7 +14,7 @@ returns-in-Err-clause-fault c = wrong_shape (sections_of c.args.entries.now) (un
 pub returns-in-Ok-sizes-clause-sound : goal.returns-in-Ok-sizes-clause-sound
 returns-in-Ok-sizes-clause-sound c =
     let us = units_of c.args.entries.now.scanned in
-    let same = c.in-Ok-new.ensures ∙ c.in-Ok.ensures.graph in
+    let same = c.into_packed-steps.ensures ∙ c.in-Ok.ensures.graph in
     record {
       shapes = c.in-Ok.ensures.sound;
       graph = same;
@@ -26,7 +26,7 @@ returns-in-Ok-sizes-clause-sound c =
 pub returns-in-Ok-order-clause-fault : goal.returns-in-Ok-order-clause-fault
 returns-in-Ok-order-clause-fault c =
     let us = units_of c.args.entries.now.scanned in
-    let same = c.in-Ok-new.ensures ∙ c.in-Ok.ensures.graph in
+    let same = c.into_packed-steps.ensures ∙ c.in-Ok.ensures.graph in
     wrong_size (sections_of c.args.entries.now) us c.in-Err-sizes.stop c.in-Ok.ensures.sound (subst HasNoCycle same c.in-Ok-order.ensures.no_cycle) c.in-Err-sizes.ensures.fault
 
 pub returns-in-Ok-cycle_fault-clause-fault : goal.returns-in-Ok-cycle_fault-clause-fault

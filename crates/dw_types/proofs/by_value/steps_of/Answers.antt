@@ -1,12 +1,11 @@
-use Rattle.std.proofs.Common.{◌≡◌, ℕ, ◌+◌, ◌<◌, ◌≤◌, List, ◌++◌, Some, length, arith, ◌∙◌}
+use Rattle.std.proofs.Common.{◌≡◌, ℕ, ◌+◌, ◌<◌, Some, length, arith, ◌∙◌}
 use Rattle.dw_types.specs.Entries.{entry_at}
-use Rattle.dw_types.specs.Kinds.{is_declared_type, parent_role, passes_type_on}
+use Rattle.dw_types.specs.Kinds.{parent_role}
 use Rattle.dw_types.specs.Roles.{roles_of_first}
 use Rattle.dw_types.specs.Shapes.{fails_shape}
-use Rattle.dw_types.specs.Steps.{targets_if}
 use Rattle.dw_types.proofs.FirstLemmas.{first-here, first-of_entries, passes-more}
 use Rattle.dw_types.proofs.RoleLemmas.{parent-listed, role-listed, roles-more}
-use Rattle.dw_types.proofs.RowLemmas.{HasSteps, member-target, steps-all, steps-member, steps-none, steps-plain}
+use Rattle.dw_types.proofs.RowLemmas.{member-target, steps-all, steps-member, steps-none, steps-plain}
 use Rattle.dw_types.proofs.by_value.steps_of.Goals as goal
 use Rattle.dw_types.proofs.by_value.steps_of.Goals.{in-Some-member_of+in_ok-add-3, in_default-member_of}
 
@@ -15,7 +14,7 @@ of_parent-parent-requires c =
     let entries = c.args.entries.now in
     let child = c.loop-child.child in
     let inside : child < length entries = rw (← c.count-child-end.ensures) c.loop-child-test.true in
-    rw (c.loop-child.invariant.1, c.at-entry.ensures) (parent-listed entries child (entry_at entries child).parent (omega arith) (c.requires.parents child))
+    rw (c.loop-child.invariant.1, c.parent.ensures, c.at-entry.ensures) (parent-listed entries child (entry_at entries child).parent (omega arith) (c.requires.parents child))
 
 pub add-requires-clause-to : goal.add-requires-clause-to
 add-requires-clause-to c = λ node is.
@@ -43,7 +42,7 @@ member_of-requires-clause-parent c =
     let entries = c.args.entries.now in
     let child = c.loop-child.child in
     let inside : child < length entries = rw (← c.count-child-end.ensures) c.loop-child-test.true in
-    c.of_parent-parent.ensures ∙ rw (c.loop-child.invariant.1, c.at-entry.ensures) (role-listed entries child _ (omega arith) (c.requires.parents child))
+    c.of_parent-parent.ensures ∙ rw (c.loop-child.invariant.1, c.parent.ensures, c.at-entry.ensures) (role-listed entries child _ (omega arith) (c.requires.parents child))
 
 pub returns-in-Some-clause-fault : goal.returns-in-Some-clause-fault
 returns-in-Some-clause-fault c =
@@ -51,10 +50,10 @@ returns-in-Some-clause-fault c =
     let child = c.loop-child.child in
     let inside : child < length entries = rw (← c.count-child-end.ensures) c.loop-child-test.true in
     let role : c.of_parent-parent.result ≡ parent_role entries child =
-    c.of_parent-parent.ensures ∙ rw (c.loop-child.invariant.1, c.at-entry.ensures) (role-listed entries child _ (omega arith) (c.requires.parents child)) in
+    c.of_parent-parent.ensures ∙ rw (c.loop-child.invariant.1, c.parent.ensures, c.at-entry.ensures) (role-listed entries child _ (omega arith) (c.requires.parents child)) in
     let least = rw (role, c.at-entry.ensures) at c.in-Some.ensures in
     let first = first-of_entries entries c.requires.rising (fails_shape entries) child c.in-Some.rule (first-here entries (fails_shape entries) child c.in-Some.rule inside c.loop-child.invariant.2 least) in
-    record { holds = rw (c.fault_at_entry.ensures.holds, c.at-entry.ensures) first; cycle = c.fault_at_entry.ensures.cycle }
+    record { holds = rw (c.fault_at_entry.ensures.holds, c.offset.ensures, c.at-entry.ensures) first; cycle = c.fault_at_entry.ensures.cycle }
 
 pub loop-child-init : goal.loop-child-init
 loop-child-init c = rw c.in_ok-steps.ensures.items (steps-none c.args.entries.now, c.new-roles.ensures, λ k below. absurd (omega arith))
@@ -66,7 +65,7 @@ loop-child-preserved c =
     let steps = c.loop-child.steps.items in
     let inside : child < length entries = rw (← c.count-child-end.ensures) c.loop-child-test.true in
     let role : c.of_parent-parent.result ≡ parent_role entries child =
-    c.of_parent-parent.ensures ∙ rw (c.loop-child.invariant.1, c.at-entry.ensures) (role-listed entries child _ (omega arith) (c.requires.parents child)) in
+    c.of_parent-parent.ensures ∙ rw (c.loop-child.invariant.1, c.parent.ensures, c.at-entry.ensures) (role-listed entries child _ (omega arith) (c.requires.parents child)) in
     let roles : c.push.new.self ≡ roles_of_first entries (child + 1) = rw c.in_ok-push.ensures (rw (c.loop-child.invariant.1, c.at-entry.ensures) (roles-more entries child inside)) in
     let passes = rw (role, c.at-entry.ensures) at c.in_default.ensures in
     let passed = passes-more (fails_shape entries) child c.loop-child.invariant.2 passes in

@@ -1,26 +1,36 @@
-use Rattle.std.proofs.Common.{◌≡◌, ℕ, List, ◌<◌, ◌≤◌, length, get_or, arith, sym, ◌∙◌}
-use Rattle.std.proofs.lemmas.List.{get_or_read}
+use Rattle.std.proofs.Common.{◌≡◌, ℕ, List, ◌<◌, ◌≤◌, length, get_or, arith}
 use Rattle.dw_types.specs.declared.facts.Facts.{Facts}
 use Rattle.dw_types.specs.declared.element_count.ElementCount.{ElementCount}
 use Rattle.dw_types.specs.declared.element_count.ElementCount.TheVariants.{NoDimension}
 use Rattle.dw_types.specs.ElementCounts.{element_count_by}
-use Rattle.dw_types.specs.Entries.{children}
-use Rattle.dw_types.proofs.ElementCountLemmas.{HasElementCounts, counts-plain, counts-child}
+use Rattle.dw_types.specs.Entries.{children, entry_at}
+use Rattle.dw_types.proofs.ElementCountLemmas.{HasElementCounts, counted-parent, counts-child, counts-uncounted}
 use Rattle.dw_types.proofs.element_count.element_counts.Goals as goal
-use Rattle.dw_types.proofs.element_count.element_counts.Goals.{in-Some, in-None}
+use Rattle.dw_types.proofs.element_count.element_counts.Goals.{in-Some+in_ok-set-in-Some, in-None}
+
+pub set-requires-clause-node : goal.set-requires-clause-node
+set-requires-clause-node c =
+    let entries = c.args.entries.now in
+    let is = counted-parent _ (entry_at entries c.loop-child.child).parent c.in-Some.parent (rw (c.counted_parent.ensures, c.at-entry.ensures) at c.in-Some.is) in
+    let first = c.requires c.loop-child.child c.in-Some.parent is in
+    let end = c.count-child-end.ensures in
+    let below = c.loop-child-test.true in
+    let long = c.loop-child.invariant.long in
+    omega arith
 
 pub loop-child-preserved : goal.loop-child-preserved
 loop-child-preserved c =
-    elim c.match-parent.branch [
-      | in-Some w ↦
+    let entries = c.args.entries.now in
+    elim c.match-counted_parent.branch [
+      | in-Some+in_ok-set-in-Some w ↦
           let old = c.loop-child.counts in
           let parent = w.in-Some.parent in
-          let is = sym c.parent.ensures ∙ w.in-Some.is in
+          let is = counted-parent _ (entry_at entries c.loop-child.child).parent parent (rw (c.counted_parent.ensures, c.at-entry.ensures) at w.in-Some.is) in
           let first = c.requires c.loop-child.child parent is in
           let end = c.count-child-end.ensures in
           let below = c.loop-child-test.true in
-          rw (w.counts-is, w.set.ensures, w.with_child-elements.ensures.grown, w.get.ensures.count) (counts-child c.args.entries.now old c.loop-child.child parent c.loop-child.invariant is (omega arith))
-      | in-None w ↦ rw w.counts-is (counts-plain c.args.entries.now c.loop-child.counts c.loop-child.child c.loop-child.invariant (sym c.parent.ensures ∙ w.in-None.is))
+          rw (w.counts-is, w.in_ok-set-in-Some.ensures, w.with_child-elements.ensures.grown, w.get.ensures.count) (counts-child entries old c.loop-child.child parent c.loop-child.invariant is (omega arith))
+      | in-None w ↦ rw w.counts-is (counts-uncounted entries c.loop-child.counts c.loop-child.child c.loop-child.invariant (rw (c.counted_parent.ensures, c.at-entry.ensures) at w.in-None.is))
     ]
 
 all-children : (entries : List Facts) (counts : List ElementCount) (count : ℕ) → HasElementCounts entries counts count → count ≤ length entries → length entries ≤ count

@@ -3,12 +3,36 @@ use Rattle.dw_types.specs.Kinds.{parent_role}
 use Rattle.dw_types.specs.SizeFaults.{fails_size}
 use Rattle.dw_types.specs.SizeTables.{size_at}
 use Rattle.dw_types.proofs.FirstLemmas.{first-here, passes-more}
-use Rattle.dw_types.proofs.RoleLemmas.{role-listed, roles-more}
+use Rattle.dw_types.proofs.RoleLemmas.{parent-listed, role-listed, roles-more}
+use Rattle.dw_types.proofs.SizeFaultLemmas.{sized-own}
 use Rattle.dw_types.proofs.SizeLineLemmas.{type-in}
 use Rattle.dw_types.proofs.sizing.first_wrong_size.Goals as goal
 
-pub get_to-type_size-requires : goal.get_to-type_size-requires
-get_to-type_size-requires c = rw c.at-entry.ensures (type-in c.args.entries.now c.args.sizes.now c.loop-node.node c.requires.targets c.requires.sizes_in)
+pub of_parent-parent-requires : goal.of_parent-parent-requires
+of_parent-parent-requires c =
+    let entries = c.args.entries.now in
+    let node = c.loop-node.node in
+    let inside : node < length entries = rw (← c.count-node-end.ensures) c.loop-node-test.true in
+    rw (c.loop-node.invariant.0, c.parent.ensures, c.at-entry.ensures) (parent-listed entries node _ (omega arith) (c.requires.parents node))
+
+pub broken_size-requires-clause-own : goal.broken_size-requires-clause-own
+broken_size-requires-clause-own c =
+    let entries = c.args.entries.now in
+    let node = c.loop-node.node in
+    let inside : node < length entries = rw (← c.count-node-end.ensures) c.loop-node-test.true in
+    rw (c.at.ensures, c.at-entry.ensures) (sized-own entries (size_at c.args.sizes.now) node (c.requires.obeys node inside))
+
+pub broken_size-requires-clause-container_in : goal.broken_size-requires-clause-container_in
+broken_size-requires-clause-container_in c = λ parent is.
+    let entries = c.args.entries.now in
+    let node = c.loop-node.node in
+    let inside : node < length entries = rw (← c.count-node-end.ensures) c.loop-node-test.true in
+    let before = c.requires.parents node parent (rw c.at-entry.ensures at is) in
+    let long = c.requires.sizes_in in
+    omega arith
+
+pub broken_size-requires-clause-type_in : goal.broken_size-requires-clause-type_in
+broken_size-requires-clause-type_in c = rw c.at-entry.ensures (type-in c.args.entries.now c.args.sizes.now c.loop-node.node c.requires.targets c.requires.sizes_in)
 
 pub returns-in-Some : goal.returns-in-Some
 returns-in-Some c =
@@ -16,8 +40,8 @@ returns-in-Some c =
     let node = c.loop-node.node in
     let inside : node < length entries = rw (← c.count-node-end.ensures) c.loop-node-test.true in
     let role : c.of_parent-parent.result ≡ parent_role entries node =
-    c.of_parent-parent.ensures ∙ rw (c.loop-node.invariant.0, c.at-entry.ensures) (role-listed entries node _ (omega arith) (c.requires.parents node)) in
-    let least = rw (role, c.at-size.ensures, c.get_to-container.ensures, c.get_to-type_size.ensures, c.at-entry.ensures) at c.in-Some.ensures in
+    c.of_parent-parent.ensures ∙ rw (c.loop-node.invariant.0, c.parent.ensures, c.at-entry.ensures) (role-listed entries node _ (omega arith) (c.requires.parents node)) in
+    let least = rw (role, c.at.ensures, c.at-entry.ensures) at c.in-Some.ensures in
     first-here entries (fails_size entries (size_at c.args.sizes.now)) node c.in-Some.rule inside c.loop-node.invariant.1 least
 
 pub loop-node-preserved : goal.loop-node-preserved
@@ -26,6 +50,6 @@ loop-node-preserved c =
     let node = c.loop-node.node in
     let inside : node < length entries = rw (← c.count-node-end.ensures) c.loop-node-test.true in
     let role : c.of_parent-parent.result ≡ parent_role entries node =
-    c.of_parent-parent.ensures ∙ rw (c.loop-node.invariant.0, c.at-entry.ensures) (role-listed entries node _ (omega arith) (c.requires.parents node)) in
-    let passes = rw (role, c.at-size.ensures, c.get_to-container.ensures, c.get_to-type_size.ensures, c.at-entry.ensures) at c.in_default.ensures in
+    c.of_parent-parent.ensures ∙ rw (c.loop-node.invariant.0, c.parent.ensures, c.at-entry.ensures) (role-listed entries node _ (omega arith) (c.requires.parents node)) in
+    let passes = rw (role, c.at.ensures, c.at-entry.ensures) at c.in_default.ensures in
     (rw c.in_ok-push.ensures (rw (c.loop-node.invariant.0, c.at-entry.ensures) (roles-more entries node inside)), passes-more (fails_size entries (size_at c.args.sizes.now)) node c.loop-node.invariant.1 passes)

@@ -21,4 +21,4 @@ returns-in-Some-clause-fault c =
     let found = size_at c.in_ok-sizes.sizes in
     let first : IsFirstAt entries (fails_size entries found) c.in-Some.node c.in-Some.rule = rw c.in-Some.is at c.in_ok-first_wrong_size.ensures in
     let whole = first-is_first entries c.requires.targets c.args.order.now c.requires.order c.requires.parents c.requires.rising found c.in_ok-sizes.ensures.obeys c.in-Some.node c.in-Some.rule first in
-    record { holds = rw (c.fault_at_entry.ensures.holds, c.at.ensures) whole; cycle = c.fault_at_entry.ensures.cycle }
+    record { holds = rw (c.fault_at_entry.ensures.holds, c.offset.ensures, c.at.ensures) whole; cycle = c.fault_at_entry.ensures.cycle }

@@ -1,4 +1,4 @@
-use Rattle.std.proofs.Common.{◌<◌, length, arith}
+use Rattle.std.proofs.Common.{length, arith}
 use Rattle.std.proofs.lemmas.List.{take_rest}
 use Rattle.dw_types.proofs.StepPackingLemmas.{packed-all, packed-more, packed-none}
 use Rattle.dw_types.proofs.packed.Packed.of_steps.Goals as goal

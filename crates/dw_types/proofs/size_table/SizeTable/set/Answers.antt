@@ -6,5 +6,5 @@ use Rattle.dw_types.proofs.size_table.SizeTable.set.Goals as goal
 
 pub returns : goal.returns
 returns c =
-    let items = c.self.inside.sizes.items in
-    rw (← c.self.view_is) (map-set size_in items c.args.node c.stored.result ∙ ap (λ (size : Size). set (sizes_in items) c.args.node size) c.stored.ensures)
+    let numbers = c.self.inside.sizes in
+    rw (← c.self.view_is) (ap sizes_in c.in_ok-set.ensures ∙ (map-set size_in numbers c.args.node c.stored.result ∙ ap (λ (size : Size). set (sizes_in numbers) c.args.node size) c.stored.ensures))
