@@ -6,9 +6,7 @@ use crate::{Rule, Section};
 use std::test::Fail;
 
 /// Three compile_units without attributes, with the codes 1, 2 and 3; they begin at 0, 5 and 10.
-const ROW: [u8; 16] = [
-    1, 0x11, 0, 0, 0, 2, 0x11, 0, 0, 0, 3, 0x11, 0, 0, 0, 0,
-];
+const ROW: [u8; 16] = [1, 0x11, 0, 0, 0, 2, 0x11, 0, 0, 0, 3, 0x11, 0, 0, 0, 0];
 
 /// Two compile_units with the codes 129 and 130 of two bytes. From 1 on the first has the code 1.
 const TWO_BYTES: [u8; 13] = [0x81, 1, 0x11, 0, 0, 0, 0x82, 1, 0x11, 0, 0, 0, 0];
@@ -64,10 +62,7 @@ fn a_code_twice_before_a_tail(rt: HostRuntime) -> Result<(), Fail> {
     for tail in [5, 10] {
         let info = joined(
             rt.alloc(),
-            &[
-                &unit(rt.alloc(), tail, &[3])?,
-                &unit(rt.alloc(), 0, &[3])?,
-            ],
+            &[&unit(rt.alloc(), tail, &[3])?, &unit(rt.alloc(), 0, &[3])?],
         )?;
         assert_eq!(rt;
             fault(rt, &twice, &info)?,
