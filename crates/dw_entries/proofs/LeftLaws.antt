@@ -1,26 +1,24 @@
 -- The attributes of an entry that stand in .debug_info, and the value of one of them.
-use Rattle.std.proofs.Common.{◌≡◌, ℕ, List, [], ◌∷◌, ◌++◌, map, Option, Some, None, true, false, eqb, refl, sym, ap, subst, ◌∙◌}
-use Rattle.std.specs.Prelude.{slice_get, IfSome, find}
+use Rattle.std.proofs.Common.{◌≡◌, ℕ, List, [], ◌∷◌, ◌++◌, map, Some, None, false, refl, sym, ap, subst, ◌∙◌}
+use Rattle.std.specs.Prelude.{slice_get, IfSome}
 use Rattle.std.specs.List.{flat_map}
-use Rattle.std.proofs.lemmas.Bool.{ne_eqb, eq-eqb}
-use Rattle.std.proofs.lemmas.Option.{IfSome_then}
 use Rattle.dw_forms.specs.declared.decl.AttributeSpec.{AttributeSpec}
 use Rattle.dw_forms.specs.Abbrev.{Declaration}
-use Rattle.dw_forms.specs.Value.{Datum}
 use Rattle.dw_entries.specs.declared.header.UnitHeader.{UnitHeader}
 use Rattle.dw_entries.specs.declared.record.Record.{Record}
 use Rattle.dw_entries.specs.declared.record.UnitRecord.{UnitRecord}
-use Rattle.dw_entries.specs.Grammar.{Context, Attribute, AreAttributes, attribute_bytes}
+use Rattle.dw_entries.specs.Grammar.{Context, AreAttributes, attribute_bytes}
 use Rattle.dw_entries.specs.Header.{version_of, IsSize}
-use Rattle.dw_entries.specs.Units.{DebugUnit, context_of, IsUnit}
-use Rattle.dw_entries.specs.Entries.{Entry, entries_of}
+use Rattle.dw_entries.specs.Units.{context_of, IsUnit}
+use Rattle.dw_entries.specs.Entries.{entries_of}
 use Rattle.dw_entries.specs.Scanned.{Scanned, units_of}
 use Rattle.dw_entries.specs.Asked.{value_of, values_of}
-use Rattle.dw_entries.specs.Values.{value_context, Begin, Left}
+use Rattle.dw_entries.specs.Values.{value_context, Left}
 use Rattle.dw_entries.specs.ValueLaws.{left_unique, without_table}
-use Rattle.dw_entries.specs.Lookups.{value_in}
+use Rattle.dw_entries.specs.Lookups.{declares, value_at_entry}
 use Rattle.dw_entries.proofs.HeadLaws.{all_get}
 use Rattle.dw_entries.proofs.KeptLaws.{KeptEntry, of_entry, from_entry}
+use Rattle.dw_entries.proofs.ValueSteps.{value_of_none}
 
 module _ {a info : List ℕ} {tables : List (List Declaration)} {rs : List UnitRecord} {records : List Record} {s : Scanned a info tables rs records} {id : ℕ} (k : KeptEntry a info tables rs records s id)
     (header : UnitHeader) (d : Declaration) (specs : List AttributeSpec) (bytes : List ℕ) (version : ℕ)
@@ -63,11 +61,10 @@ module _ {a info : List ℕ} {tables : List (List Declaration)} {rs : List UnitR
 
 -- ---- the value of one attribute
 
-pub value_here : (values more : List (ℕ × Datum)) (code attribute : ℕ) (v : Datum) → values ≡ (code, v) ∷ more → code ≡ attribute → Some v ≡ value_in values attribute
-value_here values more code attribute v e same = rw (e, eq-eqb code attribute same) refl
-
-pub value_behind : (values more : List (ℕ × Datum)) (code attribute : ℕ) (v : Datum) → values ≡ (code, v) ∷ more → (code ≡ attribute → ⊥) → value_in values attribute ≡ value_in more attribute
-value_behind values more code attribute v e other = rw (e, ne_eqb code attribute other) refl
-
-pub value_nowhere : (values : List (ℕ × Datum)) (attribute : ℕ) → values ≡ [] → None ≡ value_in values attribute
-value_nowhere values attribute e = rw e refl
+-- an attribute that is not declared has no value
+pub undeclared : {a info : List ℕ} {tables : List (List Declaration)} {rs : List UnitRecord} {records : List Record} {s : Scanned a info tables rs records} {id : ℕ} (k : KeptEntry a info tables rs records s id) (d : Declaration) (attribute : ℕ)
+    → IfSome (slice_get (entries_of (units_of s)) id) (λ e. d ≡ e.head.decl) → declares d.attributes attribute ≡ false → IfSome (slice_get (entries_of (units_of s)) id) (λ e. None ≡ value_at_entry e attribute)
+undeclared {s = s} {id = id} k d attribute of_decl none =
+    let decl : d ≡ k.entry.head.decl = from_entry k (λ e. d ≡ e.head.decl) of_decl in
+    of_entry k (λ e. None ≡ value_at_entry e attribute)
+    (value_of_none (context_of k.stands.unit) k.entry.head.decl.attributes k.entry.head.attributes attribute k.stands.is.attributes (ap (λ (c : Declaration). declares c.attributes attribute) (sym decl) ∙ none))

@@ -1,16 +1,19 @@
 -- One attribute of those that are left.
-use Rattle.std.proofs.Common.{◌≡◌, ℕ, ◌≤◌, ◌<◌, subst, List, [], ◌∷◌, ◌++◌, ◌-◌, length, take, drop, map, Result, Ok, Err, refl, sym, ap, ◌∙◌, append_assoc, arith, true}
-use Rattle.std.specs.Prelude.{IsTrue}
+use Rattle.std.proofs.Common.{◌≡◌, ℕ, suc, ◌+◌, ◌≤◌, ◌<◌, subst, List, [], ◌∷◌, ◌++◌, ◌-◌, length, take, drop, map, Some, None, Result, Ok, Err, refl, sym, ap, ◌∙◌, append_assoc, arith, Bool, true, false, get_or, add-one, drop-cons, drop_of_length-le}
+use Rattle.std.specs.Prelude.{IsTrue, ◌==◌}
 use Rattle.std.specs.List.{flat_map}
+use Rattle.std.proofs.lemmas.Bool.{ne_eqb, eq-eqb}
 use Rattle.dw_forms.specs.declared.decl.AttributeSpec.{AttributeSpec}
 use Rattle.dw_forms.specs.declared.value.ValueFault.{ValueFault}
 use Rattle.dw_forms.specs.FormCodes.{is_allowed}
 use Rattle.dw_forms.specs.Value.{Datum}
 use Rattle.dw_forms.specs.ValueReading.{value_at}
+use Rattle.dw_forms.specs.Sizes.{rest_at}
 use Rattle.dw_entries.specs.Grammar.{Context, Attribute, IsAttribute, AreAttributes, attribute_bytes}
 use Rattle.dw_entries.specs.ReadingLaws.{value_again, ok_pair}
 use Rattle.dw_entries.specs.Asked.{value_of}
-use Rattle.dw_entries.specs.Values.{Begin, Left}
+use Rattle.dw_entries.specs.Lookups.{declares, value_in}
+use Rattle.dw_entries.specs.Values.{Left}
 use Rattle.dw_entries.proofs.ScanLaws.{rest_of}
 use Rattle.dw_entries.specs.ValueLaws.{left_unique}
 
@@ -44,6 +47,27 @@ module _ (x : Context) (gs : List AttributeSpec) (s : AttributeSpec) (ss : List 
   pub never_fails : (f : ValueFault) → value_at x.version s.form x.address_size bytes ≡ Err f → ⊥
   never_fails f read = let ok = left_read in cc
 
+  -- what skipping the value answers
+  left_skipped : rest_at x.version s.form x.address_size bytes ≡ Ok (flat_map attribute_bytes left_goes.others ++ l.0.1)
+  unfolding rest_at
+  left_skipped = rw left_read refl
+
+  pub never_stays : (f : ValueFault) → rest_at x.version s.form x.address_size bytes ≡ Err f → ⊥
+  never_stays f read = let ok = left_skipped in cc
+
+  -- another attribute is among those behind, if at all
+  pub skips : (rest : List ℕ) → rest_at x.version s.form x.address_size bytes ≡ Ok rest → (attribute : ℕ) → (s.attribute ≡ attribute → ⊥)
+      → (m : Left x ss rest) × (value_in (map value_of l.0.0) attribute ≡ value_in (map value_of m.0.0) attribute)
+  skips rest skipped attribute other =
+      let same : flat_map attribute_bytes left_goes.others ++ l.0.1 ≡ rest = rest_is (sym left_skipped ∙ skipped) in
+      let code : left_goes.first.code ≡ s.attribute = left_goes.is.code in
+      let apart : left_goes.first.code ≡ attribute → ⊥ = λ here. other (sym code ∙ here) in
+      let behind : value_in (map value_of (left_goes.first ∷ left_goes.others)) attribute ≡ value_in (map value_of left_goes.others) attribute = rw (ne_eqb left_goes.first.code attribute apart) refl in
+      (((left_goes.others, l.0.1), record { are = left_goes.are; spelled = sym same }), ap (λ (bs : List Attribute). value_in (map value_of bs) attribute) left_goes.parts ∙ behind)
+    where
+      rest_is : {a b : List ℕ} → ◌≡◌ {A = Result (List ℕ) ValueFault} (Ok a) (Ok b) → a ≡ b
+      rest_is e = cc
+
   module _ (v : Datum) (rest : List ℕ) (read : value_at x.version s.form x.address_size bytes ≡ Ok (v, rest)) where
     value_is : (left_goes.first.value ≡ v) × (flat_map attribute_bytes left_goes.others ++ l.0.1 ≡ rest)
     value_is = ok_pair {E = ValueFault} left_goes.first.value v (flat_map attribute_bytes left_goes.others ++ l.0.1) rest (sym left_read ∙ read)
@@ -58,9 +82,40 @@ module _ (x : Context) (gs : List AttributeSpec) (s : AttributeSpec) (ss : List 
         let one : value_of left_goes.first ≡ (s.attribute, v) = let c : left_goes.first.code ≡ s.attribute = left_goes.is.code in λ i. (c i, value_is.0 i) in
         ap (map value_of) left_goes.parts ∙ ap (λ (b : List Attribute). value_of left_goes.first ∷ map value_of b) (sym same) ∙ ap (λ (b : ℕ × Datum). b ∷ map value_of m.0.0) one
 
+    -- the value of the first attribute
+    pub first_value : (attribute : ℕ) → s.attribute ≡ attribute → Some v ≡ value_in (map value_of l.0.0) attribute
+    first_value attribute here =
+        let code : left_goes.first.code ≡ attribute = let c : left_goes.first.code ≡ s.attribute = left_goes.is.code in c ∙ here in
+        rw (left_goes.parts, eq-eqb left_goes.first.code attribute code) (ap (λ (d : Datum). Some d) (sym value_is.0))
+
     pub fewer : (m : Left x ss rest) → length (map value_of m.0.0) < length (map value_of l.0.0)
     fewer m = omega (arith, ap length (steps m))
 
+-- where none of these attributes has a code, no value has it
+pub value_of_none : (x : Context) (specs : List AttributeSpec) (bs : List Attribute) (attribute : ℕ) → AreAttributes x specs bs → declares specs attribute ≡ false → None ≡ value_in (map value_of bs) attribute
+value_of_none x [] [] attribute p e = refl
+value_of_none x [] (a ∷ bs) attribute p e = absurd p
+value_of_none x (s ∷ specs) [] attribute p e = absurd p
+value_of_none x (s ∷ specs) (a ∷ bs) attribute p e = by_code (value_of_none x specs bs attribute p.1) (s.attribute == attribute) refl
+  where
+    by_code : (declares specs attribute ≡ false → None ≡ value_in (map value_of bs) attribute) → (b : Bool) → (s.attribute == attribute) ≡ b → None ≡ value_in (map value_of (a ∷ bs)) attribute
+    by_code others true q = absurd (let h : true ≡ false = rw q at e in cc)
+    by_code others false q =
+        let code : a.code ≡ s.attribute = p.0.code in
+        let more : declares specs attribute ≡ false = rw q at e in
+        rw (code, q) (others more)
+
+-- the attributes from a place on
+pub from_here : (specs : List AttributeSpec) (i : ℕ) (s : AttributeSpec) → i < length specs → s ≡ get_or specs i s → drop i specs ≡ s ∷ drop (i + 1) specs
+from_here specs i s within is = drop-cons specs i s within ∙ ap (λ (g : AttributeSpec). g ∷ drop (suc i) specs) (sym is) ∙ simp add-one
+
+-- behind the last place there is no attribute
+pub value_past : (x : Context) (specs : List AttributeSpec) (i : ℕ) (bytes : List ℕ) (m : Left x (drop i specs) bytes) (attribute : ℕ) → length specs ≤ i → None ≡ value_in (map value_of m.0.0) attribute
+value_past x specs i bytes m attribute past = value_of_none x (drop i specs) m.0.0 attribute m.1.are (rw (drop_of_length-le specs past) refl)
+
 -- the bytes from a length on, as a slice has them
+pub skipped_on : (bytes : List ℕ) (len : ℕ) (r : Result (List ℕ) ValueFault) → len ≤ length bytes → r ≡ Ok (drop len bytes) → r ≡ Ok (take (length bytes - len) (drop len bytes))
+skipped_on bytes len r within e = e ∙ ap (λ (b : List ℕ). Ok b) (sym (rest_of len bytes within))
+
 pub read_on : (bytes : List ℕ) (len : ℕ) (r : Result (Datum × List ℕ) ValueFault) {v : Datum} → len ≤ length bytes → r ≡ Ok (v, drop len bytes) → r ≡ Ok (v, take (length bytes - len) (drop len bytes))
 read_on bytes len r {v} within e = e ∙ ap (λ (b : List ℕ). Ok (v, b)) (sym (rest_of len bytes within))

@@ -1,5 +1,7 @@
 -- What the look-ups of entries and of units answer.
-use Rattle.std.specs.Prelude.{◌≡◌, ℕ, List, length, slice_get, ◌==◌, nat_lt, if◌then◌else◌, Option, Some, None, find, option_map}
+use Rattle.std.specs.Prelude.{◌≡◌, ℕ, List, length, slice_get, ◌==◌, nat_lt, if◌then◌else◌, Bool, Option, Some, None, find, option_map}
+use Rattle.std.specs.List.{list_any}
+use Rattle.dw_forms.specs.declared.decl.AttributeSpec.{AttributeSpec}
 use Rattle.dw_forms.specs.Abbrev.{Declaration}
 use Rattle.dw_forms.specs.Value.{Datum}
 use Rattle.dw_entries.specs.declared.lookup.Head.{Head}
@@ -28,6 +30,10 @@ entry_head e = record { offset = e.at; tag = e.head.decl.tag; unit = e.unit; par
 -- what is told of a unit; in version 4 the tag of its first entry says which type it has
 abbrev pub unit_head : PlacedUnit → UnitHead
 unit_head p = record { offset = p.at; header = p.unit.header; unit_type = type_of p.unit.header.kind (head_of p.unit.root).decl.tag; first = p.first }
+
+-- whether one of these attributes has this code
+abbrev pub declares : List AttributeSpec → ℕ → Bool
+declares specs attribute = list_any (λ spec. spec.attribute == attribute) specs
 
 -- the value of the first of these attributes that has this code
 abbrev pub value_in : List (ℕ × Datum) → ℕ → Option Datum

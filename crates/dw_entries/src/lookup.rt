@@ -9,14 +9,14 @@ ghost use Rattle.dw_entries.specs.Entries.{Entry, entries_of, placed};
 ghost use Rattle.dw_entries.specs.Scanned.{units_of};
 ghost use Rattle.dw_entries.specs.Asked.{values_of};
 ghost use Rattle.dw_entries.specs.ValuesLeft.{values_left};
-ghost use Rattle.dw_entries.specs.Lookups.{IsDeclaredIn, nth_of, entry_head, unit_head, value_at_entry};
+ghost use Rattle.dw_entries.specs.Lookups.{IsDeclaredIn, declares, nth_of, entry_head, unit_head, value_at_entry};
 
 use crate::entries::Entries;
 use crate::header::{UnitHeader, UnitType};
 use crate::id::{EntryId, OptionalId};
 use crate::reading::read_code;
 use crate::values::Values;
-use dw_forms::{Attribute, Decl, DeclRow, Tag, Value};
+use dw_forms::{Attribute, AttributeSpec, Decl, DeclRow, Tag, Value};
 
 /// An entry without its attributes.
 #[derive(Clone, Copy, Debug, PartialEq, Eq)]
@@ -50,6 +50,14 @@ fn id_of(optional: OptionalId) -> Option<EntryId>
         Some(number) => Some(EntryId::new(number)),
         None => None,
     }
+}
+
+/// Whether an entry with these attributes has this one.
+#[inline]
+fn declares(specs: &[AttributeSpec], attribute: Attribute) -> bool
+    ensures { result ≡ declares specs.now attribute }
+{
+    specs.iter().any(|spec| spec.attribute == attribute)
 }
 
 impl<'a> Entries<'a> {
@@ -159,11 +167,9 @@ impl<'a> Entries<'a> {
         requires { id < length (entries_of (units_of self.now.scanned)) }
         ensures { IfSome (slice_get (entries_of (units_of self.now.scanned)) id) (λ e. option_map view result ≡ value_at_entry e attribute) }
     {
-        for (code, value) in self.values(id) {
-            if code == attribute {
-                return Some(value);
-            }
+        if !declares(&self.decl(id).attributes, attribute) {
+            return None;
         }
-        None
+        self.values(id).value(attribute)
     }
 }

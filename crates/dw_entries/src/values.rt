@@ -6,7 +6,7 @@ ghost use Rattle.dw_entries.specs.Values.{value_context, Left};
 ghost use Rattle.dw_entries.specs.Choices.{size_unique};
 ghost use Rattle.dw_entries.specs.ValueLaws.{left_unique};
 
-use dw_forms::{Attribute, AttributeSpec, Value, read_value};
+use dw_forms::{Attribute, AttributeSpec, Value, read_value, skip_value};
 
 /// The attributes of an entry that are left, in their order. Its values lie in .debug_info.
 #[derive(Drop)]
@@ -17,6 +17,34 @@ pub struct Values<'e, 'a> {
     pub(crate) address_size: u8,
     pub ghost sized: { IsSize address_size } by { size_unique address_size },
     pub ghost left: { Left (value_context version address_size) specs.now bytes.now } by { left_unique (value_context version address_size) specs.now bytes.now },
+}
+
+impl<'a> Values<'_, 'a> {
+    ghost use Rattle.std.specs.Prelude.{option_map};
+    ghost use Rattle.dw_forms.specs.Value.{view};
+    ghost use Rattle.dw_entries.specs.ValuesLeft.{values_left};
+    ghost use Rattle.dw_entries.specs.Lookups.{value_in};
+
+    /// The value of the first attribute with this code among those that are left. Values before it are skipped.
+    #[inline]
+    pub(crate) fn value(&self, attribute: Attribute) -> Option<Value<'a>>
+        ensures { option_map view result ≡ value_in (values_left self.now) attribute }
+    {
+        let mut bytes = self.bytes;
+        for spec in self.specs {
+            if spec.attribute == attribute {
+                return match read_value(self.version, spec.form, self.address_size, bytes) {
+                    Ok((value, _)) => Some(value),
+                    Err(_) => unreachable!(),
+                };
+            }
+            match skip_value(self.version, spec.form, self.address_size, bytes) {
+                Ok(len) => bytes = &bytes[len..],
+                Err(_) => unreachable!(),
+            }
+        }
+        None
+    }
 }
 
 impl<'e, 'a> Iterator for Values<'e, 'a> {

@@ -1,30 +1,22 @@
-use Rattle.std.proofs.Common.{◌∙◌, sym, ap, rules}
+use Rattle.std.proofs.Common.{ℕ, List, sym, ap, ◌∙◌}
 use Rattle.std.specs.Prelude.{slice_get}
 use Rattle.std.proofs.lemmas.Option.{IfSome_then}
-use Rattle.dw_forms.specs.Value.{view}
+use Rattle.dw_forms.specs.declared.decl.AttributeSpec.{AttributeSpec}
+use Rattle.dw_forms.specs.Abbrev.{view as decl_view}
+use Rattle.dw_forms.specs.Value.{Datum}
 use Rattle.dw_entries.specs.Entries.{entries_of}
 use Rattle.dw_entries.specs.Scanned.{units_of}
-use Rattle.dw_entries.specs.ValuesLeft.{values_left}
-use Rattle.dw_entries.specs.Lookups.{value_in}
-use Rattle.dw_entries.proofs.LeftLaws.{value_here, value_behind, value_nowhere}
+use Rattle.dw_entries.specs.Lookups.{declares, value_in}
+use Rattle.dw_entries.proofs.KeptLaws.{kept_entry}
+use Rattle.dw_entries.proofs.LeftLaws.{undeclared}
 use Rattle.dw_entries.proofs.entries.Entries.value.Goals as goal
 
-pub loop-code-init : goal.loop-code-init
-loop-code-init c =
-    IfSome_then (slice_get (entries_of (units_of c.args.self.now.scanned)) c.args.id) c.values-code-items.ensures
-    (λ e is. ap (λ values. value_in values c.args.attribute) (ap values_left c.into_iter-code-iterator.ensures.into_iter_gives ∙ is))
-
-pub returns-then-eq : goal.returns-then-eq
-returns-then-eq c =
-    IfSome_then (slice_get (entries_of (units_of c.args.self.now.scanned)) c.args.id) c.loop-code.invariant
-    (λ e is. value_here _ _ c.in-Some.code c.args.attribute (view c.in-Some.value) c.in-Some.ensures.steps (let h = c.if-eq.ensures in search rules) ∙ is)
-
-pub loop-code-preserved : goal.loop-code-preserved
-loop-code-preserved c =
-    IfSome_then (slice_get (entries_of (units_of c.args.self.now.scanned)) c.args.id) c.loop-code.invariant
-    (λ e is. sym (value_behind _ _ c.in-Some.code c.args.attribute (view c.in-Some.value) c.in-Some.ensures.steps (let h = c.if-eq.ensures in search rules)) ∙ is)
+pub returns-then-not-declares : goal.returns-then-not-declares
+returns-then-not-declares c =
+    undeclared (kept_entry _ _ _ _ _ c.args.self.now.scanned c.args.id c.requires) (decl_view c.decl.result.now) c.args.attribute c.decl.ensures
+    (ap (λ (specs : List AttributeSpec). declares specs c.args.attribute) (sym c.deref.ensures.value) ∙ sym c.declares.ensures ∙ c.if-not-declares.true)
 
 pub returns : goal.returns
 returns c =
-    IfSome_then (slice_get (entries_of (units_of c.args.self.now.scanned)) c.args.id) c.loop-code.invariant
-    (λ e is. value_nowhere _ c.args.attribute c.in-None.ensures.steps.0 ∙ is)
+    IfSome_then (slice_get (entries_of (units_of c.args.self.now.scanned)) c.args.id) c.values.ensures
+    (λ e is. c.value.ensures ∙ ap (λ (values : List (ℕ × Datum)). value_in values c.args.attribute) is)
