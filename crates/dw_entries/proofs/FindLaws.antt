@@ -1,84 +1,86 @@
 -- The search for an entry by its offset.
-use Rattle.std.proofs.Common.{◌≡◌, ◌≢◌, ℕ, ◌+◌, ◌<◌, ◌≤◌, List, [], length, get_or, Option, Some, None, All, refl, sym, ap, subst, ◌∙◌, arith, eq-or-lt_of_le, inl, inr, ◌⊎◌}
-use Rattle.std.specs.Prelude.{slice_get, IfSome}
+use Rattle.std.proofs.Common.{◌≡◌, ℕ, ◌*◌, ◌<◌, ◌≤◌, List, length, get_or, Option, Some, sym, ap, subst, ◌∙◌, arith, inl, inr, ◌⊎◌}
+use Rattle.std.specs.Prelude.{slice_get}
 use Rattle.std.proofs.lemmas.Option.{slice_get_within, slice_get-get_or}
 use Rattle.std.proofs.lemmas.List.{length-map}
 use Rattle.dw_forms.specs.Abbrev.{Declaration}
 use Rattle.dw_entries.specs.declared.record.Record.{Record}
 use Rattle.dw_entries.specs.declared.record.UnitRecord.{UnitRecord}
-use Rattle.dw_entries.specs.Units.{DebugUnit}
-use Rattle.dw_entries.specs.Entries.{Entry, entries_of}
-use Rattle.dw_entries.specs.Scanned.{record_of, records_of, Scanned, units_of}
-use Rattle.dw_entries.specs.Asked.{OffsetsRise}
+use Rattle.dw_entries.specs.Entries.{entries_of}
+use Rattle.dw_entries.specs.Scanned.{record_of, Scanned, units_of}
+use Rattle.dw_entries.specs.Runs.{IsEntryAt}
+use Rattle.dw_entries.specs.Hints.{IsFirstFrom, AreHints}
 use Rattle.dw_entries.proofs.EntryFacts.{kept_get, entries_rise}
+use Rattle.dw_entries.proofs.HeadLaws.{head_stands, stands_within}
 use Rattle.dw_entries.proofs.KeptLaws.{KeptEntry, kept_entry, record_is}
 
--- all of the first entries, up to this number, stand below the offset
-abbrev pub AllBelow : List Entry → ℕ → ℕ → Type 0
-AllBelow entries low offset = (k : ℕ) (e : Entry) → k < low → slice_get entries k ≡ Some e → e.at < offset
+three_ways : (i j : ℕ) → ((i < j) ⊎ (i ≡ j)) ⊎ (j < i)
+three_ways i j = grind arith
 
--- all entries from this number on stand above the offset
-abbrev pub AllAbove : List Entry → ℕ → ℕ → Type 0
-AllAbove entries high offset = (k : ℕ) (e : Entry) → high ≤ k → slice_get entries k ≡ Some e → offset < e.at
+-- the hint of a block, which does not stand behind any offset of the block
+module _ {size : ℕ} {records : List Record} {hints : List ℕ} (h : AreHints size records hints) (block start : ℕ) (below : block < length hints) (read : start ≡ get_or hints block start) where
+  hint : IsFirstFrom records (block * 64) start
+  hint = h.each block start (slice_get-get_or hints block start below ∙ ap (λ (n : ℕ). Some n) (sym read))
+
+  pub hint_within : start ≤ length records
+  hint_within = hint.within
+
+  pub hint_before : (offset : ℕ) → block * 64 ≤ offset → (i : ℕ) (r : Record) → i < start → slice_get records i ≡ Some r → r.at < offset
+  hint_before offset le i r lt is = let b = hint.before i r lt is in omega (arith, b, le)
 
 module _ (a info : List ℕ) (tables : List (List Declaration)) (rs : List UnitRecord) (records : List Record) (s : Scanned a info tables rs records) where
   pub entries_counted : length records ≡ length (entries_of (units_of s))
   entries_counted = ap length s.1.entries ∙ length-map (entries_of (units_of s)) (record_of (units_of s))
 
-  module _ (middle offset : ℕ) (r : Record) (within : middle < length records) (read : r ≡ get_or records middle r) where
-    here : KeptEntry a info tables rs records s middle
-    here = kept_entry a info tables rs records s middle (omega (arith, within, entries_counted))
+  -- past the last hint no entry begins
+  pub none_past : (hints : List ℕ) (block offset : ℕ) → AreHints (length info) records hints → length hints ≤ block → block * 64 ≤ offset → (id : ℕ) → IsEntryAt (entries_of (units_of s)) offset id → ⊥
+  none_past hints block offset h past le id found =
+      let at = found.begins in
+      let stands = stands_within (units_of s) info found.entry (head_stands a info (units_of s) id found.entry s.1.spells found.is_entry) in
+      let all = h.all in
+      omega (arith, at, stands, all, past, le)
 
-    at_is : r.at ≡ here.entry.at
-    at_is =
-        let stands : slice_get (records_of (units_of s)) middle ≡ Some r =
-        ap (λ (xs : List Record). slice_get xs middle) (sym s.1.entries) ∙ slice_get-get_or records middle r within ∙ ap (λ (x : Record). Some x) (sym read) in
-        ap (λ (q : Record). q.at) (record_is here r stands)
+  -- the record of an entry
+  stands_at : (id : ℕ) {offset : ℕ} (found : IsEntryAt (entries_of (units_of s)) offset id) → slice_get records id ≡ Some (record_of (units_of s) found.entry)
+  stands_at id found = ap (λ (xs : List Record). slice_get xs id) s.1.entries ∙ kept_get (units_of s) id found.entry found.is_entry
 
-    pub found_here : r.at ≡ offset → IfSome (slice_get (entries_of (units_of s)) middle) (λ e. e.at ≡ offset)
-    found_here same = rw here.is_entry (sym at_is ∙ same)
+  module _ (number offset : ℕ) (first : IsFirstFrom records offset number) where
+    -- where all records stand below the offset, no entry begins there
+    pub none_from_end : length records ≤ number → (id : ℕ) → IsEntryAt (entries_of (units_of s)) offset id → ⊥
+    none_from_end end id found =
+        let at = found.begins in
+        let is = stands_at id found in
+        let b = first.before id (record_of (units_of s) found.entry) (let w = slice_get_within records id (record_of (units_of s) found.entry) is in omega (arith, w, end)) is in
+        omega (arith, at, b)
 
-    rise : OffsetsRise (entries_of (units_of s))
-    rise = entries_rise a (units_of s) s.1.spells.are
+    module _ (r : Record) (within : number < length records) (read : r ≡ get_or records number r) where
+      here : KeptEntry a info tables rs records s number
+      here = kept_entry a info tables rs records s number (omega (arith, within, entries_counted))
 
-    pub below_next : r.at < offset → AllBelow (entries_of (units_of s)) (middle + 1) offset
-    below_next lt k e le is =
-        elim (eq-or-lt_of_le (let p : k ≤ middle = omega arith in p)) [
-          | inl same ↦
-              let P : ℕ → Type 0 = λ i. slice_get (entries_of (units_of s)) i ≡ Some e in
-              let one : e ≡ here.entry = one_entry (slice_get (entries_of (units_of s)) middle) e here.entry (subst P same is) here.is_entry in
-              omega (arith, lt, at_is, ap (λ (x : Entry). x.at) one)
-          | inr less ↦ let more = rise k middle e here.entry less is here.is_entry in omega (arith, lt, at_is, more)
-        ]
-      where
-        one_entry : (o : Option Entry) (x y : Entry) → o ≡ Some x → o ≡ Some y → x ≡ y
-        one_entry o x y p q = cc
+      at_is : r.at ≡ here.entry.at
+      at_is =
+          let stands : slice_get records number ≡ Some r = slice_get-get_or records number r within ∙ ap (λ (x : Record). Some x) (sym read) in
+          ap (λ (q : Record). q.at) (record_is here r (ap (λ (xs : List Record). slice_get xs number) (sym s.1.entries) ∙ stands))
 
-    pub above_next : offset < r.at → AllAbove (entries_of (units_of s)) middle offset
-    above_next lt k e le is =
-        elim (eq-or-lt_of_le le) [
-          | inl same ↦
-              let P : ℕ → Type 0 = λ i. slice_get (entries_of (units_of s)) i ≡ Some e in
-              let one : e ≡ here.entry = one_entry (slice_get (entries_of (units_of s)) middle) e here.entry (subst P (sym same) is) here.is_entry in
-              omega (arith, lt, at_is, ap (λ (x : Entry). x.at) one)
-          | inr less ↦ let more = rise middle k here.entry e less here.is_entry is in omega (arith, lt, at_is, more)
-        ]
-      where
-        one_entry : (o : Option Entry) (x y : Entry) → o ≡ Some x → o ≡ Some y → x ≡ y
-        one_entry o x y p q = cc
+      pub found_first : r.at ≡ offset → IsEntryAt (entries_of (units_of s)) offset number
+      found_first same = record { entry = here.entry; is_entry = here.is_entry; begins = sym at_is ∙ same }
 
-  below_or_not : (k n : ℕ) → (k < n) ⊎ (n ≤ k)
-  below_or_not k n = grind arith
-
-  -- past the last entry there is none above
-  pub none_past : (offset high : ℕ) → length records ≤ high → AllAbove (entries_of (units_of s)) high offset
-  none_past offset high past k e le is = absurd (omega (arith, past, le, entries_counted, slice_get_within (entries_of (units_of s)) k e is))
-
-  -- where all entries are below or above, none stands at the offset
-  pub none_there : (low high offset : ℕ) → high ≤ low → AllBelow (entries_of (units_of s)) low offset → AllAbove (entries_of (units_of s)) high offset → All (λ e. e.at ≢ offset) (entries_of (units_of s))
-  none_there low high offset met below above k d lt same =
-      let is = slice_get-get_or (entries_of (units_of s)) k d lt in
-      elim (below_or_not k low) [
-        | inl less ↦ let b = below k (get_or (entries_of (units_of s)) k d) less is in omega (arith, same, b)
-        | inr not_less ↦ let b = above k (get_or (entries_of (units_of s)) k d) (omega arith) is in omega (arith, same, b)
-      ]
+      pub none_from : (r.at ≡ offset → ⊥) → (id : ℕ) → IsEntryAt (entries_of (units_of s)) offset id → ⊥
+      none_from other id found =
+          let at = found.begins in
+          let is = stands_at id found in
+          elim (three_ways id number) [
+            | inl (inl less) ↦ let b = first.before id (record_of (units_of s) found.entry) less is in omega (arith, at, b)
+            | inl (inr same) ↦
+                let P : ℕ → Type 0 = λ n. slice_get records n ≡ Some (record_of (units_of s) found.entry) in
+                let stands : slice_get records number ≡ Some r = slice_get-get_or records number r within ∙ ap (λ (x : Record). Some x) (sym read) in
+                other (ap (λ (q : Record). q.at) (one_some (slice_get records number) r (record_of (units_of s) found.entry) stands (subst P same is)) ∙ at)
+            | inr more ↦
+                let stands : slice_get records number ≡ Some r = slice_get-get_or records number r within ∙ ap (λ (x : Record). Some x) (sym read) in
+                let low = first.behind r stands in
+                let rise = entries_rise a (units_of s) s.1.spells.are number id here.entry found.entry more here.is_entry found.is_entry in
+                omega (arith, at, at_is, low, rise)
+          ]
+        where
+          one_some : {A : Type 0} (o : Option A) (x y : A) → o ≡ Some x → o ≡ Some y → x ≡ y
+          one_some o x y p q = cc

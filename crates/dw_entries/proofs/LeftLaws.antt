@@ -1,5 +1,5 @@
 -- The attributes of an entry that stand in .debug_info, and the value of one of them.
-use Rattle.std.proofs.Common.{◌≡◌, ℕ, List, [], ◌∷◌, ◌++◌, map, Some, None, false, refl, sym, ap, subst, ◌∙◌}
+use Rattle.std.proofs.Common.{◌≡◌, ℕ, List, ◌++◌, map, None, false, sym, ap, subst, ◌∙◌}
 use Rattle.std.specs.Prelude.{slice_get, IfSome}
 use Rattle.std.specs.List.{flat_map}
 use Rattle.dw_forms.specs.declared.decl.AttributeSpec.{AttributeSpec}

@@ -31,4 +31,5 @@ pub mod ValuesLeft
 pub mod Lookups
 pub mod UnitsLeft
 pub mod Runs
+pub mod Hints
 pub mod Views

@@ -6,7 +6,9 @@ ghost use Rattle.dw_entries.specs.Faults.{Fails};
 ghost use Rattle.dw_entries.specs.Scanned.{Scanned, units_of};
 ghost use Rattle.dw_entries.specs.Stopped.{IfBroken, IfFault};
 ghost use Rattle.dw_entries.specs.Props.{scanned_unique};
+ghost use Rattle.dw_entries.specs.Hints.{AreHints};
 
+use crate::hints::{BLOCK, first_from};
 use crate::id::EntryId;
 use crate::kept_tables::KeptTables;
 use crate::record::{Record, UnitRecord};
@@ -19,12 +21,15 @@ pub struct Entries<'a> {
     pub(crate) tables: KeptTables,
     pub(crate) units: Vec<UnitRecord>,
     pub(crate) records: Vec<Record>,
+    pub(crate) hints: Vec<u32>,
     pub ghost scanned: { Scanned sections.«abbrev».now sections.info.now tables units.items records.items } by { scanned_unique sections.«abbrev».now sections.info.now tables units.items records.items },
+    pub ghost hinted: { AreHints (length sections.info.now) records.items hints.items },
 }
 
 impl<'a> Entries<'a> {
-    ghost use Rattle.std.specs.Prelude.{◌≢◌, All, slice_get, IfSome, IfNone, Some};
+    ghost use Rattle.std.specs.Prelude.{◌≢◌, ℕ, All, slice_get, IfSome, IfNone, Some};
     ghost use Rattle.dw_entries.specs.Entries.{entries_of};
+    ghost use Rattle.dw_entries.specs.Runs.{IsEntryAt};
     ghost use Rattle.dw_entries.specs.Scanned.{records_of};
     ghost use Rattle.dw_entries.specs.Views.{sections_of};
 
@@ -50,26 +55,34 @@ impl<'a> Entries<'a> {
         self.records[id.number()]
     }
 
+    /// The entry that begins at an offset of .debug_info. The search begins at the hint of the offset's block.
+    #[inline]
+    pub(crate) fn find_at(&self, offset: u64) -> Option<EntryId>
+        ensures found { IfSome result (IsEntryAt (entries_of (units_of self.now.scanned)) offset) }
+        ensures none { IfNone result ((id : ℕ) → IsEntryAt (entries_of (units_of self.now.scanned)) offset id → ⊥) }
+    {
+        let block = (offset / BLOCK as u64) as usize;
+        if block >= self.hints.len() {
+            return None;
+        }
+        let start = self.hints[block] as usize;
+        let number = first_from(&self.records, start, offset as usize);
+        if number >= self.records.len() {
+            return None;
+        }
+        if self.records[number].at as u64 == offset {
+            Some(EntryId::new(number as u32))
+        } else {
+            None
+        }
+    }
+
     /// The entry whose first byte is at this offset of .debug_info.
     pub fn find(&self, offset: u32) -> Option<EntryId>
         ensures found { IfSome result (λ id. IfSome (slice_get (entries_of (units_of self.now.scanned)) id) (λ e. e.at ≡ offset)) }
         ensures within { IfSome result (λ id. id < length (entries_of (units_of self.now.scanned))) }
         ensures none { IfNone result (All (λ e. e.at ≢ offset) (entries_of (units_of self.now.scanned))) }
     {
-        let mut low = 0;
-        let mut high = self.records.len();
-        while low < high {
-            let middle = low + (high - low) / 2;
-            let at = self.records[middle].at;
-            if at == offset {
-                return Some(EntryId::new(middle as u32));
-            }
-            if at < offset {
-                low = middle + 1;
-            } else {
-                high = middle;
-            }
-        }
-        None
+        self.find_at(offset as u64)
     }
 }

@@ -6,6 +6,7 @@ mod entries;
 mod fault;
 mod header;
 mod header_reader;
+mod hints;
 mod id;
 mod kept_tables;
 mod laws;

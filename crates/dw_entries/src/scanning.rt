@@ -12,6 +12,7 @@ ghost use Rattle.dw_entries.specs.Views.{sections_of};
 
 use crate::entries::Entries;
 use crate::fault::{Break, Fault, Stop};
+use crate::hints::read_hints;
 use crate::record::Kept;
 use crate::tables::Tables;
 use crate::unit::take_unit;
@@ -46,12 +47,16 @@ pub fn scan<'a>(alloc: Global, sections: &Sections<'a>) -> Result<Entries<'a>, S
     ensures none { IfErr result (IfFault (λ _. (units : List DebugUnit) → Spells sections.now.«abbrev».now units sections.now.info.now → ⊥)) }
 {
     match scan_units(alloc, sections.abbrev, sections.info) {
-        Ok(kept) => Ok(Entries {
-            sections: *sections,
-            tables: kept.tables.into_kept(),
-            units: kept.units,
-            records: kept.records,
-        }),
+        Ok(kept) => {
+            let hints = read_hints(alloc, &kept.records, sections.info.len())?;
+            Ok(Entries {
+                sections: *sections,
+                tables: kept.tables.into_kept(),
+                units: kept.units,
+                records: kept.records,
+                hints,
+            })
+        }
         Err(Break::Memory) => Err(Stop::Memory),
         Err(Break::Broken(broken)) => Err(Stop::Fault(Fault {
             rule: broken.rule,

@@ -17,14 +17,15 @@ fn number_in_unit(entries: &Entries<'_>, unit: usize, offset: u64) -> Option<usi
     }
 }
 
-// Two units of 30 bytes, in each an entry at 0x0c, 0x0f and 0x16 and a null at 0x1d.
+// Three units of 30 bytes, in each an entry at 0x0c, 0x0f and 0x16 and a null at 0x1d. The third has a hint of its own.
 #[test]
 fn entries_of_one_unit(rt: HostRuntime) -> Result<(), Fail> {
-    let info = joined(rt.alloc(), &[&D, &D])?;
+    let info = joined(rt.alloc(), &[&D, &D, &D])?;
     let entries = scanned(rt, &T, &info)?;
     for (offset, number) in [(0x0c, 0), (0x0f, 1), (0x16, 2)] {
         assert_eq!(rt; number_in_unit(&entries, 0, offset), Some(number));
         assert_eq!(rt; number_in_unit(&entries, 1, offset), Some(number + 3));
+        assert_eq!(rt; number_in_unit(&entries, 2, offset), Some(number + 6));
     }
     let none = [
         0,
@@ -45,6 +46,11 @@ fn entries_of_one_unit(rt: HostRuntime) -> Result<(), Fail> {
         );
         assert_eq!(rt;
             number_in_unit(&entries, 1, offset),
+            None,
+            "offset {offset}"
+        );
+        assert_eq!(rt;
+            number_in_unit(&entries, 2, offset),
             None,
             "offset {offset}"
         );

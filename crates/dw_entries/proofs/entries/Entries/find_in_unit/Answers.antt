@@ -1,49 +1,48 @@
-use Rattle.std.proofs.Common.{arith, sym, ◌∙◌, ap, ◌≡◌, ℕ, get_or, subst}
+use Rattle.std.proofs.Common.{arith, sym, ◌∙◌, ◌≡◌, ℕ, get_or, subst}
 use Rattle.std.proofs.lemmas.Option.{slice_get_within}
-use Rattle.dw_entries.specs.declared.record.Record.{Record}
 use Rattle.dw_entries.specs.Entries.{entries_of, placed}
 use Rattle.dw_entries.specs.Scanned.{units_of}
 use Rattle.dw_entries.proofs.KeptLaws.{kept_unit, units_counted}
 use Rattle.dw_entries.proofs.EntryFacts.{entries_rise}
 use Rattle.dw_entries.proofs.FindLaws.{entries_counted}
-use Rattle.dw_entries.proofs.RunLaws.{record_kept, unit_of_record, reaches, never_other, never_outside, never_far}
+use Rattle.dw_entries.proofs.RunLaws.{record_kept, unit_of_record, reaches, never_other, never_there, never_far}
 use Rattle.dw_entries.proofs.entries.Entries.find_in_unit.Goals as goal
 
-pub index-record-requires : goal.index-record-requires
-index-record-requires c = omega (arith, c.requires, units_counted _ _ _ _ _ c.args.self.now.scanned)
+pub index-requires : goal.index-requires
+index-requires c = omega (arith, c.requires, units_counted _ _ _ _ _ c.args.self.now.scanned)
 
 pub returns-in_default-clause-none : goal.returns-in_default-clause-none
 returns-in_default-clause-none c =
-    never_far _ _ _ _ _ c.args.self.now.scanned c.args.unit c.args.offset (kept_unit _ _ _ _ _ c.args.self.now.scanned c.args.unit c.requires) c.index-record.result.now c.index-record.ensures
+    never_far _ _ _ _ _ c.args.self.now.scanned c.args.unit c.args.offset (kept_unit _ _ _ _ _ c.args.self.now.scanned c.args.unit c.requires) c.index.result.now c.index.ensures
     (omega (arith, c.args.self.now.sections.info_fits)) (omega (arith, c.in_default.ensures))
 
-pub returns-in_default-find_between-clause-none : goal.returns-in_default-find_between-clause-none
-returns-in_default-find_between-clause-none c =
-    never_outside _ _ _ _ _ c.args.self.now.scanned c.args.unit c.args.offset c.in-Some.at c.run_end-end.result (kept_unit _ _ _ _ _ c.args.self.now.scanned c.args.unit c.requires) c.index-record.result.now c.index-record.ensures
-    (c.in-Some.ensures.1) c.run_end-end.ensures.behind c.in_default-find_between.ensures.none
+pub returns-in_default-find_at-clause-none : goal.returns-in_default-find_at-clause-none
+returns-in_default-find_at-clause-none c =
+    never_there _ _ _ _ _ c.args.self.now.scanned c.args.unit c.args.offset c.in-Some.at (kept_unit _ _ _ _ _ c.args.self.now.scanned c.args.unit c.requires) c.index.result.now c.index.ensures
+    c.in-Some.ensures.1 c.in_default-find_at.ensures.none
 
-pub index-requires : goal.index-requires
-index-requires c =
-    let found = c.in-Some-find_between.ensures.found in
-    omega (arith, c.number.ensures, slice_get_within (entries_of (units_of c.args.self.now.scanned)) c.in-Some-find_between.id found.entry found.is_entry, entries_counted _ _ _ _ _ c.args.self.now.scanned)
+pub index-requires-2 : goal.index-requires-2
+index-requires-2 c =
+    let found = c.in-Some-find_at.ensures.found in
+    omega (arith, c.number.ensures, slice_get_within (entries_of (units_of c.args.self.now.scanned)) c.in-Some-find_at.id found.entry found.is_entry, entries_counted _ _ _ _ _ c.args.self.now.scanned)
 
 pub returns-then-index-unit-clause-found : goal.returns-then-index-unit-clause-found
 returns-then-index-unit-clause-found c =
-    let found = c.in-Some-find_between.ensures.found in
+    let found = c.in-Some-find_at.ensures.found in
     let kept = kept_unit _ _ _ _ _ c.args.self.now.scanned c.args.unit c.requires in
-    let place = (record_kept _ _ _ _ _ c.args.self.now.scanned c.args.unit kept c.index-record.result.now c.index-record.ensures).at in
-    let P : ℕ → Type 0 = λ n. c.index.result.now ≡ get_or c.args.self.now.records.items n c.index.result.now in
-    let same = unit_of_record _ _ _ _ _ c.args.self.now.scanned c.in-Some-find_between.id c.index.result.now found.entry (subst P c.number.ensures c.index.ensures) found.is_entry in
-    reaches (entries_of (units_of c.args.self.now.scanned)) (placed (units_of c.args.self.now.scanned)) c.args.unit c.args.offset c.in-Some.at c.in-Some-find_between.id kept.place found.entry kept.is_place
+    let place = (record_kept _ _ _ _ _ c.args.self.now.scanned c.args.unit kept c.index.result.now c.index.ensures).at in
+    let P : ℕ → Type 0 = λ n. c.index-2.result.now ≡ get_or c.args.self.now.records.items n c.index-2.result.now in
+    let same = unit_of_record _ _ _ _ _ c.args.self.now.scanned c.in-Some-find_at.id c.index-2.result.now found.entry (subst P c.number.ensures c.index-2.ensures) found.is_entry in
+    reaches (entries_of (units_of c.args.self.now.scanned)) (placed (units_of c.args.self.now.scanned)) c.args.unit c.args.offset c.in-Some.at c.in-Some-find_at.id kept.place found.entry kept.is_place
     (omega (arith, place, c.in-Some.ensures.1)) found found.is_entry (same ∙ c.if-index-unit.true)
 
 pub returns-else-index-unit-clause-none : goal.returns-else-index-unit-clause-none
 returns-else-index-unit-clause-none c =
-    let found = c.in-Some-find_between.ensures.found in
+    let found = c.in-Some-find_at.ensures.found in
     let kept = kept_unit _ _ _ _ _ c.args.self.now.scanned c.args.unit c.requires in
-    let place = (record_kept _ _ _ _ _ c.args.self.now.scanned c.args.unit kept c.index-record.result.now c.index-record.ensures).at in
-    let P : ℕ → Type 0 = λ n. c.index.result.now ≡ get_or c.args.self.now.records.items n c.index.result.now in
-    let same = unit_of_record _ _ _ _ _ c.args.self.now.scanned c.in-Some-find_between.id c.index.result.now found.entry (subst P c.number.ensures c.index.ensures) found.is_entry in
-    never_other (entries_of (units_of c.args.self.now.scanned)) (placed (units_of c.args.self.now.scanned)) c.args.unit c.args.offset c.in-Some.at c.in-Some-find_between.id kept.place found.entry
+    let place = (record_kept _ _ _ _ _ c.args.self.now.scanned c.args.unit kept c.index.result.now c.index.ensures).at in
+    let P : ℕ → Type 0 = λ n. c.index-2.result.now ≡ get_or c.args.self.now.records.items n c.index-2.result.now in
+    let same = unit_of_record _ _ _ _ _ c.args.self.now.scanned c.in-Some-find_at.id c.index-2.result.now found.entry (subst P c.number.ensures c.index-2.ensures) found.is_entry in
+    never_other (entries_of (units_of c.args.self.now.scanned)) (placed (units_of c.args.self.now.scanned)) c.args.unit c.args.offset c.in-Some.at c.in-Some-find_at.id kept.place found.entry
     (entries_rise _ (units_of c.args.self.now.scanned) c.args.self.now.scanned.1.spells.are) kept.is_place (omega (arith, place, c.in-Some.ensures.1)) found found.is_entry
     (λ here. c.if-index-unit.false (sym same ∙ here))

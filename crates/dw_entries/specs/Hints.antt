@@ -1,0 +1,14 @@
+-- Where the search for an entry by its offset begins.
+use Rattle.std.specs.Prelude.{◌≡◌, ℕ, ◌*◌, ◌<◌, ◌≤◌, List, length, Some, slice_get}
+use Rattle.dw_entries.specs.declared.record.Record.{Record}
+
+-- the records before this one stand below the offset, and it stands there or behind
+pub record IsFirstFrom (records : List Record) (offset number : ℕ) : Type 0 where
+  pub within : number ≤ length records
+  pub before : (i : ℕ) (r : Record) → i < number → slice_get records i ≡ Some r → r.at < offset
+  pub behind : (r : Record) → slice_get records number ≡ Some r → offset ≤ r.at
+
+-- for each 64 bytes of a section of this size, the first record that stands in them or behind them
+pub record AreHints (size : ℕ) (records : List Record) (hints : List ℕ) : Type 0 where
+  pub each : (block number : ℕ) → slice_get hints block ≡ Some number → IsFirstFrom records (block * 64) number
+  pub all : size < length hints * 64
