@@ -8,6 +8,7 @@ pub mod ReaderLemmas
 pub mod CountLemmas
 pub mod WalkLemmas
 pub mod RankLemmas
+pub mod RankListLemmas
 pub mod TurnLemmas
 pub mod CycleLemmas
 pub mod EndLemmas

@@ -6,6 +6,7 @@ pub mod UnitsRead
 pub mod Kinds
 pub mod Graphs
 pub mod Orders
+pub mod RanksListed
 pub mod OrderFaults
 pub mod WalkStates
 pub mod Walks

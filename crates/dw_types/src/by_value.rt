@@ -82,7 +82,7 @@ fn steps_of(alloc: Global, entries: &EntryFacts<'_, '_>) -> Result<Vec<Step>, St
     ensures fault { IfErr result (IfFault (IsFirst (ShapeFailures entries.now))) }
 {
     let mut steps: Vec<Step> = Vec::with_capacity(alloc, entries.count())?;
-    let mut roles = Roles::new(alloc);
+    let mut roles = Roles::with_room(alloc, entries.count())?;
     for child in 0..entries.count() {
         let entry = entries.at(child);
         let parent = roles.of_parent(entry.parent());

@@ -43,7 +43,7 @@ fn empty_stack<G: StepGraph>(alloc: Global, graph: &G, walk: &mut Walk) -> Resul
         if walk.next(node) < graph.steps(node) {
             follow_step(alloc, graph, walk, node)?;
         } else {
-            walk.rank_top(alloc, node)?;
+            walk.rank_top(node)?;
         }
     }
     Ok(())

@@ -26,12 +26,13 @@ impl Model for Roles {
 }
 
 impl Roles {
-    pub(crate) fn new(alloc: Global) -> Self
-        ensures { result ≡ [] }
+    /// No roles, and room for so many.
+    pub(crate) fn with_room(alloc: Global, count: usize) -> Result<Self, AllocError>
+        ensures { IfOk result (λ roles. roles ≡ []) }
     {
-        Roles {
-            roles: Vec::new(alloc),
-        }
+        Ok(Roles {
+            roles: Vec::with_capacity(alloc, count)?,
+        })
     }
 
     /// Adds the next entry's.

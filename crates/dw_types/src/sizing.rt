@@ -60,7 +60,7 @@ fn first_wrong_size(
     requires obeys { ObeysCappedLines entries.now (size_at sizes.now) }
     ensures { IfOk result (λ found. MatchOption found (PassAll entries.now (fails_size entries.now (size_at sizes.now))) (λ first. IsFirstAt entries.now (fails_size entries.now (size_at sizes.now)) first.0 first.1)) }
 {
-    let mut roles = Roles::new(alloc);
+    let mut roles = Roles::with_room(alloc, entries.count())?;
     for node in 0..entries.count() {
         let entry = entries.at(node);
         let parent = roles.of_parent(entry.parent());

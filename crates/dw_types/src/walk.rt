@@ -24,18 +24,19 @@ pub(crate) enum Mark {
 pub(crate) struct Walk {
     marks: Vec<Mark>,
     next: Numbers,
-    ranks: Numbers,
+    nodes: usize,
     by_rank: Numbers,
     stack: Numbers,
     turns: u128,
 }
 
 impl Model for Walk {
+    ghost use Rattle.dw_types.specs.RanksListed.{ranks_listed};
     ghost use Rattle.dw_types.specs.WalkStates.{State};
 
     ghost Value = { State };
 
-    ghost view = { λ w. record { marks = w.marks.items; next = w.next; ranks = w.ranks; by_rank = w.by_rank; stack = w.stack; turns = w.turns } };
+    ghost view = { λ w. record { marks = w.marks.items; next = w.next; ranks = ranks_listed w.nodes w.by_rank; by_rank = w.by_rank; stack = w.stack; turns = w.turns } };
 }
 
 impl Walk {
@@ -46,7 +47,7 @@ impl Walk {
         Ok(Walk {
             marks: vec![in alloc; Mark::Fresh; nodes]?,
             next: Numbers::zeros(alloc, nodes)?,
-            ranks: Numbers::zeros(alloc, nodes)?,
+            nodes,
             by_rank: Numbers::with_room(alloc, nodes)?,
             stack: Numbers::with_room(alloc, 0)?,
             turns: 0,
@@ -109,14 +110,12 @@ impl Walk {
     }
 
     /// Gives the next rank to the node on top of the stack, and takes it off.
-    pub(crate) fn rank_top(&mut self, alloc: Global, node: usize) -> Result<(), AllocError>
+    pub(crate) fn rank_top(&mut self, node: usize) -> Result<(), AllocError>
         requires marks { node < length self.old.marks }
         requires ranks { node < length self.old.ranks }
         ensures { OnOk result (self.new ≡ with_rank self.old node) }
     {
-        let rank = self.by_rank.len();
         self.by_rank.push(node)?;
-        self.ranks.set(alloc, node, rank)?;
         self.marks[node] = Mark::Ranked;
         self.stack.pop();
         Ok(())
@@ -126,6 +125,6 @@ impl Walk {
     pub(crate) fn into_order(self) -> Order
         ensures { result ≡ record { ranks = self.ranks; by_rank = self.by_rank; turns = self.turns } }
     {
-        Order::new(self.ranks, self.by_rank, self.turns)
+        Order::new(self.nodes, self.by_rank, self.turns)
     }
 }

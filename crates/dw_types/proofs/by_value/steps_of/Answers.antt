@@ -56,7 +56,7 @@ returns-in-Some-clause-fault c =
     record { holds = rw (c.fault_at_entry.ensures.holds, c.offset.ensures, c.at-entry.ensures) first; cycle = c.fault_at_entry.ensures.cycle }
 
 pub loop-child-init : goal.loop-child-init
-loop-child-init c = rw c.in_ok-steps.ensures.items (steps-none c.args.entries.now, c.new-roles.ensures, λ k below. absurd (omega arith))
+loop-child-init c = rw c.in_ok-steps.ensures.items (steps-none c.args.entries.now, c.in_ok-roles.ensures, λ k below. absurd (omega arith))
 
 pub loop-child-preserved : goal.loop-child-preserved
 loop-child-preserved c =

@@ -1,0 +1,11 @@
+-- The rank of each node, by the nodes in the order of their ranks.
+use Rattle.std.specs.Prelude.{ℕ, List, [], ◌∷◌, suc, replicate, slice_set}
+
+-- ranks, where nodes from a first rank on are given theirs one after another
+abbrev pub ranks_from : List ℕ → ℕ → List ℕ → List ℕ
+ranks_from ranks first [] = ranks
+ranks_from ranks first (node ∷ rest) = ranks_from (slice_set ranks node first) (suc first) rest
+
+-- the ranks of so many nodes, 0 at those that are not listed
+abbrev pub ranks_listed : ℕ → List ℕ → List ℕ
+ranks_listed nodes by_rank = ranks_from (replicate nodes 0) 0 by_rank
