@@ -1,5 +1,5 @@
 -- Digits of numbers.
-use Rattle.std.specs.Prelude.{ℕ, zero, suc, ◌^◌, ◌+◌, ◌/◌, ◌%◌, ◌==◌, ◌||◌, nat_lt, if◌then◌else◌, List, [], ◌∷◌}
+use Rattle.std.specs.Prelude.{ℕ, zero, suc, ◌^◌, ◌+◌, ◌/◌, ◌%◌, nat_lt, if◌then◌else◌, List, [], ◌∷◌}
 
 -- the digit of a number below 16, in lower case
 abbrev pub hex_digit : ℕ → ℕ
@@ -13,7 +13,3 @@ places (suc k) n = hex_digit (n / 16 ^ k % 16) ∷ places k n
 -- the digits of a number of 16 bits, without leading zeros
 unfoldable pub hex : ℕ → List ℕ
 hex n = if nat_lt n 16 then places 1 n else if nat_lt n 256 then places 2 n else if nat_lt n 4096 then places 3 n else places 4 n
-
--- how a byte of a name is shown: printable bytes as they are, and the quote, the backslash and all others as `\x` and two digits
-unfoldable pub glyph : ℕ → List ℕ
-glyph b = if nat_lt b 32 || nat_lt 126 b || b == 34 || b == 92 then 92 ∷ 120 ∷ places 2 b else b ∷ []

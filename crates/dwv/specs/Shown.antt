@@ -1,5 +1,5 @@
 -- The entries of an image as they are shown, and what is answered of a type's size.
-use Rattle.std.specs.Prelude.{ℕ, ◌*◌, List, [], ◌++◌, codes, replicate, Option, None, Some, if◌then◌else◌}
+use Rattle.std.specs.Prelude.{ℕ, ◌*◌, ◌==◌, ◌||◌, nat_lt, List, [], ◌∷◌, ◌++◌, codes, replicate, Option, None, Some, if◌then◌else◌}
 use Rattle.std.specs.Option.{option_and_then}
 use Rattle.std.specs.List.{enumerate_from, flat_map}
 use Rattle.std.specs.Fmt.{decimal}
@@ -7,14 +7,18 @@ use Rattle.dw_entries.specs.Entries.{Entry}
 use Rattle.dw_image.specs.declared.image.Image.{Image}
 use Rattle.dw_image.specs.Images.{entries_in, name_in, size_table_in}
 use Rattle.dw_image.specs.Lookups.{is_type_entry, entry_at, type_number}
-use Rattle.dwv.specs.Digits.{places, glyph}
+use Rattle.dwv.specs.Digits.{places}
 use Rattle.dwv.specs.Lines.{line, offset_text}
 use Rattle.dwv.specs.declared.request.Status.{Status}
 use Rattle.dwv.specs.declared.request.Status.TheVariants.{Sound, NotAType}
 
--- an offset, two spaces for each depth, and the four digits of a tag
+-- an offset, a space and two more for each depth, and the four digits of a tag
 unfoldable pub entry_part : ℕ → ℕ → ℕ → List ℕ
 entry_part offset depth tag = offset_text offset ++ codes " " ++ replicate (2 * depth) 32 ++ codes "0x" ++ places 4 tag
+
+-- a byte of a name: a printable one as it is, but the quote, the backslash and any other byte as `\x` and two digits
+unfoldable pub glyph : ℕ → List ℕ
+glyph b = if nat_lt b 0x20 || nat_lt 0x7e b || b == 0x22 || b == 0x5c then codes "\\x" ++ places 2 b else b ∷ []
 
 -- ` "NAME"`, where there is a name
 unfoldable pub name_part : Option (List ℕ) → List ℕ

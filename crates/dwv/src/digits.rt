@@ -2,8 +2,7 @@
 
 ghost use Rattle.std.specs.Prelude.{◌≡◌, ◌<◌, ◌++◌, OnOk};
 ghost use Rattle.std.specs.Fmt.{decimal};
-ghost use Rattle.std.specs.List.{flat_map};
-ghost use Rattle.dwv.specs.Digits.{hex_digit, places, hex, glyph};
+ghost use Rattle.dwv.specs.Digits.{hex_digit, places, hex};
 
 use std::alloc::AllocError;
 
@@ -29,6 +28,14 @@ pub fn put_eight_digits(text: &mut Vec<u8>, n: u32) -> Result<(), AllocError>
         digit_of(n / 0x10 % 16),
         digit_of(n % 16),
     ])
+}
+
+/// Appends two hexadecimal digits of a number.
+pub fn put_two_digits(text: &mut Vec<u8>, n: u8) -> Result<(), AllocError>
+    ensures ok { OnOk result (text.new.items ≡ text.old.items ++ places 2 n) }
+{
+    let n = u32::from(n);
+    text.extend_from_slice(&[digit_of(n / 0x10 % 16), digit_of(n % 16)])
 }
 
 /// Appends four hexadecimal digits of a number.
@@ -75,27 +82,4 @@ pub fn put_decimal(text: &mut Vec<u8>, n: u64) -> Result<(), AllocError>
     }
     put_decimal(text, n / 10)?;
     text.extend_from_slice(&[b'0' + (n % 10) as u8])
-}
-
-/// Appends one byte of a name, as it is shown.
-#[tactic(auto, unfolding(crate::specs::Digits::glyph))]
-fn put_glyph(text: &mut Vec<u8>, byte: u8) -> Result<(), AllocError>
-    ensures ok { OnOk result (text.new.items ≡ text.old.items ++ glyph byte) }
-{
-    let is_plain = (0x20..=0x7e).contains(&byte) && byte != b'"' && byte != b'\\';
-    if is_plain {
-        return text.extend_from_slice(&[byte]);
-    }
-    let n = u32::from(byte);
-    text.extend_from_slice(&[b'\\', b'x', digit_of(n / 16 % 16), digit_of(n % 16)])
-}
-
-/// Appends a name, as it is shown.
-pub fn put_shown(text: &mut Vec<u8>, name: &[u8]) -> Result<(), AllocError>
-    ensures ok { OnOk result (text.new.items ≡ text.old.items ++ flat_map glyph name.now) }
-{
-    for byte in name {
-        put_glyph(text, *byte)?;
-    }
-    Ok(())
 }

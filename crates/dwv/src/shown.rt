@@ -1,10 +1,11 @@
 //! The entries of an image, one a line, and the size of the type at an offset.
 
 ghost use Rattle.std.specs.Prelude.{◌≡◌, ◌<◌, ◌++◌, ◌*◌, length, slice_get, replicate, option_copied, IfSome, IfOk, OnOk};
+ghost use Rattle.std.specs.List.{flat_map};
 ghost use Rattle.dw_image.specs.Images.{entries_in};
-ghost use Rattle.dwv.specs.Shown.{name_part, size_part, entry_part, shown_line, shown_size, entry_line, show_lines, size_line, size_text, size_status, type_at_offset};
+ghost use Rattle.dwv.specs.Shown.{glyph, name_part, size_part, entry_part, shown_line, shown_size, entry_line, show_lines, size_line, size_text, size_status, type_at_offset};
 
-use crate::digits::{put_decimal, put_four_digits, put_shown};
+use crate::digits::{put_decimal, put_four_digits, put_two_digits};
 use crate::lines::put_offset;
 use crate::request::Status;
 use dw_image::{EntryId, Head, Image, TypeId};
@@ -31,6 +32,29 @@ fn put_entry_part(text: &mut Vec<u8>, offset: u32, depth: usize, tag: u16) -> Re
     put_four_digits(text, tag)
 }
 
+/// A byte of a name, as it is shown.
+#[tactic(auto, unfolding(crate::specs::Shown::glyph))]
+fn put_glyph(text: &mut Vec<u8>, byte: u8) -> Result<(), AllocError>
+    ensures ok { OnOk result (text.new.items ≡ text.old.items ++ glyph byte) }
+{
+    let is_plain = (0x20..=0x7e).contains(&byte) && byte != b'"' && byte != b'\\';
+    if is_plain {
+        return text.extend_from_slice(&[byte]);
+    }
+    text.extend_from_slice(b"\\x")?;
+    put_two_digits(text, byte)
+}
+
+/// The bytes of a name, as they are shown.
+fn put_glyphs(text: &mut Vec<u8>, name: &[u8]) -> Result<(), AllocError>
+    ensures ok { OnOk result (text.new.items ≡ text.old.items ++ flat_map glyph name.now) }
+{
+    for byte in name {
+        put_glyph(text, *byte)?;
+    }
+    Ok(())
+}
+
 /// ` "NAME"`, where there is a name.
 #[tactic(auto, unfolding(crate::specs::Shown::name_part))]
 fn put_name(text: &mut Vec<u8>, name: Option<&[u8]>) -> Result<(), AllocError>
@@ -40,7 +64,7 @@ fn put_name(text: &mut Vec<u8>, name: Option<&[u8]>) -> Result<(), AllocError>
         return Ok(());
     };
     text.extend_from_slice(b" \"")?;
-    put_shown(text, name)?;
+    put_glyphs(text, name)?;
     text.extend_from_slice(b"\"")
 }
 
