@@ -1,5 +1,6 @@
 //! Worked rows: numbers, tables and values.
 
 mod numbers;
+mod rows;
 mod tables;
 mod values;
