@@ -15,6 +15,7 @@ pub mod Firsts
 pub mod FirstPlaces
 pub mod HeadLaws
 pub mod ValueSteps
+pub mod ReferringSteps
 pub mod EntryFacts
 pub mod KeptLaws
 pub mod LeftLaws

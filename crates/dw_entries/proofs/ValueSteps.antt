@@ -13,6 +13,7 @@ use Rattle.dw_entries.specs.Grammar.{Context, Attribute, IsAttribute, AreAttribu
 use Rattle.dw_entries.specs.ReadingLaws.{value_again, ok_pair}
 use Rattle.dw_entries.specs.Asked.{value_of}
 use Rattle.dw_entries.specs.Lookups.{declares, value_in}
+use Rattle.dw_entries.specs.Referring.{is_asked, IsPassed}
 use Rattle.dw_entries.specs.Values.{Left}
 use Rattle.dw_entries.proofs.ScanLaws.{rest_of}
 use Rattle.dw_entries.specs.ValueLaws.{left_unique}
@@ -64,6 +65,20 @@ module _ (x : Context) (gs : List AttributeSpec) (s : AttributeSpec) (ss : List 
       let apart : left_goes.first.code ≡ attribute → ⊥ = λ here. other (sym code ∙ here) in
       let behind : value_in (map value_of (left_goes.first ∷ left_goes.others)) attribute ≡ value_in (map value_of left_goes.others) attribute = rw (ne_eqb left_goes.first.code attribute apart) refl in
       (((left_goes.others, l.0.1), record { are = left_goes.are; spelled = sym same }), ap (λ (bs : List Attribute). value_in (map value_of bs) attribute) left_goes.parts ∙ behind)
+    where
+      rest_is : {a b : List ℕ} → ◌≡◌ {A = Result (List ℕ) ValueFault} (Ok a) (Ok b) → a ≡ b
+      rest_is e = cc
+
+  -- an attribute that is not asked for is passed
+  pub passes : (rest : List ℕ) → rest_at x.version s.form x.address_size bytes ≡ Ok rest → (attribute : ℕ) → is_asked attribute s ≡ false
+      → (m : Left x ss rest) × (item : ℕ × Datum) × (map value_of l.0.0 ≡ item ∷ map value_of m.0.0) × IsPassed attribute item
+  passes rest skipped attribute other =
+      let same : flat_map attribute_bytes left_goes.others ++ l.0.1 ≡ rest = rest_is (sym left_skipped ∙ skipped) in (
+        ((left_goes.others, l.0.1), record { are = left_goes.are; spelled = sym same }),
+        value_of left_goes.first,
+        ap (map value_of) left_goes.parts,
+        record { context = x; spec = s; not_asked = other; declared = left_goes.first; is_attribute = left_goes.is; is_item = refl },
+      )
     where
       rest_is : {a b : List ℕ} → ◌≡◌ {A = Result (List ℕ) ValueFault} (Ok a) (Ok b) → a ≡ b
       rest_is e = cc

@@ -32,4 +32,5 @@ pub mod Lookups
 pub mod UnitsLeft
 pub mod Runs
 pub mod Hints
+pub mod Referring
 pub mod Views

@@ -1,12 +1,13 @@
 //! The attributes of an entry, each value decoded when it is asked.
 
 ghost use Rattle.std.specs.Prelude.{◌≡◌, length};
+ghost use Rattle.dw_entries.specs.Referring.{may_refer, is_asked, is_any_asked};
 ghost use Rattle.dw_entries.specs.Header.{IsSize};
 ghost use Rattle.dw_entries.specs.Values.{value_context, Left};
 ghost use Rattle.dw_entries.specs.Choices.{size_unique};
 ghost use Rattle.dw_entries.specs.ValueLaws.{left_unique};
 
-use dw_forms::{Attribute, AttributeSpec, Value, read_value, skip_value};
+use dw_forms::{Attribute, AttributeSpec, Form, Value, read_value, skip_value};
 
 /// The attributes of an entry that are left, in their order. Its values lie in .debug_info.
 #[derive(Drop)]
@@ -19,10 +20,45 @@ pub struct Values<'e, 'a> {
     pub ghost left: { Left (value_context version address_size) specs.now bytes.now } by { left_unique (value_context version address_size) specs.now bytes.now },
 }
 
+/// Whether values of the form may be references: those of class reference, and those that name another form.
+#[inline]
+fn may_refer(form: Form) -> bool
+    ensures { result ≡ may_refer form }
+{
+    matches!(
+        form,
+        Form::RefAddr
+            | Form::Ref1
+            | Form::Ref2
+            | Form::Ref4
+            | Form::Ref8
+            | Form::RefUdata
+            | Form::RefSig8
+            | Form::Indirect
+    )
+}
+
+/// Whether an attribute with this code is declared, or one whose value may be a reference.
+#[inline]
+fn is_asked(spec: AttributeSpec, attribute: Attribute) -> bool
+    ensures { result ≡ is_asked attribute spec }
+{
+    may_refer(spec.form) || spec.attribute == attribute
+}
+
+/// Whether one of these attributes is declared so.
+#[inline]
+fn is_any_asked(specs: &[AttributeSpec], attribute: Attribute) -> bool
+    ensures { result ≡ is_any_asked attribute specs.now }
+{
+    specs.iter().any(|spec| is_asked(*spec, attribute))
+}
+
 impl<'a> Values<'_, 'a> {
-    ghost use Rattle.std.specs.Prelude.{option_map};
+    ghost use Rattle.std.specs.Prelude.{option_map, IfSome, IfNone};
     ghost use Rattle.dw_forms.specs.Value.{view};
-    ghost use Rattle.dw_entries.specs.ValuesLeft.{values_left};
+    ghost use Rattle.dw_entries.specs.ValuesLeft.{viewed, values_left};
+    ghost use Rattle.dw_entries.specs.Referring.{ArePassed, IsNextOf};
     ghost use Rattle.dw_entries.specs.Lookups.{value_in};
 
     /// The value of the first attribute with this code among those that are left. Values before it are skipped.
@@ -40,6 +76,34 @@ impl<'a> Values<'_, 'a> {
             }
             match skip_value(self.version, spec.form, self.address_size, bytes) {
                 Ok(len) => bytes = &bytes[len..],
+                Err(_) => unreachable!(),
+            }
+        }
+        None
+    }
+
+    /// The next attribute that has this code or whose value may be a reference. Values before it are skipped.
+    #[inline]
+    pub fn next_of(&mut self, attribute: Attribute) -> Option<(Attribute, Value<'a>)>
+        ensures some { IfSome result (λ found. IsNextOf attribute (values_left self.old) (viewed found) (values_left self.new)) }
+        ensures none { IfNone result (ArePassed attribute (values_left self.old)) }
+    {
+        if !is_any_asked(self.specs, attribute) {
+            return None;
+        }
+        let mut specs = self.specs;
+        let mut bytes = self.bytes;
+        while let Some((spec, others)) = specs.split_first() {
+            if is_asked(*spec, attribute) {
+                self.specs = specs;
+                self.bytes = bytes;
+                return self.next();
+            }
+            match skip_value(self.version, spec.form, self.address_size, bytes) {
+                Ok(len) => {
+                    specs = others;
+                    bytes = &bytes[len..];
+                }
                 Err(_) => unreachable!(),
             }
         }

@@ -1,8 +1,9 @@
 -- The class of a value is that of its form.
-use Rattle.std.proofs.Common.{◌≡◌, ℕ, List, Some, ap, ◌∙◌}
+use Rattle.std.proofs.Common.{◌≡◌, ℕ, true, false, List, Some, refl, ap, ◌∙◌}
 use Rattle.dw_forms.specs.declared.form.Form.{Form}
 use Rattle.dw_forms.specs.declared.form.Form.TheVariants as form
 use Rattle.dw_forms.specs.Value.{Datum, Val}
+use Rattle.dw_entries.specs.Referring.{may_refer}
 use Rattle.dw_links.specs.declared.class.Class.{Class}
 use Rattle.dw_links.specs.declared.class.Class.TheVariants.{Address, Block, Constant, WideConstant, Exprloc, Flag, ListIndex, Reference, SectionOffset, String}
 use Rattle.dw_links.specs.Classes.{class_of, form_class}
@@ -51,3 +52,46 @@ class_by_form version size form.Addrx1 bytes v c is p = ap class_of p.2 ∙ the_
 class_by_form version size form.Addrx2 bytes v c is p = ap class_of p.2 ∙ the_same Address c is
 class_by_form version size form.Addrx3 bytes v c is p = ap class_of p.2 ∙ the_same Address c is
 class_by_form version size form.Addrx4 bytes v c is p = ap class_of p.2 ∙ the_same Address c is
+
+-- a form that has no references has a class of its own
+pub plain_form : (f : Form) → may_refer f ≡ false → (c : Class) × (form_class f ≡ Some c) × (c ≡ Reference → ⊥)
+plain_form form.Addr is = (Address, refl, λ e. absurd (let both : Address ≡ Reference = e in cc))
+plain_form form.Block2 is = (Block, refl, λ e. absurd (let both : Block ≡ Reference = e in cc))
+plain_form form.Block4 is = (Block, refl, λ e. absurd (let both : Block ≡ Reference = e in cc))
+plain_form form.Data2 is = (Constant, refl, λ e. absurd (let both : Constant ≡ Reference = e in cc))
+plain_form form.Data4 is = (Constant, refl, λ e. absurd (let both : Constant ≡ Reference = e in cc))
+plain_form form.Data8 is = (Constant, refl, λ e. absurd (let both : Constant ≡ Reference = e in cc))
+plain_form form.Text is = (String, refl, λ e. absurd (let both : String ≡ Reference = e in cc))
+plain_form form.Block is = (Block, refl, λ e. absurd (let both : Block ≡ Reference = e in cc))
+plain_form form.Block1 is = (Block, refl, λ e. absurd (let both : Block ≡ Reference = e in cc))
+plain_form form.Data1 is = (Constant, refl, λ e. absurd (let both : Constant ≡ Reference = e in cc))
+plain_form form.Flag is = (Flag, refl, λ e. absurd (let both : Flag ≡ Reference = e in cc))
+plain_form form.Sdata is = (Constant, refl, λ e. absurd (let both : Constant ≡ Reference = e in cc))
+plain_form form.Strp is = (String, refl, λ e. absurd (let both : String ≡ Reference = e in cc))
+plain_form form.Udata is = (Constant, refl, λ e. absurd (let both : Constant ≡ Reference = e in cc))
+plain_form form.RefAddr is = absurd (let both : true ≡ false = is in cc)
+plain_form form.Ref1 is = absurd (let both : true ≡ false = is in cc)
+plain_form form.Ref2 is = absurd (let both : true ≡ false = is in cc)
+plain_form form.Ref4 is = absurd (let both : true ≡ false = is in cc)
+plain_form form.Ref8 is = absurd (let both : true ≡ false = is in cc)
+plain_form form.RefUdata is = absurd (let both : true ≡ false = is in cc)
+plain_form form.Indirect is = absurd (let both : true ≡ false = is in cc)
+plain_form form.SecOffset is = (SectionOffset, refl, λ e. absurd (let both : SectionOffset ≡ Reference = e in cc))
+plain_form form.Exprloc is = (Exprloc, refl, λ e. absurd (let both : Exprloc ≡ Reference = e in cc))
+plain_form form.FlagPresent is = (Flag, refl, λ e. absurd (let both : Flag ≡ Reference = e in cc))
+plain_form form.Strx is = (String, refl, λ e. absurd (let both : String ≡ Reference = e in cc))
+plain_form form.Addrx is = (Address, refl, λ e. absurd (let both : Address ≡ Reference = e in cc))
+plain_form form.Data16 is = (WideConstant, refl, λ e. absurd (let both : WideConstant ≡ Reference = e in cc))
+plain_form form.LineStrp is = (String, refl, λ e. absurd (let both : String ≡ Reference = e in cc))
+plain_form form.RefSig8 is = absurd (let both : true ≡ false = is in cc)
+plain_form (form.ImplicitConst number) is = (Constant, refl, λ e. absurd (let both : Constant ≡ Reference = e in cc))
+plain_form form.Loclistx is = (ListIndex, refl, λ e. absurd (let both : ListIndex ≡ Reference = e in cc))
+plain_form form.Rnglistx is = (ListIndex, refl, λ e. absurd (let both : ListIndex ≡ Reference = e in cc))
+plain_form form.Strx1 is = (String, refl, λ e. absurd (let both : String ≡ Reference = e in cc))
+plain_form form.Strx2 is = (String, refl, λ e. absurd (let both : String ≡ Reference = e in cc))
+plain_form form.Strx3 is = (String, refl, λ e. absurd (let both : String ≡ Reference = e in cc))
+plain_form form.Strx4 is = (String, refl, λ e. absurd (let both : String ≡ Reference = e in cc))
+plain_form form.Addrx1 is = (Address, refl, λ e. absurd (let both : Address ≡ Reference = e in cc))
+plain_form form.Addrx2 is = (Address, refl, λ e. absurd (let both : Address ≡ Reference = e in cc))
+plain_form form.Addrx3 is = (Address, refl, λ e. absurd (let both : Address ≡ Reference = e in cc))
+plain_form form.Addrx4 is = (Address, refl, λ e. absurd (let both : Address ≡ Reference = e in cc))

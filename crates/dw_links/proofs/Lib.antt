@@ -19,3 +19,4 @@ pub mod SlotLaws
 pub mod TypeLaws
 pub mod LinkedTexts
 pub mod LinkedEntries
+pub mod LinkSteps

@@ -13,3 +13,4 @@ pub mod Tables
 pub mod AttributeTexts
 pub mod LinkLaws
 pub mod Slots
+pub mod Kept

@@ -1,12 +1,9 @@
 -- What the rules on references are asked with.
-use Rattle.std.specs.Prelude.{ℕ, ◌<◌, length}
-use Rattle.dw_forms.specs.Value.{Datum}
-use Rattle.dw_entries.specs.declared.rule.Rule.{Rule}
+use Rattle.std.specs.Prelude.{◌<◌, length}
 use Rattle.dw_entries.specs.declared.lookup.Head.{Head}
-use Rattle.dw_entries.specs.Entries.{entries_of, placed}
+use Rattle.dw_entries.specs.Entries.{placed}
 use Rattle.dw_entries.specs.Scanned.{units_of}
 use Rattle.dw_links.specs.declared.references.References.{References}
-use Rattle.dw_links.specs.References.{ReferenceFails}
 use Rattle.dw_links.specs.Signatures.{AreSignatures, AreDistinct}
 
 -- the table has the signatures of all units
@@ -18,6 +15,3 @@ pub record MayAsk (references : References) (head : Head) : Type 0 where
   pub linkable : IsLinkable references
   pub distinct : AreDistinct (placed (units_of references.entries.now.scanned))
   pub in_unit : head.unit < length (units_of references.entries.now.scanned)
-
-abbrev pub FailsByReferences : References → Head → ℕ → Datum → Rule → Type 0
-FailsByReferences references = ReferenceFails (entries_of (units_of references.entries.now.scanned)) (placed (units_of references.entries.now.scanned))

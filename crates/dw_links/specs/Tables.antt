@@ -1,7 +1,6 @@
 -- What is read once of all units, so that the values of attributes can be followed.
-use Rattle.std.specs.Prelude.{◌≡◌, ℕ, Bool, ◌==◌, List, map, Option}
+use Rattle.std.specs.Prelude.{◌≡◌, ℕ, List, map, Option}
 use Rattle.dw_forms.specs.Codes.{DW_AT_str_offsets_base, DW_AT_addr_base, DW_AT_type}
-use Rattle.dw_forms.specs.declared.decl.AttributeSpec.{AttributeSpec}
 use Rattle.dw_entries.specs.declared.entries.Entries.{Entries}
 use Rattle.dw_entries.specs.Entries.{Entry, PlacedUnit, entries_of, placed}
 use Rattle.dw_entries.specs.Scanned.{units_of}
@@ -13,10 +12,6 @@ use Rattle.dw_links.specs.Targets.{target_of, HasFirstSigned}
 -- the bases that a unit's first entry gives
 abbrev pub bases_in : List Entry → PlacedUnit → UnitBases
 bases_in entries unit = record { strings = base_in entries unit DW_AT_str_offsets_base; addresses = base_in entries unit DW_AT_addr_base }
-
--- whether an attribute is a type
-abbrev pub declares_type : AttributeSpec → Bool
-declares_type spec = spec.attribute == DW_AT_type
 
 -- the entry that an entry's type reaches
 abbrev pub type_target : List Entry → List PlacedUnit → Entry → Option ℕ

@@ -1,15 +1,14 @@
-//! The rules at the headers of type units, and all rules on references together.
+//! The rules at the headers of type units.
 
 ghost use Rattle.std.specs.Prelude.{ℕ, ◌≡◌, ◌+◌, ◌<◌, Some, length, slice_get, OnOk, IfErr};
 ghost use Rattle.std.specs.Bool.{OnTrue, OnFalse};
 ghost use Rattle.dw_entries.specs.Entries.{PlacedUnit, entries_of, placed};
 ghost use Rattle.dw_entries.specs.Scanned.{units_of};
 ghost use Rattle.dw_entries.specs.Failures.{HasNone, IsFirst, IsLeast};
-ghost use Rattle.dw_links.specs.References.{HasSignature, IsSignedBefore, HasType, TypeUnitFails, AtHeader, HeaderFailures, ReferenceFailures};
+ghost use Rattle.dw_links.specs.References.{HasSignature, IsSignedBefore, HasType, TypeUnitFails, AtHeader, HeaderFailures};
 ghost use Rattle.dw_links.specs.Linkable.{IsLinkable};
 
 use crate::references::References;
-use crate::rules::check_entries;
 use crate::signatures::type_in_header;
 use dw_entries::{Broken, Rule, Section};
 
@@ -84,7 +83,7 @@ impl References<'_, '_> {
     }
 
     /// The first failure at a header.
-    fn check_headers(&self) -> Result<(), Broken>
+    pub fn check_headers(&self) -> Result<(), Broken>
         requires linkable { IsLinkable self.now }
         ensures ok { OnOk result (HasNone (HeaderFailures (entries_of (units_of self.now.entries.now.scanned)) (placed (units_of self.now.entries.now.scanned)))) }
         ensures err { IfErr result (IsFirst (HeaderFailures (entries_of (units_of self.now.entries.now.scanned)) (placed (units_of self.now.entries.now.scanned)))) }
@@ -92,17 +91,6 @@ impl References<'_, '_> {
         for number in 0..self.entries.unit_count() {
             self.check_header(number)?;
         }
-        Ok(())
-    }
-
-    /// Finds the first failure of the rules on references.
-    pub fn check(&self) -> Result<(), Broken>
-        requires { IsLinkable self.now }
-        ensures ok { OnOk result (HasNone (ReferenceFailures (units_of self.now.entries.now.scanned))) }
-        ensures err { IfErr result (IsFirst (ReferenceFailures (units_of self.now.entries.now.scanned))) }
-    {
-        self.check_headers()?;
-        check_entries(self, self.entries)?;
         Ok(())
     }
 }

@@ -7,6 +7,7 @@ mod contribution;
 mod headers;
 mod kinds;
 mod laws;
+mod linking;
 mod links;
 mod references;
 mod rules;

@@ -14,8 +14,8 @@ ghost use Rattle.dw_links.specs.Targets.{target_of};
 ghost use Rattle.dw_links.specs.AttributeTexts.{text_at, address_at};
 
 use crate::references::References;
-use crate::rules::fault_of;
-use crate::unit_tables::{UnitTables, read_tables};
+use crate::signatures::read_signatures;
+use crate::unit_tables::{UnitTables, read_bases};
 use dw_entries::{Entries, EntryId, Stop};
 use dw_forms::Attribute;
 use std::alloc::Global;
@@ -41,16 +41,22 @@ pub fn link<'r, 'a>(alloc: Global, entries: &'r Entries<'a>) -> Result<Links<'r,
     ensures entries { IfOk result (λ links. links.entries ≡ entries.entry) }
     ensures fault { IfErr result (IfFault (IsFirst (ReferenceFailures (units_of entries.now.scanned)))) }
 {
-    let Ok(tables) = read_tables(alloc, entries) else {
-        return Err(Stop::Memory);
-    };
+    let signatures = read_signatures(alloc, entries)?;
+    let bases = read_bases(alloc, entries)?;
     let references = References {
         entries,
-        signatures: &tables.signatures,
+        signatures: &signatures,
     };
-    match references.check() {
-        Ok(()) => Ok(Links { entries, tables }),
-        Err(broken) => Err(Stop::Fault(fault_of(alloc, broken))),
+    match references.link(alloc) {
+        Ok(types) => {
+            let tables = UnitTables {
+                signatures,
+                bases,
+                types,
+            };
+            Ok(Links { entries, tables })
+        }
+        Err(stop) => Err(stop),
     }
 }
 

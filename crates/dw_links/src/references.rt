@@ -11,13 +11,11 @@ ghost use Rattle.dw_links.specs.References.{is_reference_value, NoSignatureThere
 ghost use Rattle.dw_links.specs.Signatures.{AreDistinct};
 ghost use Rattle.dw_links.specs.Linkable.{IsLinkable, MayAsk};
 
-use crate::class::{Class, class_of_form};
 use crate::kinds::{is_permitted, is_permitted_form, is_reference, is_sig8};
-use crate::rules::AttributeRules;
 use crate::signatures::type_in_header;
 use dw_entries::constants::*;
 use dw_entries::{Entries, EntryId, Head, Rule};
-use dw_forms::{Attribute, AttributeSpec, Value};
+use dw_forms::{Attribute, Value};
 use std::collections::BTreeMap;
 
 /// What the rules on references are asked with: the entries, and the first type unit of each signature.
@@ -152,30 +150,24 @@ impl References<'_, '_> {
         }
         Some(Rule::NotNextSibling)
     }
-}
 
-impl AttributeRules for References<'_, '_> {
-    ghost use Rattle.dw_links.specs.Linkable.{FailsByReferences};
-
-    ghost may_ask = { MayAsk };
-
-    ghost fails = { FailsByReferences };
-
-    fn concerns(&self, spec: &AttributeSpec) -> bool {
-        let Some(class) = class_of_form(spec.form) else {
-            return true;
-        };
-        match class {
-            Class::Reference => true,
-            _ => false,
-        }
-    }
-
-    fn ask(&self, head: &Head, attribute: Attribute, value: &Value<'_>) -> Option<Rule> {
+    /// The rule at an attribute whose value reaches this entry, or none.
+    pub fn ask(
+        &self,
+        head: &Head,
+        attribute: Attribute,
+        value: &Value<'_>,
+        reached: Option<EntryId>,
+    ) -> Option<Rule>
+        requires may { MayAsk self.now head.now }
+        requires some { IfSome reached (Reaches (entries_of (units_of self.now.entries.now.scanned)) (placed (units_of self.now.entries.now.scanned)) head.now (view value.now)) }
+        requires none { IfNone reached ((id : ℕ) → Reaches (entries_of (units_of self.now.entries.now.scanned)) (placed (units_of self.now.entries.now.scanned)) head.now (view value.now) id → ⊥) }
+        ensures { IsLeast (ReferenceFails (entries_of (units_of self.now.entries.now.scanned)) (placed (units_of self.now.entries.now.scanned)) head.now attribute (view value.now)) result }
+    {
         if !is_reference(value) {
             return None;
         }
-        match self.reach(head, value) {
+        match reached {
             Some(id) => self.ask_reached(head, attribute, value, id),
             None => self.ask_unreached(head, attribute, value),
         }

@@ -1,18 +1,16 @@
 //! What is read once of all units, so that the values of attributes can be followed.
 
 ghost use Rattle.std.specs.Prelude.{◌≡◌, ◌<◌, length, map, slice_get, IfSome, IfOk};
-ghost use Rattle.std.specs.List.{list_any};
 ghost use Rattle.dw_entries.specs.Entries.{entries_of, placed};
 ghost use Rattle.dw_entries.specs.Scanned.{units_of};
-ghost use Rattle.dw_links.specs.Targets.{target_of, HasFirstSigned};
-ghost use Rattle.dw_links.specs.Tables.{bases_in, declares_type, type_target, AreTables};
+ghost use Rattle.dw_links.specs.Targets.{target_of};
+ghost use Rattle.dw_links.specs.Tables.{bases_in, type_target, AreTables};
 
-use crate::signatures::read_signatures;
 use crate::strings::base_in_unit;
 use crate::targets::find_target;
 use dw_entries::constants::*;
 use dw_entries::{Entries, EntryId, OptionalId};
-use dw_forms::{Attribute, AttributeSpec};
+use dw_forms::Attribute;
 use std::alloc::{AllocError, Global};
 use std::collections::BTreeMap;
 
@@ -46,7 +44,7 @@ fn unit_bases(entries: &Entries<'_>, number: usize) -> UnitBases
 }
 
 /// The bases of all units, in their order.
-fn read_bases(alloc: Global, entries: &Entries<'_>) -> Result<Vec<UnitBases>, AllocError>
+pub(crate) fn read_bases(alloc: Global, entries: &Entries<'_>) -> Result<Vec<UnitBases>, AllocError>
     ensures { IfOk result (λ bases. bases.items ≡ map (bases_in (entries_of (units_of entries.now.scanned))) (placed (units_of entries.now.scanned))) }
 {
     let count = entries.unit_count();
@@ -55,59 +53,6 @@ fn read_bases(alloc: Global, entries: &Entries<'_>) -> Result<Vec<UnitBases>, Al
         bases.push(unit_bases(entries, number))?;
     }
     Ok(bases)
-}
-
-/// Whether an entry with these attributes has a type.
-fn declares_type(specs: &[AttributeSpec]) -> bool
-    ensures { result ≡ list_any declares_type specs.now }
-{
-    specs.iter().any(|spec| spec.attribute == DW_AT_type)
-}
-
-/// The entry that an entry's type reaches.
-fn find_type(entries: &Entries<'_>, signatures: &BTreeMap<u64, usize>, id: EntryId) -> OptionalId
-    requires id { id < length (entries_of (units_of entries.now.scanned)) }
-    requires signatures { HasFirstSigned (placed (units_of entries.now.scanned)) signatures.now }
-    ensures { IfSome (slice_get (entries_of (units_of entries.now.scanned)) id) (λ e. result ≡ type_target (entries_of (units_of entries.now.scanned)) (placed (units_of entries.now.scanned)) e) }
-{
-    if !declares_type(&entries.decl(id).attributes) {
-        return OptionalId::none();
-    }
-    match find_target(entries, signatures, id, DW_AT_type) {
-        Some(target) => OptionalId::some(target.number() as u32),
-        None => OptionalId::none(),
-    }
-}
-
-/// The entries that the types of all entries reach, in their order.
-fn read_types(
-    alloc: Global,
-    entries: &Entries<'_>,
-    signatures: &BTreeMap<u64, usize>,
-) -> Result<Vec<OptionalId>, AllocError>
-    requires { HasFirstSigned (placed (units_of entries.now.scanned)) signatures.now }
-    ensures { IfOk result (λ types. types.items ≡ map (type_target (entries_of (units_of entries.now.scanned)) (placed (units_of entries.now.scanned))) (entries_of (units_of entries.now.scanned))) }
-{
-    let count = entries.count();
-    let mut types = Vec::with_capacity(alloc, count)?;
-    for number in 0..count {
-        types.push(find_type(entries, signatures, entries.id(number)))?;
-    }
-    Ok(types)
-}
-
-/// Reads the tables of these entries and their units.
-pub(crate) fn read_tables(alloc: Global, entries: &Entries<'_>) -> Result<UnitTables, AllocError>
-    ensures { IfOk result (AreTables entries.now) }
-{
-    let signatures = read_signatures(alloc, entries)?;
-    let bases = read_bases(alloc, entries)?;
-    let types = read_types(alloc, entries, &signatures)?;
-    Ok(UnitTables {
-        signatures,
-        bases,
-        types,
-    })
 }
 
 impl UnitTables {

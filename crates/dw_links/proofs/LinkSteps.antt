@@ -1,0 +1,191 @@
+-- The references of an entry, one behind the other, and the entry that its type reaches.
+use Rattle.std.proofs.Common.{◌≡◌, ℕ, zero, suc, ◌<◌, ◌||◌, Bool, true, false, List, [], ◌∷◌, ◌++◌, length, Option, Some, None, refl, sym, ap, ◌∙◌, subst, arith, append_assoc, length-append}
+use Rattle.std.specs.Prelude.{slice_get, ◌==◌, IfSome, IfNone, option_map}
+use Rattle.std.specs.Option.{option_flatten, option_and_then}
+use Rattle.std.proofs.lemmas.Option.{slice_get_within}
+use Rattle.dw_forms.specs.Codes.{DW_AT_type}
+use Rattle.dw_forms.specs.Value.{Datum}
+use Rattle.dw_entries.specs.declared.lookup.Head.{Head}
+use Rattle.dw_entries.specs.declared.rule.Rule.{Rule}
+use Rattle.dw_entries.specs.Asked.{OffsetsRise, values_of}
+use Rattle.dw_entries.specs.Entries.{Entry, PlacedUnit}
+use Rattle.dw_entries.specs.Lookups.{entry_head, value_in}
+use Rattle.dw_entries.specs.Referring.{may_refer, IsPassed, ArePassed, IsNextOf}
+use Rattle.dw_entries.specs.declared.fault.Broken.{Broken}
+use Rattle.dw_entries.specs.declared.fault.Section.TheVariants.{Info}
+use Rattle.dw_entries.specs.Failures.{HasNone, IsFirst, IsLeast}
+use Rattle.dw_entries.proofs.Firsts.{first_of_attributes, none_of_attributes}
+use Rattle.dw_links.specs.Concerns.{Rules, AtHead}
+use Rattle.dw_links.specs.Kept.{kept_after}
+use Rattle.dw_links.specs.References.{Reaches, ReferenceFails}
+use Rattle.dw_links.specs.Signatures.{AreDistinct}
+use Rattle.dw_links.specs.Tables.{type_target}
+use Rattle.dw_links.specs.Targets.{reach_of, target_of}
+use Rattle.dw_links.proofs.FormClasses.{plain_form}
+use Rattle.dw_links.proofs.ReferenceLaws.{others_pass, reached_entry}
+use Rattle.dw_links.proofs.TargetLaws.{reach_of_is, at_reach_of}
+
+-- ---- lists
+
+-- what stands in the front of joined lists
+front_get : {X : Type 0} (xs ys : List X) (j : ℕ) (x : X) → j < length xs → slice_get (xs ++ ys) j ≡ Some x → slice_get xs j ≡ Some x
+front_get [] ys j x lt is = absurd (omega (arith, lt))
+front_get (y ∷ xs) ys zero x lt is = is
+front_get (y ∷ xs) ys (suc j) x lt is = front_get xs ys j x (omega (arith, lt)) is
+
+-- what stands between them
+between_get : {X : Type 0} (xs ys : List X) (x : X) → slice_get (xs ++ x ∷ ys) (length xs) ≡ Some x
+between_get [] ys x = refl
+between_get (y ∷ xs) ys x = between_get xs ys x
+
+-- ---- the rules
+
+-- no rule fails at these attributes of an entry
+abbrev pub NoneFails : Rules → Head → List (ℕ × Datum) → Type 0
+NoneFails Fails head items = (k : ℕ) (item : ℕ × Datum) → slice_get items k ≡ Some item → (r : Rule) → Fails head item.0 item.1 r → ⊥
+
+none_both : (Fails : Rules) (head : Head) (xs ys : List (ℕ × Datum)) → NoneFails Fails head xs → NoneFails Fails head ys → NoneFails Fails head (xs ++ ys)
+none_both Fails head [] ys before behind k item is = behind k item is
+none_both Fails head (x ∷ xs) ys before behind zero item is = before zero item is
+none_both Fails head (x ∷ xs) ys before behind (suc k) item is = none_both Fails head xs ys (λ j y e. before (suc j) y e) behind k item is
+
+none_one : (Fails : Rules) (head : Head) (x : ℕ × Datum) → ((r : Rule) → Fails head x.0 x.1 r → ⊥) → NoneFails Fails head (x ∷ [])
+none_one Fails head x here zero item is = let e : Some x ≡ Some item = is in let same : x ≡ item = cc in subst (λ (y : ℕ × Datum). (r : Rule) → Fails head y.0 y.1 r → ⊥) same here
+none_one Fails head x here (suc k) item is = absurd cc
+
+neither : (a b : Bool) → (a || b) ≡ false → (a ≡ false) × (b ≡ false)
+neither true b is = absurd cc
+neither false b is = (refl, is)
+
+-- at what is passed no rule fails
+passed_none : (entries : List Entry) (units : List PlacedUnit) (head : Head) (attribute : ℕ) (items : List (ℕ × Datum)) → ArePassed attribute items → NoneFails (ReferenceFails entries units) head items
+passed_none entries units head attribute items passed k item is r fails =
+    let p = passed k item is in
+    let form = plain_form p.spec.form (neither (may_refer p.spec.form) (p.spec.attribute == attribute) p.not_asked).0 in
+    others_pass entries units p.spec form.0 form.1 form.2 p.context p.declared p.is_attribute head r (subst (λ (y : ℕ × Datum). ReferenceFails entries units head y.0 y.1 r) (sym p.is_item) fails)
+
+-- ---- the first type
+
+front_value : (xs ys : List (ℕ × Datum)) (attribute : ℕ) (v : Datum) → value_in xs attribute ≡ Some v → value_in (xs ++ ys) attribute ≡ Some v
+front_value [] ys attribute v is = absurd cc
+front_value (x ∷ xs) ys attribute v is = by_code (front_value xs ys attribute v) (x.0 == attribute) refl
+  where
+    by_code : (value_in xs attribute ≡ Some v → value_in (xs ++ ys) attribute ≡ Some v) → (b : Bool) → (x.0 == attribute) ≡ b → value_in (x ∷ xs ++ ys) attribute ≡ Some v
+    by_code more true q = rw q (rw q at is)
+    by_code more false q = rw q (more (rw q at is))
+
+back_value : (xs ys : List (ℕ × Datum)) (attribute : ℕ) → value_in xs attribute ≡ None → value_in (xs ++ ys) attribute ≡ value_in ys attribute
+back_value [] ys attribute is = refl
+back_value (x ∷ xs) ys attribute is = by_code (back_value xs ys attribute) (x.0 == attribute) refl
+  where
+    by_code : (value_in xs attribute ≡ None → value_in (xs ++ ys) attribute ≡ value_in ys attribute) → (b : Bool) → (x.0 == attribute) ≡ b → value_in (x ∷ xs ++ ys) attribute ≡ value_in ys attribute
+    by_code more true q = absurd (let none : Some x.1 ≡ None = rw q at is in cc)
+    by_code more false q = rw q (more (rw q at is))
+
+passed_other : (attribute : ℕ) (item : ℕ × Datum) → IsPassed attribute item → (item.0 == attribute) ≡ false
+passed_other attribute item p =
+    let declared : (p.spec.attribute == attribute) ≡ false = (neither (may_refer p.spec.form) (p.spec.attribute == attribute) p.not_asked).1 in
+    let code : p.declared.code ≡ p.spec.attribute = p.is_attribute.code in
+    let here : p.declared.code ≡ item.0 = ap (λ (y : ℕ × Datum). y.0) p.is_item in
+    ap (λ (n : ℕ). n == attribute) (sym here ∙ code) ∙ declared
+
+passed_value : (attribute : ℕ) (items : List (ℕ × Datum)) → ArePassed attribute items → value_in items attribute ≡ None
+passed_value attribute [] passed = refl
+passed_value attribute (x ∷ items) passed = rw (passed_other attribute x (passed 0 x refl)) (passed_value attribute items (λ k y is. passed (suc k) y is))
+
+-- what is kept, behind one attribute more
+kept_next : (reach : Datum → Option ℕ) (done passed : List (ℕ × Datum)) (a : ℕ) (v : Datum) → ArePassed DW_AT_type passed → (o : Option Datum) → value_in done DW_AT_type ≡ o
+    → kept_after (option_map reach o) a (reach v) ≡ option_map reach (value_in (done ++ (passed ++ (a, v) ∷ [])) DW_AT_type)
+kept_next reach done passed a v are (Some d) is = ap (option_map reach) (sym (front_value done (passed ++ (a, v) ∷ []) DW_AT_type d is))
+kept_next reach done passed a v are None is =
+    by_code (a == DW_AT_type) refl ∙ ap (option_map reach) (sym (back_value done (passed ++ (a, v) ∷ []) DW_AT_type is ∙ back_value passed ((a, v) ∷ []) DW_AT_type (passed_value DW_AT_type passed are)))
+  where
+    by_code : (b : Bool) → (a == DW_AT_type) ≡ b → kept_after None a (reach v) ≡ option_map reach (value_in ((a, v) ∷ []) DW_AT_type)
+    by_code true q = rw q refl
+    by_code false q = rw q refl
+
+-- ---- the loop
+
+-- no rule fails so far, and this is kept
+pub record Linked (entries : List Entry) (units : List PlacedUnit) (head : Head) (items left : List (ℕ × Datum)) (kept : Option (Option ℕ)) : Type 0 where
+  pub done : List (ℕ × Datum)
+  pub parts : items ≡ done ++ left
+  pub none : NoneFails (ReferenceFails entries units) head done
+  pub is_kept : kept ≡ option_map (reach_of entries units head) (value_in done DW_AT_type)
+
+pub linked_none : (entries : List Entry) (units : List PlacedUnit) (head : Head) (items left : List (ℕ × Datum)) → left ≡ items → Linked entries units head items left None
+linked_none entries units head items left same = record { done = []; parts = sym same; none = λ k item is. absurd cc; is_kept = refl }
+
+module _ (entries : List Entry) (units : List PlacedUnit) (head : Head) (items left behind : List (ℕ × Datum)) (kept : Option (Option ℕ)) (a : ℕ) (v : Datum) (l : Linked entries units head items left kept) (n : IsNextOf DW_AT_type left (a, v) behind) where
+  joined : items ≡ (l.done ++ n.passed) ++ (a, v) ∷ behind
+  joined = l.parts ∙ ap (λ (xs : List (ℕ × Datum)). l.done ++ xs) n.parts ∙ sym (append_assoc l.done n.passed ((a, v) ∷ behind))
+
+  before_none : NoneFails (ReferenceFails entries units) head (l.done ++ n.passed)
+  before_none = none_both (ReferenceFails entries units) head l.done n.passed l.none (passed_none entries units head DW_AT_type n.passed n.are_passed)
+
+  -- where it stands
+  pub place_of : ℕ
+  place_of = length (l.done ++ n.passed)
+
+  pub stands : slice_get items place_of ≡ Some (a, v)
+  unfolding place_of
+  stands = ap (λ (xs : List (ℕ × Datum)). slice_get xs (length (l.done ++ n.passed))) joined ∙ between_get (l.done ++ n.passed) behind (a, v)
+
+  pub none_before : (j b : ℕ) (w : Datum) → j < place_of → slice_get items j ≡ Some (b, w) → (r : Rule) → ReferenceFails entries units head b w r → ⊥
+  unfolding place_of
+  none_before j b w lt is r fails = before_none j (b, w) (front_get (l.done ++ n.passed) ((a, v) ∷ behind) j (b, w) lt (ap (λ (xs : List (ℕ × Datum)). slice_get xs j) (sym joined) ∙ is)) r fails
+
+  -- one attribute more, where no rule fails
+  pub linked_more : (reached : Option ℕ) → reached ≡ reach_of entries units head v → ((r : Rule) → ReferenceFails entries units head a v r → ⊥) → Linked entries units head items behind (kept_after kept a reached)
+  linked_more reached is_reached none = record {
+    done = l.done ++ (n.passed ++ (a, v) ∷ []);
+    parts = l.parts ∙ ap (λ (xs : List (ℕ × Datum)). l.done ++ xs) (n.parts ∙ sym (append_assoc n.passed ((a, v) ∷ []) behind)) ∙ sym (append_assoc l.done (n.passed ++ (a, v) ∷ []) behind);
+    none = none_both (ReferenceFails entries units) head l.done (n.passed ++ (a, v) ∷ []) l.none
+        (none_both (ReferenceFails entries units) head n.passed ((a, v) ∷ []) (passed_none entries units head DW_AT_type n.passed n.are_passed) (none_one (ReferenceFails entries units) head (a, v) none));
+    is_kept = (λ i. kept_after (l.is_kept i) a (is_reached i)) ∙ kept_next (reach_of entries units head) l.done n.passed a v n.are_passed (value_in l.done DW_AT_type) refl;
+  }
+
+  pub fewer : length behind < length left
+  fewer = omega (arith, ap length n.parts, length-append n.passed ((a, v) ∷ behind))
+
+-- where a rule fails, that is the first failure
+pub linked_fails : (entries : List Entry) (units : List PlacedUnit) (e : Entry) (left behind : List (ℕ × Datum)) (kept : Option (Option ℕ)) (a : ℕ) (v : Datum)
+    → Linked entries units (entry_head e) (values_of e.head) left kept → IsNextOf DW_AT_type left (a, v) behind → (rule : Rule) (broken : Broken) → IsLeast (ReferenceFails entries units (entry_head e) a v) (Some rule)
+    → broken ≡ record { rule = rule; section = Info; at = e.at; attribute = a } → IsFirst (AtHead (ReferenceFails entries units) e) broken
+linked_fails entries units e left behind kept a v l n rule broken least is =
+    first_of_attributes (λ x. ReferenceFails entries units (entry_head x)) e (place_of entries units (entry_head e) (values_of e.head) left behind kept a v l n) a v rule broken
+    (stands entries units (entry_head e) (values_of e.head) left behind kept a v l n) (none_before entries units (entry_head e) (values_of e.head) left behind kept a v l n) least
+    (record { rule = ap (λ (b : Broken). b.rule) is; section = ap (λ (b : Broken). b.section) is; at = ap (λ (b : Broken). b.at) is; attribute = ap (λ (b : Broken). b.attribute) is })
+
+-- at the end no rule fails at the entry
+pub linked_passes : (entries : List Entry) (units : List PlacedUnit) (e : Entry) (left : List (ℕ × Datum)) (kept : Option (Option ℕ)) → Linked entries units (entry_head e) (values_of e.head) left kept → ArePassed DW_AT_type left
+    → HasNone (AtHead (ReferenceFails entries units) e)
+linked_passes entries units e left kept l passed =
+    none_of_attributes (λ x. ReferenceFails entries units (entry_head x)) e
+    (λ j a v below has r fails. none_both (ReferenceFails entries units) (entry_head e) l.done left l.none (passed_none entries units (entry_head e) DW_AT_type left passed) j (a, v) (ap (λ (xs : List (ℕ × Datum)). slice_get xs j) (sym l.parts) ∙ has) r fails)
+
+-- and what is kept is the target of its type
+pub linked_target : (entries : List Entry) (units : List PlacedUnit) (e : Entry) (left : List (ℕ × Datum)) (kept : Option (Option ℕ)) → Linked entries units (entry_head e) (values_of e.head) left kept → ArePassed DW_AT_type left
+    → option_flatten kept ≡ type_target entries units e
+unfolding target_of
+linked_target entries units e left kept l passed =
+    ap option_flatten l.is_kept ∙ by_value (value_in l.done DW_AT_type) refl ∙ ap (λ (xs : List (ℕ × Datum)). option_and_then (reach_of entries units (entry_head e)) (value_in xs DW_AT_type)) (sym l.parts)
+  where
+    by_value : (o : Option Datum) → value_in l.done DW_AT_type ≡ o → option_flatten (option_map (reach_of entries units (entry_head e)) o) ≡ option_and_then (reach_of entries units (entry_head e)) (value_in (l.done ++ left) DW_AT_type)
+    by_value (Some d) is = ap (option_and_then (reach_of entries units (entry_head e))) (sym (front_value l.done left DW_AT_type d is))
+    by_value None is = ap (option_and_then (reach_of entries units (entry_head e))) (sym (back_value l.done left DW_AT_type is ∙ passed_value DW_AT_type left passed))
+
+-- ---- what is reached
+
+pub reached_is : (entries : List Entry) (units : List PlacedUnit) (head : Head) (v : Datum) (answer : Option ℕ) → OffsetsRise entries → AreDistinct units → IfSome answer (Reaches entries units head v) → IfNone answer ((id : ℕ) → Reaches entries units head v id → ⊥)
+    → answer ≡ reach_of entries units head v
+reached_is entries units head v (Some id) rise distinct some none = sym (reach_of_is entries units head v id rise distinct some)
+reached_is entries units head v None rise distinct some none = nowhere (reach_of entries units head v) refl
+  where
+    nowhere : (o : Option ℕ) → reach_of entries units head v ≡ o → None ≡ o
+    nowhere None is = refl
+    nowhere (Some id) is = absurd (none id (at_reach_of entries units head v id is))
+
+pub reached_within : (entries : List Entry) (units : List PlacedUnit) (head : Head) (v : Datum) (answer : Option ℕ) → IfSome answer (Reaches entries units head v) → IfSome answer (λ t. t < length entries)
+reached_within entries units head v (Some id) some = let (e, is) = reached_entry entries units head v id some in slice_get_within entries id e is
+reached_within entries units head v None some = tt

@@ -1,0 +1,140 @@
+//! The rules on references, asked of all entries, and the entries that the types of entries reach.
+
+ghost use Rattle.std.specs.Prelude.{ℕ, ◌≡◌, ◌<◌, length, map, None, Some, slice_get, IfSome, OnOk, IfOk, IfErr};
+ghost use Rattle.dw_entries.specs.Entries.{Entry, entries_of, placed};
+ghost use Rattle.dw_entries.specs.Scanned.{units_of};
+ghost use Rattle.dw_entries.specs.Lookups.{entry_head};
+ghost use Rattle.dw_entries.specs.declared.fault.Section.TheVariants.{Info};
+ghost use Rattle.dw_entries.specs.Failures.{HasNone, IsFirst, IsLeast};
+ghost use Rattle.dw_forms.specs.Value.{view};
+ghost use Rattle.dw_links.specs.Targets.{reach_of};
+ghost use Rattle.dw_entries.specs.Stopped.{IfFault};
+ghost use Rattle.dw_links.specs.Concerns.{AtHead, PassesAt, FailsAt};
+ghost use Rattle.dw_links.specs.References.{ReferenceFails, AttributeFailures, ReferenceFailures};
+ghost use Rattle.dw_links.specs.Linkable.{IsLinkable, MayAsk};
+ghost use Rattle.dw_links.specs.Tables.{type_target};
+ghost use Rattle.dw_links.specs.Kept.{kept_after};
+
+use crate::references::References;
+use crate::rules::fault_of;
+use dw_entries::constants::*;
+use dw_entries::{Broken, Entries, EntryId, Head, OptionalId, Rule, Section, Stop};
+use dw_forms::{Attribute, Value};
+use std::alloc::Global;
+
+/// The number of an entry, or none.
+fn number_of(entries: &Entries<'_>, id: &Option<EntryId>) -> OptionalId
+    requires { IfSome id.now (λ t. t < length (entries_of (units_of entries.now.scanned))) }
+    ensures { result ≡ id.now }
+{
+    match id {
+        Some(id) => OptionalId::some(id.number() as u32),
+        None => OptionalId::none(),
+    }
+}
+
+/// What is kept of an entry's type behind one attribute more: what the first type reaches.
+fn keep(kept: Option<OptionalId>, attribute: Attribute, reached: OptionalId) -> Option<OptionalId>
+    ensures { result ≡ kept_after kept attribute reached }
+{
+    match kept {
+        Some(target) => Some(target),
+        None => {
+            if attribute == DW_AT_type {
+                Some(reached)
+            } else {
+                None
+            }
+        }
+    }
+}
+
+/// A rule that fails at an attribute of an entry.
+fn broken_at(head: &Head, attribute: Attribute, rule: Rule) -> Broken
+    ensures { result ≡ record { rule = rule; section = Info; at = head.now.offset; attribute = attribute } }
+{
+    Broken {
+        rule,
+        section: Section::Info,
+        at: head.offset,
+        attribute: attribute.0,
+    }
+}
+
+impl References<'_, '_> {
+    /// The entry that a value reaches, or the rule that fails there.
+    fn link_value(
+        &self,
+        head: &Head,
+        attribute: Attribute,
+        value: &Value<'_>,
+    ) -> Result<OptionalId, Rule>
+        requires { MayAsk self.now head.now }
+        ensures ok { OnOk result (IsLeast (ReferenceFails (entries_of (units_of self.now.entries.now.scanned)) (placed (units_of self.now.entries.now.scanned)) head.now attribute (view value.now)) None) }
+        ensures reached { IfOk result (λ target. target ≡ reach_of (entries_of (units_of self.now.entries.now.scanned)) (placed (units_of self.now.entries.now.scanned)) head.now (view value.now)) }
+        ensures err { IfErr result (λ rule. IsLeast (ReferenceFails (entries_of (units_of self.now.entries.now.scanned)) (placed (units_of self.now.entries.now.scanned)) head.now attribute (view value.now)) (Some rule)) }
+    {
+        let reached = self.reach(head, value);
+        let target = number_of(self.entries, &reached);
+        match self.ask(head, attribute, value, reached) {
+            None => Ok(target),
+            Some(rule) => Err(rule),
+        }
+    }
+
+    /// The entry that an entry's type reaches, or the first failure at the entry's references. Each is decoded and
+    /// searched once.
+    fn link_entry(&self, id: EntryId) -> Result<OptionalId, Broken>
+        requires id { id < length (entries_of (units_of self.now.entries.now.scanned)) }
+        requires may { (e : Entry) → slice_get (entries_of (units_of self.now.entries.now.scanned)) id ≡ Some e → MayAsk self.now (entry_head e) }
+        ensures ok { OnOk result (PassesAt (entries_of (units_of self.now.entries.now.scanned)) id (AtHead (ReferenceFails (entries_of (units_of self.now.entries.now.scanned)) (placed (units_of self.now.entries.now.scanned))))) }
+        ensures target { IfOk result (λ target. IfSome (slice_get (entries_of (units_of self.now.entries.now.scanned)) id) (λ e. target ≡ type_target (entries_of (units_of self.now.entries.now.scanned)) (placed (units_of self.now.entries.now.scanned)) e)) }
+        ensures err { IfErr result (FailsAt (entries_of (units_of self.now.entries.now.scanned)) id (AtHead (ReferenceFails (entries_of (units_of self.now.entries.now.scanned)) (placed (units_of self.now.entries.now.scanned))))) }
+    {
+        let head = self.entries.head(id);
+        let mut values = self.entries.values(id);
+        let mut kept = None;
+        while let Some(item) = values.next_of(DW_AT_type) {
+            match self.link_value(&head, item.0, &item.1) {
+                Ok(target) => kept = keep(kept, item.0, target),
+                Err(rule) => return Err(broken_at(&head, item.0, rule)),
+            }
+        }
+        match kept {
+            Some(target) => Ok(target),
+            None => Ok(OptionalId::none()),
+        }
+    }
+
+    /// The entries that the types of all entries reach, in their order, or the first failure at a reference.
+    fn link_entries(&self, alloc: Global) -> Result<Vec<OptionalId>, Stop>
+        requires { (id : ℕ) (e : Entry) → slice_get (entries_of (units_of self.now.entries.now.scanned)) id ≡ Some e → MayAsk self.now (entry_head e) }
+        ensures ok { OnOk result (HasNone (AttributeFailures (entries_of (units_of self.now.entries.now.scanned)) (placed (units_of self.now.entries.now.scanned)))) }
+        ensures types { IfOk result (λ types. types.items ≡ map (type_target (entries_of (units_of self.now.entries.now.scanned)) (placed (units_of self.now.entries.now.scanned))) (entries_of (units_of self.now.entries.now.scanned))) }
+        ensures fault { IfErr result (IfFault (IsFirst (AttributeFailures (entries_of (units_of self.now.entries.now.scanned)) (placed (units_of self.now.entries.now.scanned))))) }
+    {
+        let count = self.entries.count();
+        let mut types = Vec::with_capacity(alloc, count)?;
+        for number in 0..count {
+            match self.link_entry(self.entries.id(number)) {
+                Ok(target) => types.push(target)?,
+                Err(broken) => return Err(Stop::Fault(fault_of(alloc, broken))),
+            }
+        }
+        Ok(types)
+    }
+
+    /// The entries that the types of all entries reach, in their order, or the first failure of the rules on
+    /// references. Want of memory comes where the table can't grow.
+    pub fn link(&self, alloc: Global) -> Result<Vec<OptionalId>, Stop>
+        requires { IsLinkable self.now }
+        ensures ok { OnOk result (HasNone (ReferenceFailures (units_of self.now.entries.now.scanned))) }
+        ensures types { IfOk result (λ types. types.items ≡ map (type_target (entries_of (units_of self.now.entries.now.scanned)) (placed (units_of self.now.entries.now.scanned))) (entries_of (units_of self.now.entries.now.scanned))) }
+        ensures fault { IfErr result (IfFault (IsFirst (ReferenceFailures (units_of self.now.entries.now.scanned)))) }
+    {
+        match self.check_headers() {
+            Ok(()) => self.link_entries(alloc),
+            Err(broken) => Err(Stop::Fault(fault_of(alloc, broken))),
+        }
+    }
+}
