@@ -1,7 +1,8 @@
 //! The words of the command line.
 
-ghost use Rattle.std.specs.Prelude.{SomeIff};
+ghost use Rattle.std.specs.Prelude.{◌≡◌, SomeIff};
 ghost use Rattle.dwv.specs.Words.{IsOffset, offset_in};
+ghost use Rattle.dwv.specs.declared.words.WordsFault.TheVariants.{Memory};
 
 use crate::request::Request;
 use clap::error::ErrorKind;
@@ -20,6 +21,8 @@ pub enum WordsFault {
 }
 
 impl From<AllocError> for WordsFault {
+    ghost from_gives = { λ _ fault. fault ≡ Memory };
+
     fn from(_error: AllocError) -> WordsFault {
         WordsFault::Memory
     }
