@@ -28,7 +28,8 @@ impl EntryReader<'_, '_, '_> {
     fn misses_type(&self, parent: Role) -> bool
         ensures { result ≡ misses_type parent self.now }
     {
-        self.type_target().is_none()
+        matches!(self.tag(), DW_TAG_array_type | DW_TAG_member)
+            && self.type_target().is_none()
             && (self.is_array() || self.is_plain(parent))
             && self.stands_alone()
     }
