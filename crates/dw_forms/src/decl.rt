@@ -13,7 +13,7 @@ pub struct AttributeSpec {
     pub form: Form,
 }
 
-/// What the entries with one code have in common. Only `read_table` makes one.
+/// What the entries with one code have in common. Only the readers of tables make one.
 #[derive(Debug, Drop)]
 pub struct Decl {
     /// The number by which entries name the declaration, at least 1.

@@ -133,7 +133,7 @@ fn add_at(rows: &mut Vec<DeclRow>, number: usize, decl: Decl) -> Result<bool, Ab
 }
 
 /// Adds the declarations that stand in the section before those of a row, the last one first. False where a code
-/// would stand twice.
+/// would stand twice. The section and the offset are what the clauses speak of.
 pub fn grow(
     rows: &mut Vec<DeclRow>,
     starts: &mut BTreeMap<usize, RowPlace>,
@@ -163,7 +163,8 @@ pub fn grow(
     Ok(true)
 }
 
-/// The number of the row that goes on where a front ends. It is a new one where the table ends there.
+/// The number of the row that goes on where a front ends. It is a new one where the table ends there. The section
+/// is what the clauses speak of.
 pub fn row_behind(
     alloc: Global,
     rows: &mut Vec<DeclRow>,

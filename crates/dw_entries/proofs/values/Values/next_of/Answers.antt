@@ -1,10 +1,8 @@
-use Rattle.std.proofs.Common.{◌≡◌, ℕ, List, [], ◌∷◌, ◌++◌, map, Option, Some, None, refl, sym, ap, ◌∙◌, append_assoc, subst, rules}
-use Rattle.std.specs.Prelude.{IfSome}
+use Rattle.std.proofs.Common.{ℕ, List, [], ◌∷◌, ◌++◌, map, refl, sym, ap, ◌∙◌, append_assoc}
 use Rattle.dw_forms.specs.Value.{Datum}
 use Rattle.dw_entries.specs.Asked.{value_of}
 use Rattle.dw_entries.specs.Values.{value_context}
-use Rattle.dw_entries.specs.ValuesLeft.{viewed, values_left}
-use Rattle.dw_entries.specs.Referring.{ArePassed, IsNextOf}
+use Rattle.dw_entries.specs.ValuesLeft.{values_left}
 use Rattle.dw_entries.proofs.ValueSteps.{passes, never_stays, skipped_on}
 use Rattle.dw_entries.proofs.ReferringSteps.{none_passed, one_passed, all_passed, passed_to_end, left_same, next_found}
 use Rattle.dw_entries.proofs.values.Values.next_of.Goals as goal
