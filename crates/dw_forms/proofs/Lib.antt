@@ -15,5 +15,6 @@ pub mod TailLaws
 pub mod RowLaws
 pub mod RowPlaces
 pub mod FixedSums
+pub mod RemainderLaws
 pub mod FewAttributes
 pub mod ValueAnswers

@@ -16,6 +16,7 @@ pub mod ValueFaults
 pub mod Value
 pub mod ValueReading
 pub mod Sizes
+pub mod Remainders
 pub mod Readers
 pub mod Says
 pub mod SpellingLaws

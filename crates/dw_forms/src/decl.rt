@@ -1,7 +1,9 @@
 //! Abbreviation declarations (DWARF 5, 7.5.3).
 
-ghost use Rattle.std.specs.Prelude.{◌≡◌, ◌≤◌, ◌⊎◌, length};
+ghost use Rattle.std.specs.Prelude.{◌≡◌, ◌≢◌, ◌≤◌, ◌%◌, ◌^◌, ◌⊎◌, All, length};
+ghost use Rattle.std.specs.Bool.{OnFalse};
 ghost use Rattle.dw_forms.specs.Sizes.{fixed_sum, are_allowed};
+ghost use Rattle.dw_forms.specs.Remainders.{HasRemainders};
 
 use crate::constants::{Attribute, Tag};
 use crate::form::Form;
@@ -29,9 +31,12 @@ pub struct Decl {
     fixed_with_8: Option<u32>,
     /// Whether each form is one of version 4.
     in_version_4: bool,
+    /// The remainders of the attributes' codes modulo 64, one bit for each.
+    remainders: u64,
     ghost sum_with_4: { fixed_with_4 ≡ fixed_sum 5 4 attributes.items },
     ghost sum_with_8: { fixed_with_8 ≡ fixed_sum 5 8 attributes.items },
     ghost allowed_in_4: { in_version_4 ≡ are_allowed 4 attributes.items },
+    ghost remainders_are: { HasRemainders remainders attributes.items },
 }
 
 /// The sum of the sizes of the values in version 5, where each has one size.
@@ -54,6 +59,26 @@ fn are_allowed(attributes: &[AttributeSpec], version: u16) -> bool
     attributes.iter().all(|spec| spec.form.allowed(version))
 }
 
+/// The bit of the remainder of an attribute's code modulo 64.
+#[inline]
+fn remainder_bit(attribute: Attribute) -> u64
+    ensures { result ≡ 2 ^ (attribute % 64) }
+{
+    1 << (attribute.0 % 64)
+}
+
+/// The remainders of the codes of attributes modulo 64, one bit for each.
+#[tactic(auto, using(crate::proofs::RemainderLaws::stays, crate::proofs::RemainderLaws::comes))]
+fn remainders_of(attributes: &[AttributeSpec]) -> u64
+    ensures { HasRemainders result attributes.now }
+{
+    let mut remainders = 0;
+    for spec in attributes {
+        remainders |= remainder_bit(spec.attribute);
+    }
+    remainders
+}
+
 impl Decl {
     ghost use Rattle.dw_forms.specs.Abbrev.{view};
 
@@ -70,6 +95,7 @@ impl Decl {
         let fixed_with_4 = fixed_sum(&attributes, 4);
         let fixed_with_8 = fixed_sum(&attributes, 8);
         let in_version_4 = are_allowed(&attributes, 4);
+        let remainders = remainders_of(&attributes);
         Decl {
             code,
             tag,
@@ -78,7 +104,17 @@ impl Decl {
             fixed_with_4,
             fixed_with_8,
             in_version_4,
+            remainders,
         }
+    }
+
+    /// Whether the attribute may be one of those declared. False says that it is none; that is known at once.
+    #[inline]
+    #[tactic(auto, using(crate::proofs::RemainderLaws::absent))]
+    pub fn may_have(&self, attribute: Attribute) -> bool
+        ensures { OnFalse result (All (λ spec. spec.attribute ≢ attribute) self.now.attributes.items) }
+    {
+        self.remainders & remainder_bit(attribute) != 0
     }
 
     /// How many bytes the values of an entry have together in version 5, where each form has one size.

@@ -106,6 +106,7 @@ fn leb_counted(bytes: &[u8]) -> Result<(&[u8], usize), ValueFault>
 }
 
 /// The value of a form that names no other form, and how many bytes it has.
+#[inline(never)]
 #[tactic(auto, unfolding(crate::specs::ValueReading::layout_at, crate::specs::ValueReading::uleb_then, crate::specs::ValueReading::sleb_then))]
 fn plain(form: Form, address_size: u8, bytes: &[u8]) -> Result<(Value<'_>, usize), ValueFault>
     requires { (address_size ≡ 4) ⊎ (address_size ≡ 8) }
@@ -229,8 +230,10 @@ fn indirect(version: u16, address_size: u8, bytes: &[u8]) -> Result<(Value<'_>, 
     Ok((value, before + len))
 }
 
-/// The value of any form, and how many bytes it has.
-#[inline]
+/// The value of any form, and how many bytes it has. Offsets of strings and references within a unit, which most
+/// values are that are asked, are read in place.
+#[inline(always)]
+#[tactic(auto, unfolding(crate::specs::ValueReading::layout_at))]
 fn value(
     version: u16,
     form: Form,
@@ -242,6 +245,14 @@ fn value(
     ensures exact { Gives (λ x. (view x.0, drop x.1 bytes.now)) result (value_at version form address_size bytes.now) }
 {
     match form {
+        Form::Strp => match offset(bytes) {
+            Ok(at) => Ok((Value::Str(at), 4)),
+            Err(fault) => Err(fault),
+        },
+        Form::Ref4 => match offset(bytes) {
+            Ok(at) => Ok((Value::RefUnit(u64::from(at)), 4)),
+            Err(fault) => Err(fault),
+        },
         Form::Indirect => indirect(version, address_size, bytes),
         _ => plain(form, address_size, bytes),
     }
@@ -249,6 +260,7 @@ fn value(
 
 /// Reads the value at the front, in a form that the unit's version allows, and how many bytes it takes. Bytes may
 /// follow it.
+#[inline(always)]
 pub fn read_value(
     version: u16,
     form: Form,
@@ -268,6 +280,7 @@ pub fn read_value(
 }
 
 /// The length of a value whose form has no one size. Only an indirect one is read for it.
+#[inline(never)]
 #[tactic(auto, unfolding(crate::specs::Sizes::rest_at, crate::specs::ValueReading::layout_at, crate::specs::ValueReading::uleb_then, crate::specs::ValueReading::sleb_then))]
 fn skip_long(version: u16, form: Form, address_size: u8, bytes: &[u8]) -> Result<usize, ValueFault>
     requires { (address_size ≡ 4) ⊎ (address_size ≡ 8) }
@@ -288,7 +301,7 @@ fn skip_long(version: u16, form: Form, address_size: u8, bytes: &[u8]) -> Result
 }
 
 /// How many bytes the value at the front takes, as `read_value` says it, without making the value.
-#[inline]
+#[inline(always)]
 #[tactic(auto, using(crate::specs::SizeLaws::rest_skips, crate::specs::SizeLaws::rest_cuts), unfolding(crate::specs::Sizes::rest_at))]
 pub fn skip_value(
     version: u16,
