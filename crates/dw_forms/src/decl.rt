@@ -1,8 +1,9 @@
 //! Abbreviation declarations (DWARF 5, 7.5.3).
 
-ghost use Rattle.std.specs.Prelude.{◌≡◌, ◌≢◌, ◌≤◌, ◌%◌, ◌^◌, ◌⊎◌, All, length};
+ghost use Rattle.std.specs.Prelude.{◌≡◌, ◌≢◌, ◌≤◌, ◌%◌, ◌^◌, ◌⊎◌, All, bit_and, length};
 ghost use Rattle.std.specs.Bool.{OnFalse};
 ghost use Rattle.dw_forms.specs.Sizes.{fixed_sum, are_allowed};
+ghost use Rattle.dw_forms.specs.Codes.{is_type_tag};
 ghost use Rattle.dw_forms.specs.Remainders.{HasRemainders};
 
 use crate::constants::{Attribute, Tag};
@@ -33,9 +34,12 @@ pub struct Decl {
     in_version_4: bool,
     /// The remainders of the attributes' codes modulo 64, one bit for each.
     remainders: u64,
+    /// Whether entries with the tag are types.
+    is_type: bool,
     ghost sum_with_4: { fixed_with_4 ≡ fixed_sum 5 4 attributes.items },
     ghost sum_with_8: { fixed_with_8 ≡ fixed_sum 5 8 attributes.items },
     ghost allowed_in_4: { in_version_4 ≡ are_allowed 4 attributes.items },
+    ghost type_tag: { is_type ≡ is_type_tag tag },
     ghost remainders_are: { HasRemainders remainders attributes.items },
 }
 
@@ -67,6 +71,14 @@ fn remainder_bit(attribute: Attribute) -> u64
     1 << (attribute.0 % 64)
 }
 
+/// Whether the remainder of an attribute's code modulo 64 is among these.
+#[inline]
+fn has_remainder(remainders: u64, attribute: Attribute) -> bool
+    ensures { OnFalse result (bit_and remainders (2 ^ (attribute % 64)) ≡ 0) }
+{
+    remainders & remainder_bit(attribute) != 0
+}
+
 /// The remainders of the codes of attributes modulo 64, one bit for each.
 #[tactic(auto, using(crate::proofs::RemainderLaws::stays, crate::proofs::RemainderLaws::comes))]
 fn remainders_of(attributes: &[AttributeSpec]) -> u64
@@ -96,6 +108,7 @@ impl Decl {
         let fixed_with_8 = fixed_sum(&attributes, 8);
         let in_version_4 = are_allowed(&attributes, 4);
         let remainders = remainders_of(&attributes);
+        let is_type = tag.is_type();
         Decl {
             code,
             tag,
@@ -105,16 +118,24 @@ impl Decl {
             fixed_with_8,
             in_version_4,
             remainders,
+            is_type,
         }
+    }
+
+    /// Whether the entries are types, as `Tag::is_type` says.
+    #[inline]
+    pub fn is_type(&self) -> bool
+        ensures { result ≡ is_type_tag self.now.tag }
+    {
+        self.is_type
     }
 
     /// Whether the attribute may be one of those declared. False says that it is none; that is known at once.
     #[inline]
-    #[tactic(auto, using(crate::proofs::RemainderLaws::absent))]
     pub fn may_have(&self, attribute: Attribute) -> bool
         ensures { OnFalse result (All (λ spec. spec.attribute ≢ attribute) self.now.attributes.items) }
     {
-        self.remainders & remainder_bit(attribute) != 0
+        has_remainder(self.remainders, attribute)
     }
 
     /// How many bytes the values of an entry have together in version 5, where each form has one size.
