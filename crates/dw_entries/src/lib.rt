@@ -3,6 +3,7 @@
 
 mod context;
 mod entries;
+mod entry_at;
 mod fault;
 mod header;
 mod header_reader;
@@ -25,6 +26,7 @@ mod walk;
 pub use dw_elf::Sections;
 pub use dw_forms::{Attribute, Tag, Value, constants};
 pub use entries::Entries;
+pub use entry_at::EntryAt;
 pub use fault::{Broken, Fault, Section, Stop};
 pub use header::{HeaderKind, UnitHeader, UnitType};
 pub use id::{EntryId, OptionalId};

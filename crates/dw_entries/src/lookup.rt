@@ -1,22 +1,19 @@
 //! What is told of entries and units.
 
-ghost use Rattle.std.specs.Prelude.{◌≡◌, ◌++◌, ◌<◌, ℕ, List, Some, length, slice_get, IfSome, option_map};
-ghost use Rattle.std.specs.List.{flat_map};
+ghost use Rattle.std.specs.Prelude.{◌≡◌, ◌<◌, ℕ, Some, length, slice_get, IfSome, option_map};
 ghost use Rattle.dw_forms.specs.Abbrev.{view as decl_view};
 ghost use Rattle.dw_forms.specs.Value.{view};
-ghost use Rattle.dw_entries.specs.Grammar.{attribute_bytes};
 ghost use Rattle.dw_entries.specs.Entries.{Entry, entries_of, placed};
 ghost use Rattle.dw_entries.specs.Scanned.{units_of};
 ghost use Rattle.dw_entries.specs.Asked.{values_of};
 ghost use Rattle.dw_entries.specs.ValuesLeft.{values_left};
-ghost use Rattle.dw_entries.specs.Lookups.{IsDeclaredIn, declares, nth_of, entry_head, unit_head, value_at_entry};
+ghost use Rattle.dw_entries.specs.Lookups.{IsDeclaredIn, nth_of, entry_head, unit_head, value_at_entry};
 
 use crate::entries::Entries;
 use crate::header::{UnitHeader, UnitType};
-use crate::id::{EntryId, OptionalId};
-use crate::reading::read_code;
+use crate::id::EntryId;
 use crate::values::Values;
-use dw_forms::{Attribute, AttributeSpec, Decl, DeclRow, Tag, Value};
+use dw_forms::{Attribute, Decl, DeclRow, Tag, Value};
 
 /// An entry without its attributes.
 #[derive(Clone, Copy, Debug, PartialEq, Eq)]
@@ -43,23 +40,6 @@ pub struct UnitHead {
     pub first: EntryId,
 }
 
-fn id_of(optional: OptionalId) -> Option<EntryId>
-    ensures { result ≡ optional }
-{
-    match optional.get() {
-        Some(number) => Some(EntryId::new(number)),
-        None => None,
-    }
-}
-
-/// Whether an entry with these attributes has this one.
-#[inline]
-fn declares(specs: &[AttributeSpec], attribute: Attribute) -> bool
-    ensures { result ≡ declares specs.now attribute }
-{
-    specs.iter().any(|spec| spec.attribute == attribute)
-}
-
 impl<'a> Entries<'a> {
     /// The declarations of the units' abbreviation tables, each once, in rows.
     pub fn rows(&self) -> &[DeclRow]
@@ -73,30 +53,7 @@ impl<'a> Entries<'a> {
         requires { id < length (entries_of (units_of self.now.scanned)) }
         ensures { IfSome (slice_get (entries_of (units_of self.now.scanned)) id) (λ e. decl_view result.now ≡ e.head.decl) }
     {
-        let record = self.record(id);
-        let unit = self.units[record.unit as usize];
-        self.tables.get(unit.table).decl(record.decl as usize)
-    }
-
-    /// The bytes of an entry's values, and those behind them.
-    fn value_bytes(&self, id: EntryId) -> &'a [u8]
-        requires { id < length (entries_of (units_of self.now.scanned)) }
-        ensures { IfSome (slice_get (entries_of (units_of self.now.scanned)) id) (λ e. (rest : List ℕ) × (result.now ≡ flat_map attribute_bytes e.head.attributes ++ rest)) }
-    {
-        let record = self.record(id);
-        match read_code(&self.sections.info[record.at as usize..]) {
-            Ok((_, values)) => values,
-            Err(_) => unreachable!(),
-        }
-    }
-
-    /// The header of an entry's unit.
-    fn header_of(&self, id: EntryId) -> UnitHeader
-        requires { id < length (entries_of (units_of self.now.scanned)) }
-        ensures { IfSome (slice_get (entries_of (units_of self.now.scanned)) id) (λ e. IfSome (slice_get (units_of self.now.scanned) e.unit) (λ u. result ≡ u.header)) }
-    {
-        let record = self.record(id);
-        self.units[record.unit as usize].header
+        self.at(id).decl()
     }
 
     /// What is told of an entry besides its attributes.
@@ -104,15 +61,7 @@ impl<'a> Entries<'a> {
         requires { id < length (entries_of (units_of self.now.scanned)) }
         ensures { IfSome (slice_get (entries_of (units_of self.now.scanned)) id) (λ e. result ≡ entry_head e) }
     {
-        let record = self.record(id);
-        Head {
-            offset: record.at,
-            tag: self.decl(id).tag,
-            unit: record.unit as usize,
-            parent: id_of(record.parent),
-            depth: record.depth as usize,
-            next_sibling: id_of(record.next),
-        }
+        self.at(id).head()
     }
 
     /// The entry with this number. Entries are numbered from 0 in rising offset.
@@ -153,13 +102,7 @@ impl<'a> Entries<'a> {
         requires { id < length (entries_of (units_of self.now.scanned)) }
         ensures { IfSome (slice_get (entries_of (units_of self.now.scanned)) id) (λ e. values_left result ≡ values_of e.head) }
     {
-        let header = self.header_of(id);
-        Values {
-            specs: &self.decl(id).attributes,
-            bytes: self.value_bytes(id),
-            version: header.kind.version(),
-            address_size: header.address_size,
-        }
+        self.at(id).values()
     }
 
     /// The value of an entry's attribute, if it has that attribute.
@@ -167,9 +110,6 @@ impl<'a> Entries<'a> {
         requires { id < length (entries_of (units_of self.now.scanned)) }
         ensures { IfSome (slice_get (entries_of (units_of self.now.scanned)) id) (λ e. option_map view result ≡ value_at_entry e attribute) }
     {
-        if !declares(&self.decl(id).attributes, attribute) {
-            return None;
-        }
-        self.values(id).value(attribute)
+        self.at(id).value(attribute)
     }
 }

@@ -1,0 +1,171 @@
+//! One entry, whose declaration and unit are looked up once.
+
+ghost use Rattle.std.specs.Prelude.{◌≡◌, ◌<◌, ◌++◌, ℕ, List, Some, Option, length, slice_get, IfSome, option_map};
+ghost use Rattle.std.specs.List.{flat_map};
+ghost use Rattle.dw_forms.specs.Abbrev.{view as decl_view};
+ghost use Rattle.dw_forms.specs.Value.{view};
+ghost use Rattle.dw_entries.specs.Grammar.{attribute_bytes};
+ghost use Rattle.dw_entries.specs.Entries.{Entry, entries_of};
+ghost use Rattle.dw_entries.specs.Scanned.{records_of, units_of};
+ghost use Rattle.dw_entries.specs.Asked.{values_of};
+ghost use Rattle.dw_entries.specs.ValuesLeft.{values_left};
+ghost use Rattle.dw_entries.specs.Lookups.{declares, entry_head, value_at_entry};
+
+use crate::entries::Entries;
+use crate::header::UnitHeader;
+use crate::id::{EntryId, OptionalId};
+use crate::lookup::Head;
+use crate::reading::read_code;
+use crate::record::Record;
+use crate::values::Values;
+use dw_forms::{Attribute, AttributeSpec, Decl, Tag, Value};
+use std::marker::Model;
+
+/// Whether an entry with these attributes has this one.
+#[inline]
+fn declares(specs: &[AttributeSpec], attribute: Attribute) -> bool
+    ensures { result ≡ declares specs.now attribute }
+{
+    specs.iter().any(|spec| spec.attribute == attribute)
+}
+
+#[inline]
+fn id_of(optional: OptionalId) -> Option<EntryId>
+    ensures { result ≡ optional }
+{
+    match optional.get() {
+        Some(number) => Some(EntryId::new(number)),
+        None => None,
+    }
+}
+
+/// One entry, with its declaration and its unit's header at hand.
+#[derive(Drop)]
+pub struct EntryAt<'e, 'a> {
+    entries: &'e Entries<'a>,
+    id: EntryId,
+    kept: Record,
+    decl: &'e Decl,
+    header: UnitHeader,
+}
+
+impl<'e, 'a> Model for EntryAt<'e, 'a> {
+    ghost Value = { Option Entry };
+
+    ghost view = { λ it. slice_get (entries_of (units_of it.entries.now.scanned)) it.id };
+
+    ghost invariant = { λ it. (it.id < length (entries_of (units_of it.entries.now.scanned)))
+        × (slice_get (records_of (units_of it.entries.now.scanned)) it.id ≡ Some it.kept)
+        × IfSome (slice_get (entries_of (units_of it.entries.now.scanned)) it.id) (λ e. decl_view it.decl.now ≡ e.head.decl)
+        × IfSome (slice_get (entries_of (units_of it.entries.now.scanned)) it.id) (λ e. IfSome (slice_get (units_of it.entries.now.scanned) e.unit) (λ u. it.header ≡ u.header)) };
+}
+
+impl<'a> Entries<'a> {
+    /// The entry with this number.
+    #[inline]
+    pub fn at(&self, id: EntryId) -> EntryAt<'_, 'a>
+        requires { id < length (entries_of (units_of self.now.scanned)) }
+        ensures { result ≡ slice_get (entries_of (units_of self.now.scanned)) id }
+    {
+        let record = self.record(id);
+        let unit = self.units[record.unit as usize];
+        EntryAt {
+            entries: self,
+            id,
+            kept: record,
+            decl: self.tables.get(unit.table).decl(record.decl as usize),
+            header: unit.header,
+        }
+    }
+}
+
+impl<'e, 'a> EntryAt<'e, 'a> {
+    /// Where the entry starts.
+    #[inline]
+    pub fn offset(&self) -> u32
+        ensures { IfSome self.now (λ e. result ≡ e.at) }
+    {
+        self.kept.at
+    }
+
+    #[inline]
+    pub fn tag(&self) -> Tag
+        ensures { IfSome self.now (λ e. result ≡ e.head.decl.tag) }
+    {
+        self.decl.tag
+    }
+
+    /// The number of its unit.
+    #[inline]
+    pub fn unit(&self) -> usize
+        ensures { IfSome self.now (λ e. result ≡ e.unit) }
+    {
+        self.kept.unit as usize
+    }
+
+    #[inline]
+    pub fn parent(&self) -> Option<EntryId>
+        ensures { IfSome self.now (λ e. result ≡ e.parent) }
+    {
+        id_of(self.kept.parent)
+    }
+
+    /// Its declaration.
+    #[inline]
+    pub(crate) fn decl(&self) -> &'e Decl
+        ensures { IfSome self.now (λ e. decl_view result.now ≡ e.head.decl) }
+    {
+        self.decl
+    }
+
+    /// What is told of the entry besides its attributes.
+    #[inline]
+    pub(crate) fn head(&self) -> Head
+        ensures { IfSome self.now (λ e. result ≡ entry_head e) }
+    {
+        Head {
+            offset: self.kept.at,
+            tag: self.decl.tag,
+            unit: self.kept.unit as usize,
+            parent: id_of(self.kept.parent),
+            depth: self.kept.depth as usize,
+            next_sibling: id_of(self.kept.next),
+        }
+    }
+
+    /// The bytes of its values, and those behind them.
+    #[inline]
+    fn value_bytes(&self) -> &'a [u8]
+        ensures { IfSome self.now (λ e. (rest : List ℕ) × (result.now ≡ flat_map attribute_bytes e.head.attributes ++ rest)) }
+    {
+        let entries = self.entries;
+        match read_code(&entries.sections.info[self.kept.at as usize..]) {
+            Ok((_, values)) => values,
+            Err(_) => unreachable!(),
+        }
+    }
+
+    /// Its attributes in their order, each value decoded when it is asked.
+    #[inline]
+    pub(crate) fn values(&self) -> Values<'e, 'a>
+        ensures { IfSome self.now (λ e. values_left result ≡ values_of e.head) }
+    {
+        Values {
+            specs: &self.decl.attributes,
+            bytes: self.value_bytes(),
+            version: self.header.kind.version(),
+            address_size: self.header.address_size,
+        }
+    }
+
+    /// The value of its attribute, if it has that attribute.
+    #[inline]
+    pub fn value(&self, attribute: Attribute) -> Option<Value<'a>>
+        ensures { IfSome self.now (λ e. option_map view result ≡ value_at_entry e attribute) }
+    {
+        if !declares(&self.decl.attributes, attribute) {
+            return None;
+        }
+        self.values().value(attribute)
+    }
+}
