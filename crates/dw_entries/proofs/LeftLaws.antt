@@ -1,7 +1,9 @@
 -- The attributes of an entry that stand in .debug_info, and the value of one of them.
 use Rattle.std.proofs.Common.{◌≡◌, ℕ, List, ◌++◌, map, None, false, sym, ap, subst, ◌∙◌}
-use Rattle.std.specs.Prelude.{slice_get, IfSome}
+use Rattle.std.specs.Prelude.{◌==◌, ◌≢◌, All, slice_get, slice_index_or, IfSome}
 use Rattle.std.specs.List.{flat_map}
+use Rattle.std.proofs.lemmas.Bool.{ne_eqb}
+use Rattle.std.proofs.lemmas.List.Folds.{list_any_none}
 use Rattle.dw_forms.specs.declared.decl.AttributeSpec.{AttributeSpec}
 use Rattle.dw_forms.specs.Abbrev.{Declaration}
 use Rattle.dw_entries.specs.declared.header.UnitHeader.{UnitHeader}
@@ -68,3 +70,7 @@ undeclared {s = s} {id = id} k d attribute of_decl none =
     let decl : d ≡ k.entry.head.decl = from_entry k (λ e. d ≡ e.head.decl) of_decl in
     of_entry k (λ e. None ≡ value_at_entry e attribute)
     (value_of_none (context_of k.stands.unit) k.entry.head.decl.attributes k.entry.head.attributes attribute k.stands.is.attributes (ap (λ (c : Declaration). declares c.attributes attribute) (sym decl) ∙ none))
+
+-- a code that no attribute has is not declared
+pub declares_none : (specs : List AttributeSpec) (attribute : ℕ) → All (λ (spec : AttributeSpec). spec.attribute ≢ attribute) specs → declares specs attribute ≡ false
+declares_none specs attribute none = list_any_none (λ (spec : AttributeSpec). spec.attribute == attribute) specs (λ k d within. ne_eqb (slice_index_or specs k d).attribute attribute (none k d within))

@@ -1,8 +1,10 @@
 //! One entry, whose declaration and unit are looked up once.
 
-ghost use Rattle.std.specs.Prelude.{◌≡◌, ◌<◌, ◌++◌, ℕ, List, Some, Option, length, slice_get, IfSome, option_map};
+ghost use Rattle.std.specs.Prelude.{◌≡◌, ◌<◌, ◌++◌, ℕ, List, false, Some, Option, length, slice_get, IfSome, option_map};
+ghost use Rattle.std.specs.Bool.{OnFalse};
 ghost use Rattle.std.specs.List.{flat_map};
 ghost use Rattle.dw_forms.specs.Abbrev.{view as decl_view};
+ghost use Rattle.dw_forms.specs.Codes.{is_type_tag};
 ghost use Rattle.dw_forms.specs.Value.{view};
 ghost use Rattle.dw_entries.specs.Grammar.{attribute_bytes};
 ghost use Rattle.dw_entries.specs.Entries.{Entry, entries_of};
@@ -18,15 +20,16 @@ use crate::lookup::Head;
 use crate::reading::read_code;
 use crate::record::Record;
 use crate::values::Values;
-use dw_forms::{Attribute, AttributeSpec, Decl, Tag, Value};
+use dw_forms::{Attribute, Decl, Tag, Value};
 use std::marker::Model;
 
-/// Whether an entry with these attributes has this one.
+/// Whether entries with this declaration may have an attribute. False says that none has it.
 #[inline]
-fn declares(specs: &[AttributeSpec], attribute: Attribute) -> bool
-    ensures { result ≡ declares specs.now attribute }
+#[tactic(auto, using(crate::proofs::LeftLaws::declares_none))]
+fn may_have(decl: &Decl, attribute: Attribute) -> bool
+    ensures { OnFalse result (declares decl.now.attributes.items attribute ≡ false) }
 {
-    specs.iter().any(|spec| spec.attribute == attribute)
+    decl.may_have(attribute)
 }
 
 #[inline]
@@ -95,6 +98,14 @@ impl<'e, 'a> EntryAt<'e, 'a> {
         self.decl.tag
     }
 
+    /// Whether it is a type, as `Tag::is_type` says.
+    #[inline]
+    pub fn is_type(&self) -> bool
+        ensures { IfSome self.now (λ e. result ≡ is_type_tag e.head.decl.tag) }
+    {
+        self.decl.is_type()
+    }
+
     /// The number of its unit.
     #[inline]
     pub fn unit(&self) -> usize
@@ -120,7 +131,7 @@ impl<'e, 'a> EntryAt<'e, 'a> {
 
     /// What is told of the entry besides its attributes.
     #[inline]
-    pub(crate) fn head(&self) -> Head
+    pub fn head(&self) -> Head
         ensures { IfSome self.now (λ e. result ≡ entry_head e) }
     {
         Head {
@@ -147,7 +158,7 @@ impl<'e, 'a> EntryAt<'e, 'a> {
 
     /// Its attributes in their order, each value decoded when it is asked.
     #[inline]
-    pub(crate) fn values(&self) -> Values<'e, 'a>
+    pub fn values(&self) -> Values<'e, 'a>
         ensures { IfSome self.now (λ e. values_left result ≡ values_of e.head) }
     {
         Values {
@@ -163,7 +174,7 @@ impl<'e, 'a> EntryAt<'e, 'a> {
     pub fn value(&self, attribute: Attribute) -> Option<Value<'a>>
         ensures { IfSome self.now (λ e. option_map view result ≡ value_at_entry e attribute) }
     {
-        if !declares(&self.decl.attributes, attribute) {
+        if !may_have(self.decl, attribute) {
             return None;
         }
         self.values().value(attribute)

@@ -1,4 +1,3 @@
-use Rattle.std.proofs.Common.{◌≡◌, Bool, true, false, refl}
 use Rattle.dw_forms.proofs.RemainderLaws.{absent_where}
 use Rattle.dw_forms.proofs.decl.Decl.may_have.Goals as goal
 
