@@ -2,7 +2,7 @@
 use Rattle.std.proofs.Common.{◌≡◌, ℕ, zero, suc, ◌+◌, ◌<◌, List, [], ◌∷◌, ◌++◌, length, drop, Option, Some, None, Ok, refl, sym, ap, ◌∙◌, arith, length-append, length-drop, subst, append_assoc, append-nil, drop_at, drop-drop}
 use Rattle.std.specs.Prelude.{slice_get}
 use Rattle.std.specs.List.{flat_map, AllByRecursion}
-use Rattle.dw_entries.specs.Grammar.{Context, declared, Head, head_bytes, attribute_bytes, IsHead}
+use Rattle.dw_entries.specs.Grammar.{Context, declared, head_bytes, attribute_bytes, IsHead}
 use Rattle.dw_entries.specs.Header.{header_size, header_bytes}
 use Rattle.dw_entries.specs.HeaderLaws.{length-header}
 use Rattle.dw_entries.specs.Items.{entry}

@@ -1,8 +1,6 @@
 -- The entries stand in rising offset.
-use Rattle.std.proofs.Common.{◌≡◌, ℕ, zero, suc, ◌+◌, ◌<◌, ◌≤◌, List, [], ◌∷◌, ◌++◌, length, get_or, Option, Some, None, refl, sym, ap, subst, ◌∙◌, arith, length-append, eq-or-lt_of_le, inl, inr, ◌⊎◌}
-use Rattle.std.specs.Prelude.{slice_get, IfSome}
-use Rattle.std.proofs.lemmas.Option.{slice_get_read}
-use Rattle.dw_entries.specs.Scanned.{Scanned, units_of, records_of}
+use Rattle.std.proofs.Common.{ℕ, suc, ◌+◌, ◌≤◌, List, [], ◌∷◌, ◌++◌, length, Option, Some, None, ap, ◌∙◌, arith, length-append}
+use Rattle.dw_entries.specs.Scanned.{Scanned}
 use Rattle.dw_entries.specs.declared.record.Record.{Record}
 use Rattle.dw_entries.specs.declared.record.UnitRecord.{UnitRecord}
 use Rattle.dw_forms.specs.Abbrev.{Declaration}

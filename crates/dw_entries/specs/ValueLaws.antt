@@ -1,9 +1,9 @@
 -- Attributes that stand at the front of some bytes: there is one list of them at most.
-use Rattle.std.proofs.Common.{◌≡◌, ℕ, List, [], ◌∷◌, Ok, refl, sym, ap, ◌∙◌}
+use Rattle.std.proofs.Common.{◌≡◌, ℕ, List, [], ◌∷◌, sym, ap, ◌∙◌}
 use mathlib.Core.HLevel.{Σ_prop_path}
 use Rattle.std.proofs.Props.{props}
 use Rattle.dw_forms.specs.declared.decl.AttributeSpec.{AttributeSpec}
-use Rattle.dw_entries.specs.Grammar.{Context, Attribute, IsAttribute, AreAttributes}
+use Rattle.dw_entries.specs.Grammar.{Context, Attribute, AreAttributes}
 use Rattle.dw_entries.specs.Reading.{attributes_at}
 use Rattle.dw_entries.specs.ReadingLaws.{attributes_again, ok_pair}
 use Rattle.dw_entries.specs.Props.{AreAttributes-prop}

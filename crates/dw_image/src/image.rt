@@ -33,7 +33,7 @@ fn is_type(entries: &Entries<'_>, k: usize) -> bool
     ensures { IfSome (slice_get (entries_of (units_of entries.now.scanned)) k) (λ e. result ≡ is_type_entry e) }
 {
     match entries.nth(k) {
-        Some(id) => entries.head(id).tag.is_type(),
+        Some(id) => entries.at(id).is_type(),
         None => false,
     }
 }

@@ -24,7 +24,7 @@ impl Image<'_> {
         ensures exact { result ≡ type_number (entries_in self.now) id }
         ensures within { IfSome result (λ it. it < length (entries_in self.now)) }
     {
-        if self.entries.head(id).tag.is_type() {
+        if self.entries.at(id).is_type() {
             Some(TypeId::new(id))
         } else {
             None

@@ -62,18 +62,18 @@ pub fn is_permitted(entries: &Entries<'_>, head: &Head, attribute: Attribute, id
     requires { id < length (entries_of (units_of entries.now.scanned)) }
     ensures { (target : Entry) → slice_get (entries_of (units_of entries.now.scanned)) id ≡ Some target → result ≡ permits head.now attribute target }
 {
-    let target = entries.head(id);
+    let target = entries.at(id);
     if attribute == DW_AT_type {
-        return target.tag.is_type();
+        return target.is_type();
     }
     if attribute == DW_AT_specification {
-        return target.offset != head.offset && is_declared_entry(entries, id);
+        return target.offset() != head.offset && is_declared_entry(entries, id);
     }
     if is_signed_by(head, attribute) {
-        return target.tag == head.tag;
+        return target.tag() == head.tag;
     }
     if attribute == DW_AT_import && head.tag == DW_TAG_imported_unit {
-        return matches!(target.tag, DW_TAG_compile_unit | DW_TAG_partial_unit);
+        return matches!(target.tag(), DW_TAG_compile_unit | DW_TAG_partial_unit);
     }
     true
 }

@@ -91,8 +91,9 @@ impl References<'_, '_> {
         ensures target { IfOk result (λ target. IfSome (slice_get (entries_of (units_of self.now.entries.now.scanned)) id) (λ e. target ≡ type_target (entries_of (units_of self.now.entries.now.scanned)) (placed (units_of self.now.entries.now.scanned)) e)) }
         ensures err { IfErr result (FailsAt (entries_of (units_of self.now.entries.now.scanned)) id (AtHead (ReferenceFails (entries_of (units_of self.now.entries.now.scanned)) (placed (units_of self.now.entries.now.scanned))))) }
     {
-        let head = self.entries.head(id);
-        let mut values = self.entries.values(id);
+        let entry = self.entries.at(id);
+        let head = entry.head();
+        let mut values = entry.values();
         let mut kept = None;
         while let Some(item) = values.next_of(DW_AT_type) {
             match self.link_value(&head, item.0, &item.1) {

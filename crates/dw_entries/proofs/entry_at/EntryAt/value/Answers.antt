@@ -1,6 +1,5 @@
-use Rattle.std.proofs.Common.{◌≡◌, false, ℕ, List, sym, ap, ◌∙◌}
+use Rattle.std.proofs.Common.{◌≡◌, false, ℕ, List, ap, ◌∙◌}
 use Rattle.std.proofs.lemmas.Option.{IfSome_then}
-use Rattle.dw_forms.specs.declared.decl.AttributeSpec.{AttributeSpec}
 use Rattle.dw_forms.specs.Abbrev.{view as decl_view}
 use Rattle.dw_forms.specs.Value.{Datum}
 use Rattle.dw_entries.specs.Lookups.{declares, value_in}

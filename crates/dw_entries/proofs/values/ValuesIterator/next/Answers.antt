@@ -1,7 +1,5 @@
-use Rattle.std.proofs.Common.{List, ◌≡◌, ℕ, ◌∙◌, ap, sym, Ok, length, take, drop, ◌-◌}
 use Rattle.dw_forms.specs.Value.{view}
 use Rattle.dw_entries.specs.Values.{value_context}
-use Rattle.dw_entries.proofs.ScanLaws.{rest_of}
 use Rattle.dw_entries.proofs.ValueSteps.{next_left, steps, fewer, never_fails, read_on}
 use Rattle.dw_entries.proofs.values.ValuesIterator.next.Goals as goal
 
