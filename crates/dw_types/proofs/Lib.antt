@@ -9,6 +9,7 @@ pub mod CountLemmas
 pub mod WalkLemmas
 pub mod RankLemmas
 pub mod RankListLemmas
+pub mod MeetLemmas
 pub mod TurnLemmas
 pub mod CycleLemmas
 pub mod EndLemmas

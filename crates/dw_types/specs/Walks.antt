@@ -3,7 +3,7 @@ use Rattle.std.specs.Prelude.{◌≡◌, ◌≢◌, ℕ, ◌+◌, ◌-◌, ◌*�
 use Rattle.dw_types.specs.declared.walk.Mark.{Mark}
 use Rattle.dw_types.specs.declared.walk.Mark.TheVariants.{Fresh, Open, Ranked}
 use Rattle.dw_types.specs.Graphs.{Graph, steps_of, step_at, FollowsSteps, step_count}
-use Rattle.dw_types.specs.WalkStates.{State, mark_of}
+use Rattle.dw_types.specs.WalkStates.{State, mark_of, taken_up, with_rank}
 
 -- marks, counters and ranks have a place for each node
 pub record HasPlaces (graph : Graph) (s : State) : Type 0 where
@@ -74,6 +74,10 @@ pub record IsWalk (graph : Graph) (s : State) : Type 0 where
 -- a node that was taken up is not fresh again
 abbrev pub KeepsTaken : State → State → Type 0
 KeepsTaken old new = (node : ℕ) → mark_of new node ≡ Fresh → mark_of old node ≡ Fresh
+
+-- a fresh node was put on the stack, or ranked at once where it has no steps
+abbrev pub IsMet : Graph → State → ℕ → State → Type 0
+IsMet graph old node new = (new ≡ taken_up old node) ⊎ ((length (steps_of graph node) ≡ 0) × (new ≡ with_rank (taken_up old node) node))
 
 -- how far the turns are from their number, and the stack from empty
 abbrev pub work_left : Graph → State → ℕ

@@ -4,14 +4,14 @@ ghost use Rattle.std.specs.Prelude.{◌≡◌, ◌≢◌, ℕ, ◌+◌, ◌-◌,
 ghost use Rattle.dw_types.specs.Graphs.{steps_of, FollowsSteps, IsStep, IsCycle, HasNoCycle};
 ghost use Rattle.dw_types.specs.OrderFaults.{IsFaultOf};
 ghost use Rattle.dw_types.specs.Orders.{IsOrderOf};
-ghost use Rattle.dw_types.specs.Walks.{IsWalk, KeepsTaken, work_left};
+ghost use Rattle.dw_types.specs.Walks.{IsMet, IsWalk, KeepsTaken, work_left};
 
 use crate::cycle::{place_of, place_of_least, round_from};
 use crate::graph::StepGraph;
 use crate::numbers::Numbers;
 use crate::ranking::{Order, OrderFault};
 use crate::walk::{Mark, Walk};
-use std::alloc::Global;
+use std::alloc::{AllocError, Global};
 
 /// Ranks that fall along each step of a graph, or a cycle in it. Each node is taken up once, and each step
 /// looked at once.
@@ -24,11 +24,26 @@ pub fn order<G: StepGraph>(alloc: Global, graph: &G) -> Result<Order, OrderFault
     let mut walk = Walk::new(alloc, nodes)?;
     for start in 0..nodes {
         if let Mark::Fresh = walk.mark(start) {
-            walk.take_up(start)?;
+            meet_fresh(graph, &mut walk, start)?;
             empty_stack(alloc, graph, &mut walk)?;
         }
     }
     Ok(walk.into_order())
+}
+
+/// Puts a fresh node on the stack. One without steps gets its rank at once instead.
+#[inline]
+fn meet_fresh<G: StepGraph>(graph: &G, walk: &mut Walk, node: usize) -> Result<(), AllocError>
+    requires node_in { node < length (G.graph graph.now) }
+    requires marks { node < length walk.old.marks }
+    requires room { walk.old.turns + 1 < 2 ^ 128 }
+    ensures { OnOk result (IsMet (G.graph graph.now) walk.old node walk.new) }
+{
+    if graph.steps(node) == 0 {
+        walk.rank_fresh(node)
+    } else {
+        walk.take_up(node)
+    }
 }
 
 /// Looks at the steps of the nodes on the stack until each node is ranked.
@@ -70,7 +85,7 @@ fn follow_step<G: StepGraph>(
     let to = graph.step(node, walk.next(node));
     walk.count_step(alloc, node)?;
     match walk.mark(to) {
-        Mark::Fresh => walk.take_up(to)?,
+        Mark::Fresh => meet_fresh(graph, walk, to)?,
         Mark::Open => return Err(OrderFault::Cycle(cycle_to(alloc, graph, walk.stack(), to)?)),
         Mark::Ranked => {}
     }

@@ -96,6 +96,19 @@ impl Walk {
         Ok(())
     }
 
+    /// Gives the next rank to a fresh node at once, as if it had been put on the stack for it.
+    #[inline]
+    pub(crate) fn rank_fresh(&mut self, node: usize) -> Result<(), AllocError>
+        requires node_in { node < length self.old.marks }
+        requires room { self.old.turns + 1 < 2 ^ 128 }
+        ensures { OnOk result (self.new ≡ with_rank (taken_up self.old node) node) }
+    {
+        self.by_rank.push(node)?;
+        self.marks[node] = Mark::Ranked;
+        self.turns += 1;
+        Ok(())
+    }
+
     /// Counts the next step of a node as looked at.
     pub(crate) fn count_step(&mut self, alloc: Global, node: usize) -> Result<(), AllocError>
         requires node_in { node < length self.old.next }

@@ -1,5 +1,4 @@
-use Rattle.std.proofs.Common.{◌≡◌, ◌<◌, length, ap, arith}
-use Rattle.dw_types.specs.Orders.{Ranking}
+use Rattle.std.proofs.Common.{arith}
 use Rattle.dw_types.proofs.RankListLemmas.{length-ranks_listed}
 use Rattle.dw_types.proofs.ranking.Order.rank.Goals as goal
 

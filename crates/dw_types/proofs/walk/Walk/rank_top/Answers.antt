@@ -1,4 +1,4 @@
-use Rattle.std.proofs.Common.{rules, refl}
+use Rattle.std.proofs.Common.{refl}
 use Rattle.dw_types.proofs.RankListLemmas.{ranks_listed-push}
 use Rattle.dw_types.proofs.walk.Walk.rank_top.Goals as goal
 
