@@ -40,6 +40,7 @@ impl Numbers {
     }
 
     /// How many numbers there are.
+    #[inline]
     pub(crate) fn len(&self) -> usize
         ensures { result ≡ length self.now }
     {
@@ -47,6 +48,7 @@ impl Numbers {
     }
 
     /// The number at a place.
+    #[inline]
     pub(crate) fn get(&self, place: usize) -> usize
         requires { place < length self.now }
         ensures { result ≡ slice_index self.now place }
@@ -55,6 +57,7 @@ impl Numbers {
     }
 
     /// The number so many places behind another.
+    #[inline]
     pub(crate) fn get_behind(&self, start: usize, count: usize) -> usize
         requires { start + count < length self.now }
         ensures { result ≡ slice_index self.now (start + count) }
@@ -69,6 +72,7 @@ impl Numbers {
     }
 
     /// Adds a number at the end.
+    #[inline]
     pub(crate) fn push(&mut self, number: usize) -> Result<(), AllocError>
         ensures { OnOk result (self.new ≡ self.old ++ number ∷ []) }
     {
@@ -81,6 +85,7 @@ impl Numbers {
     }
 
     /// Takes the last number away, if there is one.
+    #[inline]
     pub(crate) fn pop(&mut self)
         ensures { self.new ≡ take (length self.old - 1) self.old }
     {
@@ -92,6 +97,7 @@ impl Numbers {
     }
 
     /// The last number, if there is one.
+    #[inline]
     pub(crate) fn last(&self) -> Option<usize>
         ensures { MatchOption result (self.now ≡ []) (λ last. (0 < length self.now) × (slice_index self.now (length self.now - 1) ≡ last)) }
     {
@@ -116,6 +122,7 @@ impl Numbers {
     }
 
     /// Writes a number at a place.
+    #[inline]
     pub(crate) fn set(
         &mut self,
         alloc: Global,
@@ -125,11 +132,19 @@ impl Numbers {
         requires { place < length self.old }
         ensures { OnOk result (self.new ≡ slice_set self.old place number) }
     {
+        if place < self.small.len() && number <= 0xffff_ffff {
+            self.small[place] = number as u32;
+            return Ok(());
+        }
+        self.set_large(alloc, place, number)
+    }
+
+    /// Writes a number in eight bytes at a place. Where four stood there, each number has eight from then on.
+    fn set_large(&mut self, alloc: Global, place: usize, number: usize) -> Result<(), AllocError>
+        requires { place < length self.old }
+        ensures { OnOk result (self.new ≡ slice_set self.old place number) }
+    {
         if place < self.small.len() {
-            if number <= 0xffff_ffff {
-                self.small[place] = number as u32;
-                return Ok(());
-            }
             self.large = self.to_vec(alloc)?;
             self.small = Vec::new(alloc);
         }

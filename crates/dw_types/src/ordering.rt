@@ -55,8 +55,9 @@ fn empty_stack<G: StepGraph>(alloc: Global, graph: &G, walk: &mut Walk) -> Resul
     ensures err { IfErr result (IsFaultOf (G.graph graph.now)) }
 {
     while let Some(node) = walk.top() {
-        if walk.next(node) < graph.steps(node) {
-            follow_step(alloc, graph, walk, node)?;
+        let before = walk.next(node);
+        if before < graph.steps(node) {
+            follow_step(alloc, graph, walk, node, before)?;
         } else {
             walk.rank_top(node)?;
         }
@@ -64,17 +65,19 @@ fn empty_stack<G: StepGraph>(alloc: Global, graph: &G, walk: &mut Walk) -> Resul
     Ok(())
 }
 
-/// Looks at the next step of the node on top of the stack, and takes up the node that it leads to, if that
-/// is fresh.
+/// Looks at the next step of the node on top of the stack, by how many were looked at before, and takes up
+/// the node that it leads to, if that is fresh.
 fn follow_step<G: StepGraph>(
     alloc: Global,
     graph: &G,
     walk: &mut Walk,
     node: usize,
+    before: usize,
 ) -> Result<(), OrderFault>
     requires is_walk { IsWalk (G.graph graph.now) walk.old }
     requires some { 0 < length walk.old.stack }
     requires top { slice_index walk.old.stack (length walk.old.stack - 1) ≡ node }
+    requires before { slice_index walk.old.next node ≡ before }
     requires more { slice_index walk.old.next node < length (steps_of (G.graph graph.now) node) }
     requires fits { length (steps_of (G.graph graph.now) node) < 2 ^ 64 }
     ensures is_walk { OnOk result (IsWalk (G.graph graph.now) walk.new) }
@@ -82,8 +85,8 @@ fn follow_step<G: StepGraph>(
     ensures less { OnOk result (work_left (G.graph graph.now) walk.new < work_left (G.graph graph.now) walk.old) }
     ensures err { IfErr result (IsFaultOf (G.graph graph.now)) }
 {
-    let to = graph.step(node, walk.next(node));
-    walk.count_step(alloc, node)?;
+    let to = graph.step(node, before);
+    walk.count_step(alloc, node, before)?;
     match walk.mark(to) {
         Mark::Fresh => meet_fresh(graph, walk, to)?,
         Mark::Open => return Err(OrderFault::Cycle(cycle_to(alloc, graph, walk.stack(), to)?)),

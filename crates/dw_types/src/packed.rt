@@ -21,6 +21,7 @@ fn step_count<G: StepGraph>(graph: &G) -> usize {
 }
 
 /// Adds the steps at the front that come from a node.
+#[inline]
 fn add_row(kept: &mut Numbers, steps: &[Step], node: usize) -> Result<(), AllocError>
     ensures { OnOk result (kept.new ≡ kept.old ++ map to_of (take_while (is_from node) steps.now)) }
 {
@@ -77,6 +78,7 @@ impl Packed {
     }
 
     /// The place of a node's first step among all.
+    #[inline]
     fn begin(&self, node: usize) -> usize
         requires { node < length self.now.ends }
         ensures { result ≡ begin_of self.now.ends node }
@@ -96,14 +98,17 @@ impl StepGraph for Packed {
 
     ghost leads_to_nodes = { λ it. cut-leads it.steps it.ends it.in_order it.leads };
 
+    #[inline]
     fn nodes(&self) -> usize {
         self.ends.len()
     }
 
+    #[inline]
     fn steps(&self, node: usize) -> usize {
         self.ends.get(node) - self.begin(node)
     }
 
+    #[inline]
     fn step(&self, node: usize, k: usize) -> usize {
         self.steps.get_behind(self.begin(node), k)
     }

@@ -55,6 +55,7 @@ impl Walk {
     }
 
     /// How far it has come with a node.
+    #[inline]
     pub(crate) fn mark(&self, node: usize) -> Mark
         requires { node < length self.now.marks }
         ensures { result ≡ mark_of self.now node }
@@ -63,6 +64,7 @@ impl Walk {
     }
 
     /// How many steps of a node were looked at.
+    #[inline]
     pub(crate) fn next(&self, node: usize) -> usize
         requires { node < length self.now.next }
         ensures { result ≡ slice_index self.now.next node }
@@ -71,6 +73,7 @@ impl Walk {
     }
 
     /// The nodes that were taken up and have no rank yet, each a step from the one before.
+    #[inline]
     pub(crate) fn stack(&self) -> &Numbers
         ensures { result.now ≡ self.now.stack }
     {
@@ -78,6 +81,7 @@ impl Walk {
     }
 
     /// The node on top of the stack.
+    #[inline]
     pub(crate) fn top(&self) -> Option<usize>
         ensures { MatchOption result (self.now.stack ≡ []) (λ node. (0 < length self.now.stack) × (slice_index self.now.stack (length self.now.stack - 1) ≡ node)) }
     {
@@ -85,6 +89,7 @@ impl Walk {
     }
 
     /// Puts a node on the stack.
+    #[inline]
     pub(crate) fn take_up(&mut self, node: usize) -> Result<(), AllocError>
         requires node_in { node < length self.old.marks }
         requires room { self.old.turns + 1 < 2 ^ 128 }
@@ -109,20 +114,27 @@ impl Walk {
         Ok(())
     }
 
-    /// Counts the next step of a node as looked at.
-    pub(crate) fn count_step(&mut self, alloc: Global, node: usize) -> Result<(), AllocError>
+    /// Counts the next step of a node as looked at, by how many were looked at before.
+    #[inline]
+    pub(crate) fn count_step(
+        &mut self,
+        alloc: Global,
+        node: usize,
+        before: usize,
+    ) -> Result<(), AllocError>
         requires node_in { node < length self.old.next }
-        requires step_fits { slice_index self.old.next node + 1 < 2 ^ 64 }
+        requires before { slice_index self.old.next node ≡ before }
+        requires step_fits { before + 1 < 2 ^ 64 }
         requires room { self.old.turns + 1 < 2 ^ 128 }
         ensures { OnOk result (self.new ≡ with_step self.old node) }
     {
-        let step = self.next.get(node) + 1;
-        self.next.set(alloc, node, step)?;
+        self.next.set(alloc, node, before + 1)?;
         self.turns += 1;
         Ok(())
     }
 
     /// Gives the next rank to the node on top of the stack, and takes it off.
+    #[inline]
     pub(crate) fn rank_top(&mut self, node: usize) -> Result<(), AllocError>
         requires marks { node < length self.old.marks }
         requires ranks { node < length self.old.ranks }

@@ -12,7 +12,7 @@ loop-node-preserved g c =
     let sound = c.loop-node.invariant.0 in
     let top : IsTop s node = record { some = c.in-Some.ensures.0; top = c.in-Some.ensures.1 } in
     let within = sound.coherent.counters.within node in
-    let done = rw (c.next.ensures, c.steps.ensures) at c.if-next-steps.false in
+    let done = rw (c.next-before.ensures, c.steps.ensures) at c.if-before-steps.false in
     let all : slice_index s.next node ≡ length (steps_of graph node) = omega arith in
     rw c.in_ok-rank_top.ensures
     (done-walk graph s node sound top all, λ a fresh. c.loop-node.invariant.1 a (done-keeps_taken graph s node sound top all a fresh))

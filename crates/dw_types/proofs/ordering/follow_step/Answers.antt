@@ -23,7 +23,7 @@ returns-clause-is_walk g c =
     let node = c.args.node in
     let top : IsTop s node = record { some = c.requires.some; top = c.requires.top } in
     let to = c.step-to.result in
-    let leads = rw c.next.ensures at c.step-to.ensures in
+    let leads = rw (← c.requires.before) at c.step-to.ensures in
     elim c.match-mark.branch [
       | in-Fresh+in_ok-meet_fresh-in-Fresh w ↦
           let new : mark_of s to ≡ Fresh = sym (rw c.in_ok-count_step.ensures at w.in-Fresh.ensures) in
@@ -43,7 +43,7 @@ returns-clause-less g c =
     let node = c.args.node in
     let top : IsTop s node = record { some = c.requires.some; top = c.requires.top } in
     let to = c.step-to.result in
-    let leads = rw c.next.ensures at c.step-to.ensures in
+    let leads = rw (← c.requires.before) at c.step-to.ensures in
     elim c.match-mark.branch [
       | in-Fresh+in_ok-meet_fresh-in-Fresh w ↦
           let new : mark_of s to ≡ Fresh = sym (rw c.in_ok-count_step.ensures at w.in-Fresh.ensures) in
