@@ -1,5 +1,5 @@
 -- Single facts of an entry, as they are read.
-use Rattle.std.proofs.Common.{◌≡◌, ℕ, ◌<◌, Bool, true, false, if◌then◌else◌, List, length, Option, Some, IfSome, is_some, inl, inr, refl, sym, ap, ◌∙◌, arith}
+use Rattle.std.proofs.Common.{◌≡◌, ℕ, ◌<◌, Bool, true, false, if◌then◌else◌, List, length, Option, None, Some, IfSome, is_some, inl, inr, refl, sym, ap, ◌∙◌, arith}
 use Rattle.std.specs.Prelude.{slice_get}
 use Rattle.std.proofs.lemmas.Option.{IfSome_then, slice_get_cases}
 use Rattle.dw_forms.specs.Codes.{DW_AT_abstract_origin, DW_AT_bit_size, DW_AT_bit_stride, DW_AT_byte_size, DW_AT_byte_stride, DW_AT_count, DW_AT_data_bit_offset, DW_AT_data_member_location, DW_AT_declaration, DW_AT_lower_bound, DW_AT_signature, DW_AT_specification, DW_AT_type, DW_AT_upper_bound}
@@ -18,7 +18,7 @@ use Rattle.dw_types.specs.FactsOf.{facts_at, facts_in, facts_read, facts_unread,
 use Rattle.dw_types.specs.UnitsRead.{unit_facts_at}
 use Rattle.dw_types.proofs.FactsLemmas.{facts-get, facts-offset, facts-parent, facts-tag}
 
-pub by-asked : {X : Type 0} (fact : Facts → X) (asked : Bool) (read unread : Facts) → fact (if asked then read else unread) ≡ (if asked then fact read else fact unread)
+pub by-asked : {A X : Type 0} (fact : A → X) (asked : Bool) (read unread : A) → fact (if asked then read else unread) ≡ (if asked then fact read else fact unread)
 by-asked fact true read unread = refl
 by-asked fact false read unread = refl
 
@@ -99,15 +99,6 @@ module _ (us : List DebugUnit) (id : ℕ) (head : Head) (below : id < length (en
         rw (facts-get (entries_of us) (placed us) id here.0 here.2) (holds here.0 here.2 same)
   ]
 
-  pub offset-here : head.offset ≡ (entry_at (facts_in us) id).offset
-  offset-here = of-entry (λ facts. head.offset ≡ facts.offset) (λ e at same. ap (λ (h : Head). h.offset) same ∙ sym (facts-offset (entries_of us) (placed us) e))
-
-  pub tag-here : head.tag ≡ (entry_at (facts_in us) id).tag
-  tag-here = of-entry (λ facts. head.tag ≡ facts.tag) (λ e at same. ap (λ (h : Head). h.tag) same ∙ sym (facts-tag (entries_of us) (placed us) e))
-
-  pub parent-here : head.parent ≡ (entry_at (facts_in us) id).parent
-  parent-here = of-entry (λ facts. head.parent ≡ facts.parent) (λ e at same. ap (λ (h : Head). h.parent) same ∙ sym (facts-parent (entries_of us) (placed us) e))
-
   module _ {X : Type 0} (fact : Facts → X) (read : Entry → X) (none : X)
       (is : (e : Entry) → fact (facts_at (entries_of us) (placed us) e) ≡ (if is_asked e.head.decl.tag then read e else none)) where
     pub fact-asked : (found : X) → is_asked head.tag ≡ true → IfSome (slice_get (entries_of us) id) (λ e. found ≡ read e) → found ≡ fact (entry_at (facts_in us) id)
@@ -116,26 +107,30 @@ module _ (us : List DebugUnit) (id : ℕ) (head : Head) (below : id < length (en
         let here : found ≡ read e = rw at at known in
         here ∙ sym (is e ∙ ap (λ (b : Bool). if b then read e else none) tag))
 
-    pub fact-unasked : is_asked head.tag ≡ false → none ≡ fact (entry_at (facts_in us) id)
-    fact-unasked unasked = of-entry (λ facts. none ≡ fact facts) (λ e at same.
-        let tag : is_asked e.head.decl.tag ≡ false = ap (λ (h : Head). is_asked h.tag) (sym same) ∙ unasked in
-        sym (is e ∙ ap (λ (b : Bool). if b then read e else none) tag))
+-- what a clause says of the entry with a number is its fact
+pub fact-here : {X : Type 0} (us : List DebugUnit) (id : ℕ) (o : Option Entry) → id < length (entries_of us) → o ≡ slice_get (entries_of us) id → (fact : Facts → X) (read : Entry → X)
+    → ((e : Entry) → fact (facts_at (entries_of us) (placed us) e) ≡ read e) → (found : X) → IfSome o (λ e. found ≡ read e) → found ≡ fact (entry_at (facts_in us) id)
+fact-here us id o below there fact read is found known = elim (slice_get_cases (entries_of us) id).1 [
+  | inr over ↦ absurd (omega (arith, over.0))
+  | inl here ↦
+      let same : found ≡ read here.0 = rw (there ∙ here.2) at known in
+      rw (facts-get (entries_of us) (placed us) id here.0 here.2) (same ∙ sym (is here.0))
+]
 
--- a flag that is true, and all else is not
-pub flag-read : (us : List DebugUnit) (id : ℕ) (found : Bool) (o : Option Datum) → found ≡ is_true o → IfSome (slice_get (entries_of us) id) (λ e. o ≡ value_at_entry e DW_AT_declaration)
-    → IfSome (slice_get (entries_of us) id) (λ e. found ≡ is_declared e)
-flag-read us id found o same is = IfSome_then (slice_get (entries_of us) id) is (λ e h. same ∙ ap is_true h)
+-- what is read of a type or a member
+module _ {X : Type 0} (o : Option Entry) (tag : ℕ) (is_tag : IfSome o (λ e. tag ≡ e.head.decl.tag)) (read : Entry → X) (none : X) where
+  pub asked-read : is_asked tag ≡ true → (found : X) → IfSome o (λ e. found ≡ read e) → IfSome o (λ e. found ≡ (if is_asked e.head.decl.tag then read e else none))
+  asked-read asked found known = both o is_tag known
+    where
+      both : (o : Option Entry) → IfSome o (λ e. tag ≡ e.head.decl.tag) → IfSome o (λ e. found ≡ read e) → IfSome o (λ e. found ≡ (if is_asked e.head.decl.tag then read e else none))
+      both None t k = tt
+      both (Some e) t k = k ∙ sym (ap (λ (b : Bool). if b then read e else none) (ap is_asked (sym t) ∙ asked))
+
+  pub unasked-read : is_asked tag ≡ false → IfSome o (λ e. none ≡ (if is_asked e.head.decl.tag then read e else none))
+  unasked-read unasked = IfSome_then o is_tag (λ e t. sym (ap (λ (b : Bool). if b then read e else none) (ap is_asked (sym t) ∙ unasked)))
 
 -- where an attribute leads, as a number
-pub target-read : (us : List DebugUnit) (id attribute : ℕ) (found o : Option ℕ) → found ≡ o → IfSome (slice_get (entries_of us) id) (λ e. o ≡ target_of (entries_of us) (placed us) e attribute)
-    → IfSome (slice_get (entries_of us) id) (λ e. found ≡ target_of (entries_of us) (placed us) e attribute)
-target-read us id attribute found o same is = IfSome_then (slice_get (entries_of us) id) is (λ e h. same ∙ h)
-
--- an attribute that is there
-pub presence-read : (us : List DebugUnit) (id attribute : ℕ) (found : Bool) (o : Option Datum) → found ≡ is_some o → IfSome (slice_get (entries_of us) id) (λ e. o ≡ value_at_entry e attribute)
-    → IfSome (slice_get (entries_of us) id) (λ e. found ≡ is_some (value_at_entry e attribute))
-presence-read us id attribute found o same is = IfSome_then (slice_get (entries_of us) id) is (λ e h. same ∙ ap (λ (v : Option Datum). is_some v) h)
-
--- the unit of the entry
-pub head-unit-is : (us : List DebugUnit) (id : ℕ) (head : Head) → IfSome (slice_get (entries_of us) id) (λ e. head ≡ entry_head e) → IfSome (slice_get (entries_of us) id) (λ e. head.unit ≡ e.unit)
-head-unit-is us id head is = IfSome_then (slice_get (entries_of us) id) is (λ e h. ap (λ (x : Head). x.unit) h)
+pub target-read : (o : Option Entry) (found target : Option ℕ) (read : Entry → Option ℕ) → IfSome o (λ e. found ≡ (if is_asked e.head.decl.tag then target else None)) → IfSome o (λ e. target ≡ read e)
+    → IfSome o (λ e. found ≡ (if is_asked e.head.decl.tag then read e else None))
+target-read None found target read asked exact = tt
+target-read (Some e) found target read asked exact = asked ∙ ap (λ (t : Option ℕ). if is_asked e.head.decl.tag then t else None) exact

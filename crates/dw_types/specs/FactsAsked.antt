@@ -1,5 +1,6 @@
 -- Single facts of an entry, each read when it is asked (DWARF 5, chapter 5).
 use Rattle.std.specs.Prelude.{◌≡◌, ℕ, Bool, false, List, Option, None, is_some, if◌then◌else◌}
+use Rattle.dw_forms.specs.Value.{Datum}
 use Rattle.dw_entries.specs.Entries.{Entry, PlacedUnit}
 use Rattle.dw_entries.specs.Lookups.{value_at_entry}
 use Rattle.dw_links.specs.Targets.{target_of}
@@ -7,6 +8,10 @@ use Rattle.dw_types.specs.declared.constant.Constant.{Constant}
 use Rattle.dw_types.specs.declared.constant.Constant.TheVariants.{Absent}
 use Rattle.dw_types.specs.declared.facts.Facts.{Facts}
 use Rattle.dw_types.specs.FactsOf.{constant_at, facts_at, is_asked}
+
+-- the value of an attribute of a type or a member, if it has that attribute
+abbrev pub asked_value : Entry → (attribute : ℕ) → Option Datum
+asked_value e attribute = if is_asked e.head.decl.tag then value_at_entry e attribute else None
 
 -- what stands under an attribute of a type or a member; nothing does at any other entry
 abbrev pub asked_constant : Entry → (attribute : ℕ) → Constant

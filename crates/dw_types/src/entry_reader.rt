@@ -1,33 +1,56 @@
 //! The facts of one entry, each read from .debug_info when it is asked.
 
-ghost use Rattle.std.specs.Prelude.{◌≡◌, ◌<◌, ℕ, Bool, Option, Some, length, slice_get, option_map, IfSome};
+ghost use Rattle.std.specs.Prelude.{◌≡◌, ◌<◌, ℕ, Bool, Option, None, Some, length, slice_get, option_map, IfSome, if◌then◌else◌};
 ghost use Rattle.dw_forms.specs.Value.{view};
 ghost use Rattle.dw_entries.specs.Entries.{entries_of};
-ghost use Rattle.dw_entries.specs.Lookups.{entry_head};
 ghost use Rattle.dw_entries.specs.Scanned.{units_of};
 ghost use Rattle.dw_links.specs.References.{is_true};
 ghost use Rattle.dw_types.specs.declared.constant.Constant.{Constant as ConstantOf};
 ghost use Rattle.dw_types.specs.declared.facts.Facts.{Facts as FactsOf};
 ghost use Rattle.dw_types.specs.Entries.{entry_at};
-ghost use Rattle.dw_types.specs.FactsAsked.{IsConstantAt, IsPresenceOf, IsTargetOf};
+ghost use Rattle.dw_types.specs.FactsAsked.{IsConstantAt, IsPresenceOf, IsTargetOf, asked_value};
 ghost use Rattle.dw_types.specs.FactsOf.{facts_in, is_asked};
 ghost use Rattle.dw_types.specs.UnitsRead.{all_unit_facts};
 
 use crate::constant::Constant;
 use crate::facts_reader::{UnitFacts, number_of};
 use dw_entries::constants::*;
-use dw_entries::{Attribute, Entries, EntryId, Head, Value};
+use dw_entries::{Attribute, Entries, EntryAt, EntryId, Value};
 use dw_links::Links;
 use std::marker::Model;
 
 /// Whether the rules on types look at entries with this tag: types and members.
+#[inline]
 fn is_asked(tag: Tag) -> bool
     ensures { result ≡ is_asked tag }
 {
     tag.is_type() || tag == DW_TAG_member
 }
 
+/// The value of an entry's attribute, if it has that attribute and the rules on types look at the entry.
+#[inline]
+fn asked_value<'a>(entry: &EntryAt<'_, 'a>, attribute: Attribute) -> Option<Value<'a>>
+    ensures { IfSome entry.now (λ e. option_map view result ≡ asked_value e attribute) }
+{
+    match entry.value(attribute) {
+        Some(value) => if is_asked(entry.tag()) { Some(value) } else { None },
+        None => None,
+    }
+}
+
+/// The number of the entry that an attribute of an entry reaches, if the rules on types look at the entry.
+#[inline]
+fn asked_target(entry: &EntryAt<'_, '_>, target: Option<EntryId>) -> Option<usize>
+    ensures { IfSome entry.now (λ e. result ≡ if is_asked e.head.decl.tag then target else None) }
+{
+    match target {
+        Some(id) => if is_asked(entry.tag()) { Some(id.number()) } else { None },
+        None => None,
+    }
+}
+
 /// Whether a flag is there and true.
+#[inline]
 fn is_true(value: Option<Value<'_>>) -> bool
     ensures { result ≡ is_true (option_map view value.entry) }
 {
@@ -38,6 +61,7 @@ fn is_true(value: Option<Value<'_>>) -> bool
 }
 
 /// What is read of the unit with a number.
+#[inline]
 fn unit_at(units: &[UnitFacts], number: usize) -> UnitFacts
     requires { number < length units.now }
     ensures { slice_get units.now number ≡ Some result }
@@ -49,26 +73,25 @@ fn unit_at(units: &[UnitFacts], number: usize) -> UnitFacts
 /// decodes no value under another attribute.
 #[derive(Drop)]
 pub(crate) struct EntryReader<'e, 'r, 'a> {
-    entries: &'e Entries<'a>,
+    entry: EntryAt<'e, 'a>,
     links: &'e Links<'r, 'a>,
     units: &'e [UnitFacts],
     id: EntryId,
-    head: Head,
 }
 
 impl<'e, 'r, 'a> Model for EntryReader<'e, 'r, 'a> {
     ghost Value = { FactsOf };
 
-    ghost view = { λ it. entry_at (facts_in (units_of it.entries.now.scanned)) it.id };
+    ghost view = { λ it. entry_at (facts_in (units_of it.links.now.entries.now.scanned)) it.id };
 
-    ghost invariant = { λ it. (it.id < length (entries_of (units_of it.entries.now.scanned)))
-        × IfSome (slice_get (entries_of (units_of it.entries.now.scanned)) it.id) (λ e. it.head ≡ entry_head e)
-        × (it.units.now ≡ all_unit_facts (units_of it.entries.now.scanned))
-        × (units_of it.links.now.entries.now.scanned ≡ units_of it.entries.now.scanned) };
+    ghost invariant = { λ it. (it.id < length (entries_of (units_of it.links.now.entries.now.scanned)))
+        × (it.entry ≡ slice_get (entries_of (units_of it.links.now.entries.now.scanned)) it.id)
+        × (it.units.now ≡ all_unit_facts (units_of it.links.now.entries.now.scanned)) };
 }
 
 impl<'e, 'r, 'a> EntryReader<'e, 'r, 'a> {
     /// The entry with this number. The links and what is read of units are those of the same entries.
+    #[inline]
     pub(crate) fn new(
         entries: &'e Entries<'a>,
         links: &'e Links<'r, 'a>,
@@ -80,71 +103,69 @@ impl<'e, 'r, 'a> EntryReader<'e, 'r, 'a> {
         requires links { units_of links.now.entries.now.scanned ≡ units_of entries.now.scanned }
         ensures { result ≡ entry_at (facts_in (units_of entries.now.scanned)) id }
     {
-        let head = entries.head(id);
         EntryReader {
-            entries,
+            entry: entries.at(id),
             links,
             units,
             id,
-            head,
         }
     }
 
     /// Where the entry starts.
+    #[inline]
     pub(crate) fn offset(&self) -> u32
         ensures { result ≡ self.now.offset }
     {
-        self.head.offset
+        self.entry.offset()
     }
 
+    #[inline]
     pub(crate) fn tag(&self) -> Tag
         ensures { result ≡ self.now.tag }
     {
-        self.head.tag
+        self.entry.tag()
     }
 
     /// The number of its parent.
+    #[inline]
     pub(crate) fn parent(&self) -> Option<usize>
         ensures { result ≡ self.now.parent }
     {
-        number_of(self.head.parent)
+        number_of(self.entry.parent())
     }
 
     /// What stands under an attribute.
+    #[inline]
     fn constant(&self, attribute: Attribute) -> Constant
         ensures { (fact : FactsOf → ConstantOf) → IsConstantAt attribute fact → result ≡ fact self.now }
     {
-        if is_asked(self.head.tag) {
-            Constant::read(self.entries, self.id, attribute)
-        } else {
-            Constant::Absent
-        }
+        Constant::of_value(asked_value(&self.entry, attribute))
     }
 
     /// Whether an attribute is there.
+    #[inline]
     fn has(&self, attribute: Attribute) -> bool
         ensures { (fact : FactsOf → Bool) → IsPresenceOf attribute fact → result ≡ fact self.now }
     {
-        is_asked(self.head.tag) && self.entries.value(self.id, attribute).is_some()
+        asked_value(&self.entry, attribute).is_some()
     }
 
     /// The number of the entry that an attribute reaches.
+    #[inline]
     fn target(&self, attribute: Attribute) -> Option<usize>
         ensures { (fact : FactsOf → Option ℕ) → IsTargetOf attribute fact → result ≡ fact self.now }
     {
-        if !is_asked(self.head.tag) {
-            return None;
-        }
-        number_of(self.links.target(self.id, attribute))
+        asked_target(&self.entry, self.links.target(self.id, attribute))
     }
 
     /// What is read of its unit, and nothing at an entry that is no type and no member.
+    #[inline]
     fn unit(&self) -> UnitFacts
         ensures address_size { result.address_size ≡ self.now.address_size }
         ensures language { result.language ≡ self.now.language }
     {
-        if is_asked(self.head.tag) {
-            unit_at(self.units, self.head.unit)
+        if is_asked(self.entry.tag()) {
+            unit_at(self.units, self.entry.unit())
         } else {
             UnitFacts {
                 address_size: 0,
@@ -154,17 +175,15 @@ impl<'e, 'r, 'a> EntryReader<'e, 'r, 'a> {
     }
 
     /// Whether DW_AT_declaration is true.
+    #[inline]
     pub(crate) fn declared(&self) -> bool
         ensures { result ≡ self.now.declared }
     {
-        if is_asked(self.head.tag) {
-            is_true(self.entries.value(self.id, DW_AT_declaration))
-        } else {
-            false
-        }
+        is_true(asked_value(&self.entry, DW_AT_declaration))
     }
 
     /// The number of the entry that DW_AT_type reaches, which is kept since the links were made.
+    #[inline]
     pub(crate) fn type_target(&self) -> Option<usize>
         ensures { result ≡ self.now.type_target }
     {
@@ -172,18 +191,21 @@ impl<'e, 'r, 'a> EntryReader<'e, 'r, 'a> {
     }
 
     /// The number of the entry that DW_AT_signature reaches.
+    #[inline]
     pub(crate) fn signature_target(&self) -> Option<usize>
         ensures { result ≡ self.now.signature_target }
     {
         self.target(DW_AT_signature)
     }
 
+    #[inline]
     pub(crate) fn has_specification(&self) -> bool
         ensures { result ≡ self.now.has_specification }
     {
         self.has(DW_AT_specification)
     }
 
+    #[inline]
     pub(crate) fn has_abstract_origin(&self) -> bool
         ensures { result ≡ self.now.has_abstract_origin }
     {
@@ -191,6 +213,7 @@ impl<'e, 'r, 'a> EntryReader<'e, 'r, 'a> {
     }
 
     /// How many bytes an address has in its unit.
+    #[inline]
     pub(crate) fn address_size(&self) -> u8
         ensures { result ≡ self.now.address_size }
     {
@@ -198,60 +221,70 @@ impl<'e, 'r, 'a> EntryReader<'e, 'r, 'a> {
     }
 
     /// DW_AT_language of the first entry of its unit.
+    #[inline]
     pub(crate) fn language(&self) -> Constant
         ensures { result ≡ self.now.language }
     {
         self.unit().language
     }
 
+    #[inline]
     pub(crate) fn byte_size(&self) -> Constant
         ensures { result ≡ self.now.byte_size }
     {
         self.constant(DW_AT_byte_size)
     }
 
+    #[inline]
     pub(crate) fn bit_size(&self) -> Constant
         ensures { result ≡ self.now.bit_size }
     {
         self.constant(DW_AT_bit_size)
     }
 
+    #[inline]
     pub(crate) fn byte_stride(&self) -> Constant
         ensures { result ≡ self.now.byte_stride }
     {
         self.constant(DW_AT_byte_stride)
     }
 
+    #[inline]
     pub(crate) fn bit_stride(&self) -> Constant
         ensures { result ≡ self.now.bit_stride }
     {
         self.constant(DW_AT_bit_stride)
     }
 
+    #[inline]
     pub(crate) fn count(&self) -> Constant
         ensures { result ≡ self.now.count }
     {
         self.constant(DW_AT_count)
     }
 
+    #[inline]
     pub(crate) fn lower_bound(&self) -> Constant
         ensures { result ≡ self.now.lower_bound }
     {
         self.constant(DW_AT_lower_bound)
     }
 
+    #[inline]
     pub(crate) fn upper_bound(&self) -> Constant
         ensures { result ≡ self.now.upper_bound }
     {
         self.constant(DW_AT_upper_bound)
     }
 
+    #[inline]
     pub(crate) fn data_member_location(&self) -> Constant
         ensures { result ≡ self.now.data_member_location }
     {
         self.constant(DW_AT_data_member_location)
     }
 
+    #[inline]
     pub(crate) fn data_bit_offset(&self) -> Constant
         ensures { result ≡ self.now.data_bit_offset }
     {

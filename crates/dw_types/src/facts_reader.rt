@@ -7,13 +7,14 @@ use dw_entries::constants::*;
 use dw_entries::{Attribute, Entries, EntryId, Value};
 
 impl Constant {
-    ghost use Rattle.std.specs.Prelude.{◌≡◌, ◌<◌, length, slice_get, IfSome};
+    ghost use Rattle.std.specs.Prelude.{◌≡◌, ◌<◌, length, slice_get, option_map, IfSome};
     ghost use Rattle.dw_entries.specs.Entries.{entries_of};
     ghost use Rattle.dw_entries.specs.Scanned.{units_of};
     ghost use Rattle.dw_forms.specs.Value.{view};
-    ghost use Rattle.dw_types.specs.FactsOf.{constant_at, constant_in};
+    ghost use Rattle.dw_types.specs.FactsOf.{constant_at, constant_in, constant_of};
 
     /// What a value is as a number.
+    #[inline]
     fn of(value: &Value<'_>) -> Constant
         ensures { result ≡ constant_in (view value.now) }
     {
@@ -24,15 +25,23 @@ impl Constant {
         }
     }
 
+    /// What stands under an attribute that has this value, if it is there.
+    #[inline]
+    pub(crate) fn of_value(value: Option<Value<'_>>) -> Constant
+        ensures { result ≡ constant_of (option_map view value.entry) }
+    {
+        match value {
+            Some(value) => Constant::of(&value),
+            None => Constant::Absent,
+        }
+    }
+
     /// What stands under an attribute of an entry.
     pub(crate) fn read(entries: &Entries<'_>, id: EntryId, attribute: Attribute) -> Constant
         requires { id < length (entries_of (units_of entries.now.scanned)) }
         ensures { IfSome (slice_get (entries_of (units_of entries.now.scanned)) id) (λ e. result ≡ constant_at e attribute) }
     {
-        match entries.value(id, attribute) {
-            Some(value) => Constant::of(&value),
-            None => Constant::Absent,
-        }
+        Constant::of_value(entries.value(id, attribute))
     }
 }
 
@@ -65,6 +74,7 @@ impl UnitFacts {
 }
 
 /// The number of an entry that is named, if one is.
+#[inline]
 pub(crate) fn number_of(id: Option<EntryId>) -> Option<usize>
     ensures { result ≡ id }
 {

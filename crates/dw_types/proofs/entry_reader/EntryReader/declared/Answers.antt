@@ -1,22 +1,19 @@
-use Rattle.std.proofs.Common.{false, sym, ◌∙◌}
-use Rattle.dw_entries.specs.Entries.{entries_of, placed}
+use Rattle.std.proofs.Common.{None, false, if◌then◌else◌, ap, ◌∙◌}
+use Rattle.std.proofs.lemmas.Option.{IfSome_then}
+use Rattle.dw_forms.specs.Codes.{DW_AT_declaration}
+use Rattle.dw_entries.specs.Entries.{Entry, entries_of, placed}
+use Rattle.dw_entries.specs.Lookups.{value_at_entry}
 use Rattle.dw_entries.specs.Scanned.{units_of}
-use Rattle.dw_links.specs.References.{is_declared}
+use Rattle.dw_links.specs.References.{is_declared, is_true}
 use Rattle.dw_types.specs.declared.facts.Facts.{Facts}
-use Rattle.dw_types.proofs.ReaderLemmas.{declared-is, fact-asked, fact-unasked, flag-read}
+use Rattle.dw_types.specs.FactsOf.{is_asked}
+use Rattle.dw_types.proofs.ReaderLemmas.{by-asked, declared-is, fact-here}
 use Rattle.dw_types.proofs.entry_reader.EntryReader.declared.Goals as goal
 
-pub returns-then-is_asked : goal.returns-then-is_asked
-returns-then-is_asked c =
+pub returns : goal.returns
+returns c =
     let it = c.self.inside in
-    let us = units_of it.entries.now.scanned in
+    let us = units_of it.links.now.entries.now.scanned in
     rw (← c.self.view_is)
-    (fact-asked us it.id it.head c.self.invariant.0 c.self.invariant.1 (λ (facts : Facts). facts.declared) is_declared false (declared-is (entries_of us) (placed us)) c.is_true.result (sym c.is_asked.ensures ∙ c.if-is_asked.true)
-    (flag-read us it.id c.is_true.result _ c.is_true.ensures c.value.ensures))
-
-pub returns-else-is_asked : goal.returns-else-is_asked
-returns-else-is_asked c =
-    let it = c.self.inside in
-    let us = units_of it.entries.now.scanned in
-    rw (← c.self.view_is)
-    (fact-unasked us it.id it.head c.self.invariant.0 c.self.invariant.1 (λ (facts : Facts). facts.declared) is_declared false (declared-is (entries_of us) (placed us)) (sym c.is_asked.ensures ∙ c.if-is_asked.false))
+    (fact-here us it.id it.entry c.self.invariant.0 c.self.invariant.1 (λ (facts : Facts). facts.declared) (λ (e : Entry). if is_asked e.head.decl.tag then is_declared e else false) (declared-is (entries_of us) (placed us)) c.is_true.result
+    (IfSome_then it.entry c.asked_value.ensures (λ e h. c.is_true.ensures ∙ ap is_true h ∙ by-asked is_true (is_asked e.head.decl.tag) (value_at_entry e DW_AT_declaration) None)))
