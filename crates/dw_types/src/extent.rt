@@ -8,6 +8,7 @@ ghost use Rattle.dw_types.specs.SizeTables.{size_at};
 use crate::entry_reader::EntryReader;
 use crate::kind::Role;
 use crate::size_table::SizeTable;
+use dw_entries::constants::*;
 
 /// Whether so many bits from a bit on end past some bytes, or one of the numbers is negative.
 fn bits_end_past(bytes: u64, size: Option<u64>, start: Option<u64>) -> bool
@@ -53,11 +54,11 @@ impl EntryReader<'_, '_, '_> {
         ensures { result ≡ ends_past bytes self.now size }
     {
         let bit_size = self.bit_size();
-        if bit_size.number().is_some() && self.data_bit_offset().number().is_some() {
-            return bits_end_past(bytes, bit_size.natural(), self.data_bit_offset().natural());
-        }
         if bit_size.is_present() {
-            return false;
+            let offset = self.data_bit_offset();
+            return bit_size.number().is_some()
+                && offset.number().is_some()
+                && bits_end_past(bytes, bit_size.natural(), offset.natural());
         }
         match (self.start(), size) {
             (Some(start), Some(size)) => end_past(bytes, start, size),
@@ -66,17 +67,18 @@ impl EntryReader<'_, '_, '_> {
     }
 
     /// Whether the entry, whose parent is this to it, is a plain member that ends outside its container,
-    /// by the sizes of the container and of the entry's type.
+    /// by the sizes of the container and of the entry's type. Whether it is declared is asked last.
     pub(crate) fn is_outside(&self, parent: Role, sizes: &SizeTable) -> bool
         requires container_in { (node : ℕ) → self.now.parent ≡ Some node → node < length sizes.now }
         requires type_in { (node : ℕ) → self.now.type_target ≡ Some node → node < length sizes.now }
         ensures { result ≡ is_outside parent self.now (size_to (size_at sizes.now) self.now.parent) (size_to (size_at sizes.now) self.now.type_target) }
     {
-        if !self.is_plain(parent) {
+        if !matches!(self.tag(), DW_TAG_member) || !parent.is_members() {
             return false;
         }
         match sizes.get_to(self.parent()) {
-            Some(bytes) => self.ends_past(bytes, sizes.get_to(self.type_target())),
+            Some(bytes) => self.ends_past(bytes, sizes.get_to(self.type_target()))
+                && !self.declared(),
             None => false,
         }
     }
