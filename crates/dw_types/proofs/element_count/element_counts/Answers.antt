@@ -8,6 +8,16 @@ use Rattle.dw_types.proofs.ElementCountLemmas.{HasElementCounts, counted-parent,
 use Rattle.dw_types.proofs.element_count.element_counts.Goals as goal
 use Rattle.dw_types.proofs.element_count.element_counts.Goals.{in-Some+in_ok-set-in-Some, in-None}
 
+pub get-requires : goal.get-requires
+get-requires c =
+    let entries = c.args.entries.now in
+    let is = counted-parent _ (entry_at entries c.loop-child.child).parent c.in-Some.parent (rw (c.counted_parent.ensures, c.at-entry.ensures) at c.in-Some.is) in
+    let first = c.requires c.loop-child.child c.in-Some.parent is in
+    let end = c.count-child-end.ensures in
+    let below = c.loop-child-test.true in
+    let long = c.loop-child.invariant.long in
+    omega arith
+
 pub set-requires-clause-node : goal.set-requires-clause-node
 set-requires-clause-node c =
     let entries = c.args.entries.now in
