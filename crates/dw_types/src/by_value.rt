@@ -27,6 +27,7 @@ use std::alloc::Global;
 
 impl EntryReader<'_, '_, '_> {
     /// The step that the entry makes to its type.
+    #[inline]
     fn type_step(&self) -> Option<usize>
         ensures step { option_to_list result ≡ targets_if (passes_type_on self.now) self.now.type_target }
         ensures named { (to : ℕ) → result ≡ Some to → self.now.type_target ≡ Some to }
@@ -39,6 +40,7 @@ impl EntryReader<'_, '_, '_> {
     }
 
     /// The step that the entry makes by its signature.
+    #[inline]
     fn signature_step(&self) -> Option<usize>
         ensures step { option_to_list result ≡ targets_if (is_declared_type self.now) self.now.signature_target }
         ensures named { (to : ℕ) → result ≡ Some to → self.now.signature_target ≡ Some to }
@@ -52,6 +54,7 @@ impl EntryReader<'_, '_, '_> {
 }
 
 /// The structure or union of which an entry is a plain member, and the entry's type.
+#[inline]
 fn member_of(
     entries: &EntryFacts<'_, '_>,
     child: usize,

@@ -95,6 +95,7 @@ fn known_natural(count: Option<i128>) -> Option<u128>
 
 impl EntryReader<'_, '_, '_> {
     /// Whether the entry, whose parent is this to it, is a dimension of an array.
+    #[inline]
     pub(crate) fn is_dimension(&self, parent: Role) -> bool
         ensures { result ≡ is_dimension parent self.now }
     {
@@ -102,6 +103,7 @@ impl EntryReader<'_, '_, '_> {
     }
 
     /// The count of a dimension, which may be below 0, if it is known.
+    #[inline]
     pub(crate) fn known_count(&self) -> Option<i128>
         ensures { result ≡ count_of self.now }
     {
@@ -114,6 +116,7 @@ impl EntryReader<'_, '_, '_> {
     }
 
     /// The count of a dimension, if it is known and 0 or more.
+    #[inline]
     pub(crate) fn natural_count(&self) -> Option<u128>
         ensures { result ≡ known_natural (count_of self.now) }
     {

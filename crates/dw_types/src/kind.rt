@@ -51,6 +51,7 @@ impl Role {
 
 impl EntryReader<'_, '_, '_> {
     /// The kind of the entry.
+    #[inline]
     pub(crate) fn kind(&self) -> Kind
         ensures { result ≡ kind_of self.now }
     {
@@ -91,6 +92,7 @@ impl EntryReader<'_, '_, '_> {
     }
 
     /// What the entry is to its children.
+    #[inline]
     pub(crate) fn role(&self) -> Role
         ensures { result ≡ role_of self.now }
     {
@@ -104,6 +106,7 @@ impl EntryReader<'_, '_, '_> {
     }
 
     /// Whether it is a typedef, const, volatile, restrict, atomic, array or enumeration.
+    #[inline]
     pub(crate) fn passes_type_on(&self) -> bool
         ensures { result ≡ passes_type_on self.now }
     {
@@ -120,6 +123,7 @@ impl EntryReader<'_, '_, '_> {
     }
 
     /// Whether it is a structure or union that is not declared.
+    #[inline]
     pub(crate) fn has_members(&self) -> bool
         ensures { result ≡ has_members self.now }
     {
@@ -127,6 +131,7 @@ impl EntryReader<'_, '_, '_> {
     }
 
     /// Whether it is a declared structure, union or enumeration.
+    #[inline]
     pub(crate) fn is_declared_type(&self) -> bool
         ensures { result ≡ is_declared_type self.now }
     {
@@ -137,6 +142,7 @@ impl EntryReader<'_, '_, '_> {
     }
 
     /// Whether it is an array.
+    #[inline]
     pub(crate) fn is_array(&self) -> bool
         ensures { result ≡ is_array self.now }
     {
@@ -144,6 +150,7 @@ impl EntryReader<'_, '_, '_> {
     }
 
     /// Whether it is an enumeration that is not declared.
+    #[inline]
     pub(crate) fn is_enumeration(&self) -> bool
         ensures { result ≡ is_enumeration self.now }
     {

@@ -36,6 +36,7 @@ impl Roles {
     }
 
     /// Adds the next entry's.
+    #[inline]
     pub(crate) fn push(&mut self, entry: &EntryReader<'_, '_, '_>) -> Result<(), AllocError>
         ensures { OnOk result (self.new ≡ self.old ++ role_of entry.now ∷ []) }
     {
