@@ -18,6 +18,7 @@ pub mod CapLemmas
 pub mod StepLemmas
 pub mod StepListLemmas
 pub mod StepPackingLemmas
+pub mod StepPlaceLemmas
 pub mod RowLemmas
 pub mod RoleLemmas
 pub mod FirstLemmas

@@ -133,8 +133,7 @@ impl ByValue {
         ensures sound { OnOk result (HasNone (ShapeFailures entries.now)) }
         ensures fault { IfErr result (IfFault (IsFirst (ShapeFailures entries.now))) }
     {
-        let mut steps = steps_of(alloc, entries)?;
-        Step::sort(&mut steps)?;
+        let steps = steps_of(alloc, entries)?;
         let packed = Packed::of_steps(alloc, entries.count(), steps.as_slice())?;
         Ok(ByValue { packed })
     }

@@ -1,10 +1,8 @@
 //! A graph in two vectors.
 
-ghost use Rattle.std.specs.Prelude.{◌≡◌, ◌+◌, ◌++◌, ◌<◌, ◌≤◌, length, map, slice_index, All, IfOk, OnOk};
-ghost use Rattle.std.specs.List.{take_while};
-ghost use Rattle.std.specs.List.Sorted.{IsNonDecreasingBy};
+ghost use Rattle.std.specs.Prelude.{◌≡◌, ◌+◌, ◌<◌, ◌≤◌, [], length, slice_index, All, IfOk, OnOk};
 ghost use Rattle.dw_types.specs.Packing.{cut, begin_of, CutsInOrder, LeadsBelow};
-ghost use Rattle.dw_types.specs.StepLists.{from_of, is_from, rows_of, to_of};
+ghost use Rattle.dw_types.specs.StepLists.{rows_of, to_of, BeginsRows, CountsRows, HasPlaced};
 
 use crate::graph::StepGraph;
 use crate::numbers::Numbers;
@@ -20,16 +18,54 @@ fn step_count<G: StepGraph>(graph: &G) -> usize {
     count
 }
 
-/// Adds the steps at the front that come from a node.
-#[inline]
-fn add_row(kept: &mut Numbers, steps: &[Step], node: usize) -> Result<(), AllocError>
-    ensures { OnOk result (kept.new ≡ kept.old ++ map to_of (take_while (is_from node) steps.now)) }
+/// How many of the steps come from each of so many nodes.
+fn count_rows(alloc: Global, nodes: usize, steps: &[Step]) -> Result<Numbers, AllocError>
+    ensures { IfOk result (CountsRows steps.now nodes) }
+{
+    let mut counts = Numbers::zeros(alloc, nodes)?;
+    for step in steps {
+        let from = step.from as usize;
+        if from < nodes {
+            let count = counts.get(from) + 1;
+            counts.set(alloc, from, count)?;
+        }
+    }
+    Ok(counts)
+}
+
+/// The place of the first step of each of so many nodes, where those of one node stand behind another's.
+fn begin_rows(alloc: Global, nodes: usize, steps: &[Step]) -> Result<Numbers, AllocError>
+    ensures { IfOk result (BeginsRows steps.now nodes) }
+{
+    let mut begins = count_rows(alloc, nodes, steps)?;
+    let mut begin = 0;
+    for node in 0..nodes {
+        let count = begins.get(node);
+        begins.set(alloc, node, begin)?;
+        begin += count;
+    }
+    Ok(begins)
+}
+
+/// Puts each step in its place, behind those of its node that came before.
+fn place_rows(
+    alloc: Global,
+    nodes: usize,
+    steps: &[Step],
+    kept: &mut Numbers,
+    ends: &mut Numbers,
+) -> Result<(), AllocError>
+    requires leads { All (λ step. to_of step < nodes) steps.now }
+    requires none { HasPlaced steps.now [] nodes kept.old ends.old }
+    ensures { OnOk result (HasPlaced steps.now steps.now nodes kept.new ends.new) }
 {
     for step in steps {
-        if step.from as usize != node {
-            return Ok(());
+        let from = step.from as usize;
+        if from < nodes {
+            let place = ends.get(from);
+            kept.set(alloc, place, step.to as usize)?;
+            ends.set(alloc, from, place + 1)?;
         }
-        kept.push(step.to as usize)?;
     }
     Ok(())
 }
@@ -61,19 +97,14 @@ impl Packed {
         Ok(Packed { steps, ends })
     }
 
-    /// The graph of so many nodes with these steps, which stand in the order of the nodes that they come from.
+    /// The graph of so many nodes with these steps, in any order. Those of one node keep theirs.
     pub(crate) fn of_steps(alloc: Global, nodes: usize, steps: &[Step]) -> Result<Self, AllocError>
-        requires rises { IsNonDecreasingBy from_of steps.now }
-        requires leads { All (λ step. to_of step < nodes) steps.now }
+        requires { All (λ step. to_of step < nodes) steps.now }
         ensures { IfOk result (λ packed. ⟦<Packed as StepGraph>⟧.graph packed ≡ rows_of steps.now nodes) }
     {
-        let mut kept = Numbers::with_room(alloc, steps.len())?;
-        let mut ends = Numbers::with_room(alloc, nodes)?;
-        for node in 0..nodes {
-            let behind = &steps[kept.len()..];
-            add_row(&mut kept, behind, node)?;
-            ends.push(kept.len())?;
-        }
+        let mut ends = begin_rows(alloc, nodes, steps)?;
+        let mut kept = Numbers::zeros(alloc, steps.len())?;
+        place_rows(alloc, nodes, steps, &mut kept, &mut ends)?;
         Ok(Packed { steps: kept, ends })
     }
 

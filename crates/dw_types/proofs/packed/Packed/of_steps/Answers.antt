@@ -1,15 +1,14 @@
-use Rattle.std.proofs.Common.{length, arith}
-use Rattle.std.proofs.lemmas.List.{take_rest}
-use Rattle.dw_types.proofs.StepPackingLemmas.{packed-all, packed-more, packed-none}
+use Rattle.dw_types.proofs.StepPlaceLemmas.{placed-graph, placed-leads, placed-none, placed-order}
 use Rattle.dw_types.proofs.packed.Packed.of_steps.Goals as goal
 
-pub loop-node-init : goal.loop-node-init
-loop-node-init c = rw (c.in_ok-kept.ensures, c.in_ok-ends.ensures) (packed-none c.args.steps.now c.args.nodes c.requires.rises)
+pub place_rows-requires-clause-none : goal.place_rows-requires-clause-none
+place_rows-requires-clause-none c = rw c.in_ok-kept.ensures (placed-none c.args.steps.now c.args.nodes _ c.requires c.in_ok-ends.ensures)
 
-pub loop-node-preserved : goal.loop-node-preserved
-loop-node-preserved c =
-    rw (c.in_ok-push.ensures, c.len-in-loop-node.ensures, c.in_ok-add_row.ensures, c.len.ensures, take_rest c.args.steps.now (length c.loop-node.kept))
-    (packed-more c.args.steps.now c.args.nodes c.requires.leads c.loop-node.kept c.loop-node.ends c.loop-node.node c.loop-node-test.true c.loop-node.invariant)
+pub invariant_of-result : goal.invariant_of-result
+invariant_of-result c = record {
+  in_order = placed-order c.args.steps.now c.args.nodes _ _ c.in_ok-place_rows.ensures;
+  leads = placed-leads c.args.steps.now c.args.nodes _ _ c.in_ok-place_rows.ensures;
+}
 
 pub returns : goal.returns
-returns c = packed-all c.args.steps.now c.args.nodes c.loop-node.kept c.loop-node.ends c.loop-node.node c.loop-node.invariant (omega arith)
+returns c = placed-graph c.args.steps.now c.args.nodes _ _ c.in_ok-place_rows.ensures
