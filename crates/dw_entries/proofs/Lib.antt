@@ -15,7 +15,7 @@ pub mod Firsts
 pub mod FirstPlaces
 pub mod HeadLaws
 pub mod ValueSteps
-pub mod ReferringSteps
+pub mod ChosenSteps
 pub mod EntryFacts
 pub mod KeptLaws
 pub mod LeftLaws

@@ -1,5 +1,5 @@
 -- One attribute of those that are left.
-use Rattle.std.proofs.Common.{◌≡◌, ℕ, suc, ◌+◌, ◌≤◌, ◌<◌, subst, List, [], ◌∷◌, ◌++◌, ◌-◌, length, take, drop, map, Some, None, Result, Ok, Err, refl, sym, ap, ◌∙◌, append_assoc, arith, Bool, true, false, get_or, add-one, drop-cons, drop_of_length-le}
+use Rattle.std.proofs.Common.{◌≡◌, ℕ, ◌+◌, ◌≤◌, ◌<◌, subst, List, [], ◌∷◌, ◌++◌, ◌-◌, length, take, drop, map, Some, None, Result, Ok, Err, refl, sym, ap, ◌∙◌, append_assoc, arith, Bool, true, false, get_or, add-one, drop-cons, drop_of_length-le}
 use Rattle.std.specs.Prelude.{IsTrue, ◌==◌}
 use Rattle.std.specs.List.{flat_map}
 use Rattle.std.proofs.lemmas.Bool.{ne_eqb, eq-eqb}
@@ -13,7 +13,6 @@ use Rattle.dw_entries.specs.Grammar.{Context, Attribute, IsAttribute, AreAttribu
 use Rattle.dw_entries.specs.ReadingLaws.{value_again, ok_pair}
 use Rattle.dw_entries.specs.Asked.{value_of}
 use Rattle.dw_entries.specs.Lookups.{declares, value_in}
-use Rattle.dw_entries.specs.Referring.{is_asked, IsPassed}
 use Rattle.dw_entries.specs.Values.{Left}
 use Rattle.dw_entries.proofs.ScanLaws.{rest_of}
 use Rattle.dw_entries.specs.ValueLaws.{left_unique}
@@ -69,16 +68,11 @@ module _ (x : Context) (gs : List AttributeSpec) (s : AttributeSpec) (ss : List 
       rest_is : {a b : List ℕ} → ◌≡◌ {A = Result (List ℕ) ValueFault} (Ok a) (Ok b) → a ≡ b
       rest_is e = cc
 
-  -- an attribute that is not asked for is passed
-  pub passes : (rest : List ℕ) → rest_at x.version s.form x.address_size bytes ≡ Ok rest → (attribute : ℕ) → is_asked attribute s ≡ false
-      → (m : Left x ss rest) × (item : ℕ × Datum) × (map value_of l.0.0 ≡ item ∷ map value_of m.0.0) × IsPassed attribute item
-  passes rest skipped attribute other =
-      let same : flat_map attribute_bytes left_goes.others ++ l.0.1 ≡ rest = rest_is (sym left_skipped ∙ skipped) in (
-        ((left_goes.others, l.0.1), record { are = left_goes.are; spelled = sym same }),
-        value_of left_goes.first,
-        ap (map value_of) left_goes.parts,
-        record { context = x; spec = s; not_asked = other; declared = left_goes.first; is_attribute = left_goes.is; is_item = refl },
-      )
+  -- its value is passed, and those behind are left
+  pub one_skipped : (rest : List ℕ) → rest_at x.version s.form x.address_size bytes ≡ Ok rest → (m : Left x ss rest) × (item : ℕ × Datum) × (map value_of l.0.0 ≡ item ∷ map value_of m.0.0)
+  one_skipped rest skipped =
+      let same : flat_map attribute_bytes left_goes.others ++ l.0.1 ≡ rest = rest_is (sym left_skipped ∙ skipped) in
+      (((left_goes.others, l.0.1), record { are = left_goes.are; spelled = sym same }), value_of left_goes.first, ap (map value_of) left_goes.parts)
     where
       rest_is : {a b : List ℕ} → ◌≡◌ {A = Result (List ℕ) ValueFault} (Ok a) (Ok b) → a ≡ b
       rest_is e = cc
@@ -121,8 +115,11 @@ value_of_none x (s ∷ specs) (a ∷ bs) attribute p e = by_code (value_of_none 
         rw (code, q) (others more)
 
 -- the attributes from a place on
+pub from_place : (specs : List AttributeSpec) (i : ℕ) (s : AttributeSpec) → i < length specs → drop i specs ≡ get_or specs i s ∷ drop (i + 1) specs
+from_place specs i s within = drop-cons specs i s within ∙ simp add-one
+
 pub from_here : (specs : List AttributeSpec) (i : ℕ) (s : AttributeSpec) → i < length specs → s ≡ get_or specs i s → drop i specs ≡ s ∷ drop (i + 1) specs
-from_here specs i s within is = drop-cons specs i s within ∙ ap (λ (g : AttributeSpec). g ∷ drop (suc i) specs) (sym is) ∙ simp add-one
+from_here specs i s within is = from_place specs i s within ∙ ap (λ (g : AttributeSpec). g ∷ drop (i + 1) specs) (sym is)
 
 -- behind the last place there is no attribute
 pub value_past : (x : Context) (specs : List AttributeSpec) (i : ℕ) (bytes : List ℕ) (m : Left x (drop i specs) bytes) (attribute : ℕ) → length specs ≤ i → None ≡ value_in (map value_of m.0.0) attribute

@@ -32,5 +32,6 @@ pub mod Lookups
 pub mod UnitsLeft
 pub mod Runs
 pub mod Hints
+pub mod Chosen
 pub mod Referring
 pub mod Views

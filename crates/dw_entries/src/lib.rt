@@ -35,7 +35,7 @@ pub use lookup::{Head, UnitHead};
 pub use rule::Rule;
 pub use scanning::scan;
 pub use units::Units;
-pub use values::Values;
+pub use values::{Choice, Values};
 
 #[cfg(test)]
 mod tests;

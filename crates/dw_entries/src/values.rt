@@ -1,7 +1,10 @@
 //! The attributes of an entry, each value decoded when it is asked.
 
-ghost use Rattle.std.specs.Prelude.{◌≡◌, length};
-ghost use Rattle.dw_entries.specs.Referring.{may_refer, is_asked, is_any_asked};
+ghost use Rattle.std.specs.Prelude.{◌≡◌, ◌≤◌, length, IfSome, IfNone};
+ghost use Rattle.std.specs.Bool.{OnFalse};
+ghost use Rattle.dw_entries.specs.Chosen.{PassTo};
+ghost use Rattle.dw_entries.specs.Referring.{may_refer, is_asked};
+ghost use Rattle.dw_forms.specs.declared.decl.AttributeSpec.{AttributeSpec as SpecData};
 ghost use Rattle.dw_entries.specs.Header.{IsSize};
 ghost use Rattle.dw_entries.specs.Values.{value_context, Left};
 ghost use Rattle.dw_entries.specs.Choices.{size_unique};
@@ -46,19 +49,54 @@ fn is_asked(spec: AttributeSpec, attribute: Attribute) -> bool
     may_refer(spec.form) || spec.attribute == attribute
 }
 
-/// Whether one of these attributes is declared so.
+/// Which attributes are asked for, by how they are declared.
+pub trait Choice {
+    /// What holds of a specification that is not asked for.
+    ghost passes: { Self → SpecData → Type 0 };
+
+    /// Whether attributes that are declared so are asked for.
+    fn asks(&self, spec: &AttributeSpec) -> bool
+        ensures { OnFalse result (passes self.now spec.now) };
+}
+
+/// The attributes that have this code, and those whose values may be references.
+#[derive(Drop)]
+struct Referring {
+    attribute: Attribute,
+}
+
+impl Choice for Referring {
+    ghost use Rattle.dw_entries.specs.Referring.{IsOther};
+
+    ghost passes = { λ choice. IsOther choice.attribute };
+
+    #[inline]
+    fn asks(&self, spec: &AttributeSpec) -> bool {
+        is_asked(*spec, self.attribute)
+    }
+}
+
+/// The place of the first specification that is asked for.
 #[inline]
-fn is_any_asked(specs: &[AttributeSpec], attribute: Attribute) -> bool
-    ensures { result ≡ is_any_asked attribute specs.now }
+fn first_asked<C: Choice>(choice: &C, specs: &[AttributeSpec]) -> Option<usize>
+    ensures within { IfSome result (λ place. place ≤ length specs.now) }
+    ensures found { IfSome result (PassTo (C.passes choice.now) specs.now) }
+    ensures none { IfNone result (PassTo (C.passes choice.now) specs.now (length specs.now)) }
 {
-    specs.iter().any(|spec| is_asked(*spec, attribute))
+    for place in 0..specs.len() {
+        if choice.asks(&specs[place]) {
+            return Some(place);
+        }
+    }
+    None
 }
 
 impl<'a> Values<'_, 'a> {
-    ghost use Rattle.std.specs.Prelude.{option_map, IfSome, IfNone};
+    ghost use Rattle.std.specs.Prelude.{option_map, drop};
     ghost use Rattle.dw_forms.specs.Value.{view};
     ghost use Rattle.dw_entries.specs.ValuesLeft.{viewed, values_left};
-    ghost use Rattle.dw_entries.specs.Referring.{ArePassed, IsNextOf};
+    ghost use Rattle.dw_entries.specs.Chosen.{ArePassed, IsNextOf};
+    ghost use Rattle.dw_entries.specs.Referring.{IsOther};
     ghost use Rattle.dw_entries.specs.Lookups.{value_in};
 
     /// The value of the first attribute with this code among those that are left. Values before it are skipped.
@@ -82,32 +120,46 @@ impl<'a> Values<'_, 'a> {
         None
     }
 
+    /// Passes this many attributes. Their values are skipped.
+    #[inline]
+    fn pass(&mut self, count: usize)
+        requires { count ≤ length self.old.specs.now }
+        ensures { values_left self.new ≡ drop count (values_left self.old) }
+    {
+        let mut bytes = self.bytes;
+        for place in 0..count {
+            let spec = self.specs[place];
+            let Ok(len) = skip_value(self.version, spec.form, self.address_size, bytes) else {
+                unreachable!();
+            };
+            bytes = &bytes[len..];
+        }
+        self.specs = &self.specs[count..];
+        self.bytes = bytes;
+    }
+
+    /// The next attribute that is asked for. Values before it are skipped, and where none is asked for, nothing is read.
+    #[inline]
+    pub fn next_by<C: Choice>(&mut self, choice: &C) -> Option<(Attribute, Value<'a>)>
+        ensures some { IfSome result (λ found. IsNextOf (C.passes choice.now) (values_left self.old) (viewed found) (values_left self.new)) }
+        ensures none { IfNone result (ArePassed (C.passes choice.now) (values_left self.old)) }
+    {
+        match first_asked(choice, self.specs) {
+            Some(place) => {
+                self.pass(place);
+                self.next()
+            }
+            None => None,
+        }
+    }
+
     /// The next attribute that has this code or whose value may be a reference. Values before it are skipped.
     #[inline]
     pub fn next_of(&mut self, attribute: Attribute) -> Option<(Attribute, Value<'a>)>
-        ensures some { IfSome result (λ found. IsNextOf attribute (values_left self.old) (viewed found) (values_left self.new)) }
-        ensures none { IfNone result (ArePassed attribute (values_left self.old)) }
+        ensures some { IfSome result (λ found. IsNextOf (IsOther attribute) (values_left self.old) (viewed found) (values_left self.new)) }
+        ensures none { IfNone result (ArePassed (IsOther attribute) (values_left self.old)) }
     {
-        if !is_any_asked(self.specs, attribute) {
-            return None;
-        }
-        let mut specs = self.specs;
-        let mut bytes = self.bytes;
-        while let Some((spec, others)) = specs.split_first() {
-            if is_asked(*spec, attribute) {
-                self.specs = specs;
-                self.bytes = bytes;
-                return self.next();
-            }
-            match skip_value(self.version, spec.form, self.address_size, bytes) {
-                Ok(len) => {
-                    specs = others;
-                    bytes = &bytes[len..];
-                }
-                Err(_) => unreachable!(),
-            }
-        }
-        None
+        self.next_by(&Referring { attribute })
     }
 }
 

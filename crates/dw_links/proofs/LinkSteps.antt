@@ -10,7 +10,8 @@ use Rattle.dw_entries.specs.declared.rule.Rule.{Rule}
 use Rattle.dw_entries.specs.Asked.{OffsetsRise, values_of}
 use Rattle.dw_entries.specs.Entries.{Entry, PlacedUnit}
 use Rattle.dw_entries.specs.Lookups.{entry_head, value_in}
-use Rattle.dw_entries.specs.Referring.{may_refer, IsPassed, ArePassed, IsNextOf}
+use Rattle.dw_entries.specs.Chosen.{IsPassed, ArePassed, IsNextOf}
+use Rattle.dw_entries.specs.Referring.{may_refer, IsOther}
 use Rattle.dw_entries.specs.declared.fault.Broken.{Broken}
 use Rattle.dw_entries.specs.declared.fault.Section.TheVariants.{Info}
 use Rattle.dw_entries.specs.Failures.{HasNone, IsFirst, IsLeast}
@@ -58,7 +59,7 @@ neither true b is = absurd cc
 neither false b is = (refl, is)
 
 -- at what is passed no rule fails
-passed_none : (entries : List Entry) (units : List PlacedUnit) (head : Head) (attribute : ℕ) (items : List (ℕ × Datum)) → ArePassed attribute items → NoneFails (ReferenceFails entries units) head items
+passed_none : (entries : List Entry) (units : List PlacedUnit) (head : Head) (attribute : ℕ) (items : List (ℕ × Datum)) → ArePassed (IsOther attribute) items → NoneFails (ReferenceFails entries units) head items
 passed_none entries units head attribute items passed k item is r fails =
     let p = passed k item is in
     let form = plain_form p.spec.form (neither (may_refer p.spec.form) (p.spec.attribute == attribute) p.not_asked).0 in
@@ -82,19 +83,19 @@ back_value (x ∷ xs) ys attribute is = by_code (back_value xs ys attribute) (x.
     by_code more true q = absurd (let none : Some x.1 ≡ None = rw q at is in cc)
     by_code more false q = rw q (more (rw q at is))
 
-passed_other : (attribute : ℕ) (item : ℕ × Datum) → IsPassed attribute item → (item.0 == attribute) ≡ false
+passed_other : (attribute : ℕ) (item : ℕ × Datum) → IsPassed (IsOther attribute) item → (item.0 == attribute) ≡ false
 passed_other attribute item p =
     let declared : (p.spec.attribute == attribute) ≡ false = (neither (may_refer p.spec.form) (p.spec.attribute == attribute) p.not_asked).1 in
     let code : p.declared.code ≡ p.spec.attribute = p.is_attribute.code in
     let here : p.declared.code ≡ item.0 = ap (λ (y : ℕ × Datum). y.0) p.is_item in
     ap (λ (n : ℕ). n == attribute) (sym here ∙ code) ∙ declared
 
-passed_value : (attribute : ℕ) (items : List (ℕ × Datum)) → ArePassed attribute items → value_in items attribute ≡ None
+passed_value : (attribute : ℕ) (items : List (ℕ × Datum)) → ArePassed (IsOther attribute) items → value_in items attribute ≡ None
 passed_value attribute [] passed = refl
 passed_value attribute (x ∷ items) passed = rw (passed_other attribute x (passed 0 x refl)) (passed_value attribute items (λ k y is. passed (suc k) y is))
 
 -- what is kept, behind one attribute more
-kept_next : (reach : Datum → Option ℕ) (done passed : List (ℕ × Datum)) (a : ℕ) (v : Datum) → ArePassed DW_AT_type passed → (o : Option Datum) → value_in done DW_AT_type ≡ o
+kept_next : (reach : Datum → Option ℕ) (done passed : List (ℕ × Datum)) (a : ℕ) (v : Datum) → ArePassed (IsOther DW_AT_type) passed → (o : Option Datum) → value_in done DW_AT_type ≡ o
     → kept_after (option_map reach o) a (reach v) ≡ option_map reach (value_in (done ++ (passed ++ (a, v) ∷ [])) DW_AT_type)
 kept_next reach done passed a v are (Some d) is = ap (option_map reach) (sym (front_value done (passed ++ (a, v) ∷ []) DW_AT_type d is))
 kept_next reach done passed a v are None is =
@@ -116,7 +117,7 @@ pub record Linked (entries : List Entry) (units : List PlacedUnit) (head : Head)
 pub linked_none : (entries : List Entry) (units : List PlacedUnit) (head : Head) (items left : List (ℕ × Datum)) → left ≡ items → Linked entries units head items left None
 linked_none entries units head items left same = record { done = []; parts = sym same; none = λ k item is. absurd cc; is_kept = refl }
 
-module _ (entries : List Entry) (units : List PlacedUnit) (head : Head) (items left behind : List (ℕ × Datum)) (kept : Option (Option ℕ)) (a : ℕ) (v : Datum) (l : Linked entries units head items left kept) (n : IsNextOf DW_AT_type left (a, v) behind) where
+module _ (entries : List Entry) (units : List PlacedUnit) (head : Head) (items left behind : List (ℕ × Datum)) (kept : Option (Option ℕ)) (a : ℕ) (v : Datum) (l : Linked entries units head items left kept) (n : IsNextOf (IsOther DW_AT_type) left (a, v) behind) where
   joined : items ≡ (l.done ++ n.passed) ++ (a, v) ∷ behind
   joined = l.parts ∙ ap (λ (xs : List (ℕ × Datum)). l.done ++ xs) n.parts ∙ sym (append_assoc l.done n.passed ((a, v) ∷ behind))
 
@@ -150,7 +151,7 @@ module _ (entries : List Entry) (units : List PlacedUnit) (head : Head) (items l
 
 -- where a rule fails, that is the first failure
 pub linked_fails : (entries : List Entry) (units : List PlacedUnit) (e : Entry) (left behind : List (ℕ × Datum)) (kept : Option (Option ℕ)) (a : ℕ) (v : Datum)
-    → Linked entries units (entry_head e) (values_of e.head) left kept → IsNextOf DW_AT_type left (a, v) behind → (rule : Rule) (broken : Broken) → IsLeast (ReferenceFails entries units (entry_head e) a v) (Some rule)
+    → Linked entries units (entry_head e) (values_of e.head) left kept → IsNextOf (IsOther DW_AT_type) left (a, v) behind → (rule : Rule) (broken : Broken) → IsLeast (ReferenceFails entries units (entry_head e) a v) (Some rule)
     → broken ≡ record { rule = rule; section = Info; at = e.at; attribute = a } → IsFirst (AtHead (ReferenceFails entries units) e) broken
 linked_fails entries units e left behind kept a v l n rule broken least is =
     first_of_attributes (λ x. ReferenceFails entries units (entry_head x)) e (place_of entries units (entry_head e) (values_of e.head) left behind kept a v l n) a v rule broken
@@ -158,14 +159,14 @@ linked_fails entries units e left behind kept a v l n rule broken least is =
     (record { rule = ap (λ (b : Broken). b.rule) is; section = ap (λ (b : Broken). b.section) is; at = ap (λ (b : Broken). b.at) is; attribute = ap (λ (b : Broken). b.attribute) is })
 
 -- at the end no rule fails at the entry
-pub linked_passes : (entries : List Entry) (units : List PlacedUnit) (e : Entry) (left : List (ℕ × Datum)) (kept : Option (Option ℕ)) → Linked entries units (entry_head e) (values_of e.head) left kept → ArePassed DW_AT_type left
+pub linked_passes : (entries : List Entry) (units : List PlacedUnit) (e : Entry) (left : List (ℕ × Datum)) (kept : Option (Option ℕ)) → Linked entries units (entry_head e) (values_of e.head) left kept → ArePassed (IsOther DW_AT_type) left
     → HasNone (AtHead (ReferenceFails entries units) e)
 linked_passes entries units e left kept l passed =
     none_of_attributes (λ x. ReferenceFails entries units (entry_head x)) e
     (λ j a v below has r fails. none_both (ReferenceFails entries units) (entry_head e) l.done left l.none (passed_none entries units (entry_head e) DW_AT_type left passed) j (a, v) (ap (λ (xs : List (ℕ × Datum)). slice_get xs j) (sym l.parts) ∙ has) r fails)
 
 -- and what is kept is the target of its type
-pub linked_target : (entries : List Entry) (units : List PlacedUnit) (e : Entry) (left : List (ℕ × Datum)) (kept : Option (Option ℕ)) → Linked entries units (entry_head e) (values_of e.head) left kept → ArePassed DW_AT_type left
+pub linked_target : (entries : List Entry) (units : List PlacedUnit) (e : Entry) (left : List (ℕ × Datum)) (kept : Option (Option ℕ)) → Linked entries units (entry_head e) (values_of e.head) left kept → ArePassed (IsOther DW_AT_type) left
     → option_flatten kept ≡ type_target entries units e
 unfolding target_of
 linked_target entries units e left kept l passed =

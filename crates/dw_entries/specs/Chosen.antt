@@ -1,0 +1,29 @@
+-- The attributes of an entry that are asked for, by how they are declared.
+use Rattle.std.specs.Prelude.{◌≡◌, ℕ, ◌<◌, List, ◌∷◌, ◌++◌, Some, slice_get}
+use Rattle.dw_forms.specs.declared.decl.AttributeSpec.{AttributeSpec}
+use Rattle.dw_forms.specs.Value.{Datum}
+use Rattle.dw_entries.specs.Grammar.{Context, Attribute, IsAttribute}
+use Rattle.dw_entries.specs.Asked.{value_of}
+
+-- of the first k of these specifications none is asked for
+abbrev pub PassTo : (AttributeSpec → Type 0) → List AttributeSpec → ℕ → Type 0
+PassTo Passes specs k = (j : ℕ) (spec : AttributeSpec) → j < k → slice_get specs j ≡ Some spec → Passes spec
+
+-- an attribute and its value, with a specification that is not asked for
+pub record IsPassed (Passes : AttributeSpec → Type 0) (item : ℕ × Datum) : Type 0 where
+  pub context : Context
+  pub spec : AttributeSpec
+  pub not_asked : Passes spec
+  pub declared : Attribute
+  pub is_attribute : IsAttribute context spec declared
+  pub is_item : value_of declared ≡ item
+
+-- each of them is such
+abbrev pub ArePassed : (AttributeSpec → Type 0) → List (ℕ × Datum) → Type 0
+ArePassed Passes items = (k : ℕ) (item : ℕ × Datum) → slice_get items k ≡ Some item → IsPassed Passes item
+
+-- the found attribute follows some that are passed, and these are behind it
+pub record IsNextOf (Passes : AttributeSpec → Type 0) (items : List (ℕ × Datum)) (found : ℕ × Datum) (behind : List (ℕ × Datum)) : Type 0 where
+  pub passed : List (ℕ × Datum)
+  pub parts : items ≡ passed ++ found ∷ behind
+  pub are_passed : ArePassed Passes passed
