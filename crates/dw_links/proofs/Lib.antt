@@ -6,7 +6,6 @@ pub mod Asked
 pub mod HeaderLaws
 pub mod FormClasses
 pub mod Skips
-pub mod Turns
 pub mod ClassLaws
 pub mod StringLaws
 pub mod UnitLaws
@@ -19,4 +18,5 @@ pub mod SlotLaws
 pub mod TypeLaws
 pub mod LinkedTexts
 pub mod LinkedEntries
+pub mod RuleSteps
 pub mod LinkSteps

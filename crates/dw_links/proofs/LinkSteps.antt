@@ -1,5 +1,5 @@
 -- The references of an entry, one behind the other, and the entry that its type reaches.
-use Rattle.std.proofs.Common.{◌≡◌, ℕ, zero, suc, ◌<◌, ◌||◌, Bool, true, false, List, [], ◌∷◌, ◌++◌, length, Option, Some, None, refl, sym, ap, ◌∙◌, subst, arith, append_assoc, length-append}
+use Rattle.std.proofs.Common.{◌≡◌, ℕ, suc, ◌<◌, ◌||◌, Bool, true, false, List, [], ◌∷◌, ◌++◌, length, Option, Some, None, refl, sym, ap, ◌∙◌, subst, arith, append_assoc, length-append}
 use Rattle.std.specs.Prelude.{slice_get, ◌==◌, IfSome, IfNone, option_map}
 use Rattle.std.specs.Option.{option_flatten, option_and_then}
 use Rattle.std.proofs.lemmas.Option.{slice_get_within}
@@ -16,43 +16,18 @@ use Rattle.dw_entries.specs.declared.fault.Broken.{Broken}
 use Rattle.dw_entries.specs.declared.fault.Section.TheVariants.{Info}
 use Rattle.dw_entries.specs.Failures.{HasNone, IsFirst, IsLeast}
 use Rattle.dw_entries.proofs.Firsts.{first_of_attributes, none_of_attributes}
-use Rattle.dw_links.specs.Concerns.{Rules, AtHead}
+use Rattle.dw_links.specs.Concerns.{AtHead}
 use Rattle.dw_links.specs.Kept.{kept_after}
 use Rattle.dw_links.specs.References.{Reaches, ReferenceFails}
 use Rattle.dw_links.specs.Signatures.{AreDistinct}
 use Rattle.dw_links.specs.Tables.{type_target}
 use Rattle.dw_links.specs.Targets.{reach_of, target_of}
 use Rattle.dw_links.proofs.FormClasses.{plain_form}
+use Rattle.dw_links.proofs.RuleSteps.{NoneFails, none_both, none_one, front_get, between_get}
 use Rattle.dw_links.proofs.ReferenceLaws.{others_pass, reached_entry}
 use Rattle.dw_links.proofs.TargetLaws.{reach_of_is, at_reach_of}
 
--- ---- lists
-
--- what stands in the front of joined lists
-front_get : {X : Type 0} (xs ys : List X) (j : ℕ) (x : X) → j < length xs → slice_get (xs ++ ys) j ≡ Some x → slice_get xs j ≡ Some x
-front_get [] ys j x lt is = absurd (omega (arith, lt))
-front_get (y ∷ xs) ys zero x lt is = is
-front_get (y ∷ xs) ys (suc j) x lt is = front_get xs ys j x (omega (arith, lt)) is
-
--- what stands between them
-between_get : {X : Type 0} (xs ys : List X) (x : X) → slice_get (xs ++ x ∷ ys) (length xs) ≡ Some x
-between_get [] ys x = refl
-between_get (y ∷ xs) ys x = between_get xs ys x
-
 -- ---- the rules
-
--- no rule fails at these attributes of an entry
-abbrev pub NoneFails : Rules → Head → List (ℕ × Datum) → Type 0
-NoneFails Fails head items = (k : ℕ) (item : ℕ × Datum) → slice_get items k ≡ Some item → (r : Rule) → Fails head item.0 item.1 r → ⊥
-
-none_both : (Fails : Rules) (head : Head) (xs ys : List (ℕ × Datum)) → NoneFails Fails head xs → NoneFails Fails head ys → NoneFails Fails head (xs ++ ys)
-none_both Fails head [] ys before behind k item is = behind k item is
-none_both Fails head (x ∷ xs) ys before behind zero item is = before zero item is
-none_both Fails head (x ∷ xs) ys before behind (suc k) item is = none_both Fails head xs ys (λ j y e. before (suc j) y e) behind k item is
-
-none_one : (Fails : Rules) (head : Head) (x : ℕ × Datum) → ((r : Rule) → Fails head x.0 x.1 r → ⊥) → NoneFails Fails head (x ∷ [])
-none_one Fails head x here zero item is = let e : Some x ≡ Some item = is in let same : x ≡ item = cc in subst (λ (y : ℕ × Datum). (r : Rule) → Fails head y.0 y.1 r → ⊥) same here
-none_one Fails head x here (suc k) item is = absurd cc
 
 neither : (a b : Bool) → (a || b) ≡ false → (a ≡ false) × (b ≡ false)
 neither true b is = absurd cc

@@ -4,7 +4,6 @@ ghost use Rattle.std.specs.Prelude.{ℕ, ◌≡◌, ◌<◌, length, map, None, 
 ghost use Rattle.dw_entries.specs.Entries.{Entry, entries_of, placed};
 ghost use Rattle.dw_entries.specs.Scanned.{units_of};
 ghost use Rattle.dw_entries.specs.Lookups.{entry_head};
-ghost use Rattle.dw_entries.specs.declared.fault.Section.TheVariants.{Info};
 ghost use Rattle.dw_entries.specs.Failures.{HasNone, IsFirst, IsLeast};
 ghost use Rattle.dw_forms.specs.Value.{view};
 ghost use Rattle.dw_links.specs.Targets.{reach_of};
@@ -16,9 +15,9 @@ ghost use Rattle.dw_links.specs.Tables.{type_target};
 ghost use Rattle.dw_links.specs.Kept.{kept_after};
 
 use crate::references::References;
-use crate::rules::fault_of;
+use crate::rules::{broken_at, fault_of};
 use dw_entries::constants::*;
-use dw_entries::{Broken, Entries, EntryId, Head, OptionalId, Rule, Section, Stop};
+use dw_entries::{Broken, Entries, EntryId, Head, OptionalId, Rule, Stop};
 use dw_forms::{Attribute, Value};
 use std::alloc::Global;
 
@@ -46,18 +45,6 @@ fn keep(kept: Option<OptionalId>, attribute: Attribute, reached: OptionalId) -> 
                 None
             }
         }
-    }
-}
-
-/// A rule that fails at an attribute of an entry.
-fn broken_at(head: &Head, attribute: Attribute, rule: Rule) -> Broken
-    ensures { result ≡ record { rule = rule; section = Info; at = head.now.offset; attribute = attribute } }
-{
-    Broken {
-        rule,
-        section: Section::Info,
-        at: head.offset,
-        attribute: attribute.0,
     }
 }
 

@@ -5,6 +5,7 @@ ghost use Rattle.std.specs.Bool.{OnFalse};
 ghost use Rattle.dw_forms.specs.Value.{Datum, view};
 ghost use Rattle.dw_entries.specs.declared.lookup.Head.{Head as HeadData};
 ghost use Rattle.dw_entries.specs.declared.rule.Rule.{Rule as RuleName};
+ghost use Rattle.dw_entries.specs.declared.fault.Section.TheVariants.{Info};
 ghost use Rattle.dw_entries.specs.Entries.{Entry, entries_of};
 ghost use Rattle.dw_entries.specs.Stopped.{broken_of};
 ghost use Rattle.dw_entries.specs.Scanned.{units_of};
@@ -13,7 +14,7 @@ ghost use Rattle.dw_entries.specs.Failures.{HasNone, IsFirst, IsLeast};
 ghost use Rattle.dw_entries.specs.Asked.{AtEntries};
 ghost use Rattle.dw_links.specs.Concerns.{AtHead, Passes, AllPass, EachPasses, PassesAt, FailsAt};
 
-use dw_entries::{Broken, Entries, EntryId, Fault, Head, Rule, Section};
+use dw_entries::{Broken, Choice, Entries, EntryId, Fault, Head, Rule, Section};
 use dw_forms::{Attribute, AttributeSpec, DeclRow, Value};
 use std::alloc::Global;
 
@@ -35,6 +36,21 @@ pub trait AttributeRules {
         ensures { IsLeast (fails self.now head.now attribute (view value.now)) result };
 }
 
+/// The attributes at which a rule may fail, by how they are declared.
+#[derive(Drop)]
+struct Concerned<'r, R> {
+    rules: &'r R,
+}
+
+impl<R: AttributeRules> Choice for Concerned<'_, R> {
+    ghost passes = { λ choice. Passes (R.fails choice.rules.now) };
+
+    #[inline]
+    fn asks(&self, spec: &AttributeSpec) -> bool {
+        self.rules.concerns(spec)
+    }
+}
+
 /// The fault that names a broken rule. It has no cycle.
 pub fn fault_of(alloc: Global, broken: Broken) -> Fault
     ensures broken { broken_of result ≡ broken }
@@ -46,6 +62,18 @@ pub fn fault_of(alloc: Global, broken: Broken) -> Fault
         at: broken.at,
         attribute: broken.attribute,
         cycle: Vec::new(alloc),
+    }
+}
+
+/// A rule that fails at an attribute of an entry.
+pub fn broken_at(head: &Head, attribute: Attribute, rule: Rule) -> Broken
+    ensures { result ≡ record { rule = rule; section = Info; at = head.now.offset; attribute = attribute } }
+{
+    Broken {
+        rule,
+        section: Section::Info,
+        at: head.offset,
+        attribute: attribute.0,
     }
 }
 
@@ -85,7 +113,7 @@ pub fn concerns_entries<R: AttributeRules>(rules: &R, entries: &Entries<'_>) -> 
     false
 }
 
-/// The first failure among an entry's attributes.
+/// The first failure among an entry's attributes. Only those that the rules concern are decoded.
 pub fn check_entry<R: AttributeRules>(
     rules: &R,
     entries: &Entries<'_>,
@@ -100,14 +128,11 @@ pub fn check_entry<R: AttributeRules>(
         return Ok(());
     }
     let head = entries.head(id);
-    for (attribute, value) in entries.values(id) {
-        if let Some(rule) = rules.ask(&head, attribute, &value) {
-            return Err(Broken {
-                rule,
-                section: Section::Info,
-                at: head.offset,
-                attribute: attribute.0,
-            });
+    let mut values = entries.values(id);
+    let concerned = Concerned { rules };
+    while let Some(item) = values.next_by(&concerned) {
+        if let Some(rule) = rules.ask(&head, item.0, &item.1) {
+            return Err(broken_at(&head, item.0, rule));
         }
     }
     Ok(())

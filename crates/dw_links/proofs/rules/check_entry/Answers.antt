@@ -1,17 +1,16 @@
-use Rattle.std.proofs.Common.{◌≡◌, ℕ, Some, refl, ap, subst, ◌∙◌, arith, length}
-use Rattle.std.proofs.lemmas.List.{length_push}
+use Rattle.std.proofs.Common.{◌≡◌, Some, ap, ◌∙◌, subst}
 use Rattle.dw_forms.specs.Abbrev.{view as decl_view}
-use Rattle.dw_forms.specs.Value.{Datum, view}
+use Rattle.dw_forms.specs.Value.{view}
+use Rattle.dw_entries.specs.declared.fault.Section.TheVariants.{Info}
 use Rattle.dw_entries.specs.declared.rule.Rule.{Rule}
 use Rattle.dw_entries.specs.declared.lookup.Head.{Head}
 use Rattle.dw_entries.specs.Scanned.{units_of}
 use Rattle.dw_entries.specs.Failures.{IsLeast}
 use Rattle.dw_entries.specs.Asked.{values_of}
 use Rattle.dw_entries.specs.Lookups.{entry_head}
-use Rattle.dw_entries.specs.ValuesLeft.{viewed, values_left}
-use Rattle.dw_entries.proofs.Firsts.{first_of_attributes, none_of_attributes}
-use Rattle.dw_links.proofs.Skips.{one_more, skipped}
-use Rattle.dw_links.proofs.Turns.{turn_here, turn_end}
+use Rattle.dw_entries.specs.ValuesLeft.{values_left}
+use Rattle.dw_links.proofs.Skips.{skipped}
+use Rattle.dw_links.proofs.RuleSteps.{none_checked, checked_fails, checked_more, checked_all, fewer}
 use Rattle.dw_links.proofs.rules.check_entry.Goals as goal
 
 pub returns-then-not-concerns_any-clause-ok : goal.returns-then-not-concerns_any-clause-ok
@@ -19,29 +18,26 @@ returns-then-not-concerns_any-clause-ok g c =
     skipped _ _ (units_of c.args.entries.now.scanned) c.args.id (g.R.AttributeRules.fails c.args.rules.now) (decl_view c.decl.result.now) c.args.entries.now.scanned.1.spells c.decl.ensures
     (rw (← c.deref.ensures.value) c.if-not-concerns_any.ensures)
 
+pub loop-item-init : goal.loop-item-init
+loop-item-init g c = λ e is. none_checked (g.R.AttributeRules.fails c.args.rules.now) (entry_head e) (values_of e.head) (values_left c.values-values.result) (rw is at c.values-values.ensures)
+
 pub returns-in-Some-ask-clause-err : goal.returns-in-Some-ask-clause-err
 returns-in-Some-ask-clause-err g c = λ e is.
+    let Fails = g.R.AttributeRules.fails c.args.rules.now in
     let head : c.head-head.result ≡ entry_head e = rw is at c.head-head.ensures in
-    let left : values_left c.into_iter-attribute-iterator.result ≡ values_of e.head = ap values_left c.into_iter-attribute-iterator.ensures.into_iter_gives ∙ (rw is at c.values-attribute-items.ensures) in
-    first_of_attributes (λ x. g.R.AttributeRules.fails c.args.rules.now (entry_head x)) e (length c.loop-attribute.yielded) c.in-Some.attribute (view c.in-Some.value) _ _
-    (turn_here c.into_iter-attribute-iterator.result (values_of e.head) left c.loop-attribute.yielded c.loop-attribute.attribute-iterator c.loop-attribute.yielded_by c.next.result c.next.new.self (c.in-Some.attribute, c.in-Some.value) c.in-Some.is c.next.ensures.steps)
-    (λ j a v below has. c.loop-attribute.invariant e is j (a, v) below has)
-    (let P : Head → Type 0 = λ h. IsLeast (g.R.AttributeRules.fails c.args.rules.now h c.in-Some.attribute (view c.in-Some.value)) (Some c.in-Some-ask.rule) in subst P head c.in-Some-ask.ensures)
-    (record { rule = refl; section = refl; at = ap (λ (h : Head). h.offset) head; attribute = c.attribute.view_is })
+    let P : Head → Type 0 = λ h. IsLeast (Fails h c.in-Some.item.0 (view c.in-Some.item.1)) (Some c.in-Some-ask.rule) in
+    checked_fails Fails e (values_left c.loop-item.values) (values_left c.next_by.new.self) c.in-Some.item.0 (view c.in-Some.item.1) (c.loop-item.invariant e is) c.in-Some.ensures.some c.in-Some-ask.rule c.broken_at.result
+    (subst P head c.in-Some-ask.ensures) (c.broken_at.ensures ∙ ap (λ (h : Head). record { rule = c.in-Some-ask.rule; section = Info; at = h.offset; attribute = c.in-Some.item.0 }) head)
 
-pub loop-attribute-preserved : goal.loop-attribute-preserved
-loop-attribute-preserved g c = λ e is j item below is_item.
+pub loop-item-preserved : goal.loop-item-preserved
+loop-item-preserved g c = λ e is.
+    let Fails = g.R.AttributeRules.fails c.args.rules.now in
     let head : c.head-head.result ≡ entry_head e = rw is at c.head-head.ensures in
-    let left : values_left c.into_iter-attribute-iterator.result ≡ values_of e.head = ap values_left c.into_iter-attribute-iterator.ensures.into_iter_gives ∙ (rw is at c.values-attribute-items.ensures) in
-    let P : (ℕ × Datum) → Type 0 = λ q. (r : Rule) → g.R.AttributeRules.fails c.args.rules.now (entry_head e) q.0 q.1 r → ⊥ in
-    let Q : Head → Type 0 = λ h. (r : Rule) → g.R.AttributeRules.fails c.args.rules.now h c.in-Some.attribute (view c.in-Some.value) r → ⊥ in
-    one_more (values_of e.head) P (length c.loop-attribute.yielded) (viewed (c.in-Some.attribute, c.in-Some.value))
-    (turn_here c.into_iter-attribute-iterator.result (values_of e.head) left c.loop-attribute.yielded c.loop-attribute.attribute-iterator c.loop-attribute.yielded_by c.next.result c.next.new.self (c.in-Some.attribute, c.in-Some.value) c.in-Some.is c.next.ensures.steps)
-    (c.loop-attribute.invariant e is) (subst Q head c.in_default.ensures) j item (omega (arith, below, length_push c.loop-attribute.yielded (c.in-Some.attribute, c.in-Some.value))) is_item
+    let P : Head → Type 0 = λ h. (r : Rule) → Fails h c.in-Some.item.0 (view c.in-Some.item.1) r → ⊥ in
+    checked_more Fails e (values_left c.loop-item.values) (values_left c.next_by.new.self) c.in-Some.item.0 (view c.in-Some.item.1) (c.loop-item.invariant e is) c.in-Some.ensures.some (subst P head c.in_default-ask.ensures)
+
+pub loop-item-smaller : goal.loop-item-smaller
+loop-item-smaller g c = fewer _ (values_left c.loop-item.values) _ (values_left c.next_by.new.self) c.in-Some.ensures.some
 
 pub returns-clause-ok : goal.returns-clause-ok
-returns-clause-ok g c = λ e is.
-    let left : values_left c.into_iter-attribute-iterator.result ≡ values_of e.head = ap values_left c.into_iter-attribute-iterator.ensures.into_iter_gives ∙ (rw is at c.values-attribute-items.ensures) in
-    let all = turn_end c.into_iter-attribute-iterator.result (values_of e.head) left c.loop-attribute.yielded c.loop-attribute.attribute-iterator c.loop-attribute.yielded_by c.next.result c.next.new.self c.in-None.is c.next.ensures.steps in
-    none_of_attributes (λ x. g.R.AttributeRules.fails c.args.rules.now (entry_head x)) e
-    (λ j a v below. c.loop-attribute.invariant e is j (a, v) (omega (arith, below, all)))
+returns-clause-ok g c = λ e is. checked_all (g.R.AttributeRules.fails c.args.rules.now) e (values_left c.loop-item.values) (c.loop-item.invariant e is) c.in_default.ensures.none
