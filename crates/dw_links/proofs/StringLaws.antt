@@ -1,5 +1,5 @@
 -- Which declarations the rules on strings and addresses are asked of.
-use Rattle.std.proofs.Common.{◌≡◌, ℕ, Bool, true, false, List, Option, Some, None, refl, sym, ◌∙◌, subst, inl, inr, ◌⊎◌}
+use Rattle.std.proofs.Common.{◌≡◌, ℕ, Bool, true, false, List, Option, Some, None, refl, sym, ap, ◌∙◌, subst, inl, inr, ◌⊎◌}
 use Rattle.std.specs.Prelude.{is_some}
 use Rattle.std.specs.Bool.{OnFalse}
 use mathlib.Core.Logic.{∥∥₁_elim}
@@ -11,11 +11,12 @@ use Rattle.dw_entries.specs.declared.rule.Rule.{Rule}
 use Rattle.dw_entries.specs.declared.lookup.Head.{Head}
 use Rattle.dw_entries.specs.Failures.{IsLeast}
 use Rattle.dw_links.specs.declared.class.Class.{Class}
-use Rattle.dw_links.specs.declared.class.Class.TheVariants.{Address, SectionOffset, String}
+use Rattle.dw_links.specs.declared.class.Class.TheVariants.{Address, Block, Constant, WideConstant, Exprloc, Flag, ListIndex, Reference, SectionOffset, String}
 use Rattle.dw_links.specs.declared.texts.UnitTexts.{UnitTexts}
 use Rattle.dw_links.specs.Concerns.{Passes}
 use Rattle.dw_links.specs.Classes.{class_of, form_class}
 use Rattle.dw_links.specs.Ready.{FailsByTexts}
+use Rattle.dw_links.specs.Strings.{may_lead}
 use Rattle.dw_links.proofs.FormClasses.{class_by_form}
 
 -- a rule fails at strings, at addresses and at bases
@@ -42,7 +43,7 @@ asked texts head a (addr_index n) rule fails = inl (inr refl)
 asked texts head a (loc_index n) rule fails = absurd fails
 asked texts head a (rng_index n) rule fails = absurd fails
 
-pub others_pass : (texts : UnitTexts) (spec : AttributeSpec) (c : Class) → form_class spec.form ≡ Some c → (c ≡ String → ⊥) → (c ≡ Address → ⊥) → (c ≡ SectionOffset → ⊥) → Passes (FailsByTexts texts) spec
+others_pass : (texts : UnitTexts) (spec : AttributeSpec) (c : Class) → form_class spec.form ≡ Some c → (c ≡ String → ⊥) → (c ≡ Address → ⊥) → (c ≡ SectionOffset → ⊥) → Passes (FailsByTexts texts) spec
 others_pass texts spec c form not_string not_address not_offset x a is head rule fails =
     ∥∥₁_elim is.value (λ p q. absurd p)
     (λ v.
@@ -70,7 +71,7 @@ inline_text version size f bytes v is p = let P : Form → Type 0 = λ g. Val ve
 inline_address : (version size : ℕ) (f : Form) (bytes : List ℕ) (v : Datum) → f ≡ form.Addr → Val version f size bytes v → (n : ℕ) × (v ≡ address n)
 inline_address version size f bytes v is p = let P : Form → Type 0 = λ g. Val version g size bytes v in let q = subst P is p in (q.0, q.2)
 
-pub inline_passes : (texts : UnitTexts) (spec : AttributeSpec) → (spec.form ≡ form.Text) ⊎ (spec.form ≡ form.Addr) → Passes (FailsByTexts texts) spec
+inline_passes : (texts : UnitTexts) (spec : AttributeSpec) → (spec.form ≡ form.Text) ⊎ (spec.form ≡ form.Addr) → Passes (FailsByTexts texts) spec
 inline_passes texts spec here x a is head rule fails =
     ∥∥₁_elim is.value (λ p q. absurd p)
     (λ v.
@@ -79,6 +80,71 @@ inline_passes texts spec here x a is head rule fails =
       | inl f ↦ let t = inline_text x.version x.address_size spec.form a.bytes a.value f v in subst P t.1 fails
       | inr f ↦ let t = inline_address x.version x.address_size spec.form a.bytes a.value f v in subst P t.1 fails
     ])
+
+-- the rules are asked of no value of this class
+abbrev is_unasked : Class → Bool
+is_unasked String = false
+is_unasked Address = false
+is_unasked SectionOffset = false
+is_unasked _ = true
+
+-- a form that does not lead to a string or an address holds it, or has another class
+by_form : (f : Form) → may_lead f ≡ false → (f ≡ form.SecOffset → ⊥) → ((f ≡ form.Text) ⊎ (f ≡ form.Addr)) ⊎ ((c : Class) × (form_class f ≡ Some c) × (is_unasked c ≡ true))
+by_form form.Addr none other = inl (inr refl)
+by_form form.Block2 none other = inr (Block, refl, refl)
+by_form form.Block4 none other = inr (Block, refl, refl)
+by_form form.Data2 none other = inr (Constant, refl, refl)
+by_form form.Data4 none other = inr (Constant, refl, refl)
+by_form form.Data8 none other = inr (Constant, refl, refl)
+by_form form.Text none other = inl (inl refl)
+by_form form.Block none other = inr (Block, refl, refl)
+by_form form.Block1 none other = inr (Block, refl, refl)
+by_form form.Data1 none other = inr (Constant, refl, refl)
+by_form form.Flag none other = inr (Flag, refl, refl)
+by_form form.Sdata none other = inr (Constant, refl, refl)
+by_form form.Strp none other = absurd (let both : true ≡ false = none in cc)
+by_form form.Udata none other = inr (Constant, refl, refl)
+by_form form.RefAddr none other = inr (Reference, refl, refl)
+by_form form.Ref1 none other = inr (Reference, refl, refl)
+by_form form.Ref2 none other = inr (Reference, refl, refl)
+by_form form.Ref4 none other = inr (Reference, refl, refl)
+by_form form.Ref8 none other = inr (Reference, refl, refl)
+by_form form.RefUdata none other = inr (Reference, refl, refl)
+by_form form.Indirect none other = absurd (let both : true ≡ false = none in cc)
+by_form form.SecOffset none other = absurd (other refl)
+by_form form.Exprloc none other = inr (Exprloc, refl, refl)
+by_form form.FlagPresent none other = inr (Flag, refl, refl)
+by_form form.Strx none other = absurd (let both : true ≡ false = none in cc)
+by_form form.Addrx none other = absurd (let both : true ≡ false = none in cc)
+by_form form.Data16 none other = inr (WideConstant, refl, refl)
+by_form form.LineStrp none other = absurd (let both : true ≡ false = none in cc)
+by_form form.RefSig8 none other = inr (Reference, refl, refl)
+by_form (form.ImplicitConst number) none other = inr (Constant, refl, refl)
+by_form form.Loclistx none other = inr (ListIndex, refl, refl)
+by_form form.Rnglistx none other = inr (ListIndex, refl, refl)
+by_form form.Strx1 none other = absurd (let both : true ≡ false = none in cc)
+by_form form.Strx2 none other = absurd (let both : true ≡ false = none in cc)
+by_form form.Strx3 none other = absurd (let both : true ≡ false = none in cc)
+by_form form.Strx4 none other = absurd (let both : true ≡ false = none in cc)
+by_form form.Addrx1 none other = absurd (let both : true ≡ false = none in cc)
+by_form form.Addrx2 none other = absurd (let both : true ≡ false = none in cc)
+by_form form.Addrx3 none other = absurd (let both : true ≡ false = none in cc)
+by_form form.Addrx4 none other = absurd (let both : true ≡ false = none in cc)
+
+other_class : (c d : Class) → is_unasked c ≡ true → is_unasked d ≡ false → c ≡ d → ⊥
+other_class c d is not same = let both : true ≡ false = sym is ∙ ap is_unasked same ∙ not in cc
+
+pub form_passes : (texts : UnitTexts) (spec : AttributeSpec) → may_lead spec.form ≡ false → (spec.form ≡ form.SecOffset → ⊥) → Passes (FailsByTexts texts) spec
+form_passes texts spec none other =
+    elim (by_form spec.form none other) [
+      | inl here ↦ inline_passes texts spec here
+      | inr p ↦ others_pass texts spec p.0 p.1 (other_class p.0 String p.2 refl) (other_class p.0 Address p.2 refl) (other_class p.0 SectionOffset p.2 refl)
+    ]
+
+-- what holds where an answer is no
+pub where_false : (b c : Bool) (P : Type 0) → b ≡ c → (c ≡ false → P) → OnFalse b P
+where_false true c P is over = tt
+where_false false c P is over = over (sym is)
 
 -- where a premise holds, the least rule is that of what comes under it
 pub least_under : (P Q : Type 0) (F : Rule → Type 0) (o : Option Rule) → P → Q → IsLeast F o → IsLeast (λ r. P × Q × F r) o

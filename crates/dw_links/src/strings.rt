@@ -1,8 +1,7 @@
 //! The rules on strings and addresses (DWARF 5, sections 7.26 and 7.27), unit by unit.
 
 ghost use Rattle.std.specs.Prelude.{ℕ, ◌≡◌, ◌⊎◌, ◌<◌, length, Some, slice_get, OnOk, IfErr};
-ghost use Rattle.std.specs.Bool.{OnTrue, OnFalse};
-ghost use Rattle.dw_forms.specs.declared.form.Form.TheVariants as forms;
+ghost use Rattle.std.specs.Bool.{OnFalse};
 ghost use Rattle.dw_forms.specs.Codes.{DW_AT_str_offsets_base, DW_AT_addr_base};
 ghost use Rattle.dw_entries.specs.Entries.{PlacedUnit, entries_of, placed};
 ghost use Rattle.dw_entries.specs.Scanned.{units_of};
@@ -11,9 +10,8 @@ ghost use Rattle.dw_entries.specs.Stopped.{IsFault};
 ghost use Rattle.dw_entries.specs.Failures.{HasNone, IsFirst};
 ghost use Rattle.dw_links.specs.Bases.{base_in};
 ghost use Rattle.dw_links.specs.Ready.{AreEnds, AreTexts};
-ghost use Rattle.dw_links.specs.Strings.{StringFailures};
+ghost use Rattle.dw_links.specs.Strings.{may_lead, StringFailures};
 
-use crate::class::{Class, class_of_form};
 use crate::contribution::named_contribution;
 use crate::rules::{AttributeRules, check_entry, fault_of};
 use crate::texts::{StringEnds, UnitTexts, ask_offset, string_ends};
@@ -22,14 +20,31 @@ use dw_entries::{Broken, Entries, Fault, Head, Rule};
 use dw_forms::{Attribute, AttributeSpec, Form, Value};
 use std::alloc::Global;
 
-/// Whether a text or an address stands in the value itself.
-fn is_inline(form: Form) -> bool
-    ensures { OnTrue result ((form ≡ forms.Text) ⊎ (form ≡ forms.Addr)) }
+/// Whether values of the form may be offsets or indices of strings, or indices of addresses.
+#[inline]
+fn may_lead(form: Form) -> bool
+    ensures { result ≡ may_lead form }
 {
-    matches!(form, Form::Text | Form::Addr)
+    matches!(
+        form,
+        Form::Strp
+            | Form::LineStrp
+            | Form::Strx
+            | Form::Strx1
+            | Form::Strx2
+            | Form::Strx3
+            | Form::Strx4
+            | Form::Addrx
+            | Form::Addrx1
+            | Form::Addrx2
+            | Form::Addrx3
+            | Form::Addrx4
+            | Form::Indirect
+    )
 }
 
 /// Whether an attribute is the base of a contribution.
+#[inline]
 fn is_base(attribute: Attribute) -> bool
     ensures { OnFalse result ((attribute ≡ DW_AT_str_offsets_base) ⊎ (attribute ≡ DW_AT_addr_base) → ⊥) }
 {
@@ -43,18 +58,11 @@ impl AttributeRules for UnitTexts<'_> {
 
     ghost fails = { FailsByTexts };
 
+    #[inline]
     fn concerns(&self, spec: &AttributeSpec) -> bool {
-        if is_inline(spec.form) {
-            return false;
-        }
-        let Some(class) = class_of_form(spec.form) else {
-            return true;
-        };
-        match class {
-            Class::String => true,
-            Class::Address => true,
-            Class::SectionOffset => is_base(spec.attribute),
-            _ => false,
+        match spec.form {
+            Form::SecOffset => is_base(spec.attribute),
+            form => may_lead(form),
         }
     }
 
@@ -118,6 +126,7 @@ pub fn read_texts<'a>(entries: &Entries<'a>, ends: StringEnds, number: usize) ->
 }
 
 /// Keeps what was read of a unit, or reads it of another where that is the next.
+#[inline]
 pub fn keep_texts<'a>(
     texts: &mut UnitTexts<'a>,
     entries: &Entries<'a>,
