@@ -139,7 +139,7 @@ impl<'a> Values<'_, 'a> {
     }
 
     /// The next attribute that is asked for. Values before it are skipped, and where none is asked for, nothing is read.
-    #[inline]
+    #[inline(always)]
     pub fn next_by<C: Choice>(&mut self, choice: &C) -> Option<(Attribute, Value<'a>)>
         ensures some { IfSome result (λ found. IsNextOf (C.passes choice.now) (values_left self.old) (viewed found) (values_left self.new)) }
         ensures none { IfNone result (ArePassed (C.passes choice.now) (values_left self.old)) }
@@ -154,7 +154,7 @@ impl<'a> Values<'_, 'a> {
     }
 
     /// The next attribute that has this code or whose value may be a reference. Values before it are skipped.
-    #[inline]
+    #[inline(always)]
     pub fn next_of(&mut self, attribute: Attribute) -> Option<(Attribute, Value<'a>)>
         ensures some { IfSome result (λ found. IsNextOf (IsOther attribute) (values_left self.old) (viewed found) (values_left self.new)) }
         ensures none { IfNone result (ArePassed (IsOther attribute) (values_left self.old)) }
@@ -173,6 +173,7 @@ impl<'e, 'a> Iterator for Values<'e, 'a> {
 
     ghost remaining = { item_count values_left };
 
+    #[inline(always)]
     fn next(&mut self) -> Option<(Attribute, Value<'a>)> {
         let (spec, specs) = self.specs.split_first()?;
         match read_value(self.version, spec.form, self.address_size, self.bytes) {

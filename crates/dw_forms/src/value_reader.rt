@@ -106,7 +106,7 @@ fn leb_counted(bytes: &[u8]) -> Result<(&[u8], usize), ValueFault>
 }
 
 /// The value of a form that names no other form, and how many bytes it has.
-#[inline(never)]
+#[inline]
 #[tactic(auto, unfolding(crate::specs::ValueReading::layout_at, crate::specs::ValueReading::uleb_then, crate::specs::ValueReading::sleb_then))]
 fn plain(form: Form, address_size: u8, bytes: &[u8]) -> Result<(Value<'_>, usize), ValueFault>
     requires { (address_size ≡ 4) ⊎ (address_size ≡ 8) }
@@ -230,8 +230,26 @@ fn indirect(version: u16, address_size: u8, bytes: &[u8]) -> Result<(Value<'_>, 
     Ok((value, before + len))
 }
 
-/// The value of any form, and how many bytes it has. Offsets of strings and references within a unit, which most
-/// values are that are asked, are read in place.
+/// The value of any form, and how many bytes it has.
+#[inline(never)]
+fn any_value(
+    version: u16,
+    form: Form,
+    address_size: u8,
+    bytes: &[u8],
+) -> Result<(Value<'_>, usize), ValueFault>
+    requires { (address_size ≡ 4) ⊎ (address_size ≡ 8) }
+    ensures within { IfOk result (λ x. x.1 ≤ length bytes.now) }
+    ensures exact { Gives (λ x. (view x.0, drop x.1 bytes.now)) result (value_at version form address_size bytes.now) }
+{
+    match form {
+        Form::Indirect => indirect(version, address_size, bytes),
+        _ => plain(form, address_size, bytes),
+    }
+}
+
+/// The same. Most values that are asked are offsets of strings, references within a unit and numbers of one byte, which
+/// are read in place.
 #[inline(always)]
 #[tactic(auto, unfolding(crate::specs::ValueReading::layout_at))]
 fn value(
@@ -253,8 +271,14 @@ fn value(
             Ok(at) => Ok((Value::RefUnit(u64::from(at)), 4)),
             Err(fault) => Err(fault),
         },
-        Form::Indirect => indirect(version, address_size, bytes),
-        _ => plain(form, address_size, bytes),
+        Form::Data1 => match fixed(bytes, 1) {
+            Ok(number) => Ok((Value::Unsigned(number), 1)),
+            Err(fault) => Err(fault),
+        },
+        _ => match any_value(version, form, address_size, bytes) {
+            Ok((value, len)) => Ok((value, len)),
+            Err(fault) => Err(fault),
+        },
     }
 }
 
@@ -296,7 +320,7 @@ fn skip_long(version: u16, form: Form, address_size: u8, bytes: &[u8]) -> Result
         Form::Block2 => Ok(2 + counted(bytes, 2)?.len()),
         Form::Block4 => Ok(4 + counted(bytes, 4)?.len()),
         Form::Text => Ok(text(bytes)?.len() + 1),
-        _ => Ok(value(version, form, address_size, bytes)?.1),
+        _ => Ok(any_value(version, form, address_size, bytes)?.1),
     }
 }
 

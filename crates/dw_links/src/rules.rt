@@ -124,11 +124,9 @@ pub fn check_entry<R: AttributeRules>(
     ensures ok { OnOk result (PassesAt (entries_of (units_of entries.now.scanned)) id (AtHead (R.fails rules.now))) }
     ensures err { IfErr result (FailsAt (entries_of (units_of entries.now.scanned)) id (AtHead (R.fails rules.now))) }
 {
-    if !concerns_any(rules, &entries.decl(id).attributes) {
-        return Ok(());
-    }
-    let head = entries.head(id);
-    let mut values = entries.values(id);
+    let entry = entries.at(id);
+    let head = entry.head();
+    let mut values = entry.values();
     let concerned = Concerned { rules };
     while let Some(item) = values.next_by(&concerned) {
         if let Some(rule) = rules.ask(&head, item.0, &item.1) {

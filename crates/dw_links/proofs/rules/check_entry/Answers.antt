@@ -1,30 +1,22 @@
 use Rattle.std.proofs.Common.{◌≡◌, Some, ap, ◌∙◌, subst}
-use Rattle.dw_forms.specs.Abbrev.{view as decl_view}
 use Rattle.dw_forms.specs.Value.{view}
 use Rattle.dw_entries.specs.declared.fault.Section.TheVariants.{Info}
 use Rattle.dw_entries.specs.declared.rule.Rule.{Rule}
 use Rattle.dw_entries.specs.declared.lookup.Head.{Head}
-use Rattle.dw_entries.specs.Scanned.{units_of}
 use Rattle.dw_entries.specs.Failures.{IsLeast}
 use Rattle.dw_entries.specs.Asked.{values_of}
 use Rattle.dw_entries.specs.Lookups.{entry_head}
 use Rattle.dw_entries.specs.ValuesLeft.{values_left}
-use Rattle.dw_links.proofs.Skips.{skipped}
 use Rattle.dw_links.proofs.RuleSteps.{none_checked, checked_fails, checked_more, checked_all, fewer}
 use Rattle.dw_links.proofs.rules.check_entry.Goals as goal
 
-pub returns-then-not-concerns_any-clause-ok : goal.returns-then-not-concerns_any-clause-ok
-returns-then-not-concerns_any-clause-ok g c =
-    skipped _ _ (units_of c.args.entries.now.scanned) c.args.id (g.R.AttributeRules.fails c.args.rules.now) (decl_view c.decl.result.now) c.args.entries.now.scanned.1.spells c.decl.ensures
-    (rw (← c.deref.ensures.value) c.if-not-concerns_any.ensures)
-
 pub loop-item-init : goal.loop-item-init
-loop-item-init g c = λ e is. none_checked (g.R.AttributeRules.fails c.args.rules.now) (entry_head e) (values_of e.head) (values_left c.values-values.result) (rw is at c.values-values.ensures)
+loop-item-init g c = λ e is. none_checked (g.R.AttributeRules.fails c.args.rules.now) (entry_head e) (values_of e.head) (values_left c.values-values.result) (rw (c.at-entry.ensures ∙ is) at c.values-values.ensures)
 
 pub returns-in-Some-ask-clause-err : goal.returns-in-Some-ask-clause-err
 returns-in-Some-ask-clause-err g c = λ e is.
     let Fails = g.R.AttributeRules.fails c.args.rules.now in
-    let head : c.head-head.result ≡ entry_head e = rw is at c.head-head.ensures in
+    let head : c.head-head.result ≡ entry_head e = rw (c.at-entry.ensures ∙ is) at c.head-head.ensures in
     let P : Head → Type 0 = λ h. IsLeast (Fails h c.in-Some.item.0 (view c.in-Some.item.1)) (Some c.in-Some-ask.rule) in
     checked_fails Fails e (values_left c.loop-item.values) (values_left c.next_by.new.self) c.in-Some.item.0 (view c.in-Some.item.1) (c.loop-item.invariant e is) c.in-Some.ensures.some c.in-Some-ask.rule c.broken_at.result
     (subst P head c.in-Some-ask.ensures) (c.broken_at.ensures ∙ ap (λ (h : Head). record { rule = c.in-Some-ask.rule; section = Info; at = h.offset; attribute = c.in-Some.item.0 }) head)
@@ -32,7 +24,7 @@ returns-in-Some-ask-clause-err g c = λ e is.
 pub loop-item-preserved : goal.loop-item-preserved
 loop-item-preserved g c = λ e is.
     let Fails = g.R.AttributeRules.fails c.args.rules.now in
-    let head : c.head-head.result ≡ entry_head e = rw is at c.head-head.ensures in
+    let head : c.head-head.result ≡ entry_head e = rw (c.at-entry.ensures ∙ is) at c.head-head.ensures in
     let P : Head → Type 0 = λ h. (r : Rule) → Fails h c.in-Some.item.0 (view c.in-Some.item.1) r → ⊥ in
     checked_more Fails e (values_left c.loop-item.values) (values_left c.next_by.new.self) c.in-Some.item.0 (view c.in-Some.item.1) (c.loop-item.invariant e is) c.in-Some.ensures.some (subst P head c.in_default-ask.ensures)
 
