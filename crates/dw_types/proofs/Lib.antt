@@ -17,7 +17,6 @@ pub mod PackingLemmas
 pub mod CapLemmas
 pub mod StepLemmas
 pub mod StepListLemmas
-pub mod StepPackingLemmas
 pub mod StepPlaceLemmas
 pub mod RowLemmas
 pub mod RoleLemmas

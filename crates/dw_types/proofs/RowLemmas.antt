@@ -18,7 +18,7 @@ use Rattle.dw_types.specs.declared.step_list.Step.{Step}
 use Rattle.dw_types.specs.StepLists.{row_of, rows_of, steps_to, to_of}
 use Rattle.dw_types.specs.Steps.{is_plain_member, IsStepByValue, by_type, by_member, by_signature, targets_if, member_step, member_steps, own_steps, row_so_far, steps_by_value, by_value, IsMemberOf}
 use Rattle.dw_types.proofs.StepListLemmas.{row-append, row-steps_to, row-steps_to_other}
-use Rattle.dw_types.proofs.StepPackingLemmas.{get_or-rows_of, length-rows_of}
+use Rattle.dw_types.proofs.StepPlaceLemmas.{get_or-rows_of, length-rows_of}
 use Rattle.dw_types.proofs.StepLemmas.{by_value-from_step, length-by_value}
 
 pub range-more : (from n : ℕ) → range_with_len from (suc n) ≡ range_with_len from n ++ (from + n) ∷ []

@@ -1,5 +1,5 @@
 -- Steps that are counted by the nodes that they come from, and put in places by the counts.
-use Rattle.std.proofs.Common.{◌≡◌, ◌≢◌, ℕ, zero, suc, ◌+◌, ◌-◌, ◌<◌, ◌≤◌, List, [], ◌∷◌, ◌++◌, length, take, drop, get_or, set, replicate, map, inl, inr, refl, sym, ap, ◌∙◌, arith, eq-eqb, ne_eqb, length-append, length-set, get_or-set_same, get_or-set_other}
+use Rattle.std.proofs.Common.{◌≡◌, ◌≢◌, ℕ, zero, suc, ◌+◌, ◌-◌, ◌<◌, ◌≤◌, List, [], ◌∷◌, ◌++◌, length, take, drop, get_or, set, replicate, inl, inr, refl, sym, ap, ◌∙◌, arith, eq-eqb, ne_eqb, length-append, length-set, get_or-set_other}
 use Rattle.std.specs.Prelude.{All}
 use Rattle.std.specs.List.{range_with_len}
 use Rattle.std.proofs.lemmas.Bool.{cases_eq, cases_lt}
@@ -238,10 +238,10 @@ module _ (steps placed rest : List Step) (step : Step) (nodes : ℕ) (kept ends 
 
 -- ---- the graph, once all steps are placed
 
-length-rows_of : (steps : List Step) (nodes : ℕ) → length (rows_of steps nodes) ≡ nodes
+pub length-rows_of : (steps : List Step) (nodes : ℕ) → length (rows_of steps nodes) ≡ nodes
 length-rows_of steps nodes = length-map (range_with_len 0 nodes) (row_of steps) ∙ length-range_with_len 0 nodes
 
-get_or-rows_of : (steps : List Step) (nodes node : ℕ) → node < nodes → get_or (rows_of steps nodes) node [] ≡ row_of steps node
+pub get_or-rows_of : (steps : List Step) (nodes node : ℕ) → node < nodes → get_or (rows_of steps nodes) node [] ≡ row_of steps node
 get_or-rows_of steps nodes node below =
     let long = length-range_with_len 0 nodes in
     get_or-map (row_of steps) (range_with_len 0 nodes) node 0 [] (omega arith) ∙ ap (row_of steps) (get_or-range_with_len 0 nodes node 0 below ∙ omega arith)

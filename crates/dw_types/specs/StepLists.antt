@@ -5,10 +5,7 @@ use Rattle.dw_types.specs.declared.step_list.Step.{Step}
 use Rattle.dw_types.specs.Graphs.{Graph}
 use Rattle.dw_types.specs.Packing.{LeadsBelow}
 
--- the nodes of a step
-abbrev pub from_of : Step → ℕ
-from_of step = step.from
-
+-- the node that a step leads to
 abbrev pub to_of : Step → ℕ
 to_of step = step.to
 

@@ -11,8 +11,7 @@ pub(crate) struct Step {
 
 impl Step {
     ghost use Rattle.std.specs.Prelude.{◌≡◌, ◌++◌, ◌^◌, ◌<◌, ℕ, Some, OnOk};
-    ghost use Rattle.std.specs.List.Sorted.{IsNonDecreasingBy, IsPermutation};
-    ghost use Rattle.dw_types.specs.StepLists.{from_of, row_of, steps_to};
+    ghost use Rattle.dw_types.specs.StepLists.{steps_to};
 
     /// Adds the step from a node to another one, if that is named.
     pub(crate) fn add(
@@ -31,16 +30,6 @@ impl Step {
             })?,
             None => {}
         }
-        Ok(())
-    }
-
-    /// Brings the steps in the order of the nodes that they come from. Those of one node keep theirs.
-    pub(crate) fn sort(steps: &mut Vec<Step>) -> Result<(), AllocError>
-        ensures rises { OnOk result (IsNonDecreasingBy from_of steps.new.items) }
-        ensures same { IsPermutation steps.old.items steps.new.items }
-        ensures rows { OnOk result ((node : ℕ) → row_of steps.new.items node ≡ row_of steps.old.items node) }
-    {
-        steps.sort_by_key(|step| step.from)?;
         Ok(())
     }
 }

@@ -1,7 +1,7 @@
 use Rattle.std.proofs.Common.{take, get_or, arith}
 use Rattle.std.proofs.lemmas.List.{length-take-le, take_more}
 use Rattle.dw_types.specs.declared.step_list.Step.{Step}
-use Rattle.dw_types.proofs.StepPlaceLemmas.{counts-more, counts-none, counts-past, length-row}
+use Rattle.dw_types.proofs.StepPlaceLemmas.{counts-more, counts-past, length-row}
 use Rattle.dw_types.proofs.packed.count_rows.Goals as goal
 use Rattle.dw_types.proofs.packed.count_rows.Goals.{then-from-nodes+in_ok-set, else-from-nodes}
 

@@ -1,4 +1,4 @@
-use Rattle.std.proofs.Common.{◌<◌, ◌+◌, take, drop, length, get_or, arith}
+use Rattle.std.proofs.Common.{◌+◌, take, drop, get_or, arith}
 use Rattle.std.proofs.lemmas.List.{take_more}
 use Rattle.dw_types.specs.declared.step_list.Step.{Step}
 use Rattle.dw_types.proofs.StepPlaceLemmas.{place-within, placed-more, placed-past, split-at}
