@@ -20,6 +20,7 @@ pub mod StepListLemmas
 pub mod StepPlaceLemmas
 pub mod RowLemmas
 pub mod RoleLemmas
+pub mod UnaskedLemmas
 pub mod FirstLemmas
 pub mod ElementCountLemmas
 pub mod TableLemmas

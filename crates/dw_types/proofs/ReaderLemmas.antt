@@ -1,22 +1,20 @@
 -- Single facts of an entry, as they are read.
-use Rattle.std.proofs.Common.{◌≡◌, ℕ, ◌<◌, Bool, true, false, if◌then◌else◌, List, length, Option, None, Some, IfSome, is_some, inl, inr, refl, sym, ap, ◌∙◌, arith}
+use Rattle.std.proofs.Common.{◌≡◌, ℕ, ◌<◌, Bool, true, false, if◌then◌else◌, List, length, Option, None, Some, IfSome, inl, inr, refl, sym, ap, ◌∙◌, arith}
 use Rattle.std.specs.Prelude.{slice_get}
 use Rattle.std.proofs.lemmas.Option.{IfSome_then, slice_get_cases}
-use Rattle.dw_forms.specs.Codes.{DW_AT_abstract_origin, DW_AT_bit_size, DW_AT_bit_stride, DW_AT_byte_size, DW_AT_byte_stride, DW_AT_count, DW_AT_data_bit_offset, DW_AT_data_member_location, DW_AT_declaration, DW_AT_lower_bound, DW_AT_signature, DW_AT_specification, DW_AT_type, DW_AT_upper_bound}
-use Rattle.dw_forms.specs.Value.{Datum}
+use Rattle.dw_forms.specs.Codes.{DW_AT_abstract_origin, DW_AT_bit_size, DW_AT_bit_stride, DW_AT_byte_size, DW_AT_byte_stride, DW_AT_count, DW_AT_data_bit_offset, DW_AT_data_member_location, DW_AT_lower_bound, DW_AT_signature, DW_AT_specification, DW_AT_type, DW_AT_upper_bound}
 use Rattle.dw_entries.specs.declared.lookup.Head.{Head}
 use Rattle.dw_entries.specs.Entries.{Entry, PlacedUnit, entries_of, placed}
-use Rattle.dw_entries.specs.Lookups.{entry_head, value_at_entry}
+use Rattle.dw_entries.specs.Lookups.{entry_head}
 use Rattle.dw_entries.specs.Units.{DebugUnit}
-use Rattle.dw_links.specs.References.{is_declared, is_true}
-use Rattle.dw_links.specs.Targets.{target_of}
+use Rattle.dw_links.specs.References.{is_declared}
 use Rattle.dw_types.specs.declared.constant.Constant.TheVariants.{Absent}
 use Rattle.dw_types.specs.declared.facts.Facts.{Facts}
 use Rattle.dw_types.specs.Entries.{entry_at}
 use Rattle.dw_types.specs.FactsAsked.{IsConstantAt, IsPresenceOf, IsTargetOf}
 use Rattle.dw_types.specs.FactsOf.{facts_at, facts_in, facts_read, facts_unread, is_asked}
 use Rattle.dw_types.specs.UnitsRead.{unit_facts_at}
-use Rattle.dw_types.proofs.FactsLemmas.{facts-get, facts-offset, facts-parent, facts-tag}
+use Rattle.dw_types.proofs.FactsLemmas.{facts-get}
 
 pub by-asked : {A X : Type 0} (fact : A → X) (asked : Bool) (read unread : A) → fact (if asked then read else unread) ≡ (if asked then fact read else fact unread)
 by-asked fact true read unread = refl

@@ -88,6 +88,10 @@ fn steps_of(alloc: Global, entries: &EntryFacts<'_, '_>) -> Result<Vec<Step>, St
     let mut roles = Roles::with_room(alloc, entries.count())?;
     for child in 0..entries.count() {
         let entry = entries.at(child);
+        if !entry.is_asked() {
+            roles.push_other()?;
+            continue;
+        }
         let parent = roles.of_parent(entry.parent());
         if let Some(rule) = entry.broken_shape(parent) {
             return Err(Stop::Fault(fault_at_entry(alloc, rule, entry.offset())));

@@ -126,6 +126,14 @@ impl<'e, 'r, 'a> EntryReader<'e, 'r, 'a> {
         self.entry.tag()
     }
 
+    /// Whether the rules on types look at the entry.
+    #[inline]
+    pub(crate) fn is_asked(&self) -> bool
+        ensures { result ≡ is_asked self.now.tag }
+    {
+        is_asked(self.tag())
+    }
+
     /// The number of its parent.
     #[inline]
     pub(crate) fn parent(&self) -> Option<usize>

@@ -1,6 +1,7 @@
 //! What entries are to their children, listed as a pass over the entries goes on.
 
 ghost use Rattle.std.specs.Prelude.{◌≡◌, ◌<◌, [], ◌∷◌, ◌++◌, ℕ, Some, length, IfOk, OnOk};
+ghost use Rattle.dw_types.specs.declared.kind.Role.TheVariants.{Other};
 ghost use Rattle.dw_types.specs.Kinds.{role_of};
 ghost use Rattle.dw_types.specs.Roles.{role_listed};
 
@@ -41,6 +42,15 @@ impl Roles {
         ensures { OnOk result (self.new ≡ self.old ++ role_of entry.now ∷ []) }
     {
         self.roles.push(entry.role())?;
+        Ok(())
+    }
+
+    /// Adds that of an entry that is nothing to its children.
+    #[inline]
+    pub(crate) fn push_other(&mut self) -> Result<(), AllocError>
+        ensures { OnOk result (self.new ≡ self.old ++ Other ∷ []) }
+    {
+        self.roles.push(Role::Other)?;
         Ok(())
     }
 

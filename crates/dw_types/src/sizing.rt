@@ -63,6 +63,10 @@ fn first_wrong_size(
     let mut roles = Roles::with_room(alloc, entries.count())?;
     for node in 0..entries.count() {
         let entry = entries.at(node);
+        if !entry.is_asked() {
+            roles.push_other()?;
+            continue;
+        }
         let parent = roles.of_parent(entry.parent());
         if let Some(rule) = entry.broken_size(parent, sizes.at(node), sizes) {
             return Ok(Some((node, rule)));

@@ -1,4 +1,5 @@
-use Rattle.std.proofs.Common.{◌≡◌, ℕ, ◌+◌, ◌<◌, Some, length, arith, ◌∙◌}
+use Rattle.std.proofs.Common.{◌≡◌, ℕ, ◌+◌, ◌<◌, [], ◌∷◌, ◌++◌, Some, length, arith, sym, ap, ◌∙◌}
+use Rattle.dw_types.specs.declared.kind.Role.{Role}
 use Rattle.dw_types.specs.Entries.{entry_at}
 use Rattle.dw_types.specs.Kinds.{parent_role}
 use Rattle.dw_types.specs.Roles.{roles_of_first}
@@ -6,6 +7,7 @@ use Rattle.dw_types.specs.Shapes.{fails_shape}
 use Rattle.dw_types.proofs.FirstLemmas.{first-here, first-of_entries, passes-more}
 use Rattle.dw_types.proofs.RoleLemmas.{parent-listed, role-listed, roles-more}
 use Rattle.dw_types.proofs.RowLemmas.{member-target, steps-all, steps-member, steps-none, steps-plain}
+use Rattle.dw_types.proofs.UnaskedLemmas.{unasked-role, unasked-shape, unasked-steps}
 use Rattle.dw_types.proofs.by_value.steps_of.Goals as goal
 use Rattle.dw_types.proofs.by_value.steps_of.Goals.{in-Some-member_of+in_ok-add-3, in_default-member_of}
 
@@ -57,6 +59,17 @@ returns-in-Some-clause-fault c =
 
 pub loop-child-init : goal.loop-child-init
 loop-child-init c = rw c.in_ok-steps.ensures.items (steps-none c.args.entries.now, c.in_ok-roles.ensures, λ k below. absurd (omega arith))
+
+pub loop-child-preserved-then-not-is_asked : goal.loop-child-preserved-then-not-is_asked
+loop-child-preserved-then-not-is_asked c =
+    let entries = c.args.entries.now in
+    let child = c.loop-child.child in
+    let inside : child < length entries = rw (← c.count-child-end.ensures) c.loop-child-test.true in
+    let unasked = rw c.at-entry.ensures at (sym c.is_asked.ensures ∙ c.if-not-is_asked.true) in (
+      unasked-steps entries c.loop-child.steps.items child c.requires.parents c.loop-child.invariant.0 unasked,
+      rw (c.in_ok-push_other.ensures, c.loop-child.invariant.1) (ap (λ (role : Role). roles_of_first entries child ++ role ∷ []) (sym (unasked-role (entry_at entries child) unasked)) ∙ roles-more entries child inside),
+      passes-more (fails_shape entries) child c.loop-child.invariant.2 (unasked-shape (entry_at entries child) unasked (parent_role entries child)),
+    )
 
 pub loop-child-preserved : goal.loop-child-preserved
 loop-child-preserved c =

@@ -1,0 +1,106 @@
+-- An entry that the rules on types don't look at makes no step, has no role and breaks no rule.
+use Rattle.std.proofs.Common.{◌≡◌, ℕ, Bool, true, false, ◌&&◌, List, [], ◌∷◌, ◌++◌, ◌+◌, ◌^◌, None, nat_eq, refl, sym, ap, subst, ◌∙◌, arith, append-nil}
+use Rattle.std.proofs.lemmas.Bool.{eqb-true, false_from_ne_true}
+use Rattle.dw_forms.specs.Codes.{DW_TAG_array_type, DW_TAG_atomic_type, DW_TAG_base_type, DW_TAG_const_type, DW_TAG_enumeration_type, DW_TAG_member, DW_TAG_pointer_type, DW_TAG_restrict_type, DW_TAG_subrange_type, DW_TAG_subroutine_type, DW_TAG_typedef, DW_TAG_volatile_type}
+use Rattle.dw_entries.specs.declared.rule.Rule.{Rule}
+use Rattle.dw_entries.specs.declared.rule.Rule.TheVariants.{MissingType, BadCount, NoSize, SizeTooGreat, MemberOutside, EnumSize}
+use Rattle.dw_types.specs.declared.facts.Facts.{Facts}
+use Rattle.dw_types.specs.declared.kind.Kind.{Kind}
+use Rattle.dw_types.specs.declared.kind.Kind.TheVariants.{NoType}
+use Rattle.dw_types.specs.declared.kind.Role.{Role}
+use Rattle.dw_types.specs.declared.kind.Role.TheVariants.{Other}
+use Rattle.dw_types.specs.declared.step_list.Step.{Step}
+use Rattle.dw_types.specs.Entries.{entry_at, ParentsComeFirst}
+use Rattle.dw_types.specs.FactsOf.{is_asked}
+use Rattle.dw_types.specs.Kinds.{alias_tags, container_tags, declarable_tags, has_members, is_declared_type, is_one_of, kind_of, own_sized_tags, parent_role, passes_type_on, role_of}
+use Rattle.dw_types.specs.Shapes.{breaks_shape}
+use Rattle.dw_types.specs.SizeFaults.{breaks_size, fails_size, has_no_size, reads_own, wants_own}
+use Rattle.dw_types.specs.SizeTables.{Size, cap_size}
+use Rattle.dw_types.specs.Sizes.{size_line, size_of_kind, size_to}
+use Rattle.dw_types.specs.Steps.{member_step, targets_if}
+use Rattle.dw_types.proofs.RowLemmas.{HasSteps, steps-plain}
+
+-- whose tag is none of those that are asked
+module _ (entry : Facts) (unasked : is_asked entry.tag ≡ false) where
+  not-tag : (asked : ℕ) → is_asked asked ≡ true → nat_eq entry.tag asked ≡ false
+  not-tag asked is = false_from_ne_true (nat_eq entry.tag asked) (λ same. let e : entry.tag ≡ asked = eqb-true entry.tag asked same in let no : is_asked entry.tag ≡ true = ap is_asked e ∙ is in cc)
+
+  abbrev AreAsked : List ℕ → Type 0
+  AreAsked [] = Unit {0}
+  AreAsked (x ∷ xs) = (is_asked x ≡ true) × AreAsked xs
+
+  not-one : (tags : List ℕ) → AreAsked tags → is_one_of tags entry.tag ≡ false
+  not-one [] are = refl
+  not-one (x ∷ xs) are = rw (not-tag x are.0) (not-one xs are.1)
+
+  pub unasked-passes : passes_type_on entry ≡ false
+  unasked-passes = not-one (DW_TAG_typedef ∷ DW_TAG_const_type ∷ DW_TAG_volatile_type ∷ DW_TAG_restrict_type ∷ DW_TAG_atomic_type ∷ DW_TAG_array_type ∷ DW_TAG_enumeration_type ∷ []) (refl, (refl, (refl, (refl, (refl, (refl, (refl, tt)))))))
+
+  pub unasked-declared : is_declared_type entry ≡ false
+  unasked-declared = rw (not-one declarable_tags (refl, (refl, (refl, tt)))) refl
+
+  pub unasked-role : role_of entry ≡ Other
+  unasked-role = rw (not-one container_tags (refl, (refl, tt)), not-tag DW_TAG_array_type refl) refl
+
+  pub unasked-shape : (parent : Role) (rule : Rule) → breaks_shape parent entry rule ≡ true → ⊥
+  unasked-shape parent MissingType breaks = let array = not-tag DW_TAG_array_type refl in let member = not-tag DW_TAG_member refl in let no : false ≡ true = rw (array, member) at breaks in absurd cc
+  unasked-shape parent BadCount breaks = let subrange = not-tag DW_TAG_subrange_type refl in let no : false ≡ true = rw subrange at breaks in absurd cc
+  unasked-shape parent _ breaks = absurd cc
+
+  unasked-kind : kind_of entry ≡ NoType
+  unasked-kind =
+      let own = not-one own_sized_tags (refl, (refl, (refl, (refl, (refl, (refl, (refl, (refl, (refl, (refl, (refl, (refl, (refl, (refl, (refl, (refl, (refl, (refl, (refl, tt))))))))))))))))))) in
+      rw (
+        not-one declarable_tags (refl, (refl, (refl, tt))),
+        not-tag DW_TAG_pointer_type refl,
+        not-one alias_tags (refl, (refl, (refl, (refl, (refl, tt))))),
+        not-tag DW_TAG_enumeration_type refl,
+        not-tag DW_TAG_array_type refl,
+        not-tag DW_TAG_subroutine_type refl,
+        own,
+      ) refl
+
+  unasked-wants : wants_own entry ≡ false
+  unasked-wants = rw (not-tag DW_TAG_base_type refl, not-one container_tags (refl, (refl, tt)), not-tag DW_TAG_array_type refl) refl
+
+  unasked-size_none : has_no_size entry ≡ true → ⊥
+  unasked-size_none breaks =
+      let reads : reads_own (kind_of entry) ≡ false = ap reads_own unasked-kind in
+      let wants = unasked-wants in
+      grind (arith, reads, wants, breaks)
+
+  -- where it has no size, no rule on sizes is broken
+  pub unasked-sized : (parent : Role) (container type_size : Size) (rule : Rule) → breaks_size parent entry None container type_size rule ≡ true → ⊥
+  unasked-sized parent container type_size NoSize breaks = unasked-size_none breaks
+  unasked-sized parent container type_size SizeTooGreat breaks = absurd cc
+  unasked-sized parent container type_size MemberOutside breaks = let member = not-tag DW_TAG_member refl in let no : false ≡ true = rw member at breaks in absurd cc
+  unasked-sized parent container type_size EnumSize breaks = let enumeration = not-tag DW_TAG_enumeration_type refl in let no : false ≡ true = rw enumeration at breaks in absurd cc
+  unasked-sized parent container type_size _ breaks = absurd cc
+
+-- it has no size in a table that obeys the capped lines, and so breaks no rule on sizes
+pub unasked-size : (entries : List Facts) (table : ℕ → Size) (node : ℕ) → table node ≡ cap_size (2 ^ 63) (size_line entries table node) → is_asked (entry_at entries node).tag ≡ false → (rule : Rule) → fails_size entries table node rule ≡ true → ⊥
+unasked-size entries table node obeys unasked rule breaks =
+    let none : table node ≡ None = obeys ∙ ap (λ (kind : Kind). cap_size (2 ^ 63) (size_of_kind kind entries table node)) (unasked-kind (entry_at entries node) unasked) in
+    let entry = entry_at entries node in
+    let parent = parent_role entries node in
+    let P : Size → Type 0 = λ size. breaks_size parent entry size (size_to table entry.parent) (size_to table entry.type_target) rule ≡ true in
+    unasked-sized entry unasked parent (size_to table entry.parent) (size_to table entry.type_target) rule (subst P none breaks)
+
+and-false : (a : Bool) → (a && false) ≡ false
+and-false true = refl
+and-false false = refl
+
+-- it is no member of any entry
+pub unasked-member : (entries : List Facts) (node child : ℕ) → is_asked (entry_at entries child).tag ≡ false → member_step entries node child ≡ []
+unasked-member entries node child unasked = let member = not-tag (entry_at entries child) unasked DW_TAG_member refl in rw (member, and-false (has_members (entry_at entries node))) refl
+
+-- no step is added for it
+pub unasked-steps : (entries : List Facts) (steps : List Step) (count : ℕ) → ParentsComeFirst entries → HasSteps entries steps count → is_asked (entry_at entries count).tag ≡ false → HasSteps entries steps (count + 1)
+unasked-steps entries steps count first h unasked =
+    let entry = entry_at entries count in
+    let type : [] ≡ targets_if (passes_type_on entry) entry.type_target = ap (λ (b : Bool). targets_if b entry.type_target) (sym (unasked-passes entry unasked)) in
+    let signature : [] ≡ targets_if (is_declared_type entry) entry.signature_target = ap (λ (b : Bool). targets_if b entry.signature_target) (sym (unasked-declared entry unasked)) in
+    let own = steps-plain entries steps count first h None None type signature (λ to is. absurd cc) (λ to is. absurd cc) (λ node. unasked-member entries node count unasked) in
+    let same : (steps ++ []) ++ [] ≡ steps = append-nil (steps ++ []) ∙ append-nil steps in
+    let P : List Step → Type 0 = λ s. HasSteps entries s (count + 1) in
+    subst P same own
