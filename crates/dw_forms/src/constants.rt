@@ -279,6 +279,7 @@ impl Model for Language {
 impl Tag {
     /// Whether entries with this tag are types. Which tags are is this project's choice: those of the C
     /// types, and those of the types of other languages.
+    #[inline(always)]
     pub fn is_type(self) -> bool
         ensures { result ≡ is_type_tag self }
     {

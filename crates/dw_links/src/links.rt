@@ -62,6 +62,7 @@ pub fn link<'r, 'a>(alloc: Global, entries: &'r Entries<'a>) -> Result<Links<'r,
 
 impl<'a> Links<'_, 'a> {
     /// The entry that an entry's attribute reaches. None where the attribute is absent or no reference.
+    #[inline]
     pub fn target(&self, id: EntryId, attribute: Attribute) -> Option<EntryId>
         requires { id < length (entries_of (units_of self.now.entries.now.scanned)) }
         ensures exact { IfSome (slice_get (entries_of (units_of self.now.entries.now.scanned)) id) (λ e. result ≡ target_of (entries_of (units_of self.now.entries.now.scanned)) (placed (units_of self.now.entries.now.scanned)) e attribute) }

@@ -70,6 +70,7 @@ impl UnitTables {
     }
 
     /// The entry that an entry's attribute reaches. None where the attribute is absent or no reference.
+    #[inline]
     pub fn target(
         &self,
         entries: &Entries<'_>,
