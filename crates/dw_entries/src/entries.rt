@@ -48,6 +48,7 @@ impl<'a> Entries<'a> {
     }
 
     /// What is kept of an entry.
+    #[inline(always)]
     pub(crate) fn record(&self, id: EntryId) -> Record
         requires { id < length (entries_of (units_of self.now.scanned)) }
         ensures { slice_get (records_of (units_of self.now.scanned)) id ≡ Some result }
@@ -56,7 +57,7 @@ impl<'a> Entries<'a> {
     }
 
     /// The entry that begins at an offset of .debug_info. The search begins at the hint of the offset's block.
-    #[inline]
+    #[inline(always)]
     pub(crate) fn find_at(&self, offset: u64) -> Option<EntryId>
         ensures found { IfSome result (IsEntryAt (entries_of (units_of self.now.scanned)) offset) }
         ensures none { IfNone result ((id : ℕ) → IsEntryAt (entries_of (units_of self.now.scanned)) offset id → ⊥) }
@@ -78,6 +79,7 @@ impl<'a> Entries<'a> {
     }
 
     /// The entry whose first byte is at this offset of .debug_info.
+    #[inline(always)]
     pub fn find(&self, offset: u32) -> Option<EntryId>
         ensures found { IfSome result (λ id. IfSome (slice_get (entries_of (units_of self.now.scanned)) id) (λ e. e.at ≡ offset)) }
         ensures within { IfSome result (λ id. id < length (entries_of (units_of self.now.scanned))) }

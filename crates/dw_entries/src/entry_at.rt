@@ -24,7 +24,7 @@ use dw_forms::{Attribute, Decl, Tag, Value};
 use std::marker::Model;
 
 /// Whether entries with this declaration may have an attribute. False says that none has it.
-#[inline]
+#[inline(always)]
 #[tactic(auto, using(crate::proofs::LeftLaws::declares_none))]
 fn may_have(decl: &Decl, attribute: Attribute) -> bool
     ensures { OnFalse result (declares decl.now.attributes.items attribute ≡ false) }
@@ -32,7 +32,7 @@ fn may_have(decl: &Decl, attribute: Attribute) -> bool
     decl.may_have(attribute)
 }
 
-#[inline]
+#[inline(always)]
 fn id_of(optional: OptionalId) -> Option<EntryId>
     ensures { result ≡ optional }
 {
@@ -65,7 +65,7 @@ impl<'e, 'a> Model for EntryAt<'e, 'a> {
 
 impl<'a> Entries<'a> {
     /// The entry with this number.
-    #[inline]
+    #[inline(always)]
     pub fn at(&self, id: EntryId) -> EntryAt<'_, 'a>
         requires { id < length (entries_of (units_of self.now.scanned)) }
         ensures { result ≡ slice_get (entries_of (units_of self.now.scanned)) id }
@@ -84,14 +84,14 @@ impl<'a> Entries<'a> {
 
 impl<'e, 'a> EntryAt<'e, 'a> {
     /// Where the entry starts.
-    #[inline]
+    #[inline(always)]
     pub fn offset(&self) -> u32
         ensures { IfSome self.now (λ e. result ≡ e.at) }
     {
         self.kept.at
     }
 
-    #[inline]
+    #[inline(always)]
     pub fn tag(&self) -> Tag
         ensures { IfSome self.now (λ e. result ≡ e.head.decl.tag) }
     {
@@ -99,7 +99,7 @@ impl<'e, 'a> EntryAt<'e, 'a> {
     }
 
     /// Whether it is a type, as `Tag::is_type` says.
-    #[inline]
+    #[inline(always)]
     pub fn is_type(&self) -> bool
         ensures { IfSome self.now (λ e. result ≡ is_type_tag e.head.decl.tag) }
     {
@@ -107,14 +107,14 @@ impl<'e, 'a> EntryAt<'e, 'a> {
     }
 
     /// The number of its unit.
-    #[inline]
+    #[inline(always)]
     pub fn unit(&self) -> usize
         ensures { IfSome self.now (λ e. result ≡ e.unit) }
     {
         self.kept.unit as usize
     }
 
-    #[inline]
+    #[inline(always)]
     pub fn parent(&self) -> Option<EntryId>
         ensures { IfSome self.now (λ e. result ≡ e.parent) }
     {
@@ -122,7 +122,7 @@ impl<'e, 'a> EntryAt<'e, 'a> {
     }
 
     /// Its declaration.
-    #[inline]
+    #[inline(always)]
     pub(crate) fn decl(&self) -> &'e Decl
         ensures { IfSome self.now (λ e. decl_view result.now ≡ e.head.decl) }
     {
@@ -130,7 +130,7 @@ impl<'e, 'a> EntryAt<'e, 'a> {
     }
 
     /// What is told of the entry besides its attributes.
-    #[inline]
+    #[inline(always)]
     pub fn head(&self) -> Head
         ensures { IfSome self.now (λ e. result ≡ entry_head e) }
     {
@@ -145,7 +145,7 @@ impl<'e, 'a> EntryAt<'e, 'a> {
     }
 
     /// The bytes of its values, and those behind them.
-    #[inline]
+    #[inline(always)]
     fn value_bytes(&self) -> &'a [u8]
         ensures { IfSome self.now (λ e. (rest : List ℕ) × (result.now ≡ flat_map attribute_bytes e.head.attributes ++ rest)) }
     {
@@ -157,7 +157,7 @@ impl<'e, 'a> EntryAt<'e, 'a> {
     }
 
     /// Its attributes in their order, each value decoded when it is asked.
-    #[inline]
+    #[inline(always)]
     pub fn values(&self) -> Values<'e, 'a>
         ensures { IfSome self.now (λ e. values_left result ≡ values_of e.head) }
     {
@@ -170,7 +170,7 @@ impl<'e, 'a> EntryAt<'e, 'a> {
     }
 
     /// The value of its attribute, if it has that attribute.
-    #[inline]
+    #[inline(always)]
     pub fn value(&self, attribute: Attribute) -> Option<Value<'a>>
         ensures { IfSome self.now (λ e. option_map view result ≡ value_at_entry e attribute) }
     {

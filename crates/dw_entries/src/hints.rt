@@ -12,7 +12,7 @@ pub const BLOCK: usize = 64;
 
 /// The number of the first record that stands at an offset or behind it. The search begins at a record before
 /// which none does.
-#[inline]
+#[inline(always)]
 pub fn first_from(records: &[Record], start: usize, offset: usize) -> usize
     requires within { start ≤ length records.now }
     requires before { (i : ℕ) (r : RecordData) → i < start → slice_get records.now i ≡ Some r → r.at < offset }

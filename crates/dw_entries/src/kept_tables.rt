@@ -46,7 +46,7 @@ impl KeptTables {
     }
 
     /// The table at a place.
-    #[inline]
+    #[inline(always)]
     pub fn get(&self, place: u32) -> SharedTable<'_>
         requires { place < length self.now }
         ensures { slice_get self.now place ≡ Some (declarations result) }

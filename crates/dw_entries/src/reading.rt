@@ -55,7 +55,7 @@ fn value_rule(fault: ValueFault) -> Rule
 }
 
 /// The code at the front, and the bytes behind it.
-#[inline]
+#[inline(always)]
 #[tactic(auto, unfolding(crate::specs::Reading::code_at))]
 pub fn read_code(bytes: &[u8]) -> Result<(u64, &[u8]), Failing>
     ensures { Gives (λ x. (x.0, x.1.now)) result (seen (λ c. c.number) (code_at bytes.now)) }
@@ -113,7 +113,7 @@ fn skip_each<'b>(
 }
 
 /// The bytes behind the values of an entry. Values that have one size each are skipped together.
-#[inline]
+#[inline(always)]
 fn skip_attributes<'b>(
     context: UnitContext<'_>,
     decl: &Decl,
@@ -129,6 +129,7 @@ fn skip_attributes<'b>(
 }
 
 /// The declaration with this code.
+#[inline(always)]
 fn find_decl(context: UnitContext<'_>, code: u64) -> Option<Declared<'_>>
     ensures decl { option_map (λ d. view d.decl.now) result ≡ declared_in (declarations context.entry.table) code }
     ensures place { IfSome result
@@ -144,6 +145,7 @@ fn find_decl(context: UnitContext<'_>, code: u64) -> Option<Declared<'_>>
 }
 
 /// The item at the front, and the bytes behind it.
+#[inline(always)]
 #[tactic(auto, unfolding(crate::specs::Reading::item_at, crate::specs::Reading::entry_at))]
 pub fn read_item<'a, 'b>(
     context: UnitContext<'a>,

@@ -54,6 +54,7 @@ pub struct Level {
 }
 
 /// The entry of this number is followed by this sibling.
+#[inline(always)]
 fn set_next(records: &mut Vec<Record>, at: u32, id: u32)
     requires { id < 0xffffffff }
     ensures { records.new.items ≡ link at id records.old.items }
@@ -64,6 +65,7 @@ fn set_next(records: &mut Vec<Record>, at: u32, id: u32)
 }
 
 /// Takes an entry up: the last one in its list is followed by it, and its own list is opened where it may have children.
+#[inline(always)]
 pub fn enter(
     records: &mut Vec<Record>,
     levels: &mut Vec<Level>,

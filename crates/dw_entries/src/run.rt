@@ -10,6 +10,7 @@ use crate::id::EntryId;
 
 impl Entries<'_> {
     /// The entry with this number.
+    #[inline(always)]
     pub fn id(&self, number: usize) -> EntryId
         requires { number < length (entries_of (units_of self.now.scanned)) }
         ensures { result ≡ number }
@@ -18,6 +19,7 @@ impl Entries<'_> {
     }
 
     /// The number of an entry's unit.
+    #[inline(always)]
     pub fn unit_of(&self, id: EntryId) -> usize
         requires { id < length (entries_of (units_of self.now.scanned)) }
         ensures { IfSome (slice_get (entries_of (units_of self.now.scanned)) id) (λ e. result ≡ e.unit) }
@@ -26,6 +28,7 @@ impl Entries<'_> {
     }
 
     /// The entry of a unit that begins so far behind the first byte of the unit's header.
+    #[inline(always)]
     pub fn find_in_unit(&self, unit: usize, offset: u64) -> Option<EntryId>
         requires { unit < length (units_of self.now.scanned) }
         ensures found { IfSome result (ReachesInUnit (entries_of (units_of self.now.scanned)) (placed (units_of self.now.scanned)) unit offset) }

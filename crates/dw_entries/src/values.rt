@@ -77,7 +77,7 @@ impl Choice for Referring {
 }
 
 /// The place of the first specification that is asked for.
-#[inline]
+#[inline(always)]
 fn first_asked<C: Choice>(choice: &C, specs: &[AttributeSpec]) -> Option<usize>
     ensures within { IfSome result (λ place. place ≤ length specs.now) }
     ensures found { IfSome result (PassTo (C.passes choice.now) specs.now) }
@@ -100,7 +100,7 @@ impl<'a> Values<'_, 'a> {
     ghost use Rattle.dw_entries.specs.Lookups.{value_in};
 
     /// The value of the first attribute with this code among those that are left. Values before it are skipped.
-    #[inline]
+    #[inline(never)]
     pub(crate) fn value(&self, attribute: Attribute) -> Option<Value<'a>>
         ensures { option_map view result ≡ value_in (values_left self.now) attribute }
     {
@@ -121,7 +121,7 @@ impl<'a> Values<'_, 'a> {
     }
 
     /// Passes this many attributes. Their values are skipped.
-    #[inline]
+    #[inline(always)]
     fn pass(&mut self, count: usize)
         requires { count ≤ length self.old.specs.now }
         ensures { values_left self.new ≡ drop count (values_left self.old) }

@@ -52,6 +52,7 @@ fn broken_at(failing: Failing, header: u32, at: u32) -> Broken
 }
 
 /// Takes one more item, which is at `at`.
+#[inline(always)]
 fn turn<'b>(
     context: UnitContext<'_>,
     rest: &'b [u8],

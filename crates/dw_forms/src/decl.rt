@@ -64,7 +64,7 @@ fn are_allowed(attributes: &[AttributeSpec], version: u16) -> bool
 }
 
 /// The bit of the remainder of an attribute's code modulo 64.
-#[inline]
+#[inline(always)]
 fn remainder_bit(attribute: Attribute) -> u64
     ensures { result ≡ 2 ^ (attribute % 64) }
 {
@@ -72,7 +72,7 @@ fn remainder_bit(attribute: Attribute) -> u64
 }
 
 /// Whether the remainder of an attribute's code modulo 64 is among these.
-#[inline]
+#[inline(always)]
 fn has_remainder(remainders: u64, attribute: Attribute) -> bool
     ensures { OnFalse result (bit_and remainders (2 ^ (attribute % 64)) ≡ 0) }
 {
@@ -123,7 +123,7 @@ impl Decl {
     }
 
     /// Whether the entries are types, as `Tag::is_type` says.
-    #[inline]
+    #[inline(always)]
     pub fn is_type(&self) -> bool
         ensures { result ≡ is_type_tag self.now.tag }
     {
@@ -131,7 +131,7 @@ impl Decl {
     }
 
     /// Whether the attribute may be one of those declared. False says that it is none; that is known at once.
-    #[inline]
+    #[inline(always)]
     pub fn may_have(&self, attribute: Attribute) -> bool
         ensures { OnFalse result (All (λ spec. spec.attribute ≢ attribute) self.now.attributes.items) }
     {
@@ -139,6 +139,7 @@ impl Decl {
     }
 
     /// How many bytes the values of an entry have together in version 5, where each form has one size.
+    #[inline(always)]
     fn fixed_size_in_5(&self, address_size: u8) -> Option<usize>
         requires { (address_size ≡ 4) ⊎ (address_size ≡ 8) }
         ensures { result ≡ fixed_sum 5 address_size self.now.attributes.items }
@@ -152,7 +153,7 @@ impl Decl {
 
     /// How many bytes the values of an entry have together, where the unit's version allows each form and
     /// each form has one size.
-    #[inline]
+    #[inline(always)]
     #[tactic(auto, using(crate::proofs::FixedSums::sum_barred, crate::proofs::FixedSums::sum_same))]
     pub fn fixed_size(&self, version: u16, address_size: u8) -> Option<usize>
         requires version { (version ≡ 4) ⊎ (version ≡ 5) }

@@ -38,6 +38,7 @@ impl Model for DeclRow {
 }
 
 /// The place of the declaration with this code: the one that the code itself says, or one from the map.
+#[inline(always)]
 fn place_of(decls: &[Decl], base: u64, elsewhere: &BTreeMap<u64, usize>, code: u64) -> Option<usize>
     requires { IsRowIndex decls.now base elsewhere.now }
     ensures { IsPlace decls.now code result }
@@ -115,7 +116,7 @@ impl DeclRow {
     }
 
     /// Where the declaration with this code stands in the row, from 0.
-    #[inline]
+    #[inline(always)]
     pub(crate) fn place(&self, code: u64) -> Option<usize>
         ensures within { IfSome result (λ place. place < length self.now) }
         ensures found { IfSome result (λ place. StandsAt self.now place code) }
@@ -126,7 +127,7 @@ impl DeclRow {
     }
 
     /// The declaration at this place of the row, from 0.
-    #[inline]
+    #[inline(always)]
     pub fn decl(&self, place: usize) -> &Decl
         requires { place < length self.now }
         ensures { slice_get self.now place ≡ Some (view result.now) }

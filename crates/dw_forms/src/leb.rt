@@ -58,7 +58,7 @@ fn long_uleb(bytes: &[u8]) -> Result<(u64, usize), NumberFault>
 }
 
 /// Most numbers have one byte.
-#[inline]
+#[inline(always)]
 fn uleb(bytes: &[u8]) -> Result<(u64, usize), NumberFault>
     ensures { result ≡ uleb_at bytes.now }
 {
@@ -93,7 +93,7 @@ fn sleb(bytes: &[u8]) -> Result<(i64, usize), NumberFault>
 
 /// Reads the unsigned number at the front, and how many bytes it takes. Bytes may follow it, and longer spellings
 /// of a small number are numbers too.
-#[inline]
+#[inline(always)]
 pub fn read_uleb(bytes: &[u8]) -> Result<(u64, usize), NumberFault>
     // These bytes spell this number, and no others at the front spell any.
     ensures found { IfOk result (λ r. BeginsWith Uleb bytes.now r.0 r.1) }

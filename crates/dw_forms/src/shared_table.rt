@@ -42,7 +42,7 @@ impl<'a> SharedTable<'a> {
     }
 
     /// Where the declaration with this code stands among the declarations, from 0.
-    #[inline]
+    #[inline(always)]
     pub fn place(self, code: u64) -> Option<usize>
         ensures within { IfSome result (λ place. place < length (declarations self.entry)) }
         ensures found { IfSome result (λ place. StandsAt (declarations self.entry) place code) }
@@ -61,7 +61,7 @@ impl<'a> SharedTable<'a> {
     }
 
     /// The declaration at this place, from 0.
-    #[inline]
+    #[inline(always)]
     pub fn decl(self, place: usize) -> &'a Decl
         requires { place < length (declarations self) }
         ensures { slice_get (declarations self.entry) place ≡ Some (view result.now) }

@@ -11,6 +11,7 @@ use dw_entries::{Entries, EntryId, Head};
 use dw_forms::{Attribute, Value};
 
 /// Whether a value is a reference.
+#[inline(always)]
 pub fn is_reference(value: &Value<'_>) -> bool
     ensures { result ≡ is_reference_value (view value.now) }
 {
@@ -21,6 +22,7 @@ pub fn is_reference(value: &Value<'_>) -> bool
 }
 
 /// Whether a value is a signature.
+#[inline(always)]
 pub fn is_sig8(value: &Value<'_>) -> bool
     ensures { result ≡ is_signature (view value.now) }
 {
@@ -39,6 +41,7 @@ fn is_declared_entry(entries: &Entries<'_>, id: EntryId) -> bool
 }
 
 /// Whether an attribute is the signature of a structure, union or enumeration.
+#[inline(always)]
 fn is_signed_by(head: &Head, attribute: Attribute) -> bool
     ensures { result ≡ is_signed head.now attribute }
 {
@@ -50,6 +53,7 @@ fn is_signed_by(head: &Head, attribute: Attribute) -> bool
 }
 
 /// Whether an attribute of an entry may have a value of this form.
+#[inline(always)]
 pub fn is_permitted_form(head: &Head, attribute: Attribute, value: &Value<'_>) -> bool
     ensures { result ≡ permits_form head.now attribute (view value.now) }
 {
@@ -58,6 +62,7 @@ pub fn is_permitted_form(head: &Head, attribute: Attribute, value: &Value<'_>) -
 
 /// Whether an attribute of an entry may reach a target. This project's choice: the type, the specification, the
 /// signature and the import of a unit have targets of their kinds, and other attributes may reach any entry.
+#[inline(always)]
 pub fn is_permitted(entries: &Entries<'_>, head: &Head, attribute: Attribute, id: EntryId) -> bool
     requires { id < length (entries_of (units_of entries.now.scanned)) }
     ensures { (target : Entry) → slice_get (entries_of (units_of entries.now.scanned)) id ≡ Some target → result ≡ permits head.now attribute target }

@@ -22,6 +22,7 @@ use dw_forms::{Attribute, Value};
 use std::alloc::Global;
 
 /// The number of an entry, or none.
+#[inline(always)]
 fn number_of(entries: &Entries<'_>, id: &Option<EntryId>) -> OptionalId
     requires { IfSome id.now (λ t. t < length (entries_of (units_of entries.now.scanned))) }
     ensures { result ≡ id.now }
@@ -33,6 +34,7 @@ fn number_of(entries: &Entries<'_>, id: &Option<EntryId>) -> OptionalId
 }
 
 /// What is kept of an entry's type behind one attribute more: what the first type reaches.
+#[inline(always)]
 fn keep(kept: Option<OptionalId>, attribute: Attribute, reached: OptionalId) -> Option<OptionalId>
     ensures { result ≡ kept_after kept attribute reached }
 {
@@ -50,6 +52,7 @@ fn keep(kept: Option<OptionalId>, attribute: Attribute, reached: OptionalId) -> 
 
 impl References<'_, '_> {
     /// The entry that a value reaches, or the rule that fails there.
+    #[inline(always)]
     fn link_value(
         &self,
         head: &Head,

@@ -26,6 +26,7 @@ pub struct References<'r, 'd> {
 }
 
 /// The entry that begins at an offset of .debug_info.
+#[inline(always)]
 fn find_entry(entries: &Entries<'_>, offset: u32) -> Option<EntryId>
     ensures some { IfSome result (IsEntryAt (entries_of (units_of entries.now.scanned)) offset) }
     ensures none { IfNone result ((id : ℕ) → IsEntryAt (entries_of (units_of entries.now.scanned)) offset id → ⊥) }
@@ -34,6 +35,7 @@ fn find_entry(entries: &Entries<'_>, offset: u32) -> Option<EntryId>
 }
 
 /// Whether the next sibling is this entry.
+#[inline(always)]
 fn is_next(next: Option<EntryId>, id: EntryId) -> bool
     ensures yes { OnTrue result (next ≡ Some id) }
     ensures otherwise { OnFalse result (next ≡ Some id → ⊥) }
@@ -63,6 +65,7 @@ impl References<'_, '_> {
     }
 
     /// The entry that a value reaches.
+    #[inline(always)]
     pub fn reach(&self, head: &Head, value: &Value<'_>) -> Option<EntryId>
         requires { MayAsk self.now head.now }
         ensures some { IfSome result (Reaches (entries_of (units_of self.now.entries.now.scanned)) (placed (units_of self.now.entries.now.scanned)) head.now (view value.now)) }
@@ -111,6 +114,7 @@ impl References<'_, '_> {
     }
 
     /// Whether a reference may not have its form, or not reach its target.
+    #[inline(always)]
     fn is_wrong(&self, head: &Head, attribute: Attribute, value: &Value<'_>, id: EntryId) -> bool
         requires may { MayAsk self.now head.now }
         requires reaches { Reaches (entries_of (units_of self.now.entries.now.scanned)) (placed (units_of self.now.entries.now.scanned)) head.now (view value.now) id }
@@ -127,6 +131,7 @@ impl References<'_, '_> {
     }
 
     /// The rule at a reference that reaches an entry.
+    #[inline(always)]
     fn ask_reached(
         &self,
         head: &Head,
@@ -152,6 +157,7 @@ impl References<'_, '_> {
     }
 
     /// The rule at an attribute whose value reaches this entry, or none.
+    #[inline(always)]
     pub fn ask(
         &self,
         head: &Head,

@@ -27,7 +27,7 @@ use std::alloc::Global;
 
 impl EntryReader<'_, '_, '_> {
     /// The step that the entry makes to its type.
-    #[inline]
+    #[inline(always)]
     fn type_step(&self) -> Option<usize>
         ensures step { option_to_list result ≡ targets_if (passes_type_on self.now) self.now.type_target }
         ensures named { (to : ℕ) → result ≡ Some to → self.now.type_target ≡ Some to }
@@ -40,7 +40,7 @@ impl EntryReader<'_, '_, '_> {
     }
 
     /// The step that the entry makes by its signature.
-    #[inline]
+    #[inline(always)]
     fn signature_step(&self) -> Option<usize>
         ensures step { option_to_list result ≡ targets_if (is_declared_type self.now) self.now.signature_target }
         ensures named { (to : ℕ) → result ≡ Some to → self.now.signature_target ≡ Some to }
@@ -54,7 +54,7 @@ impl EntryReader<'_, '_, '_> {
 }
 
 /// The structure or union of which an entry is a plain member, and the entry's type.
-#[inline]
+#[inline(always)]
 fn member_of(
     entries: &EntryFacts<'_, '_>,
     child: usize,
@@ -158,14 +158,17 @@ impl StepGraph for ByValue {
 
     ghost leads_to_nodes = { λ it. cut-leads it.packed.steps it.packed.ends it.packed.in_order it.packed.leads };
 
+    #[inline(always)]
     fn nodes(&self) -> usize {
         self.packed.nodes()
     }
 
+    #[inline(always)]
     fn steps(&self, node: usize) -> usize {
         self.packed.steps(node)
     }
 
+    #[inline(always)]
     fn step(&self, node: usize, k: usize) -> usize {
         self.packed.step(node, k)
     }

@@ -95,7 +95,7 @@ fn known_natural(count: Option<i128>) -> Option<u128>
 
 impl EntryReader<'_, '_, '_> {
     /// Whether the entry, whose parent is this to it, is a dimension of an array.
-    #[inline]
+    #[inline(always)]
     pub(crate) fn is_dimension(&self, parent: Role) -> bool
         ensures { result ≡ is_dimension parent self.now }
     {
@@ -103,7 +103,7 @@ impl EntryReader<'_, '_, '_> {
     }
 
     /// The count of a dimension, which may be below 0, if it is known.
-    #[inline]
+    #[inline(always)]
     pub(crate) fn known_count(&self) -> Option<i128>
         ensures { result ≡ count_of self.now }
     {
@@ -116,7 +116,7 @@ impl EntryReader<'_, '_, '_> {
     }
 
     /// The count of a dimension, if it is known and 0 or more.
-    #[inline]
+    #[inline(always)]
     pub(crate) fn natural_count(&self) -> Option<u128>
         ensures { result ≡ known_natural (count_of self.now) }
     {
@@ -148,6 +148,7 @@ fn is_in_array(entries: &Entries<'_>, parent: Option<EntryId>) -> bool
 }
 
 /// Whether an entry, of which this is told, is a dimension: a subrange that is a child of an array.
+#[inline(always)]
 fn is_dimension(entries: &Entries<'_>, id: EntryId, head: &Head) -> bool
     requires id { id < length (entries_of (units_of entries.now.scanned)) }
     requires head { IfSome (slice_get (entries_of (units_of entries.now.scanned)) id) (λ e. head.now ≡ entry_head e) }

@@ -27,7 +27,7 @@ pub enum ElementCount {
 
 impl EntryReader<'_, '_, '_> {
     /// Its parent, where it bears on how many elements that has, were it an array.
-    #[inline]
+    #[inline(always)]
     fn counted_parent(&self) -> Option<usize>
         ensures { result ≡ if is_index self.now then self.now.parent else None }
     {
@@ -60,7 +60,7 @@ impl ElementCount {
     }
 
     /// With one more child. An index of another kind, and a stride on a dimension, leave the number unknown.
-    #[inline]
+    #[inline(always)]
     fn with_child(
         self,
         entries: &EntryFacts<'_, '_>,

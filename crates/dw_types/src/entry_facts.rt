@@ -57,7 +57,7 @@ impl<'r, 'a> EntryFacts<'r, 'a> {
     }
 
     /// How many entries there are.
-    #[inline]
+    #[inline(always)]
     pub(crate) fn count(&self) -> usize
         ensures { result ≡ length self.now }
     {
@@ -65,7 +65,7 @@ impl<'r, 'a> EntryFacts<'r, 'a> {
     }
 
     /// The entry with a number.
-    #[inline]
+    #[inline(always)]
     pub(crate) fn at(&self, node: usize) -> EntryReader<'_, 'r, 'a>
         requires { node < length self.now }
         ensures { result ≡ entry_at self.now node }

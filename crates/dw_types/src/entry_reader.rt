@@ -20,7 +20,7 @@ use dw_links::Links;
 use std::marker::Model;
 
 /// Whether the rules on types look at entries with this tag: types and members.
-#[inline]
+#[inline(always)]
 fn is_asked(tag: Tag) -> bool
     ensures { result ≡ is_asked tag }
 {
@@ -28,29 +28,37 @@ fn is_asked(tag: Tag) -> bool
 }
 
 /// The value of an entry's attribute, if it has that attribute and the rules on types look at the entry.
-#[inline]
+#[inline(always)]
 fn asked_value<'a>(entry: &EntryAt<'_, 'a>, attribute: Attribute) -> Option<Value<'a>>
     ensures { IfSome entry.now (λ e. option_map view result ≡ asked_value e attribute) }
 {
     match entry.value(attribute) {
-        Some(value) => if is_asked(entry.tag()) { Some(value) } else { None },
+        Some(value) => if is_asked(entry.tag()) {
+            Some(value)
+        } else {
+            None
+        },
         None => None,
     }
 }
 
 /// The number of the entry that an attribute of an entry reaches, if the rules on types look at the entry.
-#[inline]
+#[inline(always)]
 fn asked_target(entry: &EntryAt<'_, '_>, target: Option<EntryId>) -> Option<usize>
     ensures { IfSome entry.now (λ e. result ≡ if is_asked e.head.decl.tag then target else None) }
 {
     match target {
-        Some(id) => if is_asked(entry.tag()) { Some(id.number()) } else { None },
+        Some(id) => if is_asked(entry.tag()) {
+            Some(id.number())
+        } else {
+            None
+        },
         None => None,
     }
 }
 
 /// Whether a flag is there and true.
-#[inline]
+#[inline(always)]
 fn is_true(value: Option<Value<'_>>) -> bool
     ensures { result ≡ is_true (option_map view value.entry) }
 {
@@ -61,7 +69,7 @@ fn is_true(value: Option<Value<'_>>) -> bool
 }
 
 /// What is read of the unit with a number.
-#[inline]
+#[inline(always)]
 fn unit_at(units: &[UnitFacts], number: usize) -> UnitFacts
     requires { number < length units.now }
     ensures { slice_get units.now number ≡ Some result }
@@ -91,7 +99,7 @@ impl<'e, 'r, 'a> Model for EntryReader<'e, 'r, 'a> {
 
 impl<'e, 'r, 'a> EntryReader<'e, 'r, 'a> {
     /// The entry with this number. The links and what is read of units are those of the same entries.
-    #[inline]
+    #[inline(always)]
     pub(crate) fn new(
         entries: &'e Entries<'a>,
         links: &'e Links<'r, 'a>,
@@ -112,14 +120,14 @@ impl<'e, 'r, 'a> EntryReader<'e, 'r, 'a> {
     }
 
     /// Where the entry starts.
-    #[inline]
+    #[inline(always)]
     pub(crate) fn offset(&self) -> u32
         ensures { result ≡ self.now.offset }
     {
         self.entry.offset()
     }
 
-    #[inline]
+    #[inline(always)]
     pub(crate) fn tag(&self) -> Tag
         ensures { result ≡ self.now.tag }
     {
@@ -127,7 +135,7 @@ impl<'e, 'r, 'a> EntryReader<'e, 'r, 'a> {
     }
 
     /// Whether the rules on types look at the entry.
-    #[inline]
+    #[inline(always)]
     pub(crate) fn is_asked(&self) -> bool
         ensures { result ≡ is_asked self.now.tag }
     {
@@ -135,7 +143,7 @@ impl<'e, 'r, 'a> EntryReader<'e, 'r, 'a> {
     }
 
     /// The number of its parent.
-    #[inline]
+    #[inline(always)]
     pub(crate) fn parent(&self) -> Option<usize>
         ensures { result ≡ self.now.parent }
     {
@@ -143,7 +151,7 @@ impl<'e, 'r, 'a> EntryReader<'e, 'r, 'a> {
     }
 
     /// What stands under an attribute.
-    #[inline]
+    #[inline(always)]
     fn constant(&self, attribute: Attribute) -> Constant
         ensures { (fact : FactsOf → ConstantOf) → IsConstantAt attribute fact → result ≡ fact self.now }
     {
@@ -151,7 +159,7 @@ impl<'e, 'r, 'a> EntryReader<'e, 'r, 'a> {
     }
 
     /// Whether an attribute is there.
-    #[inline]
+    #[inline(always)]
     fn has(&self, attribute: Attribute) -> bool
         ensures { (fact : FactsOf → Bool) → IsPresenceOf attribute fact → result ≡ fact self.now }
     {
@@ -159,7 +167,7 @@ impl<'e, 'r, 'a> EntryReader<'e, 'r, 'a> {
     }
 
     /// The number of the entry that an attribute reaches.
-    #[inline]
+    #[inline(always)]
     fn target(&self, attribute: Attribute) -> Option<usize>
         ensures { (fact : FactsOf → Option ℕ) → IsTargetOf attribute fact → result ≡ fact self.now }
     {
@@ -167,7 +175,7 @@ impl<'e, 'r, 'a> EntryReader<'e, 'r, 'a> {
     }
 
     /// What is read of its unit, and nothing at an entry that is no type and no member.
-    #[inline]
+    #[inline(always)]
     fn unit(&self) -> UnitFacts
         ensures address_size { result.address_size ≡ self.now.address_size }
         ensures language { result.language ≡ self.now.language }
@@ -183,7 +191,7 @@ impl<'e, 'r, 'a> EntryReader<'e, 'r, 'a> {
     }
 
     /// Whether DW_AT_declaration is true.
-    #[inline]
+    #[inline(always)]
     pub(crate) fn declared(&self) -> bool
         ensures { result ≡ self.now.declared }
     {
@@ -191,7 +199,7 @@ impl<'e, 'r, 'a> EntryReader<'e, 'r, 'a> {
     }
 
     /// The number of the entry that DW_AT_type reaches, which is kept since the links were made.
-    #[inline]
+    #[inline(always)]
     pub(crate) fn type_target(&self) -> Option<usize>
         ensures { result ≡ self.now.type_target }
     {
@@ -199,21 +207,21 @@ impl<'e, 'r, 'a> EntryReader<'e, 'r, 'a> {
     }
 
     /// The number of the entry that DW_AT_signature reaches.
-    #[inline]
+    #[inline(always)]
     pub(crate) fn signature_target(&self) -> Option<usize>
         ensures { result ≡ self.now.signature_target }
     {
         self.target(DW_AT_signature)
     }
 
-    #[inline]
+    #[inline(always)]
     pub(crate) fn has_specification(&self) -> bool
         ensures { result ≡ self.now.has_specification }
     {
         self.has(DW_AT_specification)
     }
 
-    #[inline]
+    #[inline(always)]
     pub(crate) fn has_abstract_origin(&self) -> bool
         ensures { result ≡ self.now.has_abstract_origin }
     {
@@ -221,7 +229,7 @@ impl<'e, 'r, 'a> EntryReader<'e, 'r, 'a> {
     }
 
     /// How many bytes an address has in its unit.
-    #[inline]
+    #[inline(always)]
     pub(crate) fn address_size(&self) -> u8
         ensures { result ≡ self.now.address_size }
     {
@@ -229,70 +237,70 @@ impl<'e, 'r, 'a> EntryReader<'e, 'r, 'a> {
     }
 
     /// DW_AT_language of the first entry of its unit.
-    #[inline]
+    #[inline(always)]
     pub(crate) fn language(&self) -> Constant
         ensures { result ≡ self.now.language }
     {
         self.unit().language
     }
 
-    #[inline]
+    #[inline(always)]
     pub(crate) fn byte_size(&self) -> Constant
         ensures { result ≡ self.now.byte_size }
     {
         self.constant(DW_AT_byte_size)
     }
 
-    #[inline]
+    #[inline(always)]
     pub(crate) fn bit_size(&self) -> Constant
         ensures { result ≡ self.now.bit_size }
     {
         self.constant(DW_AT_bit_size)
     }
 
-    #[inline]
+    #[inline(always)]
     pub(crate) fn byte_stride(&self) -> Constant
         ensures { result ≡ self.now.byte_stride }
     {
         self.constant(DW_AT_byte_stride)
     }
 
-    #[inline]
+    #[inline(always)]
     pub(crate) fn bit_stride(&self) -> Constant
         ensures { result ≡ self.now.bit_stride }
     {
         self.constant(DW_AT_bit_stride)
     }
 
-    #[inline]
+    #[inline(always)]
     pub(crate) fn count(&self) -> Constant
         ensures { result ≡ self.now.count }
     {
         self.constant(DW_AT_count)
     }
 
-    #[inline]
+    #[inline(always)]
     pub(crate) fn lower_bound(&self) -> Constant
         ensures { result ≡ self.now.lower_bound }
     {
         self.constant(DW_AT_lower_bound)
     }
 
-    #[inline]
+    #[inline(always)]
     pub(crate) fn upper_bound(&self) -> Constant
         ensures { result ≡ self.now.upper_bound }
     {
         self.constant(DW_AT_upper_bound)
     }
 
-    #[inline]
+    #[inline(always)]
     pub(crate) fn data_member_location(&self) -> Constant
         ensures { result ≡ self.now.data_member_location }
     {
         self.constant(DW_AT_data_member_location)
     }
 
-    #[inline]
+    #[inline(always)]
     pub(crate) fn data_bit_offset(&self) -> Constant
         ensures { result ≡ self.now.data_bit_offset }
     {

@@ -33,7 +33,7 @@ fn end_past(bytes: u64, start: i128, size: u64) -> bool
 
 impl EntryReader<'_, '_, '_> {
     /// The bit at which a member starts, if it is known.
-    #[inline]
+    #[inline(always)]
     fn start(&self) -> Option<i128>
         ensures value { result ≡ start_of self.now }
         ensures small { IfSome result (λ n. n ≤ℤ pos (2 ^ 70)) }
@@ -51,7 +51,7 @@ impl EntryReader<'_, '_, '_> {
     }
 
     /// Whether a member, whose type has a size, ends past the bytes of its container.
-    #[inline]
+    #[inline(always)]
     fn ends_past(&self, bytes: u64, size: Option<u64>) -> bool
         ensures { result ≡ ends_past bytes self.now size }
     {
@@ -70,7 +70,7 @@ impl EntryReader<'_, '_, '_> {
 
     /// Whether the entry, whose parent is this to it, is a plain member that ends outside its container,
     /// by the sizes of the container and of the entry's type. Whether it is declared is asked last.
-    #[inline]
+    #[inline(always)]
     pub(crate) fn is_outside(&self, parent: Role, sizes: &SizeTable) -> bool
         requires container_in { (node : ℕ) → self.now.parent ≡ Some node → node < length sizes.now }
         requires type_in { (node : ℕ) → self.now.type_target ≡ Some node → node < length sizes.now }

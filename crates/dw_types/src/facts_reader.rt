@@ -26,7 +26,7 @@ impl Constant {
     }
 
     /// What stands under an attribute that has this value, if it is there.
-    #[inline]
+    #[inline(always)]
     pub(crate) fn of_value(value: Option<Value<'_>>) -> Constant
         ensures { result ≡ constant_of (option_map view value.entry) }
     {
@@ -74,7 +74,7 @@ impl UnitFacts {
 }
 
 /// The number of an entry that is named, if one is.
-#[inline]
+#[inline(always)]
 pub(crate) fn number_of(id: Option<EntryId>) -> Option<usize>
     ensures { result ≡ id }
 {

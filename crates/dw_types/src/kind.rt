@@ -35,6 +35,7 @@ pub enum Role {
 
 impl Role {
     /// Whether children with tag member are plain members.
+    #[inline(always)]
     pub fn is_members(self) -> bool
         ensures { result ≡ is_members self }
     {
@@ -42,6 +43,7 @@ impl Role {
     }
 
     /// Whether children with tag subrange are dimensions.
+    #[inline(always)]
     pub fn is_dimensions(self) -> bool
         ensures { result ≡ is_dimensions self }
     {
@@ -51,7 +53,7 @@ impl Role {
 
 impl EntryReader<'_, '_, '_> {
     /// The kind of the entry.
-    #[inline]
+    #[inline(always)]
     pub(crate) fn kind(&self) -> Kind
         ensures { result ≡ kind_of self.now }
     {
@@ -92,7 +94,7 @@ impl EntryReader<'_, '_, '_> {
     }
 
     /// What the entry is to its children.
-    #[inline]
+    #[inline(always)]
     pub(crate) fn role(&self) -> Role
         ensures { result ≡ role_of self.now }
     {
@@ -106,7 +108,7 @@ impl EntryReader<'_, '_, '_> {
     }
 
     /// Whether it is a typedef, const, volatile, restrict, atomic, array or enumeration.
-    #[inline]
+    #[inline(always)]
     pub(crate) fn passes_type_on(&self) -> bool
         ensures { result ≡ passes_type_on self.now }
     {
@@ -123,7 +125,7 @@ impl EntryReader<'_, '_, '_> {
     }
 
     /// Whether it is a structure or union that is not declared.
-    #[inline]
+    #[inline(always)]
     pub(crate) fn has_members(&self) -> bool
         ensures { result ≡ has_members self.now }
     {
@@ -131,7 +133,7 @@ impl EntryReader<'_, '_, '_> {
     }
 
     /// Whether it is a declared structure, union or enumeration.
-    #[inline]
+    #[inline(always)]
     pub(crate) fn is_declared_type(&self) -> bool
         ensures { result ≡ is_declared_type self.now }
     {
@@ -142,7 +144,7 @@ impl EntryReader<'_, '_, '_> {
     }
 
     /// Whether it is an array.
-    #[inline]
+    #[inline(always)]
     pub(crate) fn is_array(&self) -> bool
         ensures { result ≡ is_array self.now }
     {
@@ -150,7 +152,7 @@ impl EntryReader<'_, '_, '_> {
     }
 
     /// Whether it is an enumeration that is not declared.
-    #[inline]
+    #[inline(always)]
     pub(crate) fn is_enumeration(&self) -> bool
         ensures { result ≡ is_enumeration self.now }
     {

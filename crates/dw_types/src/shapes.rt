@@ -11,7 +11,7 @@ use dw_entries::constants::*;
 
 impl EntryReader<'_, '_, '_> {
     /// Whether the entry, whose parent is this to it, is a plain member.
-    #[inline]
+    #[inline(always)]
     pub(crate) fn is_plain(&self, parent: Role) -> bool
         ensures { result ≡ is_plain parent self.now }
     {
@@ -19,7 +19,7 @@ impl EntryReader<'_, '_, '_> {
     }
 
     /// Whether the entry takes nothing over from another one.
-    #[inline]
+    #[inline(always)]
     pub(crate) fn stands_alone(&self) -> bool
         ensures { result ≡ stands_alone self.now }
     {
@@ -27,7 +27,7 @@ impl EntryReader<'_, '_, '_> {
     }
 
     /// Whether a type is missing.
-    #[inline]
+    #[inline(always)]
     fn misses_type(&self, parent: Role) -> bool
         ensures { result ≡ misses_type parent self.now }
     {
@@ -38,7 +38,7 @@ impl EntryReader<'_, '_, '_> {
     }
 
     /// Whether it is a dimension with a known count below 0.
-    #[inline]
+    #[inline(always)]
     fn has_bad_count(&self, parent: Role) -> bool
         ensures { result ≡ has_bad_count parent self.now }
     {
@@ -52,7 +52,7 @@ impl EntryReader<'_, '_, '_> {
     }
 
     /// The rule on shapes that the entry breaks: the one with the least number.
-    #[inline]
+    #[inline(always)]
     pub(crate) fn broken_shape(&self, parent: Role) -> Option<Rule>
         ensures { IsLeast (λ rule. breaks_shape parent self.now rule ≡ true) result }
     {

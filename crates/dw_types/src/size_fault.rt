@@ -14,6 +14,7 @@ use dw_entries::constants::*;
 
 impl Kind {
     /// Whether the size of such an entry reads its own byte size.
+    #[inline(always)]
     fn reads_own(self) -> bool
         ensures { result ≡ reads_own self }
     {
@@ -46,7 +47,7 @@ fn differ(a: Option<u64>, b: Option<u64>) -> bool
 
 impl EntryReader<'_, '_, '_> {
     /// Whether something stands wrong where the byte size is absent.
-    #[inline]
+    #[inline(always)]
     fn wants_own(&self) -> bool
         ensures { result ≡ wants_own self.now }
     {
@@ -59,7 +60,7 @@ impl EntryReader<'_, '_, '_> {
     }
 
     /// Whether the byte size is negative where it is read, or none is there where one is wanted.
-    #[inline]
+    #[inline(always)]
     fn has_no_size(&self) -> bool
         ensures { result ≡ has_no_size self.now }
     {
@@ -68,7 +69,7 @@ impl EntryReader<'_, '_, '_> {
     }
 
     /// Whether it is an enumeration with neither a byte size nor a type, or with one that is not its type's.
-    #[inline]
+    #[inline(always)]
     fn has_wrong_size(&self, sizes: &SizeTable) -> bool
         requires { (node : ℕ) → self.now.type_target ≡ Some node → node < length sizes.now }
         ensures { result ≡ has_wrong_size self.now (size_to (size_at sizes.now) self.now.type_target) }
@@ -85,7 +86,7 @@ impl EntryReader<'_, '_, '_> {
 
     /// The rule on sizes that the entry breaks, whose parent is this to it and whose size is this: the one with
     /// the least number. Where it has a size, its byte size is not asked again.
-    #[inline]
+    #[inline(always)]
     pub(crate) fn broken_size(
         &self,
         parent: Role,

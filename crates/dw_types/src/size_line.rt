@@ -35,6 +35,7 @@ fn capped_times(a: Option<u64>, b: Option<u64>) -> Option<u64>
 
 impl Constant {
     /// The number of 0 or more, or another size where the attribute is absent.
+    #[inline(always)]
     fn natural_or(&self, other: Option<u64>) -> Option<u64>
         ensures { result ≡ constant_or self.now other }
     {
@@ -46,6 +47,7 @@ impl Constant {
 }
 
 /// The capped size of an array without a byte size of its own: element storage times all counts.
+#[inline(always)]
 fn capped_array(
     entries: &EntryFacts<'_, '_>,
     elements: ElementCount,
@@ -70,6 +72,7 @@ fn capped_array(
 }
 
 /// The capped size of an entry, by those of others.
+#[inline(always)]
 pub(crate) fn capped_size(
     entries: &EntryFacts<'_, '_>,
     elements: ElementCount,
