@@ -72,6 +72,7 @@ fn code_of(attribute: Attribute) -> u16
 }
 
 /// The bytes behind the value of an attribute.
+#[inline(always)]
 #[tactic(auto, unfolding(crate::specs::Reading::attribute_at))]
 fn skip_attribute<'b>(
     context: UnitContext<'_>,

@@ -206,7 +206,8 @@ pub(crate) fn next_decl<'a>(
         return Err(fault(AbbrevRule::BadTag, 0));
     }
     let (has_children, rest) = read_children(rest)?;
-    let (attributes, rest) = read_attributes(alloc, marks, rest)?;
+    let (mut attributes, rest) = read_attributes(alloc, marks, rest)?;
+    attributes.shrink_to_fit();
     let decl = Decl::new(code, Tag(tag as u16), has_children, attributes);
     Ok((Some(decl), rest))
 }

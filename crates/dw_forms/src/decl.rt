@@ -24,18 +24,18 @@ pub struct Decl {
     pub tag: Tag,
     /// Whether a list of children follows each entry.
     pub has_children: bool,
+    /// Whether entries with the tag are types.
+    is_type: bool,
+    /// Whether each form is one of version 4.
+    in_version_4: bool,
     /// In the order of their values in an entry. No attribute stands twice.
     pub attributes: Vec<AttributeSpec>,
     /// The sum of the sizes of the values in version 5 where addresses have 4 bytes.
     fixed_with_4: Option<u32>,
     /// The same where addresses have 8 bytes.
     fixed_with_8: Option<u32>,
-    /// Whether each form is one of version 4.
-    in_version_4: bool,
     /// The remainders of the attributes' codes modulo 64, one bit for each.
     remainders: u64,
-    /// Whether entries with the tag are types.
-    is_type: bool,
     ghost sum_with_4: { fixed_with_4 ≡ fixed_sum 5 4 attributes.items },
     ghost sum_with_8: { fixed_with_8 ≡ fixed_sum 5 8 attributes.items },
     ghost allowed_in_4: { in_version_4 ≡ are_allowed 4 attributes.items },
@@ -113,12 +113,12 @@ impl Decl {
             code,
             tag,
             has_children,
+            is_type,
+            in_version_4,
             attributes,
             fixed_with_4,
             fixed_with_8,
-            in_version_4,
             remainders,
-            is_type,
         }
     }
 

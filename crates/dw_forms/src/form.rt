@@ -145,6 +145,7 @@ impl Form {
 
     /// Whether a value in a unit of this version may have the form: in version 4 those of the codes 0x01, 0x03 to
     /// 0x19 and 0x20, in version 5 all.
+    #[inline(always)]
     pub fn allowed(self, version: u16) -> bool
         ensures { result ≡ is_allowed version self }
     {
@@ -194,7 +195,7 @@ impl Form {
     }
 
     /// How many bytes each value of the form has, where all have as many.
-    #[inline]
+    #[inline(always)]
     pub fn fixed_size(self, address_size: u8) -> Option<usize>
         ensures exact { result ≡ fixed_size_of address_size self }
         ensures small { IfSome result (λ size. size ≤ 0xff) }
