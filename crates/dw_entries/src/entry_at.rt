@@ -64,7 +64,7 @@ impl<'e, 'a> Model for EntryAt<'e, 'a> {
 }
 
 impl<'a> Entries<'a> {
-    /// The entry with this number.
+    /// The entry with this number, for all that is asked of it.
     #[inline(always)]
     pub fn at(&self, id: EntryId) -> EntryAt<'_, 'a>
         requires { id < length (entries_of (units_of self.now.scanned)) }
@@ -83,7 +83,7 @@ impl<'a> Entries<'a> {
 }
 
 impl<'e, 'a> EntryAt<'e, 'a> {
-    /// Where the entry starts.
+    /// Its offset in .debug_info, in bytes.
     #[inline(always)]
     pub fn offset(&self) -> u32
         ensures { IfSome self.now (λ e. result ≡ e.at) }
@@ -91,6 +91,7 @@ impl<'e, 'a> EntryAt<'e, 'a> {
         self.kept.at
     }
 
+    /// Its tag, as its declaration says it.
     #[inline(always)]
     pub fn tag(&self) -> Tag
         ensures { IfSome self.now (λ e. result ≡ e.head.decl.tag) }
@@ -106,7 +107,7 @@ impl<'e, 'a> EntryAt<'e, 'a> {
         self.decl.is_type()
     }
 
-    /// The number of its unit.
+    /// The number of its unit. Units are numbered in rising offset, from 0.
     #[inline(always)]
     pub fn unit(&self) -> usize
         ensures { IfSome self.now (λ e. result ≡ e.unit) }
@@ -114,6 +115,7 @@ impl<'e, 'a> EntryAt<'e, 'a> {
         self.kept.unit as usize
     }
 
+    /// Its parent. None at the first entry of a unit.
     #[inline(always)]
     pub fn parent(&self) -> Option<EntryId>
         ensures { IfSome self.now (λ e. result ≡ e.parent) }

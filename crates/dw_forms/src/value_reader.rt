@@ -248,8 +248,8 @@ fn any_value(
     }
 }
 
-/// The same. Most values that are asked are offsets of strings, references within a unit and numbers of one byte, which
-/// are read in place.
+/// The value of any form, and how many bytes it has. Most values that are asked are offsets of strings, references within
+/// a unit and numbers of one byte, which are read in place.
 #[inline(always)]
 #[tactic(auto, unfolding(crate::specs::ValueReading::layout_at))]
 fn value(
