@@ -35,3 +35,4 @@ pub mod Hints
 pub mod Chosen
 pub mod Referring
 pub mod Views
+pub mod Cursors

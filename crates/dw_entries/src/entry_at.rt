@@ -6,6 +6,7 @@ ghost use Rattle.std.specs.List.{flat_map};
 ghost use Rattle.dw_forms.specs.Abbrev.{view as decl_view};
 ghost use Rattle.dw_forms.specs.Codes.{is_type_tag};
 ghost use Rattle.dw_forms.specs.Value.{view};
+ghost use Rattle.dw_entries.specs.Cursors.{IsUnitAt};
 ghost use Rattle.dw_entries.specs.Grammar.{attribute_bytes};
 ghost use Rattle.dw_entries.specs.Entries.{Entry, entries_of};
 ghost use Rattle.dw_entries.specs.Scanned.{records_of, units_of};
@@ -13,6 +14,7 @@ ghost use Rattle.dw_entries.specs.Asked.{values_of};
 ghost use Rattle.dw_entries.specs.ValuesLeft.{values_left};
 ghost use Rattle.dw_entries.specs.Lookups.{declares, entry_head, value_at_entry};
 
+use crate::cursor::{UnitAt, unit_at};
 use crate::entries::Entries;
 use crate::header::UnitHeader;
 use crate::id::{EntryId, OptionalId};
@@ -70,19 +72,36 @@ impl<'a> Entries<'a> {
         requires { id < length (entries_of (units_of self.now.scanned)) }
         ensures { result ≡ slice_get (entries_of (units_of self.now.scanned)) id }
     {
-        let record = self.record(id);
-        let unit = self.units[record.unit as usize];
-        EntryAt {
-            entries: self,
-            id,
-            kept: record,
-            decl: self.tables.get(unit.table).decl(record.decl as usize),
-            header: unit.header,
-        }
+        let kept = self.record(id);
+        let unit = unit_at(self, id, &kept);
+        EntryAt::new(self, id, &kept, &unit)
     }
 }
 
 impl<'e, 'a> EntryAt<'e, 'a> {
+    /// An entry of which this is kept, in this unit.
+    #[inline(always)]
+    pub(crate) fn new(
+        entries: &'e Entries<'a>,
+        id: EntryId,
+        kept: &Record,
+        unit: &UnitAt<'e>,
+    ) -> EntryAt<'e, 'a>
+        requires id { id < length (entries_of (units_of entries.now.scanned)) }
+        requires kept { slice_get (records_of (units_of entries.now.scanned)) id ≡ Some kept.now }
+        requires unit { IsUnitAt entries.now.tables entries.now.units.items unit.now }
+        requires number { unit.now.number ≡ kept.now.unit }
+        ensures { result ≡ slice_get (entries_of (units_of entries.now.scanned)) id }
+    {
+        EntryAt {
+            entries,
+            id,
+            kept: *kept,
+            decl: unit.table.decl(kept.decl as usize),
+            header: unit.record.header,
+        }
+    }
+
     /// Its offset in .debug_info, in bytes.
     #[inline(always)]
     pub fn offset(&self) -> u32

@@ -2,6 +2,7 @@
 #![tactic(auto)]
 
 mod context;
+mod cursor;
 mod entries;
 mod entry_at;
 mod fault;
@@ -25,6 +26,7 @@ mod walk;
 
 pub use dw_elf::Sections;
 pub use dw_forms::{Attribute, Tag, Value, constants};
+pub use cursor::Cursor;
 pub use entries::Entries;
 pub use entry_at::EntryAt;
 pub use fault::{Broken, Fault, Section, Stop};

@@ -1,0 +1,88 @@
+//! Look-ups of one entry after another, with the unit of the last at hand.
+
+ghost use Rattle.std.specs.Prelude.{◌≡◌, ◌<◌, Some, length, slice_get};
+ghost use Rattle.std.specs.Option.{ForSome};
+ghost use Rattle.std.specs.Bool.{OnTrue};
+ghost use Rattle.dw_entries.specs.Cursors.{IsAt, IsUnitAt};
+ghost use Rattle.dw_entries.specs.Entries.{entries_of};
+ghost use Rattle.dw_entries.specs.Scanned.{records_of, units_of};
+
+use crate::entries::Entries;
+use crate::entry_at::EntryAt;
+use crate::id::EntryId;
+use crate::record::{Record, UnitRecord};
+use dw_forms::SharedTable;
+
+/// A unit with its abbreviation table.
+#[derive(Clone, Copy, Debug)]
+pub struct UnitAt<'e> {
+    pub number: u32,
+    pub record: UnitRecord,
+    pub table: SharedTable<'e>,
+}
+
+/// The unit of an entry of which this is kept.
+#[inline(always)]
+pub fn unit_at<'e>(entries: &'e Entries<'_>, id: EntryId, kept: &Record) -> UnitAt<'e>
+    requires id { id < length (entries_of (units_of entries.now.scanned)) }
+    requires kept { slice_get (records_of (units_of entries.now.scanned)) id ≡ Some kept.now }
+    ensures unit { IsUnitAt entries.now.tables entries.now.units.items result }
+    ensures number { result.number ≡ kept.now.unit }
+{
+    let unit = entries.units[kept.unit as usize];
+    UnitAt {
+        number: kept.unit,
+        record: unit,
+        table: entries.tables.get(unit.table),
+    }
+}
+
+/// Looks up one entry after another. The unit of the last is kept at hand, so that the entries of one unit are found sooner.
+#[derive(Drop)]
+pub struct Cursor<'e, 'a> {
+    pub(crate) entries: &'e Entries<'a>,
+    unit: Option<UnitAt<'e>>,
+    ghost at_hand: { ForSome unit (IsUnitAt entries.now.tables entries.now.units.items) },
+}
+
+impl<'a> Entries<'a> {
+    /// Looks up one entry after another, sooner than `at` where they are of one unit.
+    pub fn cursor(&self) -> Cursor<'_, 'a>
+        ensures { result.entries.now ≡ self.now }
+    {
+        Cursor {
+            entries: self,
+            unit: None,
+        }
+    }
+}
+
+/// Whether a unit is at hand and has this number.
+#[inline(always)]
+fn is_at(unit: &Option<UnitAt<'_>>, number: u32) -> bool
+    ensures { OnTrue result (IsAt unit.now number) }
+{
+    match unit {
+        Some(unit) if unit.number == number => true,
+        _ => false,
+    }
+}
+
+impl<'e, 'a> Cursor<'e, 'a> {
+    /// The entry with this number, for all that is asked of it.
+    #[inline(always)]
+    pub fn at(&mut self, id: EntryId) -> EntryAt<'e, 'a>
+        requires { id < length (entries_of (units_of self.old.entries.now.scanned)) }
+        ensures same { self.new.entries.now ≡ self.old.entries.now }
+        ensures found { result ≡ slice_get (entries_of (units_of self.old.entries.now.scanned)) id }
+    {
+        let kept = self.entries.record(id);
+        if !is_at(&self.unit, kept.unit) {
+            self.unit = Some(unit_at(self.entries, id, &kept));
+        }
+        match &self.unit {
+            Some(unit) => EntryAt::new(self.entries, id, &kept, unit),
+            None => unreachable!(),
+        }
+    }
+}
