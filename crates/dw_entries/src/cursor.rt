@@ -40,7 +40,8 @@ pub fn unit_at<'e>(entries: &'e Entries<'_>, id: EntryId, kept: &Record) -> Unit
 /// Looks up one entry after another. The unit of the last is kept at hand, so that the entries of one unit are found sooner.
 #[derive(Drop)]
 pub struct Cursor<'e, 'a> {
-    pub(crate) entries: &'e Entries<'a>,
+    /// The entries that are looked up.
+    pub entries: &'e Entries<'a>,
     unit: Option<UnitAt<'e>>,
     ghost at_hand: { ForSome unit (IsUnitAt entries.now.tables entries.now.units.items) },
 }

@@ -48,7 +48,7 @@ declared_so x (s ∷ specs) (a ∷ bs) (suc k) item are is =
     record { spec = more.spec; is_spec = more.is_spec; attribute = more.attribute; is_attribute = more.is_attribute; item_is = more.item_is }
 
 pub skipped : («abbrev» info : List ℕ) (us : List DebugUnit) (id : ℕ) (Fails : Rules) (d : Declaration) → Spells «abbrev» us info → IfSome (slice_get (entries_of us) id) (λ e. d ≡ e.head.decl)
-    → AllPass Fails d.attributes → PassesAt (entries_of us) id (AtHead Fails)
+    → AllPass Fails d.attributes → PassesAt (slice_get (entries_of us) id) (AtHead Fails)
 skipped «abbrev» info us id Fails d spells decl pass e is f fails =
     let stands = head_stands «abbrev» info us id e spells is in
     let same : d ≡ e.head.decl = rw is at decl in

@@ -1,5 +1,5 @@
 -- Rules that are asked of the attributes of entries, and what a declaration already says of them.
-use Rattle.std.specs.Prelude.{◌≡◌, ℕ, List, Some, slice_get}
+use Rattle.std.specs.Prelude.{◌≡◌, ℕ, List, Option, Some, slice_get}
 use Rattle.dw_forms.specs.Value.{Datum}
 use Rattle.dw_forms.specs.Abbrev.{Declaration}
 use Rattle.dw_forms.specs.declared.decl.AttributeSpec.{AttributeSpec}
@@ -32,9 +32,13 @@ AllPass Fails specs = (k : ℕ) (spec : AttributeSpec) → slice_get specs k ≡
 abbrev pub EachPasses : Rules → List Declaration → Type 0
 EachPasses Fails decls = (place : ℕ) (decl : Declaration) → slice_get decls place ≡ Some decl → AllPass Fails decl.attributes
 
--- no rule fails at the entry with this number, or the first that does is named
-abbrev pub PassesAt : List Entry → ℕ → (Entry → Failure → Type 0) → Type 0
-PassesAt entries id Fails = (e : Entry) → slice_get entries id ≡ Some e → HasNone (Fails e)
+-- no rule fails at an entry that was looked up, or the first that does is named
+abbrev pub PassesAt : Option Entry → (Entry → Failure → Type 0) → Type 0
+PassesAt entry Fails = (e : Entry) → entry ≡ Some e → HasNone (Fails e)
 
-abbrev pub FailsAt : List Entry → ℕ → (Entry → Failure → Type 0) → Broken → Type 0
-FailsAt entries id Fails broken = (e : Entry) → slice_get entries id ≡ Some e → IsFirst (Fails e) broken
+abbrev pub FailsAt : Option Entry → (Entry → Failure → Type 0) → Broken → Type 0
+FailsAt entry Fails broken = (e : Entry) → entry ≡ Some e → IsFirst (Fails e) broken
+
+-- an entry that was looked up and found
+abbrev pub IsFound : Option Entry → Type 0
+IsFound entry = (e : Entry) × (entry ≡ Some e)

@@ -8,7 +8,7 @@ ghost use Rattle.dw_entries.specs.Failures.{HasNone, IsFirst, IsLeast};
 ghost use Rattle.dw_forms.specs.Value.{view};
 ghost use Rattle.dw_links.specs.Targets.{reach_of};
 ghost use Rattle.dw_entries.specs.Stopped.{IfFault};
-ghost use Rattle.dw_links.specs.Concerns.{AtHead, PassesAt, FailsAt};
+ghost use Rattle.dw_links.specs.Concerns.{AtHead, IsFound, PassesAt, FailsAt};
 ghost use Rattle.dw_links.specs.References.{ReferenceFails, AttributeFailures, ReferenceFailures};
 ghost use Rattle.dw_links.specs.Linkable.{IsLinkable, MayAsk};
 ghost use Rattle.dw_links.specs.Tables.{type_target};
@@ -17,7 +17,7 @@ ghost use Rattle.dw_links.specs.Kept.{kept_after};
 use crate::references::References;
 use crate::rules::{broken_at, fault_of};
 use dw_entries::constants::*;
-use dw_entries::{Broken, Entries, EntryId, Head, OptionalId, Rule, Stop};
+use dw_entries::{Broken, Entries, EntryAt, EntryId, Head, OptionalId, Rule, Stop};
 use dw_forms::{Attribute, Value};
 use std::alloc::Global;
 
@@ -74,14 +74,13 @@ impl References<'_, '_> {
 
     /// The entry that an entry's type reaches, or the first failure at the entry's references. Each is decoded and
     /// searched once.
-    fn link_entry(&self, id: EntryId) -> Result<OptionalId, Broken>
-        requires id { id < length (entries_of (units_of self.now.entries.now.scanned)) }
-        requires may { (e : Entry) → slice_get (entries_of (units_of self.now.entries.now.scanned)) id ≡ Some e → MayAsk self.now (entry_head e) }
-        ensures ok { OnOk result (PassesAt (entries_of (units_of self.now.entries.now.scanned)) id (AtHead (ReferenceFails (entries_of (units_of self.now.entries.now.scanned)) (placed (units_of self.now.entries.now.scanned))))) }
-        ensures target { IfOk result (λ target. IfSome (slice_get (entries_of (units_of self.now.entries.now.scanned)) id) (λ e. target ≡ type_target (entries_of (units_of self.now.entries.now.scanned)) (placed (units_of self.now.entries.now.scanned)) e)) }
-        ensures err { IfErr result (FailsAt (entries_of (units_of self.now.entries.now.scanned)) id (AtHead (ReferenceFails (entries_of (units_of self.now.entries.now.scanned)) (placed (units_of self.now.entries.now.scanned))))) }
+    fn link_entry(&self, entry: &EntryAt<'_, '_>) -> Result<OptionalId, Broken>
+        requires found { IsFound entry.now }
+        requires may { (e : Entry) → entry.now ≡ Some e → MayAsk self.now (entry_head e) }
+        ensures ok { OnOk result (PassesAt entry.now (AtHead (ReferenceFails (entries_of (units_of self.now.entries.now.scanned)) (placed (units_of self.now.entries.now.scanned))))) }
+        ensures target { IfOk result (λ target. IfSome entry.now (λ e. target ≡ type_target (entries_of (units_of self.now.entries.now.scanned)) (placed (units_of self.now.entries.now.scanned)) e)) }
+        ensures err { IfErr result (FailsAt entry.now (AtHead (ReferenceFails (entries_of (units_of self.now.entries.now.scanned)) (placed (units_of self.now.entries.now.scanned))))) }
     {
-        let entry = self.entries.at(id);
         let head = entry.head();
         let mut values = entry.values();
         let mut kept = None;
@@ -106,8 +105,10 @@ impl References<'_, '_> {
     {
         let count = self.entries.count();
         let mut types = Vec::with_capacity(alloc, count)?;
+        let mut cursor = self.entries.cursor();
         for number in 0..count {
-            match self.link_entry(self.entries.id(number)) {
+            let entry = cursor.at(self.entries.id(number));
+            match self.link_entry(&entry) {
                 Ok(target) => types.push(target)?,
                 Err(broken) => return Err(Stop::Fault(fault_of(alloc, broken))),
             }

@@ -1,6 +1,6 @@
 //! Rules that are asked of each attribute of each entry, and the search for the first failure.
 
-ghost use Rattle.std.specs.Prelude.{ℕ, ◌≡◌, ◌<◌, [], length, Some, slice_get, OnOk, IfErr};
+ghost use Rattle.std.specs.Prelude.{ℕ, ◌≡◌, [], Some, slice_get, OnOk, IfErr};
 ghost use Rattle.std.specs.Bool.{OnFalse};
 ghost use Rattle.dw_forms.specs.Value.{Datum, view};
 ghost use Rattle.dw_entries.specs.declared.lookup.Head.{Head as HeadData};
@@ -12,9 +12,9 @@ ghost use Rattle.dw_entries.specs.Scanned.{units_of};
 ghost use Rattle.dw_entries.specs.Lookups.{entry_head};
 ghost use Rattle.dw_entries.specs.Failures.{HasNone, IsFirst, IsLeast};
 ghost use Rattle.dw_entries.specs.Asked.{AtEntries};
-ghost use Rattle.dw_links.specs.Concerns.{AtHead, Passes, AllPass, EachPasses, PassesAt, FailsAt};
+ghost use Rattle.dw_links.specs.Concerns.{AtHead, IsFound, Passes, AllPass, EachPasses, PassesAt, FailsAt};
 
-use dw_entries::{Broken, Choice, Entries, EntryId, Fault, Head, Rule, Section};
+use dw_entries::{Broken, Choice, Entries, EntryAt, Fault, Head, Rule, Section};
 use dw_forms::{Attribute, AttributeSpec, DeclRow, Value};
 use std::alloc::Global;
 
@@ -114,17 +114,12 @@ pub fn concerns_entries<R: AttributeRules>(rules: &R, entries: &Entries<'_>) -> 
 }
 
 /// The first failure among an entry's attributes. Only those that the rules concern are decoded.
-pub fn check_entry<R: AttributeRules>(
-    rules: &R,
-    entries: &Entries<'_>,
-    id: EntryId,
-) -> Result<(), Broken>
-    requires id { id < length (entries_of (units_of entries.now.scanned)) }
-    requires may { (e : Entry) → slice_get (entries_of (units_of entries.now.scanned)) id ≡ Some e → R.may_ask rules.now (entry_head e) }
-    ensures ok { OnOk result (PassesAt (entries_of (units_of entries.now.scanned)) id (AtHead (R.fails rules.now))) }
-    ensures err { IfErr result (FailsAt (entries_of (units_of entries.now.scanned)) id (AtHead (R.fails rules.now))) }
+pub fn check_entry<R: AttributeRules>(rules: &R, entry: &EntryAt<'_, '_>) -> Result<(), Broken>
+    requires found { IsFound entry.now }
+    requires may { (e : Entry) → entry.now ≡ Some e → R.may_ask rules.now (entry_head e) }
+    ensures ok { OnOk result (PassesAt entry.now (AtHead (R.fails rules.now))) }
+    ensures err { IfErr result (FailsAt entry.now (AtHead (R.fails rules.now))) }
 {
-    let entry = entries.at(id);
     let head = entry.head();
     let mut values = entry.values();
     let concerned = Concerned { rules };
@@ -142,8 +137,10 @@ pub fn check_entries<R: AttributeRules>(rules: &R, entries: &Entries<'_>) -> Res
     ensures ok { OnOk result (HasNone (AtEntries (entries_of (units_of entries.now.scanned)) (AtHead (R.fails rules.now)))) }
     ensures err { IfErr result (IsFirst (AtEntries (entries_of (units_of entries.now.scanned)) (AtHead (R.fails rules.now)))) }
 {
+    let mut cursor = entries.cursor();
     for number in 0..entries.count() {
-        check_entry(rules, entries, entries.id(number))?;
+        let entry = cursor.at(entries.id(number));
+        check_entry(rules, &entry)?;
     }
     Ok(())
 }

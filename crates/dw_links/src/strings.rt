@@ -154,11 +154,11 @@ fn first_failure(entries: &Entries<'_>) -> Result<(), Broken>
     }
     let ends = string_ends(entries.sections());
     let mut texts = read_texts(entries, ends, 0);
+    let mut cursor = entries.cursor();
     for number in 0..entries.count() {
-        let id = entries.id(number);
-        let unit = entries.unit_of(id);
-        keep_texts(&mut texts, entries, ends, unit);
-        check_entry(&texts, entries, id)?;
+        let entry = cursor.at(entries.id(number));
+        keep_texts(&mut texts, entries, ends, entry.unit());
+        check_entry(&texts, &entry)?;
     }
     Ok(())
 }

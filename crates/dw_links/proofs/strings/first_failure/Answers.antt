@@ -14,15 +14,23 @@ use Rattle.dw_links.proofs.ClassLaws.{in_units}
 use Rattle.dw_links.proofs.Transfers.{first_carried, none_carried, texts_over, texts_back}
 use Rattle.dw_links.proofs.strings.first_failure.Goals as goal
 
+pub at-entry-requires : goal.at-entry-requires
+at-entry-requires c = rw c.loop-number.invariant.cursor (omega (arith, c.id.ensures, c.loop-number-test.true, c.count-number-end.ensures))
+
 pub keep_texts-requires-clause-next : goal.keep_texts-requires-clause-next
 keep_texts-requires-clause-next c =
     let us = units_of c.args.entries.now.scanned in
     let es = entries_of us in
     let (e, is) = there es c.loop-number.number (omega (arith, c.loop-number-test.true, c.count-number-end.ensures)) in
     let P : ℕ → Type 0 = λ n. slice_get es n ≡ Some e in
-    let at_id : slice_get es c.id-id.result ≡ Some e = subst P (sym c.id-id.ensures) is in
-    let unit : c.unit_of-unit.result ≡ e.unit = rw at_id at c.unit_of-unit.ensures in
+    let at_id : c.at-entry.result ≡ Some e = rw c.loop-number.invariant.cursor at c.at-entry.ensures.found ∙ subst P (sym c.id.ensures) is in
+    let unit : c.unit.result ≡ e.unit = rw at_id at c.unit.ensures in
     omega (arith, unit, in_units _ _ us c.loop-number.number e c.args.entries.now.scanned.1.spells is)
+
+pub check_entry-requires-clause-found : goal.check_entry-requires-clause-found
+check_entry-requires-clause-found c =
+    let (e, is) = there (entries_of (units_of c.args.entries.now.scanned)) c.id.result (omega (arith, c.id.ensures, c.loop-number-test.true, c.count-number-end.ensures)) in
+    (e, rw c.loop-number.invariant.cursor at c.at-entry.ensures.found ∙ is)
 
 pub returns-in_err-check_entry-clause-err : goal.returns-in_err-check_entry-clause-err
 returns-in_err-check_entry-clause-err c =
@@ -33,8 +41,8 @@ returns-in_err-check_entry-clause-err c =
     let p = err_from_is_err_and c.from_residual.result c.from_residual.ensures.1 in
     let (e, is) = there es c.loop-number.number (omega (arith, c.loop-number-test.true, c.count-number-end.ensures)) in
     let P : ℕ → Type 0 = λ n. slice_get es n ≡ Some e in
-    let at_id : slice_get es c.id-id.result ≡ Some e = subst P (sym c.id-id.ensures) is in
-    let unit : c.unit_of-unit.result ≡ e.unit = rw at_id at c.unit_of-unit.ensures in
+    let at_id : c.at-entry.result ≡ Some e = rw c.loop-number.invariant.cursor at c.at-entry.ensures.found ∙ subst P (sym c.id.ensures) is in
+    let unit : c.unit.result ≡ e.unit = rw at_id at c.unit.ensures in
     let over = texts_over sections es (placed us) c.keep_texts.new.texts (entry_head e) c.keep_texts.ensures.texts (sym unit ∙ sym c.keep_texts.ensures.unit) in
     let back = texts_back sections es (placed us) c.keep_texts.new.texts (entry_head e) c.keep_texts.ensures.texts (sym unit ∙ sym c.keep_texts.ensures.unit) in
     rw (p.1, p.2) (first_of_entries es (AtHead Fails) c.loop-number.number e _ (entries_rise _ us c.args.entries.now.scanned.1.spells.are) (attributes_stand (λ x. Fails (entry_head x))) is c.loop-number.invariant.passed
@@ -48,10 +56,11 @@ loop-number-preserved c =
     let Fails = StringFails sections es (placed us) in
     let (e, is) = there es c.loop-number.number (omega (arith, c.loop-number-test.true, c.count-number-end.ensures)) in
     let P : ℕ → Type 0 = λ n. slice_get es n ≡ Some e in
-    let at_id : slice_get es c.id-id.result ≡ Some e = subst P (sym c.id-id.ensures) is in
-    let unit : c.unit_of-unit.result ≡ e.unit = rw at_id at c.unit_of-unit.ensures in
+    let at_id : c.at-entry.result ≡ Some e = rw c.loop-number.invariant.cursor at c.at-entry.ensures.found ∙ subst P (sym c.id.ensures) is in
+    let unit : c.unit.result ≡ e.unit = rw at_id at c.unit.ensures in
     let back = texts_back sections es (placed us) c.keep_texts.new.texts (entry_head e) c.keep_texts.ensures.texts (sym unit ∙ sym c.keep_texts.ensures.unit) in
     record {
+      cursor = c.at-entry.ensures.same ∙ c.loop-number.invariant.cursor;
       texts = c.keep_texts.ensures.texts;
       passed = more_entries es (AtHead Fails) c.loop-number.number e is c.loop-number.invariant.passed (none_carried (FailsByTexts c.keep_texts.new.texts) Fails e back (c.in_ok-check_entry.ensures.ok e at_id));
     }

@@ -1,4 +1,4 @@
-use Rattle.std.proofs.Common.{◌≡◌, ℕ, Some, arith, sym, subst}
+use Rattle.std.proofs.Common.{◌≡◌, ℕ, Some, arith, sym, subst, ◌∙◌}
 use Rattle.std.specs.Prelude.{slice_get}
 use Rattle.dw_entries.specs.Failures.{HasNone, IsFirst}
 use Rattle.dw_entries.specs.Entries.{entries_of, placed}
@@ -13,6 +13,18 @@ use Rattle.dw_links.proofs.Skips.{there, one_more}
 use Rattle.dw_links.proofs.TableLaws.{map_one_more, map_all}
 use Rattle.dw_links.proofs.references.References.link_entries.Goals as goal
 
+pub at-entry-requires : goal.at-entry-requires
+at-entry-requires c = rw c.loop-number.invariant.cursor (omega (arith, c.id.ensures, c.count-count.ensures, c.loop-number-test.true))
+
+pub link_entry-requires-clause-found : goal.link_entry-requires-clause-found
+link_entry-requires-clause-found c =
+    let es = entries_of (units_of c.args.self.now.entries.now.scanned) in
+    let (e, is) = there es c.id.result (omega (arith, c.id.ensures, c.count-count.ensures, c.loop-number-test.true)) in
+    (e, rw c.loop-number.invariant.cursor at c.at-entry.ensures.found ∙ is)
+
+pub link_entry-requires-clause-may : goal.link_entry-requires-clause-may
+link_entry-requires-clause-may c = λ e is. c.requires c.id.result e (sym (rw c.loop-number.invariant.cursor at c.at-entry.ensures.found) ∙ is)
+
 pub returns-in-Err-clause-fault : goal.returns-in-Err-clause-fault
 returns-in-Err-clause-fault c =
     let us = units_of c.args.self.now.entries.now.scanned in
@@ -20,8 +32,9 @@ returns-in-Err-clause-fault c =
     let Fails = ReferenceFails es (placed us) in
     let (e, is) = there es c.loop-number.number (omega (arith, c.count-count.ensures, c.loop-number-test.true)) in
     let P : ℕ → Type 0 = λ n. slice_get es n ≡ Some e in
+    let at_id : c.at-entry.result ≡ Some e = rw c.loop-number.invariant.cursor at c.at-entry.ensures.found ∙ subst P (sym c.id.ensures) is in
     let first = first_of_entries es (AtHead Fails) c.loop-number.number e c.in-Err.broken (entries_rise _ us c.args.self.now.entries.now.scanned.1.spells.are)
-    (attributes_stand (λ x. Fails (entry_head x))) is c.loop-number.invariant.none (c.in-Err.ensures.err e (subst P (sym c.id.ensures) is)) in
+    (attributes_stand (λ x. Fails (entry_head x))) is c.loop-number.invariant.none (c.in-Err.ensures.err e at_id) in
     record { holds = subst (IsFirst (AttributeFailures es (placed us))) (sym c.fault_of.ensures.broken) first; cycle = c.fault_of.ensures.cycle }
 
 pub loop-number-preserved : goal.loop-number-preserved
@@ -30,9 +43,11 @@ loop-number-preserved c =
     let es = entries_of us in
     let (e, is) = there es c.loop-number.number (omega (arith, c.count-count.ensures, c.loop-number-test.true)) in
     let P : ℕ → Type 0 = λ n. slice_get es n ≡ Some e in
-    let here : c.in-Ok.target ≡ type_target es (placed us) e = rw (c.id.ensures, is) at c.in-Ok.ensures.target in
+    let at_id : c.at-entry.result ≡ Some e = rw c.loop-number.invariant.cursor at c.at-entry.ensures.found ∙ subst P (sym c.id.ensures) is in
+    let here : c.in-Ok.target ≡ type_target es (placed us) e = rw at_id at c.in-Ok.ensures.target in
     record {
-      none = one_more es (λ x. HasNone (AtHead (ReferenceFails es (placed us)) x)) c.loop-number.number e is c.loop-number.invariant.none (c.in-Ok.ensures.ok e (subst P (sym c.id.ensures) is));
+      cursor = c.at-entry.ensures.same ∙ c.loop-number.invariant.cursor;
+      none = one_more es (λ x. HasNone (AtHead (ReferenceFails es (placed us)) x)) c.loop-number.number e is c.loop-number.invariant.none (c.in-Ok.ensures.ok e at_id);
       types = rw c.in_ok-push-in-Ok.ensures.items (map_one_more (type_target es (placed us)) es c.loop-number.types.items c.loop-number.number e c.in-Ok.target is c.loop-number.invariant.types here);
     }
 

@@ -12,26 +12,25 @@ use Rattle.dw_entries.specs.ValuesLeft.{values_left}
 use Rattle.dw_links.specs.Linkable.{MayAsk}
 use Rattle.dw_links.specs.References.{ReferenceFails}
 use Rattle.dw_links.specs.Targets.{reach_of}
-use Rattle.dw_links.proofs.Skips.{there}
 use Rattle.dw_links.proofs.LinkSteps.{linked_none, linked_fails, linked_more, fewer, linked_passes, linked_target}
 use Rattle.dw_links.proofs.references.References.link_entry.Goals as goal
 
 pub loop-item-init : goal.loop-item-init
 loop-item-init c = λ e is.
     let us = units_of c.args.self.now.entries.now.scanned in
-    linked_none (entries_of us) (placed us) (entry_head e) (values_of e.head) (values_left c.values-values.result) (rw (c.at-entry.ensures ∙ is) at c.values-values.ensures)
+    linked_none (entries_of us) (placed us) (entry_head e) (values_of e.head) (values_left c.values-values.result) (rw is at c.values-values.ensures)
 
 pub link_value-requires : goal.link_value-requires
 link_value-requires c =
     let us = units_of c.args.self.now.entries.now.scanned in
-    let (e, is) = there (entries_of us) c.args.id c.requires.id in
-    let head : c.head-head.result ≡ entry_head e = rw (c.at-entry.ensures ∙ is) at c.head-head.ensures in
+    let (e, is) = c.requires.found in
+    let head : c.head-head.result ≡ entry_head e = rw is at c.head-head.ensures in
     subst (MayAsk c.args.self.now) (sym head) (c.requires.may e is)
 
 pub returns-in-Err-clause-err : goal.returns-in-Err-clause-err
 returns-in-Err-clause-err c = λ e is.
     let us = units_of c.args.self.now.entries.now.scanned in
-    let head : c.head-head.result ≡ entry_head e = rw (c.at-entry.ensures ∙ is) at c.head-head.ensures in
+    let head : c.head-head.result ≡ entry_head e = rw is at c.head-head.ensures in
     let P : Head → Type 0 = λ h. IsLeast (ReferenceFails (entries_of us) (placed us) h c.in-Some.item.0 (view c.in-Some.item.1)) (Some c.in-Err.rule) in
     linked_fails (entries_of us) (placed us) e (values_left c.loop-item.values) (values_left c.next_of.new.self) c.loop-item.kept c.in-Some.item.0 (view c.in-Some.item.1) (c.loop-item.invariant e is) c.in-Some.ensures.some c.in-Err.rule c.broken_at.result
     (subst P head c.in-Err.ensures.err) (c.broken_at.ensures ∙ ap (λ (h : Head). record { rule = c.in-Err.rule; section = Info; at = h.offset; attribute = c.in-Some.item.0 }) head)
@@ -39,7 +38,7 @@ returns-in-Err-clause-err c = λ e is.
 pub loop-item-preserved : goal.loop-item-preserved
 loop-item-preserved c = λ e is.
     let us = units_of c.args.self.now.entries.now.scanned in
-    let head : c.head-head.result ≡ entry_head e = rw (c.at-entry.ensures ∙ is) at c.head-head.ensures in
+    let head : c.head-head.result ≡ entry_head e = rw is at c.head-head.ensures in
     let P : Head → Type 0 = λ h. IsLeast (ReferenceFails (entries_of us) (placed us) h c.in-Some.item.0 (view c.in-Some.item.1)) None in
     rw c.keep-kept.ensures
     (linked_more (entries_of us) (placed us) (entry_head e) (values_of e.head) (values_left c.loop-item.values) (values_left c.next_of.new.self) c.loop-item.kept c.in-Some.item.0 (view c.in-Some.item.1) (c.loop-item.invariant e is) c.in-Some.ensures.some
@@ -48,7 +47,7 @@ loop-item-preserved c = λ e is.
 pub loop-item-smaller : goal.loop-item-smaller
 loop-item-smaller c =
     let us = units_of c.args.self.now.entries.now.scanned in
-    let (e, is) = there (entries_of us) c.args.id c.requires.id in
+    let (e, is) = c.requires.found in
     fewer (entries_of us) (placed us) (entry_head e) (values_of e.head) (values_left c.loop-item.values) (values_left c.next_of.new.self) c.loop-item.kept c.in-Some.item.0 (view c.in-Some.item.1) (c.loop-item.invariant e is) c.in-Some.ensures.some
 
 pub returns-in-Some-kept-clause-ok : goal.returns-in-Some-kept-clause-ok
@@ -59,7 +58,7 @@ returns-in-Some-kept-clause-ok c = λ e is.
 pub returns-in-Some-kept-clause-target : goal.returns-in-Some-kept-clause-target
 returns-in-Some-kept-clause-target c =
     let us = units_of c.args.self.now.entries.now.scanned in
-    let (e, is) = there (entries_of us) c.args.id c.requires.id in
+    let (e, is) = c.requires.found in
     rw is (ap option_flatten (sym c.in-Some-kept.is) ∙ linked_target (entries_of us) (placed us) e (values_left c.loop-item.values) c.loop-item.kept (c.loop-item.invariant e is) c.in_default.ensures.none)
 
 pub returns-in-None-clause-ok : goal.returns-in-None-clause-ok
@@ -70,5 +69,5 @@ returns-in-None-clause-ok c = λ e is.
 pub returns-in-None-clause-target : goal.returns-in-None-clause-target
 returns-in-None-clause-target c =
     let us = units_of c.args.self.now.entries.now.scanned in
-    let (e, is) = there (entries_of us) c.args.id c.requires.id in
+    let (e, is) = c.requires.found in
     rw is (c.none.ensures ∙ ap option_flatten (sym c.in-None.is) ∙ linked_target (entries_of us) (placed us) e (values_left c.loop-item.values) c.loop-item.kept (c.loop-item.invariant e is) c.in_default.ensures.none)

@@ -1,5 +1,4 @@
 use Rattle.std.proofs.Common.{◌≡◌, Some, length}
-use Rattle.std.specs.Prelude.{slice_get}
 use Rattle.dw_entries.specs.Asked.{values_of}
 use Rattle.dw_entries.specs.Entries.{Entry, entries_of, placed}
 use Rattle.dw_entries.specs.Scanned.{units_of}
@@ -10,7 +9,7 @@ use Rattle.dw_links.proofs.references.References.link_entry.Given as goal
 
 abbrev pub invariant-loop-item : goal.invariant-loop-item
 invariant-loop-item l =
-    (e : Entry) → slice_get (entries_of (units_of l.self.entries.now.scanned)) l.fn.id ≡ Some e
+    (e : Entry) → l.entry ≡ Some e
     → Linked (entries_of (units_of l.self.entries.now.scanned)) (placed (units_of l.self.entries.now.scanned)) (entry_head e) (values_of e.head) (values_left l.values) l.kept
 
 abbrev pub decreases-loop-item : goal.decreases-loop-item
