@@ -86,8 +86,9 @@ fn steps_of(alloc: Global, entries: &EntryFacts<'_, '_>) -> Result<Vec<Step>, St
 {
     let mut steps: Vec<Step> = Vec::with_capacity(alloc, entries.count())?;
     let mut roles = Roles::with_room(alloc, entries.count())?;
+    let mut cursor = entries.cursor();
     for child in 0..entries.count() {
-        let entry = entries.at(child);
+        let entry = cursor.at(child);
         if !entry.is_asked() {
             roles.push_other()?;
             continue;

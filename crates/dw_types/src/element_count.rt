@@ -191,8 +191,9 @@ pub(crate) fn element_counts(
     ensures each { IfOk result (λ found. (node : ℕ) → node < length entries.now → slice_index_or found node NoDimension ≡ element_count_by entries.now (children entries.now node)) }
 {
     let mut counts = ElementCounts::new(alloc, entries.count())?;
+    let mut cursor = entries.cursor();
     for child in 0..entries.count() {
-        let entry = entries.at(child);
+        let entry = cursor.at(child);
         match entry.counted_parent() {
             Some(parent) => {
                 let elements = counts.get(parent).with_child(entries, child, &entry);

@@ -9,7 +9,7 @@ ghost use Rattle.dw_types.specs.UnitsRead.{all_unit_facts};
 
 use crate::entry_reader::EntryReader;
 use crate::facts_reader::UnitFacts;
-use dw_entries::Entries;
+use dw_entries::{Cursor, Entries};
 use dw_links::Links;
 use std::alloc::{AllocError, Global};
 use std::marker::Model;
@@ -70,11 +70,47 @@ impl<'r, 'a> EntryFacts<'r, 'a> {
         requires { node < length self.now }
         ensures { result ≡ entry_at self.now node }
     {
-        EntryReader::new(
-            self.entries,
-            self.links,
-            self.units.as_slice(),
-            self.entries.id(node),
-        )
+        let mut cursor = self.cursor();
+        cursor.at(node)
+    }
+
+    /// Looks up one entry after another, sooner than `at` where they are of one unit.
+    pub(crate) fn cursor(&self) -> FactsCursor<'_, 'r, 'a>
+        ensures { result ≡ self.now }
+    {
+        FactsCursor {
+            cursor: self.entries.cursor(),
+            links: self.links,
+            units: self.units.as_slice(),
+        }
+    }
+}
+
+/// The entries, each with its facts, looked up one after another.
+#[derive(Drop)]
+pub(crate) struct FactsCursor<'e, 'r, 'a> {
+    cursor: Cursor<'e, 'a>,
+    links: &'e Links<'r, 'a>,
+    units: &'e [UnitFacts],
+}
+
+impl<'e, 'r, 'a> Model for FactsCursor<'e, 'r, 'a> {
+    ghost Value = { List FactsOf };
+
+    ghost view = { λ it. facts_in (units_of it.cursor.entries.now.scanned) };
+
+    ghost invariant = { λ it. (it.units.now ≡ all_unit_facts (units_of it.cursor.entries.now.scanned)) × (units_of it.links.now.entries.now.scanned ≡ units_of it.cursor.entries.now.scanned) };
+}
+
+impl<'e, 'r, 'a> FactsCursor<'e, 'r, 'a> {
+    /// The entry with a number.
+    #[inline(always)]
+    pub(crate) fn at(&mut self, node: usize) -> EntryReader<'e, 'r, 'a>
+        requires { node < length self.old }
+        ensures same { self.new ≡ self.old }
+        ensures found { result ≡ entry_at self.old node }
+    {
+        let id = self.cursor.entries.id(node);
+        EntryReader::new(&mut self.cursor, self.links, self.units, id)
     }
 }

@@ -15,7 +15,7 @@ ghost use Rattle.dw_types.specs.UnitsRead.{all_unit_facts};
 use crate::constant::Constant;
 use crate::facts_reader::{UnitFacts, number_of};
 use dw_entries::constants::*;
-use dw_entries::{Attribute, Entries, EntryAt, EntryId, Value};
+use dw_entries::{Attribute, Cursor, EntryAt, EntryId, Value};
 use dw_links::Links;
 use std::marker::Model;
 
@@ -98,21 +98,22 @@ impl<'e, 'r, 'a> Model for EntryReader<'e, 'r, 'a> {
 }
 
 impl<'e, 'r, 'a> EntryReader<'e, 'r, 'a> {
-    /// The entry with this number. The links and what is read of units are those of the same entries.
+    /// The entry with this number. The links and what is read of units are those of the cursor's entries.
     #[inline(always)]
     pub(crate) fn new(
-        entries: &'e Entries<'a>,
+        cursor: &mut Cursor<'e, 'a>,
         links: &'e Links<'r, 'a>,
         units: &'e [UnitFacts],
         id: EntryId,
     ) -> Self
-        requires id { id < length (entries_of (units_of entries.now.scanned)) }
-        requires units { units.now ≡ all_unit_facts (units_of entries.now.scanned) }
-        requires links { units_of links.now.entries.now.scanned ≡ units_of entries.now.scanned }
-        ensures { result ≡ entry_at (facts_in (units_of entries.now.scanned)) id }
+        requires id { id < length (entries_of (units_of cursor.old.entries.now.scanned)) }
+        requires units { units.now ≡ all_unit_facts (units_of cursor.old.entries.now.scanned) }
+        requires links { units_of links.now.entries.now.scanned ≡ units_of cursor.old.entries.now.scanned }
+        ensures same { cursor.new.entries.now ≡ cursor.old.entries.now }
+        ensures found { result ≡ entry_at (facts_in (units_of cursor.old.entries.now.scanned)) id }
     {
         EntryReader {
-            entry: entries.at(id),
+            entry: cursor.at(id),
             links,
             units,
             id,

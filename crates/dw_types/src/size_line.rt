@@ -78,7 +78,9 @@ pub(crate) fn capped_size(
     elements: ElementCount,
     sizes: &SizeTable,
     node: usize,
+    entry: &EntryReader<'_, '_, '_>,
 ) -> Option<u64>
+    requires entry { entry.now ≡ entry_at entries.now node }
     requires node_in { node < length entries.now }
     requires targets { TargetsAreEntries entries.now }
     requires sizes_in { length sizes.now ≡ length entries.now }
@@ -86,7 +88,6 @@ pub(crate) fn capped_size(
     ensures value { result ≡ cap_size (2 ^ 63) (size_line entries.now (size_at sizes.now) node) }
     ensures small { IfSome result (λ n. n ≤ 2 ^ 63) }
 {
-    let entry = entries.at(node);
     match entry.kind() {
         Kind::Declared => capped(sizes.get_to(entry.signature_target())),
         Kind::OwnSized => capped(entry.byte_size().natural()),
@@ -101,7 +102,7 @@ pub(crate) fn capped_size(
         }
         Kind::Array => {
             let own = entry.byte_size();
-            capped(own.natural_or(capped_array(entries, elements, sizes, node, &entry)))
+            capped(own.natural_or(capped_array(entries, elements, sizes, node, entry)))
         }
         Kind::Subroutine | Kind::NoType => None,
     }

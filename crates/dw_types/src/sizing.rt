@@ -40,9 +40,11 @@ fn capped_sizes(
 {
     let counts = element_counts(alloc, entries)?;
     let mut sizes = counts.into_sizes();
+    let mut cursor = entries.cursor();
     for rank in 0..order.count() {
         let node = order.node(rank);
-        let size = capped_size(entries, sizes.count_at(node), &sizes, node);
+        let entry = cursor.at(node);
+        let size = capped_size(entries, sizes.count_at(node), &sizes, node, &entry);
         sizes.set(alloc, node, size)?;
     }
     Ok(sizes)
@@ -61,8 +63,9 @@ fn first_wrong_size(
     ensures { IfOk result (λ found. MatchOption found (PassAll entries.now (fails_size entries.now (size_at sizes.now))) (λ first. IsFirstAt entries.now (fails_size entries.now (size_at sizes.now)) first.0 first.1)) }
 {
     let mut roles = Roles::with_room(alloc, entries.count())?;
+    let mut cursor = entries.cursor();
     for node in 0..entries.count() {
-        let entry = entries.at(node);
+        let entry = cursor.at(node);
         if !entry.is_asked() {
             roles.push_other()?;
             continue;

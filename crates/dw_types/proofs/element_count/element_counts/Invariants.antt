@@ -1,5 +1,6 @@
+use Rattle.std.proofs.Common.{◌≡◌}
 use Rattle.dw_types.proofs.ElementCountLemmas.{HasElementCounts}
 use Rattle.dw_types.proofs.element_count.element_counts.Given as goal
 
 abbrev pub invariant-loop-child : goal.invariant-loop-child
-invariant-loop-child l = HasElementCounts l.entries l.counts l.child
+invariant-loop-child l = HasElementCounts l.entries l.counts l.child × (l.cursor ≡ l.entries)
