@@ -24,9 +24,9 @@ mod units;
 mod values;
 mod walk;
 
+pub use cursor::Cursor;
 pub use dw_elf::Sections;
 pub use dw_forms::{Attribute, Tag, Value, constants};
-pub use cursor::Cursor;
 pub use entries::Entries;
 pub use entry_at::EntryAt;
 pub use fault::{Broken, Fault, Section, Stop};

@@ -27,17 +27,6 @@ pub struct Image<'a> {
     ghost measured: { AreMeasures (facts_in (units_of entries.scanned)) steps sizes },
 }
 
-/// Whether the entry with this number is a type.
-fn is_type(entries: &Entries<'_>, k: usize) -> bool
-    requires { k < length (entries_of (units_of entries.now.scanned)) }
-    ensures { IfSome (slice_get (entries_of (units_of entries.now.scanned)) k) (λ e. result ≡ is_type_entry e) }
-{
-    match entries.nth(k) {
-        Some(id) => entries.at(id).is_type(),
-        None => false,
-    }
-}
-
 impl<'a> Image<'a> {
     ghost use Rattle.dw_image.specs.Images.{unit_count, entry_count, type_count};
 
@@ -62,8 +51,10 @@ impl<'a> Image<'a> {
         ensures { result ≡ type_count self.now }
     {
         let mut count = 0;
+        let mut cursor = self.entries.cursor();
         for k in 0..self.entries.count() {
-            count += usize::from(is_type(&self.entries, k));
+            let entry = cursor.at(self.entries.id(k));
+            count += usize::from(entry.is_type());
         }
         count
     }

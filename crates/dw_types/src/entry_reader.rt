@@ -27,6 +27,14 @@ fn is_asked(tag: Tag) -> bool
     tag.is_type() || tag == DW_TAG_member
 }
 
+/// Whether the rules on types look at an entry.
+#[inline(always)]
+fn is_asked_at(entry: &EntryAt<'_, '_>) -> bool
+    ensures { IfSome entry.now (λ e. result ≡ is_asked e.head.decl.tag) }
+{
+    entry.is_type() || entry.tag() == DW_TAG_member
+}
+
 /// The value of an entry's attribute, if it has that attribute and the rules on types look at the entry.
 #[inline(always)]
 fn asked_value<'a>(entry: &EntryAt<'_, 'a>, attribute: Attribute) -> Option<Value<'a>>
@@ -140,7 +148,7 @@ impl<'e, 'r, 'a> EntryReader<'e, 'r, 'a> {
     pub(crate) fn is_asked(&self) -> bool
         ensures { result ≡ is_asked self.now.tag }
     {
-        is_asked(self.tag())
+        is_asked_at(&self.entry)
     }
 
     /// The number of its parent.
