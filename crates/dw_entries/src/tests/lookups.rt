@@ -8,7 +8,7 @@ use super::build::{joined, unit};
 use super::scanned;
 use super::vectors::{A, B};
 use crate::constants::{DW_AT_byte_size, DW_AT_encoding, DW_AT_name};
-use crate::{Attribute, Entries, EntryId, Value};
+use crate::{Attribute, Cursor, Entries, EntryId, Value};
 use std::alloc::Global;
 use std::process::Abort;
 use std::test::Fail;
@@ -172,5 +172,35 @@ fn entries_apart(rt: HostRuntime) -> Result<(), Fail> {
     };
     assert_eq!(rt; entries.value(id, DW_AT_name), Some(Value::Text(b"a")));
     assert_eq!(rt; entries.value(id, DW_AT_byte_size), None);
+    Ok(())
+}
+
+/// The offset and the unit of the entry at an offset, and whether it is a type.
+fn seen(cursor: &mut Cursor<'_, '_>, offset: u32) -> Option<(u32, usize, bool)> {
+    match cursor.entries.find(offset) {
+        Some(id) => {
+            let entry = cursor.at(id);
+            Some((entry.offset(), entry.unit(), entry.is_type()))
+        }
+        None => None,
+    }
+}
+
+// Entries of one unit in a row, and of two in turn.
+#[test]
+fn entries_by_a_cursor(rt: HostRuntime) -> Result<(), Fail> {
+    let info = joined(rt.alloc(), &[&B, &B])?;
+    let entries = scanned(rt, &A, &info)?;
+    let mut cursor = entries.cursor();
+    let rows = [
+        (0x0c, 0, false),
+        (0x0f, 0, true),
+        (0x26, 1, true),
+        (0x0f, 0, true),
+        (0x23, 1, false),
+    ];
+    for (offset, unit, is_type) in rows {
+        assert_eq!(rt; seen(&mut cursor, offset), Some((offset, unit, is_type)));
+    }
     Ok(())
 }
