@@ -2,7 +2,7 @@
 
 ghost use Rattle.std.specs.Prelude.{◌≡◌, ◌<◌, Some, length, slice_get};
 ghost use Rattle.std.specs.Option.{ForSome};
-ghost use Rattle.std.specs.Bool.{OnTrue};
+ghost use Rattle.std.specs.Bool.{OnFalse, OnTrue};
 ghost use Rattle.dw_entries.specs.Cursors.{IsAt, IsUnitAt};
 ghost use Rattle.dw_entries.specs.Entries.{entries_of};
 ghost use Rattle.dw_entries.specs.Scanned.{records_of, units_of};
@@ -61,7 +61,8 @@ impl<'a> Entries<'a> {
 /// Whether a unit is at hand and has this number.
 #[inline(always)]
 fn is_at(unit: &Option<UnitAt<'_>>, number: u32) -> bool
-    ensures { OnTrue result (IsAt unit.now number) }
+    ensures yes { OnTrue result (IsAt unit.now number) }
+    ensures otherwise { OnFalse result (IsAt unit.now number → ⊥) }
 {
     match unit {
         Some(unit) if unit.number == number => true,
