@@ -1,7 +1,6 @@
 //! The image of valid sections, and how much it holds.
 
-ghost use Rattle.std.specs.Prelude.{◌≡◌, ◌<◌, length, slice_get, IfSome};
-ghost use Rattle.dw_entries.specs.Entries.{entries_of};
+ghost use Rattle.std.specs.Prelude.{◌≡◌};
 ghost use Rattle.dw_entries.specs.Scanned.{units_of};
 ghost use Rattle.dw_entries.specs.Failures.{HasNone};
 ghost use Rattle.dw_entries.specs.Views.{sections_of};
@@ -9,7 +8,6 @@ ghost use Rattle.dw_links.specs.Strings.{StringFailures};
 ghost use Rattle.dw_links.specs.Tables.{AreTables};
 ghost use Rattle.dw_types.specs.FactsOf.{facts_in};
 ghost use Rattle.dw_image.specs.Measures.{AreMeasures};
-ghost use Rattle.dw_image.specs.Lookups.{is_type_entry};
 
 use dw_entries::Entries;
 use dw_links::UnitTables;

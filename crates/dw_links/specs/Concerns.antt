@@ -38,7 +38,3 @@ PassesAt entry Fails = (e : Entry) → entry ≡ Some e → HasNone (Fails e)
 
 abbrev pub FailsAt : Option Entry → (Entry → Failure → Type 0) → Broken → Type 0
 FailsAt entry Fails broken = (e : Entry) → entry ≡ Some e → IsFirst (Fails e) broken
-
--- an entry that was looked up and found
-abbrev pub IsFound : Option Entry → Type 0
-IsFound entry = (e : Entry) × (entry ≡ Some e)

@@ -20,6 +20,7 @@ use Rattle.dw_links.specs.Contributions.{IsContribution, slot_count, slot_at, En
 use Rattle.dw_links.specs.Bases.{base_in}
 
 -- values of the form may be offsets or indices of strings, or indices of addresses: so are those that name another form
+-- (DWARF 5, 7.5.5)
 abbrev pub may_lead : Form → Bool
 may_lead Strp = true
 may_lead LineStrp = true

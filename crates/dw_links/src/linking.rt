@@ -1,6 +1,6 @@
 //! The rules on references, asked of all entries, and the entries that the types of entries reach.
 
-ghost use Rattle.std.specs.Prelude.{ℕ, ◌≡◌, ◌<◌, length, map, None, Some, slice_get, IfSome, OnOk, IfOk, IfErr};
+ghost use Rattle.std.specs.Prelude.{ℕ, ◌≡◌, ◌<◌, length, map, None, Some, slice_get, IfSome, IsSome, OnOk, IfOk, IfErr};
 ghost use Rattle.dw_entries.specs.Entries.{Entry, entries_of, placed};
 ghost use Rattle.dw_entries.specs.Scanned.{units_of};
 ghost use Rattle.dw_entries.specs.Lookups.{entry_head};
@@ -8,7 +8,7 @@ ghost use Rattle.dw_entries.specs.Failures.{HasNone, IsFirst, IsLeast};
 ghost use Rattle.dw_forms.specs.Value.{view};
 ghost use Rattle.dw_links.specs.Targets.{reach_of};
 ghost use Rattle.dw_entries.specs.Stopped.{IfFault};
-ghost use Rattle.dw_links.specs.Concerns.{AtHead, IsFound, PassesAt, FailsAt};
+ghost use Rattle.dw_links.specs.Concerns.{AtHead, PassesAt, FailsAt};
 ghost use Rattle.dw_links.specs.References.{ReferenceFails, AttributeFailures, ReferenceFailures};
 ghost use Rattle.dw_links.specs.Linkable.{IsLinkable, MayAsk};
 ghost use Rattle.dw_links.specs.Tables.{type_target};
@@ -75,7 +75,7 @@ impl References<'_, '_> {
     /// The entry that an entry's type reaches, or the first failure at the entry's references. Each is decoded and
     /// searched once.
     fn link_entry(&self, entry: &EntryAt<'_, '_>) -> Result<OptionalId, Broken>
-        requires found { IsFound entry.now }
+        requires found { IsSome entry.now }
         requires may { (e : Entry) → entry.now ≡ Some e → MayAsk self.now (entry_head e) }
         ensures ok { OnOk result (PassesAt entry.now (AtHead (ReferenceFails (entries_of (units_of self.now.entries.now.scanned)) (placed (units_of self.now.entries.now.scanned))))) }
         ensures target { IfOk result (λ target. IfSome entry.now (λ e. target ≡ type_target (entries_of (units_of self.now.entries.now.scanned)) (placed (units_of self.now.entries.now.scanned)) e)) }

@@ -1,6 +1,6 @@
 //! Rules that are asked of each attribute of each entry, and the search for the first failure.
 
-ghost use Rattle.std.specs.Prelude.{ℕ, ◌≡◌, [], Some, slice_get, OnOk, IfErr};
+ghost use Rattle.std.specs.Prelude.{ℕ, ◌≡◌, [], Some, slice_get, IsSome, OnOk, IfErr};
 ghost use Rattle.std.specs.Bool.{OnFalse};
 ghost use Rattle.dw_forms.specs.Value.{Datum, view};
 ghost use Rattle.dw_entries.specs.declared.lookup.Head.{Head as HeadData};
@@ -12,7 +12,7 @@ ghost use Rattle.dw_entries.specs.Scanned.{units_of};
 ghost use Rattle.dw_entries.specs.Lookups.{entry_head};
 ghost use Rattle.dw_entries.specs.Failures.{HasNone, IsFirst, IsLeast};
 ghost use Rattle.dw_entries.specs.Asked.{AtEntries};
-ghost use Rattle.dw_links.specs.Concerns.{AtHead, IsFound, Passes, AllPass, EachPasses, PassesAt, FailsAt};
+ghost use Rattle.dw_links.specs.Concerns.{AtHead, Passes, AllPass, EachPasses, PassesAt, FailsAt};
 
 use dw_entries::{Broken, Choice, Entries, EntryAt, Fault, Head, Rule, Section};
 use dw_forms::{Attribute, AttributeSpec, DeclRow, Value};
@@ -115,7 +115,7 @@ pub fn concerns_entries<R: AttributeRules>(rules: &R, entries: &Entries<'_>) -> 
 
 /// The first failure among an entry's attributes. Only those that the rules concern are decoded.
 pub fn check_entry<R: AttributeRules>(rules: &R, entry: &EntryAt<'_, '_>) -> Result<(), Broken>
-    requires found { IsFound entry.now }
+    requires found { IsSome entry.now }
     requires may { (e : Entry) → entry.now ≡ Some e → R.may_ask rules.now (entry_head e) }
     ensures ok { OnOk result (PassesAt entry.now (AtHead (R.fails rules.now))) }
     ensures err { IfErr result (FailsAt entry.now (AtHead (R.fails rules.now))) }

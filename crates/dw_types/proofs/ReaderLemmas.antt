@@ -116,16 +116,16 @@ fact-here us id o below there fact read is found known = elim (slice_get_cases (
 ]
 
 -- what is read of a type or a member
-module _ {X : Type 0} (o : Option Entry) (tag : ℕ) (is_tag : IfSome o (λ e. tag ≡ e.head.decl.tag)) (read : Entry → X) (none : X) where
-  pub asked-read : is_asked tag ≡ true → (found : X) → IfSome o (λ e. found ≡ read e) → IfSome o (λ e. found ≡ (if is_asked e.head.decl.tag then read e else none))
-  asked-read asked found known = both o is_tag known
+module _ {X : Type 0} (o : Option Entry) (b : Bool) (is_b : IfSome o (λ e. b ≡ is_asked e.head.decl.tag)) (read : Entry → X) (none : X) where
+  pub asked-read : b ≡ true → (found : X) → IfSome o (λ e. found ≡ read e) → IfSome o (λ e. found ≡ (if is_asked e.head.decl.tag then read e else none))
+  asked-read asked found known = both o is_b known
     where
-      both : (o : Option Entry) → IfSome o (λ e. tag ≡ e.head.decl.tag) → IfSome o (λ e. found ≡ read e) → IfSome o (λ e. found ≡ (if is_asked e.head.decl.tag then read e else none))
+      both : (o : Option Entry) → IfSome o (λ e. b ≡ is_asked e.head.decl.tag) → IfSome o (λ e. found ≡ read e) → IfSome o (λ e. found ≡ (if is_asked e.head.decl.tag then read e else none))
       both None t k = tt
-      both (Some e) t k = k ∙ sym (ap (λ (b : Bool). if b then read e else none) (ap is_asked (sym t) ∙ asked))
+      both (Some e) t k = k ∙ sym (ap (λ (yes : Bool). if yes then read e else none) (sym t ∙ asked))
 
-  pub unasked-read : is_asked tag ≡ false → IfSome o (λ e. none ≡ (if is_asked e.head.decl.tag then read e else none))
-  unasked-read unasked = IfSome_then o is_tag (λ e t. sym (ap (λ (b : Bool). if b then read e else none) (ap is_asked (sym t) ∙ unasked)))
+  pub unasked-read : b ≡ false → IfSome o (λ e. none ≡ (if is_asked e.head.decl.tag then read e else none))
+  unasked-read unasked = IfSome_then o is_b (λ e t. sym (ap (λ (yes : Bool). if yes then read e else none) (sym t ∙ unasked)))
 
 -- where an attribute leads, as a number
 pub target-read : (o : Option Entry) (found target : Option ℕ) (read : Entry → Option ℕ) → IfSome o (λ e. found ≡ (if is_asked e.head.decl.tag then target else None)) → IfSome o (λ e. target ≡ read e)

@@ -19,17 +19,9 @@ use dw_entries::{Attribute, Cursor, EntryAt, EntryId, Value};
 use dw_links::Links;
 use std::marker::Model;
 
-/// Whether the rules on types look at entries with this tag: types and members.
+/// Whether the rules on types look at an entry: a type or a member.
 #[inline(always)]
-fn is_asked(tag: Tag) -> bool
-    ensures { result ≡ is_asked tag }
-{
-    tag.is_type() || tag == DW_TAG_member
-}
-
-/// Whether the rules on types look at an entry.
-#[inline(always)]
-fn is_asked_at(entry: &EntryAt<'_, '_>) -> bool
+fn is_asked(entry: &EntryAt<'_, '_>) -> bool
     ensures { IfSome entry.now (λ e. result ≡ is_asked e.head.decl.tag) }
 {
     entry.is_type() || entry.tag() == DW_TAG_member
@@ -41,7 +33,7 @@ fn asked_value<'a>(entry: &EntryAt<'_, 'a>, attribute: Attribute) -> Option<Valu
     ensures { IfSome entry.now (λ e. option_map view result ≡ asked_value e attribute) }
 {
     match entry.value(attribute) {
-        Some(value) => if is_asked(entry.tag()) {
+        Some(value) => if is_asked(entry) {
             Some(value)
         } else {
             None
@@ -56,7 +48,7 @@ fn asked_target(entry: &EntryAt<'_, '_>, target: Option<EntryId>) -> Option<usiz
     ensures { IfSome entry.now (λ e. result ≡ if is_asked e.head.decl.tag then target else None) }
 {
     match target {
-        Some(id) => if is_asked(entry.tag()) {
+        Some(id) => if is_asked(entry) {
             Some(id.number())
         } else {
             None
@@ -148,7 +140,7 @@ impl<'e, 'r, 'a> EntryReader<'e, 'r, 'a> {
     pub(crate) fn is_asked(&self) -> bool
         ensures { result ≡ is_asked self.now.tag }
     {
-        is_asked_at(&self.entry)
+        is_asked(&self.entry)
     }
 
     /// The number of its parent.
@@ -189,7 +181,7 @@ impl<'e, 'r, 'a> EntryReader<'e, 'r, 'a> {
         ensures address_size { result.address_size ≡ self.now.address_size }
         ensures language { result.language ≡ self.now.language }
     {
-        if is_asked(self.entry.tag()) {
+        if is_asked(&self.entry) {
             unit_at(self.units, self.entry.unit())
         } else {
             UnitFacts {

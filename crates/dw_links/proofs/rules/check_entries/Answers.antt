@@ -1,4 +1,4 @@
-use Rattle.std.proofs.Common.{◌≡◌, ℕ, Some, arith, sym, subst, ◌∙◌}
+use Rattle.std.proofs.Common.{◌≡◌, ℕ, Some, arith, refl, sym, subst, ◌∙◌}
 use Rattle.std.specs.Prelude.{slice_get}
 use Rattle.std.proofs.lemmas.Result.{err_from_is_err_and}
 use Rattle.dw_entries.specs.Entries.{entries_of}
@@ -16,7 +16,7 @@ at-entry-requires g c = rw c.loop-number.invariant.cursor (omega (arith, c.id.en
 pub check_entry-requires-clause-found : goal.check_entry-requires-clause-found
 check_entry-requires-clause-found g c =
     let (e, is) = there (entries_of (units_of c.args.entries.now.scanned)) c.id.result (omega (arith, c.id.ensures, c.loop-number-test.true, c.count-number-end.ensures)) in
-    (e, rw c.loop-number.invariant.cursor at c.at-entry.ensures.found ∙ is)
+    rw (rw c.loop-number.invariant.cursor at c.at-entry.ensures.found ∙ is) refl
 
 pub check_entry-requires-clause-may : goal.check_entry-requires-clause-may
 check_entry-requires-clause-may g c = λ e is. c.requires c.id.result e (sym (rw c.loop-number.invariant.cursor at c.at-entry.ensures.found) ∙ is)

@@ -7,6 +7,7 @@ use Rattle.dw_entries.specs.Failures.{IsLeast}
 use Rattle.dw_entries.specs.Asked.{values_of}
 use Rattle.dw_entries.specs.Lookups.{entry_head}
 use Rattle.dw_entries.specs.ValuesLeft.{values_left}
+use Rattle.dw_links.proofs.Skips.{found}
 use Rattle.dw_links.proofs.RuleSteps.{none_checked, checked_fails, checked_more, checked_all, fewer}
 use Rattle.dw_links.proofs.rules.check_entry.Goals as goal
 
@@ -15,7 +16,7 @@ loop-item-init g c = λ e is. none_checked (g.R.AttributeRules.fails c.args.rule
 
 pub ask-requires : goal.ask-requires
 ask-requires g c =
-    let (e, is) = c.requires.found in
+    let (e, is) = found c.args.entry.now c.requires.found in
     let head : c.head-head.result ≡ entry_head e = rw is at c.head-head.ensures in
     subst (g.R.AttributeRules.may_ask c.args.rules.now) (sym head) (c.requires.may e is)
 

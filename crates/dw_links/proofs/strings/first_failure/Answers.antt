@@ -1,4 +1,4 @@
-use Rattle.std.proofs.Common.{◌≡◌, ℕ, Some, arith, sym, subst, ◌∙◌}
+use Rattle.std.proofs.Common.{◌≡◌, ℕ, Some, arith, refl, sym, subst, ◌∙◌}
 use Rattle.std.specs.Prelude.{slice_get}
 use Rattle.std.proofs.lemmas.Result.{err_from_is_err_and}
 use Rattle.dw_entries.specs.Entries.{entries_of, placed}
@@ -30,7 +30,7 @@ keep_texts-requires-clause-next c =
 pub check_entry-requires-clause-found : goal.check_entry-requires-clause-found
 check_entry-requires-clause-found c =
     let (e, is) = there (entries_of (units_of c.args.entries.now.scanned)) c.id.result (omega (arith, c.id.ensures, c.loop-number-test.true, c.count-number-end.ensures)) in
-    (e, rw c.loop-number.invariant.cursor at c.at-entry.ensures.found ∙ is)
+    rw (rw c.loop-number.invariant.cursor at c.at-entry.ensures.found ∙ is) refl
 
 pub returns-in_err-check_entry-clause-err : goal.returns-in_err-check_entry-clause-err
 returns-in_err-check_entry-clause-err c =

@@ -1,4 +1,4 @@
-use Rattle.std.proofs.Common.{◌≡◌, ℕ, Some, arith, sym, subst, ◌∙◌}
+use Rattle.std.proofs.Common.{◌≡◌, ℕ, Some, arith, refl, sym, subst, ◌∙◌}
 use Rattle.std.specs.Prelude.{slice_get}
 use Rattle.dw_entries.specs.Failures.{HasNone, IsFirst}
 use Rattle.dw_entries.specs.Entries.{entries_of, placed}
@@ -20,7 +20,7 @@ pub link_entry-requires-clause-found : goal.link_entry-requires-clause-found
 link_entry-requires-clause-found c =
     let es = entries_of (units_of c.args.self.now.entries.now.scanned) in
     let (e, is) = there es c.id.result (omega (arith, c.id.ensures, c.count-count.ensures, c.loop-number-test.true)) in
-    (e, rw c.loop-number.invariant.cursor at c.at-entry.ensures.found ∙ is)
+    rw (rw c.loop-number.invariant.cursor at c.at-entry.ensures.found ∙ is) refl
 
 pub link_entry-requires-clause-may : goal.link_entry-requires-clause-may
 link_entry-requires-clause-may c = λ e is. c.requires c.id.result e (sym (rw c.loop-number.invariant.cursor at c.at-entry.ensures.found) ∙ is)

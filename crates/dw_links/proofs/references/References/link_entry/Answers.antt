@@ -12,6 +12,7 @@ use Rattle.dw_entries.specs.ValuesLeft.{values_left}
 use Rattle.dw_links.specs.Linkable.{MayAsk}
 use Rattle.dw_links.specs.References.{ReferenceFails}
 use Rattle.dw_links.specs.Targets.{reach_of}
+use Rattle.dw_links.proofs.Skips.{found}
 use Rattle.dw_links.proofs.LinkSteps.{linked_none, linked_fails, linked_more, fewer, linked_passes, linked_target}
 use Rattle.dw_links.proofs.references.References.link_entry.Goals as goal
 
@@ -23,7 +24,7 @@ loop-item-init c = λ e is.
 pub link_value-requires : goal.link_value-requires
 link_value-requires c =
     let us = units_of c.args.self.now.entries.now.scanned in
-    let (e, is) = c.requires.found in
+    let (e, is) = found c.args.entry.now c.requires.found in
     let head : c.head-head.result ≡ entry_head e = rw is at c.head-head.ensures in
     subst (MayAsk c.args.self.now) (sym head) (c.requires.may e is)
 
@@ -47,7 +48,7 @@ loop-item-preserved c = λ e is.
 pub loop-item-smaller : goal.loop-item-smaller
 loop-item-smaller c =
     let us = units_of c.args.self.now.entries.now.scanned in
-    let (e, is) = c.requires.found in
+    let (e, is) = found c.args.entry.now c.requires.found in
     fewer (entries_of us) (placed us) (entry_head e) (values_of e.head) (values_left c.loop-item.values) (values_left c.next_of.new.self) c.loop-item.kept c.in-Some.item.0 (view c.in-Some.item.1) (c.loop-item.invariant e is) c.in-Some.ensures.some
 
 pub returns-in-Some-kept-clause-ok : goal.returns-in-Some-kept-clause-ok
@@ -58,7 +59,7 @@ returns-in-Some-kept-clause-ok c = λ e is.
 pub returns-in-Some-kept-clause-target : goal.returns-in-Some-kept-clause-target
 returns-in-Some-kept-clause-target c =
     let us = units_of c.args.self.now.entries.now.scanned in
-    let (e, is) = c.requires.found in
+    let (e, is) = found c.args.entry.now c.requires.found in
     rw is (ap option_flatten (sym c.in-Some-kept.is) ∙ linked_target (entries_of us) (placed us) e (values_left c.loop-item.values) c.loop-item.kept (c.loop-item.invariant e is) c.in_default.ensures.none)
 
 pub returns-in-None-clause-ok : goal.returns-in-None-clause-ok
@@ -69,5 +70,5 @@ returns-in-None-clause-ok c = λ e is.
 pub returns-in-None-clause-target : goal.returns-in-None-clause-target
 returns-in-None-clause-target c =
     let us = units_of c.args.self.now.entries.now.scanned in
-    let (e, is) = c.requires.found in
+    let (e, is) = found c.args.entry.now c.requires.found in
     rw is (c.none.ensures ∙ ap option_flatten (sym c.in-None.is) ∙ linked_target (entries_of us) (placed us) e (values_left c.loop-item.values) c.loop-item.kept (c.loop-item.invariant e is) c.in_default.ensures.none)
