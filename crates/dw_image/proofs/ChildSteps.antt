@@ -1,17 +1,12 @@
 -- The children of an entry, in the words of the look-ups.
-use Rattle.std.proofs.Common.{◌≡◌, ℕ, zero, suc, ◌+◌, ◌<◌, ◌≤◌, ◌==◌, Bool, true, false, if◌then◌else◌, List, [], ◌∷◌, ◌++◌, length, drop, Option, Some, None, IfSome, refl, sym, ap, subst, ◌∙◌, arith, append_assoc, length-append, ne_eqb, eq-eqb, eqb-true, nat_lt, ltb-true, ltb-false}
+use Rattle.std.proofs.Common.{◌≡◌, ℕ, zero, suc, ◌+◌, ◌<◌, ◌≤◌, Bool, true, false, if◌then◌else◌, List, [], ◌∷◌, length, Option, Some, None, IfSome, refl, sym, ap, subst, ◌∙◌, arith, eqb-true, nat_lt, ltb-true, ltb-false}
 use Rattle.std.specs.Prelude.{slice_get, option_map}
-use Rattle.std.proofs.lemmas.List.{drop-drop}
 use Rattle.std.proofs.lemmas.Option.{slice_get_within}
 use Rattle.dw_entries.specs.declared.lookup.Head.{Head}
 use Rattle.dw_entries.specs.Lookups.{nth_of, entry_head}
-use Rattle.std.proofs.Math.Seq.{drop-append-add}
-use Rattle.std.proofs.Math.ListN.{drop_of_length-le}
-use Rattle.dw_entries.specs.Grammar.{head_bytes}
-use Rattle.dw_entries.specs.Header.{header_size}
-use Rattle.dw_entries.specs.Tree.{Node, Nodes, leaf, parent, none, ◌then◌, node_bytes}
-use Rattle.dw_entries.specs.Units.{DebugUnit, unit_bytes}
-use Rattle.dw_entries.specs.Entries.{Entry, node_count, nodes_count, first_id, node_entries, nodes_entries, entries_from, entries_of}
+use Rattle.dw_entries.specs.Tree.{◌then◌}
+use Rattle.dw_entries.specs.Units.{DebugUnit}
+use Rattle.dw_entries.specs.Entries.{Entry, entries_of}
 use Rattle.dw_image.specs.Lookups.{is_number, children_from, children_of, siblings_from, IsLinked}
 use Rattle.dw_image.proofs.ChildLemmas.{linked_there, next_of_child, no_first, none_behind, first_behind, Steps}
 

@@ -1,11 +1,8 @@
 -- Where no rule on classes fails, each value has one of its attribute's classes.
-use Rattle.std.proofs.Common.{◌≡◌, ℕ, Bool, true, false, List, Some, refl}
-use Rattle.std.specs.Prelude.{slice_get}
-use Rattle.dw_forms.specs.Value.{Datum}
+use Rattle.std.proofs.Common.{◌≡◌, Bool, true, false, List, refl}
 use Rattle.dw_entries.specs.declared.rule.Rule.TheVariants.{WrongClass}
 use Rattle.dw_entries.specs.Header.{version_of}
 use Rattle.dw_entries.specs.Units.{DebugUnit}
-use Rattle.dw_entries.specs.Entries.{Entry, entries_of, PlacedUnit, placed}
 use Rattle.dw_entries.specs.Places.{at_attribute}
 use Rattle.dw_entries.specs.Failures.{HasNone}
 use Rattle.dw_links.specs.Classes.{class_of, allows_in, ClassFailures}

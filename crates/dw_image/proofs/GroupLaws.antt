@@ -1,7 +1,7 @@
 -- Which rules a group of failures has, and that one of them is named at a place.
-use Rattle.std.proofs.Common.{◌≡◌, ℕ, ◌⊎◌, true, List, Option, Some, None, refl, sym, ap, ◌∙◌, arith, subst, inl, inr, ◌+◌, ◌<◌, ◌≤◌, ◌==◌, if◌then◌else◌}
+use Rattle.std.proofs.Common.{◌≡◌, ℕ, true, List, Option, Some, None, refl, sym, ap, ◌∙◌, arith, subst, inl, inr, ◌+◌, ◌<◌, ◌≤◌, ◌==◌, if◌then◌else◌}
 use Rattle.dw_elf.specs.declared.sections.Sections.{Sections}
-use Rattle.dw_forms.specs.Value.{Datum, address, block, unsigned, signed, wide, text, flag, str, line_str, str_index, ref_info, ref_unit, ref_sig, sec_offset, expr, addr_index, loc_index, rng_index}
+use Rattle.dw_forms.specs.Value.{Datum, str, line_str, str_index, sec_offset, addr_index}
 use Rattle.dw_entries.specs.declared.header.UnitHeader.{UnitHeader}
 use Rattle.dw_entries.specs.declared.rule.Rule.{Rule}
 use Rattle.dw_entries.specs.declared.rule.Rule.TheVariants.{BadStrBase, StrIndex, StringEnd, BadAddrBase, AddrIndex, NoEntry, WrongKind, NotNextSibling, NoSignature, MissingType, BadCount, NoSize, SizeTooGreat, MemberOutside, EnumSize}
@@ -9,15 +9,12 @@ use Rattle.dw_entries.specs.declared.lookup.Head.{Head}
 use Rattle.dw_entries.specs.Units.{DebugUnit, AreUnits}
 use Rattle.dw_entries.specs.Entries.{Entry, entries_of, PlacedUnit, placed}
 use Rattle.dw_entries.specs.Lookups.{entry_head}
-use Rattle.dw_entries.specs.Places.{Place, at_header, at_entry, at_attribute}
+use Rattle.dw_entries.specs.Places.{at_header, at_attribute}
 use Rattle.dw_entries.specs.Rules.{group_of}
 use Rattle.dw_entries.specs.Failures.{Failure, HasNone}
-use Rattle.dw_entries.specs.Asked.{AtAttributes, AtEntries}
 use Rattle.dw_entries.proofs.EntryFacts.{entries_rise}
-use Rattle.dw_links.specs.Concerns.{Rules, AtHead}
-use Rattle.dw_links.specs.Classes.{ClassFails, ClassFailures}
-use Rattle.dw_links.specs.Strings.{OffsetFails, StringIndexFails, AddressIndexFails, BaseFails, StringFailsIn, StringFails, StringFailures}
-use Rattle.dw_links.specs.References.{ReferenceFailsBy, ReferenceFails, ReferenceFailures, TypeUnitFails, HeaderFails, HeaderFailures, AttributeFailures, type_in}
+use Rattle.dw_links.specs.Strings.{OffsetFails, StringIndexFails, AddressIndexFails, BaseFails, StringFailsIn}
+use Rattle.dw_links.specs.References.{ReferenceFailsBy, HeaderFails, type_in}
 use Rattle.dw_types.specs.declared.facts.Facts.{Facts}
 use Rattle.dw_types.specs.declared.kind.Role.{Role}
 use Rattle.dw_types.specs.Entries.{entry_at}

@@ -1,5 +1,5 @@
 -- What is made of the types of entries, and how it fails.
-use Rattle.std.proofs.Common.{◌≡◌, ℕ, ◌<◌, List, length, sym, subst, ◌∙◌, arith}
+use Rattle.std.proofs.Common.{◌<◌, List, arith}
 use Rattle.dw_elf.specs.declared.sections.Sections.{Sections}
 use Rattle.dw_entries.specs.declared.fault.Fault.{Fault}
 use Rattle.dw_entries.specs.declared.fault.Stop.{Stop}

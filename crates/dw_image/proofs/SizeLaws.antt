@@ -1,16 +1,14 @@
 -- The rules on sizes by the one table: it does not matter which list of sizes shows it.
-use Rattle.std.proofs.Common.{◌≡◌, ℕ, ◌<◌, ◌≤◌, true, List, length, Option, Some, None, refl, sym, ap, ◌∙◌, subst, arith}
-use Rattle.std.specs.Prelude.{slice_get}
+use Rattle.std.proofs.Common.{◌≡◌, ℕ, ◌<◌, List, length, Option, Some, None, refl, sym, ◌∙◌, arith}
 use Rattle.std.proofs.lemmas.Option.{slice_get_within}
 use Rattle.dw_entries.specs.declared.rule.Rule.{Rule}
 use Rattle.dw_entries.specs.declared.fault.Broken.{Broken}
 use Rattle.dw_entries.specs.Failures.{Failure, HasNone, IsFirst}
 use Rattle.dw_types.specs.declared.facts.Facts.{Facts}
 use Rattle.dw_types.specs.Entries.{entry_at, ParentsComeFirst, TargetsAreEntries}
-use Rattle.dw_types.specs.Kinds.{parent_role}
 use Rattle.dw_types.specs.SizeTables.{Size}
 use Rattle.dw_types.specs.Sizes.{IsSizeTable, size_to}
-use Rattle.dw_types.specs.SizeFaults.{breaks_size, fails_size, SizeFailures, IsFirstSizeFault}
+use Rattle.dw_types.specs.SizeFaults.{fails_size, SizeFailures, IsFirstSizeFault}
 use Rattle.dw_image.specs.First.{FailsBySize}
 
 module _ (facts : List Facts) (parents : ParentsComeFirst facts) (targets : TargetsAreEntries facts) where

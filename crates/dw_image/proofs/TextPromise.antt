@@ -1,12 +1,11 @@
 -- Where no rule on strings and addresses fails, each of them is there.
-use Rattle.std.proofs.Common.{◌≡◌, ◌≢◌, ℕ, zero, suc, ◌+◌, ◌-◌, ◌<◌, ◌≤◌, ◌==◌, ◌%◌, Bool, true, false, List, [], ◌∷◌, length, Option, None, Some, refl, sym, ap, ◌∙◌, arith, subst, inl, inr, ◌⊎◌}
-use Rattle.std.specs.Prelude.{slice_get, slice_index, find, option_map}
+use Rattle.std.proofs.Common.{◌≡◌, ◌≢◌, ℕ, zero, suc, ◌+◌, ◌-◌, ◌<◌, ◌≤◌, ◌==◌, ◌%◌, Bool, true, false, List, [], ◌∷◌, length, Option, None, Some, refl, sym, ap, ◌∙◌, arith, inl, inr, ◌⊎◌}
+use Rattle.std.specs.Prelude.{slice_get, slice_index}
 use Rattle.std.specs.Option.{option_and_then}
 use Rattle.std.proofs.lemmas.Bool.Decides.{nat_tests}
 use Rattle.dw_elf.specs.declared.sections.Sections.{Sections}
 use Rattle.dw_forms.specs.Codes.{DW_AT_str_offsets_base, DW_AT_addr_base}
-use Rattle.dw_forms.specs.Value.{Datum, address, block, unsigned, signed, wide, text, flag, str, line_str, str_index, ref_info, ref_unit, ref_sig, sec_offset, expr, addr_index, loc_index, rng_index}
-use Rattle.dw_entries.specs.declared.header.UnitHeader.{UnitHeader}
+use Rattle.dw_forms.specs.Value.{Datum, str, line_str, str_index, sec_offset, addr_index}
 use Rattle.dw_entries.specs.declared.rule.Rule.{Rule}
 use Rattle.dw_entries.specs.declared.rule.Rule.TheVariants.{BadStrBase, StrIndex, StringEnd, BadAddrBase, AddrIndex}
 use Rattle.dw_entries.specs.Header.{version_of}
@@ -19,7 +18,7 @@ use Rattle.dw_entries.specs.Asked.{HasAttribute, values_of}
 use Rattle.dw_entries.proofs.EntryFacts.{first_entry}
 use Rattle.dw_links.specs.Contributions.{number_at, length_before, IsContribution, slot_count, slot_at, Ends}
 use Rattle.dw_links.specs.Bases.{base_in, section_offset_of, section_offset_in}
-use Rattle.dw_links.specs.Strings.{IsStringContribution, IsAddressContribution, StringFails, StringFailsIn, StringFailures}
+use Rattle.dw_links.specs.Strings.{IsStringContribution, IsAddressContribution, StringFailsIn, StringFailures}
 use Rattle.dw_image.specs.Headline.{HasStringAt, HasAddressAt, LeadsToText, HasTexts}
 
 -- ---- what can be decided

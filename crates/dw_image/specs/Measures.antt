@@ -1,5 +1,5 @@
 -- What is made of the types of entries, and how it fails.
-use Rattle.std.specs.Prelude.{◌≡◌, ℕ, ◌<◌, List, length}
+use Rattle.std.specs.Prelude.{◌≡◌, ◌<◌, List, length}
 use Rattle.dw_elf.specs.declared.sections.Sections.{Sections}
 use Rattle.dw_entries.specs.declared.fault.Fault.{Fault}
 use Rattle.dw_entries.specs.Failures.{HasNone}

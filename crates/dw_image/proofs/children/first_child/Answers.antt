@@ -1,4 +1,4 @@
-use Rattle.std.proofs.Common.{◌≡◌, ◌+◌, sym, arith}
+use Rattle.std.proofs.Common.{◌+◌, sym, arith}
 use Rattle.dw_entries.specs.Entries.{entries_of}
 use Rattle.dw_entries.specs.Scanned.{units_of}
 use Rattle.dw_image.proofs.ChildSteps.{nth_is, nth_gone, first_of_behind, linked_of_behind, none_of_behind, none_past}

@@ -1,9 +1,8 @@
-use Rattle.std.proofs.Common.{◌≡◌, subst, sym, ◌∙◌}
+use Rattle.std.proofs.Common.{subst, sym, ◌∙◌}
 use Rattle.dw_entries.specs.Scanned.{units_of}
 use Rattle.dw_entries.specs.Views.{sections_of}
 use Rattle.dw_entries.specs.Entries.{entries_of, placed}
-use Rattle.dw_types.specs.FactsOf.{facts_in}
-use Rattle.dw_types.specs.Graphs.{Graph, HasNoCycle, IsCycle}
+use Rattle.dw_types.specs.Graphs.{HasNoCycle}
 use Rattle.dw_types.proofs.FactsLemmas.{length-facts_of}
 use Rattle.dw_image.proofs.MeasureLemmas.{wrong_shape, contains_itself, wrong_size}
 use Rattle.dw_image.proofs.measuring.measure.Goals as goal

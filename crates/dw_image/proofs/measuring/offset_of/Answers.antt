@@ -1,4 +1,3 @@
-use Rattle.std.proofs.Common.{◌≡◌, sym, subst}
 use Rattle.dw_entries.specs.Scanned.{units_of}
 use Rattle.dw_image.proofs.CycleLaws.{offset_told}
 use Rattle.dw_image.proofs.measuring.offset_of.Goals as goal

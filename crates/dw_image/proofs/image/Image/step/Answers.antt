@@ -1,6 +1,4 @@
-use Rattle.std.proofs.Common.{◌≡◌, ◌<◌, ◌≤◌, length, sym, subst, ◌∙◌, ap, Some, arith}
-use Rattle.dw_types.specs.Graphs.{steps_of}
-use Rattle.dw_image.specs.Measures.{graph_of}
+use Rattle.std.proofs.Common.{◌<◌, ◌≤◌, subst, ◌∙◌, arith}
 use Rattle.dw_image.proofs.StepLaws.{node_within, kth_step, no_step, step_scanned, step_within}
 use Rattle.dw_image.proofs.image.Image.step.Goals as goal
 
