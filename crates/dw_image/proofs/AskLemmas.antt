@@ -1,5 +1,5 @@
 -- The groups in their order, as they are asked.
-use Rattle.std.proofs.Common.{◌≡◌, ℕ, ◌+◌, ◌<◌, List, refl, sym, subst, arith, inl, inr}
+use Rattle.std.proofs.Common.{◌≡◌, subst, arith, inl, inr}
 use Rattle.dw_elf.specs.declared.sections.Sections.{Sections}
 use Rattle.dw_entries.specs.declared.fault.Fault.{Fault}
 use Rattle.dw_entries.specs.declared.fault.Stop.{Stop}
@@ -8,19 +8,15 @@ use Rattle.dw_entries.specs.declared.entries.Entries.{Entries}
 use Rattle.dw_entries.specs.Failures.{HasNone, IsFirst}
 use Rattle.dw_entries.specs.Scanned.{units_of}
 use Rattle.dw_entries.specs.Stopped.{IsFault, IfFault}
-use Rattle.dw_entries.specs.Units.{DebugUnit}
 use Rattle.dw_entries.specs.Views.{sections_of}
 use Rattle.dw_links.specs.Classes.{ClassFailures}
 use Rattle.dw_links.specs.Strings.{StringFailures}
 use Rattle.dw_links.specs.References.{ReferenceFailures}
-use Rattle.dw_types.specs.FactsOf.{facts_in}
-use Rattle.dw_image.specs.declared.image.Image.{Image}
-use Rattle.dw_image.specs.Images.{sections_in, units_in, size_table_in}
-use Rattle.dw_image.specs.First.{Group, classes, strings, references, turn_of, failures_of, IsFirstIn, IsFirstFault, in_group}
-use Rattle.dw_image.specs.Headline.{IsImageOf, IsFaultOf, IfFaulty}
-use Rattle.dw_image.specs.Measures.{AreMeasures, FailsInTypes}
+use Rattle.dw_image.specs.First.{Group, classes, strings, references, turn_of, IsFirstIn, IsFirstFault, in_group}
+use Rattle.dw_image.specs.Headline.{IsFaultOf, IfFaulty}
+use Rattle.dw_image.specs.Measures.{FailsInTypes}
 use Rattle.dw_image.proofs.GroupLaws.{HoldBefore, none_before, one_more}
-use Rattle.dw_image.proofs.JoinLemmas.{image_of, fault_of}
+use Rattle.dw_image.proofs.JoinLemmas.{fault_of}
 use Rattle.dw_image.proofs.OneFirst.{three_ways}
 
 -- the first failure of a group, over the entries that a scan found
@@ -75,13 +71,3 @@ pub wrong_type : (s : Sections) (entries : Entries) (stop : Stop) → entries.se
     → IfFaulty (FailsInTypes (sections_of entries) (units_of entries.scanned)) stop → IfFaulty (IsFaultOf s) stop
 wrong_type s entries stops.Memory same none nor neither fails = tt
 wrong_type s entries (stops.Fault fault) same none nor neither fails = wrong_types s entries fault same none nor neither fails
-
--- the image over the entries that a scan found, of which all rules hold
-pub image_of_entries : (s : Sections) (image : Image) → image.entries.sections ≡ s → ClassesHold image.entries → StringsHold image.entries → HasNone (ReferenceFailures (units_of image.entries.scanned))
-    → IsImageOf s image
-unfolding sections_in units_in size_table_in
-image_of_entries s image same none nor neither =
-    let m = image.measured in
-    image_of s image same
-    (record { trees = image.entries.scanned.1.spells; classes = none; strings = nor; references = neither; shapes = m.shapes; contained = m.contained; sizes = (size_table_in image, m.sizes) })
-    m.sizes

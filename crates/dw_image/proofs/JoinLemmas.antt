@@ -1,5 +1,5 @@
 -- The groups of rules join: valid sections have no fault, and others have one.
-use Rattle.std.proofs.Common.{◌≡◌, ℕ, ◌<◌, ◌⊎◌, List, refl, sym, ap, ◌∙◌, subst, arith, inl, inr}
+use Rattle.std.proofs.Common.{◌≡◌, ◌<◌, List, refl, sym, ap, ◌∙◌, subst, inl, inr}
 use Rattle.dw_elf.specs.declared.sections.Sections.{Sections}
 use Rattle.dw_entries.specs.declared.fault.Fault.{Fault}
 use Rattle.dw_entries.specs.declared.fault.Broken.{Broken}
@@ -111,22 +111,52 @@ spelled_of s units spells = λ id e there.
     let stands = head_stands s.«abbrev».now s.info.now units id e spells there in
     record { unit = stands.unit; in_unit = stands.is_unit; head = stands.is; rest = stands.after; stands = stands.parts }
 
--- sections of which all rules hold, and their image
-pub image_of : (s : Sections) (image : Image) → sections_in image ≡ s → IsValidBy (sections_in image) (units_in image) → HasSizes (facts_in (units_in image)) (size_table_in image) → IsImageOf s image
-image_of s image same holds measured =
-    let here : IsValidBy s (units_in image) = subst (λ t. IsValidBy t (units_in image)) same holds in
-    let valid : IsValid s = (units_in image, here) in
+-- the sections of an image are valid
+valid_by : (image : Image) → IsValidBy (sections_in image) (units_in image)
+unfolding sections_in units_in size_table_in
+valid_by image =
+    let m = image.measured in
     record {
-      sections = same;
-      trees = record { spelled = here.trees; only = λ others spells. one_list_of s others (units_in image) spells here.trees; entries = spelled_of s (units_in image) here.trees };
-      classes = classes_of (units_in image) here.classes;
-      texts = texts_of s (units_in image) here.strings;
-      references = references_of s (units_in image) here.trees here.references;
-      contained = contained_of (units_in image) here.shapes here.contained;
-      sizes = measured;
+      trees = image.entries.scanned.1.spells;
+      classes = image.classes;
+      strings = image.strings;
+      references = image.references;
+      shapes = m.shapes;
+      contained = m.contained;
+      sizes = (size_table_in image, m.sizes);
+    }
+
+sizes_of : (image : Image) → HasSizes (facts_in (units_in image)) (size_table_in image)
+unfolding units_in size_table_in
+sizes_of image = image.measured.sizes
+
+-- each image is one of its sections
+pub sound_image : (image : Image) → IsImageOf (sections_in image) image
+sound_image image =
+    let s = sections_in image in
+    let us = units_in image in
+    let holds = valid_by image in
+    let valid : IsValid s = (us, holds) in
+    record {
+      sections = refl;
+      trees = record {
+        spelled = holds.trees;
+        only = λ others spells. one_list_of s others us spells holds.trees;
+        entries = spelled_of s us holds.trees;
+      };
+      classes = classes_of us holds.classes;
+      texts = texts_of s us holds.strings;
+      references = references_of s us holds.trees holds.references;
+      contained = contained_of us holds.shapes holds.contained;
+      sizes = sizes_of image;
       valid = valid;
       faultless = λ fault first. no_fault_of s fault valid first;
     }
+
+-- the image of entries that were scanned in these sections
+pub image_of : (s : Sections) (image : Image) → image.entries.sections ≡ s → IsImageOf s image
+unfolding sections_in
+image_of s image same = subst (λ t. IsImageOf t image) same (sound_image image)
 
 -- a first fault
 pub fault_of : (s : Sections) (fault : Fault) → IsFirstFault s fault → IsFaultOf s fault

@@ -4,7 +4,9 @@ ghost use Rattle.std.specs.Prelude.{◌≡◌};
 ghost use Rattle.dw_entries.specs.Scanned.{units_of};
 ghost use Rattle.dw_entries.specs.Failures.{HasNone};
 ghost use Rattle.dw_entries.specs.Views.{sections_of};
+ghost use Rattle.dw_links.specs.Classes.{ClassFailures};
 ghost use Rattle.dw_links.specs.Strings.{StringFailures};
+ghost use Rattle.dw_links.specs.References.{ReferenceFailures};
 ghost use Rattle.dw_links.specs.Tables.{AreTables};
 ghost use Rattle.dw_types.specs.FactsOf.{facts_in};
 ghost use Rattle.dw_image.specs.Measures.{AreMeasures};
@@ -21,7 +23,9 @@ pub struct Image<'a> {
     pub(crate) steps: Packed,
     pub(crate) sizes: SizeTable,
     ghost linked: { AreTables entries tables },
+    ghost classes: { HasNone (ClassFailures (units_of entries.scanned)) },
     ghost strings: { HasNone (StringFailures (sections_of entries) (units_of entries.scanned)) },
+    ghost references: { HasNone (ReferenceFailures (units_of entries.scanned)) },
     ghost measured: { AreMeasures (facts_in (units_of entries.scanned)) steps sizes },
 }
 

@@ -6,6 +6,9 @@ ghost use Rattle.dw_entries.specs.declared.fault.Fault.{Fault};
 ghost use Rattle.dw_entries.specs.Units.{DebugUnit};
 ghost use Rattle.dw_image.specs.Valid.{SpellsInfo, IsValid};
 ghost use Rattle.dw_image.specs.First.{IsFirstFault, IsOneFault};
+ghost use Rattle.dw_image.specs.declared.image.Image.{Image};
+ghost use Rattle.dw_image.specs.Headline.{IsImageOf};
+ghost use Rattle.dw_image.specs.Images.{sections_in};
 
 /// Two lists of units that spell the same sections are one.
 pub fn one_list()
@@ -20,4 +23,9 @@ pub fn valid_has_no_fault()
 /// There is one first fault at most, where several cycles count as one.
 pub fn one_first_fault()
     ensures { (s : Sections) (fault other : Fault) → IsFirstFault s fault → IsFirstFault s other → IsOneFault fault other }
+{}
+
+/// Each image has all that a sound verdict says, of the sections that it was made of.
+pub fn images_are_sound()
+    ensures { (image : Image) → IsImageOf (sections_in image) image }
 {}

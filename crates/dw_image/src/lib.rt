@@ -14,7 +14,7 @@ pub use children::Children;
 pub use dw_entries::{EntryId, Fault, Head, Rule, Section};
 pub use id::TypeId;
 pub use image::Image;
-pub use laws::{one_first_fault, one_list, valid_has_no_fault};
+pub use laws::{images_are_sound, one_first_fault, one_list, valid_has_no_fault};
 pub use verifying::{NoMemory, Verdict, verify};
 
 #[cfg(test)]

@@ -1,4 +1,5 @@
-use Rattle.dw_image.proofs.AskLemmas.{wrong_class, wrong_string, wrong_reference, wrong_type, image_of_entries}
+use Rattle.dw_image.proofs.AskLemmas.{wrong_class, wrong_string, wrong_reference, wrong_type}
+use Rattle.dw_image.proofs.JoinLemmas.{image_of}
 use Rattle.dw_image.proofs.verifying.image_of.Goals as goal
 
 pub returns-in-Err-clause-fault : goal.returns-in-Err-clause-fault
@@ -18,5 +19,4 @@ returns-in-Err-measure-clause-fault c =
     c.in-Err-measure.ensures.fault
 
 pub returns-clause-sound : goal.returns-clause-sound
-returns-clause-sound c =
-    image_of_entries c.args.sections _ c.in_ok-entries.ensures.same c.in_default.ensures.ok c.in_default-check_strings.ensures.ok c.in-Ok.ensures.ok
+returns-clause-sound c = image_of c.args.sections _ c.in_ok-entries.ensures.same
