@@ -1,19 +1,20 @@
 -- What an image is seen as: the sections that were verified, and the units that these spell, with their entries.
-use Rattle.std.specs.Prelude.{ℕ, List, length, Option}
+use Rattle.std.specs.Prelude.{ℕ, List, length, Option, option_and_then}
 use Rattle.std.specs.List.{count_by}
 use Rattle.dw_elf.specs.declared.sections.Sections.{Sections}
 use Rattle.dw_entries.specs.Units.{DebugUnit}
-use Rattle.dw_forms.specs.Codes.{DW_AT_name}
+use Rattle.dw_forms.specs.Codes.{DW_AT_name, DW_AT_type}
 use Rattle.dw_entries.specs.Entries.{Entry, entries_of, placed}
 use Rattle.dw_entries.specs.Scanned.{units_of}
 use Rattle.dw_entries.specs.Views.{sections_of}
 use Rattle.dw_links.specs.AttributeTexts.{text_at}
+use Rattle.dw_links.specs.Targets.{target_of}
 use Rattle.dw_types.specs.FactsOf.{facts_in}
 use Rattle.dw_types.specs.Graphs.{Graph}
 use Rattle.dw_types.specs.Steps.{by_value}
 use Rattle.dw_types.specs.SizeTables.{Size, size_at}
 use Rattle.dw_image.specs.declared.image.Image.{Image}
-use Rattle.dw_image.specs.Lookups.{is_type_entry}
+use Rattle.dw_image.specs.Lookups.{is_type_entry, type_number}
 
 -- the sections that were verified
 unfoldable pub sections_in : Image → Sections
@@ -50,3 +51,7 @@ steps_in i = by_value (facts_in (units_in i))
 -- the name of an entry, if it has one
 unfoldable pub name_in : Image → Entry → Option (List ℕ)
 name_in i e = text_at (sections_in i) (entries_in i) (placed (units_in i)) e DW_AT_name
+
+-- the number of the type that an entry's DW_AT_type reaches, if it reaches one
+unfoldable pub type_in : Image → Entry → Option ℕ
+type_in i e = option_and_then (type_number (entries_in i)) (target_of (entries_in i) (placed (units_in i)) e DW_AT_type)

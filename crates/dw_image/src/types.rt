@@ -1,20 +1,17 @@
 //! Look-ups of types in an image: what holds which by value, how large they are, how many elements a dimension has.
 
-ghost use Rattle.std.specs.Prelude.{◌≡◌, ◌<◌, length, slice_get, IfSome, option_and_then};
-ghost use Rattle.dw_forms.specs.Codes.{DW_AT_type};
-ghost use Rattle.dw_entries.specs.Entries.{placed};
-ghost use Rattle.dw_links.specs.Targets.{target_of};
+ghost use Rattle.std.specs.Prelude.{◌≡◌, ◌<◌, length, slice_get, IfSome};
 ghost use Rattle.dw_types.specs.Counts.{count_at};
 ghost use Rattle.dw_types.specs.FactsOf.{facts_in};
 ghost use Rattle.dw_types.specs.Graphs.{steps_of};
-ghost use Rattle.dw_image.specs.Images.{units_in, entries_in, steps_in, size_table_in};
+ghost use Rattle.dw_image.specs.Images.{units_in, entries_in, steps_in, size_table_in, type_in};
 ghost use Rattle.dw_image.specs.Lookups.{type_number};
 
 use crate::id::TypeId;
 use crate::image::Image;
 use dw_entries::EntryId;
 use dw_entries::constants::DW_AT_type;
-use dw_types::{StepGraph, count_at};
+use dw_types::{Packed, StepGraph, count_at};
 
 impl Image<'_> {
     /// The type at an entry. None where its tag is no type's.
@@ -32,10 +29,10 @@ impl Image<'_> {
     }
 
     /// The type that an entry's DW_AT_type reaches (DWARF 5, section 2.2).
-    #[tactic(auto, unfolding(crate::specs::Images::units_in))]
+    #[tactic(auto, unfolding(crate::specs::Images::units_in, crate::specs::Images::type_in))]
     pub fn type_of(&self, id: EntryId) -> Option<TypeId>
         requires { id < length (entries_in self.now) }
-        ensures exact { IfSome (slice_get (entries_in self.now) id) (λ e. result ≡ option_and_then (type_number (entries_in self.now)) (target_of (entries_in self.now) (placed (units_in self.now)) e DW_AT_type)) }
+        ensures exact { IfSome (slice_get (entries_in self.now) id) (λ e. result ≡ type_in self.now e) }
         ensures within { IfSome result (λ it. it < length (entries_in self.now)) }
     {
         match self.tables.target(&self.entries, id, DW_AT_type) {
@@ -60,6 +57,14 @@ impl Image<'_> {
         ensures { result ≡ count_at (facts_in (units_in self.now)) id }
     {
         count_at(&self.entries, id)
+    }
+
+    /// The steps by value of all entries. An entry is the node of its number.
+    #[tactic(auto, unfolding(crate::specs::Images::units_in, crate::specs::Images::steps_in))]
+    pub fn by_value(&self) -> &Packed
+        ensures { ⟦<Packed as StepGraph>⟧.graph result.now ≡ steps_in self.now }
+    {
+        &self.steps
     }
 
     /// The k-th entry, from 0, that an entry holds by value: its type, the types of its plain members in their order,
