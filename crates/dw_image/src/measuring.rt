@@ -25,6 +25,7 @@ fn offset_of(entries: &Entries<'_>, number: usize) -> u32
 }
 
 /// The offsets of entries, in their order.
+#[tactic(auto, using(crate::proofs::CycleLaws::entry_below))]
 fn offsets_of(
     alloc: Global,
     entries: &Entries<'_>,
@@ -41,6 +42,7 @@ fn offsets_of(
 }
 
 /// The fault that names a cycle of steps by value.
+#[tactic(auto, using(crate::proofs::CycleLaws::entry_below))]
 fn cycle_fault(alloc: Global, entries: &Entries<'_>, numbers: &[usize]) -> Result<Fault, AllocError>
     requires { IsCycle (by_value (facts_in (units_of entries.now.scanned))) numbers.now }
     ensures { IfOk result (NamesCycle (facts_in (units_of entries.now.scanned))) }

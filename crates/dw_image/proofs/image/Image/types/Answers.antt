@@ -18,7 +18,7 @@ loop-k-preserved c =
     let P : Option Entry → Type 0 = λ found. IfSome found (λ e. c.is_type.result ≡ is_type_entry e) in
     let says : P (slice_get es c.loop-k.k) = subst P (rw (c.loop-k.invariant.2, c.id.ensures) at c.at-entry.ensures.found) c.is_type.ensures in
     let turn = count_turn es c.loop-k.k c.loop-k.count c.is_type.result (omega (arith, c.loop-k-test.true, c.count-k-end.ensures)) says c.loop-k.invariant.1 in (
-      omega (arith, c.loop-k.invariant.0, c.from-count.ensures, from_bool_small c.is_type.result),
+      omega (arith, c.loop-k.invariant.0, c.from-count.ensures, from_bool_small),
       subst (λ n. c.loop-k.count + n ≡ count_by is_type_entry (take (c.loop-k.k + 1) es)) (sym c.from-count.ensures) turn,
       c.at-entry.ensures.same ∙ c.loop-k.invariant.2,
     )
