@@ -6,7 +6,7 @@ use denote.Ref.{Bor}
 use Rattle.dw_elf.specs.declared.names.DebugSection.{DebugSection}
 use Rattle.dw_elf.specs.declared.names.DebugSection.TheVariants.{Abbrev, Info, Str, LineStr, StrOffsets, Addr}
 use Rattle.dw_elf.specs.declared.found.Found.{Found}
-use Rattle.dw_elf.specs.declared.TheConstants.{SECTION_LIMIT}
+use Rattle.dw_elf.specs.Limits.{section_limit}
 use Rattle.dw_elf.specs.Elf.{section_name, section_bytes, section_count}
 use Rattle.dw_elf.specs.Names.{name_of, IsWanted}
 use Rattle.dw_elf.specs.Checks.{HasNone, IsNamedBefore, NotElf64, NotLinked, SectionTable, SectionName, Zdebug, SectionTwice, NoBits, Compressed, SectionRange, TooLarge, NoInfo, Passes, ChecksPass}
@@ -53,7 +53,7 @@ slot_other file k name (Some bytes) ne h = (
 )
 
 -- a slot after the first header of its name
-slot_first : (file : List ℕ) (k : ℕ) (name bytes : List ℕ) → IsSlot file k name None → 0 < k → section_name file k ≡ name → bytes ≡ section_bytes file k → length bytes ≤ SECTION_LIMIT → IsSlot file (k + 1) name (Some bytes)
+slot_first : (file : List ℕ) (k : ℕ) (name bytes : List ℕ) → IsSlot file k name None → 0 < k → section_name file k ≡ name → bytes ≡ section_bytes file k → length bytes ≤ section_limit → IsSlot file (k + 1) name (Some bytes)
 slot_first file k name bytes h pos is same small = (
   k,
   (pos, omega arith),
@@ -68,7 +68,7 @@ pub slots_after_other : (file : List ℕ) (k : ℕ) (f : Found) → ¬ IsWanted 
 slots_after_other file k f other h = λ s. slot_other file k (name_of s) (slot f s) (λ e. other (s, e)) (h s)
 
 -- after a header that is
-pub slots_after_put : (file : List ℕ) (k : ℕ) (f g : Found) (s : DebugSection) (bytes : List ℕ) → SlotsUpTo file k f → 0 < k → section_name file k ≡ name_of s → slot f s ≡ None → bytes ≡ section_bytes file k → length bytes ≤ SECTION_LIMIT → slot g s ≡ Some bytes → ((t : DebugSection) → t ≢ s → slot g t ≡ slot f t) → SlotsUpTo file (k + 1) g
+pub slots_after_put : (file : List ℕ) (k : ℕ) (f g : Found) (s : DebugSection) (bytes : List ℕ) → SlotsUpTo file k f → 0 < k → section_name file k ≡ name_of s → slot f s ≡ None → bytes ≡ section_bytes file k → length bytes ≤ section_limit → slot g s ≡ Some bytes → ((t : DebugSection) → t ≢ s → slot g t ≡ slot f t) → SlotsUpTo file (k + 1) g
 slots_after_put file k f g s bytes h pos is none same small at others = λ t.
     ⊎_elim
     (λ e.
@@ -95,7 +95,7 @@ named_before file k f s o slots is copied some =
     slot_taken file k (name_of s) (slot f s) (slots s) (ap is_some (sym copied) ∙ is_some-copied o ∙ some) is
 
 -- after all headers, the bytes of a slot are within the limit
-slot_small : (file : List ℕ) (k : ℕ) (name : List ℕ) (o : Option (List ℕ)) → IsSlot file k name o → length (unwrap_or o []) ≤ SECTION_LIMIT
+slot_small : (file : List ℕ) (k : ℕ) (name : List ℕ) (o : Option (List ℕ)) → IsSlot file k name o → length (unwrap_or o []) ≤ section_limit
 slot_small file k name None h = omega arith
 slot_small file k name (Some bytes) h = h.5
 
@@ -104,8 +104,8 @@ slot_section : (file name : List ℕ) (o : Option (List ℕ)) → IsSlot file (s
 slot_section file name None h = inr (λ j header is. h j header.0 header.1 is, refl)
 slot_section file name (Some bytes) h = inl (h.0, record { header = h.1; named = h.2; alone = λ j header is. h.3 j header.0 header.1 is }, h.4)
 
-pub small_at : (file : List ℕ) (k : ℕ) (f : Found) → SlotsUpTo file k f → (s : DebugSection) (bytes : List ℕ) → bytes ≡ unwrap_or (slot f s) [] → length bytes ≤ SECTION_LIMIT
-small_at file k f slots s bytes e = subst (λ xs. length xs ≤ SECTION_LIMIT) (sym e) (slot_small file k (name_of s) (slot f s) (slots s))
+pub small_at : (file : List ℕ) (k : ℕ) (f : Found) → SlotsUpTo file k f → (s : DebugSection) (bytes : List ℕ) → bytes ≡ unwrap_or (slot f s) [] → length bytes ≤ section_limit
+small_at file k f slots s bytes e = subst (λ xs. length xs ≤ section_limit) (sym e) (slot_small file k (name_of s) (slot f s) (slots s))
 
 pub section_at : (file : List ℕ) (f : Found) → SlotsUpTo file (section_count file) f → (s : DebugSection) (bytes : List ℕ) → bytes ≡ unwrap_or (slot f s) [] → IsSection file (name_of s) bytes
 section_at file f slots s bytes e = subst (λ xs. IsSection file (name_of s) xs) (sym e) (slot_section file (name_of s) (slot f s) (slots s))

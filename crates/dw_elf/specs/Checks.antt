@@ -3,7 +3,7 @@
 -- place of their count. Sums are of whole numbers, so none of them wraps.
 use Rattle.std.specs.Prelude.{◌≡◌, ◌≢◌, ℕ, ◌+◌, ◌*◌, ◌<◌, ◌≤◌, ◌⊎◌, List, length, take, bit_and}
 use Rattle.dw_elf.specs.declared.names.DebugSection.TheVariants.{Info}
-use Rattle.dw_elf.specs.declared.TheConstants.{SECTION_LIMIT}
+use Rattle.dw_elf.specs.Limits.{section_limit}
 use Rattle.dw_elf.specs.Elf.{identification, FILE_HEADER_SIZE, file_type, ET_EXEC, ET_DYN, table_offset, header_size, section_count, names_index, SECTION_HEADER_SIZE, IsHeader, HasText, name_offset, section_type, SHT_NOBITS, section_flags, SHF_COMPRESSED, section_offset, section_size, name_table, section_name}
 use Rattle.dw_elf.specs.Names.{name_of, IsWanted, IsZdebug}
 
@@ -47,7 +47,7 @@ IsCompressed file k = bit_and (section_flags file k) SHF_COMPRESSED ≢ 0
 
 -- section k has more bytes than the limit of a section
 abbrev pub IsTooLarge : List ℕ → ℕ → Type 0
-IsTooLarge file k = SECTION_LIMIT < section_size file k
+IsTooLarge file k = section_limit < section_size file k
 
 -- no header has this name
 abbrev pub HasNone : List ℕ → List ℕ → Type 0

@@ -1,4 +1,5 @@
 pub mod Elf
+pub mod Limits
 pub mod Names
 pub mod Checks
 pub mod Rules

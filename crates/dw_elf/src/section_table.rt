@@ -1,7 +1,7 @@
 //! The table of section headers: the checks of the file, and those of one header.
 
 ghost use Rattle.std.specs.Prelude.{◌≡◌, ◌+◌, ◌*◌, ◌<◌, ◌≤◌, length, IfOk, IfErr, IfSome, IfNone, OnOk, OnSome};
-ghost use Rattle.dw_elf.specs.declared.TheConstants.{SECTION_LIMIT};
+ghost use Rattle.dw_elf.specs.Limits.{section_limit};
 ghost use Rattle.dw_elf.specs.Elf.{FILE_HEADER_SIZE, SECTION_HEADER_SIZE, table_offset, section_count, section_name, section_bytes, name_table, IsHeader};
 ghost use Rattle.dw_elf.specs.Names.{name_of, IsWanted, IsZdebug};
 ghost use Rattle.dw_elf.specs.Checks.{HasSectionTable, IsNamed, IsNamedBefore, Passes};
@@ -70,7 +70,7 @@ impl<'a> SectionTable<'a> {
         ensures named { IfOk result (λ o. IfSome o (λ x. section_name self.now.file.now k ≡ name_of x.0)) }
         ensures first { IfOk result (λ o. IfSome o (λ x. slot found.now x.0 ≡ None)) }
         ensures bytes { IfOk result (λ o. IfSome o (λ x. x.1.now ≡ section_bytes self.now.file.now k)) }
-        ensures small { IfOk result (λ o. IfSome o (λ x. length x.1.now ≤ SECTION_LIMIT)) }
+        ensures small { IfOk result (λ o. IfSome o (λ x. length x.1.now ≤ section_limit)) }
         ensures other { IfOk result (λ o. IfNone o (¬ IsWanted (section_name self.now.file.now k))) }
         ensures fails { IfErr result (λ rule. FailsAt self.now.file.now k rule k) }
     {
@@ -102,7 +102,7 @@ impl<'a> SectionTable<'a> {
         requires once { ¬ IsNamedBefore self.now.file.now k }
         ensures passes { OnOk result (Passes self.now.file.now k) }
         ensures bytes { IfOk result (λ bytes. bytes.now ≡ section_bytes self.now.file.now k) }
-        ensures small { IfOk result (λ bytes. length bytes.now ≤ SECTION_LIMIT) }
+        ensures small { IfOk result (λ bytes. length bytes.now ≤ section_limit) }
         ensures fails { IfErr result (λ rule. FailsAt self.now.file.now k rule k) }
     {
         if header.kind == SHT_NOBITS {

@@ -1,7 +1,7 @@
 //! The six sections within the size limit, as `find` gives them or as a caller has them.
 
 ghost use Rattle.std.specs.Prelude.{◌≡◌, ◌<◌, ◌≤◌, ◌↔◌, ◌⊎◌, length, IfOk, IsErr};
-ghost use Rattle.dw_elf.specs.declared.TheConstants.{SECTION_LIMIT};
+ghost use Rattle.dw_elf.specs.Limits.{section_limit};
 
 use crate::SECTION_LIMIT;
 use crate::fault::TooLarge;
@@ -22,12 +22,12 @@ pub struct Sections<'a> {
     pub str_offsets: &'a [u8],
     /// .debug_addr: addresses, by index (7.27).
     pub addr: &'a [u8],
-    ghost abbrev_fits: { length «abbrev».now ≤ SECTION_LIMIT },
-    ghost info_fits: { length info.now ≤ SECTION_LIMIT },
-    ghost str_fits: { length str.now ≤ SECTION_LIMIT },
-    ghost line_str_fits: { length line_str.now ≤ SECTION_LIMIT },
-    ghost str_offsets_fits: { length str_offsets.now ≤ SECTION_LIMIT },
-    ghost addr_fits: { length addr.now ≤ SECTION_LIMIT },
+    ghost abbrev_fits: { length «abbrev».now ≤ section_limit },
+    ghost info_fits: { length info.now ≤ section_limit },
+    ghost str_fits: { length str.now ≤ section_limit },
+    ghost line_str_fits: { length line_str.now ≤ section_limit },
+    ghost str_offsets_fits: { length str_offsets.now ≤ section_limit },
+    ghost addr_fits: { length addr.now ≤ section_limit },
 }
 
 impl<'a> Sections<'a> {
@@ -46,10 +46,10 @@ impl<'a> Sections<'a> {
         ensures line_str { IfOk result (λ s. s.line_str ≡ line_str.entry) }
         ensures str_offsets { IfOk result (λ s. s.str_offsets ≡ str_offsets.entry) }
         ensures addr { IfOk result (λ s. s.addr ≡ addr.entry) }
-        ensures too_large { IsErr result ↔ ((SECTION_LIMIT < length «abbrev».now)
-            ⊎ (SECTION_LIMIT < length info.now) ⊎ (SECTION_LIMIT < length str.now)
-            ⊎ (SECTION_LIMIT < length line_str.now) ⊎ (SECTION_LIMIT < length str_offsets.now)
-            ⊎ (SECTION_LIMIT < length addr.now)) }
+        ensures too_large { IsErr result ↔ ((section_limit < length «abbrev».now)
+            ⊎ (section_limit < length info.now) ⊎ (section_limit < length str.now)
+            ⊎ (section_limit < length line_str.now) ⊎ (section_limit < length str_offsets.now)
+            ⊎ (section_limit < length addr.now)) }
     {
         if abbrev.len() > SECTION_LIMIT
             || info.len() > SECTION_LIMIT
