@@ -20,6 +20,22 @@ MANY = 100_000
 # Bytes of memory that a run of `show` may have.
 MEMORY = 1 << 30
 TABLES = 40_000
+SECTIONS = 65_000
+# Bytes of the name of each of them.
+LONG = 16 << 20
+
+
+def linked(body, headers):
+    """A linked ELF64 file with these section headers, the last of them that of the name table."""
+    ident = b"\x7fELF\x02\x01\x01" + bytes(9)
+    start, count = 64 + len(body), len(headers)
+    head = ident + struct.pack("<HHIQQQIHHHHHH", 2, 62, 1, 0, 0, start, 0, 64, 0, 0, 64, count, count - 1)
+    return head + bytes(body) + b"".join(headers)
+
+
+def section(name, kind, start, size):
+    """A section header: where its name begins, its type, where its bytes begin after the file header, and its size."""
+    return struct.pack("<IIQQQQIIQQ", name, kind, 0, 0, 64 + start, size, 0, 0, 1, 0)
 
 
 def elf(sections):
@@ -28,16 +44,18 @@ def elf(sections):
     headers = [bytes(64)]
     body = bytearray()
     for name, data in sections:
-        at = len(names)
+        headers.append(section(len(names), 1, len(body), len(data)))
         names += name.encode() + b"\0"
-        headers.append(struct.pack("<IIQQQQIIQQ", at, 1, 0, 0, 64 + len(body), len(data), 0, 0, 1, 0))
         body += data
-    headers.append(struct.pack("<IIQQQQIIQQ", 1, 3, 0, 0, 64 + len(body), len(names), 0, 0, 1, 0))
-    body += names
-    start = 64 + len(body)
-    ident = b"\x7fELF\x02\x01\x01" + bytes(9)
-    head = ident + struct.pack("<HHIQQQIHHHHHH", 2, 62, 1, 0, 0, start, 0, 64, 0, 0, 64, len(headers), len(headers) - 1)
-    return head + bytes(body) + b"".join(headers)
+    headers.append(section(1, 3, len(body), len(names)))
+    return linked(body + names, headers)
+
+
+def alike():
+    """A file of sections that share one long name. The only zero byte of the name table is its last byte."""
+    names = b"a" * LONG + b".debug_info\0"
+    info = section(LONG, 1, 0, 0)
+    return linked(names, [bytes(64), info] + [section(0, 1, 0, 0)] * SECTIONS + [section(0, 3, 0, len(names))])
 
 
 def unit(items, kind=1, more=b"", table=0):
@@ -145,19 +163,20 @@ def shown(path):
 
 
 def runs():
-    """Each run: its name, the file's sections, what asks it, and the beginning of what it must say."""
+    """Each run: its name, the file, what asks it, and the beginning of what it must say."""
     for name, sections, want in files():
-        yield name, sections, checked, want
+        yield name, elf(sections), checked, want
     tree = [(".debug_abbrev", TABLE), (".debug_info", unit(deep()))]
-    yield f"show of {MANY:,} nested structures", tree, shown, "status 4, 0 bytes written, dwv: out of memory\n"
+    yield f"show of {MANY:,} nested structures", elf(tree), shown, "status 4, 0 bytes written, dwv: out of memory\n"
+    yield f"{SECTIONS:,} sections with one name of 16 MB", alike(), checked, "sound: 0 units, 0 entries, 0 types"
 
 
 def main():
     passed = failed = 0
     with tempfile.TemporaryDirectory() as folder:
         path = pathlib.Path(folder) / "file"
-        for name, sections, ask, want in runs():
-            path.write_bytes(elf(sections))
+        for name, file, ask, want in runs():
+            path.write_bytes(file)
             before = time.monotonic()
             try:
                 said = ask(path)

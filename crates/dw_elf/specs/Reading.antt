@@ -1,6 +1,6 @@
 -- What is known while the headers are read: what the file header and a section header say, and what the
 -- section headers so far name.
-use Rattle.std.specs.Prelude.{◌≡◌, ◌≢◌, ℕ, ◌<◌, ◌≤◌, List, length, Option, Some, None}
+use Rattle.std.specs.Prelude.{◌≡◌, ◌≢◌, ℕ, ◌-◌, ◌<◌, ◌≤◌, ◌↔◌, List, length, slice_index, Option, Some, None}
 use Rattle.std.specs.Option.{option_copied}
 use Rattle.dw_elf.specs.declared.header.FileHeader.{FileHeader}
 use Rattle.dw_elf.specs.declared.section_header.SectionHeader.{SectionHeader}
@@ -9,7 +9,7 @@ use Rattle.dw_elf.specs.declared.names.DebugSection.{DebugSection}
 use Rattle.dw_elf.specs.declared.names.DebugSection.TheVariants.{Abbrev, Info, Str, LineStr, StrOffsets, Addr}
 use Rattle.dw_elf.specs.Limits.{section_limit}
 use Rattle.dw_elf.specs.Elf.{file_type, table_offset, header_size, section_count, names_index, name_offset, section_type, section_flags, section_offset, section_size, section_name, section_bytes}
-use Rattle.dw_elf.specs.Names.{name_of}
+use Rattle.dw_elf.specs.Names.{name_of, IsZdebug}
 
 -- these are the fields of the file header
 pub record IsFileHeader (file : List ℕ) (header : FileHeader) : Type 0 where
@@ -26,6 +26,17 @@ pub record IsHeaderAt (file : List ℕ) (k : ℕ) (header : SectionHeader) : Typ
   pub flags : header.flags ≡ section_flags file k
   pub offset : header.offset ≡ section_offset file k
   pub size : header.size ≡ section_size file k
+
+-- the end is just after the last zero byte, or 0 where no byte is zero
+abbrev pub IsAfterLastZero : List ℕ → ℕ → Type 0
+IsAfterLastZero bytes end =
+    (end ≤ length bytes) × (0 < end → slice_index bytes (end - 1) ≡ 0)
+    × ((k : ℕ) → end ≤ k → k < length bytes → slice_index bytes k ≢ 0)
+
+-- a part of a name tells the same as the name: whether it begins .zdebug_, and which of the six it is
+pub record StandsFor (part name : List ℕ) : Type 0 where
+  pub zdebug : IsZdebug part ↔ IsZdebug name
+  pub named : (s : DebugSection) → (part ≡ name_of s) ↔ (name ≡ name_of s)
 
 -- the bytes that were found for a section
 abbrev pub slot : Found → DebugSection → Option (List ℕ)

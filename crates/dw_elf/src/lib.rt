@@ -6,6 +6,7 @@ mod fields;
 mod finding;
 mod found;
 mod header;
+mod name_table;
 mod names;
 mod section_header;
 mod section_table;

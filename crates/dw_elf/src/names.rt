@@ -1,10 +1,7 @@
-//! Names of sections: where they stand in the name table, and which of them are looked for.
+//! Names of sections: which of them are looked for.
 
-ghost use Rattle.std.specs.Prelude.{◌≡◌, ◌↔◌, IfSome, IfNone, OnSome, IsTrue};
-ghost use Rattle.dw_elf.specs.Elf.{text_at, HasText};
+ghost use Rattle.std.specs.Prelude.{◌≡◌, ◌↔◌, IfSome, IfNone, IsTrue};
 ghost use Rattle.dw_elf.specs.Names.{name_of, IsWanted, IsZdebug};
-
-use memchr::memchr;
 
 /// A section that is looked for.
 #[derive(Clone, Copy, Debug, PartialEq, Eq)]
@@ -15,22 +12,6 @@ pub(crate) enum DebugSection {
     LineStr,
     StrOffsets,
     Addr,
-}
-
-/// The name that begins at an offset of the name table, where a zero byte ends it there.
-#[tactic(auto, unfolding(crate::specs::Elf::text_at))]
-pub(crate) fn name_at(names: &[u8], offset: u32) -> Option<&[u8]>
-    ensures name { IfSome result (λ name. name.now ≡ text_at names.now offset) }
-    ensures ended { OnSome result (HasText names.now offset) }
-    ensures none { IfNone result (¬ HasText names.now offset) }
-{
-    let offset = offset as usize;
-    if offset >= names.len() {
-        return None;
-    }
-    let rest = &names[offset..];
-    let len = memchr(0, rest)?;
-    Some(&rest[..len])
 }
 
 /// Whether the name says that the section's bytes are compressed in the older way.

@@ -11,7 +11,8 @@ use crate::SECTION_LIMIT;
 use crate::fault::ElfRule;
 use crate::found::Found;
 use crate::header::{FileHeader, is_elf64};
-use crate::names::{DebugSection, is_zdebug, name_at, section_named};
+use crate::name_table::NameTable;
+use crate::names::{DebugSection, is_zdebug, section_named};
 use crate::section_header::{
     SECTION_HEADER_SIZE, SHF_COMPRESSED, SHT_NOBITS, SectionHeader, range,
 };
@@ -25,11 +26,11 @@ pub(crate) struct SectionTable<'a> {
     pub start: u64,
     /// The count of section headers, number 0 included.
     pub count: u16,
-    /// The bytes of the name table.
-    pub names: &'a [u8],
+    /// The name table.
+    pub names: NameTable<'a>,
     ghost start_of_file: { start ≡ table_offset file.now },
     ghost count_of_file: { count ≡ section_count file.now },
-    ghost names_of_file: { names.now ≡ name_table file.now },
+    ghost names_of_file: { names.bytes.now ≡ name_table file.now },
     ghost in_file: { start + SECTION_HEADER_SIZE * count ≤ length file.now },
     ghost some: { 0 < count },
 }
@@ -75,13 +76,13 @@ impl<'a> SectionTable<'a> {
         ensures fails { IfErr result (λ rule. FailsAt self.now.file.now k rule k) }
     {
         let header = SectionHeader::read(self.file, self.start, k);
-        let Some(name) = name_at(self.names, header.name_offset) else {
+        let Some(front) = self.names.front_at(header.name_offset) else {
             return Err(ElfRule::SectionName);
         };
-        if is_zdebug(name) {
+        if is_zdebug(front) {
             return Err(ElfRule::Compressed);
         }
-        let Some(section) = section_named(name) else {
+        let Some(section) = section_named(front) else {
             return Ok(None);
         };
         if found.get(section).is_some() {
@@ -144,7 +145,7 @@ fn table_of<'a>(file: &'a [u8], header: &FileHeader) -> Option<SectionTable<'a>>
     if named.kind == SHT_NOBITS {
         return None;
     }
-    let names = range(file, named.offset, named.size)?;
+    let names = NameTable::new(range(file, named.offset, named.size)?);
     Some(SectionTable {
         file,
         start,
