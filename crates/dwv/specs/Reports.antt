@@ -19,6 +19,10 @@ use Rattle.dwv.specs.declared.request.Request.TheVariants.{Check, Show, Size}
 use Rattle.dwv.specs.declared.request.Status.{Status}
 use Rattle.dwv.specs.declared.request.Status.TheVariants.{Sound, Fault}
 
+-- the most bytes that a file may have: 4 GiB
+abbrev pub file_limit : ℕ
+file_limit = 4_294_967_296
+
 -- a fault of the file: an object in JSON where it is asked, else a line
 abbrev pub elf_fault_text : Request → ElfFault → List ℕ
 elf_fault_text (Check true) f = object_line (elf_fault_object f)

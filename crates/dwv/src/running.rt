@@ -2,7 +2,7 @@
 
 ghost use Rattle.std.specs.Prelude.{◌≡◌, ◌<◌, ◌^◌, ◌↔◌, IfOk, IfSome, OnOk, IsErrOf};
 ghost use Rattle.dwv.specs.Devices.{TakesInput};
-ghost use Rattle.dwv.specs.Reports.{WritesReport, WritesBeginning};
+ghost use Rattle.dwv.specs.Reports.{WritesReport, WritesBeginning, file_limit};
 
 use crate::device::{Sink, Source};
 use crate::input::read_input;
@@ -57,12 +57,12 @@ pub fn run<R: Source, W: Sink>(
     requires reads { R.failures reader.old < u64.MAX }
     requires writes { W.failures writer.old < u64.MAX }
     ensures answered { IfOk result (λ status. IfSome (R.remaining reader.old) (λ input.
-        WritesReport FILE_LIMIT request input status (W.contents writer.old) (W.contents writer.new))) }
-    ensures taken { OnOk result (TakesInput FILE_LIMIT (R.remaining reader.old) (R.remaining reader.new)) }
+        WritesReport file_limit request input status (W.contents writer.old) (W.contents writer.new))) }
+    ensures taken { OnOk result (TakesInput file_limit (R.remaining reader.old) (R.remaining reader.new)) }
     ensures read_failed { IsErrOf result RunFault.ReadFailed → writer.new ≡ writer.old }
     ensures memory { IsErrOf result RunFault.Memory → writer.new ≡ writer.old }
     ensures write_failed { IsErrOf result RunFault.WriteFailed → IfSome (R.remaining reader.old) (λ input.
-        WritesBeginning FILE_LIMIT request input (W.contents writer.old) (W.contents writer.new)) }
+        WritesBeginning file_limit request input (W.contents writer.old) (W.contents writer.new)) }
     ensures reads_counted { IsErrOf result RunFault.ReadFailed ↔ (R.failures reader.old < R.failures reader.new) }
     ensures writes_counted { IsErrOf result RunFault.WriteFailed ↔ (W.failures writer.old < W.failures writer.new) }
 {
