@@ -1,6 +1,7 @@
 //! Checks the debugging entries of a program.
 #![tactic(auto)]
 
+mod arguments;
 mod device;
 mod digits;
 mod ending;
@@ -21,12 +22,12 @@ use crate::request::Request;
 use crate::words::WordsFault;
 use std::process::ExitCode;
 use std::rt::{Env, Files};
-use std::{env, fs, io};
+use std::{fs, io};
 
 /// What the words after the program's name ask.
 fn asked<R: Env + AllocGlobal>(rt: &R) -> Result<(Request, String), WordsFault> {
     let mut all = Vec::new(rt.alloc());
-    let arguments = match env::args(rt) {
+    let arguments = match arguments::arguments(rt) {
         Ok(arguments) => arguments,
         Err(error) => {
             return Err(match error.kind() {
@@ -35,7 +36,7 @@ fn asked<R: Env + AllocGlobal>(rt: &R) -> Result<(Request, String), WordsFault> 
             });
         }
     };
-    for argument in arguments.skip(1) {
+    for argument in arguments {
         if all.push(argument).is_err() {
             return Err(WordsFault::Memory);
         }
