@@ -6,34 +6,56 @@ cd "$(dirname "$0")/.." || exit 1
 
 dwv=$PWD/crates/dwv/out/dwv
 file=crates/dwv/data/X1
-errors=$(mktemp)
-trap 'rm -f "$errors"' EXIT
+folder=$(mktemp -d)
+trap 'rm -rf "$folder"' EXIT
+errors=$folder/errors
 passed=0
 failed=0
 
-# ends STATUS TEXT LINE WORD..: the program with these words must end so, with the text on standard output and the line on
-# standard error.
+# X1 with an abbreviation code that its table does not declare.
+broken=$folder/broken
+LC_ALL=C sed 's/\x02int/\x03int/' "$file" > "$broken"
+
+# The program under a name that is not UTF-8.
+other=$folder/$'\xff'
+cp "$dwv" "$other"
+
+# How the program is run with words: as it is, with a full disk behind standard output, and under the other name.
+plainly() { "$dwv" "$@"; }
+to_a_full_disk() { "$dwv" "$@" > /dev/full; }
+under_another_name() { "$other" "$@"; }
+
+# ends STATUS TEXT LINE WORD..: the program with these words must end so, with the text on standard output and the line
+# on standard error. `how` is the way to run it.
+how=plainly
 ends() {
     local want="status $1, text '$2', line '$3'" text said
     shift 3
-    text=$("$dwv" "$@" 2> "$errors")
+    text=$("$how" "$@" 2> "$errors")
     said="status $?, text '$text', line '$(cat "$errors")'"
     if [ "$said" = "$want" ]; then
         passed=$((passed + 1))
-        echo "passed $*: ${said//$'\n'/ }"
+        echo "passed $how $*: ${said//$'\n'/ }"
     else
         failed=$((failed + 1))
-        echo "FAILED $*: $said, wanted $want"
+        echo "FAILED $how $*: $said, wanted $want"
     fi
 }
 
-ends 0 'sound: 1 units, 2 entries, 1 types' '' check "$file"
+sound='sound: 1 units, 2 entries, 1 types'
+ends 0 "$sound" '' check "$file"
+ends 0 '{"entries":2,"sound":true,"types":1,"units":1}' '' check --json "$file"
 ends 0 $'0x0000000c 0x0011 "a"\n0x0000000f   0x0024 "int" size 4' '' show "$file"
 ends 0 'size 4' '' size "$file" 0x0F
-ends 2 'not a type' '' size "$file" 0x10
+how=under_another_name ends 0 "$sound" '' check "$file"
+ends 1 'fault G1 UndeclaredCode at .debug_info+0x0000000f attribute 0x0' '' check "$broken"
+fault='{"at":15,"attribute":0,"cycle":[],"name":"UndeclaredCode","rule":"G1","section":".debug_info","sound":false}'
+ends 1 "$fault" '' check --json "$broken"
 ends 1 'fault E2 NotElf64 at section 0' '' show /dev/null
 ends 1 'fault E2 NotElf64 at section 0' '' size /dev/null 0x10
+ends 2 'not a type' '' size "$file" 0x10
 ends 2 '' 'dwv: bad usage' show
+ends 2 '' 'dwv: bad usage' check $'\xff'
 ends 2 '' 'dwv: bad usage' size "$file"
 ends 2 '' 'dwv: bad usage' size no-such-file 10 --json
 ends 2 '' 'dwv: bad usage' --help
@@ -41,5 +63,6 @@ ends 2 '' 'dwv: bad offset' size no-such-file 10
 ends 3 '' 'dwv: cannot open file' size no-such-file 0x10
 ends 3 '' 'dwv: cannot open file' show no-such-file
 ends 3 '' 'dwv: reading failed' show .
+how=to_a_full_disk ends 3 '' 'dwv: writing failed' check "$file"
 echo "$passed passed, $failed failed"
 [ "$failed" -eq 0 ]
