@@ -50,7 +50,8 @@ body_bytes u = node_bytes u.root ++ nulls_bytes u.nulls
 abbrev pub unit_bytes : DebugUnit → List ℕ
 unit_bytes u = header_bytes u.header ++ body_bytes u
 
--- a unit whose table stands in these bytes of .debug_abbrev; unit_length counts all behind itself
+-- a unit whose table stands in these bytes of .debug_abbrev; unit_length counts all behind itself. That a table is read
+-- exactly where the section spells it is the law `tables_are_read_by_grammar` of dw_forms
 pub record IsUnit («abbrev» : List ℕ) (u : DebugUnit) : Type 0 where
   pub header : IsHeader (length «abbrev») u.header
   pub table : table_at «abbrev» u.header.abbrev_offset ≡ Ok u.table

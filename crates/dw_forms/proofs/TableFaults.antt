@@ -1,9 +1,9 @@
 -- The faults of a table are those that reading answers, so the same bytes have one at most.
-use Rattle.std.proofs.Common.{◌≡◌, ◌≢◌, ℕ, zero, suc, ◌+◌, ◌-◌, ◌<◌, ◌≤◌, Bool, true, false, eqb, ltb, List, [], ◌∷◌, ◌++◌, length, drop, Option, Some, None, Ok, Err, refl, sym, ap, subst, ◌∙◌, inl, inr, append_assoc, arith}
+use Rattle.std.proofs.Common.{◌≡◌, ◌≢◌, ℕ, zero, suc, ◌+◌, ◌-◌, ◌<◌, ◌≤◌, Bool, true, false, eqb, ltb, List, [], ◌∷◌, ◌++◌, length, take, drop, Option, Some, None, Result, Ok, Err, refl, sym, ap, subst, ◌∙◌, inl, inr, append_assoc, arith}
 use Rattle.std.specs.Prelude.{◌&&◌, ◌||◌, pos, Any}
 use Rattle.std.specs.List.{list_any}
 use Rattle.std.proofs.lemmas.Bool.{eq-eqb, ne_eqb, lt-ltb, le-ltb}
-use Rattle.std.proofs.lemmas.List.{append-nil, length-append, length-drop}
+use Rattle.std.proofs.lemmas.List.{append-nil, length-append, length-drop, take-append-drop}
 use Rattle.std.proofs.lemmas.List.Folds.{list_any-from_Any}
 use Rattle.dw_forms.specs.declared.form.Form.{Form}
 use Rattle.dw_forms.specs.declared.form.Form.TheVariants as form
@@ -11,19 +11,20 @@ use Rattle.dw_forms.specs.declared.decl.AttributeSpec.{AttributeSpec}
 use Rattle.dw_forms.specs.declared.abbrev_fault.DeclFault.{DeclFault}
 use Rattle.dw_forms.specs.declared.abbrev_fault.BrokenTable.{BrokenTable}
 use Rattle.dw_forms.specs.declared.abbrev_fault.AbbrevRule.TheVariants.{UnknownForm, AttributeTwice, BadChildren}
-use Rattle.dw_forms.specs.Front.{Takes}
+use Rattle.dw_forms.specs.Front.{BeginsWithNone, Takes}
 use Rattle.dw_forms.specs.AbbrevFaults.{fault_at}
 use Rattle.dw_forms.specs.FormCodes.{code_of, form_of}
 use Rattle.dw_forms.specs.Leb.{Uleb}
-use Rattle.dw_forms.specs.Abbrev.{Declaration, SpellsPair, SpellsFront, SpellsDecls, IsCode16, IsNewCode, AreAttributes, AreDeclarations, broken, NumberFails, ConstantFails, IsBadPair, PairFails, attribute_number, form_number, bad_pair, unknown_form, attribute_twice, constant_number, AttributesFail, DeclFails, code_number, code_twice, tag_number, bad_tag, children_cut, bad_children, attributes_fail, TableFails}
+use Rattle.dw_forms.specs.Abbrev.{Declaration, SpellsPair, SpellsFront, SpellsDecls, IsCode16, IsNewCode, AreAttributes, AreDeclarations, broken, NumberFails, ConstantFails, IsBadPair, PairFails, attribute_number, form_number, bad_pair, unknown_form, attribute_twice, constant_number, AttributesFail, Decls, DeclFails, code_number, code_twice, tag_number, bad_tag, children_cut, bad_children, attributes_fail, TableFails}
 use Rattle.dw_forms.specs.AbbrevReading.{number_at, signed_at, children_at, new_form_of, pair_at, attributes_from, attributes_of, has_code, decl_at, decls_from, decls_of, table_at}
+use Rattle.dw_forms.specs.TableGrammar.{IsTableAt, IsReadByGrammar}
 use Rattle.dw_forms.proofs.Keys.{lacks_test, apart_lacks}
 use Rattle.dw_forms.specs.FormLaws.{FormIs, form_of_says, form_of-code_of, code_some}
 use Rattle.dw_forms.proofs.NumberFaults.{uleb_refuses, sleb_refuses, reads_on, fault_is}
 use Rattle.dw_forms.proofs.AttributeLaws.{attribute_of, number_reader, after_numbers, numbers_again, not_bad, new_form_again, next_again as attribute_again}
 use Rattle.dw_forms.proofs.AttributesLaws.{spec_some, one_of as one_attribute}
 use Rattle.dw_forms.proofs.DeclLaws.{code_of_decl, after_tag, tag_is, children_again, next_again as decl_again}
-use Rattle.dw_forms.proofs.TableLaws.{decl_some, one_of as one_decl}
+use Rattle.dw_forms.proofs.TableLaws.{decl_some, one_of as one_decl, decls_again, table_found, table_none, table_fails}
 
 -- ---- numbers
 
@@ -193,3 +194,29 @@ table_refuses section offset fault within f =
 
 pub table_one_fault : (section : List ℕ) (offset : ℕ) (f g : BrokenTable) → offset ≤ length section → TableFails section offset f → TableFails section offset g → f ≡ g
 table_one_fault section offset f g within h k = fault_is (sym (table_refuses section offset f within h) ∙ table_refuses section offset g within k)
+
+-- ---- reading a table, and its grammar
+
+module _ (section : List ℕ) (offset : ℕ) where
+  -- a table that is spelled is read
+  table_read : (ds : List Declaration) → IsTableAt section offset ds → table_at section offset ≡ Ok ds
+  table_read ds (len, b) =
+      let text = take len (drop offset section) in
+      let rest = drop len (drop offset section) in
+      let parts : text ++ rest ≡ drop offset section = take-append-drop len (drop offset section) in
+      rw (sym (ap (decls_of (length section)) parts) ∙ decls_again (length section) text rest ds b.spelled) refl
+
+  -- where no table is spelled, a fault is read
+  fault_read : (r : Result (List Declaration) BrokenTable) → table_at section offset ≡ r → BeginsWithNone Decls (drop offset section) → (fault : BrokenTable) × (table_at section offset ≡ Err fault)
+  fault_read (Ok ds) is none =
+      let found = table_found section offset ds is in
+      let b = found.1 in
+      absurd (none (take found.0 (drop offset section)) (drop found.0 (drop offset section)) ds (sym (take-append-drop found.0 (drop offset section))) b.spelled)
+  fault_read (Err fault) is none = (fault, is)
+
+  pub table_by_grammar : IsReadByGrammar section offset
+  table_by_grammar = record {
+    table = λ ds. (table_found section offset ds, table_read ds);
+    none = (λ f. table_none section offset f.0 f.1, fault_read (table_at section offset) refl);
+    fault = λ within fault. (table_fails section offset within fault, table_refuses section offset fault within);
+  }

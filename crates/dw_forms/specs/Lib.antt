@@ -7,6 +7,7 @@ pub mod Codes
 pub mod AbbrevFaults
 pub mod Abbrev
 pub mod AbbrevReading
+pub mod TableGrammar
 pub mod Marks
 pub mod Places
 pub mod Rows

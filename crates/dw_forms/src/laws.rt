@@ -8,6 +8,7 @@ ghost use Rattle.dw_forms.specs.declared.abbrev_fault.BrokenTable.{BrokenTable a
 ghost use Rattle.dw_forms.specs.declared.decl.AttributeSpec.{AttributeSpec as AnyAttributeSpec};
 ghost use Rattle.dw_forms.specs.Sizes.{fixed_sum, ValuesEnd};
 ghost use Rattle.dw_forms.specs.Abbrev.{Declaration, Decls, TableFails};
+ghost use Rattle.dw_forms.specs.TableGrammar.{IsReadByGrammar};
 ghost use Rattle.dw_forms.specs.Leb.{Uleb, UlebFails, Sleb, SlebFails};
 ghost use Rattle.dw_forms.specs.Value.{Datum, Val, ValFails};
 
@@ -33,6 +34,12 @@ pub fn values_are_apart()
 pub fn tables_are_apart()
     ensures apart { (a b x y : List ℕ) (ds es : List Declaration) → Decls a ds → Decls b es → a ++ x ≡ b ++ y → (a ≡ b) × (ds ≡ es) }
     ensures one_fault { (section : List ℕ) (offset : ℕ) (f g : AnyBrokenTable) → offset ≤ length section → TableFails section offset f → TableFails section offset g → f ≡ g }
+{}
+
+/// Reading a table from left to right gives the table that the section spells from an offset on, or, where it spells
+/// none, the fault that the grammar names.
+pub fn tables_are_read_by_grammar()
+    ensures { (section : List ℕ) (offset : ℕ) → IsReadByGrammar section offset }
 {}
 
 /// Where all values of a declaration have one size and there are enough bytes, they are read, and they take as many

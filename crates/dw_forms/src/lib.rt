@@ -26,7 +26,7 @@ pub use decl_rows::DeclRows;
 pub use form::Form;
 pub use laws::{
     fixed_values_take_their_sum, signed_numbers_are_apart, tables_are_apart,
-    unsigned_numbers_are_apart, values_are_apart,
+    tables_are_read_by_grammar, unsigned_numbers_are_apart, values_are_apart,
 };
 pub use leb::{NumberFault, read_sleb, read_uleb};
 pub use shared_table::{RowPlace, SharedTable};
