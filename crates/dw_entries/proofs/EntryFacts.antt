@@ -1,6 +1,6 @@
 -- What holds of the entries and of the units of a list: order, numbers in range, and where each unit begins.
-use Rattle.std.proofs.Common.{◌≡◌, ℕ, zero, suc, ◌+◌, ◌<◌, ◌≤◌, List, [], ◌∷◌, ◌++◌, length, Option, Some, None, refl, sym, ap, subst, ◌∙◌, arith, length-append}
-use Rattle.std.specs.Prelude.{slice_get, IfSome}
+use Rattle.std.proofs.Common.{◌≡◌, ℕ, zero, suc, ◌+◌, ◌<◌, ◌≤◌, List, [], ◌∷◌, ◌++◌, length, Option, Some, None, refl, sym, ap, subst, ◌∙◌, inl, inr, arith, length-append}
+use Rattle.std.specs.Prelude.{slice_get, IfSome, ◌⊎◌}
 use Rattle.std.specs.List.{AllByRecursion}
 use Rattle.std.proofs.lemmas.Option.{slice_get-map}
 use Rattle.dw_entries.specs.declared.record.Record.{Record}
@@ -12,8 +12,14 @@ use Rattle.dw_entries.specs.Entries.{Entry, node_count, nodes_count, first_id, n
 use Rattle.dw_entries.specs.Records.{records_kept}
 use Rattle.dw_entries.specs.Scanned.{record_of, records_of}
 use Rattle.dw_entries.specs.Asked.{OffsetsRise}
+use Rattle.dw_entries.specs.Runs.{IsEntryAt}
 use Rattle.dw_entries.proofs.OrderLaws.{Rises, units_rise}
 use Rattle.dw_entries.proofs.HeadLaws.{all-append, all_get}
+
+-- ---- numbers
+
+pub three_ways : (i j : ℕ) → ((i < j) ⊎ (i ≡ j)) ⊎ (j < i)
+three_ways i j = grind arith
 
 -- ---- the entries stand in rising offset
 
@@ -35,6 +41,15 @@ pub entries_rise : (a : List ℕ) (us : List DebugUnit) → AreUnits a us → Of
 entries_rise a us are i j d e lt is_d is_e =
     rises_get 0 (0 + length (units_bytes us)) (records_of us) i j (record_of us d) (record_of us e)
     (subst (Rises 0 (0 + length (units_bytes us))) (sym (records_kept us)) (units_rise a 0 0 0 us are)) lt (kept_get us i d is_d) (kept_get us j e is_e)
+
+-- at most one entry is at an offset
+pub one_at : (entries : List Entry) → OffsetsRise entries → (offset id other : ℕ) → IsEntryAt entries offset id → IsEntryAt entries offset other → id ≡ other
+one_at entries rise offset id other a b =
+    elim (three_ways id other) [
+      | inl (inl less) ↦ let lt = rise id other a.entry b.entry less a.is_entry b.is_entry in absurd (omega (arith, lt, a.begins, b.begins))
+      | inl (inr same) ↦ same
+      | inr more ↦ let lt = rise other id b.entry a.entry more b.is_entry a.is_entry in absurd (omega (arith, lt, a.begins, b.begins))
+    ]
 
 -- ---- parents and siblings are entries
 

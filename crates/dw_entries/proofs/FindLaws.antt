@@ -1,5 +1,5 @@
 -- The search for an entry by its offset.
-use Rattle.std.proofs.Common.{◌≡◌, ℕ, ◌*◌, ◌<◌, ◌≤◌, List, length, get_or, Option, Some, sym, ap, subst, ◌∙◌, arith, inl, inr, ◌⊎◌}
+use Rattle.std.proofs.Common.{◌≡◌, ℕ, ◌*◌, ◌<◌, ◌≤◌, List, length, get_or, Option, Some, sym, ap, subst, ◌∙◌, arith, inl, inr}
 use Rattle.std.specs.Prelude.{slice_get}
 use Rattle.std.proofs.lemmas.Option.{slice_get_within, slice_get-get_or}
 use Rattle.std.proofs.lemmas.List.{length-map}
@@ -10,12 +10,9 @@ use Rattle.dw_entries.specs.Entries.{entries_of}
 use Rattle.dw_entries.specs.Scanned.{record_of, Scanned, units_of}
 use Rattle.dw_entries.specs.Runs.{IsEntryAt}
 use Rattle.dw_entries.specs.Hints.{IsFirstFrom, AreHints}
-use Rattle.dw_entries.proofs.EntryFacts.{kept_get, entries_rise}
+use Rattle.dw_entries.proofs.EntryFacts.{kept_get, three_ways, entries_rise}
 use Rattle.dw_entries.proofs.HeadLaws.{head_stands, stands_within}
 use Rattle.dw_entries.proofs.KeptLaws.{KeptEntry, kept_entry, record_is}
-
-three_ways : (i j : ℕ) → ((i < j) ⊎ (i ≡ j)) ⊎ (j < i)
-three_ways i j = grind arith
 
 -- the hint of a block, which does not stand behind any offset of the block
 module _ {size : ℕ} {records : List Record} {hints : List ℕ} (h : AreHints size records hints) (block start : ℕ) (below : block < length hints) (read : start ≡ get_or hints block start) where

@@ -32,7 +32,7 @@ pub use entry_at::EntryAt;
 pub use fault::{Broken, Fault, Section, Stop};
 pub use header::{HeaderKind, UnitHeader, UnitType};
 pub use id::{EntryId, OptionalId};
-pub use laws::{no_list, one_fault, one_list};
+pub use laws::{no_list, offsets_rise, one_fault, one_list};
 pub use lookup::{Head, UnitHead};
 pub use rule::Rule;
 pub use scanning::scan;
