@@ -1,16 +1,18 @@
 -- The attributes that are passed, up to the next one that is asked for.
 use Rattle.std.proofs.Common.{◌≡◌, ℕ, zero, suc, List, [], ◌∷◌, ◌++◌, map, length, take, drop, Option, Some, None, refl, sym, ap, ◌∙◌, subst, ◌+◌, ◌-◌, add-one, arith, append-nil}
 use Rattle.std.specs.Prelude.{IfSome, IfNone, MatchOption}
-use Rattle.std.proofs.lemmas.List.{take-append-drop, take_all, take_rest}
+use Rattle.std.proofs.lemmas.List.{take-append-drop, take_all, take_rest, length-drop}
+use Rattle.std.proofs.lemmas.Option.{slice_get_within}
 use Rattle.dw_forms.specs.declared.decl.AttributeSpec.{AttributeSpec}
 use Rattle.dw_forms.specs.declared.value.Value.{Value}
 use Rattle.dw_forms.specs.Value.{Datum}
+use Rattle.dw_entries.specs.declared.values.Values.{Values}
 use Rattle.dw_entries.specs.Grammar.{Context, Attribute, AreAttributes}
 use Rattle.dw_entries.specs.Asked.{value_of}
-use Rattle.dw_entries.specs.Chosen.{PassTo, ArePassed, IsNextOf}
+use Rattle.dw_entries.specs.Chosen.{PassTo, IsFirstAsked, ArePassed, IsNextOf}
 use Rattle.dw_entries.specs.Values.{Left}
 use Rattle.dw_entries.specs.ValueLaws.{left_unique}
-use Rattle.dw_entries.specs.ValuesLeft.{viewed}
+use Rattle.dw_entries.specs.ValuesLeft.{viewed, specs_left, values_left, FindsFirst}
 
 -- attributes are passed where their specifications are
 pub front_passed : (Passes : AttributeSpec → Type 0) (x : Context) (specs : List AttributeSpec) (bs : List Attribute) (k : ℕ) → AreAttributes x specs bs → PassTo Passes specs k → ArePassed Passes (take k (map value_of bs))
@@ -48,6 +50,20 @@ none_found X Y Passes items left k (Some y) ends rest are = tt
 none_found X Y Passes items left k None ends rest are =
     let parts : take k items ≡ items = sym (append-nil (take k items)) ∙ ap (λ (xs : List (ℕ × Datum)). take k items ++ xs) (sym ends.0 ∙ rest) ∙ take-append-drop k items in
     subst (ArePassed Passes) parts are
+
+-- the next one that is given has the first specification that is asked for
+pub first_found : (X : Type 0) (Passes Asked : AttributeSpec → Type 0) (before after : Values) (left : List (ℕ × Datum)) (k : ℕ) (r : Option (ℕ × Value)) → MatchOption r X (λ y. left ≡ viewed y ∷ values_left after) → left ≡ drop k (values_left before)
+    → IsFirstAsked Passes Asked (specs_left before) k → IfSome r (FindsFirst Passes Asked before after)
+first_found X Passes Asked before after left k None steps rest first = tt
+first_found X Passes Asked before after left k (Some y) steps rest first = record { place = k; first = first; is_found = sym rest ∙ steps }
+
+-- one that is asked for is given
+pub never_ends : (X : Type 0) (Y : ℕ × Value → Type 0) (Passes Asked : AttributeSpec → Type 0) (x : Context) (specs : List AttributeSpec) (bs : List Attribute) (left : List (ℕ × Datum)) (k : ℕ) (r : Option (ℕ × Value)) → MatchOption r ((left ≡ []) × X) Y → left ≡ drop k (map value_of bs)
+    → AreAttributes x specs bs → IsFirstAsked Passes Asked specs k → IfNone r (PassTo Passes specs (length specs))
+never_ends X Y Passes Asked x specs bs left k (Some y) ends rest are first = tt
+never_ends X Y Passes Asked x specs bs left k None ends rest are first =
+    let within = slice_get_within specs k first.spec first.is_spec in
+    absurd (omega (arith, within, same_length x specs bs are, ap length (sym rest ∙ ends.0), length-drop k (map value_of bs)))
 
 -- ---- the values that are skipped
 

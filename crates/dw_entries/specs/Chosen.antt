@@ -9,6 +9,13 @@ use Rattle.dw_entries.specs.Asked.{value_of}
 abbrev pub PassTo : (AttributeSpec → Type 0) → List AttributeSpec → ℕ → Type 0
 PassTo Passes specs k = (j : ℕ) (spec : AttributeSpec) → j < k → slice_get specs j ≡ Some spec → Passes spec
 
+-- the specification at this place is asked for, and none before it
+pub record IsFirstAsked (Passes Asked : AttributeSpec → Type 0) (specs : List AttributeSpec) (place : ℕ) : Type 0 where
+  pub before : PassTo Passes specs place
+  pub spec : AttributeSpec
+  pub is_spec : slice_get specs place ≡ Some spec
+  pub asked : Asked spec
+
 -- an attribute and its value, with a specification that is not asked for
 pub record IsPassed (Passes : AttributeSpec → Type 0) (item : ℕ × Datum) : Type 0 where
   pub context : Context

@@ -20,6 +20,10 @@ may_refer _ = false
 abbrev pub is_asked : ℕ → AttributeSpec → Bool
 is_asked attribute spec = may_refer spec.form || spec.attribute == attribute
 
+-- the code is this one, or the form one of references
+abbrev pub IsAsked : ℕ → AttributeSpec → Type 0
+IsAsked attribute spec = is_asked attribute spec ≡ true
+
 -- neither the code is this one nor the form one of references
 abbrev pub IsOther : ℕ → AttributeSpec → Type 0
 IsOther attribute spec = is_asked attribute spec ≡ false

@@ -1,8 +1,8 @@
 //! The attributes of an entry, each value decoded when it is asked.
 
 ghost use Rattle.std.specs.Prelude.{◌≡◌, ◌≤◌, length, IfSome, IfNone};
-ghost use Rattle.std.specs.Bool.{OnFalse};
-ghost use Rattle.dw_entries.specs.Chosen.{PassTo};
+ghost use Rattle.std.specs.Bool.{OnFalse, OnTrue};
+ghost use Rattle.dw_entries.specs.Chosen.{PassTo, IsFirstAsked};
 ghost use Rattle.dw_entries.specs.Referring.{may_refer, is_asked};
 ghost use Rattle.dw_forms.specs.declared.decl.AttributeSpec.{AttributeSpec as SpecData};
 ghost use Rattle.dw_entries.specs.Header.{IsSize};
@@ -54,9 +54,13 @@ pub trait Choice {
     /// What holds of a specification that is not asked for.
     ghost passes: { Self → SpecData → Type 0 };
 
+    /// What holds of a specification that is asked for. Where a choice does not say it, it may ask for any.
+    ghost asked: { Self → SpecData → Type 0 } = { λ _ _. Unit {0} };
+
     /// Whether attributes that are declared so are asked for.
     fn asks(&self, spec: &AttributeSpec) -> bool
-        ensures { OnFalse result (passes self.now spec.now) };
+        ensures passes { OnFalse result (passes self.now spec.now) }
+        ensures asked { OnTrue result (asked self.now spec.now) };
 }
 
 /// The attributes that have this code, and those whose values may be references.
@@ -66,9 +70,11 @@ struct Referring {
 }
 
 impl Choice for Referring {
-    ghost use Rattle.dw_entries.specs.Referring.{IsOther};
+    ghost use Rattle.dw_entries.specs.Referring.{IsAsked, IsOther};
 
     ghost passes = { λ choice. IsOther choice.attribute };
+
+    ghost asked = { λ choice. IsAsked choice.attribute };
 
     #[inline]
     fn asks(&self, spec: &AttributeSpec) -> bool {
@@ -79,8 +85,7 @@ impl Choice for Referring {
 /// The place of the first specification that is asked for.
 #[inline(always)]
 fn first_asked<C: Choice>(choice: &C, specs: &[AttributeSpec]) -> Option<usize>
-    ensures within { IfSome result (λ place. place ≤ length specs.now) }
-    ensures found { IfSome result (PassTo (C.passes choice.now) specs.now) }
+    ensures found { IfSome result (IsFirstAsked (C.passes choice.now) (C.asked choice.now) specs.now) }
     ensures none { IfNone result (PassTo (C.passes choice.now) specs.now (length specs.now)) }
 {
     for place in 0..specs.len() {
@@ -94,9 +99,9 @@ fn first_asked<C: Choice>(choice: &C, specs: &[AttributeSpec]) -> Option<usize>
 impl<'a> Values<'_, 'a> {
     ghost use Rattle.std.specs.Prelude.{option_map, drop};
     ghost use Rattle.dw_forms.specs.Value.{view};
-    ghost use Rattle.dw_entries.specs.ValuesLeft.{viewed, values_left};
+    ghost use Rattle.dw_entries.specs.ValuesLeft.{viewed, values_left, FindsFirst, AsksNone};
     ghost use Rattle.dw_entries.specs.Chosen.{ArePassed, IsNextOf};
-    ghost use Rattle.dw_entries.specs.Referring.{IsOther};
+    ghost use Rattle.dw_entries.specs.Referring.{IsAsked, IsOther};
     ghost use Rattle.dw_entries.specs.Lookups.{value_in};
 
     /// The value of the first attribute with this code among those that are left. Values before it are skipped.
@@ -143,6 +148,9 @@ impl<'a> Values<'_, 'a> {
     pub fn next_by<C: Choice>(&mut self, choice: &C) -> Option<(Attribute, Value<'a>)>
         ensures some { IfSome result (λ found. IsNextOf (C.passes choice.now) (values_left self.old) (viewed found) (values_left self.new)) }
         ensures none { IfNone result (ArePassed (C.passes choice.now) (values_left self.old)) }
+        // What is found is asked for as it is declared, and what is passed is not.
+        ensures asked { IfSome result (FindsFirst (C.passes choice.now) (C.asked choice.now) self.old self.new) }
+        ensures unasked { IfNone result (AsksNone (C.passes choice.now) self.old) }
     {
         match first_asked(choice, self.specs) {
             Some(place) => {
@@ -158,6 +166,9 @@ impl<'a> Values<'_, 'a> {
     pub fn next_of(&mut self, attribute: Attribute) -> Option<(Attribute, Value<'a>)>
         ensures some { IfSome result (λ found. IsNextOf (IsOther attribute) (values_left self.old) (viewed found) (values_left self.new)) }
         ensures none { IfNone result (ArePassed (IsOther attribute) (values_left self.old)) }
+        // What is found is asked for as it is declared, and what is passed is not.
+        ensures asked { IfSome result (FindsFirst (IsOther attribute) (IsAsked attribute) self.old self.new) }
+        ensures unasked { IfNone result (AsksNone (IsOther attribute) self.old) }
     {
         self.next_by(&Referring { attribute })
     }
