@@ -15,6 +15,7 @@ pub mod SharedTables
 pub mod RowStores
 pub mod ValueFaults
 pub mod Value
+pub mod NumberValues
 pub mod ValueReading
 pub mod Sizes
 pub mod Remainders

@@ -5,11 +5,12 @@ use Rattle.dw_forms.specs.Steps.{◌>>=◌}
 use Rattle.dw_forms.specs.declared.form.Form.{Form}
 use Rattle.dw_forms.specs.declared.form.Form.TheVariants.{Indirect}
 use Rattle.dw_forms.specs.declared.leb.NumberFault.{NumberFault}
+use Rattle.dw_forms.specs.declared.value.Value.{Value}
 use Rattle.dw_forms.specs.declared.value.ValueFault.{ValueFault}
 use Rattle.dw_forms.specs.declared.value.ValueFault.TheVariants.{Cut, BadIndirect}
 use Rattle.dw_forms.specs.FormCodes.{form_of}
 use Rattle.dw_forms.specs.LebReading.{uleb_at, sleb_at}
-use Rattle.dw_forms.specs.Value.{Datum, Layout, layout_of, fixed, leb, signed_leb, counted, leb_counted, ended, exactly, nothing, named, may_be_named}
+use Rattle.dw_forms.specs.Value.{Datum, view, Layout, layout_of, fixed, leb, signed_leb, counted, leb_counted, ended, exactly, nothing, named, may_be_named}
 use Rattle.dw_forms.specs.ValueFaults.{fault_of}
 
 -- what a function returned, seen by view, is what reading gives
@@ -83,6 +84,10 @@ layout_at (exactly size of) bytes = do
   Ok (of b.0, b.1)
 layout_at (nothing datum) bytes = Ok (datum, bytes)
 layout_at named bytes = Err BadIndirect
+
+-- what a function returned, a value and how many bytes it has, is what reading gives in the layout
+abbrev pub GivesIn : Layout → List ℕ → Result (Value × ℕ) ValueFault → Type 0
+GivesIn layout bytes result = Gives (λ x. (view x.0, drop x.1 bytes)) result (layout_at layout bytes)
 
 -- the value of a form that names no other form
 abbrev pub plain_at : Form → ℕ → List ℕ → Result (Datum × List ℕ) ValueFault

@@ -1,201 +1,71 @@
 //! Reading the values of attributes (DWARF 5, 7.5.6).
 
-ghost use Rattle.std.specs.Prelude.{◌≡◌, ◌+◌, ◌≤◌, ◌⊎◌, length, drop, IfOk, IfErr, OnErr, IsTrue};
+ghost use Rattle.std.specs.Prelude.{◌≡◌, ◌≤◌, ◌⊎◌, length, drop, IfOk, IfErr, OnErr, IsTrue};
 ghost use Rattle.dw_forms.specs.declared.form.Form.TheVariants.{Indirect};
 ghost use Rattle.dw_forms.specs.Front.{BeginsWith, BeginsWithNone};
-ghost use Rattle.dw_forms.specs.Value.{view, Val, ValFails};
+ghost use Rattle.dw_forms.specs.Value.{view, layout_of, Val, ValFails};
 ghost use Rattle.dw_forms.specs.FormCodes.{form_of, is_allowed};
 ghost use Rattle.dw_forms.specs.Sizes.{rest_at};
-ghost use Rattle.dw_forms.specs.ValueReading.{Gives, fixed_at, block_at, counted_at, leb_counted_at, text_at, plain_at, named_at, value_at};
+ghost use Rattle.dw_forms.specs.ValueReading.{Gives, GivesIn, named_at, value_at};
 
 use crate::form::Form;
+use crate::layout_reader::{
+    address_value, counted, counted_block, expression, fixed, fixed_number, leb_block, leb_counted,
+    leb_number, offset, section_offset, signed_number, text, text_value, wide_constant,
+};
 use crate::leb::{read_sleb, read_uleb};
+use crate::number::{Number, SectionOffset};
 use crate::value::{Value, ValueFault};
-use byteorder::{ByteOrder, LittleEndian};
-use memchr::memchr;
-
-/// The number in the first bytes, lowest first.
-#[inline]
-#[tactic(auto, unfolding(crate::specs::ValueReading::fixed_at))]
-fn fixed(bytes: &[u8], size: usize) -> Result<u64, ValueFault>
-    requires some { 1 ≤ size }
-    requires few { size ≤ 8 }
-    ensures within { IfOk result (λ _. size ≤ length bytes.now) }
-    ensures exact { Gives (λ n. (n, drop size bytes.now)) result (fixed_at size bytes.now) }
-{
-    if bytes.len() < size {
-        return Err(ValueFault::Cut);
-    }
-    Ok(LittleEndian::read_uint(&bytes[..size], size))
-}
-
-/// An address. Each of the two sizes is read by one instruction.
-#[inline]
-fn address(bytes: &[u8], size: u8) -> Result<u64, ValueFault>
-    requires { (size ≡ 4) ⊎ (size ≡ 8) }
-    ensures within { IfOk result (λ _. size ≤ length bytes.now) }
-    ensures exact { Gives (λ n. (n, drop size bytes.now)) result (fixed_at size bytes.now) }
-{
-    if size == 8 {
-        fixed(bytes, 8)
-    } else {
-        fixed(bytes, 4)
-    }
-}
-
-/// An offset of 4 bytes.
-#[inline]
-#[tactic(auto, unfolding(crate::specs::ValueReading::fixed_at))]
-fn offset(bytes: &[u8]) -> Result<u32, ValueFault>
-    ensures within { IfOk result (λ _. 4 ≤ length bytes.now) }
-    ensures exact { Gives (λ n. (n, drop 4 bytes.now)) result (fixed_at 4 bytes.now) }
-{
-    if bytes.len() < 4 {
-        return Err(ValueFault::Cut);
-    }
-    Ok(LittleEndian::read_u32(&bytes[..4]))
-}
-
-/// As many bytes as a length says.
-#[inline]
-#[tactic(auto, unfolding(crate::specs::ValueReading::block_at))]
-fn block(bytes: &[u8], len: u64) -> Result<&[u8], ValueFault>
-    ensures within { IfOk result (λ _. len ≤ length bytes.now) }
-    ensures whole { IfOk result (λ content. length content.now ≡ len) }
-    ensures exact { Gives (λ content. (content.now, drop len bytes.now)) result (block_at len bytes.now) }
-{
-    if (bytes.len() as u64) < len {
-        return Err(ValueFault::Cut);
-    }
-    Ok(&bytes[..len as usize])
-}
-
-/// The bytes before the first zero byte.
-#[tactic(auto, unfolding(crate::specs::ValueReading::text_at))]
-fn text(bytes: &[u8]) -> Result<&[u8], ValueFault>
-    ensures within { IfOk result (λ text. length text.now + 1 ≤ length bytes.now) }
-    ensures exact { Gives (λ text. (text.now, drop (length text.now + 1) bytes.now)) result (text_at bytes.now) }
-{
-    let Some(end) = memchr(0, bytes) else {
-        return Err(ValueFault::Cut);
-    };
-    Ok(&bytes[..end])
-}
-
-/// As many bytes as a number of so many bytes says.
-#[tactic(auto, unfolding(crate::specs::ValueReading::counted_at))]
-fn counted(bytes: &[u8], size: usize) -> Result<&[u8], ValueFault>
-    requires some { 1 ≤ size }
-    requires few { size ≤ 8 }
-    ensures within { IfOk result (λ content. size + length content.now ≤ length bytes.now) }
-    ensures exact { Gives (λ content. (content.now, drop (size + length content.now) bytes.now)) result (counted_at size bytes.now) }
-{
-    let len = fixed(bytes, size)?;
-    block(&bytes[size..], len)
-}
-
-/// As many bytes as a LEB128 number says, and how many they are with that number.
-#[tactic(auto, unfolding(crate::specs::ValueReading::leb_counted_at, crate::specs::ValueReading::uleb_then))]
-fn leb_counted(bytes: &[u8]) -> Result<(&[u8], usize), ValueFault>
-    ensures within { IfOk result (λ x. x.1 ≤ length bytes.now) }
-    ensures exact { Gives (λ x. (x.0.now, drop x.1 bytes.now)) result (leb_counted_at bytes.now) }
-{
-    let (len, before) = read_uleb(bytes)?;
-    let content = block(&bytes[before..], len)?;
-    Ok((content, before + content.len()))
-}
 
 /// The value of a form that names no other form, and how many bytes it has.
 #[inline]
-#[tactic(auto, unfolding(crate::specs::ValueReading::layout_at, crate::specs::ValueReading::uleb_then, crate::specs::ValueReading::sleb_then))]
+#[tactic(auto, unfolding(crate::specs::ValueReading::layout_at))]
 fn plain(form: Form, address_size: u8, bytes: &[u8]) -> Result<(Value<'_>, usize), ValueFault>
     requires { (address_size ≡ 4) ⊎ (address_size ≡ 8) }
     ensures within { IfOk result (λ x. x.1 ≤ length bytes.now) }
-    ensures exact { Gives (λ x. (view x.0, drop x.1 bytes.now)) result (plain_at form address_size bytes.now) }
+    ensures exact { GivesIn (layout_of address_size form) bytes.now result }
 {
     match form {
-        Form::Addr => Ok((
-            Value::Addr(address(bytes, address_size)?),
-            usize::from(address_size),
-        )),
-        Form::Block2 => {
-            let content = counted(bytes, 2)?;
-            Ok((Value::Block(content), 2 + content.len()))
-        }
-        Form::Block4 => {
-            let content = counted(bytes, 4)?;
-            Ok((Value::Block(content), 4 + content.len()))
-        }
-        Form::Data2 => Ok((Value::Unsigned(fixed(bytes, 2)?), 2)),
-        Form::Data4 => Ok((Value::Unsigned(fixed(bytes, 4)?), 4)),
-        Form::Data8 => Ok((Value::Unsigned(fixed(bytes, 8)?), 8)),
-        Form::Text => {
-            let text = text(bytes)?;
-            Ok((Value::Text(text), text.len() + 1))
-        }
-        Form::Block => {
-            let (content, len) = leb_counted(bytes)?;
-            Ok((Value::Block(content), len))
-        }
-        Form::Block1 => {
-            let content = counted(bytes, 1)?;
-            Ok((Value::Block(content), 1 + content.len()))
-        }
-        Form::Data1 => Ok((Value::Unsigned(fixed(bytes, 1)?), 1)),
-        Form::Flag => Ok((Value::Flag(fixed(bytes, 1)? != 0), 1)),
-        Form::Sdata => {
-            let (number, len) = read_sleb(bytes)?;
-            Ok((Value::Signed(number), len))
-        }
-        Form::Strp => Ok((Value::Str(offset(bytes)?), 4)),
-        Form::Udata => {
-            let (number, len) = read_uleb(bytes)?;
-            Ok((Value::Unsigned(number), len))
-        }
-        Form::RefAddr => Ok((Value::RefInfo(offset(bytes)?), 4)),
-        Form::Ref1 => Ok((Value::RefUnit(fixed(bytes, 1)?), 1)),
-        Form::Ref2 => Ok((Value::RefUnit(fixed(bytes, 2)?), 2)),
-        Form::Ref4 => Ok((Value::RefUnit(fixed(bytes, 4)?), 4)),
-        Form::Ref8 => Ok((Value::RefUnit(fixed(bytes, 8)?), 8)),
-        Form::RefUdata => {
-            let (number, len) = read_uleb(bytes)?;
-            Ok((Value::RefUnit(number), len))
-        }
+        Form::Addr => address_value(bytes, address_size),
+        Form::Block2 => counted_block(bytes, 2),
+        Form::Block4 => counted_block(bytes, 4),
+        Form::Data2 => fixed_number(bytes, 2, Number::Unsigned),
+        Form::Data4 => fixed_number(bytes, 4, Number::Unsigned),
+        Form::Data8 => fixed_number(bytes, 8, Number::Unsigned),
+        Form::Text => text_value(bytes),
+        Form::Block => leb_block(bytes),
+        Form::Block1 => counted_block(bytes, 1),
+        Form::Data1 => fixed_number(bytes, 1, Number::Unsigned),
+        Form::Flag => fixed_number(bytes, 1, Number::Flag),
+        Form::Sdata => signed_number(bytes),
+        Form::Strp => section_offset(bytes, SectionOffset::Str),
+        Form::Udata => leb_number(bytes, Number::Unsigned),
+        Form::RefAddr => section_offset(bytes, SectionOffset::Info),
+        Form::Ref1 => fixed_number(bytes, 1, Number::RefUnit),
+        Form::Ref2 => fixed_number(bytes, 2, Number::RefUnit),
+        Form::Ref4 => fixed_number(bytes, 4, Number::RefUnit),
+        Form::Ref8 => fixed_number(bytes, 8, Number::RefUnit),
+        Form::RefUdata => leb_number(bytes, Number::RefUnit),
         Form::Indirect => Err(ValueFault::BadIndirect),
-        Form::SecOffset => Ok((Value::SecOffset(offset(bytes)?), 4)),
-        Form::Exprloc => {
-            let (content, len) = leb_counted(bytes)?;
-            Ok((Value::Expr(content), len))
-        }
+        Form::SecOffset => section_offset(bytes, SectionOffset::Implied),
+        Form::Exprloc => expression(bytes),
         Form::FlagPresent => Ok((Value::Flag(true), 0)),
-        Form::Strx => {
-            let (number, len) = read_uleb(bytes)?;
-            Ok((Value::StrIndex(number), len))
-        }
-        Form::Addrx => {
-            let (number, len) = read_uleb(bytes)?;
-            Ok((Value::AddrIndex(number), len))
-        }
-        Form::Data16 => Ok((Value::Wide(block(bytes, 16)?), 16)),
-        Form::LineStrp => Ok((Value::LineStr(offset(bytes)?), 4)),
-        Form::RefSig8 => Ok((Value::RefSig(fixed(bytes, 8)?), 8)),
+        Form::Strx => leb_number(bytes, Number::StrIndex),
+        Form::Addrx => leb_number(bytes, Number::AddrIndex),
+        Form::Data16 => wide_constant(bytes),
+        Form::LineStrp => section_offset(bytes, SectionOffset::LineStr),
+        Form::RefSig8 => fixed_number(bytes, 8, Number::RefSig),
         Form::ImplicitConst(number) => Ok((Value::Signed(number), 0)),
-        Form::Loclistx => {
-            let (number, len) = read_uleb(bytes)?;
-            Ok((Value::LocIndex(number), len))
-        }
-        Form::Rnglistx => {
-            let (number, len) = read_uleb(bytes)?;
-            Ok((Value::RngIndex(number), len))
-        }
-        Form::Strx1 => Ok((Value::StrIndex(fixed(bytes, 1)?), 1)),
-        Form::Strx2 => Ok((Value::StrIndex(fixed(bytes, 2)?), 2)),
-        Form::Strx3 => Ok((Value::StrIndex(fixed(bytes, 3)?), 3)),
-        Form::Strx4 => Ok((Value::StrIndex(fixed(bytes, 4)?), 4)),
-        Form::Addrx1 => Ok((Value::AddrIndex(fixed(bytes, 1)?), 1)),
-        Form::Addrx2 => Ok((Value::AddrIndex(fixed(bytes, 2)?), 2)),
-        Form::Addrx3 => Ok((Value::AddrIndex(fixed(bytes, 3)?), 3)),
-        Form::Addrx4 => Ok((Value::AddrIndex(fixed(bytes, 4)?), 4)),
+        Form::Loclistx => leb_number(bytes, Number::LocIndex),
+        Form::Rnglistx => leb_number(bytes, Number::RngIndex),
+        Form::Strx1 => fixed_number(bytes, 1, Number::StrIndex),
+        Form::Strx2 => fixed_number(bytes, 2, Number::StrIndex),
+        Form::Strx3 => fixed_number(bytes, 3, Number::StrIndex),
+        Form::Strx4 => fixed_number(bytes, 4, Number::StrIndex),
+        Form::Addrx1 => fixed_number(bytes, 1, Number::AddrIndex),
+        Form::Addrx2 => fixed_number(bytes, 2, Number::AddrIndex),
+        Form::Addrx3 => fixed_number(bytes, 3, Number::AddrIndex),
+        Form::Addrx4 => fixed_number(bytes, 4, Number::AddrIndex),
     }
 }
 

@@ -1,7 +1,7 @@
 use Rattle.std.proofs.Common.{arith, eq-eqb}
 use Rattle.std.proofs.lemmas.Bool.{eqb-true}
 use Rattle.dw_forms.proofs.Texts.{text_none, text_taken}
-use Rattle.dw_forms.proofs.value_reader.text.Goals as goal
+use Rattle.dw_forms.proofs.layout_reader.text.Goals as goal
 
 pub returns-in_default-clause-exact : goal.returns-in_default-clause-exact
 returns-in_default-clause-exact c = text_none c.args.bytes.now (λ j lt zero_there. c.in_default.ensures j (omega arith) lt (eq-eqb _ _ zero_there))

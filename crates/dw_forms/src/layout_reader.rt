@@ -1,0 +1,228 @@
+//! Reading a value by its layout (DWARF 5, 7.5.6): first what its bytes hold, then the value, one function a layout.
+
+ghost use Rattle.std.specs.Prelude.{◌≡◌, ◌+◌, ◌≤◌, ◌⊎◌, length, drop, IfOk};
+ghost use Rattle.dw_forms.specs.Value.{fixed as number_layout, leb, signed_leb, counted as counted_layout, leb_counted as leb_counted_layout, ended, exactly, address as address_datum, block as block_datum, signed, wide, text as text_datum, expr};
+ghost use Rattle.dw_forms.specs.NumberValues.{number_datum, offset_datum};
+ghost use Rattle.dw_forms.specs.ValueReading.{Gives, GivesIn, fixed_at, block_at, counted_at, leb_counted_at, text_at};
+
+use crate::leb::{read_sleb, read_uleb};
+use crate::number::{Number, SectionOffset};
+use crate::value::{Value, ValueFault};
+use byteorder::{ByteOrder, LittleEndian};
+use memchr::memchr;
+
+/// The number in the first bytes, lowest first.
+#[inline]
+#[tactic(auto, unfolding(crate::specs::ValueReading::fixed_at))]
+pub(crate) fn fixed(bytes: &[u8], size: usize) -> Result<u64, ValueFault>
+    requires some { 1 ≤ size }
+    requires few { size ≤ 8 }
+    ensures within { IfOk result (λ _. size ≤ length bytes.now) }
+    ensures exact { Gives (λ n. (n, drop size bytes.now)) result (fixed_at size bytes.now) }
+{
+    if bytes.len() < size {
+        return Err(ValueFault::Cut);
+    }
+    Ok(LittleEndian::read_uint(&bytes[..size], size))
+}
+
+/// The number in an address. Each of the two sizes is read by one instruction.
+#[inline]
+fn address(bytes: &[u8], size: u8) -> Result<u64, ValueFault>
+    requires { (size ≡ 4) ⊎ (size ≡ 8) }
+    ensures within { IfOk result (λ _. size ≤ length bytes.now) }
+    ensures exact { Gives (λ n. (n, drop size bytes.now)) result (fixed_at size bytes.now) }
+{
+    if size == 8 {
+        fixed(bytes, 8)
+    } else {
+        fixed(bytes, 4)
+    }
+}
+
+/// The number in an offset of 4 bytes.
+#[inline]
+#[tactic(auto, unfolding(crate::specs::ValueReading::fixed_at))]
+pub(crate) fn offset(bytes: &[u8]) -> Result<u32, ValueFault>
+    ensures within { IfOk result (λ _. 4 ≤ length bytes.now) }
+    ensures exact { Gives (λ n. (n, drop 4 bytes.now)) result (fixed_at 4 bytes.now) }
+{
+    if bytes.len() < 4 {
+        return Err(ValueFault::Cut);
+    }
+    Ok(LittleEndian::read_u32(&bytes[..4]))
+}
+
+/// As many bytes as a length says.
+#[inline]
+#[tactic(auto, unfolding(crate::specs::ValueReading::block_at))]
+fn block(bytes: &[u8], len: u64) -> Result<&[u8], ValueFault>
+    ensures within { IfOk result (λ _. len ≤ length bytes.now) }
+    ensures whole { IfOk result (λ content. length content.now ≡ len) }
+    ensures exact { Gives (λ content. (content.now, drop len bytes.now)) result (block_at len bytes.now) }
+{
+    if (bytes.len() as u64) < len {
+        return Err(ValueFault::Cut);
+    }
+    Ok(&bytes[..len as usize])
+}
+
+/// The bytes before the first zero byte.
+#[tactic(auto, unfolding(crate::specs::ValueReading::text_at))]
+pub(crate) fn text(bytes: &[u8]) -> Result<&[u8], ValueFault>
+    ensures within { IfOk result (λ text. length text.now + 1 ≤ length bytes.now) }
+    ensures exact { Gives (λ text. (text.now, drop (length text.now + 1) bytes.now)) result (text_at bytes.now) }
+{
+    let Some(end) = memchr(0, bytes) else {
+        return Err(ValueFault::Cut);
+    };
+    Ok(&bytes[..end])
+}
+
+/// As many bytes as a number of so many bytes says.
+#[tactic(auto, unfolding(crate::specs::ValueReading::counted_at))]
+pub(crate) fn counted(bytes: &[u8], size: usize) -> Result<&[u8], ValueFault>
+    requires some { 1 ≤ size }
+    requires few { size ≤ 8 }
+    ensures within { IfOk result (λ content. size + length content.now ≤ length bytes.now) }
+    ensures exact { Gives (λ content. (content.now, drop (size + length content.now) bytes.now)) result (counted_at size bytes.now) }
+{
+    let len = fixed(bytes, size)?;
+    block(&bytes[size..], len)
+}
+
+/// As many bytes as a LEB128 number says, and how many they are with that number.
+#[tactic(auto, unfolding(crate::specs::ValueReading::leb_counted_at, crate::specs::ValueReading::uleb_then))]
+pub(crate) fn leb_counted(bytes: &[u8]) -> Result<(&[u8], usize), ValueFault>
+    ensures within { IfOk result (λ x. x.1 ≤ length bytes.now) }
+    ensures exact { Gives (λ x. (x.0.now, drop x.1 bytes.now)) result (leb_counted_at bytes.now) }
+{
+    let (len, before) = read_uleb(bytes)?;
+    let content = block(&bytes[before..], len)?;
+    Ok((content, before + content.len()))
+}
+
+/// A number of so many bytes, and how many bytes the value has; so for all below.
+#[inline]
+#[tactic(auto, unfolding(crate::specs::ValueReading::layout_at))]
+pub(crate) fn fixed_number<'a>(
+    bytes: &'a [u8],
+    size: usize,
+    number: Number,
+) -> Result<(Value<'a>, usize), ValueFault>
+    requires some { 1 ≤ size }
+    requires few { size ≤ 8 }
+    ensures within { IfOk result (λ x. x.1 ≤ length bytes.now) }
+    ensures exact { GivesIn (number_layout size (number_datum number)) bytes.now result }
+{
+    let found = fixed(bytes, size)?;
+    Ok((number.value(found), size))
+}
+
+/// An address.
+#[inline]
+#[tactic(auto, unfolding(crate::specs::ValueReading::layout_at))]
+pub(crate) fn address_value(bytes: &[u8], size: u8) -> Result<(Value<'_>, usize), ValueFault>
+    requires { (size ≡ 4) ⊎ (size ≡ 8) }
+    ensures within { IfOk result (λ x. x.1 ≤ length bytes.now) }
+    ensures exact { GivesIn (number_layout size address_datum) bytes.now result }
+{
+    let found = address(bytes, size)?;
+    Ok((Value::Addr(found), usize::from(size)))
+}
+
+/// An offset into a section.
+#[inline]
+#[tactic(auto, unfolding(crate::specs::ValueReading::layout_at))]
+pub(crate) fn section_offset<'a>(
+    bytes: &'a [u8],
+    section: SectionOffset,
+) -> Result<(Value<'a>, usize), ValueFault>
+    ensures within { IfOk result (λ x. x.1 ≤ length bytes.now) }
+    ensures exact { GivesIn (number_layout 4 (offset_datum section)) bytes.now result }
+{
+    let found = offset(bytes)?;
+    Ok((section.value(found), 4))
+}
+
+/// An unsigned LEB128 number.
+#[inline]
+#[tactic(auto, unfolding(crate::specs::ValueReading::layout_at, crate::specs::ValueReading::uleb_then))]
+pub(crate) fn leb_number<'a>(
+    bytes: &'a [u8],
+    number: Number,
+) -> Result<(Value<'a>, usize), ValueFault>
+    ensures within { IfOk result (λ x. x.1 ≤ length bytes.now) }
+    ensures exact { GivesIn (leb (number_datum number)) bytes.now result }
+{
+    let (found, len) = read_uleb(bytes)?;
+    Ok((number.value(found), len))
+}
+
+/// A signed LEB128 number.
+#[inline]
+#[tactic(auto, unfolding(crate::specs::ValueReading::layout_at, crate::specs::ValueReading::sleb_then))]
+pub(crate) fn signed_number(bytes: &[u8]) -> Result<(Value<'_>, usize), ValueFault>
+    ensures within { IfOk result (λ x. x.1 ≤ length bytes.now) }
+    ensures exact { GivesIn (signed_leb signed) bytes.now result }
+{
+    let (found, len) = read_sleb(bytes)?;
+    Ok((Value::Signed(found), len))
+}
+
+/// A length of so many bytes, and as many bytes.
+#[inline]
+#[tactic(auto, unfolding(crate::specs::ValueReading::layout_at))]
+pub(crate) fn counted_block(bytes: &[u8], size: usize) -> Result<(Value<'_>, usize), ValueFault>
+    requires some { 1 ≤ size }
+    requires few { size ≤ 8 }
+    ensures within { IfOk result (λ x. x.1 ≤ length bytes.now) }
+    ensures exact { GivesIn (counted_layout size block_datum) bytes.now result }
+{
+    let content = counted(bytes, size)?;
+    Ok((Value::Block(content), size + content.len()))
+}
+
+/// A length as a LEB128 number, and as many bytes.
+#[inline]
+#[tactic(auto, unfolding(crate::specs::ValueReading::layout_at))]
+pub(crate) fn leb_block(bytes: &[u8]) -> Result<(Value<'_>, usize), ValueFault>
+    ensures within { IfOk result (λ x. x.1 ≤ length bytes.now) }
+    ensures exact { GivesIn (leb_counted_layout block_datum) bytes.now result }
+{
+    let (content, len) = leb_counted(bytes)?;
+    Ok((Value::Block(content), len))
+}
+
+/// A length as a LEB128 number, and an expression of as many bytes.
+#[inline]
+#[tactic(auto, unfolding(crate::specs::ValueReading::layout_at))]
+pub(crate) fn expression(bytes: &[u8]) -> Result<(Value<'_>, usize), ValueFault>
+    ensures within { IfOk result (λ x. x.1 ≤ length bytes.now) }
+    ensures exact { GivesIn (leb_counted_layout expr) bytes.now result }
+{
+    let (content, len) = leb_counted(bytes)?;
+    Ok((Value::Expr(content), len))
+}
+
+/// A constant of 16 bytes.
+#[inline]
+#[tactic(auto, unfolding(crate::specs::ValueReading::layout_at))]
+pub(crate) fn wide_constant(bytes: &[u8]) -> Result<(Value<'_>, usize), ValueFault>
+    ensures within { IfOk result (λ x. x.1 ≤ length bytes.now) }
+    ensures exact { GivesIn (exactly 16 wide) bytes.now result }
+{
+    let content = block(bytes, 16)?;
+    Ok((Value::Wide(content), 16))
+}
+
+/// A string and its zero byte.
+#[inline]
+#[tactic(auto, unfolding(crate::specs::ValueReading::layout_at))]
+pub(crate) fn text_value(bytes: &[u8]) -> Result<(Value<'_>, usize), ValueFault>
+    ensures within { IfOk result (λ x. x.1 ≤ length bytes.now) }
+    ensures exact { GivesIn (ended text_datum) bytes.now result }
+{
+    let content = text(bytes)?;
+    Ok((Value::Text(content), content.len() + 1))
+}
