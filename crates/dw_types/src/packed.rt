@@ -5,6 +5,7 @@ ghost use Rattle.dw_types.specs.Packing.{cut, begin_of, CutsInOrder, LeadsBelow}
 ghost use Rattle.dw_types.specs.StepLists.{rows_of, to_of, BeginsRows, CountsRows, HasPlaced};
 
 use crate::graph::StepGraph;
+use crate::memory::NoMemory;
 use crate::numbers::Numbers;
 use crate::step_list::Step;
 use std::alloc::{AllocError, Global};
@@ -80,8 +81,8 @@ pub struct Packed {
 }
 
 impl Packed {
-    /// The same graph: its nodes, and the steps of each in their order. It fails where memory runs out.
-    pub fn new<G: StepGraph>(alloc: Global, graph: &G) -> Result<Self, AllocError>
+    /// The same graph: its nodes, and the steps of each in their order.
+    pub fn new<G: StepGraph>(alloc: Global, graph: &G) -> Result<Self, NoMemory>
         ensures { IfOk result (λ packed. ⟦<Packed as StepGraph>⟧.graph packed ≡ G.graph graph.now) }
     {
         let nodes = graph.nodes();
