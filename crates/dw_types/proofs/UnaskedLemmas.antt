@@ -1,6 +1,6 @@
 -- An entry that the rules on types don't look at makes no step, has no role and breaks no rule.
-use Rattle.std.proofs.Common.{◌≡◌, ℕ, Bool, true, false, ◌&&◌, List, [], ◌∷◌, ◌++◌, ◌+◌, ◌^◌, None, nat_eq, refl, sym, ap, subst, ◌∙◌, arith, append-nil}
-use Rattle.std.proofs.lemmas.Bool.{eqb-true, false_from_ne_true}
+use Rattle.std.proofs.Common.{◌≡◌, ℕ, Bool, true, false, ◌&&◌, ◌||◌, not, List, [], ◌∷◌, ◌++◌, ◌+◌, ◌^◌, None, nat_eq, refl, sym, ap, subst, ◌∙◌, append-nil}
+use Rattle.std.proofs.lemmas.Bool.{eqb-true, false_from_ne_true, false≢true, true≢false}
 use Rattle.dw_forms.specs.Codes.{DW_TAG_array_type, DW_TAG_atomic_type, DW_TAG_base_type, DW_TAG_const_type, DW_TAG_enumeration_type, DW_TAG_member, DW_TAG_pointer_type, DW_TAG_restrict_type, DW_TAG_subrange_type, DW_TAG_subroutine_type, DW_TAG_typedef, DW_TAG_volatile_type}
 use Rattle.dw_entries.specs.declared.rule.Rule.{Rule}
 use Rattle.dw_entries.specs.declared.rule.Rule.TheVariants.{MissingType, BadCount, NoSize, SizeTooGreat, MemberOutside, EnumSize}
@@ -10,6 +10,7 @@ use Rattle.dw_types.specs.declared.kind.Kind.TheVariants.{NoType}
 use Rattle.dw_types.specs.declared.kind.Role.{Role}
 use Rattle.dw_types.specs.declared.kind.Role.TheVariants.{Other}
 use Rattle.dw_types.specs.declared.step_list.Step.{Step}
+use Rattle.dw_types.specs.Constants.{is_negative, is_present}
 use Rattle.dw_types.specs.Entries.{entry_at, ParentsComeFirst}
 use Rattle.dw_types.specs.FactsOf.{is_asked}
 use Rattle.dw_types.specs.Kinds.{alias_tags, container_tags, declarable_tags, has_members, is_declared_type, is_one_of, kind_of, own_sized_tags, parent_role, passes_type_on, role_of}
@@ -20,10 +21,16 @@ use Rattle.dw_types.specs.Sizes.{size_line, size_of_kind, size_to}
 use Rattle.dw_types.specs.Steps.{member_step, targets_if}
 use Rattle.dw_types.proofs.RowLemmas.{HasSteps, steps-plain}
 
+neither-or : (a b c d : Bool) → a ≡ false → d ≡ false → ((a && b) || (c && d)) ≡ true → ⊥
+neither-or true b c d not_a not_d either = true≢false not_a
+neither-or false b c true not_a not_d either = true≢false not_d
+neither-or false b true false not_a not_d either = false≢true either
+neither-or false b false false not_a not_d either = false≢true either
+
 -- whose tag is none of those that are asked
 module _ (entry : Facts) (unasked : is_asked entry.tag ≡ false) where
   not-tag : (asked : ℕ) → is_asked asked ≡ true → nat_eq entry.tag asked ≡ false
-  not-tag asked is = false_from_ne_true (nat_eq entry.tag asked) (λ same. let e : entry.tag ≡ asked = eqb-true entry.tag asked same in let no : is_asked entry.tag ≡ true = ap is_asked e ∙ is in cc)
+  not-tag asked is = false_from_ne_true (nat_eq entry.tag asked) (λ same. let e : entry.tag ≡ asked = eqb-true entry.tag asked same in true≢false (sym (ap is_asked e ∙ is) ∙ unasked))
 
   abbrev AreAsked : List ℕ → Type 0
   AreAsked [] = Unit {0}
@@ -43,9 +50,9 @@ module _ (entry : Facts) (unasked : is_asked entry.tag ≡ false) where
   unasked-role = rw (not-one container_tags (refl, (refl, tt)), not-tag DW_TAG_array_type refl) refl
 
   pub unasked-shape : (parent : Role) (rule : Rule) → breaks_shape parent entry rule ≡ true → ⊥
-  unasked-shape parent MissingType breaks = let array = not-tag DW_TAG_array_type refl in let member = not-tag DW_TAG_member refl in let no : false ≡ true = rw (array, member) at breaks in absurd cc
-  unasked-shape parent BadCount breaks = let subrange = not-tag DW_TAG_subrange_type refl in let no : false ≡ true = rw subrange at breaks in absurd cc
-  unasked-shape parent _ breaks = absurd cc
+  unasked-shape parent MissingType breaks = let array = not-tag DW_TAG_array_type refl in let member = not-tag DW_TAG_member refl in false≢true (rw (array, member) at breaks)
+  unasked-shape parent BadCount breaks = let subrange = not-tag DW_TAG_subrange_type refl in false≢true (rw subrange at breaks)
+  unasked-shape parent _ breaks = false≢true breaks
 
   unasked-kind : kind_of entry ≡ NoType
   unasked-kind =
@@ -64,18 +71,15 @@ module _ (entry : Facts) (unasked : is_asked entry.tag ≡ false) where
   unasked-wants = rw (not-tag DW_TAG_base_type refl, not-one container_tags (refl, (refl, tt)), not-tag DW_TAG_array_type refl) refl
 
   unasked-size_none : has_no_size entry ≡ true → ⊥
-  unasked-size_none breaks =
-      let reads : reads_own (kind_of entry) ≡ false = ap reads_own unasked-kind in
-      let wants = unasked-wants in
-      grind (arith, reads, wants, breaks)
+  unasked-size_none breaks = neither-or (reads_own (kind_of entry)) (is_negative entry.byte_size) (not (is_present entry.byte_size)) (wants_own entry) (ap reads_own unasked-kind) unasked-wants breaks
 
   -- where it has no size, no rule on sizes is broken
   pub unasked-sized : (parent : Role) (container type_size : Size) (rule : Rule) → breaks_size parent entry None container type_size rule ≡ true → ⊥
   unasked-sized parent container type_size NoSize breaks = unasked-size_none breaks
-  unasked-sized parent container type_size SizeTooGreat breaks = absurd cc
-  unasked-sized parent container type_size MemberOutside breaks = let member = not-tag DW_TAG_member refl in let no : false ≡ true = rw member at breaks in absurd cc
-  unasked-sized parent container type_size EnumSize breaks = let enumeration = not-tag DW_TAG_enumeration_type refl in let no : false ≡ true = rw enumeration at breaks in absurd cc
-  unasked-sized parent container type_size _ breaks = absurd cc
+  unasked-sized parent container type_size SizeTooGreat breaks = false≢true breaks
+  unasked-sized parent container type_size MemberOutside breaks = let member = not-tag DW_TAG_member refl in false≢true (rw member at breaks)
+  unasked-sized parent container type_size EnumSize breaks = let enumeration = not-tag DW_TAG_enumeration_type refl in false≢true (rw enumeration at breaks)
+  unasked-sized parent container type_size _ breaks = false≢true breaks
 
 -- it has no size in a table that obeys the capped lines, and so breaks no rule on sizes
 pub unasked-size : (entries : List Facts) (table : ℕ → Size) (node : ℕ) → table node ≡ cap_size (2 ^ 63) (size_line entries table node) → is_asked (entry_at entries node).tag ≡ false → (rule : Rule) → fails_size entries table node rule ≡ true → ⊥

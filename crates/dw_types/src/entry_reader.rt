@@ -33,11 +33,7 @@ fn asked_value<'a>(entry: &EntryAt<'_, 'a>, attribute: Attribute) -> Option<Valu
     ensures { IfSome entry.now (λ e. option_map view result ≡ asked_value e attribute) }
 {
     match entry.value(attribute) {
-        Some(value) => if is_asked(entry) {
-            Some(value)
-        } else {
-            None
-        },
+        Some(value) => if is_asked(entry) { Some(value) } else { None },
         None => None,
     }
 }

@@ -1,15 +1,18 @@
-use Rattle.std.proofs.Common.{◌≡◌, ℕ, ◌+◌, ◌<◌, [], ◌∷◌, ◌++◌, Some, length, arith, sym, ap, ◌∙◌}
+use Rattle.std.proofs.Common.{◌≡◌, ℕ, ◌+◌, ◌<◌, ◌≤◌, [], ◌∷◌, ◌++◌, Some, length, arith, sym, ap, ◌∙◌}
 use Rattle.dw_types.specs.declared.kind.Role.{Role}
 use Rattle.dw_types.specs.Entries.{entry_at}
 use Rattle.dw_types.specs.Kinds.{parent_role}
 use Rattle.dw_types.specs.Roles.{roles_of_first}
 use Rattle.dw_types.specs.Shapes.{fails_shape}
-use Rattle.dw_types.proofs.FirstLemmas.{first-here, first-of_entries, passes-more}
+use Rattle.dw_types.proofs.FirstLemmas.{first-here, first-of_entries, none-of_entries, passes-more}
 use Rattle.dw_types.proofs.RoleLemmas.{parent-listed, role-listed, roles-more}
 use Rattle.dw_types.proofs.RowLemmas.{member-target, steps-all, steps-member, steps-none, steps-plain}
 use Rattle.dw_types.proofs.UnaskedLemmas.{unasked-role, unasked-shape, unasked-steps}
 use Rattle.dw_types.proofs.by_value.steps_of.Goals as goal
 use Rattle.dw_types.proofs.by_value.steps_of.Goals.{in-Some-member_of+in_ok-add-3, in_default-member_of}
+
+pub at-entry-requires : goal.at-entry-requires
+at-entry-requires c = rw c.loop-child.invariant.3 (rw (← c.count-child-end.ensures) c.loop-child-test.true)
 
 pub of_parent-parent-requires : goal.of_parent-parent-requires
 of_parent-parent-requires c =
@@ -38,6 +41,9 @@ add-requires-in-Some-member_of-clause-to c = λ node is.
     let same : c.in-Some-member_of.to ≡ node = cc in
     let few = c.requires.few in
     omega arith
+
+pub member_of-requires-clause-entry : goal.member_of-requires-clause-entry
+member_of-requires-clause-entry c = rw c.loop-child.invariant.3 at c.at-entry.ensures.found
 
 pub member_of-requires-clause-parent : goal.member_of-requires-clause-parent
 member_of-requires-clause-parent c =
@@ -111,3 +117,12 @@ returns-clause-rows c =
     let entries = c.args.entries.now in
     let all : c.loop-child.child ≡ length entries = let over = c.loop-child-test.false in let within = c.loop-child.auto.child-end in let count = c.count-child-end.ensures in omega arith in
     steps-all entries c.loop-child.steps.items (rw all at c.loop-child.invariant.0)
+
+pub returns-clause-leads : goal.returns-clause-leads
+returns-clause-leads c = c.loop-child.invariant.0.leads
+
+pub returns-clause-sound : goal.returns-clause-sound
+returns-clause-sound c =
+    let entries = c.args.entries.now in
+    let over : length entries ≤ c.loop-child.child = rw (← c.count-child-end.ensures) c.loop-child-test.false in
+    none-of_entries entries (fails_shape entries) (λ node below. c.loop-child.invariant.2 node (omega arith))
