@@ -126,6 +126,7 @@ valid_by image =
       sizes = (size_table_in image, m.sizes);
     }
 
+-- no rule on sizes fails by the table that an image keeps
 sizes_of : (image : Image) → HasSizes (facts_in (units_in image)) (size_table_in image)
 unfolding units_in size_table_in
 sizes_of image = image.measured.sizes

@@ -12,10 +12,11 @@ mod verifying;
 
 pub use children::Children;
 pub use dw_entries::{EntryId, Fault, Head, Rule, Section};
+pub use dw_types::NoMemory;
 pub use id::TypeId;
 pub use image::Image;
 pub use laws::{images_are_sound, one_first_fault, one_list, valid_has_no_fault};
-pub use verifying::{NoMemory, Verdict, verify};
+pub use verifying::{Verdict, verify};
 
 #[cfg(test)]
 mod tests;

@@ -8,17 +8,8 @@ use crate::measuring::measure;
 use dw_elf::Sections;
 use dw_entries::{Fault, Stop, scan};
 use dw_links::{check_classes, check_strings, link};
-use std::alloc::{AllocError, Global};
-
-/// A growth was refused.
-#[derive(Clone, Copy, Debug, PartialEq, Eq)]
-pub struct NoMemory;
-
-impl From<AllocError> for NoMemory {
-    fn from(_error: AllocError) -> NoMemory {
-        NoMemory
-    }
-}
+use dw_types::NoMemory;
+use std::alloc::Global;
 
 /// What sections are found to be.
 #[derive(Drop)]
