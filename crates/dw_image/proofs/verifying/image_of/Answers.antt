@@ -20,3 +20,12 @@ returns-in-Err-measure-clause-fault c =
 
 pub returns-clause-sound : goal.returns-clause-sound
 returns-clause-sound c = image_of c.args.sections _ c.in_ok-entries.ensures.same
+
+pub invariant_of-result : goal.invariant_of-result
+invariant_of-result c = record {
+  linked = rw c.in-Ok.ensures.entries at c.into_tables-tables.ensures;
+  classes = c.in_default.ensures.ok;
+  strings = c.in_default-check_strings.ensures.ok;
+  references = c.in-Ok.ensures.ok;
+  measured = c.in-Ok-measure.ensures.sound;
+}
