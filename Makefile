@@ -12,6 +12,7 @@ all:
 .PHONY: test
 test:
 	rt ci
+	tests/rows.py
 	tests/real-programs.sh
 	tests/hostile-files.py
 	tests/refused-growths.py

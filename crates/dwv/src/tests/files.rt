@@ -1,78 +1,53 @@
 use super::devices::{SlowReader, SlowWriter};
-use super::elf::file_of;
-use super::reports;
-use super::sections::{A, B, joined};
 use crate::device::Device;
 use crate::request::{Request, RunFault, Status};
 use crate::running::{run, run_within};
-use dw_elf::Sections;
-use std::alloc::{AllocError, Global};
 use std::test::Fail;
 
 const CHECK: Request = Request::Check { json: false };
 
 const SOUND: &str = "sound: 1 units, 2 entries, 1 types";
 
-/// The file of the sections A and B, which has 400 bytes.
-fn sample(alloc: Global) -> Result<Vec<u8>, Fail> {
-    let sections = Sections::new(&A, &B, &[], &[], &[], &[]).ok();
-    Ok(file_of(alloc, &sections.ok_or("sections")?)?)
-}
+/// The parts of a file that are not zero, and where they begin.
+const PARTS: [(usize, &[u8]); 17] = [
+    // the file header
+    (0, b"\x7fELF\x02\x01\x01"),
+    (0x10, &[2]),
+    (0x28, &[0x90]),
+    (0x3a, &[64]),
+    (0x3c, &[4]),
+    (0x3e, &[3]),
+    // .debug_abbrev: a compile unit with a name, a base type with a name, a size and an encoding
+    (0x40, &[0x01, 0x11, 1, 0x03, 0x08]),
+    (0x47, &[0x02, 0x24, 0, 0x03, 0x08, 0x0b, 0x0b, 0x3e, 0x0b]),
+    // .debug_info: a unit with the base type `int`
+    (0x53, &[0x13, 0, 0, 0, 5, 0, 1, 8]),
+    (0x5f, b"\x01a\x00\x02int\x00\x04\x05"),
+    // the name table
+    (0x6b, b".debug_abbrev\x00.debug_info\x00.shstrtab"),
+    // the section headers: name and type, offset, size
+    (0xd0, &[0x01, 0, 0, 0, 1]),
+    (0xe8, &[0x40, 0, 0, 0, 0, 0, 0, 0, 19]),
+    (0x110, &[0x0f, 0, 0, 0, 1]),
+    (0x128, &[0x53, 0, 0, 0, 0, 0, 0, 0, 23]),
+    (0x150, &[0x1b, 0, 0, 0, 3]),
+    (0x168, &[0x6a, 0, 0, 0, 0, 0, 0, 0, 37]),
+];
 
-// The sample with a byte changed.
-#[test]
-fn section_headers(rt: HostRuntime) -> Result<(), Fail> {
-    let file = sample(rt.alloc())?;
-    assert_eq!(rt; file.len(), 400);
-    assert!(rt; reports(rt.alloc(), file.as_slice(), CHECK, SOUND)?);
-    let rows = [
-        (60, 5, "fault E4 SectionTable at section 0"),
-        (0x110, 0x25, "fault E5 SectionName at section 2"),
-        (0x110, 0x24, "fault E9 NoInfo at section 0"),
-        (0x110, 1, "fault E8 SectionTwice at section 2"),
-        (0x114, 8, "fault E10 NoBits at section 2"),
-        (0x119, 8, "fault E7 Compressed at section 2"),
-        (0x132, 1, "fault E6 SectionRange at section 2"),
-    ];
-    for (place, byte, line) in rows {
-        let changed = joined(rt.alloc(), &[file.as_slice()], &[(place, byte)])?;
-        assert!(rt;
-            reports(rt.alloc(), changed.as_slice(), CHECK, line)?,
-            "{line}"
-        );
+/// A sound file of 400 bytes.
+fn sample() -> [u8; 400] {
+    let mut file = [0; 400];
+    for (start, bytes) in &PARTS {
+        for (byte, place) in bytes.iter().zip(file.iter_mut().skip(*start)) {
+            *place = *byte;
+        }
     }
-    Ok(())
-}
-
-// Files without sections, and every beginning of the sample.
-#[test]
-fn no_files(rt: HostRuntime) -> Result<(), Fail> {
-    let mut header = [0; 64];
-    header[..7].copy_from_slice(b"\x7fELF\x02\x01\x01");
-    let rows = [
-        (2, "fault E4 SectionTable at section 0"),
-        (1, "fault E3 NotLinked at section 0"),
-    ];
-    for (kind, line) in rows {
-        header[16] = kind;
-        assert!(rt; reports(rt.alloc(), &header, CHECK, line)?, "{line}");
-    }
-    let file = sample(rt.alloc())?;
-    for len in 0..400 {
-        let line = if len < 64 {
-            "fault E2 NotElf64 at section 0"
-        } else {
-            "fault E4 SectionTable at section 0"
-        };
-        let beginning = file.as_slice().get(..len).ok_or("short")?;
-        assert!(rt; reports(rt.alloc(), beginning, CHECK, line)?, "{len} bytes");
-    }
-    Ok(())
+    file
 }
 
 #[test]
 fn longer_than_the_limit(rt: HostRuntime) -> Result<(), Fail> {
-    let file = sample(rt.alloc())?;
+    let file = sample();
     for (limit, line) in [
         (399, "fault E1 TooLarge at section 0\n"),
         (400, "sound: 1 units, 2 entries, 1 types\n"),
@@ -85,41 +60,10 @@ fn longer_than_the_limit(rt: HostRuntime) -> Result<(), Fail> {
     Ok(())
 }
 
-#[test]
-fn objects(rt: HostRuntime) -> Result<(), Fail> {
-    let json = Request::Check { json: true };
-    let file = sample(rt.alloc())?;
-    let rows = [
-        (
-            0,
-            0x7f,
-            "{\"entries\":2,\"sound\":true,\"types\":1,\"units\":1}",
-        ),
-        (
-            0x62,
-            3,
-            "{\"at\":15,\"attribute\":0,\"cycle\":[],\"name\":\"UndeclaredCode\",\"rule\":\"G1\",\"section\":\".debug_info\",\"sound\":false}",
-        ),
-        (
-            0x114,
-            8,
-            "{\"at\":2,\"attribute\":0,\"cycle\":[],\"name\":\"NoBits\",\"rule\":\"E10\",\"section\":\"file\",\"sound\":false}",
-        ),
-    ];
-    for (place, byte, object) in rows {
-        let changed = joined(rt.alloc(), &[file.as_slice()], &[(place, byte)])?;
-        assert!(rt;
-            reports(rt.alloc(), changed.as_slice(), json, object)?,
-            "{object}"
-        );
-    }
-    Ok(())
-}
-
 // A reader that gives a byte a call and fails at each call in turn: 400 bytes, and the end.
 #[test]
 fn failing_reads(rt: HostRuntime) -> Result<(), Fail> {
-    let file = sample(rt.alloc())?;
+    let file = sample();
     for fails_at in 1..403 {
         let mut reader = Device::new(SlowReader {
             rest: file.as_slice(),
@@ -141,7 +85,7 @@ fn failing_reads(rt: HostRuntime) -> Result<(), Fail> {
 // A writer that takes a byte a call and fails, or takes none, at each call in turn: 35 bytes.
 #[test]
 fn failing_writes(rt: HostRuntime) -> Result<(), Fail> {
-    let file = sample(rt.alloc())?;
+    let file = sample();
     for takes_none in [false, true] {
         for fails_at in 1..37 {
             let mut reader = Device::new(file.as_slice());

@@ -1,0 +1,209 @@
+#!/usr/bin/env python3
+"""Runs the program on the rows of tests/rows: small files made of named parts, and what it must print of each.
+
+A part gives bytes a name. A row has the sections of a file, and below them the requests: the words, the exit status and,
+after a bar each, the lines of standard output. Standard error must be empty. docs/TESTING.md says how rows are written.
+It prints one line a row and ends with 'N passed, M failed'.
+"""
+import pathlib
+import re
+import struct
+import subprocess
+import sys
+import tempfile
+
+HERE = pathlib.Path(__file__).resolve().parent
+CRATE = HERE.parent / "crates/dwv"
+DWV = CRATE / "out/dwv"
+SECTIONS = ("abbrev", "info", "str", "line_str", "str_offsets", "addr")
+TOKEN = re.compile(r'\s*("[^"]*"|[0-9a-f]{2}\b|[A-Z]\w*|unit4?\(|type_unit\(|\(|\)|\[[^\]]*\]|\*\d+)')
+REQUEST = re.compile(r"(check --json|check|show|types|size 0x[0-9a-f]+) ([0-4])(?: \| (.*))?$")
+
+
+class Bytes:
+    """Reads the bytes that a text gives, with parts by name."""
+
+    def __init__(self, text, parts):
+        self.text, self.parts, self.at = text, parts, 0
+
+    def next(self):
+        """The next word, or None at the end."""
+        found = TOKEN.match(self.text, self.at)
+        if found:
+            self.at = found.end()
+            return found[1]
+        if self.text[self.at :].strip():
+            raise ValueError(f"no bytes: {self.text[self.at :]}")
+        return None
+
+    def all(self, is_inner=False):
+        """All that follows, up to the end or a closing parenthesis."""
+        done, last = b"", b""
+        while (word := self.next()) not in (None, ")"):
+            if word[0] == "[":
+                last = self.changed(last, word[1:-1])
+            elif word[0] == "*":
+                last *= int(word[1:])
+            else:
+                done, last = done + last, self.one(word)
+        if is_inner != (word == ")"):
+            raise ValueError("a parenthesis without its other one")
+        return done + last
+
+    def one(self, word):
+        """The bytes of a word: a byte, a text, a part, or what stands in parentheses."""
+        if word[0] == '"':
+            return word[1:-1].encode()
+        if word[0].isupper():
+            return self.parts[word]
+        if word[-1] == "(":
+            return made(word[:-1], self.all(is_inner=True))
+        return bytes.fromhex(word)
+
+    def changed(self, old, change):
+        """Bytes up to an offset, from an offset on, or with others in place of those at an offset."""
+        if change.startswith(".."):
+            return old[: int(change[2:], 16)]
+        if change.endswith(".."):
+            return old[int(change[:-2], 16) :]
+        at, new = change.split("=")
+        at, new = int(at, 16), Bytes(new, self.parts).all()
+        if at + len(new) > len(old):
+            raise ValueError(f"no byte to change: {change}")
+        return old[:at] + new + old[at + len(new) :]
+
+
+def made(kind, items):
+    """Items as they are, or as a unit with addresses of 8 bytes and the first table."""
+    heads = {
+        "unit": struct.pack("<HBBI", 5, 1, 8, 0),
+        "unit4": struct.pack("<HIB", 4, 0, 8),
+        "type_unit": struct.pack("<HBBIQI", 5, 2, 8, 0, 1, 0x19),
+    }
+    if not kind:
+        return items
+    body = heads[kind] + items
+    return struct.pack("<I", len(body)) + body
+
+
+def elf(sections, more):
+    """A linked ELF64 file: .debug_info and the sections that are not empty, more sections, and the name table."""
+    kept = [(f".debug_{name}", 1, sections[name]) for name in SECTIONS if sections[name] or name == "info"] + more
+    names, headers, body = b"\0", [bytes(64)], b""
+    for name, kind, data in [*kept, (".shstrtab", 3, None)]:
+        at, names = len(names), names + name.encode() + b"\0"
+        data = names if data is None else data
+        headers.append(struct.pack("<IIQQQQIIQQ", at, kind, 0, 0, 64 + len(body), len(data), 0, 0, 0, 0))
+        body += data
+    body += bytes(-len(body) % 8)
+    ident = b"\x7fELF\x02\x01\x01" + bytes(9)
+    start, count = 64 + len(body), len(headers)
+    head = struct.pack("<HHIQQQIHHHHHH", 2, 0, 0, 0, 0, start, 0, 0, 0, 0, 64, count, count - 1)
+    return ident + head + body + b"".join(headers)
+
+
+class Row:
+    """A row: its name, its sections, in each of its cases the texts for `$1`, `$2` and so on, and its requests."""
+
+    def __init__(self, name):
+        self.name, self.sections, self.more, self.file, self.cases, self.asked = name, {}, [], "FILE", [], []
+
+    def add(self, line):
+        """Takes a line below the row's first."""
+        word, _, rest = line.partition(" ")
+        if word == "|":
+            self.asked[-1][2].append(rest)
+        elif word in SECTIONS:
+            self.sections[word] = rest
+        elif word == "section":
+            name, kind, *data = rest.split(" ", 2)
+            self.more.append((name.strip('"'), int(kind, 16), "".join(data)))
+        elif word == "file":
+            self.file = rest
+        elif word == "each":
+            self.cases += [[f"{n:02x}"] for some in rest.split() for n in numbers(some)]
+        elif word == "case":
+            self.cases.append([text.strip() for text in rest.split(";")])
+        elif found := REQUEST.match(line):
+            self.asked.append((found[1].split(), int(found[2]), [] if found[3] is None else [found[3]]))
+        else:
+            raise ValueError(f"no line of a row: {line}")
+
+    def files(self, parts):
+        """The file of each case, and the case."""
+        for case in self.cases or [[]]:
+            def of(text, parts=parts):
+                return Bytes(filled(text, case), parts).all()
+
+            sections = {name: of(self.sections.get(name, "")) for name in SECTIONS}
+            whole = elf(sections, [(name, kind, of(data)) for name, kind, data in self.more])
+            yield of(self.file, {**parts, "FILE": whole}), case
+
+
+def filled(text, case):
+    """A text with those of a case in it."""
+    return re.sub(r"\$(\d)", lambda found: case[int(found[1]) - 1], text)
+
+
+def numbers(text):
+    """A number, or all from one to another."""
+    first, _, last = text.partition("..")
+    return range(int(first, 16), int(last or first, 16) + 1)
+
+
+def read(path, parts):
+    """The rows of a file. Its parts are added to the others."""
+    rows, part = [], None
+    for number, line in enumerate(path.read_text().splitlines(), 1):
+        line = line if line.lstrip().startswith("|") else re.sub(r"(^|\s+)#.*", "", line)
+        try:
+            if line.startswith("part "):
+                part = line.removeprefix("part ")
+                parts[part] = b""
+            elif line.startswith("row "):
+                part = None
+                rows.append(Row(line.removeprefix("row ")))
+            elif line and part:
+                parts[part] += Bytes(line, parts).all()
+            elif line:
+                rows[-1].add(line.strip())
+        except (ValueError, KeyError, IndexError) as error:
+            sys.exit(f"{path}:{number}: {error!r}")
+    return rows
+
+
+def wrong(row, parts, path):
+    """How many runs a row has, and how the first of them that is wrong ends."""
+    runs = 0
+    for file, case in row.files(parts):
+        path.write_bytes(file)
+        for (command, *words), status, lines in row.asked:
+            runs += 1
+            ran = subprocess.run([DWV, command, path, *words], capture_output=True, timeout=60)
+            want = (status, "".join(f"{filled(line, case)}\n" for line in lines).encode(), b"")
+            if (ran.returncode, ran.stdout, ran.stderr) != want:
+                asked = " ".join([command, *words, *(f"({text})" for text in case)])
+                return runs, f"{asked}: {ran.returncode} {ran.stdout} {ran.stderr}"
+    return runs, None if runs else "nothing is asked"
+
+
+def main():
+    passed = failed = 0
+    parts, tables = {}, sorted((HERE / "rows").glob("*.txt"), key=lambda it: (it.name != "parts.txt", it.name))
+    if not DWV.exists():
+        subprocess.run(["rt", "run", "--", "check", "data/X1"], cwd=CRATE, check=True)
+    with tempfile.TemporaryDirectory() as folder:
+        for table in tables:
+            own = dict(parts)
+            for row in read(table, parts if table.name == "parts.txt" else own):
+                try:
+                    runs, why = wrong(row, own, pathlib.Path(folder) / "file")
+                except (ValueError, KeyError, IndexError) as error:
+                    runs, why = 0, f"the file cannot be made: {error!r}"
+                passed, failed = passed + (why is None), failed + (why is not None)
+                print(f"{'passed' if why is None else 'FAILED'} {table.stem}: {row.name}: {why or f'{runs} runs'}")
+    print(f"{passed} passed, {failed} failed")
+    return 1 if failed else 0
+
+
+sys.exit(main())
