@@ -87,8 +87,10 @@ def made(kind, items):
 
 
 def elf(sections, more):
-    """A linked ELF64 file: .debug_info and the sections that are not empty, more sections, and the name table."""
-    kept = [(f".debug_{name}", 1, sections[name]) for name in SECTIONS if sections[name] or name == "info"] + more
+    """A linked ELF64 file: the sections that are not empty, more sections, and the name table. It has .debug_info."""
+    kept = [(f".debug_{name}", 1, sections[name]) for name in SECTIONS if sections[name]] + more
+    if ".debug_info" not in [name for name, _, _ in kept]:
+        kept.append((".debug_info", 1, b""))
     names, headers, body = b"\0", [bytes(64)], b""
     for name, kind, data in [*kept, (".shstrtab", 3, None)]:
         at, names = len(names), names + name.encode() + b"\0"

@@ -11,8 +11,6 @@ mod names;
 mod section_header;
 mod section_table;
 mod sections;
-#[cfg(test)]
-mod tests;
 
 pub use crate::fault::{ElfFault, ElfRule, TooLarge};
 pub use crate::finding::{find, one_fault, one_section};

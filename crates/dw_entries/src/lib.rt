@@ -38,6 +38,3 @@ pub use rule::Rule;
 pub use scanning::scan;
 pub use units::Units;
 pub use values::{Choice, Values};
-
-#[cfg(test)]
-mod tests;

@@ -34,6 +34,3 @@ pub use leb::{NumberFault, read_sleb, read_uleb};
 pub use shared_table::{RowPlace, SharedTable};
 pub use value::{Value, ValueFault};
 pub use value_reader::{read_value, skip_value};
-
-#[cfg(test)]
-mod tests;

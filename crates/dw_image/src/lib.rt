@@ -17,6 +17,3 @@ pub use id::TypeId;
 pub use image::Image;
 pub use laws::{images_are_sound, one_first_fault, one_list, valid_has_no_fault};
 pub use verifying::{Verdict, verify};
-
-#[cfg(test)]
-mod tests;

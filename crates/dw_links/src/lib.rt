@@ -23,6 +23,3 @@ pub use laws::{one_entry_is_reached, references_have_targets, strings_have_texts
 pub use links::{Links, link};
 pub use strings::check_strings;
 pub use unit_tables::UnitTables;
-
-#[cfg(test)]
-mod tests;

@@ -1,5 +1,4 @@
 pub mod ListLemmas
-pub mod PlainGraphLemmas
 pub mod ParentLemmas
 pub mod TargetLemmas
 pub mod FactsLemmas

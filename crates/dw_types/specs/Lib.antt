@@ -13,7 +13,6 @@ pub mod Walks
 pub mod Packing
 pub mod PackingLaws
 pub mod Steps
-pub mod Rows
 pub mod StepLists
 pub mod TypeFailures
 pub mod Counts

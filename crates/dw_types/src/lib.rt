@@ -42,6 +42,3 @@ pub use packed::Packed;
 pub use ranking::{Order, OrderFault};
 pub use size_table::SizeTable;
 pub use sizing::sizes;
-
-#[cfg(test)]
-mod tests;

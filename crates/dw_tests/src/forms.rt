@@ -1,0 +1,6 @@
+//! Numbers, tables and values.
+
+mod numbers;
+mod rows;
+mod tables;
+mod values;

@@ -1,0 +1,17 @@
+//! Tests of the libraries: public calls whose results no run of the program shows, and values that no clause says.
+#![tactic(auto)]
+
+#[cfg(test)]
+mod elf;
+#[cfg(test)]
+mod entries;
+#[cfg(test)]
+mod forms;
+#[cfg(test)]
+mod image;
+#[cfg(test)]
+mod links;
+#[cfg(test)]
+mod types;
+#[cfg(test)]
+mod vectors;
