@@ -8,10 +8,15 @@ all:
 	cd crates/dwv && rt run -- check data/X1
 	@echo "The program is crates/dwv/out/dwv: copy it where you like."
 
+# How many checks `make test` runs side by side: one a processor, if there are 3 GB of memory for each. With RT_JOBS each has
+# one job, which costs the least processor time: jobs that share a check each load all that it stands on.
+memory = $(shell awk '/MemAvailable/ { print int($$2 / 3000000) }' /proc/meminfo)
+checks = $(shell printf '%d\n' $$(nproc) $(memory) | sort -n | head -n 1)
+
 # Proves everything from nothing, tries the must-fail edits, and runs every test.
 .PHONY: test
 test:
-	rt ci
+	RT_JOBS=$(checks) rt ci
 	tests/rows.py
 	tests/real-programs.sh
 	tests/hostile-files.py
