@@ -1,8 +1,8 @@
 #!/usr/bin/env python3
-"""Refuses each growth of memory in turn: the answer is then want of memory, with nothing written, or the same as ever.
+"""Refuses requests for memory: `dwv` then ends with status 4 and writes nothing, or answers as ever.
 
-Every request for memory that `dwv` makes on a file is refused once, by a malloc of our own (tests/refusing-malloc.c). It prints
-one line a command and ends with 'N passed, M failed'. Where there is no gcc it is skipped.
+Each request that `dwv` makes on a file is refused by a malloc of our own (tests/refusing-malloc.c): once alone, and once with all
+requests after it. The script prints one line a command and ends with 'N passed, M failed'. Without gcc it is skipped.
 """
 import os
 import pathlib
@@ -15,27 +15,31 @@ HERE = pathlib.Path(__file__).resolve().parent
 DWV = HERE.parent / "crates/dwv/out/dwv"
 SMALL = HERE.parent / "crates/dwv/data/X1"
 MEMORY = (4, b"", b"dwv: out of memory\n")
+# A number past those of all requests.
+ALL = 2**32
 
 
-def ran(words, library, folder, refused):
-    """The status and both texts of a run in which one request is refused, and how many requests it made."""
+def ran(words, library, folder, refused, last):
+    """The status and both texts of a run in which the requests from one to another are refused, and how many it made."""
     count = folder / "requests"
     count.unlink(missing_ok=True)
-    environment = dict(os.environ, LD_PRELOAD=str(library), REFUSED=str(refused), REQUESTS=str(count))
+    environment = dict(os.environ, LD_PRELOAD=str(library), REFUSED=str(refused), LAST=str(last), REQUESTS=str(count))
     run = subprocess.run([DWV, *words], capture_output=True, env=environment, timeout=60)
     return (run.returncode, run.stdout, run.stderr), int(count.read_text()) if count.exists() else 0
 
 
 def tried(words, library, folder):
     """How many requests a run makes, how many of them end it when they are refused, and the first wrong answer."""
-    whole, requests = ran(words, library, folder, 0)
+    whole, requests = ran(words, library, folder, 0, 0)
     ended = 0
     for number in range(1, requests + 1):
-        said, _ = ran(words, library, folder, number)
-        if said == MEMORY:
-            ended += 1
-        elif said != whole:
-            return requests, ended, f"request {number} refused: {said!r}"
+        for last in (number, ALL):
+            said, _ = ran(words, library, folder, number, last)
+            if said == MEMORY:
+                ended += last == number
+            elif said != whole:
+                later = "" if last == number else " and all after it"
+                return requests, ended, f"request {number}{later} refused: {said!r}"
     return requests, ended, None
 
 
