@@ -1,0 +1,186 @@
+#!/usr/bin/env python3
+"""Runs `dwv check` on broken programs: fuzz.py [SECONDS] [SEED].
+
+It compiles the programs of tests/programs with gcc and clang in versions 4 and 5, and changes each copy in one to three steps,
+inside the six sections: 1 to 8 bytes are changed, a range is cut, copied over another, or swapped with another. Of each file:
+
+- `dwv check` ends within the time limit, with a line of docs/REPORTS.md and the exit status that belongs to it;
+- a second run writes the same bytes, and `check --json` has the same exit status;
+- the second reader (crates/slow_reader) finds the same fault of the rules E, A, U and G, or none.
+
+It prints the rules that were met, how often, and ends with 'N files agreed, M did not'. A file that does not agree is kept in the
+folder of temporary files, with its name printed.
+"""
+import collections
+import pathlib
+import random
+import re
+import shutil
+import struct
+import subprocess
+import sys
+import tempfile
+import time
+
+ROOT = pathlib.Path(__file__).resolve().parent.parent
+DWV = ROOT / "crates/dwv/out/dwv"
+SLOW = ROOT / "crates/slow_check/out/slow_check"
+PROGRAMS = ROOT / "tests/programs"
+SECTIONS = {".debug_abbrev", ".debug_info", ".debug_str", ".debug_line_str", ".debug_str_offsets", ".debug_addr"}
+# Seconds that a run of dwv may take at most, far above what it takes.
+LIMIT = 20
+# Files that the second reader gets in one run.
+BATCH = 50
+SOUND = re.compile(r"sound: \d+ units, \d+ entries, \d+ types\n")
+FAULT = re.compile(
+    r"fault ([A-Z]\d+ \w+) at (section \d+|\.debug_(abbrev|info)\+0x[0-9a-f]{8} attribute 0x[0-9a-f]+)\n(cycle( 0x[0-9a-f]{8})+\n)?"
+)
+# The rules that the second reader knows.
+READ = ("E", "A", "U", "G")
+
+
+def built(folder):
+    """Programs of the compilers that are installed, as bytes."""
+    programs = []
+    for compiler in ("gcc", "clang"):
+        if not shutil.which(compiler):
+            print(f"skipped: {compiler} is not installed")
+            continue
+        for version in (5, 4):
+            for more in ([], ["-fdebug-types-section"]):
+                for source in ("library.c", "shapes.c"):
+                    out = folder / "program"
+                    flags = [f"-gdwarf-{version}", "-O0", "-w", "-fPIC", "-shared", *more]
+                    done = subprocess.run([compiler, *flags, "-o", out, PROGRAMS / source], capture_output=True)
+                    if done.returncode == 0:
+                        programs.append(out.read_bytes())
+    return programs
+
+
+def ranges(program):
+    """The number of the header, the offset and the size of each of the six sections that the program has."""
+    table, = struct.unpack_from("<Q", program, 40)
+    count, names = struct.unpack_from("<HH", program, 60)
+    headers = [struct.unpack_from("<IIQQQQ", program, table + 64 * k) for k in range(count)]
+    found = []
+    for k, (name, _, _, _, offset, size) in enumerate(headers):
+        at = headers[names][4] + name
+        text = program[at:program.index(b"\0", at)].decode()
+        if text in SECTIONS and size > 0:
+            found.append((table + 64 * k, offset, size))
+    return found
+
+
+def changed(program, chance):
+    """The program with one to three changes inside its sections."""
+    file = bytearray(program)
+    sections = ranges(program)
+    for _ in range(chance.randint(1, 3)):
+        header, offset, size = chance.choice(sections)
+        size, = struct.unpack_from("<Q", file, header + 32)
+        if size == 0:
+            continue
+        step = chance.choice(["bytes", "bytes", "bytes", "cut", "copy", "swap"])
+        if step == "bytes":
+            for _ in range(chance.randint(1, 8)):
+                old = file[offset + (at := chance.randrange(size))]
+                file[offset + at] = chance.choice([chance.randrange(256), old ^ 1 << chance.randrange(8), 0, 0x7f, 0x80, 0xff])
+            continue
+        length = chance.randint(1, min(size, 64))
+        one, two = chance.randint(0, size - length), chance.randint(0, size - length)
+        if step == "cut":
+            file[offset + one:offset + size] = file[offset + one + length:offset + size] + bytes(length)
+            struct.pack_into("<Q", file, header + 32, size - length)
+        elif step == "copy":
+            file[offset + two:offset + two + length] = file[offset + one:offset + one + length]
+        elif abs(one - two) >= length:
+            part = file[offset + one:offset + one + length]
+            file[offset + one:offset + one + length] = file[offset + two:offset + two + length]
+            file[offset + two:offset + two + length] = part
+    return bytes(file)
+
+
+def ran(words, file):
+    """The exit status and the text of a run of dwv, or the reason why there is none."""
+    try:
+        run = subprocess.run([DWV, *words, file], capture_output=True, timeout=LIMIT, text=True)
+    except subprocess.TimeoutExpired:
+        return None, f"no answer within {LIMIT} s"
+    return run.returncode, run.stdout if not run.stderr else run.stderr
+
+
+def judged(file):
+    """The line of a file, and what is wrong with how it is answered, if anything is."""
+    status, text = ran(["check"], file)
+    if status is None:
+        return text, text
+    if ran(["check"], file) != (status, text):
+        return text, "two runs differ"
+    if status != (0 if SOUND.fullmatch(text) else 1 if FAULT.fullmatch(text) else None):
+        return text, f"status {status} with {text!r}"
+    if ran(["check", "--json"], file)[0] != status:
+        return text, "another status with --json"
+    return text, None
+
+
+def rule_of(text):
+    """The rule of a line, or `sound`."""
+    fault = FAULT.fullmatch(text)
+    return fault.group(1) if fault else "sound"
+
+
+def agreed(files):
+    """Which of these files, each with its line, the second reader reads otherwise."""
+    said = subprocess.run([SLOW, *[file for file, _ in files]], capture_output=True, text=True, check=True).stdout.splitlines()
+    wrong = []
+    for (file, text), other in zip(files, said, strict=True):
+        first = text.split("\n")[0] if rule_of(text).startswith(READ) else "fine"
+        if other != first:
+            wrong.append((file, f"dwv: {text!r}, the second reader: {other!r}"))
+    return wrong
+
+
+def main():
+    seconds = float(sys.argv[1]) if len(sys.argv) > 1 else 60
+    seed = int(sys.argv[2]) if len(sys.argv) > 2 else random.randrange(2**32)
+    chance = random.Random(seed)
+    print(f"{seconds:g} seconds, seed {seed}")
+    met = collections.Counter()
+    wrong = []
+    count = 0
+    with tempfile.TemporaryDirectory() as name:
+        folder = pathlib.Path(name)
+        programs = built(folder)
+        if not programs:
+            print("0 files agreed, 0 did not")
+            return 0
+        end = time.monotonic() + seconds
+        while time.monotonic() < end:
+            files = []
+            for k in range(BATCH):
+                file = folder / f"{k}"
+                file.write_bytes(changed(chance.choice(programs), chance))
+                text, bad = judged(file)
+                met[rule_of(text) if bad is None else "no line"] += 1
+                if bad is not None:
+                    wrong.append((kept(file), bad))
+                else:
+                    files.append((file, text))
+            wrong += [(kept(file), bad) for file, bad in agreed(files)]
+            count += BATCH
+    for rule, times in sorted(met.items()):
+        print(f"{times:8} {rule}")
+    for file, bad in wrong:
+        print(f"FAILED {file}: {bad}")
+    print(f"{count - len(wrong)} files agreed, {len(wrong)} did not")
+    return 1 if wrong else 0
+
+
+def kept(file):
+    """A copy of a file that stays."""
+    copy = tempfile.mktemp(prefix="dwv-fuzz-")
+    shutil.copy(file, copy)
+    return copy
+
+
+sys.exit(main())
