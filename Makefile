@@ -34,6 +34,13 @@ try:
 	@echo "This proves nothing: it is a first look."
 	cd crates/dwv && rt try -- check $(abspath $(FILE))
 
+# Runs the program on programs that are broken at random, and compares it with the second reader: `make fuzz SECONDS=600`.
+SECONDS = 60
+.PHONY: fuzz
+fuzz: all
+	cd crates/slow_check && rt run
+	tests/fuzz.py $(SECONDS)
+
 # Measures the program beside llvm-dwarfdump.
 .PHONY: bench
 bench:
