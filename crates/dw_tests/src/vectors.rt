@@ -65,6 +65,14 @@ pub const E: [u8; 40] = [
     0x02, 0x69, 0x6e, 0x74, 0, 4, 5, 0,
 ];
 
+/// A compile_unit with a typedef of a pointer to a function that returns a pointer to an array.
+pub const M: [u8; 67] = [
+    0x3f, 0, 0, 0, 5, 0, 1, 8, 0, 0, 0, 0, // header
+    0x01, 0x61, 0, 0x02, 0x69, 0x6e, 0x74, 0, 4, 5, 0x03, 0x66, 0, 0x1d, 0, 0, 0, // compile_unit, base_type, typedef
+    0x06, 0x22, 0, 0, 0, 0x0a, 0x2e, 0, 0, 0, 0x0b, 0x0f, 0, 0, 0, 0x0c, 0, // pointer_type, subroutine_type
+    0x06, 0x33, 0, 0, 0, 0x08, 0x0f, 0, 0, 0, 0x09, 3, 0, 0, 0, 0, 0, 0, 0, 0, 0, // pointer_type, array_type
+];
+
 /// A type_unit with `int`.
 pub const G: [u8; 33] = [
     0x1d, 0, 0, 0, 5, 0, 2, 8, 0, 0, 0, 0, // header

@@ -2,11 +2,25 @@ use super::devices::{SlowReader, SlowWriter};
 use crate::device::Device;
 use crate::request::{Request, RunFault, Status};
 use crate::running::{run, run_within};
+use std::alloc::Global;
+use std::process::Abort;
 use std::test::Fail;
 
 const CHECK: Request = Request::Check { json: false };
 
-const SOUND: &str = "sound: 1 units, 2 entries, 1 types";
+/// Requests, and what is written of the sample.
+const REQUESTS: [(Request, &[u8]); 4] = [
+    (CHECK, b"sound: 1 units, 2 entries, 1 types\n"),
+    (
+        Request::Check { json: true },
+        b"{\"entries\":2,\"sound\":true,\"types\":1,\"units\":1}\n",
+    ),
+    (
+        Request::Show,
+        b"0x0000000c 0x0011 \"a\"\n0x0000000f   0x0024 \"int\" size 4\n",
+    ),
+    (Request::Size(0x0f), b"size 4\n"),
+];
 
 /// The parts of a file that are not zero, and where they begin.
 const PARTS: [(usize, &[u8]); 17] = [
@@ -60,51 +74,82 @@ fn longer_than_the_limit(rt: HostRuntime) -> Result<(), Fail> {
     Ok(())
 }
 
-// A reader that gives a byte a call and fails at each call in turn: 400 bytes, and the end.
-#[test]
-fn failing_reads(rt: HostRuntime) -> Result<(), Fail> {
-    let file = sample();
+/// Asserts what is answered where a reader that gives a byte a call fails at each call in turn: 400 bytes, and the end.
+fn assert_reads(
+    rt: &impl Abort,
+    alloc: Global,
+    file: &[u8],
+    request: Request,
+    text: &[u8],
+) -> Result<(), Fail> {
     for fails_at in 1..403 {
         let mut reader = Device::new(SlowReader {
-            rest: file.as_slice(),
+            rest: file,
             calls: 0,
             fails_at,
         });
-        let mut writer = Device::new(Vec::new(rt.alloc()));
-        let answer = run(rt.alloc(), CHECK, &mut reader, &mut writer);
+        let mut writer = Device::new(Vec::new(alloc));
+        let answer = run(alloc, request, &mut reader, &mut writer);
         if fails_at < 402 {
             assert_eq!(rt; answer, Err(RunFault::ReadFailed));
             assert!(rt; writer.inner.is_empty());
         } else {
             assert_eq!(rt; answer, Ok(Status::Sound));
+            assert_eq!(rt; writer.inner.as_slice(), text);
         }
     }
     Ok(())
 }
 
-// A writer that takes a byte a call and fails, or takes none, at each call in turn: 35 bytes.
+#[test]
+fn failing_reads(rt: HostRuntime) -> Result<(), Fail> {
+    let file = sample();
+    for (request, text) in &REQUESTS {
+        assert_reads(&rt, rt.alloc(), &file, *request, text)?;
+    }
+    Ok(())
+}
+
+/// Asserts what is answered where a writer that takes a byte a call fails, or takes none, at one call: call k leaves
+/// k - 1 bytes of the text.
+fn assert_writes(
+    rt: &impl Abort,
+    alloc: Global,
+    file: &[u8],
+    request: Request,
+    text: &[u8],
+    writer: SlowWriter,
+) -> Result<(), Fail> {
+    let fails_at = writer.fails_at;
+    let mut reader = Device::new(file);
+    let mut writer = Device::new(writer);
+    let answer = run(alloc, request, &mut reader, &mut writer);
+    let taken = writer.inner.taken.as_slice();
+    if fails_at <= text.len() as u64 {
+        assert_eq!(rt; answer, Err(RunFault::WriteFailed));
+        assert_eq!(rt; taken.len() as u64 + 1, fails_at);
+        assert!(rt; text.starts_with(taken));
+    } else {
+        assert_eq!(rt; answer, Ok(Status::Sound));
+        assert_eq!(rt; taken, text);
+    }
+    Ok(())
+}
+
 #[test]
 fn failing_writes(rt: HostRuntime) -> Result<(), Fail> {
     let file = sample();
-    for takes_none in [false, true] {
-        for fails_at in 1..37 {
-            let mut reader = Device::new(file.as_slice());
-            let mut writer = Device::new(SlowWriter {
-                taken: Vec::new(rt.alloc()),
-                calls: 0,
-                fails_at,
-                takes_none,
-            });
-            let answer = run(rt.alloc(), CHECK, &mut reader, &mut writer);
-            let taken = writer.inner.taken.as_slice();
-            if fails_at < 36 {
-                assert_eq!(rt; answer, Err(RunFault::WriteFailed));
-                assert_eq!(rt; taken.len() as u64 + 1, fails_at);
-            } else {
-                assert_eq!(rt; answer, Ok(Status::Sound));
-                assert_eq!(rt; taken.len(), 35);
+    for (request, text) in &REQUESTS {
+        for fails_at in 1..=text.len() as u64 + 1 {
+            for takes_none in [false, true] {
+                let writer = SlowWriter {
+                    taken: Vec::new(rt.alloc()),
+                    calls: 0,
+                    fails_at,
+                    takes_none,
+                };
+                assert_writes(&rt, rt.alloc(), &file, *request, text, writer)?;
             }
-            assert!(rt; SOUND.as_bytes().starts_with(taken) || fails_at == 36);
         }
     }
     Ok(())
