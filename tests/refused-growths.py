@@ -11,9 +11,13 @@ import subprocess
 import sys
 import tempfile
 
+sys.dont_write_bytecode = True
+import rows
+
 HERE = pathlib.Path(__file__).resolve().parent
 DWV = HERE.parent / "crates/dwv/out/dwv"
-SMALL = HERE.parent / "crates/dwv/data/X1"
+# .debug_abbrev and .debug_info of small files, by the parts of tests/rows/parts.txt.
+FILES = {"sound": ("A", "B"), "G1": ("A", "B[0f=03]"), "C1": ("T", "F"), "Z2": ("T", "N2"), "functions": ("T", "M")}
 MEMORY = (4, b"", b"dwv: out of memory\n")
 # A number past those of all requests.
 ALL = 2**32
@@ -54,7 +58,7 @@ def main():
         subprocess.run(["gcc", "-O1", "-shared", "-fPIC", "-o", library, HERE / "refusing-malloc.c", "-ldl"], check=True)
         program = folder / "program"
         subprocess.run(["gcc", "-gdwarf-5", "-O0", "-w", "-o", program, HERE / "programs/shapes.c", HERE / "programs/calls.c"], check=True)
-        for words in commands(program):
+        for words in commands([*small(folder), program]):
             requests, ended, wrong = tried(words, library, folder)
             line = " ".join(pathlib.Path(word).name for word in words)
             if wrong is None and ended > 0:
@@ -67,9 +71,21 @@ def main():
     return 1 if failed else 0
 
 
-def commands(program):
+def small(folder):
+    """The small files, each written into the folder."""
+    parts = {}
+    rows.read(HERE / "rows/parts.txt", parts)
+    for name, (abbrev, info) in FILES.items():
+        sections = dict.fromkeys(rows.SECTIONS, b"")
+        sections["abbrev"], sections["info"] = rows.Bytes(abbrev, parts).all(), rows.Bytes(info, parts).all()
+        file = folder / name
+        file.write_bytes(rows.elf(sections, []))
+        yield file
+
+
+def commands(files):
     """The words of each run."""
-    for file in (SMALL, program):
+    for file in files:
         yield ["check", str(file)]
         yield ["check", "--json", str(file)]
         yield ["show", str(file)]
