@@ -22,6 +22,7 @@ test:
 	tests/hostile-files.py
 	tests/refused-growths.py
 	tests/endings.sh
+	tests/install.sh
 
 # Proves what changed, in every crate, over what earlier runs kept.
 .PHONY: check
@@ -40,6 +41,25 @@ SECONDS = 60
 fuzz: all
 	cd crates/slow_check && rt run
 	tests/fuzz.py $(SECONDS)
+
+# Installs the program that `make` built, its manual page and its completion in bash: `make install PREFIX=$HOME/.local`
+# chooses the folder. It builds and proves nothing. DESTDIR is put before all paths, as packages need it.
+PREFIX = /usr/local
+bin = $(DESTDIR)$(PREFIX)/bin
+man = $(DESTDIR)$(PREFIX)/share/man/man1
+completions = $(DESTDIR)$(PREFIX)/share/bash-completion/completions
+.PHONY: install
+install:
+	@[ -x crates/dwv/out/dwv ] || { echo "crates/dwv/out/dwv is not built: run make first." >&2; exit 1; }
+	install -d "$(bin)" "$(man)" "$(completions)"
+	install -m 755 crates/dwv/out/dwv "$(bin)/dwv"
+	install -m 644 docs/dwv.1 "$(man)/dwv.1"
+	install -m 644 contrib/dwv.bash "$(completions)/dwv"
+
+# Removes what `make install` installed, by the same PREFIX and DESTDIR.
+.PHONY: uninstall
+uninstall:
+	rm -f "$(bin)/dwv" "$(man)/dwv.1" "$(completions)/dwv"
 
 # Measures the program beside llvm-dwarfdump.
 .PHONY: bench
