@@ -23,6 +23,7 @@ test:
 	tests/refused-growths.py
 	tests/endings.sh
 	tests/install.sh
+	tests/check-tree.sh
 
 # Proves what changed, in every crate, over what earlier runs kept.
 .PHONY: check
