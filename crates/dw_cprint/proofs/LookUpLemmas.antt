@@ -1,0 +1,45 @@
+-- What is read of an entry that is there.
+use Rattle.std.proofs.Common.{suc, ◌+◌, true, false, Bool, [], ◌∷◌, ◌≡◌, ℕ, ◌<◌, ◌≤◌, List, Option, Some, None, IfSome, refl, ap, arith, length, inl, inr}
+use Rattle.std.specs.Prelude.{slice_get, option_and_then, All, if◌then◌else◌}
+use Rattle.std.specs.Option.{option_map_or}
+use Rattle.std.proofs.lemmas.Option.{slice_get_cases}
+use Rattle.dw_entries.specs.declared.lookup.Head.{Head}
+use Rattle.dw_entries.specs.Entries.{Entry}
+use Rattle.dw_entries.specs.Lookups.{entry_head}
+use Rattle.dw_image.specs.Lookups.{is_number, children_from, children_of}
+use Rattle.std.proofs.lemmas.List.Elements.{All-nil, All-cons}
+
+none_past : (es : List Entry) (i : ℕ) → slice_get es i ≡ None → length es ≤ i
+none_past es i gone = elim (slice_get_cases es i).1 [
+  | inl it ↦ (let both : Some it.0 ≡ None = cc (it.2, gone) in absurd cc)
+  | inr it ↦ it.0
+]
+
+-- what a function of the entry says where it is said of the entry that stands there
+pub read_there : {X : Type 0} (es : List Entry) (id : ℕ) (f : Entry → Option X) (r : Option X) → id < length es → IfSome (slice_get es id) (λ e. r ≡ f e) → r ≡ option_and_then f (slice_get es id)
+read_there {X = X} es id f r within says = go (slice_get es id) (λ gone. none_past es id gone) says
+  where
+    go : (found : Option Entry) → (found ≡ None → length es ≤ id) → IfSome found (λ e. r ≡ f e) → r ≡ option_and_then f found
+    go None past says = absurd (omega (arith, past refl))
+    go (Some e) past says = says
+
+-- the tag of an entry, by what is told of it
+pub tag_there : (es : List Entry) (id : ℕ) (head : Head) → id < length es → IfSome (slice_get es id) (λ e. head ≡ entry_head e) → head.tag ≡ option_map_or (λ (e : Entry). e.head.decl.tag) (slice_get es id) 0
+tag_there es id head within says = go (slice_get es id) (λ gone. none_past es id gone) says
+  where
+    go : (found : Option Entry) → (found ≡ None → length es ≤ id) → IfSome found (λ e. head ≡ entry_head e) → head.tag ≡ option_map_or (λ (e : Entry). e.head.decl.tag) found 0
+    go None past says = absurd (omega (arith, past refl))
+    go (Some e) past says = ap (λ (h : Head). h.tag) says
+
+within_one : (b : Bool) (k n : ℕ) (ids : List ℕ) → k < n → All (λ child. child < n) ids → All (λ child. child < n) (if b then k ∷ ids else ids)
+within_one true k n ids below all = All-cons (λ child. child < n) k ids below all
+within_one false k n ids below all = all
+
+within_from : (es : List Entry) (id k n : ℕ) → k + length es ≤ n → All (λ child. child < n) (children_from es id k)
+within_from [] id k n fits = All-nil (λ child. child < n)
+within_from (e ∷ es) id k n fits = within_one (is_number id e.parent) k n (children_from es id (suc k)) (omega arith) (within_from es id (suc k) n (omega arith))
+
+-- the children of an entry are entries
+pub children_within : (es : List Entry) (id : ℕ) → All (λ child. child < length es) (children_of es id)
+unfolding children_of
+children_within es id = within_from es id 0 (length es) (omega arith)

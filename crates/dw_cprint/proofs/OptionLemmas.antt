@@ -1,0 +1,53 @@
+-- Values that may be absent, and tests on them.
+use Rattle.std.proofs.Common.{◌≡◌, ℕ, List, Bool, true, false, Option, Some, None, Result, Ok, Err, refl}
+use Rattle.std.specs.Prelude.{IsSome, is_ok, OnOk, option_map, option_and_then, ◌||◌, if◌then◌else◌}
+
+pub map_inverted : {A B : Type 0} → (f : A → B) (o : Option A) (y : B) → option_map f o ≡ Some y → (x : A) × (o ≡ Some x) × (f x ≡ y)
+map_inverted f None y h = absurd (cc)
+map_inverted f (Some x) y h = (x, refl, cc)
+
+pub then_inverted : {A B : Type 0} → (f : A → Option B) (o : Option A) (y : B) → option_and_then f o ≡ Some y → (x : A) × (o ≡ Some x) × (f x ≡ Some y)
+then_inverted f None y h = absurd (cc)
+then_inverted f (Some x) y h = (x, refl, h)
+
+pub some_value : {A : Type 0} → (o : Option A) → IsSome o → (x : A) × (o ≡ Some x)
+some_value None h = absurd (cc)
+some_value (Some x) h = (x, refl)
+
+pub map_some : {A B : Type 0} → (f : A → B) (o : Option A) → IsSome o → IsSome (option_map f o)
+map_some f None h = h
+map_some f (Some x) h = refl
+
+pub then_some : {A B : Type 0} → (f : A → Option B) (o : Option A) → IsSome o → ((x : A) → IsSome (f x)) → IsSome (option_and_then f o)
+then_some f None h g = absurd (cc)
+then_some f (Some x) h g = g x
+
+pub not_false : (b : Bool) → (b ≡ false → ⊥) → b ≡ true
+not_false true h = refl
+not_false false h = absurd (h refl)
+
+pub or_left : (a b : Bool) → a ≡ true → (a || b) ≡ true
+or_left true b h = refl
+or_left false b h = absurd (cc)
+
+pub or_right : (a b : Bool) → b ≡ true → (a || b) ≡ true
+or_right true b h = refl
+or_right false b h = h
+
+-- nothing, where a test passes
+pub unless_inverted : {A : Type 0} → (b : Bool) (o : Option A) (y : A) → (if b then None else o) ≡ Some y → (b ≡ false) × (o ≡ Some y)
+unless_inverted true o y h = absurd (cc)
+unless_inverted false o y h = (refl, h)
+
+pub unless_some : {A : Type 0} → (b : Bool) (o : Option A) → (b ≡ true → ⊥) → IsSome o → IsSome (if b then None else o)
+unless_some true o h s = absurd (h refl)
+unless_some false o h s = s
+
+-- what follows where a call succeeds
+pub ok_then : {A E : Type 0} (r : Result A E) (P Q : Type 0) → (P → Q) → OnOk r P → OnOk r Q
+ok_then (Ok x) P Q f h = f h
+ok_then (Err e) P Q f h = tt
+
+pub ok_when : {A E : Type 0} (r : Result A E) (P : Type 0) (new a b : List ℕ) → new ≡ (if is_ok r then a else b) → (new ≡ a → P) → OnOk r P
+ok_when (Ok x) P new a b h f = f h
+ok_when (Err e) P new a b h f = tt

@@ -1,0 +1,174 @@
+-- Finding what is reached: the loop over the entries that are found.
+use Rattle.std.proofs.Common.{◌≡◌, ◌≢◌, ℕ, zero, suc, ◌+◌, ◌-◌, ◌<◌, ◌≤◌, true, false, List, [], ◌∷◌, ◌++◌, Vec, refl, sym, ◌∙◌, ap, subst, inl, inr, length, get_or, arith, length-append, append_assoc, map, take, drop, Option}
+use Rattle.std.specs.Global.{Global}
+use Rattle.std.specs.Prelude.{Contains}
+use Rattle.std.proofs.lemmas.Bool.{cases_lt}
+use Rattle.std.proofs.lemmas.Map.Steps.{length-le_from_distinct_below}
+use Rattle.std.proofs.lemmas.List.{take_more, take_more_same, take_all, drop_more, map-append}
+use Rattle.std.specs.List.{IsDistinct, AllByRecursion, list_any}
+use Rattle.std.proofs.lemmas.Bool.Decides.{eqb_tells}
+use lib.Dec.{eqb}
+use Rattle.dw_cprint.proofs.PlaceLemmas.{row-grows, found-in-row, entries-append}
+use Rattle.dw_cprint.specs.Shapes.{ShapeOf, view_subject}
+use Rattle.dw_cprint.specs.Steps.{entries_of, roots_of, types_declared, steps_reached, IsReachedFrom, root, further}
+use Rattle.dw_cprint.specs.declared.shape.Subject.{Subject}
+use Rattle.std.proofs.lemmas.List.{get_or_default}
+use Rattle.std.proofs.Math.ListN.{get_or-eq_default}
+use Rattle.dw_types.specs.Graphs.{LeadsToNodes}
+use Rattle.dw_cprint.specs.Reach.{Grows, ArePlaces, IsRow, FindsAll, IsReachOf, items_of}
+
+-- the rows of the first entries that are found are made, and their shapes are read
+pub record IsSoFar (shapes : ℕ → ShapeOf) (roots places found : List ℕ) (rows : List (Vec ℕ Global)) (read : List ShapeOf) : Type 0 where
+  pub placed : ArePlaces places found
+  pub made : length rows ≤ length found
+  pub shapes_are : read ≡ map shapes (take (length rows) found)
+  pub rows_are : (node : ℕ) → node < length rows → IsRow found (steps_reached shapes (get_or found node 0)) (get_or (items_of rows) node [])
+  pub roots_found : (to : ℕ) → Contains roots to → Contains found to
+  pub reached : (node : ℕ) → node < length found → IsReachedFrom shapes roots (get_or found node 0)
+
+-- a row behind the others
+row-last : (rows : List (Vec ℕ Global)) (r : Vec ℕ Global) (node : ℕ) → node ≡ length rows → get_or (items_of (rows ++ r ∷ [])) node [] ≡ r.items
+row-last [] r node e = rw e refl
+row-last (x ∷ rows) r zero e = absurd (omega arith)
+row-last (x ∷ rows) r (suc node) e = row-last rows r node (omega arith)
+
+row-before : (rows : List (Vec ℕ Global)) (r : Vec ℕ Global) (node : ℕ) → node < length rows → get_or (items_of (rows ++ r ∷ [])) node [] ≡ get_or (items_of rows) node []
+row-before [] r node w = absurd (omega arith)
+row-before (x ∷ rows) r zero w = refl
+row-before (x ∷ rows) r (suc node) w = row-before rows r node (omega arith)
+
+length-items : (rows : List (Vec ℕ Global)) → length (items_of rows) ≡ length rows
+length-items [] = refl
+length-items (x ∷ rows) = ap suc (length-items rows)
+
+pub so_far-start : (shapes : ℕ → ShapeOf) (roots places places' found : List ℕ) (rows : List (Vec ℕ Global)) (read : List ShapeOf) (row : List ℕ) → rows ≡ [] → read ≡ []
+    → FindsAll roots places places' [] found row → IsSoFar shapes roots places' found rows read
+so_far-start shapes roots places places' found rows read row none unread f =
+    let P : List (Vec ℕ Global) → Type 0 = λ rs. IsSoFar shapes roots places' found rs read in
+    subst P (sym none) (record {
+      placed = f.placed;
+      made = omega arith;
+      shapes_are = unread;
+      rows_are = λ node w. absurd (omega arith);
+      roots_found = found-in-row found roots row f.is_row;
+      reached = λ node w. root (f.grows.adds node (omega arith) w);
+    })
+
+keeps-found : (steps old new : List ℕ) (to : ℕ) → Grows steps old new → Contains old to → Contains new to
+keeps-found steps old new to g (k, w, e) = (let l = g.longer in (k, (omega arith), get_or_default new k to 0 (omega arith) ∙ (g.keeps k w ∙ (get_or_default old k 0 to w ∙ e))))
+
+-- the first entries stay while more are found
+take-grows : (n : ℕ) (old new : List ℕ) → n ≤ length old → length old ≤ length new → ((k : ℕ) → k < length old → get_or new k 0 ≡ get_or old k 0) → take n new ≡ take n old
+take-grows zero old new below long keeps = refl
+take-grows (suc n) old new below long keeps =
+    let e : n + 1 ≡ suc n = omega arith in
+    let P : ℕ → Type 0 = λ m. take m new ≡ take m old in
+    subst P e (take_more_same new old n 0 (omega arith) (omega arith) (take-grows n old new (omega arith) long keeps) (keeps n (omega arith)))
+
+pub so_far-more : (shapes : ℕ → ShapeOf) (roots places places' found found' : List ℕ) (rows rows' : List (Vec ℕ Global)) (read read' : List ShapeOf) (r : Vec ℕ Global) → rows' ≡ rows ++ r ∷ []
+    → read' ≡ read ++ shapes (get_or found (length rows) 0) ∷ []
+    → IsSoFar shapes roots places found rows read → length rows < length found
+    → FindsAll (steps_reached shapes (get_or found (length rows) 0)) places places' found found' r.items
+    → IsSoFar shapes roots places' found' rows' read'
+so_far-more shapes roots places places' found found' rows rows' read read' r same seen s more f = let P : List (Vec ℕ Global) → Type 0 = λ rs. IsSoFar shapes roots places' found' rs read' in subst P (sym same) (record {
+  placed = f.placed;
+  made = (let long = f.grows.longer in omega (arith, length-append rows (r ∷ [])));
+  shapes_are = shapes_are;
+  rows_are = rows_are;
+  roots_found = λ to has. keeps-found (steps_reached shapes (get_or found (length rows) 0)) found found' to f.grows (s.roots_found to has);
+  reached = reached;
+})
+  where
+    shapes_are : read' ≡ map shapes (take (length (rows ++ r ∷ [])) found')
+    shapes_are =
+        let n = length rows in
+        let long : n + 1 ≡ length (rows ++ r ∷ []) = omega (arith, length-append rows (r ∷ [])) in
+        let P : ℕ → Type 0 = λ m. read' ≡ map shapes (take m found') in
+        let front : take (n + 1) found' ≡ take n found ++ get_or found n 0 ∷ [] =
+        take-grows (n + 1) found found' (omega arith) f.grows.longer f.grows.keeps ∙ take_more found n 0 more in
+        let all : map shapes (take (n + 1) found') ≡ read ++ shapes (get_or found n 0) ∷ [] =
+        ap (map shapes) front ∙ map-append shapes (take n found) (get_or found n 0 ∷ []) ∙ ap (λ (xs : List ShapeOf). xs ++ shapes (get_or found n 0) ∷ []) (sym s.shapes_are) in
+        subst P long (seen ∙ sym all)
+
+    moved : (node : ℕ) → node < length found → (row : List ℕ) → IsRow found' (steps_reached shapes (get_or found node 0)) row → IsRow found' (steps_reached shapes (get_or found' node 0)) row
+    moved node w row i = let P : ℕ → Type 0 = λ x. IsRow found' (steps_reached shapes x) row in subst P (sym (f.grows.keeps node w)) i
+
+    rows_are : (node : ℕ) → node < length (rows ++ r ∷ []) → IsRow found' (steps_reached shapes (get_or found' node 0)) (get_or (items_of (rows ++ r ∷ [])) node [])
+    rows_are node w =
+        let Goal : List ℕ → Type 0 = λ row. IsRow found' (steps_reached shapes (get_or found' node 0)) row in
+        elim (cases_lt node (length rows)) [
+          | inl before ↦
+              subst Goal (sym (row-before rows r node before))
+              (moved node (omega arith) (get_or (items_of rows) node [])
+              (row-grows (steps_reached shapes (get_or found node 0)) (steps_reached shapes (get_or found (length rows) 0)) found found' (get_or (items_of rows) node []) f.grows (s.rows_are node before)))
+          | inr after ↦
+              let e : node ≡ length rows = omega (arith, length-append rows (r ∷ [])) in
+              let P : ℕ → Type 0 = λ n. IsRow found' (steps_reached shapes (get_or found n 0)) r.items in
+              subst Goal (sym (row-last rows r node e)) (moved node (omega arith) r.items (subst P (sym e) f.is_row))
+        ]
+
+    reached : (node : ℕ) → node < length found' → IsReachedFrom shapes roots (get_or found' node 0)
+    reached node w = elim (cases_lt node (length found)) [
+      | inl before ↦ (let P : ℕ → Type 0 = λ x. IsReachedFrom shapes roots x in subst P (sym (f.grows.keeps node before)) (s.reached node before))
+      | inr after ↦ further (s.reached (length rows) more) (f.grows.adds node after w)
+    ]
+
+pub so_far-done : (shapes : ℕ → ShapeOf) (roots places found : List ℕ) (rows : List (Vec ℕ Global)) (read : List ShapeOf) → IsSoFar shapes roots places found rows read → length found ≤ length rows → IsReachOf shapes roots places found (items_of rows)
+so_far-done shapes roots places found rows read s over = record {
+  placed = s.placed;
+  nodes = length-items rows ∙ (let m = s.made in omega arith);
+  rows = λ node w. s.rows_are node (omega arith);
+  roots_found = s.roots_found;
+  reached = s.reached;
+}
+
+-- the shapes of all that is found are read
+pub read-done : (shapes : ℕ → ShapeOf) (roots places found : List ℕ) (rows : List (Vec ℕ Global)) (read : List ShapeOf) → IsSoFar shapes roots places found rows read → length found ≤ length rows → read ≡ map shapes found
+read-done shapes roots places found rows read s over = s.shapes_are ∙ ap (map shapes) (take_all (length rows) found over)
+
+pub leads-so_far : (shapes : ℕ → ShapeOf) (roots places found : List ℕ) (rows : List (Vec ℕ Global)) (read : List ShapeOf) → IsSoFar shapes roots places found rows read → length found ≤ length rows → LeadsToNodes (items_of rows)
+leads-so_far shapes roots places found rows read s over node k w = elim (cases_lt node (length rows)) [
+  | inl before ↦ (let low = IsRow.below (s.rows_are node before) k w in omega (arith, low, length-items rows))
+  | inr after ↦ (let none : get_or (items_of rows) node [] ≡ [] = get_or-eq_default (items_of rows) [] (omega (arith, length-items rows)) in absurd (omega (arith, w, ap length none)))
+]
+
+-- ROOM
+
+distinct : (back : ℕ → ℕ) (from : ℕ) (xs : List ℕ) → ((k : ℕ) → k < length xs → back (get_or xs k 0) ≡ from + k) → IsDistinct eqb xs
+unfolding IsDistinct
+distinct back from [] h = tt
+distinct back from (x ∷ xs) h =
+    (others xs 0 (λ k w. (let e = h (suc k) (omega arith) in omega arith)), distinct back (suc from) xs (λ k w. (let e = h (suc k) (omega arith) in omega arith)))
+  where
+    differ : (y : ℕ) → back y ≢ back x → eqb x y ≡ false
+    differ y ne = elim (eqb_tells x y) [ inl (t, e) ↦ absurd (ne (ap back (sym e))) | inr (f, e) ↦ f ]
+
+    others : (ys : List ℕ) (low : ℕ) → ((k : ℕ) → k < length ys → from + (low + suc k) ≡ back (get_or ys k 0)) → AllByRecursion (λ y. eqb x y ≡ false) ys
+    others [] low f = tt
+    others (y ∷ ys) low f = (differ y (λ same. (let e = f 0 (omega arith) in let z = h 0 (omega arith) in omega arith)), others ys (suc low) (λ k w. (let e = f (suc k) (omega arith) in omega arith)))
+
+among_below : (q n : ℕ) (xs : List ℕ) → ((k : ℕ) → k < length xs → get_or xs k 0 < n) → list_any (eqb q) xs ≡ true → q < n
+among_below q n [] h has = absurd (cc)
+among_below q n (x ∷ xs) h has = elim (eqb_tells q x) [
+  | inl (t, e) ↦ (let less = h 0 (omega arith) in omega arith)
+  | inr (f, ne) ↦ (let rest : list_any (eqb q) xs ≡ true = rw f at has in among_below q n xs (λ k w. h (suc k) (omega arith)) rest)
+]
+
+pub room : (places found : List ℕ) → ArePlaces places found → length found ≤ length places
+room places found placed =
+    length-le_from_distinct_below found (length places) (distinct (λ x. get_or places x 0) 0 found (λ k w. (let e = placed.back k w in omega arith))) (λ q h. among_below q (length places) found placed.below h)
+
+pub fewer-left : (n : ℕ) (old new : List (Vec ℕ Global)) (r : Vec ℕ Global) → new ≡ old ++ r ∷ [] → length old < n → n - length new < n - length old
+fewer-left n old new r e w = let long : length new ≡ length (old ++ r ∷ []) = ap length e in omega (arith, long, length-append old (r ∷ []))
+
+-- ROOTS
+
+-- the types of one more declaration
+pub roots-more : (types types' own : List (Option ℕ)) (xs : List Subject) (i : ℕ) (x : Subject) (all : List ℕ) → types' ≡ types ++ own → own ≡ types_declared (view_subject x) → i < length xs → x ≡ get_or xs i x
+    → entries_of types ++ roots_of (map view_subject (drop i xs)) ≡ all → entries_of types' ++ roots_of (map view_subject (drop (i + 1) xs)) ≡ all
+roots-more types types' own xs i x all more is within at so_far =
+    let rest = roots_of (map view_subject (drop (i + 1) xs)) in
+    let split : drop i xs ≡ x ∷ drop (i + 1) xs = drop_more xs i x within ∙ ap (λ (y : Subject). y ∷ drop (i + 1) xs) (sym at) in
+    let here : roots_of (map view_subject (drop i xs)) ≡ entries_of own ++ rest = rw (split, is) refl in
+    let both : entries_of types' ≡ entries_of types ++ entries_of own = ap entries_of more ∙ entries-append types own in
+    rw both (append_assoc (entries_of types) (entries_of own) rest ∙ (ap (λ (u : List ℕ). entries_of types ++ u) (sym here) ∙ so_far))

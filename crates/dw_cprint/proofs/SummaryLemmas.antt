@@ -1,0 +1,172 @@
+-- Summaries: of void, of one entry by those of the types that it names, and of all nodes in turn.
+use Rattle.std.proofs.Common.{◌≡◌, ℕ, zero, suc, ◌+◌, ◌<◌, true, List, [], ◌∷◌, ◌++◌, Option, Some, None, refl, sym, ap, subst, ◌∙◌, ◌⊎◌, inl, inr, length, get_or, set, take, replicate, arith}
+use Rattle.std.specs.Prelude.{All, Contains, ◌↔◌, slice_get, is_some, option_and_then, unwrap_or}
+use Rattle.std.proofs.lemmas.List.{take_more, get_or-set_same, get_or-set_other}
+use Rattle.std.proofs.lemmas.List.Elements.{Contains-push, Contains-append_left, Contains-push_cases}
+use Rattle.dw_cprint.specs.Declarations.{term_at, term_by}
+use Rattle.dw_cprint.specs.Shapes.{Qualifier, TypeAt, ShapeOf, qualified, view_shape}
+use Rattle.dw_cprint.specs.Steps.{entries_of, types_reached}
+use Rattle.dw_cprint.specs.Summaries.{TypeKind, Summary, kind_in, AreFaults, IsBase, IsLength, IsSummary, AreNodes, HaveSummaries, summary_at}
+use Rattle.dw_cprint.specs.Terms.{Term, Void}
+use Rattle.dw_cprint.specs.Wrong.{nothing, itself, below}
+use Rattle.dw_cprint.specs.declared.shape.Shape.{Shape}
+use Rattle.dw_cprint.specs.declared.shape.Shape.TheVariants as shape
+use Rattle.dw_cprint.specs.declared.summary.TheConstants.{VOID}
+use Rattle.dw_cprint.proofs.ClearingLemmas.{same_or_not}
+use Rattle.dw_cprint.proofs.FaultLemmas.{faults-none}
+use Rattle.dw_cprint.proofs.LengthLemmas.{void_length}
+
+-- ---- void
+
+pub void_summary : (shapes : ℕ → ShapeOf) → IsSummary shapes None VOID
+void_summary shapes =
+    let none = faults-none shapes VOID.faults refl refl refl in
+    record {
+      is_kind = refl;
+      is_base = (None, nothing, refl);
+      are_faults = record { bad_name = none.bad_name; foreign_type = none.foreign_type; unspeakable = none.unspeakable };
+      is_length = λ k t e. of_term k t e;
+    }
+  where
+    of_term : (k : ℕ) (t : Term) → term_at k shapes None ≡ Some t → IsLength t VOID.length
+    of_term zero t e = absurd (cc)
+    of_term (suc k) t e =
+        let same : Void ≡ t = cc in
+        let P : Term → Type 0 = λ u. IsLength u VOID.length in
+        subst P same (void_length VOID.length refl refl)
+
+-- a fact of types holds of void, and of each entry among them
+pub all-types : (P : TypeAt → Type 0) → P None → (types : List TypeAt) → ((to : ℕ) → Contains (entries_of types) to → P (Some to)) → All P types
+all-types P void [] each k d w = absurd (omega arith)
+all-types P void (None ∷ types) each zero d w = void
+all-types P void (None ∷ types) each (suc k) d w = all-types P void types each k d (omega arith)
+all-types P void (Some to ∷ types) each zero d w = each to (0, omega arith, refl)
+all-types P void (Some to ∷ types) each (suc k) d w = all-types P void types (λ x c. each x (suc c.0, omega (arith, c.1), c.2)) k d (omega arith)
+
+-- ---- what stands under a row
+
+pub base_qualified : (shapes : ℕ → ShapeOf) (entry : ℕ) (q : Qualifier) (at : TypeAt) (b : TypeKind) → shapes entry ≡ qualified q at → IsBase shapes at b → IsBase shapes (Some entry) b
+base_qualified shapes entry q at b is (under, stands, same) = (under, below q at is stands, same)
+
+pub base_itself : (shapes : ℕ → ShapeOf) (entry : ℕ) (s : Shape) (b : TypeKind) → shapes entry ≡ view_shape s → ((q : Qualifier) (at : TypeAt) → s ≡ shape.Qualified q at → ⊥) → b ≡ kind_in (Some (view_shape s)) → IsBase shapes (Some entry) b
+base_itself shapes entry s b is plain same =
+    (Some entry, itself (λ q at e. unqualified s plain q at (sym is ∙ e)), same ∙ ap (λ (x : ShapeOf). kind_in (Some x)) (sym is))
+  where
+    unqualified : (s : Shape) → ((q : Qualifier) (at : TypeAt) → s ≡ shape.Qualified q at → ⊥) → (q : Qualifier) (at : TypeAt) → view_shape s ≡ qualified q at → ⊥
+    unqualified (shape.Base name) plain q at e = cc
+    unqualified (shape.Typedef name) plain q at e = cc
+    unqualified (shape.Qualified r to) plain q at e = plain r to refl
+    unqualified (shape.Pointer to) plain q at e = cc
+    unqualified (shape.Array counts strange to) plain q at e = cc
+    unqualified (shape.Function to parameters) plain q at e = cc
+    unqualified (shape.Tagged word name) plain q at e = cc
+    unqualified (shape.Nameless word) plain q at e = cc
+    unqualified (shape.Body word odd members) plain q at e = cc
+    unqualified (shape.Enumeration odd enumerators) plain q at e = cc
+    unqualified shape.Foreign plain q at e = cc
+    unqualified shape.Other plain q at e = cc
+
+-- ---- one entry
+
+pub entry_summary : (shapes : ℕ → ShapeOf) (entry : ℕ) (s : ShapeOf) (known : Summary) → shapes entry ≡ s → known.kind ≡ kind_in (Some s) → IsBase shapes (Some entry) known.base
+    → AreFaults shapes (Some entry ∷ []) known.faults → ((k : ℕ) (t : Term) → term_by (term_at k shapes) s ≡ Some t → IsLength t known.length) → IsSummary shapes (Some entry) known
+entry_summary shapes entry s known is kind base faults length =
+    record { is_kind = kind ∙ ap (λ (x : ShapeOf). kind_in (Some x)) (sym is); is_base = base; are_faults = faults; is_length = of_term }
+  where
+    of_term : (k : ℕ) (t : Term) → term_at k shapes (Some entry) ≡ Some t → IsLength t known.length
+    of_term zero t e = absurd (cc)
+    of_term (suc k) t e = length k t (ap (term_by (term_at k shapes)) (sym is) ∙ e)
+
+-- ---- all nodes
+
+get-set-same : {X : Type 0} (xs : List X) (i : ℕ) (x : X) → i < length xs → slice_get (set xs i x) i ≡ Some x
+get-set-same [] i x within = absurd (omega arith)
+get-set-same (y ∷ xs) zero x within = refl
+get-set-same (y ∷ xs) (suc i) x within = get-set-same xs i x (omega arith)
+
+get-set-other : {X : Type 0} (xs : List X) (i j : ℕ) (x : X) → (i ≡ j → ⊥) → slice_get (set xs i x) j ≡ slice_get xs j
+get-set-other [] zero j x apart = refl
+get-set-other [] (suc i) j x apart = refl
+get-set-other (y ∷ xs) zero zero x apart = absurd (apart refl)
+get-set-other (y ∷ xs) zero (suc j) x apart = refl
+get-set-other (y ∷ xs) (suc i) zero x apart = refl
+get-set-other (y ∷ xs) (suc i) (suc j) x apart = get-set-other xs i j x (λ e. apart (ap suc e))
+
+abbrev Has : List (Option Summary) → ℕ → Type 0
+Has nodes node = is_some (get_or nodes node None) ≡ true
+
+-- the summaries of the first nodes are there, and no others
+pub have_none : (n : ℕ) → HaveSummaries [] (replicate n None)
+have_none n node = (λ c. absurd (omega (arith, c.1)), λ h. absurd (none n node h))
+  where
+    none : (n node : ℕ) → Has (replicate n None) node → ⊥
+    none zero node e = cc
+    none (suc n) zero e = cc
+    none (suc n) (suc node) e = none n node e
+
+pub have_more : (clear : List ℕ) (nodes : List (Option Summary)) (i : ℕ) (s : Summary) → i < length clear → get_or clear i 0 < length nodes → HaveSummaries (take i clear) nodes
+    → HaveSummaries (take (i + 1) clear) (set nodes (get_or clear i 0) (Some s))
+have_more clear nodes i s within there have node =
+    let P : List ℕ → Type 0 = λ ns. Contains ns node ↔ Has (set nodes (get_or clear i 0) (Some s)) node in
+    subst P (sym (take_more clear i 0 within)) (by_node (same_or_not (get_or clear i 0) node))
+  where
+    by_node : ((get_or clear i 0 ≡ node) ⊎ (get_or clear i 0 ≡ node → ⊥)) → Contains (take i clear ++ get_or clear i 0 ∷ []) node ↔ Has (set nodes (get_or clear i 0) (Some s)) node
+    by_node (inl same) =
+        let Q : ℕ → Type 0 = λ n. Contains (take i clear ++ get_or clear i 0 ∷ []) n ↔ Has (set nodes (get_or clear i 0) (Some s)) n in
+        let new = get_or-set_same nodes (get_or clear i 0) (Some s) None there in
+        subst Q same (λ _. ap (λ (o : Option Summary). is_some o) new, λ _. Contains-push (take i clear) (get_or clear i 0))
+    by_node (inr apart) =
+        let kept = ap (λ (o : Option Summary). is_some o) (get_or-set_other nodes (get_or clear i 0) node (Some s) None (λ e. apart (sym e))) in (
+          λ c. elim (Contains-push_cases (take i clear) (get_or clear i 0) node c) [ inl old ↦ kept ∙ (have node).0 old | inr same ↦ absurd (apart same) ],
+          λ h. Contains-append_left (take i clear) (get_or clear i 0 ∷ []) node ((have node).1 (sym kept ∙ h)),
+        )
+
+-- what is known by two lists
+abbrev pub known_by : List ℕ → List (Option Summary) → TypeAt → Summary
+known_by places nodes at = unwrap_or (summary_at VOID places nodes at) VOID
+
+-- the summaries of the first nodes are right
+abbrev pub RightBefore : (ℕ → ShapeOf) → (found clear places : List ℕ) → List (Option Summary) → ℕ → Type 0
+RightBefore all found clear places nodes i =
+    (j : ℕ) → j < i → IsSummary all (Some (get_or found (get_or clear j 0) 0)) (known_by places nodes (Some (get_or found (get_or clear j 0) 0)))
+
+summary-there : (places : List ℕ) (nodes : List (Option Summary)) (entry n : ℕ) (r : Option (Option Summary)) → slice_get places entry ≡ Some n → slice_get nodes n ≡ r
+    → summary_at VOID places nodes (Some entry) ≡ option_and_then (λ (s : Option Summary). s) r
+summary-there places nodes entry n r placed is =
+    ap (λ (o : Option ℕ). option_and_then (λ (s : Option Summary). s) (option_and_then (slice_get nodes) o)) placed ∙ ap (λ (o : Option (Option Summary)). option_and_then (λ (s : Option Summary). s) o) is
+
+module _ (all : ℕ → ShapeOf) (places found : List ℕ) (kept : List Shape) (clear : List ℕ) (are : AreNodes all places found kept clear) where
+  -- what the steps of a node lead to is known
+  pub all_known : (nodes : List (Option Summary)) (i : ℕ) → i < length clear → RightBefore all found clear places nodes i
+      → All (λ at. IsSummary all at (known_by places nodes at)) (types_reached (all (get_or found (get_or clear i 0) 0)))
+  all_known nodes i within right =
+      all-types (λ at. IsSummary all at (known_by places nodes at)) (void_summary all) (types_reached (all (get_or found (get_or clear i 0) 0)))
+      (λ to c. let behind = are.behind i to within c in
+      let P : ℕ → Type 0 = λ e. IsSummary all (Some e) (known_by places nodes (Some e)) in
+      subst P behind.2 (right behind.0 behind.1))
+
+  pub right_more : (nodes : List (Option Summary)) (i : ℕ) (s : Summary) → i < length clear → get_or clear i 0 < length nodes → RightBefore all found clear places nodes i
+      → IsSummary all (Some (get_or found (get_or clear i 0) 0)) s → RightBefore all found clear places (set nodes (get_or clear i 0) (Some s)) (i + 1)
+  right_more nodes i s within there right new j lower = by_node (same_or_not (get_or clear i 0) (get_or clear j 0))
+    where
+      by_node : ((get_or clear i 0 ≡ get_or clear j 0) ⊎ (get_or clear i 0 ≡ get_or clear j 0 → ⊥))
+          → IsSummary all (Some (get_or found (get_or clear j 0) 0)) (known_by places (set nodes (get_or clear i 0) (Some s)) (Some (get_or found (get_or clear j 0) 0)))
+      by_node (inl same) =
+          let n = get_or clear i 0 in
+          let at = summary-there places (set nodes n (Some s)) (get_or found n 0) n (Some (Some s)) (are.placed n (are.within i within)) (get-set-same nodes n (Some s) there) in
+          let P : Option Summary → Type 0 = λ o. IsSummary all (Some (get_or found n 0)) (unwrap_or o VOID) in
+          let Q : ℕ → Type 0 = λ x. IsSummary all (Some (get_or found x 0)) (known_by places (set nodes n (Some s)) (Some (get_or found x 0))) in
+          subst Q same (subst P (sym at) new)
+      by_node (inr apart) =
+          let n = get_or clear i 0 in
+          let m = get_or clear j 0 in
+          let earlier : j < i = before (same_or_not i j) in
+          let placed = are.placed m (are.within j (omega arith)) in
+          let new_at = summary-there places (set nodes n (Some s)) (get_or found m 0) m (slice_get nodes m) placed (get-set-other nodes n m (Some s) apart) in
+          let old_at = summary-there places nodes (get_or found m 0) m (slice_get nodes m) placed refl in
+          let P : Option Summary → Type 0 = λ o. IsSummary all (Some (get_or found m 0)) (unwrap_or o VOID) in
+          subst P (old_at ∙ sym new_at) (right j earlier)
+        where
+          before : (i ≡ j) ⊎ (i ≡ j → ⊥) → j < i
+          before (inl e) = absurd (apart (ap (λ (k : ℕ). get_or clear k 0) e))
+          before (inr ne) = omega (arith, ne)

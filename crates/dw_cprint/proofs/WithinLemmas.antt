@@ -1,0 +1,153 @@
+-- Each type that a shape or a declaration names is an entry.
+use Rattle.std.proofs.Common.{◌≡◌, ℕ, ◌<◌, Bool, true, false, List, [], ◌∷◌, Option, Some, None, refl, length, map, arith}
+use Rattle.std.specs.Prelude.{slice_get, option_and_then, All, filter, ◌==◌, if◌then◌else◌}
+use Rattle.std.proofs.lemmas.List.Elements.{All-nil, All-cons, All-append}
+use Rattle.std.proofs.lemmas.Option.{slice_get_within}
+use Rattle.dw_entries.specs.Entries.{Entry}
+use Rattle.dw_image.specs.declared.image.Image.{Image}
+use Rattle.dw_image.specs.Images.{entries_in, type_in}
+use Rattle.dw_image.specs.Lookups.{is_type_entry, type_number}
+use Rattle.dw_forms.specs.Codes.{DW_AT_prototyped, DW_TAG_array_type, DW_TAG_atomic_type, DW_TAG_base_type, DW_TAG_const_type, DW_TAG_enumeration_type, DW_TAG_pointer_type, DW_TAG_restrict_type, DW_TAG_structure_type, DW_TAG_subroutine_type, DW_TAG_typedef, DW_TAG_union_type, DW_TAG_variable, DW_TAG_volatile_type, is_type_tag}
+use Rattle.dw_cprint.specs.EntryShapes.{member_at, parameter_at, members_in, parameters_in, parameters_of, shape_in, subject_in, aggregate_in, enumeration_in, aggregate_shape, enumeration_shape, is_odd, is_plain_member, is_parameter, enumerators_in, counts_in, is_strange}
+use Rattle.dw_cprint.specs.LookUps.{tag_at, type_at, name_at, flag_at, declared_at, children_at}
+use Rattle.dw_cprint.specs.Shapes.{Parameter, Typed, More, TagKeyword, Struct, Union, Enum, Const, Volatile, Restrict, Atomic, base, typedef, qualified, pointer, array, function, foreign, other, Name, TypeAt, ShapeOf, nameless, body, enumeration, SubjectOf, typedef_subject, variable_subject, aggregate_subject, enumeration_subject, declared_subject, no_subject}
+use Rattle.dw_cprint.specs.Steps.{entries_of, parameter_types, member_types, types_reached, types_declared, first_steps, roots_of}
+
+one_within : (b : Bool) (n id to : ℕ) → id < n → (if b then Some id else None) ≡ Some to → to < n
+one_within true n id to below is = (let same : id ≡ to = cc in omega arith)
+one_within false n id to below is = absurd cc
+
+number_within : (es : List Entry) (id to : ℕ) → type_number es id ≡ Some to → to < length es
+number_within es id to is = go (slice_get es id) (λ e there. slice_get_within es id e there) is
+  where
+    go : (found : Option Entry) → ((e : Entry) → found ≡ Some e → id < length es) → option_and_then (λ (e : Entry). if is_type_entry e then Some id else None) found ≡ Some to → to < length es
+    go None within is = absurd cc
+    go (Some e) within is = one_within (is_type_entry e) (length es) id to (within e refl) is
+
+named_within : (es : List Entry) (at : Option ℕ) (to : ℕ) → option_and_then (type_number es) at ≡ Some to → to < length es
+named_within es None to is = absurd cc
+named_within es (Some id) to is = number_within es id to is
+
+-- a type that an entry has is an entry
+pub type_within : (image : Image) (id to : ℕ) → type_at image id ≡ Some to → to < length (entries_in image)
+unfolding type_at type_in
+type_within image id to is = go (slice_get (entries_in image) id) is
+  where
+    go : (found : Option Entry) → option_and_then (type_in image) found ≡ Some to → to < length (entries_in image)
+    go None is = absurd cc
+    go (Some e) is = named_within (entries_in image) _ to is
+
+-- the types are entries
+pub record AreWithin (n : ℕ) (types : List (Option ℕ)) : Type 0 where
+  pub all : All (λ to. to < n) (entries_of types)
+
+-- those that a shape names
+pub record IsWithin (n : ℕ) (s : ShapeOf) : Type 0 where
+  pub all : AreWithin n (types_reached s)
+
+none_within : (n : ℕ) → AreWithin n []
+none_within n = record { all = All-nil (λ to. to < n) }
+
+more_within : (n : ℕ) (at : Option ℕ) (types : List (Option ℕ)) → ((to : ℕ) → at ≡ Some to → to < n) → AreWithin n types → AreWithin n (at ∷ types)
+more_within n None types below rest = record { all = rest.all }
+more_within n (Some to) types below rest = record { all = All-cons (λ to. to < n) to (entries_of types) (below to refl) rest.all }
+
+type_more : (image : Image) (id : ℕ) (types : List (Option ℕ)) → AreWithin (length (entries_in image)) types → AreWithin (length (entries_in image)) (type_at image id ∷ types)
+type_more image id types rest = more_within (length (entries_in image)) (type_at image id) types (type_within image id) rest
+
+members_within : (image : Image) (ids : List ℕ) → AreWithin (length (entries_in image)) (member_types (map (member_at image) ids))
+members_within image [] = none_within (length (entries_in image))
+members_within image (id ∷ ids) = type_more image id (member_types (map (member_at image) ids)) (members_within image ids)
+
+parameter_within : (n : ℕ) (b : Bool) (at : TypeAt) (ps : List Parameter) → ((to : ℕ) → at ≡ Some to → to < n) → AreWithin n (parameter_types ps) → AreWithin n (parameter_types ((if b then Typed at else More) ∷ ps))
+parameter_within n true at ps below rest = more_within n at (parameter_types ps) below rest
+parameter_within n false at ps below rest = rest
+
+parameters_within : (image : Image) (ids : List ℕ) → AreWithin (length (entries_in image)) (parameter_types (map (parameter_at image) ids))
+parameters_within image [] = none_within (length (entries_in image))
+parameters_within image (id ∷ ids) = parameter_within (length (entries_in image)) _ (type_at image id) (map (parameter_at image) ids) (type_within image id) (parameters_within image ids)
+
+none_shape : (n : ℕ) (s : ShapeOf) → types_reached s ≡ [] → IsWithin n s
+none_shape n s none = record { all = rw none (none_within n) }
+
+either : (n : ℕ) (b : Bool) (x y : ShapeOf) → IsWithin n x → IsWithin n y → IsWithin n (if b then x else y)
+either n true x y one another = one
+either n false x y one another = another
+
+function_within : (image : Image) (id : ℕ) (b : Bool) (ids : List ℕ) → IsWithin (length (entries_in image)) (function (type_at image id) (if b then Some (parameters_of image ids) else None))
+function_within image id true ids = record { all = type_more image id (parameter_types (parameters_of image ids)) (parameters_within image (filter (is_parameter image) ids)) }
+function_within image id false ids = record { all = type_more image id [] (none_within (length (entries_in image))) }
+
+aggregate_within : (image : Image) (id : ℕ) (word : TagKeyword) (name : Name) → IsWithin (length (entries_in image)) (aggregate_shape image id word name)
+aggregate_within image id word (Some name) = none_shape (length (entries_in image)) _ refl
+aggregate_within image id word None =
+    either (length (entries_in image)) (declared_at image id) (nameless word) (body word (is_odd image id) (members_in image id)) (none_shape (length (entries_in image)) _ refl)
+    (record { all = members_within image (filter (is_plain_member image) (children_at image id)) })
+
+enumeration_within : (image : Image) (id : ℕ) (name : Name) → IsWithin (length (entries_in image)) (enumeration_shape image id name)
+enumeration_within image id (Some name) = none_shape (length (entries_in image)) _ refl
+enumeration_within image id None =
+    either (length (entries_in image)) (declared_at image id) (nameless Enum) (enumeration (is_odd image id) (enumerators_in image id)) (none_shape (length (entries_in image)) _ refl) (none_shape (length (entries_in image)) _ refl)
+
+typed : (image : Image) (id : ℕ) (s : ShapeOf) → types_reached s ≡ type_at image id ∷ [] → IsWithin (length (entries_in image)) s
+typed image id s one = record { all = rw one (type_more image id [] (none_within (length (entries_in image)))) }
+
+-- the types that a shape of an image names are entries
+pub shape_within : (image : Image) (id : ℕ) → IsWithin (length (entries_in image)) (shape_in image id)
+unfolding shape_in
+shape_within image id =
+    either (length (entries_in image)) (tag_at image id == DW_TAG_base_type) (base (name_at image id)) _ (none_shape (length (entries_in image)) (base (name_at image id)) refl)
+    (either (length (entries_in image)) (tag_at image id == DW_TAG_typedef) (typedef (name_at image id)) _ (none_shape (length (entries_in image)) (typedef (name_at image id)) refl)
+    (either (length (entries_in image)) (tag_at image id == DW_TAG_const_type) (qualified Const (type_at image id)) _ (typed image id (qualified Const (type_at image id)) refl)
+    (either (length (entries_in image)) (tag_at image id == DW_TAG_volatile_type) (qualified Volatile (type_at image id)) _ (typed image id (qualified Volatile (type_at image id)) refl)
+    (either (length (entries_in image)) (tag_at image id == DW_TAG_restrict_type) (qualified Restrict (type_at image id)) _ (typed image id (qualified Restrict (type_at image id)) refl)
+    (either (length (entries_in image)) (tag_at image id == DW_TAG_atomic_type) (qualified Atomic (type_at image id)) _ (typed image id (qualified Atomic (type_at image id)) refl)
+    (either (length (entries_in image)) (tag_at image id == DW_TAG_pointer_type) (pointer (type_at image id)) _ (typed image id (pointer (type_at image id)) refl)
+    (either (length (entries_in image)) (tag_at image id == DW_TAG_array_type) (array (counts_in image id) (is_strange image id) (type_at image id)) _ (typed image id (array (counts_in image id) (is_strange image id) (type_at image id)) refl)
+    (either (length (entries_in image)) (tag_at image id == DW_TAG_subroutine_type) (function (type_at image id) (parameters_in image id)) _ (function_within image id (flag_at image id DW_AT_prototyped) (children_at image id))
+    (either (length (entries_in image)) (tag_at image id == DW_TAG_structure_type) (aggregate_shape image id Struct (name_at image id)) _ (aggregate_within image id Struct (name_at image id))
+    (either (length (entries_in image)) (tag_at image id == DW_TAG_union_type) (aggregate_shape image id Union (name_at image id)) _ (aggregate_within image id Union (name_at image id))
+    (either (length (entries_in image)) (tag_at image id == DW_TAG_enumeration_type) (enumeration_shape image id (name_at image id)) _ (enumeration_within image id (name_at image id))
+    (either (length (entries_in image)) (is_type_tag (tag_at image id)) foreign other (none_shape (length (entries_in image)) foreign refl) (none_shape (length (entries_in image)) other refl)))))))))))))
+
+-- ---- the same of the entry that is declared
+
+pub record IsSubjectWithin (n : ℕ) (s : SubjectOf) : Type 0 where
+  pub all : AreWithin n (types_declared s)
+
+no_types : (n : ℕ) (s : SubjectOf) → types_declared s ≡ [] → IsSubjectWithin n s
+no_types n s none = record { all = rw none (none_within n) }
+
+either_subject : (n : ℕ) (b : Bool) (x y : SubjectOf) → IsSubjectWithin n x → IsSubjectWithin n y → IsSubjectWithin n (if b then x else y)
+either_subject n true x y one another = one
+either_subject n false x y one another = another
+
+one_type : (image : Image) (id : ℕ) (s : SubjectOf) → types_declared s ≡ type_at image id ∷ [] → IsSubjectWithin (length (entries_in image)) s
+one_type image id s one = record { all = rw one (type_more image id [] (none_within (length (entries_in image)))) }
+
+aggregate_subject_within : (image : Image) (id : ℕ) (word : TagKeyword) → IsSubjectWithin (length (entries_in image)) (aggregate_in image id word)
+aggregate_subject_within image id word =
+    either_subject (length (entries_in image)) (declared_at image id) (declared_subject word (name_at image id)) (aggregate_subject word (name_at image id) (is_odd image id) (members_in image id))
+    (no_types (length (entries_in image)) _ refl) (record { all = members_within image (filter (is_plain_member image) (children_at image id)) })
+
+enumeration_subject_within : (image : Image) (id : ℕ) → IsSubjectWithin (length (entries_in image)) (enumeration_in image id)
+enumeration_subject_within image id =
+    either_subject (length (entries_in image)) (declared_at image id) (declared_subject Enum (name_at image id)) (enumeration_subject (name_at image id) (is_odd image id) (enumerators_in image id))
+    (no_types (length (entries_in image)) _ refl) (no_types (length (entries_in image)) _ refl)
+
+-- the types that a declaration of an image names are entries
+pub subject_within : (image : Image) (id : ℕ) → IsSubjectWithin (length (entries_in image)) (subject_in image id)
+unfolding subject_in
+subject_within image id =
+    let n = length (entries_in image) in
+    either_subject n (tag_at image id == DW_TAG_typedef) (typedef_subject (name_at image id) (type_at image id)) _ (one_type image id (typedef_subject (name_at image id) (type_at image id)) refl)
+    (either_subject n (tag_at image id == DW_TAG_variable) (variable_subject (name_at image id) (type_at image id)) _ (one_type image id (variable_subject (name_at image id) (type_at image id)) refl)
+    (either_subject n (tag_at image id == DW_TAG_structure_type) (aggregate_in image id Struct) _ (aggregate_subject_within image id Struct)
+    (either_subject n (tag_at image id == DW_TAG_union_type) (aggregate_in image id Union) _ (aggregate_subject_within image id Union)
+    (either_subject n (tag_at image id == DW_TAG_enumeration_type) (enumeration_in image id) no_subject (enumeration_subject_within image id) (no_types n no_subject refl)))))
+
+-- and so are the roots of some declarations
+pub roots_within : (image : Image) (ids : List ℕ) → All (λ to. to < length (entries_in image)) (roots_of (map (subject_in image) ids))
+roots_within image [] = All-nil (λ to. to < length (entries_in image))
+roots_within image (id ∷ ids) =
+    All-append (λ to. to < length (entries_in image)) (first_steps (subject_in image id)) (roots_of (map (subject_in image) ids)) (subject_within image id).all.all (roots_within image ids)

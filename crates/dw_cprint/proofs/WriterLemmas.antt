@@ -1,0 +1,435 @@
+-- One step of writing a type, over plain values.
+use Rattle.std.proofs.Common.{◌≡◌, ℕ, zero, suc, ℤ, ◌+◌, ◌<◌, Bool, true, false, List, [], ◌∷◌, ◌++◌, Option, Some, None, refl, sym, ◌∙◌, ap, subst, append_assoc, append-nil, drop, length, get_or, map}
+use Rattle.std.specs.Global.{Global}
+use Rattle.std.specs.Prelude.{is_some, Vec, flat_map, option_map, option_and_then, if◌then◌else◌}
+use Rattle.std.proofs.lemmas.Grind.{flat_map-append}
+use Rattle.std.proofs.lemmas.List.{drop_more}
+use Rattle.dw_cprint.specs.Declarations.{base_term, arrays, bits_of, is_miscounted, is_misplaced, is_cut_short, has_more, constants_of, parameters_by, members_by, term_by, declaration_by, term_at, parts_of, words_of}
+use Rattle.dw_cprint.specs.Declarators.{is_there, gap, pointer_row, opened, before, after, core, body_tokens, enumeration_tokens}
+use Rattle.dw_cprint.specs.Kept.{Writes, WritesParameter, kept_term}
+use Rattle.dw_cprint.specs.Legible.{is_identifier}
+use Rattle.dw_cprint.specs.Shapes.{Qualifier, TagKeyword, Parameter, Typed, More, Name, TypeAt, MemberOf, EnumeratorOf, ShapeOf, base, typedef, qualified, pointer, array, function, tagged, nameless, body, enumeration, foreign, other, typedef_subject, variable_subject, aggregate_subject, view_shape}
+use Rattle.dw_cprint.specs.Terms.{TypeWord, Enum, Constant, Valued, Term, Void, Named, Basic, Tagged, Body, Enumeration, Pointer, Function, Prototyped, Parameters, NoParameter, Parameter as ParameterTerm, Members, NoMember, Member as MemberTerm, Declaration, Typedef, Variable, Aggregate}
+use Rattle.dw_cprint.specs.Tokens.{Token, Blank, Star, Open, Close, LeftBrace, RightBrace, Semicolon, Comma, Dot, VoidWord, TypedefWord, TagWord, Identifier, spelling, text_of}
+use Rattle.dw_cprint.specs.Writing.{spell, qualifying, count_tokens, name_tokens, bits_tokens, ellipsis, constant, more_constants, constants, signature_tokens, more_parameters, members_tokens, declaration_tokens, written}
+use Rattle.dw_cprint.specs.declared.shape.Shape.{Shape}
+use Rattle.dw_cprint.specs.declared.survey.Survey.{Survey}
+use Rattle.dw_cprint.specs.declared.shape.Shape.TheVariants as shape
+use Rattle.dw_cprint.proofs.DeclaratorLemmas.{in_parts}
+use Rattle.dw_cprint.proofs.NameLemmas.{words-text}
+use Rattle.dw_cprint.proofs.OptionLemmas.{map_inverted, then_inverted, unless_inverted}
+
+-- ---- texts
+
+pub text-append : (xs ys : List Token) → text_of (xs ++ ys) ≡ text_of xs ++ text_of ys
+text-append xs ys = flat_map-append spelling xs ys
+
+-- one text behind another
+pub both : (a b : List Token) (old mid new : List ℕ) → Writes a old mid → Writes b mid new → Writes (a ++ b) old new
+both a b old mid new first second =
+    second ∙ ap (λ (u : List ℕ). u ++ text_of b) first ∙ append_assoc old (text_of a) (text_of b) ∙ ap (λ (u : List ℕ). old ++ u) (sym (text-append a b))
+
+-- no text
+pub same_text : (old : List ℕ) → Writes [] old old
+same_text old = sym (append-nil old)
+
+-- the same text in other tokens
+pub as_text : (a b : List Token) (old new : List ℕ) → text_of a ≡ text_of b → Writes a old new → Writes b old new
+as_text a b old new e h = h ∙ ap (λ (u : List ℕ). old ++ u) e
+
+-- the same tokens, written in another way
+pub as_tokens : (a b : List Token) (old new : List ℕ) → a ≡ b → Writes a old new → Writes b old new
+as_tokens a b old new e h = h ∙ ap (λ (u : List Token). old ++ text_of u) e
+
+-- ---- what stands before a declarator
+
+-- no declarator of its own belongs to the shape
+abbrev pub is_specifier : ShapeOf → Bool
+is_specifier (qualified q at) = false
+is_specifier (pointer at) = false
+is_specifier (array counts strange at) = false
+is_specifier (function at parameters) = false
+is_specifier _ = true
+
+record IsSpecifier (t : Term) : Type 0 where
+  pub front : (qs : List Qualifier) (inside : Bool) → qualifying qs ++ (core t ++ gap inside) ≡ before qs t inside
+  pub back : after t ≡ []
+
+specifier-named : (name : List ℕ) → IsSpecifier (Named name)
+specifier-named name = record { front = λ qs inside. refl; back = refl }
+
+specifier-base : (name : List ℕ) (t : Term) → base_term name ≡ Some t → IsSpecifier t
+specifier-base name t e = by_name (is_identifier name) (words_of 4 (parts_of name)) e
+  where
+    by_name : (b : Bool) (o : Option (List TypeWord)) → (if b then Some (Named name) else option_map Basic o) ≡ Some t → IsSpecifier t
+    by_name true o e = let same : Named name ≡ t = cc in subst IsSpecifier same (specifier-named name)
+    by_name false None e = absurd (cc)
+    by_name false (Some ws) e = let same : Basic ws ≡ t = cc in subst IsSpecifier same (record { front = λ qs inside. refl; back = refl })
+
+specifier-of : (term : TypeAt → Option Term) (s : ShapeOf) (t : Term) → is_specifier s ≡ true → term_by term s ≡ Some t → IsSpecifier t
+specifier-of term (base None) t is e = absurd (cc)
+specifier-of term (base (Some name)) t is e = specifier-base name t e
+specifier-of term (typedef None) t is e = absurd (cc)
+specifier-of term (typedef (Some name)) t is e = let same : Named name ≡ t = cc in subst IsSpecifier same (specifier-named name)
+specifier-of term (qualified q at) t is e = absurd (cc)
+specifier-of term (pointer at) t is e = absurd (cc)
+specifier-of term (array counts strange at) t is e = absurd (cc)
+specifier-of term (function at ps) t is e = absurd (cc)
+specifier-of term (tagged word name) t is e = let same : Tagged word name ≡ t = cc in subst IsSpecifier same (record { front = λ qs inside. refl; back = refl })
+specifier-of term (nameless word) t is e = absurd (cc)
+specifier-of term (body word odd ms) t is e =
+    let f = map_inverted (Body word) (members_by term ms) t e in
+    subst IsSpecifier f.2 (record {
+      front = λ qs inside. ap (λ (u : List Token). qualifying qs ++ TagWord word ∷ Blank ∷ LeftBrace ∷ Blank ∷ u) (append_assoc (members_tokens f.0) (RightBrace ∷ []) (gap inside));
+      back = refl;
+    })
+specifier-of term (enumeration odd es) t is e =
+    let f = map_inverted Enumeration (constants_of es) t e in
+    subst IsSpecifier f.2 (record {
+      front = λ qs inside. ap (λ (u : List Token). qualifying qs ++ TagWord Enum ∷ Blank ∷ LeftBrace ∷ Blank ∷ u) (append_assoc (constants f.0) (Blank ∷ RightBrace ∷ []) (gap inside));
+      back = refl;
+    })
+specifier-of term foreign t is e = absurd (cc)
+specifier-of term other t is e = absurd (cc)
+
+before-arrays : (counts : List (Option ℕ)) (u : Term) → before [] (arrays counts u) true ≡ before [] u true
+before-arrays [] u = refl
+before-arrays (c ∷ cs) u = before-arrays cs u
+
+after-arrays : (counts : List (Option ℕ)) (u : Term) → flat_map count_tokens counts ++ after u ≡ after (arrays counts u)
+after-arrays [] u = refl
+after-arrays (c ∷ cs) u = append_assoc (count_tokens c) (flat_map count_tokens cs) (after u) ∙ ap (λ (v : List Token). count_tokens c ++ v) (after-arrays cs u)
+
+-- the parts of a function's term
+record IsFunction (term : TypeAt → Option Term) (at : TypeAt) (ps : List Parameter) (t : Term) : Type 0 where
+  pub result : Term
+  pub is_result : term at ≡ Some result
+  pub placed : is_misplaced ps ≡ false
+  pub parameters : Parameters
+  pub are_parameters : parameters_by term ps ≡ Some parameters
+  pub is : Function result (Prototyped parameters (has_more ps)) ≡ t
+
+function-parts : (term : TypeAt → Option Term) (at : TypeAt) (ps : List Parameter) (t : Term) → term_by term (function at (Some ps)) ≡ Some t → IsFunction term at ps t
+function-parts term at ps t e =
+    let called : Term → Option Term = λ (t : Term). option_map (λ (us : Parameters). Function t (Prototyped us (has_more ps))) (parameters_by term ps) in
+    let u = unless_inverted (is_misplaced ps) (option_and_then called (term at)) t e in
+    let r = then_inverted called (term at) t u.1 in
+    let f = map_inverted (λ (us : Parameters). Function r.0 (Prototyped us (has_more ps))) (parameters_by term ps) t r.2 in
+    record { result = r.0; is_result = r.1; placed = u.0; parameters = f.0; are_parameters = f.1; is = f.2 }
+
+-- the step from a type to the shape of its entry
+pub step-at : (shapes : ℕ → ShapeOf) (k below : ℕ) (at : TypeAt) (n : ℕ) (seen s : ShapeOf) → at ≡ Some n → term_at k shapes (Some n) ≡ term_by (term_at below shapes) seen → seen ≡ s
+    → term_at k shapes at ≡ term_by (term_at below shapes) s
+step-at shapes k below at n seen s is found same = ap (term_at k shapes) is ∙ found ∙ ap (term_by (term_at below shapes)) same
+
+pub void-at : (shapes : ℕ → ShapeOf) (k : ℕ) (at : TypeAt) (t : Term) → at ≡ None → term_at k shapes at ≡ Some t → Void ≡ t
+void-at shapes zero at t is e = absurd (cc)
+void-at shapes (suc k) at t is e = let found : Some Void ≡ Some t = sym (ap (term_at (suc k) shapes) is) ∙ e in cc
+
+module _ (term : TypeAt → Option Term) (o : Option Term) (old new : List ℕ) where
+  pub pointer_before : (mid mid2 mid3 : List ℕ) (qs : List Qualifier) (inside : Bool) (at : TypeAt) → o ≡ term_by term (pointer at)
+      → ((t : Term) → term at ≡ Some t → Writes (before [] t true) old mid) → ((t : Term) → term at ≡ Some t → Writes (opened t) mid mid2) → mid3 ≡ mid2 ++ 42 ∷ []
+      → Writes (pointer_row qs inside) mid3 new → (t : Term) → o ≡ Some t → Writes (before qs t inside) old new
+  pointer_before mid mid2 mid3 qs inside at step inner opens star row t e =
+      let f = map_inverted Pointer (term at) t (sym step ∙ e) in
+      let P : Term → Type 0 = λ u. Writes (before qs u inside) old new in
+      subst P f.2 (both (before [] f.0 true) (opened f.0 ++ Star ∷ pointer_row qs inside) old mid new (inner f.0 f.1)
+      (both (opened f.0) (Star ∷ pointer_row qs inside) mid mid2 new (opens f.0 f.1) (both (Star ∷ []) (pointer_row qs inside) mid2 mid3 new star row)))
+
+  pub array_before : (qs : List Qualifier) (inside : Bool) (counts : List (Option ℕ)) (strange : Bool) (at : TypeAt) → o ≡ term_by term (array counts strange at)
+      → ((t : Term) → term at ≡ Some t → Writes (before [] t true) old new) → (t : Term) → o ≡ Some t → Writes (before qs t inside) old new
+  array_before qs inside [] strange at step inner t e = absurd (cc)
+  array_before qs inside (c ∷ cs) strange at step inner t e =
+      let u = unless_inverted (is_miscounted (c ∷ cs)) (option_map (arrays (c ∷ cs)) (term at)) t (sym step ∙ e) in
+      let f = map_inverted (arrays (c ∷ cs)) (term at) t u.1 in
+      let P : Term → Type 0 = λ u. Writes (before qs u inside) old new in
+      subst P f.2 (as_tokens (before [] f.0 true) (before [] (arrays cs f.0) true) old new (sym (before-arrays cs f.0)) (inner f.0 f.1))
+
+  pub specifier_before : (mid mid2 : List ℕ) (qs : List Qualifier) (inside : Bool) (s : ShapeOf) → is_specifier s ≡ true → o ≡ term_by term s
+      → Writes (qualifying qs) old mid → ((t : Term) → term_by term s ≡ Some t → Writes (core t) mid mid2) → Writes (gap inside) mid2 new → (t : Term) → o ≡ Some t → Writes (before qs t inside) old new
+  specifier_before mid mid2 qs inside s is step row inner end t e =
+      let spec = specifier-of term s t is (sym step ∙ e) in
+      as_tokens (qualifying qs ++ (core t ++ gap inside)) (before qs t inside) old new (spec.front qs inside)
+      (both (qualifying qs) (core t ++ gap inside) old mid new row (both (core t) (gap inside) mid mid2 new (inner t (sym step ∙ e)) end))
+
+  -- ---- what stands behind it
+
+  pub array_after : (mid : List ℕ) (counts : List (Option ℕ)) (strange : Bool) (at : TypeAt) → o ≡ term_by term (array counts strange at) → Writes (flat_map count_tokens counts) old mid
+      → ((t : Term) → term at ≡ Some t → Writes (after t) mid new) → (t : Term) → o ≡ Some t → Writes (after t) old new
+  array_after mid counts strange at step brackets inner t e =
+      let u = unless_inverted (is_miscounted counts) (option_map (arrays counts) (term at)) t (sym step ∙ e) in
+      let f = map_inverted (arrays counts) (term at) t u.1 in
+      let P : Term → Type 0 = λ u. Writes (after u) old new in
+      subst P f.2 (as_tokens (flat_map count_tokens counts ++ after f.0) (after (arrays counts f.0)) old new (after-arrays counts f.0) (both (flat_map count_tokens counts) (after f.0) old mid new brackets (inner f.0 f.1)))
+
+  pub prototype_after : (mid mid2 mid3 : List ℕ) (at : TypeAt) (ps : List Parameter) → o ≡ term_by term (function at (Some ps)) → mid ≡ old ++ 40 ∷ []
+      → (is_misplaced ps ≡ false → (us : Parameters) → parameters_by term ps ≡ Some us → Writes (signature_tokens (Prototyped us (has_more ps))) mid mid2) → mid3 ≡ mid2 ++ 41 ∷ []
+      → ((t : Term) → term at ≡ Some t → Writes (after t) mid3 new) → (t : Term) → o ≡ Some t → Writes (after t) old new
+  prototype_after mid mid2 mid3 at ps step opens written closes inner t e =
+      let f = function-parts term at ps t (sym step ∙ e) in
+      let s = signature_tokens (Prototyped f.parameters (has_more ps)) in
+      let P : Term → Type 0 = λ u. Writes (after u) old new in
+      subst P f.is
+      (both (Open ∷ []) (s ++ Close ∷ after f.result) old mid new opens
+      (both s (Close ∷ after f.result) mid mid2 new (written f.placed f.parameters f.are_parameters) (both (Close ∷ []) (after f.result) mid2 mid3 new closes (inner f.result f.is_result))))
+
+-- ---- a type with a name inside
+
+there-name : (name : Name) → is_there (name_tokens name) ≡ is_some name
+there-name None = refl
+there-name (Some name) = refl
+
+pub named_written : (term : TypeAt → Option Term) (at : TypeAt) (name : Name) (old mid mid2 new : List ℕ) → ((t : Term) → term at ≡ Some t → Writes (before [] t (is_some name)) old mid)
+    → Writes (name_tokens name) mid mid2 → ((t : Term) → term at ≡ Some t → Writes (after t) mid2 new) → (t : Term) → term at ≡ Some t → Writes (spell [] t (name_tokens name)) old new
+named_written term at name old mid mid2 new front word back t e =
+    let d = name_tokens name in
+    let P : Bool → Type 0 = λ b. before [] t b ++ (d ++ after t) ≡ spell [] t d in
+    as_tokens (before [] t (is_some name) ++ (d ++ after t)) (spell [] t d) old new (subst P (there-name name) (sym (in_parts [] t d)))
+    (both (before [] t (is_some name)) (d ++ after t) old mid new (front t e) (both d (after t) mid mid2 new word (back t e)))
+
+-- ---- a specifier without its qualifiers
+
+base-core : (name : List ℕ) (t : Term) → base_term name ≡ Some t → text_of (Identifier name ∷ []) ≡ text_of (core t)
+base-core name t e = by_name (is_identifier name) (words_of 4 (parts_of name)) refl e
+  where
+    by_name : (b : Bool) (o : Option (List TypeWord)) → words_of 4 (parts_of name) ≡ o → (if b then Some (Named name) else option_map Basic o) ≡ Some t → text_of (Identifier name ∷ []) ≡ text_of (core t)
+    by_name true o w e = let same : Named name ≡ t = cc in ap (λ (u : Term). text_of (core u)) same
+    by_name false None w e = absurd (cc)
+    by_name false (Some ws) w e =
+        let same : Basic ws ≡ t = cc in
+        append-nil name ∙ sym (words-text name ws w) ∙ ap (λ (u : Term). text_of (core u)) same
+
+module _ (term : TypeAt → Option Term) (old new : List ℕ) where
+  pub base_core : (name : Name) → Writes (name_tokens name) old new → (t : Term) → term_by term (base name) ≡ Some t → Writes (core t) old new
+  base_core None h t e = absurd (cc)
+  base_core (Some name) h t e = as_text (Identifier name ∷ []) (core t) old new (base-core name t e) h
+
+  pub body_core : (mid mid2 : List ℕ) (word : TagKeyword) (odd : Bool) (ms : List MemberOf) → mid ≡ old ++ spelling (TagWord word) → mid2 ≡ mid ++ 32 ∷ []
+      → ((us : Members) → members_by term ms ≡ Some us → Writes (body_tokens us) mid2 new) → (t : Term) → term_by term (body word odd ms) ≡ Some t → Writes (core t) old new
+  body_core mid mid2 word odd ms tag blank inner t e =
+      let f = map_inverted (Body word) (members_by term ms) t e in
+      let P : Term → Type 0 = λ u. Writes (core u) old new in
+      subst P f.2
+      (both (TagWord word ∷ []) (Blank ∷ body_tokens f.0) old mid new (tag ∙ ap (λ (u : List ℕ). old ++ u) (sym (append-nil (spelling (TagWord word))))) (both (Blank ∷ []) (body_tokens f.0) mid mid2 new blank (inner f.0 f.1)))
+
+-- ---- lists, item by item
+
+-- what is left of a list, one item on
+pub next-of : {X Y : Type 0} (f : X → Y) (xs : List X) (i : ℕ) (d : X) → i < length xs → map f (drop i xs) ≡ f (get_or xs i d) ∷ map f (drop (i + 1) xs)
+next-of f xs i d within = rw (drop_more xs i d within) refl
+
+-- the members that are left are still to be written
+pub record MembersLeft (term : TypeAt → Option Term) (all : List MemberOf) (old : List ℕ) (left : List MemberOf) (out : List ℕ) : Type 0 where
+  pub rest : (us : Members) → members_by term all ≡ Some us → (vs : Members) × (members_by term left ≡ Some vs) × (out ++ text_of (members_tokens vs) ≡ old ++ text_of (members_tokens us))
+
+pub members_start : (term : TypeAt → Option Term) (all : List MemberOf) (old : List ℕ) → MembersLeft term all old all old
+members_start term all old = record { rest = λ us e. (us, e, refl) }
+
+member-tokens : (name : Name) (t : Term) (bits : Option ℕ) (us : Members)
+    → (spell [] t (name_tokens name) ++ (bits_tokens bits ++ Semicolon ∷ Blank ∷ [])) ++ members_tokens us ≡ members_tokens (MemberTerm name t bits us)
+member-tokens name t bits us =
+    append_assoc (spell [] t (name_tokens name)) (bits_tokens bits ++ Semicolon ∷ Blank ∷ []) (members_tokens us)
+    ∙ ap (λ (u : List Token). spell [] t (name_tokens name) ++ u) (append_assoc (bits_tokens bits) (Semicolon ∷ Blank ∷ []) (members_tokens us))
+
+-- what is written is followed by the same rest
+moved : (a rest whole : List Token) (old out out' all : List ℕ) → Writes a out out' → a ++ rest ≡ whole → out ++ text_of whole ≡ old ++ all → out' ++ text_of rest ≡ old ++ all
+moved a rest whole old out out' all h parts so_far =
+    ap (λ (u : List ℕ). u ++ text_of rest) h ∙ append_assoc out (text_of a) (text_of rest) ∙ ap (λ (u : List ℕ). out ++ u) (sym (text-append a rest))
+    ∙ ap (λ (u : List Token). out ++ text_of u) parts ∙ so_far
+
+pub members_next : (term : TypeAt → Option Term) (all : List MemberOf) (m : MemberOf) (left : List MemberOf) (old out out' : List ℕ)
+    → MembersLeft term all old (m ∷ left) out → ((t : Term) → term m.type_at ≡ Some t → Writes (spell [] t (name_tokens m.name) ++ (bits_tokens (bits_of m.bits) ++ Semicolon ∷ Blank ∷ [])) out out')
+    → MembersLeft term all old left out'
+members_next term all m left old out out' so_far written = record {
+  rest = λ us e.
+      let r = so_far.rest us e in
+      let first = then_inverted (λ (t : Term). option_map (MemberTerm m.name t (bits_of m.bits)) (members_by term left)) (term m.type_at) r.0 r.1 in
+      let others = map_inverted (MemberTerm m.name first.0 (bits_of m.bits)) (members_by term left) r.0 first.2 in (
+        others.0,
+        others.1,
+        moved (spell [] first.0 (name_tokens m.name) ++ (bits_tokens (bits_of m.bits) ++ Semicolon ∷ Blank ∷ [])) (members_tokens others.0) (members_tokens r.0) old out out' (text_of (members_tokens us)) (written first.0 first.1)
+            (member-tokens m.name first.0 (bits_of m.bits) others.0 ∙ ap members_tokens others.2) r.2,
+      );
+}
+
+pub members_done : (term : TypeAt → Option Term) (all : List MemberOf) (begin old out new : List ℕ) → old ≡ begin ++ 123 ∷ 32 ∷ [] → MembersLeft term all old [] out → new ≡ out ++ 125 ∷ []
+    → (us : Members) → members_by term all ≡ Some us → Writes (body_tokens us) begin new
+members_done term all begin old out new opens left closes us e =
+    let r = left.rest us e in
+    let none : r.0 ≡ NoMember = cc in
+    let all_out : out ≡ old ++ text_of (members_tokens us) = sym (append-nil out) ∙ ap (λ (u : Members). out ++ text_of (members_tokens u)) (sym none) ∙ r.2 in
+    both (LeftBrace ∷ Blank ∷ []) (members_tokens us ++ RightBrace ∷ []) begin old new opens (both (members_tokens us) (RightBrace ∷ []) old out new all_out closes)
+
+-- the enumerators that are left are still to be written
+pub record EnumeratorsLeft (all : List EnumeratorOf) (old : List ℕ) (left : List EnumeratorOf) (out : List ℕ) : Type 0 where
+  pub rest : (us : List Constant) → constants_of all ≡ Some us → (vs : List Constant) × (constants_of left ≡ Some vs) × (out ++ text_of (more_constants vs) ≡ old ++ text_of (more_constants us))
+
+pub enumerators_start : (all : List EnumeratorOf) (old : List ℕ) → EnumeratorsLeft all old all old
+enumerators_start all old = record { rest = λ us e. (us, e, refl) }
+
+-- the constants of one enumerator more
+record IsMoreConstants (x : EnumeratorOf) (es : List EnumeratorOf) (cs : List Constant) : Type 0 where
+  pub name : List ℕ
+  pub value : ℤ
+  pub others : List Constant
+  pub is_name : x.name ≡ Some name
+  pub is_value : x.value ≡ Some value
+  pub are_others : constants_of es ≡ Some others
+  pub is : Valued name value ∷ others ≡ cs
+
+more-constants : (x : EnumeratorOf) (es : List EnumeratorOf) (cs : List Constant) → constants_of (x ∷ es) ≡ Some cs → IsMoreConstants x es cs
+more-constants x es cs e =
+    let rest = constants_of es in
+    let name = then_inverted (λ (name : List ℕ). option_and_then (λ (value : ℤ). option_map (λ (cs : List Constant). Valued name value ∷ cs) rest) x.value) x.name cs e in
+    let value = then_inverted (λ (value : ℤ). option_map (λ (cs : List Constant). Valued name.0 value ∷ cs) rest) x.value cs name.2 in
+    let others = map_inverted (λ (cs : List Constant). Valued name.0 value.0 ∷ cs) rest cs value.2 in
+    record { name = name.0; value = value.0; others = others.0; is_name = name.1; is_value = value.1; are_others = others.1; is = others.2 }
+
+-- an enumerator is written
+abbrev WritesOne : EnumeratorOf → List ℕ → List ℕ → Type 0
+WritesOne x old new = (name : List ℕ) (value : ℤ) → x.name ≡ Some name → x.value ≡ Some value → Writes (constant (Valued name value)) old new
+
+pub enumerators_next : (all : List EnumeratorOf) (x : EnumeratorOf) (left : List EnumeratorOf) (old out mid out' : List ℕ) → EnumeratorsLeft all old (x ∷ left) out → mid ≡ out ++ 44 ∷ 32 ∷ []
+    → WritesOne x mid out' → EnumeratorsLeft all old left out'
+enumerators_next all x left old out mid out' so_far comma written = record {
+  rest = λ us e.
+      let r = so_far.rest us e in
+      let m = more-constants x left r.0 r.1 in
+      let c = constant (Valued m.name m.value) in (
+        m.others,
+        m.are_others,
+        moved (Comma ∷ Blank ∷ c) (more_constants m.others) (more_constants r.0) old out out' (text_of (more_constants us)) (both (Comma ∷ Blank ∷ []) c out mid out' comma (written m.name m.value m.is_name m.is_value)) (ap more_constants m.is) r.2,
+      );
+}
+
+pub enumerators_done : (x : EnumeratorOf) (others : List EnumeratorOf) (begin mid old out new : List ℕ) → mid ≡ begin ++ 123 ∷ 32 ∷ [] → WritesOne x mid old → EnumeratorsLeft others old [] out
+    → new ≡ out ++ 32 ∷ 125 ∷ [] → (cs : List Constant) → constants_of (x ∷ others) ≡ Some cs → Writes (enumeration_tokens cs) begin new
+enumerators_done x others begin mid old out new opens first left closes cs e =
+    let m = more-constants x others cs e in
+    let r = left.rest m.others m.are_others in
+    let none : r.0 ≡ [] = cc in
+    let c = constant (Valued m.name m.value) in
+    let all_out : out ≡ old ++ text_of (more_constants m.others) = sym (append-nil out) ∙ ap (λ (u : List Constant). out ++ text_of (more_constants u)) (sym none) ∙ r.2 in
+    let P : List Constant → Type 0 = λ u. Writes (enumeration_tokens u) begin new in
+    subst P m.is
+    (both (LeftBrace ∷ Blank ∷ []) ((c ++ more_constants m.others) ++ Blank ∷ RightBrace ∷ []) begin mid new opens
+    (both (c ++ more_constants m.others) (Blank ∷ RightBrace ∷ []) mid out new (both c (more_constants m.others) mid old out (first m.name m.value m.is_name m.is_value) all_out) closes))
+
+-- what stands behind the first parameter
+abbrev pub following : Parameters → List Parameter → List Token
+following us ps = more_parameters us ++ ellipsis (has_more ps)
+
+-- the parameters that are left are still to be written
+pub record ParametersLeft (term : TypeAt → Option Term) (all : List Parameter) (old : List ℕ) (left : List Parameter) (out : List ℕ) : Type 0 where
+  pub rest : is_cut_short all ≡ false → (us : Parameters) → parameters_by term all ≡ Some us
+      → (vs : Parameters) × (is_cut_short left ≡ false) × (parameters_by term left ≡ Some vs) × (out ++ text_of (following vs left) ≡ old ++ text_of (following us all))
+
+pub parameters_start : (term : TypeAt → Option Term) (all : List Parameter) (old : List ℕ) → ParametersLeft term all old all old
+parameters_start term all old = record { rest = λ whole us e. (us, whole, e, refl) }
+
+-- a parameter is written
+abbrev WritesItem : (TypeAt → Option Term) → Parameter → List ℕ → List ℕ → Type 0
+WritesItem term (Typed at) old new = (t : Term) → term at ≡ Some t → Writes (spell [] t []) old new
+WritesItem term More old new = Writes (Dot ∷ Dot ∷ Dot ∷ []) old new
+
+pub parameters_next : (term : TypeAt → Option Term) (all : List Parameter) (p : Parameter) (left : List Parameter) (old out mid out' : List ℕ) → ParametersLeft term all old (p ∷ left) out → mid ≡ out ++ 44 ∷ 32 ∷ []
+    → WritesItem term p mid out' → ParametersLeft term all old left out'
+parameters_next term all (Typed at) left old out mid out' so_far comma written = record {
+  rest = λ whole us e.
+      let r = so_far.rest whole us e in
+      let first = then_inverted (λ (t : Term). option_map (ParameterTerm t) (parameters_by term left)) (term at) r.0 r.2 in
+      let others = map_inverted (ParameterTerm first.0) (parameters_by term left) r.0 first.2 in
+      let s = spell [] first.0 [] in
+      let parts : (Comma ∷ Blank ∷ s) ++ following others.0 left ≡ following r.0 left =
+      ap (λ (u : List Token). Comma ∷ Blank ∷ u) (sym (append_assoc s (more_parameters others.0) (ellipsis (has_more left)))) ∙ ap (λ (u : Parameters). following u left) others.2 in
+      (others.0, r.1, others.1, moved (Comma ∷ Blank ∷ s) (following others.0 left) (following r.0 left) old out out' (text_of (following us all)) (both (Comma ∷ Blank ∷ []) s out mid out' comma (written first.0 first.1)) parts r.3);
+}
+parameters_next term all More [] old out mid out' so_far comma written = record {
+  rest = λ whole us e.
+      let r = so_far.rest whole us e in
+      let none : NoParameter ≡ r.0 = cc in
+      let dots = Dot ∷ Dot ∷ Dot ∷ [] in
+      let parts : (Comma ∷ Blank ∷ dots) ++ [] ≡ following r.0 (More ∷ []) = ap (λ (u : Parameters). following u (More ∷ [])) none in
+      (NoParameter, refl, refl, moved (Comma ∷ Blank ∷ dots) [] (following r.0 (More ∷ [])) old out out' (text_of (following us all)) (both (Comma ∷ Blank ∷ []) dots out mid out' comma written) parts r.3);
+}
+parameters_next term all More (another ∷ left) old out mid out' so_far comma written = record {
+  rest = λ whole us e. let r = so_far.rest whole us e in let cut = r.1 in absurd (cc);
+}
+
+pub parameters_done : (term : TypeAt → Option Term) (p : Parameter) (others : List Parameter) (begin old new : List ℕ) → WritesItem term p begin old → ParametersLeft term others old [] new
+    → is_misplaced (p ∷ others) ≡ false → (us : Parameters) → parameters_by term (p ∷ others) ≡ Some us → Writes (signature_tokens (Prototyped us (has_more (p ∷ others)))) begin new
+parameters_done term More others begin old new first left placed us e = absurd (cc)
+parameters_done term (Typed at) others begin old new first left placed us e =
+    let t = then_inverted (λ (t : Term). option_map (ParameterTerm t) (parameters_by term others)) (term at) us e in
+    let rest = map_inverted (ParameterTerm t.0) (parameters_by term others) us t.2 in
+    let r = left.rest placed rest.0 rest.1 in
+    let none : r.0 ≡ NoParameter = cc in
+    let all_out : new ≡ old ++ text_of (following rest.0 others) = sym (append-nil new) ∙ ap (λ (u : Parameters). new ++ text_of (following u [])) (sym none) ∙ r.3 in
+    let P : Parameters → Type 0 = λ u. Writes (signature_tokens (Prototyped u (has_more others))) begin new in
+    subst P rest.2 (both (spell [] t.0 []) (following rest.0 others) begin old new (first t.0 t.1) all_out)
+
+pub no_parameters : (term : TypeAt → Option Term) (old new : List ℕ) → Writes (VoidWord ∷ []) old new → (us : Parameters) → parameters_by term [] ≡ Some us → Writes (signature_tokens (Prototyped us (has_more []))) old new
+no_parameters term old new h us e =
+    let none : NoParameter ≡ us = cc in
+    let P : Parameters → Type 0 = λ u. Writes (signature_tokens (Prototyped u false)) old new in subst P none h
+
+-- ---- declarations
+
+module _ (term : TypeAt → Option Term) (old mid mid2 new : List ℕ) where
+  pub typedef_done : (name : Name) (at : TypeAt) → Writes (TypedefWord ∷ Blank ∷ []) old mid → ((t : Term) → term at ≡ Some t → Writes (spell [] t (name_tokens name)) mid mid2) → Writes (Semicolon ∷ []) mid2 new
+      → (d : Declaration) → declaration_by term (typedef_subject name at) ≡ Some d → new ≡ old ++ written d
+  typedef_done None at first inner last d e = absurd (cc)
+  typedef_done (Some name) at first inner last d e =
+      let f = map_inverted (Typedef name) (term at) d e in
+      let s = spell [] f.0 (Identifier name ∷ []) in
+      let P : Declaration → Type 0 = λ d. new ≡ old ++ written d in
+      subst P f.2 (both (TypedefWord ∷ Blank ∷ []) (s ++ Semicolon ∷ []) old mid new first (both s (Semicolon ∷ []) mid mid2 new (inner f.0 f.1) last))
+
+  pub variable_done : (name : Name) (at : TypeAt) → ((t : Term) → term at ≡ Some t → Writes (spell [] t (name_tokens name)) old mid) → Writes (Semicolon ∷ []) mid new
+      → (d : Declaration) → declaration_by term (variable_subject name at) ≡ Some d → new ≡ old ++ written d
+  variable_done None at inner last d e = absurd (cc)
+  variable_done (Some name) at inner last d e =
+      let f = map_inverted (Variable name) (term at) d e in
+      let P : Declaration → Type 0 = λ d. new ≡ old ++ written d in
+      subst P f.2 (both (spell [] f.0 (Identifier name ∷ [])) (Semicolon ∷ []) old mid new (inner f.0 f.1) last)
+
+  pub aggregate_done : (mid3 : List ℕ) (word : TagKeyword) (name : Name) (odd : Bool) (ms : List MemberOf) → Writes (TagWord word ∷ Blank ∷ name_tokens name) old mid → Writes (Blank ∷ []) mid mid2
+      → ((us : Members) → members_by term ms ≡ Some us → Writes (body_tokens us) mid2 mid3) → Writes (Semicolon ∷ []) mid3 new
+      → (d : Declaration) → declaration_by term (aggregate_subject word name odd ms) ≡ Some d → new ≡ old ++ written d
+  aggregate_done mid3 word None odd ms first gap inner last d e = absurd (cc)
+  aggregate_done mid3 word (Some name) odd ms first gap inner last d e =
+      let f = map_inverted (Aggregate word name) (members_by term ms) d e in
+      let tag = TagWord word ∷ Blank ∷ Identifier name ∷ [] in
+      let body = body_tokens f.0 in
+      let same : body ++ Semicolon ∷ [] ≡ LeftBrace ∷ Blank ∷ (members_tokens f.0 ++ RightBrace ∷ Semicolon ∷ []) =
+      ap (λ (u : List Token). LeftBrace ∷ Blank ∷ u) (append_assoc (members_tokens f.0) (RightBrace ∷ []) (Semicolon ∷ [])) in
+      let P : Declaration → Type 0 = λ d. new ≡ old ++ written d in
+      subst P f.2
+      (as_tokens (tag ++ Blank ∷ (body ++ Semicolon ∷ [])) (declaration_tokens (Aggregate word name f.0)) old new (ap (λ (u : List Token). tag ++ Blank ∷ u) same)
+      (both tag (Blank ∷ (body ++ Semicolon ∷ [])) old mid new first (both (Blank ∷ []) (body ++ Semicolon ∷ []) mid mid2 new gap (both body (Semicolon ∷ []) mid2 mid3 new (inner f.0 f.1) last))))
+
+-- a parameter is written
+pub item-of : (s : Survey) (k : ℕ) (p : Parameter) (old new : List ℕ) → WritesParameter s k p old new → WritesItem (kept_term s k) p old new
+item-of s k (Typed at) old new h = h
+item-of s k More old new h = h
+
+-- ---- shapes as the code has them
+
+pub specifier-shape : (s : Shape) → ((q : Qualifier) (at : TypeAt) → s ≡ shape.Qualified q at → ⊥) → ((at : TypeAt) → s ≡ shape.Pointer at → ⊥) → ((counts : Vec (Option ℕ) Global) (strange : Bool) (at : TypeAt) → s ≡ shape.Array counts strange at → ⊥)
+    → ((at : TypeAt) (parameters : Option (Vec Parameter Global)) → s ≡ shape.Function at parameters → ⊥) → is_specifier (view_shape s) ≡ true
+specifier-shape (shape.Base name) a b c d = refl
+specifier-shape (shape.Typedef name) a b c d = refl
+specifier-shape (shape.Qualified q at) a b c d = absurd (a q at refl)
+specifier-shape (shape.Pointer at) a b c d = absurd (b at refl)
+specifier-shape (shape.Array counts strange at) a b c d = absurd (c counts strange at refl)
+specifier-shape (shape.Function at parameters) a b c d = absurd (d at parameters refl)
+specifier-shape (shape.Tagged word name) a b c d = refl
+specifier-shape (shape.Nameless word) a b c d = refl
+specifier-shape (shape.Body word odd members) a b c d = refl
+specifier-shape (shape.Enumeration odd enumerators) a b c d = refl
+specifier-shape shape.Foreign a b c d = refl
+specifier-shape shape.Other a b c d = refl
+
+pub some-mapped : {X Y : Type 0} (f : X → Y) (o : Option X) → is_some o ≡ is_some (option_map f o)
+some-mapped f None = refl
+some-mapped f (Some x) = refl

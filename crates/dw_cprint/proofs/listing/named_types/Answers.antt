@@ -1,0 +1,38 @@
+use Rattle.std.proofs.Common.{◌≡◌, ℕ, ◌+◌, ◌++◌, ◌∷◌, [], List, Vec, sym, ap, ◌∙◌, subst, arith}
+use Rattle.std.specs.Global.{Global}
+use Rattle.dw_image.specs.Images.{entries_in}
+use Rattle.dw_cprint.specs.EntryShapes.{subject_in}
+use Rattle.dw_cprint.specs.Listings.{is_named_type}
+use Rattle.dw_cprint.proofs.ListingLemmas.{AreNamedBelow, nth-number, nth-past, named-more, named-passed, named-done}
+use Rattle.dw_cprint.proofs.listing.named_types.Goals as goal
+use Rattle.dw_cprint.proofs.listing.named_types.Goals.{in-Some+then-is_named_type+in_ok-push, in-Some+else-is_named_type, in_default}
+
+pub loop-k-preserved : goal.loop-k-preserved
+loop-k-preserved c =
+    let image = c.args.image.now in
+    let k = c.loop-k.k in
+    let named = c.loop-k.named.items in
+    let P : List ℕ → Type 0 = λ xs. AreNamedBelow image (k + 1) xs in
+    let items = λ (v : Vec ℕ Global). v.items in
+    elim c.match-nth.branch [
+      | in-Some+then-is_named_type+in_ok-push w ↦
+          let at : k ≡ w.in-Some.id = nth-number (entries_in image) k w.in-Some.id (sym c.nth.ensures.exact ∙ w.in-Some.is) in
+          subst P (ap items (sym w.named-is))
+          (named-more image k named w.push.new.self.items (w.in_ok-push.ensures.items ∙ ap (λ (n : ℕ). named ++ n ∷ []) (sym at))
+          (ap (λ n. is_named_type (subject_in image n)) at ∙ (sym w.is_named_type.ensures ∙ w.if-is_named_type.true)) c.loop-k.invariant)
+      | in-Some+else-is_named_type w ↦
+          let at : k ≡ w.in-Some.id = nth-number (entries_in image) k w.in-Some.id (sym c.nth.ensures.exact ∙ w.in-Some.is) in
+          subst P (ap items (sym w.named-is)) (named-passed image k named (ap (λ n. is_named_type (subject_in image n)) at ∙ (sym w.is_named_type.ensures ∙ w.if-is_named_type.false)) c.loop-k.invariant)
+      | in_default w ↦
+          let over = nth-past (entries_in image) k (sym c.nth.ensures.exact ∙ w.in_default.is) in
+          let test = c.loop-k-test.true in
+          let end = c.entries-k-end.ensures in
+          absurd (omega arith)
+    ]
+
+pub returns : goal.returns
+returns c =
+    let test = c.loop-k-test.false in
+    let end = c.entries-k-end.ensures in
+    let high = c.loop-k.auto.k-end in
+    named-done c.args.image.now c.loop-k.k c.loop-k.named.items (omega arith) (omega arith) c.loop-k.invariant

@@ -1,0 +1,5 @@
+use Rattle.dw_cprint.proofs.ListingLemmas.{AreNamedBelow}
+use Rattle.dw_cprint.proofs.listing.named_types.Given as goal
+
+abbrev pub invariant-loop-k : goal.invariant-loop-k
+invariant-loop-k l = AreNamedBelow l.image l.k l.named.items

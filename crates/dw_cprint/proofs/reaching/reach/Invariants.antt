@@ -1,0 +1,18 @@
+use Rattle.std.proofs.Common.{◌≡◌, ◌-◌, length, map}
+use Rattle.std.specs.Prelude.{All}
+use Rattle.dw_image.specs.Images.{entries_in}
+use Rattle.dw_cprint.specs.EntryShapes.{shape_in}
+use Rattle.dw_cprint.specs.Regular.{IsRegular}
+use Rattle.dw_cprint.specs.Shapes.{view_shape}
+use Rattle.dw_cprint.specs.declared.shape.Shape.{Shape}
+use Rattle.dw_cprint.specs.Steps.{entries_of}
+use Rattle.dw_cprint.proofs.ReachLemmas.{IsSoFar}
+use Rattle.dw_cprint.proofs.reaching.reach.Given as goal
+
+abbrev pub invariant-loop-alloc : goal.invariant-loop-alloc
+invariant-loop-alloc l =
+    IsSoFar (shape_in l.image) (entries_of l.fn.types) l.places.items l.found.items l.rows.items (map view_shape l.shapes.items)
+    × (length l.places.items ≡ length (entries_in l.image)) × All (λ (shape : Shape). IsRegular (view_shape shape)) l.shapes.items
+
+abbrev pub decreases-loop-alloc : goal.decreases-loop-alloc
+decreases-loop-alloc l = length (entries_in l.image) - length l.rows.items

@@ -1,0 +1,70 @@
+-- The text of a type in two parts: what stands before its declarator, and what behind it.
+use Rattle.std.specs.Prelude.{Bool, true, false, ◌||◌, List, [], ◌∷◌, ◌++◌}
+use Rattle.dw_cprint.specs.Terms.{Qualifier, Enum, Constant, Members, Term, Void, Named, Basic, Tagged, Body, Enumeration, Qualified, Pointer, Array, Function}
+use Rattle.dw_cprint.specs.Tokens.{Token, Blank, Star, Open, Close, LeftBrace, RightBrace, VoidWord, TagWord, QualifierWord, Identifier}
+use Rattle.dw_cprint.specs.Writing.{qualifying, basic, count_tokens, constants, signature_tokens, members_tokens}
+
+-- a declarator is not empty
+abbrev pub is_there : {A : Type 0} → List A → Bool
+is_there [] = false
+is_there (x ∷ xs) = true
+
+-- a space, where a declarator that is not empty stands inside
+abbrev pub gap : Bool → List Token
+gap false = []
+gap true = Blank ∷ []
+
+-- the qualifiers of a pointer, joined by spaces, and one behind them where a declarator follows
+abbrev pub pointer_row : List Qualifier → Bool → List Token
+pointer_row [] inside = []
+pointer_row (q ∷ qs) inside = QualifierWord q ∷ (gap (is_there qs || inside) ++ pointer_row qs inside)
+
+-- the parentheses of a pointer to t: an array's and a function's brackets would bind before the star
+abbrev pub opened : Term → List Token
+opened (Array n t) = Open ∷ []
+opened (Function t signature) = Open ∷ []
+opened _ = []
+
+abbrev pub closed : Term → List Token
+closed (Array n t) = Close ∷ []
+closed (Function t signature) = Close ∷ []
+closed _ = []
+
+-- the members of a structure or a union, in braces
+abbrev pub body_tokens : Members → List Token
+body_tokens members = LeftBrace ∷ Blank ∷ (members_tokens members ++ RightBrace ∷ [])
+
+-- the enumerators of an enumeration, in braces
+abbrev pub enumeration_tokens : List Constant → List Token
+enumeration_tokens cs = LeftBrace ∷ Blank ∷ (constants cs ++ Blank ∷ RightBrace ∷ [])
+
+-- the specifier that a type is without its qualifiers; nothing, where a declarator belongs to the type
+abbrev pub core : Term → List Token
+core Void = VoidWord ∷ []
+core (Named name) = Identifier name ∷ []
+core (Basic words) = basic words
+core (Tagged tag name) = TagWord tag ∷ Blank ∷ Identifier name ∷ []
+core (Body tag members) = TagWord tag ∷ Blank ∷ body_tokens members
+core (Enumeration cs) = TagWord Enum ∷ Blank ∷ enumeration_tokens cs
+core _ = []
+
+-- what stands before the declarator of the type t under the qualifiers
+abbrev pub before : List Qualifier → Term → Bool → List Token
+before qs Void inside = qualifying qs ++ VoidWord ∷ gap inside
+before qs (Named name) inside = qualifying qs ++ Identifier name ∷ gap inside
+before qs (Basic words) inside = qualifying qs ++ (basic words ++ gap inside)
+before qs (Tagged tag name) inside = qualifying qs ++ TagWord tag ∷ Blank ∷ Identifier name ∷ gap inside
+before qs (Body tag members) inside = qualifying qs ++ TagWord tag ∷ Blank ∷ LeftBrace ∷ Blank ∷ (members_tokens members ++ RightBrace ∷ gap inside)
+before qs (Enumeration cs) inside = qualifying qs ++ TagWord Enum ∷ Blank ∷ LeftBrace ∷ Blank ∷ (constants cs ++ Blank ∷ RightBrace ∷ gap inside)
+before qs (Qualified q t) inside = before (qs ++ q ∷ []) t inside
+before qs (Pointer t) inside = before [] t true ++ (opened t ++ Star ∷ pointer_row qs inside)
+before qs (Array n t) inside = before [] t true
+before qs (Function t signature) inside = before [] t true
+
+-- what stands behind it
+abbrev pub after : Term → List Token
+after (Qualified q t) = after t
+after (Pointer t) = closed t ++ after t
+after (Array n t) = count_tokens n ++ after t
+after (Function t signature) = Open ∷ (signature_tokens signature ++ Close ∷ after t)
+after _ = []

@@ -1,0 +1,143 @@
+-- The shape of each entry of an image (DWARF 5, chapter 5): what its tag, its attributes and its children make it.
+use Rattle.std.specs.Prelude.{ℕ, pos, zero, suc, Bool, ◌==◌, ◌&&◌, ◌||◌, not, List, Option, Some, None, map, filter, if◌then◌else◌}
+use Rattle.std.specs.List.{list_any}
+use Rattle.dw_forms.specs.Codes.{DW_AT_bit_size, DW_AT_bit_stride, DW_AT_byte_stride, DW_AT_const_value, DW_AT_prototyped, DW_TAG_array_type, DW_TAG_atomic_type, DW_TAG_base_type, DW_TAG_const_type, DW_TAG_enumeration_type, DW_TAG_enumerator, DW_TAG_formal_parameter, DW_TAG_generic_subrange, DW_TAG_inheritance, DW_TAG_member, DW_TAG_pointer_type, DW_TAG_restrict_type, DW_TAG_structure_type, DW_TAG_subrange_type, DW_TAG_subroutine_type, DW_TAG_typedef, DW_TAG_union_type, DW_TAG_unspecified_parameters, DW_TAG_variable, DW_TAG_variant_part, DW_TAG_volatile_type, is_type_tag}
+use Rattle.dw_forms.specs.Value.{Datum, unsigned, signed}
+use Rattle.dw_image.specs.declared.image.Image.{Image}
+use Rattle.dw_cprint.specs.LookUps.{tag_at, value_at, name_at, type_at, children_at, count_in, has_at, flag_at, declared_at, number_at}
+use Rattle.dw_cprint.specs.Shapes.{Const, Volatile, Restrict, Atomic, TagKeyword, Struct, Union, Enum, Bits, Absent, Number, Wrong, Parameter, Typed, More, Name, MemberOf, EnumeratorOf, ShapeOf, base, typedef, qualified, pointer, array, function, tagged, nameless, body, enumeration, foreign, other, SubjectOf, typedef_subject, variable_subject, aggregate_subject, enumeration_subject, declared_subject, no_subject}
+
+-- an entry has one of two tags
+abbrev pub has_tag : Image → (one other : ℕ) → ℕ → Bool
+has_tag image one another id = tag_at image id == one || tag_at image id == another
+
+-- a child with one of two tags is there
+abbrev pub has_child : Image → (one another : ℕ) → ℕ → Bool
+has_child image one another id = list_any (has_tag image one another) (children_at image id)
+
+-- a child that no body of C has
+abbrev pub is_odd : Image → ℕ → Bool
+is_odd image id = has_child image DW_TAG_inheritance DW_TAG_variant_part id
+
+-- ---- arrays (DWARF 5, 5.5)
+
+abbrev pub is_dimension : Image → ℕ → Bool
+is_dimension image id = tag_at image id == DW_TAG_subrange_type
+
+abbrev pub has_stride : Image → ℕ → Bool
+has_stride image id = has_at image id DW_AT_byte_stride || has_at image id DW_AT_bit_stride
+
+abbrev pub is_strided_dimension : Image → ℕ → Bool
+is_strided_dimension image id = is_dimension image id && has_stride image id
+
+-- the counts of the dimensions
+abbrev pub counts_in : Image → ℕ → List (Option ℕ)
+counts_in image id = map (count_in image) (filter (is_dimension image) (children_at image id))
+
+-- a stride, or a dimension that is no subrange
+abbrev pub is_strange : Image → ℕ → Bool
+is_strange image id =
+    has_stride image id || (list_any (is_strided_dimension image) (children_at image id) || has_child image DW_TAG_enumeration_type DW_TAG_generic_subrange id)
+
+-- ---- subroutines (DWARF 5, 5.8)
+
+abbrev pub is_parameter : Image → ℕ → Bool
+is_parameter image id = tag_at image id == DW_TAG_formal_parameter || tag_at image id == DW_TAG_unspecified_parameters
+
+abbrev pub parameter_at : Image → ℕ → Parameter
+parameter_at image id = if tag_at image id == DW_TAG_formal_parameter then Typed (type_at image id) else More
+
+-- the parameters among these children
+abbrev pub parameters_of : Image → List ℕ → List Parameter
+parameters_of image ids = map (parameter_at image) (filter (is_parameter image) ids)
+
+abbrev pub parameters_in : Image → ℕ → Option (List Parameter)
+parameters_in image id = if flag_at image id DW_AT_prototyped then Some (parameters_of image (children_at image id)) else None
+
+-- ---- structures and unions (DWARF 5, 5.7)
+
+-- a size in bits: a number of 1 or more, or a wrong one
+abbrev pub bits_in : Option Datum → Bits
+bits_in None = Absent
+bits_in (Some (unsigned zero)) = Wrong
+bits_in (Some (unsigned (suc n))) = Number (suc n)
+bits_in (Some (signed (pos zero))) = Wrong
+bits_in (Some (signed (pos (suc n)))) = Number (suc n)
+bits_in (Some _) = Wrong
+
+-- a child with tag member that is not declared
+abbrev pub is_plain_member : Image → ℕ → Bool
+is_plain_member image id = tag_at image id == DW_TAG_member && not (declared_at image id)
+
+abbrev pub member_at : Image → ℕ → MemberOf
+member_at image id = record { name = name_at image id; type_at = type_at image id; bits = bits_in (value_at image id DW_AT_bit_size) }
+
+abbrev pub members_in : Image → ℕ → List MemberOf
+members_in image id = map (member_at image) (filter (is_plain_member image) (children_at image id))
+
+-- one that is reached: with a name, declared without one, or a body
+abbrev pub aggregate_shape : Image → ℕ → TagKeyword → Name → ShapeOf
+aggregate_shape image id word (Some name) = tagged word name
+aggregate_shape image id word None = if declared_at image id then nameless word else body word (is_odd image id) (members_in image id)
+
+-- ---- enumerations (DWARF 5, 5.9)
+
+abbrev pub is_enumerator : Image → ℕ → Bool
+is_enumerator image id = tag_at image id == DW_TAG_enumerator
+
+abbrev pub enumerator_at : Image → ℕ → EnumeratorOf
+enumerator_at image id = record { name = name_at image id; value = number_at image id DW_AT_const_value }
+
+abbrev pub enumerators_in : Image → ℕ → List EnumeratorOf
+enumerators_in image id = map (enumerator_at image) (filter (is_enumerator image) (children_at image id))
+
+abbrev pub enumeration_shape : Image → ℕ → Name → ShapeOf
+enumeration_shape image id (Some name) = tagged Enum name
+enumeration_shape image id None = if declared_at image id then nameless Enum else enumeration (is_odd image id) (enumerators_in image id)
+
+-- ---- all entries
+
+-- an entry that is reached, by its tag
+abbrev pub shape_by : Image → ℕ → (tag : ℕ) → ShapeOf
+shape_by image id tag =
+    if tag == DW_TAG_base_type then base (name_at image id)
+    else if tag == DW_TAG_typedef then typedef (name_at image id)
+    else if tag == DW_TAG_const_type then qualified Const (type_at image id)
+    else if tag == DW_TAG_volatile_type then qualified Volatile (type_at image id)
+    else if tag == DW_TAG_restrict_type then qualified Restrict (type_at image id)
+    else if tag == DW_TAG_atomic_type then qualified Atomic (type_at image id)
+    else if tag == DW_TAG_pointer_type then pointer (type_at image id)
+    else if tag == DW_TAG_array_type then array (counts_in image id) (is_strange image id) (type_at image id)
+    else if tag == DW_TAG_subroutine_type then function (type_at image id) (parameters_in image id)
+    else if tag == DW_TAG_structure_type then aggregate_shape image id Struct (name_at image id)
+    else if tag == DW_TAG_union_type then aggregate_shape image id Union (name_at image id)
+    else if tag == DW_TAG_enumeration_type then enumeration_shape image id (name_at image id)
+    else if is_type_tag tag then foreign
+    else other
+
+unfoldable pub shape_in : Image → ℕ → ShapeOf
+shape_in image id = shape_by image id (tag_at image id)
+
+-- one that is declared to C, and is a declaration in DWARF or not
+abbrev pub aggregate_in : Image → ℕ → TagKeyword → SubjectOf
+aggregate_in image id word =
+    if declared_at image id then declared_subject word (name_at image id)
+    else aggregate_subject word (name_at image id) (is_odd image id) (members_in image id)
+
+abbrev pub enumeration_in : Image → ℕ → SubjectOf
+enumeration_in image id =
+    if declared_at image id then declared_subject Enum (name_at image id)
+    else enumeration_subject (name_at image id) (is_odd image id) (enumerators_in image id)
+
+-- the entry that is declared, by its tag
+abbrev pub subject_by : Image → ℕ → (tag : ℕ) → SubjectOf
+subject_by image id tag =
+    if tag == DW_TAG_typedef then typedef_subject (name_at image id) (type_at image id)
+    else if tag == DW_TAG_variable then variable_subject (name_at image id) (type_at image id)
+    else if tag == DW_TAG_structure_type then aggregate_in image id Struct
+    else if tag == DW_TAG_union_type then aggregate_in image id Union
+    else if tag == DW_TAG_enumeration_type then enumeration_in image id
+    else no_subject
+
+unfoldable pub subject_in : Image → ℕ → SubjectOf
+subject_in image id = subject_by image id (tag_at image id)

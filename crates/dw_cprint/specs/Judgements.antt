@@ -1,0 +1,40 @@
+-- What is found of each named type: that it is printed, or why it is not.
+use Rattle.std.specs.Prelude.{◌≡◌, ℕ, ◌<◌, ◌≤◌, ◌⊎◌, List, [], ◌∷◌, ◌++◌, Option, Some, None}
+use Rattle.std.specs.Prelude.{slice_index, slice_index_or, Contains, AllPairs}
+use Rattle.dw_cprint.specs.Declarations.{declaration_of}
+use Rattle.dw_cprint.specs.Listings.{text_if}
+use Rattle.dw_cprint.specs.Refusals.{PrintFault, Refuses, IsPrinted}
+use Rattle.dw_cprint.specs.Shapes.{ShapeOf, SubjectOf, no_subject}
+use Rattle.dw_cprint.specs.declared.listing.Listed.{Listed}
+
+-- why a declaration is refused, or none if it is printed
+abbrev pub IsJudgement : (ℕ → ShapeOf) → SubjectOf → Option PrintFault → Type 0
+IsJudgement shapes subject None = IsPrinted shapes subject
+IsJudgement shapes subject (Some rule) = Refuses shapes subject rule
+
+-- one of some declarations, by its place
+abbrev pub subject_at : List SubjectOf → ℕ → SubjectOf
+subject_at subjects place = slice_index_or subjects place no_subject
+
+-- the first so many named types are judged: each is listed with its level, or refused
+pub record AreJudged (shapes : ℕ → ShapeOf) (named : List ℕ) (subjects : List SubjectOf) (levels : List ℕ) (count : ℕ)
+    (listed : List Listed) (refused : List (ℕ × PrintFault)) : Type 0 where
+  pub printed : (one : Listed) → Contains listed one
+      → (one.place < count) × (one.entry ≡ slice_index named one.place) × (one.level ≡ slice_index levels one.entry)
+      × IsPrinted shapes (subject_at subjects one.place)
+  pub others : (one : ℕ × PrintFault) → Contains refused one
+      → (place : ℕ) × (place < count) × (one.0 ≡ slice_index named place)
+      × Refuses shapes (subject_at subjects place) one.1
+  pub rising : AllPairs (λ (a b : Listed). a.entry < b.entry) listed
+  pub by_offset : AllPairs (λ (a b : ℕ × PrintFault). a.0 < b.0) refused
+  pub each : (place : ℕ) → place < count
+      → ((one : Listed) × Contains listed one × (one.place ≡ place))
+      ⊎ ((one : ℕ × PrintFault) × Contains refused one × (one.0 ≡ slice_index named place))
+
+-- one stands before another or has the same level and entry
+abbrev pub StandsNoLater : Listed → Listed → Type 0
+StandsNoLater a b = (a.level < b.level) ⊎ ((a.level ≡ b.level) × (a.entry ≤ b.entry))
+
+-- the line of one that is listed
+abbrev pub listed_line : (ℕ → ShapeOf) → List SubjectOf → Listed → List ℕ
+listed_line shapes subjects one = text_if (declaration_of shapes (subject_at subjects one.place)) ++ 10 ∷ []

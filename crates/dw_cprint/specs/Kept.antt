@@ -1,0 +1,82 @@
+-- The shapes that a survey keeps, and what is written by them.
+use Rattle.std.specs.Prelude.{◌≡◌, ℕ, ℤ, Bool, false, List, [], ◌∷◌, ◌++◌, Option, Some, None, slice_get, option_and_then}
+use Rattle.std.specs.Option.{option_map_or}
+use Rattle.dw_cprint.specs.Declarations.{term_at, members_by, parameters_by, term_by, has_more, is_misplaced, bits_of, constants_of, declaration_of}
+use Rattle.dw_cprint.specs.Declarators.{before, after, core, opened, closed, body_tokens, enumeration_tokens}
+use Rattle.dw_cprint.specs.Shapes.{Qualifier, Parameter, Typed, More, Name, TypeAt, MemberOf, EnumeratorOf, ShapeOf, other, SubjectOf, view_shape}
+use Rattle.dw_cprint.specs.Terms.{Term, Members, Parameters, Prototyped, Constant, Valued, Declaration}
+use Rattle.dw_cprint.specs.Tokens.{Token, Semicolon, Blank, Dot, text_of}
+use Rattle.dw_cprint.specs.Writing.{spell, name_tokens, bits_tokens, constant, signature_tokens, written}
+use Rattle.dw_cprint.specs.declared.survey.Survey.{Survey}
+
+-- the shape that is kept of an entry; other where none is
+unfoldable pub kept : Survey → ℕ → ShapeOf
+kept s entry = option_map_or view_shape (option_and_then (slice_get s.shapes.items) (slice_get s.summaries.places.items entry)) other
+
+-- the term of a type, by the shapes that are kept
+abbrev pub kept_term : Survey → ℕ → TypeAt → Option Term
+kept_term s k = term_at k (kept s)
+
+-- some tokens' text was written behind what was there
+abbrev pub Writes : List Token → List ℕ → List ℕ → Type 0
+Writes tokens old new = new ≡ old ++ text_of tokens
+
+-- what stands before the declarator of a type was written
+abbrev pub WritesBefore : Survey → ℕ → TypeAt → List Qualifier → Bool → List ℕ → List ℕ → Type 0
+WritesBefore s k at qs inside old new = (t : Term) → kept_term s k at ≡ Some t → Writes (before qs t inside) old new
+
+-- what stands behind it was written
+abbrev pub WritesAfter : Survey → ℕ → TypeAt → List ℕ → List ℕ → Type 0
+WritesAfter s k at old new = (t : Term) → kept_term s k at ≡ Some t → Writes (after t) old new
+
+-- the parenthesis before the star of a pointer to a type was written, if it takes one
+abbrev pub WritesOpened : Survey → TypeAt → List ℕ → List ℕ → Type 0
+WritesOpened s to old new = (k : ℕ) (t : Term) → kept_term s k to ≡ Some t → Writes (opened t) old new
+
+-- the parenthesis that closes it was written
+abbrev pub WritesClosed : Survey → TypeAt → List ℕ → List ℕ → Type 0
+WritesClosed s to old new = (k : ℕ) (t : Term) → kept_term s k to ≡ Some t → Writes (closed t) old new
+
+-- a type was written with a name inside, or with nothing
+abbrev pub WritesNamed : Survey → ℕ → TypeAt → Name → List ℕ → List ℕ → Type 0
+WritesNamed s k at name old new = (t : Term) → kept_term s k at ≡ Some t → Writes (spell [] t (name_tokens name)) old new
+
+-- the specifier that a shape is without its qualifiers was written
+abbrev pub WritesCore : Survey → ℕ → ShapeOf → List ℕ → List ℕ → Type 0
+WritesCore s k shape old new = (t : Term) → term_by (kept_term s k) shape ≡ Some t → Writes (core t) old new
+
+-- a member of a body was written
+abbrev pub WritesMember : Survey → ℕ → MemberOf → List ℕ → List ℕ → Type 0
+WritesMember s k m old new =
+    (t : Term) → kept_term s k m.type_at ≡ Some t
+    → Writes (spell [] t (name_tokens m.name) ++ (bits_tokens (bits_of m.bits) ++ Semicolon ∷ Blank ∷ [])) old new
+
+-- the members were written, in braces
+abbrev pub WritesMembers : Survey → ℕ → List MemberOf → List ℕ → List ℕ → Type 0
+WritesMembers s k ms old new =
+    (members : Members) → members_by (kept_term s k) ms ≡ Some members → Writes (body_tokens members) old new
+
+-- an enumerator was written
+abbrev pub WritesEnumerator : EnumeratorOf → List ℕ → List ℕ → Type 0
+WritesEnumerator e old new =
+    (name : List ℕ) (value : ℤ) → e.name ≡ Some name → e.value ≡ Some value → Writes (constant (Valued name value)) old new
+
+-- the enumerators were written, in braces
+abbrev pub WritesEnumerators : List EnumeratorOf → List ℕ → List ℕ → Type 0
+WritesEnumerators es old new = (cs : List Constant) → constants_of es ≡ Some cs → Writes (enumeration_tokens cs) old new
+
+-- a parameter was written, or that others follow
+abbrev pub WritesParameter : Survey → ℕ → Parameter → List ℕ → List ℕ → Type 0
+WritesParameter s k (Typed at) old new = WritesNamed s k at None old new
+WritesParameter s k More old new = Writes (Dot ∷ Dot ∷ Dot ∷ []) old new
+
+-- the parameters of a function were written
+abbrev pub WritesParameters : Survey → ℕ → List Parameter → List ℕ → List ℕ → Type 0
+WritesParameters s k ps old new =
+    is_misplaced ps ≡ false → (parameters : Parameters) → parameters_by (kept_term s k) ps ≡ Some parameters
+    → Writes (signature_tokens (Prototyped parameters (has_more ps))) old new
+
+-- the declaration of the declared entry was written
+abbrev pub WritesDeclaration : Survey → SubjectOf → List ℕ → List ℕ → Type 0
+WritesDeclaration s subject old new =
+    (d : Declaration) → declaration_of (kept s) subject ≡ Some d → new ≡ old ++ written d

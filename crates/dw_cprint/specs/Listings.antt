@@ -1,0 +1,107 @@
+-- The listing of all named types of an image, and its text.
+use Rattle.std.specs.Prelude.{◌≡◌, ℕ, ◌+◌, ◌/◌, ◌%◌, ◌<◌, ◌⊎◌, ◌↔◌, Bool, true, false, List, [], ◌∷◌, ◌++◌}
+use Rattle.std.specs.Prelude.{Option, Some, None, is_some, if◌then◌else◌, nat_lt, codes}
+use Rattle.std.specs.Prelude.{length, slice_get, flat_map, Contains, AllPairs}
+use Rattle.std.specs.Option.{option_map_or}
+use Rattle.dw_entries.specs.Entries.{Entry}
+use Rattle.dw_image.specs.declared.image.Image.{Image}
+use Rattle.dw_image.specs.Images.{entries_in, steps_in}
+use Rattle.dw_cprint.specs.Declarations.{declaration_of}
+use Rattle.dw_cprint.specs.EntryShapes.{shape_in, subject_in}
+use Rattle.dw_cprint.specs.LongestRows.{IsLongest}
+use Rattle.dw_cprint.specs.Refusals.{PrintFault, NotPrintable, BadName, Foreign, Unspeakable, TooDeep, TooLong, Memory}
+use Rattle.dw_cprint.specs.Refusals.{Refuses, IsPrinted}
+use Rattle.dw_cprint.specs.Shapes.{SubjectOf, typedef_subject, aggregate_subject, enumeration_subject}
+use Rattle.dw_cprint.specs.Terms.{Declaration}
+use Rattle.dw_cprint.specs.Writing.{written}
+
+-- a typedef, or a structure, union or enumeration that is not declared, with a name
+abbrev pub is_named_type : SubjectOf → Bool
+is_named_type (typedef_subject name at) = is_some name
+is_named_type (aggregate_subject word name odd members) = is_some name
+is_named_type (enumeration_subject name odd enumerators) = is_some name
+is_named_type _ = false
+
+abbrev pub IsNamedType : Image → ℕ → Type 0
+IsNamedType image entry = (entry < length (entries_in image)) × (is_named_type (subject_in image entry) ≡ true)
+
+-- the named types of an image, in rising offset
+pub record AreNamedTypes (image : Image) (named : List ℕ) : Type 0 where
+  pub all : (entry : ℕ) → Contains named entry ↔ IsNamedType image entry
+  pub rising : AllPairs (λ a b. a < b) named
+
+-- the level of each entry: how many steps by value the longest row of them has that starts there
+abbrev pub AreLevels : Image → (ℕ → ℕ) → Type 0
+AreLevels image level = (entry : ℕ) → entry < length (entries_in image) → IsLongest (steps_in image) entry (level entry)
+
+-- one entry stands before another: by rising level, then by rising offset
+abbrev pub StandsBefore : (ℕ → ℕ) → ℕ → ℕ → Type 0
+StandsBefore level a b = (level a < level b) ⊎ ((level a ≡ level b) × (a < b))
+
+-- all named types: those that are printed by level and offset, and the others by offset, each with its refusal
+pub record IsListing (image : Image) (order : List ℕ) (refused : List (ℕ × PrintFault)) : Type 0 where
+  pub level : ℕ → ℕ
+  pub levels : AreLevels image level
+  pub printed : (entry : ℕ) → Contains order entry
+      ↔ (IsNamedType image entry × IsPrinted (shape_in image) (subject_in image entry))
+  pub by_level : AllPairs (λ a b. StandsBefore level a b) order
+  pub others : (entry : ℕ) (rule : PrintFault) → Contains refused (entry, rule)
+      ↔ (IsNamedType image entry × Refuses (shape_in image) (subject_in image entry) rule)
+  pub by_offset : AllPairs (λ (a b : ℕ × PrintFault). a.0 < b.0) refused
+
+-- ---- the text
+
+abbrev pub hex_digit : ℕ → ℕ
+hex_digit n = if nat_lt n 10 then 48 + n else 87 + n
+
+-- eight digits, small letters
+abbrev pub hex_digits : ℕ → List ℕ
+hex_digits n =
+    hex_digit (n / 268435456 % 16) ∷ hex_digit (n / 16777216 % 16)
+    ∷ hex_digit (n / 1048576 % 16) ∷ hex_digit (n / 65536 % 16)
+    ∷ hex_digit (n / 4096 % 16) ∷ hex_digit (n / 256 % 16) ∷ hex_digit (n / 16 % 16) ∷ hex_digit (n % 16) ∷ []
+
+-- the short and the long name of a refusal
+abbrev pub code_text : PrintFault → List ℕ
+code_text NotPrintable = codes "P1"
+code_text BadName = codes "P2"
+code_text Foreign = codes "P3"
+code_text Unspeakable = codes "P4"
+code_text TooDeep = codes "P5"
+code_text TooLong = codes "P6"
+code_text Memory = []
+
+abbrev pub name_text : PrintFault → List ℕ
+name_text NotPrintable = codes "NotPrintable"
+name_text BadName = codes "BadName"
+name_text Foreign = codes "Foreign"
+name_text Unspeakable = codes "Unspeakable"
+name_text TooDeep = codes "TooDeep"
+name_text TooLong = codes "TooLong"
+name_text Memory = codes "Memory"
+
+abbrev pub text_if : Option Declaration → List ℕ
+text_if None = []
+text_if (Some d) = written d
+
+-- the declaration and a line feed
+abbrev pub declared_line : Image → ℕ → List ℕ
+declared_line image entry = text_if (declaration_of (shape_in image) (subject_in image entry)) ++ 10 ∷ []
+
+-- a comment with an offset and a refusal, and a line feed
+abbrev pub refused_line : (offset : ℕ) → PrintFault → List ℕ
+refused_line offset rule =
+    codes "/* 0x" ++ hex_digits offset ++ codes " " ++ code_text rule ++ codes " " ++ name_text rule
+    ++ (codes " */" ++ 10 ∷ [])
+
+-- where an entry is
+abbrev pub offset_in : Image → ℕ → ℕ
+offset_in image id = option_map_or (λ (e : Entry). e.at) (slice_get (entries_in image) id) 0
+
+-- the line of an entry that is refused
+abbrev pub refused_line_in : Image → ℕ × PrintFault → List ℕ
+refused_line_in image r = refused_line (offset_in image r.0) r.1
+
+-- the lines of those that are printed, and then of those that are refused
+abbrev pub listing_text : Image → List ℕ → List (ℕ × PrintFault) → List ℕ
+listing_text image order refused = flat_map (declared_line image) order ++ flat_map (refused_line_in image) refused

@@ -1,0 +1,42 @@
+-- The entries that are reached from some declared ones, and the graph of the steps between them.
+use Rattle.std.specs.Prelude.{◌≡◌, ℕ, ◌<◌, ◌≤◌, List, Vec, length, map, slice_index, Contains}
+use Rattle.std.specs.Global.{Global}
+use Rattle.dw_types.specs.Graphs.{Graph, steps_of}
+use Rattle.dw_cprint.specs.Shapes.{ShapeOf}
+use Rattle.dw_cprint.specs.Steps.{steps_reached, IsReachedFrom}
+
+-- the rows of a graph
+abbrev pub items_of : List (Vec ℕ Global) → Graph
+items_of rows = map (λ (row : Vec ℕ Global). row.items) rows
+
+-- the place of each entry that is found, by its number
+pub record ArePlaces (places found : List ℕ) : Type 0 where
+  pub below : (k : ℕ) → k < length found → slice_index found k < length places
+  pub back : (k : ℕ) → k < length found → slice_index places (slice_index found k) ≡ k
+
+-- some entries are found after those that were
+pub record Grows (steps old new : List ℕ) : Type 0 where
+  pub longer : length old ≤ length new
+  pub keeps : (k : ℕ) → k < length old → slice_index new k ≡ slice_index old k
+  pub adds : (k : ℕ) → length old ≤ k → k < length new → Contains steps (slice_index new k)
+
+-- the places of some steps
+pub record IsRow (found steps row : List ℕ) : Type 0 where
+  pub leads : map (slice_index found) row ≡ steps
+  pub below : (k : ℕ) → k < length row → slice_index row k < length found
+
+-- the steps have places
+pub record FindsAll (steps places places' found found' row : List ℕ) : Type 0 where
+  pub placed : ArePlaces places' found'
+  pub len : length places' ≡ length places
+  pub grows : Grows steps found found'
+  pub is_row : IsRow found' steps row
+
+-- the entries that are reached from some, each once, and the graph of the steps between their places
+pub record IsReachOf (shapes : ℕ → ShapeOf) (roots places found : List ℕ) (graph : Graph) : Type 0 where
+  pub placed : ArePlaces places found
+  pub nodes : length graph ≡ length found
+  pub rows : (node : ℕ) → node < length found
+      → IsRow found (steps_reached shapes (slice_index found node)) (steps_of graph node)
+  pub roots_found : (to : ℕ) → Contains roots to → Contains found to
+  pub reached : (node : ℕ) → node < length found → IsReachedFrom shapes roots (slice_index found node)

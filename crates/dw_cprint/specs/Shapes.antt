@@ -1,0 +1,96 @@
+-- What the printer asks of an entry: as one that is reached, and as the one that is declared.
+use Rattle.std.specs.Prelude.{ℕ, ℤ, Bool, List, Option, map, option_map, option_copied, Vec}
+use Rattle.std.specs.Global.{Global}
+pub use Rattle.dw_cprint.specs.declared.words.Qualifier.{Qualifier}
+pub use Rattle.dw_cprint.specs.declared.words.Qualifier.TheVariants.{Const, Volatile, Restrict, Atomic}
+pub use Rattle.dw_cprint.specs.declared.words.TagKeyword.{TagKeyword}
+pub use Rattle.dw_cprint.specs.declared.words.TagKeyword.TheVariants.{Struct, Union, Enum}
+pub use Rattle.dw_cprint.specs.declared.shape.Bits.{Bits}
+pub use Rattle.dw_cprint.specs.declared.shape.Bits.TheVariants.{Absent, Number, Wrong}
+pub use Rattle.dw_cprint.specs.declared.shape.Parameter.{Parameter}
+pub use Rattle.dw_cprint.specs.declared.shape.Parameter.TheVariants.{Typed, More}
+use Rattle.dw_cprint.specs.declared.shape.Member.{Member}
+use Rattle.dw_cprint.specs.declared.shape.Enumerator.{Enumerator}
+use Rattle.dw_cprint.specs.declared.shape.Shape.{Shape}
+use Rattle.dw_cprint.specs.declared.shape.Shape.TheVariants as shape
+use Rattle.dw_cprint.specs.declared.shape.Subject.{Subject}
+use Rattle.dw_cprint.specs.declared.shape.Subject.TheVariants as subject
+
+-- a name as DW_AT_name has it, if it is there
+abbrev pub Name : Type 0
+Name = Option (List ℕ)
+
+-- the entry of a type; a type that is absent is void
+abbrev pub TypeAt : Type 0
+TypeAt = Option ℕ
+
+-- a plain member
+pub record MemberOf : Type 0 where
+  pub name : Name
+  pub type_at : TypeAt
+  pub bits : Bits
+
+-- an enumerator, and its value where that is a number
+pub record EnumeratorOf : Type 0 where
+  pub name : Name
+  pub value : Option ℤ
+
+-- an entry that is reached
+pub data ShapeOf : Type 0 where
+  base : Name → ShapeOf
+  typedef : Name → ShapeOf
+  qualified : Qualifier → TypeAt → ShapeOf
+  pointer : TypeAt → ShapeOf
+  -- the counts of the dimensions, whether a child or a stride makes it one that C has no word for, and the element
+  array : (counts : List (Option ℕ)) → (strange : Bool) → TypeAt → ShapeOf
+  -- the result, and the parameters where it is prototyped
+  function : TypeAt → Option (List Parameter) → ShapeOf
+  -- a structure, union or enumeration with a name; one that is declared and has none; the bodies of those without
+  tagged : TagKeyword → List ℕ → ShapeOf
+  nameless : TagKeyword → ShapeOf
+  body : TagKeyword → (odd : Bool) → List MemberOf → ShapeOf
+  enumeration : (odd : Bool) → List EnumeratorOf → ShapeOf
+  foreign : ShapeOf
+  other : ShapeOf
+
+-- the entry that is declared
+pub data SubjectOf : Type 0 where
+  typedef_subject : Name → TypeAt → SubjectOf
+  variable_subject : Name → TypeAt → SubjectOf
+  aggregate_subject : TagKeyword → Name → (odd : Bool) → List MemberOf → SubjectOf
+  enumeration_subject : Name → (odd : Bool) → List EnumeratorOf → SubjectOf
+  declared_subject : TagKeyword → Name → SubjectOf
+  no_subject : SubjectOf
+
+-- ---- what the code keeps of them
+
+abbrev pub view_member : Member → MemberOf
+view_member m = record { name = option_copied m.name; type_at = m.type_at; bits = m.bits }
+
+abbrev pub view_enumerator : Enumerator → EnumeratorOf
+view_enumerator e = record { name = option_copied e.name; value = e.value }
+
+abbrev pub parameter_items : Option (Vec Parameter Global) → Option (List Parameter)
+parameter_items parameters = option_map (λ (ps : Vec Parameter Global). ps.items) parameters
+
+abbrev pub view_shape : Shape → ShapeOf
+view_shape (shape.Base name) = base (option_copied name)
+view_shape (shape.Typedef name) = typedef (option_copied name)
+view_shape (shape.Qualified q at) = qualified q at
+view_shape (shape.Pointer at) = pointer at
+view_shape (shape.Array counts strange at) = array counts.items strange at
+view_shape (shape.Function at parameters) = function at (parameter_items parameters)
+view_shape (shape.Tagged word name) = tagged word name.now
+view_shape (shape.Nameless word) = nameless word
+view_shape (shape.Body word odd members) = body word odd (map view_member members.items)
+view_shape (shape.Enumeration odd enumerators) = enumeration odd (map view_enumerator enumerators.items)
+view_shape shape.Foreign = foreign
+view_shape shape.Other = other
+
+abbrev pub view_subject : Subject → SubjectOf
+view_subject (subject.Typedef name at) = typedef_subject (option_copied name) at
+view_subject (subject.Variable name at) = variable_subject (option_copied name) at
+view_subject (subject.Aggregate word name odd members) = aggregate_subject word (option_copied name) odd (map view_member members.items)
+view_subject (subject.Enumeration name odd enumerators) = enumeration_subject (option_copied name) odd (map view_enumerator enumerators.items)
+view_subject (subject.Declared word name) = declared_subject word (option_copied name)
+view_subject subject.Other = no_subject

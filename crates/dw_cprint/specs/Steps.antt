@@ -1,0 +1,89 @@
+-- Spelling steps: from an entry that is reached, and from the one that is declared. The latter are not the steps of the
+-- same entry where it is reached.
+use Rattle.std.specs.Prelude.{◌≡◌, ℕ, zero, suc, List, [], ◌∷◌, Option, Some, None, Contains, map, flat_map}
+use Rattle.dw_cprint.specs.Shapes.{Parameter, Typed, More, MemberOf}
+use Rattle.dw_cprint.specs.Shapes.{ShapeOf, qualified, pointer, array, function, body}
+use Rattle.dw_cprint.specs.Shapes.{SubjectOf, typedef_subject, variable_subject, aggregate_subject}
+
+-- the entries among types; void is none
+abbrev pub entries_of : List (Option ℕ) → List ℕ
+entries_of [] = []
+entries_of (None ∷ types) = entries_of types
+entries_of (Some entry ∷ types) = entry ∷ entries_of types
+
+abbrev pub parameter_types : List Parameter → List (Option ℕ)
+parameter_types [] = []
+parameter_types (Typed at ∷ parameters) = at ∷ parameter_types parameters
+parameter_types (More ∷ parameters) = parameter_types parameters
+
+abbrev pub member_types : List MemberOf → List (Option ℕ)
+member_types members = map (λ (m : MemberOf). m.type_at) members
+
+-- the types that an entry that is reached leads to; a structure with a name leads to none
+abbrev pub types_reached : ShapeOf → List (Option ℕ)
+types_reached (qualified q at) = at ∷ []
+types_reached (pointer at) = at ∷ []
+types_reached (array counts strange at) = at ∷ []
+types_reached (function at None) = at ∷ []
+types_reached (function at (Some parameters)) = at ∷ parameter_types parameters
+types_reached (body word odd members) = member_types members
+types_reached _ = []
+
+-- the types that the declared entry leads to
+abbrev pub types_declared : SubjectOf → List (Option ℕ)
+types_declared (typedef_subject name at) = at ∷ []
+types_declared (variable_subject name at) = at ∷ []
+types_declared (aggregate_subject word name odd members) = member_types members
+types_declared _ = []
+
+-- the spelling steps of an entry that is reached
+abbrev pub steps_reached : (ℕ → ShapeOf) → ℕ → List ℕ
+steps_reached shapes entry = entries_of (types_reached (shapes entry))
+
+-- the spelling steps of the entry that is declared
+abbrev pub first_steps : SubjectOf → List ℕ
+first_steps subject = entries_of (types_declared subject)
+
+-- an entry is reached from some others by spelling steps
+pub data IsReachedFrom (shapes : ℕ → ShapeOf) (roots : List ℕ) : ℕ → Type 0 where
+  root : {to : ℕ} → Contains roots to → IsReachedFrom shapes roots to
+  further : {from to : ℕ} → IsReachedFrom shapes roots from → Contains (steps_reached shapes from) to
+      → IsReachedFrom shapes roots to
+
+-- an entry is reached from the declared one
+abbrev pub IsReached : (ℕ → ShapeOf) → SubjectOf → ℕ → Type 0
+IsReached shapes subject entry = IsReachedFrom shapes (first_steps subject) entry
+
+-- so many steps lead from an entry that is reached to another
+abbrev pub Leads : (ℕ → ShapeOf) → ℕ → ℕ → ℕ → Type 0
+Leads shapes zero from to = from ≡ to
+Leads shapes (suc k) from to = (next : ℕ) × Contains (steps_reached shapes from) next × Leads shapes k next to
+
+-- some steps, at least one, lead from an entry to itself
+abbrev pub IsOnCycle : (ℕ → ShapeOf) → ℕ → Type 0
+IsOnCycle shapes entry = (k : ℕ) × Leads shapes (suc k) entry entry
+
+-- some steps lead from an entry to one on a cycle
+abbrev pub ReachesCycle : (ℕ → ShapeOf) → ℕ → Type 0
+ReachesCycle shapes entry = (k to : ℕ) × Leads shapes k entry to × IsOnCycle shapes to
+
+-- an entry on a cycle is reached from some others
+abbrev pub ReachACycle : (ℕ → ShapeOf) → List ℕ → Type 0
+ReachACycle shapes roots = (entry : ℕ) × IsReachedFrom shapes roots entry × IsOnCycle shapes entry
+
+-- a path of so many steps begins with a step to one of some entries
+abbrev pub HasPathFrom : (ℕ → ShapeOf) → List ℕ → ℕ → Type 0
+HasPathFrom shapes roots zero = Unit {0}
+HasPathFrom shapes roots (suc k) = (next to : ℕ) × Contains roots next × Leads shapes k next to
+
+-- a path of more than 64 steps does
+unfoldable pub IsDeepFrom : (ℕ → ShapeOf) → List ℕ → Type 0
+IsDeepFrom shapes roots = HasPathFrom shapes roots 65
+
+-- a path of so many steps begins at the declared entry
+abbrev pub HasPath : (ℕ → ShapeOf) → SubjectOf → ℕ → Type 0
+HasPath shapes subject count = HasPathFrom shapes (first_steps subject) count
+
+-- the first steps of some declarations
+abbrev pub roots_of : List SubjectOf → List ℕ
+roots_of subjects = flat_map first_steps subjects

@@ -1,0 +1,42 @@
+-- What a survey of some declarations tells of the entries that they reach.
+use Rattle.std.specs.Prelude.{◌≡◌, ◌↔◌, ℕ, ◌≤◌, Bool, true, false, List, Option, Some}
+use Rattle.std.specs.Prelude.{Contains, option_and_then, is_some}
+use Rattle.std.specs.Option.{option_map_or}
+use Rattle.dw_cprint.specs.Kept.{kept}
+use Rattle.dw_cprint.specs.Regular.{IsRegular}
+use Rattle.dw_cprint.specs.Shapes.{ShapeOf}
+use Rattle.dw_cprint.specs.Steps.{IsReachedFrom, Leads, ReachesCycle}
+use Rattle.dw_cprint.specs.declared.survey.Survey.{Survey}
+pub use Rattle.dw_cprint.specs.Summaries.{found_at, HaveSummaries, summary_at}
+use Rattle.dw_cprint.specs.Summaries.{Summary, Knows}
+
+-- each of some entries is one of others
+abbrev pub AreAmong : List ℕ → List ℕ → Type 0
+AreAmong some all = (entry : ℕ) → Contains some entry → Contains all entry
+
+-- an entry has a summary
+abbrev pub has_summary : Survey → ℕ → Bool
+has_summary s entry =
+    is_some (option_and_then (λ (o : Option Summary). o)
+    (found_at s.summaries.places.items s.summaries.nodes.items entry))
+
+-- how many steps the longest path from an entry has
+abbrev pub depth_at : Survey → ℕ → ℕ
+depth_at s entry = option_map_or (λ (n : ℕ). n) (found_at s.summaries.places.items s.depths.items entry) 0
+
+-- a survey of some entries and of all that they reach: their shapes, which of them reach a cycle, what is known of the
+-- others, and how long the longest path from each of the others is
+pub record IsSurveyOf (shapes : ℕ → ShapeOf) (roots : List ℕ) (s : Survey) : Type 0 where
+  pub keeps : (entry : ℕ) → IsReachedFrom shapes roots entry → kept s entry ≡ shapes entry
+  pub regular : (entry : ℕ) → IsReachedFrom shapes roots entry → IsRegular (shapes entry)
+  pub clear : (entry : ℕ) → IsReachedFrom shapes roots entry
+      → (has_summary s entry ≡ false) ↔ ReachesCycle shapes entry
+  pub known : (entry : ℕ) → IsReachedFrom shapes roots entry → has_summary s entry ≡ true
+      → Knows shapes s.summaries (Some entry)
+  pub depths : (entry count : ℕ) → IsReachedFrom shapes roots entry → has_summary s entry ≡ true
+      → ((to : ℕ) × Leads shapes count entry to) ↔ (count ≤ depth_at s entry)
+
+-- by the shapes of which this is a survey, if some entries are among those that it began with
+abbrev pub BySurvey : Survey → List ℕ → ((ℕ → ShapeOf) → Type 0) → Type 0
+BySurvey s entries P =
+    (shapes : ℕ → ShapeOf) (roots : List ℕ) → IsSurveyOf shapes roots s → AreAmong entries roots → P shapes

@@ -1,0 +1,74 @@
+//! Why an entry is not printed.
+
+ghost use Rattle.std.specs.Prelude.{◌≡◌};
+ghost use Rattle.dw_cprint.specs.Listings.{code_text, name_text};
+ghost use Rattle.dw_cprint.specs.declared.fault.PrintFault.TheVariants.{Memory};
+
+use std::alloc::{AllocError, AllocFailed};
+
+/// Why an entry is not printed. Of several reasons the first holds.
+#[derive(Clone, Copy, Debug, PartialEq, Eq)]
+pub enum PrintFault {
+    /// It is no typedef, variable, structure, union or enumeration, or its spelling steps reach a cycle.
+    NotPrintable,
+    /// A name that is printed is absent or no name of C.
+    BadName,
+    /// A type of another language or an unspecified type is reached.
+    Foreign,
+    /// C has no declaration for it.
+    Unspeakable,
+    /// More than 64 spelling steps stand in a row.
+    TooDeep,
+    /// The text has more than 65,536 bytes.
+    TooLong,
+    /// A growth was refused.
+    Memory,
+}
+
+impl PrintFault {
+    /// The short name in reports.
+    pub fn code(self) -> &'static str
+        ensures { result.now ≡ code_text self }
+    {
+        match self {
+            PrintFault::NotPrintable => "P1",
+            PrintFault::BadName => "P2",
+            PrintFault::Foreign => "P3",
+            PrintFault::Unspeakable => "P4",
+            PrintFault::TooDeep => "P5",
+            PrintFault::TooLong => "P6",
+            PrintFault::Memory => "",
+        }
+    }
+
+    /// The long name in reports.
+    pub fn name(self) -> &'static str
+        ensures { result.now ≡ name_text self }
+    {
+        match self {
+            PrintFault::NotPrintable => "NotPrintable",
+            PrintFault::BadName => "BadName",
+            PrintFault::Foreign => "Foreign",
+            PrintFault::Unspeakable => "Unspeakable",
+            PrintFault::TooDeep => "TooDeep",
+            PrintFault::TooLong => "TooLong",
+            PrintFault::Memory => "Memory",
+        }
+    }
+}
+
+impl From<AllocError> for PrintFault {
+    ghost from_gives = { λ _ fault. fault ≡ Memory };
+
+    fn from(_error: AllocError) -> PrintFault {
+        PrintFault::Memory
+    }
+}
+
+impl<T: Drop> From<AllocFailed<T>> for PrintFault {
+    ghost from_gives = { λ _ fault. fault ≡ Memory };
+
+    fn from(_error: AllocFailed<T>) -> PrintFault {
+        PrintFault::Memory
+    }
+}

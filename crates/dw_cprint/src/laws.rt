@@ -1,0 +1,60 @@
+//! What holds of all texts of declarations.
+
+ghost use Rattle.std.specs.Prelude.{◌≡◌, ◌<◌, ◌++◌, ℕ, List, Some, length, All, IsSome};
+ghost use Rattle.dw_cprint.specs.Declarations.{declaration_of};
+ghost use Rattle.dw_cprint.specs.EntryShapes.{shape_in};
+ghost use Rattle.dw_cprint.specs.Refusals.{HasOneReading, HoldsNoneBelow, IsPrinted, Refuses};
+ghost use Rattle.dw_cprint.specs.Regular.{AreRegular};
+ghost use Rattle.dw_cprint.specs.Shapes.{ShapeOf, SubjectOf};
+ghost use Rattle.dw_cprint.specs.SameShapes.{AreSameFor};
+ghost use Rattle.dw_cprint.specs.Steps.{steps_reached};
+ghost use Rattle.dw_cprint.specs.declared.fault.PrintFault.{PrintFault};
+ghost use Rattle.dw_image.specs.declared.image.Image.{Image as ImageOf};
+ghost use Rattle.dw_image.specs.Images.{entries_in};
+ghost use Rattle.dw_cprint.specs.LookUps.{type_at};
+ghost use Rattle.dw_cprint.specs.Declarators.{before, after, is_there};
+ghost use Rattle.dw_cprint.specs.Legible.{IsDeclaration};
+ghost use Rattle.dw_cprint.specs.Reading.{read};
+ghost use Rattle.dw_cprint.specs.Terms.{Declaration, Qualifier, Term};
+ghost use Rattle.dw_cprint.specs.Tokens.{Token};
+ghost use Rattle.dw_cprint.specs.Writing.{spell, written};
+
+/// Each text is read back as what it was written from, so no other declaration has that text.
+pub fn one_reading()
+    ensures read_back { (d : Declaration) → IsDeclaration d → read (written d) ≡ Some d }
+    ensures no_other { (d e : Declaration) → IsDeclaration d → IsDeclaration e → written d ≡ written e → d ≡ e }
+{}
+
+/// The text of a type is what stands before its declarator, the declarator, and what stands behind it.
+pub fn text_in_parts()
+    ensures { (qs : List Qualifier) (t : Term) (d : List Token) → spell qs t d ≡ before qs t (is_there d) ++ (d ++ after t) }
+{}
+
+/// The types that an entry of an image has, and that its shape names, are entries.
+pub fn types_are_entries()
+    ensures one { (image : ImageOf) (id to : ℕ) → type_at image id ≡ Some to → to < length (entries_in image) }
+    ensures all { (image : ImageOf) (id : ℕ) → All (λ to. to < length (entries_in image)) (steps_reached (shape_in image) id) }
+{}
+
+/// An entry of which none of the first five refusals holds has a declaration. Where none of the first four holds, its
+/// declaration can be read back from its text, so no other declaration has that text.
+pub fn declared_if_not_refused()
+    ensures there { (shapes : ℕ → ShapeOf) (subject : SubjectOf) → HoldsNoneBelow 6 shapes subject
+        → IsSome (declaration_of shapes subject) }
+    ensures legible { (shapes : ℕ → ShapeOf) (subject : SubjectOf) → HoldsNoneBelow 5 shapes subject
+        → AreRegular shapes subject → (d : Declaration) → declaration_of shapes subject ≡ Some d → IsDeclaration d }
+    ensures one { (shapes : ℕ → ShapeOf) (subject : SubjectOf) → HoldsNoneBelow 5 shapes subject
+        → AreRegular shapes subject → HasOneReading shapes subject }
+{}
+
+/// Declarations and refusals depend on the shapes of the entries that are reached, and on no other.
+pub fn shapes_reached_decide()
+    ensures declared { (shapes others : ℕ → ShapeOf) (subject : SubjectOf) → AreSameFor shapes others subject
+        → declaration_of shapes subject ≡ declaration_of others subject }
+    ensures refused { (shapes others : ℕ → ShapeOf) (subject : SubjectOf) (rule : PrintFault)
+        → AreSameFor shapes others subject → Refuses shapes subject rule → Refuses others subject rule }
+    ensures printed { (shapes others : ℕ → ShapeOf) (subject : SubjectOf)
+        → AreSameFor shapes others subject → IsPrinted shapes subject → IsPrinted others subject }
+    ensures one { (shapes others : ℕ → ShapeOf) (subject : SubjectOf)
+        → AreSameFor shapes others subject → HasOneReading shapes subject → HasOneReading others subject }
+{}

@@ -1,0 +1,37 @@
+//! C declarations of entries: what is printed, what is refused and why, and the listing of all named types.
+#![tactic(auto)]
+
+mod bad_names;
+mod clearing;
+mod declaring;
+mod fault;
+mod faults;
+mod kinds;
+mod laws;
+mod lengths;
+mod listing;
+mod longest;
+mod look_ups;
+mod names;
+mod pieces;
+mod reaching;
+mod shape;
+mod shape_reader;
+mod subject_reader;
+mod summary;
+mod survey;
+mod text_lengths;
+mod unspeakable;
+mod words;
+mod writing;
+
+pub use declaring::declare;
+pub use dw_image::{EntryId, Image, NoMemory};
+pub use fault::PrintFault;
+pub use laws::{
+    declared_if_not_refused, one_reading, shapes_reached_decide, text_in_parts, types_are_entries,
+};
+pub use listing::{Listing, declare_all};
+
+#[cfg(test)]
+mod tests;

@@ -1,0 +1,45 @@
+//! How many steps the longest row of steps from a node has.
+
+ghost use Rattle.std.specs.Prelude.{◌≡◌, ℕ, ◌+◌, ◌^◌, ◌<◌, length, slice_index, IfOk};
+ghost use Rattle.dw_types.specs.Graphs.{step_at, steps_of};
+ghost use Rattle.dw_cprint.specs.Cycles.{AreClear};
+ghost use Rattle.dw_cprint.specs.LongestRows.{AreLongest, IsAbove};
+
+use dw_types::StepGraph;
+use std::alloc::{AllocError, Global};
+
+/// One more than the largest count at the steps of a node, and 0 if it has none.
+fn one_above<G: StepGraph>(graph: &G, counts: &[usize], node: usize) -> usize
+    requires node { node < length (G.graph graph.now) }
+    requires counts { length counts.now ≡ length (G.graph graph.now) }
+    requires fits { (k : ℕ) → k < length (steps_of (G.graph graph.now) node)
+        → slice_index counts.now (step_at (G.graph graph.now) node k) + 1 < 2 ^ 64 }
+    ensures { IsAbove (G.graph graph.now) counts.now node result }
+{
+    let mut most = 0;
+    for k in 0..graph.steps(node) {
+        let count = counts[graph.step(node, k)] + 1;
+        if most < count {
+            most = count;
+        }
+    }
+    most
+}
+
+/// How many steps the longest row from each clear node has. Each clear node comes after those that its steps lead to.
+pub fn longest_rows<G: StepGraph>(
+    alloc: Global,
+    graph: &G,
+    clear: &[usize],
+) -> Result<Vec<usize>, AllocError>
+    requires { AreClear (G.graph graph.now) clear.now }
+    ensures nodes { IfOk result (λ counts. length counts.items ≡ length (G.graph graph.now)) }
+    ensures longest { IfOk result (λ counts. AreLongest (G.graph graph.now) clear.now (slice_index counts.items)) }
+{
+    let mut counts = vec![in alloc; 0; graph.nodes()]?;
+    for node in clear {
+        let most = one_above(graph, counts.as_slice(), *node);
+        counts[*node] = most;
+    }
+    Ok(counts)
+}

@@ -1,0 +1,132 @@
+//! Names that may be printed.
+
+ghost use Rattle.std.specs.Prelude.{◌≡◌, ◌==◌, is_some, bytes_eq, position};
+ghost use Rattle.std.specs.List.{list_any, list_all};
+ghost use Rattle.dw_cprint.specs.Declarations.{parts_of, word_of, words_of};
+ghost use Rattle.dw_cprint.specs.Legible.{is_identifier, is_keyword, is_word_byte};
+ghost use Rattle.dw_cprint.specs.Wrong.{is_base_name};
+
+const KEYWORDS: [&str; 44] = [
+    "auto",
+    "break",
+    "case",
+    "char",
+    "const",
+    "continue",
+    "default",
+    "do",
+    "double",
+    "else",
+    "enum",
+    "extern",
+    "float",
+    "for",
+    "goto",
+    "if",
+    "inline",
+    "int",
+    "long",
+    "register",
+    "restrict",
+    "return",
+    "short",
+    "signed",
+    "sizeof",
+    "static",
+    "struct",
+    "switch",
+    "typedef",
+    "union",
+    "unsigned",
+    "void",
+    "volatile",
+    "while",
+    "_Alignas",
+    "_Alignof",
+    "_Atomic",
+    "_Bool",
+    "_Complex",
+    "_Generic",
+    "_Imaginary",
+    "_Noreturn",
+    "_Static_assert",
+    "_Thread_local",
+];
+
+/// A keyword of C.
+#[tactic(auto, unfolding(crate::specs::Legible::is_keyword))]
+pub fn is_keyword_text(word: &[u8]) -> bool
+    ensures { result ≡ is_keyword word.now }
+{
+    is_one_of(word, &KEYWORDS)
+}
+
+// Whether the text is one of these.
+fn is_one_of(word: &[u8], words: &[&str]) -> bool
+    ensures { result ≡ list_any (λ k. bytes_eq word.now k.now) words.now }
+{
+    words.iter().any(|k| word == k.as_bytes())
+}
+
+/// A byte of a word.
+pub fn is_word(b: u8) -> bool
+    ensures { result ≡ is_word_byte b }
+{
+    b.is_ascii_alphanumeric() || b == b'_'
+}
+
+/// Letters, digits and underscores.
+fn are_words(bytes: &[u8]) -> bool
+    ensures { result ≡ list_all is_word_byte bytes.now }
+{
+    bytes.iter().all(|b| is_word(*b))
+}
+
+/// An identifier of C.
+#[tactic(auto, unfolding(crate::specs::Legible::is_identifier))]
+pub fn is_name(name: &[u8]) -> bool
+    ensures { result ≡ is_identifier name.now }
+{
+    let Some(first) = name.first() else {
+        return false;
+    };
+    !first.is_ascii_digit() && are_words(name) && !is_keyword_text(name)
+}
+
+const TYPE_WORDS: [&str; 10] = [
+    "char", "short", "int", "long", "signed", "unsigned", "float", "double", "_Bool", "_Complex",
+];
+
+/// A word of which names of basic types are made.
+fn is_type_word(word: &[u8]) -> bool
+    ensures { result ≡ is_some (word_of word.now) }
+{
+    is_one_of(word, &TYPE_WORDS)
+}
+
+/// Where the first space stands, if there is one.
+fn first_space(name: &[u8]) -> Option<usize>
+    ensures { result ≡ position (λ byte. byte == 32) name.now }
+{
+    name.iter().position(|b| *b == b' ')
+}
+
+/// Type words joined by one space each, at most so many.
+fn are_type_words(name: &[u8], most: u8) -> bool
+    ensures { result ≡ is_some (words_of most (parts_of name.now)) }
+{
+    if most == 0 {
+        return false;
+    }
+    match first_space(name) {
+        None => is_type_word(name),
+        Some(end) => is_type_word(&name[..end]) && are_type_words(&name[end + 1..], most - 1),
+    }
+}
+
+/// A name of a base type: an identifier, or 1 to 4 type words joined by one space each.
+pub fn is_base_name(name: &[u8]) -> bool
+    ensures { result ≡ is_base_name name.now }
+{
+    is_name(name) || are_type_words(name, 4)
+}

@@ -1,0 +1,152 @@
+//! Pieces of a type's text: numbers, names, brackets, qualifiers, enumerators.
+
+ghost use Rattle.std.specs.Prelude.{◌≡◌, ◌++◌, ◌∷◌, [], decimal, flat_map, map, option_copied, OnOk};
+ghost use Rattle.dw_cprint.specs.Declarations.{bits_of};
+ghost use Rattle.dw_cprint.specs.Declarators.{gap, pointer_row};
+ghost use Rattle.dw_cprint.specs.Kept.{Writes, WritesEnumerator, WritesEnumerators};
+ghost use Rattle.dw_cprint.specs.Shapes.{view_enumerator};
+ghost use Rattle.dw_cprint.specs.Tokens.{Blank, TagWord};
+ghost use Rattle.dw_cprint.specs.Writing.{count_tokens, qualifying, name_tokens, value_tokens, bits_tokens};
+
+use crate::shape::{Bits, Enumerator, Name};
+use crate::words::{Qualifier, TagKeyword};
+use std::alloc::{AllocError, Global};
+
+/// A number in decimal.
+fn put_number(alloc: Global, out: &mut Vec<u8>, n: u128) -> Result<(), AllocError>
+    ensures { OnOk result (out.new.items ≡ out.old.items ++ decimal n) }
+{
+    let text = n.to_string(alloc)?;
+    out.extend_from_slice(text.as_bytes())
+}
+
+/// An enumerator's value in decimal.
+fn put_value(alloc: Global, out: &mut Vec<u8>, value: i128) -> Result<(), AllocError>
+    ensures { OnOk result (Writes (value_tokens value) out.old.items out.new.items) }
+{
+    let text = value.to_string(alloc)?;
+    out.extend_from_slice(text.as_bytes())
+}
+
+pub fn put_name(out: &mut Vec<u8>, name: Name<'_>) -> Result<(), AllocError>
+    ensures { OnOk result (Writes (name_tokens (option_copied name.entry)) out.old.items out.new.items) }
+{
+    match name {
+        None => Ok(()),
+        Some(name) => out.extend_from_slice(name),
+    }
+}
+
+/// The brackets of dimensions.
+pub fn put_counts(
+    alloc: Global,
+    out: &mut Vec<u8>,
+    counts: &[Option<u128>],
+) -> Result<(), AllocError>
+    ensures { OnOk result (Writes (flat_map count_tokens counts.now) out.old.items out.new.items) }
+{
+    for count in counts {
+        out.push(b'[')?;
+        if let Some(n) = count {
+            put_number(alloc, out, *n)?;
+        }
+        out.push(b']')?;
+    }
+    Ok(())
+}
+
+/// Each qualifier, and a space behind it.
+pub fn put_qualifiers(out: &mut Vec<u8>, qualifiers: &[Qualifier]) -> Result<(), AllocError>
+    ensures { OnOk result (Writes (qualifying qualifiers.now) out.old.items out.new.items) }
+{
+    for qualifier in qualifiers {
+        out.extend_from_slice(qualifier.text())?;
+        out.push(b' ')?;
+    }
+    Ok(())
+}
+
+/// The qualifiers of a pointer, joined by spaces, and one behind them where a declarator follows.
+pub fn put_joined(
+    out: &mut Vec<u8>,
+    qualifiers: &[Qualifier],
+    inside: bool,
+) -> Result<(), AllocError>
+    ensures { OnOk result (Writes (pointer_row qualifiers.now inside) out.old.items out.new.items) }
+{
+    let last = qualifiers.len();
+    for (i, qualifier) in qualifiers.iter().enumerate() {
+        out.extend_from_slice(qualifier.text())?;
+        if i + 1 < last || inside {
+            out.push(b' ')?;
+        }
+    }
+    Ok(())
+}
+
+/// A space, where a declarator follows.
+pub fn put_gap(out: &mut Vec<u8>, inside: bool) -> Result<(), AllocError>
+    ensures { OnOk result (Writes (gap inside) out.old.items out.new.items) }
+{
+    if inside {
+        out.push(b' ')?;
+    }
+    Ok(())
+}
+
+/// A word before a tag, and the tag.
+pub fn put_tag(out: &mut Vec<u8>, tag: TagKeyword, name: Name<'_>) -> Result<(), AllocError>
+    ensures { OnOk result
+        (Writes (TagWord tag ∷ Blank ∷ name_tokens (option_copied name.entry)) out.old.items out.new.items) }
+{
+    out.extend_from_slice(tag.text())?;
+    out.push(b' ')?;
+    put_name(out, name)
+}
+
+/// An enumerator and its value.
+fn put_enumerator(
+    alloc: Global,
+    out: &mut Vec<u8>,
+    enumerator: &Enumerator<'_>,
+) -> Result<(), AllocError>
+    ensures { OnOk result (WritesEnumerator (view_enumerator enumerator.now) out.old.items out.new.items) }
+{
+    put_name(out, enumerator.name)?;
+    out.extend_from_slice(b" = ")?;
+    if let Some(value) = enumerator.value {
+        put_value(alloc, out, value)?;
+    }
+    Ok(())
+}
+
+/// The enumerators, in braces.
+pub fn put_enumerators(
+    alloc: Global,
+    out: &mut Vec<u8>,
+    enumerators: &[Enumerator<'_>],
+) -> Result<(), AllocError>
+    ensures { OnOk result (WritesEnumerators (map view_enumerator enumerators.now) out.old.items out.new.items) }
+{
+    let Some((first, others)) = enumerators.split_first() else {
+        return out.extend_from_slice(b"{  }");
+    };
+    out.extend_from_slice(b"{ ")?;
+    put_enumerator(alloc, out, first)?;
+    for enumerator in others {
+        out.extend_from_slice(b", ")?;
+        put_enumerator(alloc, out, enumerator)?;
+    }
+    out.extend_from_slice(b" }")
+}
+
+/// The bits of a member.
+pub fn put_bits(alloc: Global, out: &mut Vec<u8>, bits: Bits) -> Result<(), AllocError>
+    ensures { OnOk result (Writes (bits_tokens (bits_of bits)) out.old.items out.new.items) }
+{
+    if let Bits::Number(n) = bits {
+        out.extend_from_slice(b" : ")?;
+        put_number(alloc, out, u128::from(n))?;
+    }
+    Ok(())
+}

@@ -1,0 +1,369 @@
+//! The shapes of entries, read from an image.
+
+ghost use Rattle.std.specs.Prelude.{◌≡◌, ◌<◌, length, IfOk, All, map, filter};
+ghost use Rattle.std.specs.List.{list_any};
+ghost use Rattle.dw_image.specs.Images.{entries_in};
+ghost use Rattle.dw_cprint.specs.LookUps.{children_at, count_in, tag_at, type_at, name_at};
+ghost use Rattle.dw_cprint.specs.EntryShapes.{has_tag, is_parameter, parameter_at, has_stride, is_strided_dimension, is_dimension, is_plain_member, member_at, is_enumerator, enumerator_at, parameters_of, members_in, enumerators_in, is_odd, aggregate_shape, enumeration_shape, counts_in, is_strange, parameters_in, shape_in, shape_by};
+ghost use Rattle.dw_cprint.specs.Legible.{IsAggregate, IsCount};
+ghost use Rattle.dw_cprint.specs.Regular.{HasCountedBits, HasValue, IsRegular};
+ghost use Rattle.dw_cprint.specs.Shapes.{view_shape, view_member, view_enumerator, array, function, Enum};
+
+use crate::look_ups::{
+    bits_at, children_at, count_at, declared_at, flag_at, has_at, name_at, number_at, tag_at,
+    type_at,
+};
+use crate::shape::{Enumerator, Member, Parameter, Shape};
+use crate::words::{Qualifier, TagKeyword};
+use dw_entries::Tag;
+use dw_entries::constants::*;
+use dw_image::{EntryId, Image};
+use std::alloc::{AllocError, Global};
+
+/// Whether one of these children has one of two tags.
+fn has_child(image: &Image<'_>, children: &[EntryId], one: Tag, another: Tag) -> bool
+    requires { All (λ child. child < length (entries_in image.now)) children.now }
+    ensures { result ≡ list_any (has_tag image.now one another) children.now }
+{
+    children.iter().any(|child| {
+        let tag = tag_at(image, *child);
+        tag == one || tag == another
+    })
+}
+
+/// Whether one of these children stands in no body of C: an inheritance or a variant part.
+fn has_odd_child(image: &Image<'_>, children: &[EntryId]) -> bool
+    requires { All (λ child. child < length (entries_in image.now)) children.now }
+    ensures { result ≡ list_any (has_tag image.now 0x1c 0x33) children.now }
+{
+    has_child(image, children, DW_TAG_inheritance, DW_TAG_variant_part)
+}
+
+/// Whether an entry has a stride.
+fn has_stride(image: &Image<'_>, id: EntryId) -> bool
+    requires { id < length (entries_in image.now) }
+    ensures { result ≡ has_stride image.now id }
+{
+    has_at(image, id, DW_AT_byte_stride) || has_at(image, id, DW_AT_bit_stride)
+}
+
+/// Whether an entry is a dimension, where it is a child of an array.
+fn is_dimension(image: &Image<'_>, id: EntryId) -> bool
+    requires { id < length (entries_in image.now) }
+    ensures { result ≡ is_dimension image.now id }
+{
+    tag_at(image, id) == DW_TAG_subrange_type
+}
+
+/// Whether one of these children is a dimension with a stride.
+fn has_strided_dimension(image: &Image<'_>, children: &[EntryId]) -> bool
+    requires { All (λ child. child < length (entries_in image.now)) children.now }
+    ensures { result ≡ list_any (is_strided_dimension image.now) children.now }
+{
+    children.iter().any(|child| is_dimension(image, *child) && has_stride(image, *child))
+}
+
+/// The counts of the dimensions among these children.
+fn counts_of(
+    alloc: Global,
+    image: &Image<'_>,
+    children: &[EntryId],
+) -> Result<Vec<Option<u128>>, AllocError>
+    requires { All (λ child. child < length (entries_in image.now)) children.now }
+    ensures counts { IfOk result (λ counts. counts.items ≡ map (count_in image.now) (filter (is_dimension image.now) children.now)) }
+    ensures fit { IfOk result (λ counts. All IsCount counts.items) }
+{
+    let mut counts = Vec::new(alloc);
+    for child in children {
+        if is_dimension(image, *child) {
+            counts.push(count_at(image, *child))?;
+        }
+    }
+    Ok(counts)
+}
+
+/// Whether an entry is a parameter or unspecified parameters, where it is a child of a subroutine.
+fn is_parameter(image: &Image<'_>, id: EntryId) -> bool
+    requires { id < length (entries_in image.now) }
+    ensures { result ≡ is_parameter image.now id }
+{
+    let tag = tag_at(image, id);
+    tag == DW_TAG_formal_parameter || tag == DW_TAG_unspecified_parameters
+}
+
+/// A parameter, or unspecified parameters.
+fn parameter_at(image: &Image<'_>, id: EntryId) -> Parameter
+    requires { id < length (entries_in image.now) }
+    ensures { result ≡ parameter_at image.now id }
+{
+    if tag_at(image, id) == DW_TAG_formal_parameter {
+        Parameter::Typed(type_at(image, id))
+    } else {
+        Parameter::More
+    }
+}
+
+/// The parameters among these children.
+fn parameters_of(
+    alloc: Global,
+    image: &Image<'_>,
+    children: &[EntryId],
+) -> Result<Vec<Parameter>, AllocError>
+    requires { All (λ child. child < length (entries_in image.now)) children.now }
+    ensures { IfOk result (λ parameters. parameters.items ≡ parameters_of image.now children.now) }
+{
+    let mut parameters = Vec::new(alloc);
+    for child in children {
+        if is_parameter(image, *child) {
+            parameters.push(parameter_at(image, *child))?;
+        }
+    }
+    Ok(parameters)
+}
+
+/// A plain member.
+fn member_at<'a>(image: &Image<'a>, id: EntryId) -> Member<'a>
+    requires { id < length (entries_in image.now) }
+    ensures member { view_member result ≡ member_at image.now id }
+    ensures fit { HasCountedBits (view_member result) }
+{
+    Member {
+        name: name_at(image, id),
+        type_at: type_at(image, id),
+        bits: bits_at(image, id),
+    }
+}
+
+/// Whether an entry is a plain member, where it is a child of a structure or union that is not declared.
+fn is_plain_member(image: &Image<'_>, id: EntryId) -> bool
+    requires { id < length (entries_in image.now) }
+    ensures { result ≡ is_plain_member image.now id }
+{
+    tag_at(image, id) == DW_TAG_member && !declared_at(image, id)
+}
+
+/// The plain members among these children.
+pub fn members_of<'a>(
+    alloc: Global,
+    image: &Image<'a>,
+    children: &[EntryId],
+) -> Result<Vec<Member<'a>>, AllocError>
+    requires { All (λ child. child < length (entries_in image.now)) children.now }
+    ensures members { IfOk result (λ members. map view_member members.items ≡ map (member_at image.now) (filter (is_plain_member image.now) children.now)) }
+    ensures fit { IfOk result (λ members. All HasCountedBits (map view_member members.items)) }
+{
+    let mut members = Vec::new(alloc);
+    for child in children {
+        if is_plain_member(image, *child) {
+            members.push(member_at(image, *child))?;
+        }
+    }
+    Ok(members)
+}
+
+/// An enumerator.
+fn enumerator_at<'a>(image: &Image<'a>, id: EntryId) -> Enumerator<'a>
+    requires { id < length (entries_in image.now) }
+    ensures enumerator { view_enumerator result ≡ enumerator_at image.now id }
+    ensures fit { HasValue (view_enumerator result) }
+{
+    Enumerator {
+        name: name_at(image, id),
+        value: number_at(image, id, DW_AT_const_value),
+    }
+}
+
+/// Whether an entry is an enumerator.
+fn is_enumerator(image: &Image<'_>, id: EntryId) -> bool
+    requires { id < length (entries_in image.now) }
+    ensures { result ≡ is_enumerator image.now id }
+{
+    tag_at(image, id) == DW_TAG_enumerator
+}
+
+/// The enumerators among these children.
+pub fn enumerators_of<'a>(
+    alloc: Global,
+    image: &Image<'a>,
+    children: &[EntryId],
+) -> Result<Vec<Enumerator<'a>>, AllocError>
+    requires { All (λ child. child < length (entries_in image.now)) children.now }
+    ensures enumerators { IfOk result (λ enumerators. map view_enumerator enumerators.items ≡ map (enumerator_at image.now) (filter (is_enumerator image.now) children.now)) }
+    ensures fit { IfOk result (λ enumerators. All HasValue (map view_enumerator enumerators.items)) }
+{
+    let mut enumerators = Vec::new(alloc);
+    for child in children {
+        if is_enumerator(image, *child) {
+            enumerators.push(enumerator_at(image, *child))?;
+        }
+    }
+    Ok(enumerators)
+}
+
+/// A structure or union with what stands in its body.
+#[derive(Drop)]
+pub struct MemberBody<'a> {
+    pub odd: bool,
+    pub members: Vec<Member<'a>>,
+}
+
+/// The body of a structure or union that is not declared.
+pub fn member_body<'a>(
+    alloc: Global,
+    image: &Image<'a>,
+    id: EntryId,
+) -> Result<MemberBody<'a>, AllocError>
+    requires { id < length (entries_in image.now) }
+    ensures odd { IfOk result (λ it. it.odd ≡ is_odd image.now id) }
+    ensures members { IfOk result (λ it. map view_member it.members.items ≡ members_in image.now id) }
+    ensures fit { IfOk result (λ it. All HasCountedBits (map view_member it.members.items)) }
+{
+    let children = children_at(alloc, image, id)?;
+    let odd = has_odd_child(image, &children);
+    let members = members_of(alloc, image, &children)?;
+    Ok(MemberBody { odd, members })
+}
+
+/// An enumeration with what stands in its body.
+#[derive(Drop)]
+pub struct EnumeratorBody<'a> {
+    pub odd: bool,
+    pub enumerators: Vec<Enumerator<'a>>,
+}
+
+/// The body of an enumeration that is not declared.
+pub fn enumerator_body<'a>(
+    alloc: Global,
+    image: &Image<'a>,
+    id: EntryId,
+) -> Result<EnumeratorBody<'a>, AllocError>
+    requires { id < length (entries_in image.now) }
+    ensures odd { IfOk result (λ it. it.odd ≡ is_odd image.now id) }
+    ensures enumerators { IfOk result (λ it. map view_enumerator it.enumerators.items ≡ enumerators_in image.now id) }
+    ensures fit { IfOk result (λ it. All HasValue (map view_enumerator it.enumerators.items)) }
+{
+    let children = children_at(alloc, image, id)?;
+    let odd = has_odd_child(image, &children);
+    let enumerators = enumerators_of(alloc, image, &children)?;
+    Ok(EnumeratorBody { odd, enumerators })
+}
+
+/// The shape of an array.
+fn array_shape<'a>(alloc: Global, image: &Image<'a>, id: EntryId) -> Result<Shape<'a>, AllocError>
+    requires { id < length (entries_in image.now) }
+    ensures shape { IfOk result (λ shape. view_shape shape ≡ array (counts_in image.now id) (is_strange image.now id) (type_at image.now id)) }
+    ensures fit { IfOk result (λ shape. IsRegular (view_shape shape)) }
+{
+    let children = children_at(alloc, image, id)?;
+    let counts = counts_of(alloc, image, &children)?;
+    let strange = has_stride(image, id)
+        || has_strided_dimension(image, &children)
+        || has_child(
+            image,
+            &children,
+            DW_TAG_enumeration_type,
+            DW_TAG_generic_subrange,
+        );
+    Ok(Shape::Array(counts, strange, type_at(image, id)))
+}
+
+/// The shape of a subroutine.
+fn function_shape<'a>(
+    alloc: Global,
+    image: &Image<'a>,
+    id: EntryId,
+) -> Result<Shape<'a>, AllocError>
+    requires { id < length (entries_in image.now) }
+    ensures shape { IfOk result (λ shape. view_shape shape ≡ function (type_at image.now id) (parameters_in image.now id)) }
+    ensures fit { IfOk result (λ shape. IsRegular (view_shape shape)) }
+{
+    if !flag_at(image, id, DW_AT_prototyped) {
+        return Ok(Shape::Function(type_at(image, id), None));
+    }
+    let children = children_at(alloc, image, id)?;
+    let parameters = parameters_of(alloc, image, &children)?;
+    Ok(Shape::Function(type_at(image, id), Some(parameters)))
+}
+
+/// The shape of a structure or union.
+fn aggregate_shape<'a>(
+    alloc: Global,
+    image: &Image<'a>,
+    id: EntryId,
+    word: TagKeyword,
+) -> Result<Shape<'a>, AllocError>
+    requires { id < length (entries_in image.now) }
+    ensures shape { IfOk result (λ shape. view_shape shape ≡ aggregate_shape image.now id word (name_at image.now id)) }
+    ensures fit { IfOk result (λ shape. IsAggregate word → IsRegular (view_shape shape)) }
+{
+    if let Some(name) = name_at(image, id) {
+        return Ok(Shape::Tagged(word, name));
+    }
+    if declared_at(image, id) {
+        return Ok(Shape::Nameless(word));
+    }
+    let found = member_body(alloc, image, id)?;
+    Ok(Shape::Body(word, found.odd, found.members))
+}
+
+/// The shape of an enumeration.
+fn enumeration_shape<'a>(
+    alloc: Global,
+    image: &Image<'a>,
+    id: EntryId,
+) -> Result<Shape<'a>, AllocError>
+    requires { id < length (entries_in image.now) }
+    ensures shape { IfOk result (λ shape. view_shape shape ≡ enumeration_shape image.now id (name_at image.now id)) }
+    ensures fit { IfOk result (λ shape. IsRegular (view_shape shape)) }
+{
+    if let Some(name) = name_at(image, id) {
+        return Ok(Shape::Tagged(TagKeyword::Enum, name));
+    }
+    if declared_at(image, id) {
+        return Ok(Shape::Nameless(TagKeyword::Enum));
+    }
+    let found = enumerator_body(alloc, image, id)?;
+    Ok(Shape::Enumeration(found.odd, found.enumerators))
+}
+
+/// The shape of an entry with a tag.
+fn shape_by<'a>(
+    alloc: Global,
+    image: &Image<'a>,
+    id: EntryId,
+    tag: Tag,
+) -> Result<Shape<'a>, AllocError>
+    requires { id < length (entries_in image.now) }
+    ensures shape { IfOk result (λ shape. view_shape shape ≡ shape_by image.now id tag) }
+    ensures fit { IfOk result (λ shape. IsRegular (view_shape shape)) }
+{
+    match tag {
+        DW_TAG_base_type => Ok(Shape::Base(name_at(image, id))),
+        DW_TAG_typedef => Ok(Shape::Typedef(name_at(image, id))),
+        DW_TAG_const_type => Ok(Shape::Qualified(Qualifier::Const, type_at(image, id))),
+        DW_TAG_volatile_type => Ok(Shape::Qualified(Qualifier::Volatile, type_at(image, id))),
+        DW_TAG_restrict_type => Ok(Shape::Qualified(Qualifier::Restrict, type_at(image, id))),
+        DW_TAG_atomic_type => Ok(Shape::Qualified(Qualifier::Atomic, type_at(image, id))),
+        DW_TAG_pointer_type => Ok(Shape::Pointer(type_at(image, id))),
+        DW_TAG_array_type => array_shape(alloc, image, id),
+        DW_TAG_subroutine_type => function_shape(alloc, image, id),
+        DW_TAG_structure_type => aggregate_shape(alloc, image, id, TagKeyword::Struct),
+        DW_TAG_union_type => aggregate_shape(alloc, image, id, TagKeyword::Union),
+        DW_TAG_enumeration_type => enumeration_shape(alloc, image, id),
+        _ => Ok(if tag.is_type() {
+            Shape::Foreign
+        } else {
+            Shape::Other
+        }),
+    }
+}
+
+/// The shape of an entry that is reached.
+#[tactic(auto, unfolding(crate::specs::EntryShapes::shape_in))]
+pub fn shape_of<'a>(alloc: Global, image: &Image<'a>, id: EntryId) -> Result<Shape<'a>, AllocError>
+    requires { id < length (entries_in image.now) }
+    ensures shape { IfOk result (λ shape. view_shape shape ≡ shape_in image.now id) }
+    ensures fit { IfOk result (λ shape. IsRegular (view_shape shape)) }
+{
+    shape_by(alloc, image, id, tag_at(image, id))
+}

@@ -1,0 +1,89 @@
+//! The entry that is declared, read from an image.
+
+ghost use Rattle.std.specs.Prelude.{◌≡◌, ◌<◌, length, IfOk};
+ghost use Rattle.dw_image.specs.Images.{entries_in};
+ghost use Rattle.dw_cprint.specs.EntryShapes.{aggregate_in, enumeration_in, subject_by, subject_in};
+ghost use Rattle.dw_cprint.specs.Legible.{IsAggregate};
+ghost use Rattle.dw_cprint.specs.Regular.{IsRegularSubject};
+ghost use Rattle.dw_cprint.specs.Shapes.{view_subject};
+
+use crate::look_ups::{declared_at, name_at, tag_at, type_at};
+use crate::shape::Subject;
+use crate::shape_reader::{enumerator_body, member_body};
+use crate::words::TagKeyword;
+use dw_entries::Tag;
+use dw_entries::constants::*;
+use dw_image::{EntryId, Image};
+use std::alloc::{AllocError, Global};
+
+/// A structure or union that is declared to C.
+fn aggregate_subject<'a>(
+    alloc: Global,
+    image: &Image<'a>,
+    id: EntryId,
+    word: TagKeyword,
+) -> Result<Subject<'a>, AllocError>
+    requires { id < length (entries_in image.now) }
+    ensures subject { IfOk result (λ subject. view_subject subject ≡ aggregate_in image.now id word) }
+    ensures fit { IfOk result (λ subject. IsAggregate word → IsRegularSubject (view_subject subject)) }
+{
+    let name = name_at(image, id);
+    if declared_at(image, id) {
+        return Ok(Subject::Declared(word, name));
+    }
+    let found = member_body(alloc, image, id)?;
+    Ok(Subject::Aggregate(word, name, found.odd, found.members))
+}
+
+/// An enumeration that is declared to C.
+fn enumeration_subject<'a>(
+    alloc: Global,
+    image: &Image<'a>,
+    id: EntryId,
+) -> Result<Subject<'a>, AllocError>
+    requires { id < length (entries_in image.now) }
+    ensures subject { IfOk result (λ subject. view_subject subject ≡ enumeration_in image.now id) }
+    ensures fit { IfOk result (λ subject. IsRegularSubject (view_subject subject)) }
+{
+    let name = name_at(image, id);
+    if declared_at(image, id) {
+        return Ok(Subject::Declared(TagKeyword::Enum, name));
+    }
+    let found = enumerator_body(alloc, image, id)?;
+    Ok(Subject::Enumeration(name, found.odd, found.enumerators))
+}
+
+/// What is declared at an entry with a tag.
+fn subject_by<'a>(
+    alloc: Global,
+    image: &Image<'a>,
+    id: EntryId,
+    tag: Tag,
+) -> Result<Subject<'a>, AllocError>
+    requires { id < length (entries_in image.now) }
+    ensures subject { IfOk result (λ subject. view_subject subject ≡ subject_by image.now id tag) }
+    ensures fit { IfOk result (λ subject. IsRegularSubject (view_subject subject)) }
+{
+    match tag {
+        DW_TAG_typedef => Ok(Subject::Typedef(name_at(image, id), type_at(image, id))),
+        DW_TAG_variable => Ok(Subject::Variable(name_at(image, id), type_at(image, id))),
+        DW_TAG_structure_type => aggregate_subject(alloc, image, id, TagKeyword::Struct),
+        DW_TAG_union_type => aggregate_subject(alloc, image, id, TagKeyword::Union),
+        DW_TAG_enumeration_type => enumeration_subject(alloc, image, id),
+        _ => Ok(Subject::Other),
+    }
+}
+
+/// What is declared at an entry.
+#[tactic(auto, unfolding(crate::specs::EntryShapes::subject_in))]
+pub fn subject_of<'a>(
+    alloc: Global,
+    image: &Image<'a>,
+    id: EntryId,
+) -> Result<Subject<'a>, AllocError>
+    requires { id < length (entries_in image.now) }
+    ensures subject { IfOk result (λ subject. view_subject subject ≡ subject_in image.now id) }
+    ensures fit { IfOk result (λ subject. IsRegularSubject (view_subject subject)) }
+{
+    subject_by(alloc, image, id, tag_at(image, id))
+}

@@ -1,0 +1,131 @@
+//! What is known of a type that reaches no cycle, by the types that it names.
+
+ghost use Rattle.std.specs.Prelude.{◌≡◌, ◌<◌, ℕ, List, Some, length, All, IfOk};
+ghost use Rattle.dw_cprint.specs.Shapes.{ShapeOf, view_shape};
+ghost use Rattle.dw_cprint.specs.Steps.{types_reached};
+ghost use Rattle.dw_cprint.specs.Summaries.{AreNodes, AreRight, HaveSummaries, IsBase, IsSummary, Knows, known_of, summary_at};
+
+use crate::faults::{Faults, faults_of};
+use crate::kinds::{TypeKind, kind_of};
+use crate::lengths::Length;
+use crate::shape::{Shape, TypeAt};
+use crate::text_lengths::length_of;
+use std::alloc::{AllocError, Global};
+
+/// What is known of a type that reaches no cycle.
+#[derive(Clone, Copy, Debug)]
+pub struct Summary {
+    pub kind: TypeKind,
+    /// The kind of what stands under its row of qualifiers, or its own, if it is no qualifier.
+    pub base: TypeKind,
+    /// What is wrong with an entry that it reaches, or with itself.
+    pub faults: Faults,
+    pub length: Length,
+}
+
+/// What is known of void.
+pub const VOID: Summary = Summary {
+    kind: TypeKind::Void,
+    base: TypeKind::Void,
+    faults: Faults {
+        bad_name: false,
+        foreign: false,
+        unspeakable: false,
+    },
+    length: Length {
+        bytes: 4,
+        gap: true,
+    },
+};
+
+/// The summaries of types, by their entries. Types that reach a cycle have none.
+#[derive(Drop)]
+pub struct Summaries {
+    /// The node of each entry that is found, by the entry's number.
+    pub places: Vec<usize>,
+    /// The summary of each node that reaches no cycle.
+    pub nodes: Vec<Option<Summary>>,
+}
+
+impl Summaries {
+    /// What is known of a type, if it reaches no cycle.
+    pub fn get(&self, at: TypeAt) -> Option<Summary>
+        ensures { result ≡ summary_at VOID self.now.places.items self.now.nodes.items at }
+    {
+        match at {
+            None => Some(VOID),
+            Some(entry) => match self.places.get(entry) {
+                Some(place) => match self.nodes.get(*place) {
+                    Some(summary) => *summary,
+                    None => None,
+                },
+                None => None,
+            },
+        }
+    }
+
+    /// What is known of a type.
+    pub fn of(&self, at: TypeAt) -> Summary
+        ensures { result ≡ known_of self.now at }
+    {
+        match self.get(at) {
+            Some(summary) => summary,
+            None => VOID,
+        }
+    }
+}
+
+/// The kind of what stands under the row of qualifiers that begins with this shape.
+fn base_of(summaries: &Summaries, shape: &Shape<'_>) -> TypeKind
+    ensures { (shapes : ℕ → ShapeOf) (entry : ℕ) → shapes entry ≡ view_shape shape.now
+        → All (Knows shapes summaries.now) (types_reached (view_shape shape.now)) → IsBase shapes (Some entry) result }
+{
+    match shape {
+        Shape::Qualified(_, at) => summaries.of(*at).base,
+        _ => kind_of(shape),
+    }
+}
+
+/// The summary of a shape, by those of the types that it names.
+fn summary_of(
+    alloc: Global,
+    summaries: &Summaries,
+    shape: &Shape<'_>,
+) -> Result<Summary, AllocError>
+    ensures { IfOk result (λ known. (shapes : ℕ → ShapeOf) (entry : ℕ) → shapes entry ≡ view_shape shape.now
+        → All (Knows shapes summaries.now) (types_reached (view_shape shape.now))
+        → IsSummary shapes (Some entry) known) }
+{
+    let faults = faults_of(alloc, summaries, shape)?;
+    let length = length_of(alloc, summaries, shape)?;
+    Ok(Summary {
+        kind: kind_of(shape),
+        base: base_of(summaries, shape),
+        faults,
+        length,
+    })
+}
+
+/// The summaries of the nodes that reach no cycle. Each is given after those that its steps lead to.
+pub fn summarize(
+    alloc: Global,
+    places: Vec<usize>,
+    shapes: &[Shape<'_>],
+    clear: &[usize],
+) -> Result<Summaries, AllocError>
+    requires { All (λ node. node < length shapes.now) clear.now }
+    ensures places { IfOk result (λ it. it.places.items ≡ places.items) }
+    ensures clear { IfOk result (λ it. HaveSummaries clear.now it.nodes.items) }
+    ensures right { IfOk result (λ it. (all : ℕ → ShapeOf) (found : List ℕ)
+        → AreNodes all places.items found shapes.now clear.now → AreRight all found clear.now it) }
+{
+    let mut summaries = Summaries {
+        places,
+        nodes: vec![in alloc; None; shapes.len()]?,
+    };
+    for node in clear {
+        let summary = summary_of(alloc, &summaries, &shapes[*node])?;
+        summaries.nodes[*node] = Some(summary);
+    }
+    Ok(summaries)
+}

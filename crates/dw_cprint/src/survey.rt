@@ -1,0 +1,145 @@
+//! What some declarations need, found once for all of them: what they reach, what of that reaches a cycle, and what is
+//! known of the rest.
+
+ghost use Rattle.std.specs.Prelude.{◌≡◌, ◌↔◌, ◌<◌, length, map, All, IfOk, IfSome, IsTrue};
+ghost use Rattle.dw_image.specs.Images.{entries_in};
+ghost use Rattle.dw_cprint.specs.EntryShapes.{shape_in};
+ghost use Rattle.dw_cprint.specs.Judgements.{IsJudgement};
+ghost use Rattle.dw_cprint.specs.Kept.{kept};
+ghost use Rattle.dw_cprint.specs.Shapes.{view_shape, view_subject};
+ghost use Rattle.dw_cprint.specs.Steps.{IsDeepFrom, ReachACycle, entries_of, first_steps, roots_of};
+ghost use Rattle.dw_cprint.specs.Surveys.{BySurvey, IsSurveyOf, depth_at};
+
+use crate::clearing::clear_nodes;
+use crate::fault::PrintFault;
+use crate::faults::subject_faults;
+use crate::lengths::LIMIT;
+use crate::longest::longest_rows;
+use crate::reaching::{all_types, declared_types, reach};
+use crate::shape::{Shape, Subject, TypeAt};
+use crate::summary::{Summaries, summarize};
+use crate::text_lengths::declaration_length;
+use dw_image::Image;
+use std::alloc::{AllocError, Global};
+
+/// The most steps in a row.
+const STEP_LIMIT: usize = 64;
+
+/// What some declarations need.
+#[derive(Drop)]
+pub struct Survey<'a> {
+    pub shapes: Vec<Shape<'a>>,
+    pub summaries: Summaries,
+    /// How many steps the longest path from each node has that reaches no cycle.
+    depths: Vec<usize>,
+}
+
+impl<'a> Survey<'a> {
+    /// Surveys what some declarations reach. Each entry is looked at once, and no path by itself.
+    pub fn new(
+        alloc: Global,
+        image: &Image<'a>,
+        subjects: &[Subject<'a>],
+    ) -> Result<Survey<'a>, AllocError>
+        requires { All (λ to. to < length (entries_in image.now)) (roots_of (map view_subject subjects.now)) }
+        ensures { IfOk result (IsSurveyOf (shape_in image.now) (roots_of (map view_subject subjects.now))) }
+    {
+        let types = all_types(alloc, subjects)?;
+        let reached = reach(alloc, image, &types)?;
+        let clear = clear_nodes(alloc, &reached)?;
+        let depths = longest_rows(alloc, &reached, &clear)?;
+        let summaries = summarize(alloc, reached.places, &reached.shapes, &clear)?;
+        Ok(Survey {
+            shapes: reached.shapes,
+            summaries,
+            depths,
+        })
+    }
+
+    /// The shape of an entry that is reached.
+    #[tactic(auto, unfolding(crate::specs::Kept::kept))]
+    pub fn shape(&self, entry: usize) -> Option<&Shape<'a>>
+        ensures { IfSome result (λ shape. view_shape shape.now ≡ kept self.now entry) }
+    {
+        match self.summaries.places.get(entry) {
+            Some(place) => self.shapes.get(*place),
+            None => None,
+        }
+    }
+
+    /// How many steps the longest path from an entry has.
+    fn depth(&self, entry: usize) -> usize
+        ensures { result ≡ depth_at self.now entry }
+    {
+        match self.summaries.places.get(entry) {
+            Some(place) => match self.depths.get(*place) {
+                Some(depth) => *depth,
+                None => 0,
+            },
+            None => 0,
+        }
+    }
+
+    /// Whether one of these types reaches a cycle.
+    fn reaches_cycle(&self, types: &[TypeAt]) -> bool
+        ensures { BySurvey self.now (entries_of types.now) (λ shapes. IsTrue result
+            ↔ ReachACycle shapes (entries_of types.now)) }
+    {
+        for at in types {
+            if self.summaries.get(*at).is_none() {
+                return true;
+            }
+        }
+        false
+    }
+
+    /// Whether more than 64 steps in a row begin with one to these types, of which none reaches a cycle.
+    fn is_deep(&self, types: &[TypeAt]) -> bool
+        ensures { BySurvey self.now (entries_of types.now) (λ shapes. (ReachACycle shapes (entries_of types.now) → ⊥)
+            → IsTrue result ↔ IsDeepFrom shapes (entries_of types.now)) }
+    {
+        for at in types {
+            if let Some(entry) = *at {
+                if self.depth(entry) >= STEP_LIMIT {
+                    return true;
+                }
+            }
+        }
+        false
+    }
+
+    /// Why a declaration is refused, if it is.
+    pub fn refusal(
+        &self,
+        alloc: Global,
+        subject: &Subject<'_>,
+    ) -> Result<Option<PrintFault>, AllocError>
+        ensures { IfOk result (λ r. BySurvey self.now (first_steps (view_subject subject.now)) (λ shapes.
+            IsJudgement shapes (view_subject subject.now) r)) }
+    {
+        if let Subject::Other = subject {
+            return Ok(Some(PrintFault::NotPrintable));
+        }
+        let types = declared_types(alloc, subject)?;
+        if self.reaches_cycle(&types) {
+            return Ok(Some(PrintFault::NotPrintable));
+        }
+        let faults = subject_faults(&self.summaries, subject, &types);
+        if faults.bad_name {
+            return Ok(Some(PrintFault::BadName));
+        }
+        if faults.foreign {
+            return Ok(Some(PrintFault::Foreign));
+        }
+        if faults.unspeakable {
+            return Ok(Some(PrintFault::Unspeakable));
+        }
+        if self.is_deep(&types) {
+            return Ok(Some(PrintFault::TooDeep));
+        }
+        if declaration_length(alloc, &self.summaries, subject)? > LIMIT {
+            return Ok(Some(PrintFault::TooLong));
+        }
+        Ok(None)
+    }
+}

@@ -1,0 +1,325 @@
+//! The text of a type: what stands before its declarator, and what behind it.
+
+ghost use Rattle.std.specs.Prelude.{◌≡◌, ◌<◌, ◌||◌, Some, None, map, option_copied, OnOk, IfSome, MatchOption};
+ghost use Rattle.dw_cprint.specs.Declarations.{term_by};
+ghost use Rattle.dw_cprint.specs.Kept.{kept, kept_term, WritesBefore, WritesAfter, WritesOpened, WritesClosed, WritesNamed, WritesCore, WritesMember, WritesMembers, WritesParameter, WritesParameters, WritesDeclaration};
+ghost use Rattle.dw_cprint.specs.Shapes.{other, view_shape, view_subject, view_member};
+ghost use Rattle.dw_cprint.specs.Wrong.{is_array, is_function, shape_of};
+
+use crate::pieces::{
+    put_bits, put_counts, put_enumerators, put_gap, put_joined, put_name, put_qualifiers, put_tag,
+};
+use crate::shape::{Member, Name, Parameter, Shape, Subject, TypeAt};
+use crate::survey::Survey;
+use crate::words::{Qualifier, TagKeyword};
+use std::alloc::{AllocError, Global};
+
+/// How many entries at most stand on a path from the one that is declared, with void behind them.
+const DEPTH: usize = 65;
+
+impl<'a> Survey<'a> {
+    /// The shape that is kept of an entry.
+    #[tactic(auto, unfolding(crate::specs::Kept::kept))]
+    fn kept_shape(&self, entry: usize) -> Option<&Shape<'a>>
+        ensures { MatchOption result (kept self.now entry ≡ other)
+            (λ shape. view_shape shape.now ≡ kept self.now entry) }
+    {
+        match self.summaries.places.get(entry) {
+            Some(place) => self.shapes.get(*place),
+            None => None,
+        }
+    }
+
+    /// The shape of an entry, and how deep the types that it names may be.
+    fn shape_within(&self, entry: usize, depth: usize) -> Option<(&Shape<'a>, usize)>
+        ensures below { IfSome result (λ found. found.1 < depth) }
+        ensures found { MatchOption result (kept_term self.now depth (Some entry) ≡ None)
+            (λ found. kept_term self.now depth (Some entry) ≡ term_by (kept_term self.now found.1) (view_shape found.0.now)) }
+    {
+        let below = depth.checked_sub(1)?;
+        let shape = self.kept_shape(entry)?;
+        Some((shape, below))
+    }
+
+    /// Whether brackets behind a declarator of the type bind before a star in front of it.
+    fn is_bracketed(&self, at: TypeAt) -> bool
+        ensures { result ≡ (is_array (shape_of (kept self.now) at) || is_function (shape_of (kept self.now) at)) }
+    {
+        let Some(entry) = at else {
+            return false;
+        };
+        match self.kept_shape(entry) {
+            Some(Shape::Array(_, _, _)) => true,
+            Some(Shape::Function(_, _)) => true,
+            _ => false,
+        }
+    }
+
+    /// The parenthesis before the star of a pointer, where it needs one.
+    fn put_opened(&self, out: &mut Vec<u8>, to: TypeAt) -> Result<(), AllocError>
+        ensures { OnOk result (WritesOpened self.now to out.old.items out.new.items) }
+    {
+        if self.is_bracketed(to) {
+            out.push(b'(')?;
+        }
+        Ok(())
+    }
+
+    /// The parenthesis that closes it.
+    fn put_closed(&self, out: &mut Vec<u8>, to: TypeAt) -> Result<(), AllocError>
+        ensures { OnOk result (WritesClosed self.now to out.old.items out.new.items) }
+    {
+        if self.is_bracketed(to) {
+            out.push(b')')?;
+        }
+        Ok(())
+    }
+
+    /// A type with a declarator that is a name, or with none.
+    #[cycle(writing)]
+    fn put_named(
+        &self,
+        alloc: Global,
+        out: &mut Vec<u8>,
+        at: TypeAt,
+        name: Name<'_>,
+        depth: usize,
+    ) -> Result<(), AllocError>
+        ensures { OnOk result (WritesNamed self.now depth at (option_copied name.entry) out.old.items out.new.items) }
+    {
+        self.put_before(alloc, out, at, Vec::new(alloc), name.is_some(), depth)?;
+        put_name(out, name)?;
+        self.put_after(alloc, out, at, depth)
+    }
+
+    /// A member of a body.
+    #[cycle(writing)]
+    fn put_member(
+        &self,
+        alloc: Global,
+        out: &mut Vec<u8>,
+        member: &Member<'a>,
+        depth: usize,
+    ) -> Result<(), AllocError>
+        ensures { OnOk result (WritesMember self.now depth (view_member member.now) out.old.items out.new.items) }
+    {
+        self.put_named(alloc, out, member.type_at, member.name, depth)?;
+        put_bits(alloc, out, member.bits)?;
+        out.extend_from_slice(b"; ")
+    }
+
+    /// The members of a body, in braces.
+    #[cycle(writing)]
+    fn put_members(
+        &self,
+        alloc: Global,
+        out: &mut Vec<u8>,
+        members: &[Member<'a>],
+        depth: usize,
+    ) -> Result<(), AllocError>
+        ensures { OnOk result (WritesMembers self.now depth (map view_member members.now) out.old.items out.new.items) }
+    {
+        out.extend_from_slice(b"{ ")?;
+        for member in members {
+            self.put_member(alloc, out, member, depth)?;
+        }
+        out.push(b'}')?;
+        Ok(())
+    }
+
+    /// A parameter of a function, or that others follow.
+    #[cycle(writing)]
+    fn put_parameter(
+        &self,
+        alloc: Global,
+        out: &mut Vec<u8>,
+        parameter: Parameter,
+        depth: usize,
+    ) -> Result<(), AllocError>
+        ensures { OnOk result (WritesParameter self.now depth parameter out.old.items out.new.items) }
+    {
+        match parameter {
+            Parameter::Typed(at) => self.put_named(alloc, out, at, None, depth),
+            Parameter::More => out.extend_from_slice(b"..."),
+        }
+    }
+
+    /// The parameters of a function.
+    #[cycle(writing)]
+    fn put_parameters(
+        &self,
+        alloc: Global,
+        out: &mut Vec<u8>,
+        parameters: &[Parameter],
+        depth: usize,
+    ) -> Result<(), AllocError>
+        ensures { OnOk result (WritesParameters self.now depth parameters.now out.old.items out.new.items) }
+    {
+        let Some((first, others)) = parameters.split_first() else {
+            return out.extend_from_slice(b"void");
+        };
+        self.put_parameter(alloc, out, *first, depth)?;
+        for parameter in others {
+            out.extend_from_slice(b", ")?;
+            self.put_parameter(alloc, out, *parameter, depth)?;
+        }
+        Ok(())
+    }
+
+    /// The specifier that a shape is without its qualifiers; nothing, where a declarator belongs to it.
+    #[cycle(writing)]
+    fn put_core(
+        &self,
+        alloc: Global,
+        out: &mut Vec<u8>,
+        shape: &Shape<'a>,
+        depth: usize,
+    ) -> Result<(), AllocError>
+        ensures { OnOk result (WritesCore self.now depth (view_shape shape.now) out.old.items out.new.items) }
+    {
+        match shape {
+            Shape::Base(name) => put_name(out, *name),
+            Shape::Typedef(name) => put_name(out, *name),
+            Shape::Tagged(tag, name) => put_tag(out, *tag, Some(*name)),
+            Shape::Body(tag, _, members) => {
+                out.extend_from_slice(tag.text())?;
+                out.push(b' ')?;
+                self.put_members(alloc, out, members, depth)
+            }
+            Shape::Enumeration(_, enumerators) => {
+                out.extend_from_slice(b"enum ")?;
+                put_enumerators(alloc, out, enumerators)
+            }
+            _ => Ok(()),
+        }
+    }
+
+    /// What stands before the declarator of a type under these qualifiers. `inside` says whether that is not empty.
+    #[cycle(writing)]
+    fn put_before(
+        &self,
+        alloc: Global,
+        out: &mut Vec<u8>,
+        at: TypeAt,
+        mut qualifiers: Vec<Qualifier>,
+        inside: bool,
+        depth: usize,
+    ) -> Result<(), AllocError>
+        ensures { OnOk result (WritesBefore self.now depth at qualifiers.items inside out.old.items out.new.items) }
+    {
+        let Some(entry) = at else {
+            put_qualifiers(out, &qualifiers)?;
+            out.extend_from_slice(b"void")?;
+            return put_gap(out, inside);
+        };
+        let Some((shape, below)) = self.shape_within(entry, depth) else {
+            return Ok(());
+        };
+        match shape {
+            Shape::Qualified(qualifier, under) => {
+                qualifiers.push(*qualifier)?;
+                self.put_before(alloc, out, *under, qualifiers, inside, below)
+            }
+            Shape::Pointer(to) => {
+                self.put_before(alloc, out, *to, Vec::new(alloc), true, below)?;
+                self.put_opened(out, *to)?;
+                out.push(b'*')?;
+                put_joined(out, &qualifiers, inside)
+            }
+            Shape::Array(_, _, element) => {
+                self.put_before(alloc, out, *element, Vec::new(alloc), true, below)
+            }
+            Shape::Function(returned, _) => {
+                self.put_before(alloc, out, *returned, Vec::new(alloc), true, below)
+            }
+            _ => {
+                put_qualifiers(out, &qualifiers)?;
+                self.put_core(alloc, out, shape, below)?;
+                put_gap(out, inside)
+            }
+        }
+    }
+
+    /// What stands behind the declarator of a type.
+    #[cycle(writing)]
+    fn put_after(
+        &self,
+        alloc: Global,
+        out: &mut Vec<u8>,
+        at: TypeAt,
+        depth: usize,
+    ) -> Result<(), AllocError>
+        ensures { OnOk result (WritesAfter self.now depth at out.old.items out.new.items) }
+    {
+        let Some(entry) = at else {
+            return Ok(());
+        };
+        let Some((shape, below)) = self.shape_within(entry, depth) else {
+            return Ok(());
+        };
+        match shape {
+            Shape::Qualified(_, under) => self.put_after(alloc, out, *under, below),
+            Shape::Pointer(to) => {
+                self.put_closed(out, *to)?;
+                self.put_after(alloc, out, *to, below)
+            }
+            Shape::Array(counts, _, element) => {
+                put_counts(alloc, out, counts)?;
+                self.put_after(alloc, out, *element, below)
+            }
+            Shape::Function(returned, parameters) => match parameters {
+                None => {
+                    out.extend_from_slice(b"()")?;
+                    self.put_after(alloc, out, *returned, below)
+                }
+                Some(parameters) => {
+                    out.push(b'(')?;
+                    self.put_parameters(alloc, out, parameters, below)?;
+                    out.push(b')')?;
+                    self.put_after(alloc, out, *returned, below)
+                }
+            },
+            _ => Ok(()),
+        }
+    }
+
+    /// A declaration.
+    #[tactic(auto, unfolding(crate::specs::Declarations::declaration_of))]
+    pub fn put_declaration(
+        &self,
+        alloc: Global,
+        out: &mut Vec<u8>,
+        subject: &Subject<'a>,
+    ) -> Result<(), AllocError>
+        ensures { OnOk result (WritesDeclaration self.now (view_subject subject.now) out.old.items out.new.items) }
+    {
+        match subject {
+            Subject::Typedef(name, at) => {
+                out.extend_from_slice(b"typedef ")?;
+                self.put_named(alloc, out, *at, *name, DEPTH)?;
+                out.extend_from_slice(b";")
+            }
+            Subject::Variable(name, at) => {
+                self.put_named(alloc, out, *at, *name, DEPTH)?;
+                out.extend_from_slice(b";")
+            }
+            Subject::Aggregate(tag, name, _, members) => {
+                put_tag(out, *tag, *name)?;
+                out.push(b' ')?;
+                self.put_members(alloc, out, members, DEPTH)?;
+                out.extend_from_slice(b";")
+            }
+            Subject::Enumeration(name, _, enumerators) => {
+                put_tag(out, TagKeyword::Enum, *name)?;
+                out.push(b' ')?;
+                put_enumerators(alloc, out, enumerators)?;
+                out.extend_from_slice(b";")
+            }
+            Subject::Declared(tag, name) => {
+                put_tag(out, *tag, *name)?;
+                out.extend_from_slice(b";")
+            }
+            Subject::Other => Ok(()),
+        }
+    }
+}
