@@ -32,6 +32,3 @@ pub use laws::{
     declared_if_not_refused, one_reading, shapes_reached_decide, text_in_parts, types_are_entries,
 };
 pub use listing::{Listing, declare_all};
-
-#[cfg(test)]
-mod tests;

@@ -9,7 +9,7 @@ use std::alloc::{AllocError, Global};
 use std::test::Fail;
 
 /// The image of a table and a .debug_info. The other sections are empty.
-fn image_of<'a>(alloc: Global, table: &'a [u8], info: &'a [u8]) -> Result<Image<'a>, Fail> {
+pub fn image_of<'a>(alloc: Global, table: &'a [u8], info: &'a [u8]) -> Result<Image<'a>, Fail> {
     let Ok(sections) = Sections::new(table, info, &[], &[], &[], &[]) else {
         return Err("too large".into());
     };

@@ -1,34 +1,13 @@
 //! Declarations and listings of small sections.
 
-use super::*;
-use dw_entries::Sections;
-use dw_image::{Verdict, verify};
-use std::alloc::Global;
-use std::test::Fail;
+mod refusals;
 
-/// A table, one declaration a line: a compile unit with children and a name; a base type with name, size and encoding; a typedef
-/// with name and type; a structure with name and size; a member with name, type and location; a pointer; a const; an array; a
-/// dimension with a count; a prototyped subroutine; a parameter; unspecified parameters; a structure with a sibling; a type unit;
-/// a compile unit with string offsets; a variable.
-const T: [u8; 129] = [
-    0x01, 0x11, 0x01, 0x03, 0x08, 0x00, 0x00, //
-    0x02, 0x24, 0x00, 0x03, 0x08, 0x0b, 0x0b, 0x3e, 0x0b, 0x00, 0x00, //
-    0x03, 0x16, 0x00, 0x03, 0x08, 0x49, 0x13, 0x00, 0x00, //
-    0x04, 0x13, 0x01, 0x03, 0x08, 0x0b, 0x0b, 0x00, 0x00, //
-    0x05, 0x0d, 0x00, 0x03, 0x08, 0x49, 0x13, 0x38, 0x0b, 0x00, 0x00, //
-    0x06, 0x0f, 0x00, 0x49, 0x13, 0x00, 0x00, //
-    0x07, 0x26, 0x00, 0x49, 0x13, 0x00, 0x00, //
-    0x08, 0x01, 0x01, 0x49, 0x13, 0x00, 0x00, //
-    0x09, 0x21, 0x00, 0x37, 0x07, 0x00, 0x00, //
-    0x0a, 0x15, 0x01, 0x27, 0x19, 0x49, 0x13, 0x00, 0x00, //
-    0x0b, 0x05, 0x00, 0x49, 0x13, 0x00, 0x00, //
-    0x0c, 0x18, 0x00, 0x00, 0x00, //
-    0x0d, 0x13, 0x01, 0x01, 0x13, 0x03, 0x08, 0x0b, 0x0b, 0x00, 0x00, //
-    0x0f, 0x41, 0x01, 0x00, 0x00, //
-    0x10, 0x11, 0x00, 0x72, 0x17, 0x03, 0x25, 0x00, 0x00, //
-    0x11, 0x34, 0x00, 0x49, 0x20, 0x00, 0x00, //
-    0x00,
-];
+use crate::image::image_of;
+use crate::vectors::T;
+use dw_cprint::{Image, PrintFault, declare, declare_all};
+use std::alloc::Global;
+use std::process::Abort;
+use std::test::Fail;
 
 /// A unit of version 5 with these items.
 fn unit(alloc: Global, items: &[u8]) -> Result<Vec<u8>, Fail> {
@@ -44,39 +23,37 @@ fn unit(alloc: Global, items: &[u8]) -> Result<Vec<u8>, Fail> {
 /// The listing of a table and a unit's items.
 fn listed(alloc: Global, table: &[u8], items: &[u8]) -> Result<String, Fail> {
     let info = unit(alloc, items)?;
-    let sections = Sections::new(table, &info, &[], &[], &[], &[])
-        .ok()
-        .ok_or("sections")?;
-    match verify(alloc, sections) {
-        Ok(Verdict::Sound(image)) => {
-            let listing = declare_all(alloc, &image).ok().ok_or("memory")?;
-            Ok(String::from_utf8(listing.text).ok().ok_or("no text")?)
-        }
-        _ => Err("not sound".into()),
-    }
+    let image = image_of(alloc, table, &info)?;
+    let listing = declare_all(alloc, &image).ok().ok_or("memory")?;
+    Ok(String::from_utf8(listing.text).ok().ok_or("no text")?)
 }
 
-/// What `declare` answers at an offset, and the text.
-fn declared(
-    alloc: Global,
-    table: &[u8],
-    items: &[u8],
-    offset: u32,
-) -> Result<(Result<(), PrintFault>, String), Fail> {
-    let info = unit(alloc, items)?;
-    let sections = Sections::new(table, &info, &[], &[], &[], &[])
-        .ok()
-        .ok_or("sections")?;
-    match verify(alloc, sections) {
-        Ok(Verdict::Sound(image)) => {
-            let id = image.entry(offset).ok_or("no entry")?;
-            let mut out = Vec::new(alloc);
-            out.extend_from_slice(b"x")?;
-            let outcome = declare(alloc, &image, id, &mut out);
-            Ok((outcome, String::from_utf8(out).ok().ok_or("no text")?))
+/// A row: the offset of the entry that is declared, and its text or refusal.
+type Row = (u32, Result<&'static str, PrintFault>);
+
+/// Declares the entry of a row behind the byte `x`.
+fn expect(rt: &impl Abort, alloc: Global, image: &Image<'_>, row: Row) -> Result<(), Fail> {
+    let id = image.entry(row.0).ok_or("no entry")?;
+    let mut out = Vec::new(alloc);
+    out.push(b'x')?;
+    let outcome = declare(alloc, image, id, &mut out);
+    let text = String::from_utf8(out).ok().ok_or("no text")?;
+    match row.1 {
+        Ok(wanted) => {
+            assert_eq!(rt; outcome, Ok(()), "declaring {wanted}");
+            assert_eq!(rt; text.strip_prefix('x'), Some(wanted));
         }
-        _ => Err("not sound".into()),
+        Err(refusal) => {
+            assert_eq!(rt;
+                outcome,
+                Err(refusal),
+                "declaring the entry at {:#x}",
+                row.0
+            );
+            assert_eq!(rt; text.as_str(), "x");
+        }
     }
+    Ok(())
 }
 
 /// `int (*(*f)(int, ...))[3]`, as a typedef.
@@ -105,17 +82,16 @@ const ONE: [u8; 28] = [
 
 #[test]
 fn one_declaration(rt: HostRuntime) -> Result<(), Fail> {
-    let (far, text) = declared(rt.alloc(), &T, &FAR, 0x16)?;
-    assert_eq!(rt; far, Ok(()));
-    assert_eq!(rt; text.as_str(), "xtypedef int (*(*f)(int, ...))[3];");
-    for (items, offset) in [
-        (LOOP.as_slice(), 0x19),
-        (LOOP.as_slice(), 0x0f),
-        (ONE.as_slice(), 0x20),
-    ] {
-        let (outcome, text) = declared(rt.alloc(), &T, items, offset)?;
-        assert_eq!(rt; outcome, Err(PrintFault::NotPrintable));
-        assert_eq!(rt; text.as_str(), "x");
+    let rows: [(&[u8], Row); 4] = [
+        (&FAR, (0x16, Ok("typedef int (*(*f)(int, ...))[3];"))),
+        (&LOOP, (0x19, Err(PrintFault::NotPrintable))),
+        (&LOOP, (0x0f, Err(PrintFault::NotPrintable))),
+        (&ONE, (0x20, Err(PrintFault::NotPrintable))),
+    ];
+    for (items, row) in rows {
+        let info = unit(rt.alloc(), items)?;
+        let image = image_of(rt.alloc(), &T, &info)?;
+        expect(&rt, rt.alloc(), &image, row)?;
     }
     Ok(())
 }
@@ -306,28 +282,28 @@ const FORMS: [u8; 260] = [
 // Each form of type and declaration. The texts are written by hand.
 #[test]
 fn spellings(rt: HostRuntime) -> Result<(), Fail> {
-    let rows = [
-        (0x2c, "const char *v[3];"),
-        (0x42, "typedef int (*f)[2][3];"),
-        (0x52, "typedef int e[][4];"),
-        (0x68, "int *const restrict r;"),
-        (0x75, "volatile void *w;"),
-        (0x81, "typedef int g();"),
-        (0x8a, "typedef void h(void);"),
-        (0xa3, "void (*k)(int, const char *, ...);"),
+    let rows: [Row; 13] = [
+        (0x2c, Ok("const char *v[3];")),
+        (0x42, Ok("typedef int (*f)[2][3];")),
+        (0x52, Ok("typedef int e[][4];")),
+        (0x68, Ok("int *const restrict r;")),
+        (0x75, Ok("volatile void *w;")),
+        (0x81, Ok("typedef int g();")),
+        (0x8a, Ok("typedef void h(void);")),
+        (0xa3, Ok("void (*k)(int, const char *, ...);")),
         (
             0xc0,
-            "struct s { int low : 3; struct s *next; union { int x; char y; }; };",
+            Ok("struct s { int low : 3; struct s *next; union { int x; char y; }; };"),
         ),
-        (0xde, "enum color { RED = 0, LESS = -1 };"),
-        (0xfb, "enum { A = 5 } n;"),
-        (0x102, "struct opaque;"),
-        (0x10a, "struct z { };"),
+        (0xde, Ok("enum color { RED = 0, LESS = -1 };")),
+        (0xfb, Ok("enum { A = 5 } n;")),
+        (0x102, Ok("struct opaque;")),
+        (0x10a, Ok("struct z { };")),
     ];
-    for (offset, text) in rows {
-        let (outcome, found) = declared(rt.alloc(), &W, &FORMS, offset)?;
-        assert_eq!(rt; outcome, Ok(()), "declaring {text}");
-        assert_eq!(rt; found.strip_prefix('x'), Some(text));
+    let info = unit(rt.alloc(), &FORMS)?;
+    let image = image_of(rt.alloc(), &W, &info)?;
+    for row in rows {
+        expect(&rt, rt.alloc(), &image, row)?;
     }
     Ok(())
 }
