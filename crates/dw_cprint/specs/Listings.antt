@@ -48,6 +48,8 @@ pub record IsListing (image : Image) (order : List ℕ) (refused : List (ℕ × 
   pub others : (entry : ℕ) (rule : PrintFault) → Contains refused (entry, rule)
       ↔ (IsNamedType image entry × Refuses (shape_in image) (subject_in image entry) rule)
   pub by_offset : AllPairs (λ (a b : ℕ × PrintFault). a.0 < b.0) refused
+  pub each : (entry : ℕ) → IsNamedType image entry
+      → Contains order entry ⊎ ((rule : PrintFault) × Contains refused (entry, rule))
 
 -- ---- the text
 

@@ -1,4 +1,4 @@
-//! The second refusal: names that C does not have.
+//! The second refusal (P2): names that are missing or not valid in C.
 
 ghost use Rattle.std.specs.Prelude.{◌≡◌, ◌↔◌, ℕ, All, IsTrue, map, option_copied};
 ghost use Rattle.dw_cprint.specs.Shapes.{ShapeOf, view_enumerator, view_member, view_shape, view_subject};

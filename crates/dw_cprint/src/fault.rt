@@ -6,22 +6,22 @@ ghost use Rattle.dw_cprint.specs.declared.fault.PrintFault.TheVariants.{Memory};
 
 use std::alloc::{AllocError, AllocFailed};
 
-/// Why an entry is not printed. Of several reasons the first holds.
+/// Why an entry is not printed. If several reasons hold, it is the first of them in this order.
 #[derive(Clone, Copy, Debug, PartialEq, Eq)]
 pub enum PrintFault {
     /// It is no typedef, variable, structure, union or enumeration, or its spelling steps reach a cycle.
     NotPrintable,
     /// A name that is printed is absent or no name of C.
     BadName,
-    /// A type of another language or an unspecified type is reached.
+    /// A type of another language or an unspecified type is reached, or a body has an inheritance or a variant part.
     Foreign,
     /// C has no declaration for it.
     Unspeakable,
-    /// More than 64 spelling steps stand in a row.
+    /// A path from the entry has more than 64 spelling steps.
     TooDeep,
     /// The text has more than 65,536 bytes.
     TooLong,
-    /// A growth was refused.
+    /// An allocation failed.
     Memory,
 }
 

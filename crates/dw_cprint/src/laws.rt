@@ -1,8 +1,10 @@
 //! What holds of all texts of declarations.
 
-ghost use Rattle.std.specs.Prelude.{◌≡◌, ◌<◌, ◌++◌, ℕ, List, Some, length, All, IsSome};
+ghost use Rattle.std.specs.Prelude.{◌≡◌, ◌<◌, ◌++◌, ℕ, List, Some, length, All, AllPairs, IsSome};
+ghost use Rattle.dw_cprint.specs.Cycles.{HoldsByValue};
 ghost use Rattle.dw_cprint.specs.Declarations.{declaration_of};
 ghost use Rattle.dw_cprint.specs.EntryShapes.{shape_in};
+ghost use Rattle.dw_cprint.specs.Listings.{IsListing};
 ghost use Rattle.dw_cprint.specs.Refusals.{HasOneReading, HoldsNoneBelow, IsPrinted, Refuses};
 ghost use Rattle.dw_cprint.specs.Regular.{AreRegular};
 ghost use Rattle.dw_cprint.specs.Shapes.{ShapeOf, SubjectOf};
@@ -10,7 +12,7 @@ ghost use Rattle.dw_cprint.specs.SameShapes.{AreSameFor};
 ghost use Rattle.dw_cprint.specs.Steps.{steps_reached};
 ghost use Rattle.dw_cprint.specs.declared.fault.PrintFault.{PrintFault};
 ghost use Rattle.dw_image.specs.declared.image.Image.{Image as ImageOf};
-ghost use Rattle.dw_image.specs.Images.{entries_in};
+ghost use Rattle.dw_image.specs.Images.{entries_in, steps_in};
 ghost use Rattle.dw_cprint.specs.LookUps.{type_at};
 ghost use Rattle.dw_cprint.specs.Declarators.{before, after, is_there};
 ghost use Rattle.dw_cprint.specs.Legible.{IsDeclaration};
@@ -25,7 +27,7 @@ pub fn one_reading()
     ensures no_other { (d e : Declaration) → IsDeclaration d → IsDeclaration e → written d ≡ written e → d ≡ e }
 {}
 
-/// The text of a type is what stands before its declarator, the declarator, and what stands behind it.
+/// The text of a type is what is before its declarator, the declarator, and what is after it.
 pub fn text_in_parts()
     ensures { (qs : List Qualifier) (t : Term) (d : List Token) → spell qs t d ≡ before qs t (is_there d) ++ (d ++ after t) }
 {}
@@ -36,8 +38,8 @@ pub fn types_are_entries()
     ensures all { (image : ImageOf) (id : ℕ) → All (λ to. to < length (entries_in image)) (steps_reached (shape_in image) id) }
 {}
 
-/// An entry of which none of the first five refusals holds has a declaration. Where none of the first four holds, its
-/// declaration can be read back from its text, so no other declaration has that text.
+/// An entry of which none of P1 to P5 holds has a declaration. If none of P1 to P4 holds, its declaration can be read
+/// back from its text, so no other declaration has that text.
 pub fn declared_if_not_refused()
     ensures there { (shapes : ℕ → ShapeOf) (subject : SubjectOf) → HoldsNoneBelow 6 shapes subject
         → IsSome (declaration_of shapes subject) }
@@ -47,7 +49,7 @@ pub fn declared_if_not_refused()
         → AreRegular shapes subject → HasOneReading shapes subject }
 {}
 
-/// Declarations and refusals depend on the shapes of the entries that are reached, and on no other.
+/// Declarations and refusals depend only on the shapes of the entries that are reached.
 pub fn shapes_reached_decide()
     ensures declared { (shapes others : ℕ → ShapeOf) (subject : SubjectOf) → AreSameFor shapes others subject
         → declaration_of shapes subject ≡ declaration_of others subject }
@@ -57,4 +59,11 @@ pub fn shapes_reached_decide()
         → AreSameFor shapes others subject → IsPrinted shapes subject → IsPrinted others subject }
     ensures one { (shapes others : ℕ → ShapeOf) (subject : SubjectOf)
         → AreSameFor shapes others subject → HasOneReading shapes subject → HasOneReading others subject }
+{}
+
+/// In a listing, each type comes after those that it contains by value: as its type, as the type of a member, by its
+/// signature, or through others (DWARF 5, chapter 5).
+pub fn held_types_come_first()
+    ensures { (image : ImageOf) (order : List ℕ) (refused : List (ℕ × PrintFault)) → IsListing image order refused
+        → AllPairs (λ a b. HoldsByValue (steps_in image) a b → ⊥) order }
 {}

@@ -29,6 +29,7 @@ pub use declaring::declare;
 pub use dw_image::{EntryId, Image, NoMemory};
 pub use fault::PrintFault;
 pub use laws::{
-    declared_if_not_refused, one_reading, shapes_reached_decide, text_in_parts, types_are_entries,
+    declared_if_not_refused, held_types_come_first, one_reading, shapes_reached_decide,
+    text_in_parts, types_are_entries,
 };
 pub use listing::{Listing, declare_all};

@@ -25,12 +25,12 @@ use dw_entries::constants::*;
 use dw_image::{EntryId, Image, NoMemory};
 use std::alloc::{AllocError, Global};
 
-/// The named types of an image.
+/// The named types of an image: those that are printed, those that are refused, and the text of both.
 #[derive(Drop)]
 pub struct Listing {
     /// Those that are printed, by rising level and then by rising offset, so each after those that it holds by value.
     pub order: Vec<EntryId>,
-    /// A line for each of them, and for each that is refused.
+    /// A line for each in `order`, its declaration; then a comment line for each in `refused`.
     pub text: Vec<u8>,
     /// Those that are refused, in rising offset, and why.
     pub refused: Vec<(EntryId, PrintFault)>,
@@ -90,7 +90,7 @@ fn subjects_of<'a>(
     Ok(subjects)
 }
 
-/// The level of each entry: how many steps by value the longest row has that starts there.
+/// The level of each entry: how many steps by value the longest path from it has.
 fn levels_of(alloc: Global, image: &Image<'_>) -> Result<Vec<usize>, AllocError>
     ensures entries { IfOk result (λ levels. length levels.items ≡ length (entries_in image.now)) }
     ensures levels { IfOk result (λ levels. AreLevels image.now (slice_index levels.items)) }
@@ -231,7 +231,10 @@ fn entries_of(alloc: Global, listed: &[Listed]) -> Result<Vec<EntryId>, AllocErr
     Ok(order)
 }
 
-/// The declarations of all named types of an image.
+/// Lists all named types of an image, each printed or refused: typedefs with a name, and structures, unions and
+/// enumerations that have a name and are not only declared (DWARF 5, 2.15 and chapter 5).
+///
+/// The text has at most 65,537 bytes for each of them. The one error is that an allocation failed.
 pub fn declare_all(alloc: Global, image: &Image<'_>) -> Result<Listing, NoMemory>
     ensures listing { IfOk result (λ it. IsListing image.now it.order.items it.refused.items) }
     ensures text { IfOk result (λ it. it.text.items ≡ listing_text image.now it.order.items it.refused.items) }

@@ -6,6 +6,7 @@ ghost use Rattle.dw_cprint.specs.Declarations.{parts_of, word_of, words_of};
 ghost use Rattle.dw_cprint.specs.Legible.{is_identifier, is_keyword, is_word_byte};
 ghost use Rattle.dw_cprint.specs.Wrong.{is_base_name};
 
+/// The keywords of C11.
 const KEYWORDS: [&str; 44] = [
     "auto",
     "break",
@@ -53,7 +54,7 @@ const KEYWORDS: [&str; 44] = [
     "_Thread_local",
 ];
 
-/// A keyword of C.
+/// Whether the text is a keyword of C.
 #[tactic(auto, unfolding(crate::specs::Legible::is_keyword))]
 pub fn is_keyword_text(word: &[u8]) -> bool
     ensures { result ≡ is_keyword word.now }
@@ -61,28 +62,28 @@ pub fn is_keyword_text(word: &[u8]) -> bool
     is_one_of(word, &KEYWORDS)
 }
 
-// Whether the text is one of these.
+/// Whether the text is one of these.
 fn is_one_of(word: &[u8], words: &[&str]) -> bool
     ensures { result ≡ list_any (λ k. bytes_eq word.now k.now) words.now }
 {
     words.iter().any(|k| word == k.as_bytes())
 }
 
-/// A byte of a word.
+/// Whether the byte is a letter, a digit or an underscore.
 pub fn is_word(b: u8) -> bool
     ensures { result ≡ is_word_byte b }
 {
     b.is_ascii_alphanumeric() || b == b'_'
 }
 
-/// Letters, digits and underscores.
+/// Whether all bytes are letters, digits or underscores.
 fn are_words(bytes: &[u8]) -> bool
     ensures { result ≡ list_all is_word_byte bytes.now }
 {
     bytes.iter().all(|b| is_word(*b))
 }
 
-/// An identifier of C.
+/// Whether the name is an identifier of C.
 #[tactic(auto, unfolding(crate::specs::Legible::is_identifier))]
 pub fn is_name(name: &[u8]) -> bool
     ensures { result ≡ is_identifier name.now }
@@ -93,25 +94,26 @@ pub fn is_name(name: &[u8]) -> bool
     !first.is_ascii_digit() && are_words(name) && !is_keyword_text(name)
 }
 
+/// The words of which names of base types are made. This project's choice.
 const TYPE_WORDS: [&str; 10] = [
     "char", "short", "int", "long", "signed", "unsigned", "float", "double", "_Bool", "_Complex",
 ];
 
-/// A word of which names of basic types are made.
+/// Whether the text is one of the type words.
 fn is_type_word(word: &[u8]) -> bool
     ensures { result ≡ is_some (word_of word.now) }
 {
     is_one_of(word, &TYPE_WORDS)
 }
 
-/// Where the first space stands, if there is one.
+/// The index of the first space, if there is one.
 fn first_space(name: &[u8]) -> Option<usize>
     ensures { result ≡ position (λ byte. byte == 32) name.now }
 {
     name.iter().position(|b| *b == b' ')
 }
 
-/// Type words joined by one space each, at most so many.
+/// Whether the name is type words, at most so many, separated by one space each.
 fn are_type_words(name: &[u8], most: u8) -> bool
     ensures { result ≡ is_some (words_of most (parts_of name.now)) }
 {
@@ -124,7 +126,7 @@ fn are_type_words(name: &[u8], most: u8) -> bool
     }
 }
 
-/// A name of a base type: an identifier, or 1 to 4 type words joined by one space each.
+/// Whether the name is one for a base type: an identifier, or 1 to 4 type words separated by one space each.
 pub fn is_base_name(name: &[u8]) -> bool
     ensures { result ≡ is_base_name name.now }
 {

@@ -28,6 +28,7 @@ fn put_value(alloc: Global, out: &mut Vec<u8>, value: i128) -> Result<(), AllocE
     out.extend_from_slice(text.as_bytes())
 }
 
+/// A name, if there is one.
 pub fn put_name(out: &mut Vec<u8>, name: Name<'_>) -> Result<(), AllocError>
     ensures { OnOk result (Writes (name_tokens (option_copied name.entry)) out.old.items out.new.items) }
 {
@@ -55,7 +56,7 @@ pub fn put_counts(
     Ok(())
 }
 
-/// Each qualifier, and a space behind it.
+/// Each qualifier, followed by a space.
 pub fn put_qualifiers(out: &mut Vec<u8>, qualifiers: &[Qualifier]) -> Result<(), AllocError>
     ensures { OnOk result (Writes (qualifying qualifiers.now) out.old.items out.new.items) }
 {
@@ -66,7 +67,7 @@ pub fn put_qualifiers(out: &mut Vec<u8>, qualifiers: &[Qualifier]) -> Result<(),
     Ok(())
 }
 
-/// The qualifiers of a pointer, joined by spaces, and one behind them where a declarator follows.
+/// The qualifiers of a pointer, separated by spaces, and a space after them if a declarator follows.
 pub fn put_joined(
     out: &mut Vec<u8>,
     qualifiers: &[Qualifier],
@@ -84,7 +85,7 @@ pub fn put_joined(
     Ok(())
 }
 
-/// A space, where a declarator follows.
+/// A space, if a declarator follows.
 pub fn put_gap(out: &mut Vec<u8>, inside: bool) -> Result<(), AllocError>
     ensures { OnOk result (Writes (gap inside) out.old.items out.new.items) }
 {

@@ -94,6 +94,7 @@ fn row_of(
     Ok(row)
 }
 
+/// Appends the type of each member.
 fn put_member_types(types: &mut Vec<TypeAt>, members: &[Member<'_>]) -> Result<(), AllocError>
     ensures { OnOk result (types.new.items ≡ types.old.items ++ member_types (map view_member members.now)) }
 {
@@ -103,6 +104,7 @@ fn put_member_types(types: &mut Vec<TypeAt>, members: &[Member<'_>]) -> Result<(
     Ok(())
 }
 
+/// Appends the type of each parameter. Unspecified parameters have none.
 fn put_parameter_types(types: &mut Vec<TypeAt>, parameters: &[Parameter]) -> Result<(), AllocError>
     ensures { OnOk result (types.new.items ≡ types.old.items ++ parameter_types parameters.now) }
 {

@@ -31,7 +31,7 @@ fn has_child(image: &Image<'_>, children: &[EntryId], one: Tag, another: Tag) ->
     })
 }
 
-/// Whether one of these children stands in no body of C: an inheritance or a variant part.
+/// Whether one of these children cannot be in a body of C: an inheritance or a variant part.
 fn has_odd_child(image: &Image<'_>, children: &[EntryId]) -> bool
     requires { All (λ child. child < length (entries_in image.now)) children.now }
     ensures { result ≡ list_any (has_tag image.now 0x1c 0x33) children.now }
@@ -200,7 +200,7 @@ pub fn enumerators_of<'a>(
     Ok(enumerators)
 }
 
-/// A structure or union with what stands in its body.
+/// What is in the body of a structure or union.
 #[derive(Drop)]
 pub struct MemberBody<'a> {
     pub odd: bool,
@@ -224,7 +224,7 @@ pub fn member_body<'a>(
     Ok(MemberBody { odd, members })
 }
 
-/// An enumeration with what stands in its body.
+/// What is in the body of an enumeration.
 #[derive(Drop)]
 pub struct EnumeratorBody<'a> {
     pub odd: bool,

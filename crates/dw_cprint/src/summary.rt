@@ -16,7 +16,7 @@ use std::alloc::{AllocError, Global};
 #[derive(Clone, Copy, Debug)]
 pub struct Summary {
     pub kind: TypeKind,
-    /// The kind of what stands under its row of qualifiers, or its own, if it is no qualifier.
+    /// The kind of the type under its row of qualifiers, or its own, if it is no qualifier.
     pub base: TypeKind,
     /// What is wrong with an entry that it reaches, or with itself.
     pub faults: Faults,
@@ -75,7 +75,7 @@ impl Summaries {
     }
 }
 
-/// The kind of what stands under the row of qualifiers that begins with this shape.
+/// The kind of the type under the row of qualifiers that begins with this shape.
 fn base_of(summaries: &Summaries, shape: &Shape<'_>) -> TypeKind
     ensures { (shapes : ℕ → ShapeOf) (entry : ℕ) → shapes entry ≡ view_shape shape.now
         → All (Knows shapes summaries.now) (types_reached (view_shape shape.now)) → IsBase shapes (Some entry) result }

@@ -22,7 +22,7 @@ use crate::text_lengths::declaration_length;
 use dw_image::Image;
 use std::alloc::{AllocError, Global};
 
-/// The most steps in a row.
+/// The most spelling steps of a path that is printed.
 const STEP_LIMIT: usize = 64;
 
 /// What some declarations need.
@@ -93,7 +93,7 @@ impl<'a> Survey<'a> {
         false
     }
 
-    /// Whether more than 64 steps in a row begin with one to these types, of which none reaches a cycle.
+    /// Whether a path of more than 64 steps begins with one to these types, of which none reaches a cycle.
     fn is_deep(&self, types: &[TypeAt]) -> bool
         ensures { BySurvey self.now (entries_of types.now) (λ shapes. (ReachACycle shapes (entries_of types.now) → ⊥)
             → IsTrue result ↔ IsDeepFrom shapes (entries_of types.now)) }

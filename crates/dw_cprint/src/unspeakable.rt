@@ -1,4 +1,4 @@
-//! The fourth refusal: what C has no declaration for.
+//! The fourth refusal (P4): what C has no declaration for.
 
 ghost use Rattle.std.specs.Prelude.{◌≡◌, ◌⊎◌, ◌↔◌, ℕ, true, All, Any, IsTrue, is_none, map, Option, [], ◌∷◌};
 ghost use Rattle.std.specs.List.{list_any};

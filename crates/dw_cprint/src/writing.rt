@@ -1,4 +1,4 @@
-//! The text of a type: what stands before its declarator, and what behind it.
+//! The text of a type: what is before its declarator, and what is after it.
 
 ghost use Rattle.std.specs.Prelude.{◌≡◌, ◌<◌, ◌||◌, Some, None, map, option_copied, OnOk, IfSome, MatchOption};
 ghost use Rattle.dw_cprint.specs.Declarations.{term_by};
@@ -14,7 +14,7 @@ use crate::survey::Survey;
 use crate::words::{Qualifier, TagKeyword};
 use std::alloc::{AllocError, Global};
 
-/// How many entries at most stand on a path from the one that is declared, with void behind them.
+/// The most types on a path that is printed: 64 entries, and void after the last.
 const DEPTH: usize = 65;
 
 impl<'a> Survey<'a> {
@@ -41,7 +41,7 @@ impl<'a> Survey<'a> {
         Some((shape, below))
     }
 
-    /// Whether brackets behind a declarator of the type bind before a star in front of it.
+    /// Whether brackets after a declarator of the type bind before a star in front of it.
     fn is_bracketed(&self, at: TypeAt) -> bool
         ensures { result ≡ (is_array (shape_of (kept self.now) at) || is_function (shape_of (kept self.now) at)) }
     {
@@ -55,7 +55,7 @@ impl<'a> Survey<'a> {
         }
     }
 
-    /// The parenthesis before the star of a pointer, where it needs one.
+    /// The parenthesis before the star of a pointer, if it needs one.
     fn put_opened(&self, out: &mut Vec<u8>, to: TypeAt) -> Result<(), AllocError>
         ensures { OnOk result (WritesOpened self.now to out.old.items out.new.items) }
     {
@@ -166,7 +166,7 @@ impl<'a> Survey<'a> {
         Ok(())
     }
 
-    /// The specifier that a shape is without its qualifiers; nothing, where a declarator belongs to it.
+    /// The specifier that a shape is without its qualifiers; nothing for a pointer, an array and a function.
     #[cycle(writing)]
     fn put_core(
         &self,
@@ -194,7 +194,7 @@ impl<'a> Survey<'a> {
         }
     }
 
-    /// What stands before the declarator of a type under these qualifiers. `inside` says whether that is not empty.
+    /// What is before the declarator of a type under these qualifiers. `inside`: whether the declarator is not empty.
     #[cycle(writing)]
     fn put_before(
         &self,
@@ -240,7 +240,7 @@ impl<'a> Survey<'a> {
         }
     }
 
-    /// What stands behind the declarator of a type.
+    /// What is after the declarator of a type.
     #[cycle(writing)]
     fn put_after(
         &self,
