@@ -20,6 +20,8 @@ MANY = 100_000
 # Bytes of memory that a run of `show` may have.
 MEMORY = 1 << 30
 TABLES = 40_000
+# Attributes of one declaration that come before its DW_AT_declaration.
+WIDE = 50_000
 SECTIONS = 65_000
 # Bytes of the name of each of them.
 LONG = 16 << 20
@@ -83,6 +85,22 @@ INT = bytes([2, 4])
 FIRST = 13
 
 
+def specified(others, values, targets):
+    """The table and the unit of declared variables, and of many variables that are specifications of each in turn.
+
+    A declared variable has these other attributes and their values before its DW_AT_declaration.
+    """
+    table = bytes.fromhex("0111010000" "0234004713000003" "3400") + others + bytes.fromhex("3c0c0000" "00")
+    target = b"\x03" + values + b"\x01"
+    uses = b"".join(b"\x02" + struct.pack("<I", FIRST + n % targets * len(target)) for n in range(2 * MANY))
+    return table, unit(b"\x01" + target * targets + uses + b"\0")
+
+
+def wide(form):
+    """Many attributes in one form."""
+    return b"".join(uleb(0x2000 + n) + form for n in range(WIDE))
+
+
 def typedefs(first, count):
     """Typedefs in a row, each of the one before; the first is of the entry at an offset."""
     out, to = bytearray(), first
@@ -115,6 +133,16 @@ def files():
     text = b"a" * (4 << 20) + b"\0"
     names = b"\x01" + b"\x08\0\0\0\0" * 2 * MANY + b"\0"
     yield f"one string of 4 MB with {2 * MANY:,} names", sections(unit(names), text), f"sound: 1 units, {2 * MANY + 1} entries, 0 types"
+
+    for where, others, values, targets in (
+        ("a name of 4 MB", b"\x03\x08", text, 1),
+        (f"{WIDE:,} numbers", wide(b"\x0f"), bytes(WIDE), 1),
+        (f"{WIDE:,} numbers, each of 10", wide(b"\x0f"), bytes(WIDE), 10),
+        (f"{WIDE:,} flags without bytes", wide(b"\x19"), b"", 1),
+    ):
+        table, info = specified(others, values, targets)
+        yield (f"{2 * MANY:,} specifications of an entry that is declared behind {where}",
+               [(".debug_abbrev", table), (".debug_info", info)], f"sound: 1 units, {2 * MANY + targets + 1} entries, 0 types")
 
     counts = b"".join(b"\x07" + struct.pack("<Q", n) for n in (1 << 40, 1 << 40, 0))
     array = b"\x01" + INT + b"\x06" + struct.pack("<I", FIRST) + counts + b"\0\0"

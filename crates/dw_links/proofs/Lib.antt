@@ -20,3 +20,4 @@ pub mod LinkedTexts
 pub mod LinkedEntries
 pub mod RuleSteps
 pub mod LinkSteps
+pub mod DeclaredLemmas

@@ -6,6 +6,7 @@ pub mod Strings
 pub mod Texts
 pub mod Ready
 pub mod References
+pub mod DeclaredEntries
 pub mod Signatures
 pub mod Linkable
 pub mod Targets

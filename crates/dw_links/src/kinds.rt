@@ -4,8 +4,10 @@ ghost use Rattle.std.specs.Prelude.{◌≡◌, ◌<◌, Some, length, slice_get}
 ghost use Rattle.dw_forms.specs.Value.{view};
 ghost use Rattle.dw_entries.specs.Entries.{Entry, entries_of};
 ghost use Rattle.dw_entries.specs.Scanned.{units_of};
-ghost use Rattle.dw_links.specs.References.{is_declared, is_signed, is_signature, is_reference_value, permits, permits_form};
+ghost use Rattle.dw_links.specs.DeclaredEntries.{KeepsDeclared};
+ghost use Rattle.dw_links.specs.References.{is_signed, is_signature, is_reference_value, permits, permits_form};
 
+use crate::declared_entries::DeclaredEntries;
 use dw_entries::constants::*;
 use dw_entries::{Entries, EntryId, Head};
 use dw_forms::{Attribute, Value};
@@ -27,17 +29,6 @@ pub fn is_sig8(value: &Value<'_>) -> bool
     ensures { result ≡ is_signature (view value.now) }
 {
     matches!(value, Value::RefSig(_))
-}
-
-/// Whether an entry is declared and not defined.
-fn is_declared_entry(entries: &Entries<'_>, id: EntryId) -> bool
-    requires { id < length (entries_of (units_of entries.now.scanned)) }
-    ensures { (e : Entry) → slice_get (entries_of (units_of entries.now.scanned)) id ≡ Some e → result ≡ is_declared e }
-{
-    matches!(
-        entries.value(id, DW_AT_declaration),
-        Some(Value::Flag(true))
-    )
 }
 
 /// Whether an attribute is the signature of a structure, union or enumeration.
@@ -63,16 +54,24 @@ pub fn is_permitted_form(head: &Head, attribute: Attribute, value: &Value<'_>) -
 /// Whether an attribute of an entry may reach a target. This project's choice: the type, the specification, the
 /// signature and the import of a unit have targets of their kinds, and other attributes may reach any entry.
 #[inline(always)]
-pub fn is_permitted(entries: &Entries<'_>, head: &Head, attribute: Attribute, id: EntryId) -> bool
-    requires { id < length (entries_of (units_of entries.now.scanned)) }
-    ensures { (target : Entry) → slice_get (entries_of (units_of entries.now.scanned)) id ≡ Some target → result ≡ permits head.now attribute target }
+pub fn is_permitted(
+    entries: &Entries<'_>,
+    declared: &mut DeclaredEntries,
+    head: &Head,
+    attribute: Attribute,
+    id: EntryId,
+) -> bool
+    requires id { id < length (entries_of (units_of entries.now.scanned)) }
+    requires kept { KeepsDeclared (entries_of (units_of entries.now.scanned)) declared.old }
+    ensures kept { KeepsDeclared (entries_of (units_of entries.now.scanned)) declared.new }
+    ensures exact { (target : Entry) → slice_get (entries_of (units_of entries.now.scanned)) id ≡ Some target → result ≡ permits head.now attribute target }
 {
     let target = entries.at(id);
     if attribute == DW_AT_type {
         return target.is_type();
     }
     if attribute == DW_AT_specification {
-        return target.offset() != head.offset && is_declared_entry(entries, id);
+        return target.offset() != head.offset && declared.has(entries, id);
     }
     if is_signed_by(head, attribute) {
         return target.tag() == head.tag;

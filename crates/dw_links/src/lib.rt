@@ -4,6 +4,7 @@
 mod attribute_texts;
 mod class;
 mod contribution;
+mod declared_entries;
 mod headers;
 mod kinds;
 mod laws;

@@ -10,10 +10,12 @@ ghost use Rattle.dw_links.specs.Targets.{reach_of};
 ghost use Rattle.dw_entries.specs.Stopped.{IfFault};
 ghost use Rattle.dw_links.specs.Concerns.{AtHead, PassesAt, FailsAt};
 ghost use Rattle.dw_links.specs.References.{ReferenceFails, AttributeFailures, ReferenceFailures};
+ghost use Rattle.dw_links.specs.DeclaredEntries.{KeepsDeclared};
 ghost use Rattle.dw_links.specs.Linkable.{IsLinkable, MayAsk};
 ghost use Rattle.dw_links.specs.Tables.{type_target};
 ghost use Rattle.dw_links.specs.Kept.{kept_after};
 
+use crate::declared_entries::DeclaredEntries;
 use crate::references::References;
 use crate::rules::{broken_at, fault_of};
 use dw_entries::constants::*;
@@ -55,18 +57,21 @@ impl References<'_, '_> {
     #[inline(always)]
     fn link_value(
         &self,
+        declared: &mut DeclaredEntries,
         head: &Head,
         attribute: Attribute,
         value: &Value<'_>,
     ) -> Result<OptionalId, Rule>
-        requires { MayAsk self.now head.now }
+        requires may { MayAsk self.now head.now }
+        requires kept { KeepsDeclared (entries_of (units_of self.now.entries.now.scanned)) declared.old }
+        ensures kept { KeepsDeclared (entries_of (units_of self.now.entries.now.scanned)) declared.new }
         ensures ok { OnOk result (IsLeast (ReferenceFails (entries_of (units_of self.now.entries.now.scanned)) (placed (units_of self.now.entries.now.scanned)) head.now attribute (view value.now)) None) }
         ensures reached { IfOk result (λ target. target ≡ reach_of (entries_of (units_of self.now.entries.now.scanned)) (placed (units_of self.now.entries.now.scanned)) head.now (view value.now)) }
         ensures err { IfErr result (λ rule. IsLeast (ReferenceFails (entries_of (units_of self.now.entries.now.scanned)) (placed (units_of self.now.entries.now.scanned)) head.now attribute (view value.now)) (Some rule)) }
     {
         let reached = self.reach(head, value);
         let target = number_of(self.entries, &reached);
-        match self.ask(head, attribute, value, reached) {
+        match self.ask(declared, head, attribute, value, reached) {
             None => Ok(target),
             Some(rule) => Err(rule),
         }
@@ -74,9 +79,15 @@ impl References<'_, '_> {
 
     /// The entry that an entry's type reaches, or the first failure at the entry's references. Each is decoded and
     /// searched once.
-    fn link_entry(&self, entry: &EntryAt<'_, '_>) -> Result<OptionalId, Broken>
+    fn link_entry(
+        &self,
+        declared: &mut DeclaredEntries,
+        entry: &EntryAt<'_, '_>,
+    ) -> Result<OptionalId, Broken>
         requires found { IsSome entry.now }
         requires may { (e : Entry) → entry.now ≡ Some e → MayAsk self.now (entry_head e) }
+        requires kept { KeepsDeclared (entries_of (units_of self.now.entries.now.scanned)) declared.old }
+        ensures kept { KeepsDeclared (entries_of (units_of self.now.entries.now.scanned)) declared.new }
         ensures ok { OnOk result (PassesAt entry.now (AtHead (ReferenceFails (entries_of (units_of self.now.entries.now.scanned)) (placed (units_of self.now.entries.now.scanned))))) }
         ensures target { IfOk result (λ target. IfSome entry.now (λ e. target ≡ type_target (entries_of (units_of self.now.entries.now.scanned)) (placed (units_of self.now.entries.now.scanned)) e)) }
         ensures err { IfErr result (FailsAt entry.now (AtHead (ReferenceFails (entries_of (units_of self.now.entries.now.scanned)) (placed (units_of self.now.entries.now.scanned))))) }
@@ -85,7 +96,7 @@ impl References<'_, '_> {
         let mut values = entry.values();
         let mut kept = None;
         while let Some(item) = values.next_of(DW_AT_type) {
-            match self.link_value(&head, item.0, &item.1) {
+            match self.link_value(declared, &head, item.0, &item.1) {
                 Ok(target) => kept = keep(kept, item.0, target),
                 Err(rule) => return Err(broken_at(&head, item.0, rule)),
             }
@@ -105,10 +116,11 @@ impl References<'_, '_> {
     {
         let count = self.entries.count();
         let mut types = Vec::with_capacity(alloc, count)?;
+        let mut declared = DeclaredEntries::new(alloc, self.entries)?;
         let mut cursor = self.entries.cursor();
         for number in 0..count {
             let entry = cursor.at(self.entries.id(number));
-            match self.link_entry(&entry) {
+            match self.link_entry(&mut declared, &entry) {
                 Ok(target) => types.push(target)?,
                 Err(broken) => return Err(Stop::Fault(fault_of(alloc, broken))),
             }

@@ -8,9 +8,11 @@ ghost use Rattle.dw_entries.specs.Scanned.{units_of};
 ghost use Rattle.dw_entries.specs.Runs.{IsEntryAt};
 ghost use Rattle.dw_entries.specs.Failures.{IsLeast};
 ghost use Rattle.dw_links.specs.References.{is_reference_value, NoSignatureThere, IsWrongKind, ReachesBySignature, Reaches, ReferenceFails};
+ghost use Rattle.dw_links.specs.DeclaredEntries.{KeepsDeclared};
 ghost use Rattle.dw_links.specs.Signatures.{AreDistinct};
 ghost use Rattle.dw_links.specs.Linkable.{IsLinkable, MayAsk};
 
+use crate::declared_entries::DeclaredEntries;
 use crate::kinds::{is_permitted, is_permitted_form, is_reference, is_sig8};
 use crate::signatures::type_in_header;
 use dw_entries::constants::*;
@@ -115,16 +117,25 @@ impl References<'_, '_> {
 
     /// Whether a reference may not have its form, or not reach its target.
     #[inline(always)]
-    fn is_wrong(&self, head: &Head, attribute: Attribute, value: &Value<'_>, id: EntryId) -> bool
+    fn is_wrong(
+        &self,
+        declared: &mut DeclaredEntries,
+        head: &Head,
+        attribute: Attribute,
+        value: &Value<'_>,
+        id: EntryId,
+    ) -> bool
         requires may { MayAsk self.now head.now }
         requires reaches { Reaches (entries_of (units_of self.now.entries.now.scanned)) (placed (units_of self.now.entries.now.scanned)) head.now (view value.now) id }
+        requires kept { KeepsDeclared (entries_of (units_of self.now.entries.now.scanned)) declared.old }
+        ensures kept { KeepsDeclared (entries_of (units_of self.now.entries.now.scanned)) declared.new }
         ensures yes { OnTrue result (IsWrongKind (entries_of (units_of self.now.entries.now.scanned)) (placed (units_of self.now.entries.now.scanned)) head.now attribute (view value.now)) }
         ensures otherwise { OnFalse result (IsWrongKind (entries_of (units_of self.now.entries.now.scanned)) (placed (units_of self.now.entries.now.scanned)) head.now attribute (view value.now) → ⊥) }
     {
         if !is_permitted_form(head, attribute, value) {
             return true;
         }
-        if !is_permitted(self.entries, head, attribute, id) {
+        if !is_permitted(self.entries, declared, head, attribute, id) {
             return true;
         }
         false
@@ -134,6 +145,7 @@ impl References<'_, '_> {
     #[inline(always)]
     fn ask_reached(
         &self,
+        declared: &mut DeclaredEntries,
         head: &Head,
         attribute: Attribute,
         value: &Value<'_>,
@@ -142,9 +154,11 @@ impl References<'_, '_> {
         requires may { MayAsk self.now head.now }
         requires reference { is_reference_value (view value.now) ≡ true }
         requires reaches { Reaches (entries_of (units_of self.now.entries.now.scanned)) (placed (units_of self.now.entries.now.scanned)) head.now (view value.now) id }
-        ensures { IsLeast (ReferenceFails (entries_of (units_of self.now.entries.now.scanned)) (placed (units_of self.now.entries.now.scanned)) head.now attribute (view value.now)) result }
+        requires kept { KeepsDeclared (entries_of (units_of self.now.entries.now.scanned)) declared.old }
+        ensures kept { KeepsDeclared (entries_of (units_of self.now.entries.now.scanned)) declared.new }
+        ensures rule { IsLeast (ReferenceFails (entries_of (units_of self.now.entries.now.scanned)) (placed (units_of self.now.entries.now.scanned)) head.now attribute (view value.now)) result }
     {
-        if self.is_wrong(head, attribute, value, id) {
+        if self.is_wrong(declared, head, attribute, value, id) {
             return Some(Rule::WrongKind);
         }
         if attribute != DW_AT_sibling {
@@ -160,6 +174,7 @@ impl References<'_, '_> {
     #[inline(always)]
     pub fn ask(
         &self,
+        declared: &mut DeclaredEntries,
         head: &Head,
         attribute: Attribute,
         value: &Value<'_>,
@@ -168,13 +183,15 @@ impl References<'_, '_> {
         requires may { MayAsk self.now head.now }
         requires some { IfSome reached (Reaches (entries_of (units_of self.now.entries.now.scanned)) (placed (units_of self.now.entries.now.scanned)) head.now (view value.now)) }
         requires none { IfNone reached ((id : ℕ) → Reaches (entries_of (units_of self.now.entries.now.scanned)) (placed (units_of self.now.entries.now.scanned)) head.now (view value.now) id → ⊥) }
-        ensures { IsLeast (ReferenceFails (entries_of (units_of self.now.entries.now.scanned)) (placed (units_of self.now.entries.now.scanned)) head.now attribute (view value.now)) result }
+        requires kept { KeepsDeclared (entries_of (units_of self.now.entries.now.scanned)) declared.old }
+        ensures kept { KeepsDeclared (entries_of (units_of self.now.entries.now.scanned)) declared.new }
+        ensures rule { IsLeast (ReferenceFails (entries_of (units_of self.now.entries.now.scanned)) (placed (units_of self.now.entries.now.scanned)) head.now attribute (view value.now)) result }
     {
         if !is_reference(value) {
             return None;
         }
         match reached {
-            Some(id) => self.ask_reached(head, attribute, value, id),
+            Some(id) => self.ask_reached(declared, head, attribute, value, id),
             None => self.ask_unreached(head, attribute, value),
         }
     }

@@ -12,4 +12,4 @@ returns-clause-otherwise c =
     let us = units_of c.args.self.now.entries.now.scanned in
     let (e, is) = reached_entry (entries_of us) (placed us) c.args.head.now (view c.args.value.now) c.args.id c.requires.reaches in
     not_wrong (entries_of us) (placed us) c.args.head.now c.args.attribute (view c.args.value.now) c.args.id e (entries_rise _ us c.args.self.now.entries.now.scanned.1.spells.are) c.requires.may.distinct is c.requires.reaches
-    (sym c.if-not-is_permitted_form.ensures) (sym (c.if-not-is_permitted.ensures e is))
+    (sym c.if-not-is_permitted_form.ensures) (sym (c.if-not-is_permitted.ensures.exact e is))

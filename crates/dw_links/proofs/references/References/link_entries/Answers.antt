@@ -49,6 +49,7 @@ loop-number-preserved c =
       cursor = c.at-entry.ensures.same ∙ c.loop-number.invariant.cursor;
       none = one_more es (λ x. HasNone (AtHead (ReferenceFails es (placed us)) x)) c.loop-number.number e is c.loop-number.invariant.none (c.in-Ok.ensures.ok e at_id);
       types = rw c.in_ok-push-in-Ok.ensures.items (map_one_more (type_target es (placed us)) es c.loop-number.types.items c.loop-number.number e c.in-Ok.target is c.loop-number.invariant.types here);
+      kept = c.link_entry.ensures.kept;
     }
 
 pub returns-clause-ok : goal.returns-clause-ok

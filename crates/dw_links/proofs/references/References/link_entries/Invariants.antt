@@ -4,6 +4,7 @@ use Rattle.dw_entries.specs.Entries.{Entry, entries_of, placed}
 use Rattle.dw_entries.specs.Scanned.{units_of}
 use Rattle.dw_entries.specs.Failures.{HasNone}
 use Rattle.dw_links.specs.Concerns.{AtHead}
+use Rattle.dw_links.specs.DeclaredEntries.{KeepsDeclared}
 use Rattle.dw_links.specs.References.{ReferenceFails}
 use Rattle.dw_links.specs.Tables.{type_target}
 use Rattle.dw_links.proofs.references.References.link_entries.Given as goal
@@ -14,4 +15,5 @@ invariant-loop-number l = record {
   none : (j : ℕ) (e : Entry) → j < l.number → slice_get (entries_of (units_of l.self.entries.now.scanned)) j ≡ Some e
       → HasNone (AtHead (ReferenceFails (entries_of (units_of l.self.entries.now.scanned)) (placed (units_of l.self.entries.now.scanned))) e);
   types : l.types.items ≡ map (type_target (entries_of (units_of l.self.entries.now.scanned)) (placed (units_of l.self.entries.now.scanned))) (take l.number (entries_of (units_of l.self.entries.now.scanned)));
+  kept : KeepsDeclared (entries_of (units_of l.self.entries.now.scanned)) l.declared;
 }

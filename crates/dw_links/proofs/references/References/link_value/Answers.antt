@@ -15,4 +15,4 @@ pub returns-in-None-clause-reached : goal.returns-in-None-clause-reached
 returns-in-None-clause-reached c =
     let us = units_of c.args.self.now.entries.now.scanned in
     c.number_of-target.ensures
-    ∙ reached_is (entries_of us) (placed us) c.args.head.now (view c.args.value.now) c.reach-reached.result (entries_rise _ us c.args.self.now.entries.now.scanned.1.spells.are) c.requires.distinct c.reach-reached.ensures.some c.reach-reached.ensures.none
+    ∙ reached_is (entries_of us) (placed us) c.args.head.now (view c.args.value.now) c.reach-reached.result (entries_rise _ us c.args.self.now.entries.now.scanned.1.spells.are) c.requires.may.distinct c.reach-reached.ensures.some c.reach-reached.ensures.none
