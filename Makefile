@@ -16,6 +16,7 @@ checks = $(shell printf '%d\n' $$(nproc) $(memory) | sort -n | head -n 1)
 # Proves everything from nothing, tries the must-fail edits, and runs every test.
 .PHONY: test
 test:
+	tests/dead-names.py
 	RT_JOBS=$(checks) rt ci
 	tests/rows.py
 	tests/real-programs.sh

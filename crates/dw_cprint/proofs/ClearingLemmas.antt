@@ -5,7 +5,7 @@ use Rattle.std.proofs.lemmas.List.{get_or_append_left, get_or_default}
 use Rattle.std.proofs.Math.Seq.{get_or-append_seam}
 use Rattle.std.proofs.lemmas.Bool.{cases_lt}
 use Rattle.dw_types.specs.Graphs.{Graph, steps_of, step_at, IsStep, FollowsSteps}
-use Rattle.dw_cprint.specs.Cycles.{AreClear, Leads, ReachesCycle}
+use Rattle.dw_cprint.specs.Cycles.{Leads, ReachesCycle}
 use Rattle.dw_cprint.specs.ClearingStates.{mark_of, IsWalk, KeepsMet, steps_left, fresh_count, work_left}
 use Rattle.dw_cprint.specs.declared.clearing.Mark.{Mark}
 use Rattle.dw_cprint.specs.declared.clearing.Mark.TheVariants.{Fresh, Open, Clear, Stuck}
@@ -311,24 +311,6 @@ keeps-met marks node m w ne n fresh = elim (same_or_not n node) [
   | inl same ↦ absurd (ne (sym (mark-same marks node m w) ∙ ap (λ (x : ℕ). mark_of (set marks node m) x) (sym same) ∙ fresh))
   | inr other ↦ sym (mark-other marks node n m other) ∙ fresh
 ]
-
--- after the last turn
-pub ends : (graph : Graph) (marks : List Mark) (next clear : List ℕ) → IsWalk graph marks next clear [] → ((node : ℕ) → node < length graph → mark_of marks node ≢ Fresh) → AreClear graph clear
-ends graph marks next clear s met = record {
-  within = s.within;
-  ordered = s.ordered;
-  others = λ node w not_in. decide (mark_of marks node) (met node w) (s.stacked node) (λ is. not_in (s.listed node is)) (s.stuck node);
-}
-  where
-    decide : {node : ℕ} (m : Mark) → m ≢ Fresh → (m ≡ Open → Contains [] node) → (m ≡ Clear → ⊥) → (m ≡ Stuck → ReachesCycle graph node) → ReachesCycle graph node
-    decide Fresh ne stacked listed stuck = absurd (ne refl)
-    decide Open ne stacked listed stuck = (let has = stacked refl in let less = has.1 in absurd (omega arith))
-    decide Clear ne stacked listed stuck = absurd (listed refl)
-    decide Stuck ne stacked listed stuck = stuck refl
-
--- the first node of a row of turns
-pub first-node : (graph : Graph) (marks : List Mark) (next clear : List ℕ) (start : ℕ) → IsWalk graph marks next clear [] → start < length graph → mark_of marks start ≡ Fresh → IsWalk graph (set marks start Open) next clear (start ∷ [])
-first-node graph marks next clear start s w fresh = opened graph marks next clear [] start s w fresh (λ k at. absurd (omega arith))
 
 -- the start of some turns, and each node before it, is met after them
 pub met-more : (marks new : List Mark) (start : ℕ) → start < length marks → ((node : ℕ) → node < start → mark_of marks node ≢ Fresh) → KeepsMet (set marks start Open) new → (node : ℕ) → node < start + 1 → mark_of new node ≢ Fresh

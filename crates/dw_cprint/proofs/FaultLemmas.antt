@@ -12,7 +12,7 @@ use Rattle.dw_cprint.specs.declared.shape.Member.{Member}
 use Rattle.dw_cprint.specs.declared.shape.Enumerator.{Enumerator}
 use Rattle.dw_cprint.specs.Steps.{entries_of, member_types, parameter_types, steps_reached, types_reached, types_declared, IsReachedFrom, root, further}
 use Rattle.dw_cprint.specs.Summaries.{TypeKind, Faults, Summary, kind_in, ReachesOne, IsForeign, AreFaults, AreFaultsOf, IsBase, IsSummary}
-use Rattle.dw_cprint.specs.Wrong.{shape_of, StandsUnder, nothing, itself, below, IsVoidLike, HasBadName, HasBadNameItself, typedef_name, variable_name, tag_name, aggregate_name, member_name, enumeration_name, enumerator_name, LacksName, HasWrongMemberName, HasWrongEnumeratorName, is_foreign, is_foreign_itself, IsUnspeakable, IsUnspeakableItself, IsWrongMember, void_member, function_member, bit_member, IsWrongBits, IsWrongEnumeration, IsWrongArray, odd_child_or_stride, count, void_element, function_element, open_element, IsWrongFunction, array_result, function_result, void_parameter, misplaced, lacks_value, IsWrongRow, over_array, over_function, restrict, is_array, is_function, is_restrictable, begins_open}
+use Rattle.dw_cprint.specs.Wrong.{shape_of, StandsUnder, nothing, itself, below, IsVoidLike, HasBadName, HasBadNameItself, typedef_name, variable_name, tag_name, aggregate_name, member_name, enumeration_name, enumerator_name, LacksName, HasWrongMemberName, HasWrongEnumeratorName, is_foreign, is_foreign_itself, IsUnspeakable, IsUnspeakableItself, IsWrongEnumeration, IsWrongFunction, array_result, function_result, void_parameter, misplaced, lacks_value, IsWrongRow, over_array, over_function, restrict, is_array, is_function, is_restrictable}
 
 -- ---- tests and what they mean
 
@@ -120,46 +120,6 @@ module _ (shapes : ℕ → ShapeOf) (at : TypeAt) (kind : TypeKind) (known : IsB
 
 -- ---- members, arrays, functions
 
-pub wrong-member : (shapes : ℕ → ShapeOf) (m : MemberOf) (v f b all : Bool) → all ≡ (v || f || b) → IsTrue v ↔ IsVoidLike shapes m.type_at → f ≡ is_function (shape_of shapes m.type_at)
-    → IsTrue b ↔ IsWrongBits (shape_of shapes m.type_at) m.bits → IsTrue all ↔ IsWrongMember shapes m
-wrong-member shapes m v f b all is void called bits =
-    test-same all (v || f || b) is
-    (iff-through (or-means (v || f) b (or-means v f void (test-itself f (is_function (shape_of shapes m.type_at)) called)) bits) (forth, back))
-  where
-    forth : (IsVoidLike shapes m.type_at ⊎ (is_function (shape_of shapes m.type_at) ≡ true)) ⊎ IsWrongBits (shape_of shapes m.type_at) m.bits → IsWrongMember shapes m
-    forth (inl (inl h)) = void_member h
-    forth (inl (inr h)) = function_member h
-    forth (inr h) = bit_member h
-
-    back : IsWrongMember shapes m → (IsVoidLike shapes m.type_at ⊎ (is_function (shape_of shapes m.type_at) ≡ true)) ⊎ IsWrongBits (shape_of shapes m.type_at) m.bits
-    back (void_member h) = inl (inl h)
-    back (function_member h) = inl (inr h)
-    back (bit_member h) = inr h
-
-pub wrong-array : (shapes : ℕ → ShapeOf) (counts : List (Option ℕ)) (strange : Bool) (at : TypeAt) (c v f o all : Bool) → all ≡ (strange || c || v || f || o) → c ≡ is_miscounted counts
-    → IsTrue v ↔ IsVoidLike shapes at → f ≡ is_function (shape_of shapes at) → o ≡ begins_open (shape_of shapes at) → IsTrue all ↔ IsWrongArray shapes counts strange at
-wrong-array shapes counts strange at c v f o all is miscounted void called open_first =
-    let T = shape_of shapes at in
-    test-same all (strange || c || v || f || o) is
-    (iff-through
-    (or-means (strange || c || v || f) o (or-means (strange || c || v) f (or-means (strange || c) v (or-means strange c (test-itself strange strange refl) (test-itself c (is_miscounted counts) miscounted)) void)
-    (test-itself f (is_function T) called)) (test-itself o (begins_open T) open_first))
-    (forth, back))
-  where
-    forth : ((((strange ≡ true) ⊎ (is_miscounted counts ≡ true)) ⊎ IsVoidLike shapes at) ⊎ (is_function (shape_of shapes at) ≡ true)) ⊎ (begins_open (shape_of shapes at) ≡ true) → IsWrongArray shapes counts strange at
-    forth (inl (inl (inl (inl h)))) = odd_child_or_stride h
-    forth (inl (inl (inl (inr h)))) = count h
-    forth (inl (inl (inr h))) = void_element h
-    forth (inl (inr h)) = function_element h
-    forth (inr h) = open_element h
-
-    back : IsWrongArray shapes counts strange at → ((((strange ≡ true) ⊎ (is_miscounted counts ≡ true)) ⊎ IsVoidLike shapes at) ⊎ (is_function (shape_of shapes at) ≡ true)) ⊎ (begins_open (shape_of shapes at) ≡ true)
-    back (odd_child_or_stride h) = inl (inl (inl (inl h)))
-    back (count h) = inl (inl (inl (inr h)))
-    back (void_element h) = inl (inl (inr h))
-    back (function_element h) = inl (inr h)
-    back (open_element h) = inr h
-
 or-cases : (a b : Bool) → (a || b) ≡ true → (a ≡ true) ⊎ (b ≡ true)
 or-cases true b h = inl refl
 or-cases false b h = inr h
@@ -247,18 +207,6 @@ of-others P More ps all k d w = all k d w
 abbrev pub has_spare : (typed : Bool) → List Parameter → Bool
 has_spare true ps = is_cut_short ps
 has_spare false ps = is_misplaced ps
-
-pub spare-typed : (b : Bool) (at : TypeAt) (ps : List Parameter) → has_spare b (Typed at ∷ ps) ≡ is_cut_short ps
-spare-typed true at ps = refl
-spare-typed false at ps = refl
-
-pub spare-middle : (b : Bool) (p : Parameter) (ps : List Parameter) → has_spare b (More ∷ p ∷ ps) ≡ true
-spare-middle true p ps = refl
-spare-middle false p ps = refl
-
-pub spare-none : (b : Bool) → has_spare b [] ≡ false
-spare-none true = refl
-spare-none false = refl
 
 -- ---- enumerators and counts
 

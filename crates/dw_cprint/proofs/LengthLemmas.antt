@@ -21,18 +21,6 @@ count-cons x ts = length-append (spelling x) (text_of ts)
 
 -- ---- a declarator inside
 
-pub inside_gap : (t : Term) (known : Length) → IsLength t known → known.gap ≡ true → counted (known.bytes + 1) ≡ counted (text_bytes t true)
-inside_gap t known says g =
-    let bytes = says.bytes in
-    let more : text_bytes t true ≡ text_bytes t false + 1 = says.gap ∙ ap (λ (b : Bool). text_bytes t false + gap_bytes b) g in
-    omega arith
-
-pub inside_none : (t : Term) (known : Length) → IsLength t known → known.gap ≡ false → known.bytes ≡ counted (text_bytes t true)
-inside_none t known says g =
-    let bytes = says.bytes in
-    let more : text_bytes t true ≡ text_bytes t false + 0 = says.gap ∙ ap (λ (b : Bool). text_bytes t false + gap_bytes b) g in
-    omega arith
-
 spell-count : (t : Term) (d : List Token) → byte_count (spell [] t d) ≡ text_bytes t (is_there d) + byte_count d
 spell-count t d =
     let parts = ap (λ (u : List Token). byte_count u) (in_parts [] t d) in
@@ -76,13 +64,6 @@ name_term name known bytes gapped = specifier (Named name) (Identifier name ∷ 
 
 pub words_term : (words : List TypeWord) (known : Length) → known.bytes ≡ counted (byte_count (basic words)) → IsTrue known.gap → IsLength (Basic words) known
 words_term words known bytes gapped = specifier (Basic words) (basic words) known (λ b. refl) refl bytes gapped
-
-pub tagged_term : (tag : TagKeyword) (name : List ℕ) (known : Length) → known.bytes ≡ counted (length (tag_spelling tag) + 1 + length name) → IsTrue known.gap → IsLength (Tagged tag name) known
-tagged_term tag name known bytes gapped =
-    let a = count-cons (TagWord tag) (Blank ∷ Identifier name ∷ []) in
-    let b = count-cons Blank (Identifier name ∷ []) in
-    let d = count-cons (Identifier name) [] in
-    specifier (Tagged tag name) (TagWord tag ∷ Blank ∷ Identifier name ∷ []) known (λ b. refl) refl (omega arith) gapped
 
 pub body_term : (tag : TagKeyword) (ms : Members) (known : Length) → known.bytes ≡ counted (length (tag_spelling tag) + 1 + byte_count (body_tokens ms)) → IsTrue known.gap → IsLength (Body tag ms) known
 body_term tag ms known bytes gapped =
@@ -140,12 +121,6 @@ row-gap q (r ∷ qs) =
     let d = count-append (gap true) (pointer_row (r ∷ qs) false) in
     let inner = row-gap r qs in
     omega arith
-
--- what one more qualifier in front adds
-record Adds (q : Qualifier) (g : ℕ) (plain spaced new_plain new_spaced : ℕ) : Type 0 where
-  pub old : spaced ≡ plain + g
-  pub more : new_plain ≡ plain + (length (qualifier_spelling q) + g)
-  pub space : new_spaced ≡ new_plain + 1
 
 adds-front : (q : Qualifier) (qs : List Qualifier) (front mid end : List Token) (g : ℕ)
     → byte_count (qualifying qs ++ (front ++ (mid ++ (end ++ gap true)))) ≡ byte_count (qualifying qs ++ (front ++ (mid ++ (end ++ gap false)))) + g

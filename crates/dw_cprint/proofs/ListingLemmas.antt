@@ -91,12 +91,6 @@ pub record AreNamedBelow (image : Image) (count : ℕ) (named : List ℕ) : Type
   pub all : (entry : ℕ) → Contains named entry ↔ ((entry < count) × (is_named_type (subject_in image entry) ≡ true))
   pub rising : AllPairs (λ a b. a < b) named
 
-pub named-none : (image : Image) (named : List ℕ) → named ≡ [] → AreNamedBelow image 0 named
-named-none image named none = record {
-  all = λ entry. (λ has. absurd (none-there named entry none has), λ h. (let w = h.0 in absurd (omega arith)));
-  rising = pairs-none (λ a b. a < b) named none;
-}
-
 pub named-more : (image : Image) (count : ℕ) (named named' : List ℕ) → named' ≡ named ++ count ∷ [] → is_named_type (subject_in image count) ≡ true → AreNamedBelow image count named → AreNamedBelow image (count + 1) named'
 named-more image count named named' pushed is h = let P : List ℕ → Type 0 = λ xs. AreNamedBelow image (count + 1) xs in subst P (sym pushed) (record {
   all = λ entry. (there entry, back entry);

@@ -2,7 +2,7 @@
 use Rattle.std.proofs.Common.{◌≡◌, ◌≢◌, ℕ, zero, suc, ◌+◌, ◌<◌, ◌≤◌, List, length, get_or, set, inl, inr, arith, refl, sym, ◌∙◌, subst, get_or-set_same, get_or-set_other}
 use Rattle.std.proofs.lemmas.Bool.{cases_lt}
 use Rattle.std.proofs.lemmas.List.{get_or_default}
-use Rattle.std.specs.Prelude.{◌⊎◌, Contains}
+use Rattle.std.specs.Prelude.{◌⊎◌}
 use Rattle.dw_types.specs.Graphs.{Graph, steps_of, step_at}
 use Rattle.dw_cprint.specs.Cycles.{AreClear, Leads, IsOnCycle, ReachesCycle}
 use Rattle.dw_cprint.specs.LongestRows.{HasRow, IsLongest, AreLongest, IsAbove}
@@ -125,7 +125,3 @@ pub longest-clear : (graph : Graph) (node count : ℕ) → IsLongest graph node 
 longest-clear graph node count longest (k, to, led, cycle) =
     let over = longest.none_longer (k + suc count) (row-after graph k (suc count) node to led (round-again graph to (suc count) cycle)) in
     omega arith
-
--- a list of some longest rows, for each clear node
-pub clear-or-stuck : (graph : Graph) (clear : List ℕ) (counts : ℕ → ℕ) (node : ℕ) → AreClear graph clear → AreLongest graph clear counts → Contains clear node → ReachesCycle graph node → ⊥
-clear-or-stuck graph clear counts node h longest has cycle = longest-clear graph node (counts node) (longest node has) cycle

@@ -56,14 +56,6 @@ finds-both a b p0 p1 p2 f0 f1 f2 r s x y = record {
   is_row = row-both f2 a b r s (row-grows a b f1 f2 r y.grows x.is_row) y.is_row;
 }
 
-pub finds-nothing : (p f : List ℕ) → ArePlaces p f → FindsAll [] p p f f []
-finds-nothing p f placed = record {
-  placed = placed;
-  len = refl;
-  grows = record { longer = omega arith; keeps = λ k w. refl; adds = λ k low high. absurd (omega arith) };
-  is_row = record { leads = refl; below = λ k w. absurd (omega arith) };
-}
-
 pub entries-append : (xs ys : List (Option ℕ)) → entries_of (xs ++ ys) ≡ entries_of xs ++ entries_of ys
 entries-append [] ys = refl
 entries-append (None ∷ xs) ys = entries-append xs ys
@@ -83,18 +75,6 @@ entry-among (Some x ∷ types) (suc i) entry w e =
     (suc k, (omega arith), f)
 
 -- ONE ENTRY
-
-pub finds-old : (places found : List ℕ) (entry place : ℕ) → ArePlaces places found → place < length found → get_or found place 0 ≡ entry → FindsAll (entry ∷ []) places places found found (place ∷ [])
-finds-old places found entry place placed w e = record {
-  placed = placed;
-  len = refl;
-  grows = record { longer = omega arith; keeps = λ k v. refl; adds = λ k low high. absurd (omega arith) };
-  is_row = record { leads = ap (λ (x : ℕ). x ∷ []) e; below = below };
-}
-  where
-    below : (k : ℕ) → k < 1 → get_or (place ∷ []) k 0 < length found
-    below zero v = w
-    below (suc k) v = absurd (omega arith)
 
 pub finds-new : (places found : List ℕ) (entry : ℕ) → ArePlaces places found → entry < length places
     → ((k : ℕ) → k < length found → get_or found k 0 ≢ entry)

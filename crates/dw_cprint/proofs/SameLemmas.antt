@@ -2,7 +2,7 @@
 use Rattle.std.proofs.Common.{◌≡◌, ℕ, zero, suc, Bool, true, false, List, [], ◌∷◌, Option, Some, None, refl, sym, ◌∙◌, ap, subst, arith}
 use Rattle.std.specs.Prelude.{◌&&◌, option_map, Any, Contains, if◌then◌else◌}
 use Rattle.dw_cprint.specs.Declarations.{arrays, is_miscounted, parameters_by, members_by, term_by, declaration_by, term_at, declaration_of}
-use Rattle.dw_cprint.specs.Refusals.{PrintFault, Holds, other_kind, cycle, own_name, name_reached, own_child, foreign_reached, own_shape, shape_reached, deep, long, number_of, HoldsNoneBelow, Refuses, AppendsDeclaration, HasOneReading}
+use Rattle.dw_cprint.specs.Refusals.{PrintFault, Holds, other_kind, cycle, own_name, name_reached, own_child, foreign_reached, own_shape, shape_reached, deep, long, number_of, HoldsNoneBelow, Refuses, HasOneReading}
 use Rattle.dw_cprint.specs.SameShapes.{AreSameFor}
 use Rattle.dw_cprint.specs.Shapes.{Qualifier, Struct, Union, Enum, Parameter, Typed, More, Name, TypeAt, MemberOf, ShapeOf, base, typedef, qualified, pointer, array, function, tagged, nameless, body, enumeration, foreign, other, SubjectOf, typedef_subject, variable_subject, aggregate_subject, enumeration_subject, declared_subject, no_subject}
 use Rattle.dw_cprint.specs.Steps.{entries_of, parameter_types, member_types, types_reached, types_declared, steps_reached, first_steps, IsReachedFrom, root, further, IsReached, Leads}
@@ -283,9 +283,6 @@ module _ (shapes others : ℕ → ShapeOf) (subject : SubjectOf) (same : AreSame
 
   pub refuses-same : (rule : PrintFault) → Refuses shapes subject rule → Refuses others subject rule
   refuses-same rule r = record { holds = holds-same shapes others subject same rule r.holds; least = none-same (number_of rule) r.least }
-
-  pub appends-same : (old new : List ℕ) → AppendsDeclaration shapes subject old new → AppendsDeclaration others subject old new
-  appends-same old new (d, e, text) = (d, sym (declaration-same shapes others subject same) ∙ e, text)
 
   pub one-same : HasOneReading shapes subject → HasOneReading others subject
   one-same one d another e legible text = one d another (declaration-same shapes others subject same ∙ e) legible text

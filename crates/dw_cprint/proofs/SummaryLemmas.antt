@@ -1,5 +1,5 @@
 -- Summaries: of void, of one entry by those of the types that it names, and of all nodes in turn.
-use Rattle.std.proofs.Common.{◌≡◌, ℕ, zero, suc, ◌+◌, ◌<◌, true, List, [], ◌∷◌, ◌++◌, Option, Some, None, refl, sym, ap, subst, ◌∙◌, ◌⊎◌, inl, inr, length, get_or, set, take, replicate, arith}
+use Rattle.std.proofs.Common.{◌≡◌, ℕ, zero, suc, ◌+◌, ◌<◌, true, List, [], ◌∷◌, ◌++◌, Option, Some, None, refl, sym, ap, subst, ◌∙◌, ◌⊎◌, inl, inr, length, get_or, set, take, arith}
 use Rattle.std.specs.Prelude.{All, Contains, ◌↔◌, slice_get, is_some, option_and_then, unwrap_or}
 use Rattle.std.proofs.lemmas.List.{take_more, get_or-set_same, get_or-set_other}
 use Rattle.std.proofs.lemmas.List.Elements.{Contains-push, Contains-append_left, Contains-push_cases}
@@ -94,15 +94,6 @@ get-set-other (y ∷ xs) (suc i) (suc j) x apart = get-set-other xs i j x (λ e.
 
 abbrev Has : List (Option Summary) → ℕ → Type 0
 Has nodes node = is_some (get_or nodes node None) ≡ true
-
--- the summaries of the first nodes are there, and no others
-pub have_none : (n : ℕ) → HaveSummaries [] (replicate n None)
-have_none n node = (λ c. absurd (omega (arith, c.1)), λ h. absurd (none n node h))
-  where
-    none : (n node : ℕ) → Has (replicate n None) node → ⊥
-    none zero node e = cc
-    none (suc n) zero e = cc
-    none (suc n) (suc node) e = none n node e
 
 pub have_more : (clear : List ℕ) (nodes : List (Option Summary)) (i : ℕ) (s : Summary) → i < length clear → get_or clear i 0 < length nodes → HaveSummaries (take i clear) nodes
     → HaveSummaries (take (i + 1) clear) (set nodes (get_or clear i 0) (Some s))

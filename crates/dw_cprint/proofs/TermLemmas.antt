@@ -1,15 +1,15 @@
 -- The terms of what an entry names, and how long their texts are together.
 use Rattle.std.proofs.Common.{◌≡◌, ℕ, zero, suc, ℤ, ◌+◌, ◌≤◌, Bool, true, false, List, [], ◌∷◌, ◌++◌, Option, Some, None, refl, sym, ap, subst, ◌∙◌, length, arith}
-use Rattle.std.specs.Prelude.{IsTrue, All, flat_map, ◌||◌, if◌then◌else◌, option_map, option_and_then}
+use Rattle.std.specs.Prelude.{IsTrue, All, ◌||◌, if◌then◌else◌, option_map, option_and_then}
 use Rattle.std.proofs.lemmas.List.Elements.{All-weaker}
 use Rattle.dw_cprint.specs.Declarations.{term_at, term_by, words_of, parts_of, arrays, bits_of, constants_of, has_more, is_cut_short, is_miscounted, is_misplaced, members_by, parameters_by, declaration_by}
-use Rattle.dw_cprint.specs.Declarators.{body_tokens, enumeration_tokens}
+use Rattle.dw_cprint.specs.Declarators.{body_tokens}
 use Rattle.dw_cprint.specs.Legible.{is_identifier}
-use Rattle.dw_cprint.specs.Shapes.{Qualifier, TagKeyword, Parameter, Typed, More, Name, TypeAt, MemberOf, EnumeratorOf, ShapeOf, base, typedef, qualified, pointer, array, function, tagged, nameless, body, enumeration, foreign, other, typedef_subject, variable_subject, aggregate_subject, enumeration_subject, declared_subject}
+use Rattle.dw_cprint.specs.Shapes.{Qualifier, TagKeyword, Parameter, Typed, More, Name, TypeAt, MemberOf, EnumeratorOf, ShapeOf, base, typedef, qualified, pointer, array, function, tagged, nameless, body, enumeration, foreign, other, typedef_subject, variable_subject, aggregate_subject}
 use Rattle.dw_cprint.specs.Summaries.{Length, Summaries, byte_count, counted, member_tokens, IsLength, text_bytes, IsCallLength, IsEnumeratorLength, IsParameterLength, Knows, KnowsLength}
-use Rattle.dw_cprint.specs.Terms.{TypeWord, Constant, Valued, Term, Void, Named, Basic, Tagged, Body, Enumeration, Qualified, Pointer, Function, Unprototyped, Prototyped, Parameters, NoParameter, Parameter as ParameterTerm, Members, NoMember, Member as MemberTerm, Declaration, Typedef, Variable, Aggregate, Constants, Declared, Enum}
-use Rattle.dw_cprint.specs.Tokens.{Token, Blank, LeftBrace, RightBrace, Semicolon, Comma, Equals, TypedefWord, TagWord, Identifier, text_of, tag_spelling}
-use Rattle.dw_cprint.specs.Writing.{spell, basic, bits_tokens, constant, constants, count_tokens, ellipsis, members_tokens, more_constants, more_parameters, name_tokens, signature_tokens, value_tokens, declaration_tokens, written}
+use Rattle.dw_cprint.specs.Terms.{TypeWord, Constant, Valued, Term, Void, Named, Basic, Tagged, Body, Enumeration, Qualified, Pointer, Function, Unprototyped, Prototyped, Parameters, NoParameter, Parameter as ParameterTerm, Members, NoMember, Member as MemberTerm, Declaration, Typedef, Variable, Aggregate}
+use Rattle.dw_cprint.specs.Tokens.{Token, Blank, LeftBrace, RightBrace, Semicolon, Comma, TypedefWord, TagWord, Identifier, text_of, tag_spelling}
+use Rattle.dw_cprint.specs.Writing.{spell, basic, bits_tokens, constant, ellipsis, members_tokens, more_constants, more_parameters, name_tokens, signature_tokens, declaration_tokens, written}
 use Rattle.dw_cprint.specs.Wrong.{shape_of, StandsUnder, nothing, itself, below, is_array, is_function}
 use Rattle.dw_cprint.proofs.LengthLemmas.{count-append, count-cons, is_bracketed, ends_bracketed, name_term, words_term, called_length, prototyped_length}
 use Rattle.dw_cprint.proofs.NameLemmas.{words-text}
@@ -38,13 +38,6 @@ base_length (Some name) term t known e bytes gapped = by_name (is_identifier nam
         let long = ap (λ (u : List ℕ). length u) (text ws refl) in
         let own = count-cons (Identifier name) [] in
         subst P same (words_term ws known (omega arith) gapped)
-
-pub typedef_length : (name : Name) (term : TypeAt → Option Term) (t : Term) (known : Length) → term_by term (typedef name) ≡ Some t → known.bytes ≡ counted (byte_count (name_tokens name)) → IsTrue known.gap → IsLength t known
-typedef_length None term t known e bytes gapped = absurd (cc)
-typedef_length (Some name) term t known e bytes gapped =
-    let P : Term → Type 0 = λ u. IsLength u known in
-    let same : Named name ≡ t = cc in
-    subst P same (name_term name known bytes gapped)
 
 -- ---- the form of a term
 
@@ -134,14 +127,6 @@ pub record MembersLeft (term : TypeAt → Option Term) (ms : List MemberOf) (byt
   pub left : counted (bytes + byte_count (members_tokens terms)) ≡ counted total
   pub capped : bytes ≤ 65537
 
-pub members_start : (term : TypeAt → Option Term) (ms : List MemberOf) (us : Members) → members_by term ms ≡ Some us → MembersLeft term ms 3 (byte_count (body_tokens us))
-members_start term ms us are =
-    let a = count-cons LeftBrace (Blank ∷ (members_tokens us ++ RightBrace ∷ [])) in
-    let b = count-cons Blank (members_tokens us ++ RightBrace ∷ []) in
-    let c = count-append (members_tokens us) (RightBrace ∷ []) in
-    let d = count-cons RightBrace [] in
-    record { terms = us; are = are; left = omega arith; capped = omega arith }
-
 pub members_step : (term : TypeAt → Option Term) (m : MemberOf) (ms : List MemberOf) (bytes n total : ℕ) → MembersLeft term (m ∷ ms) bytes total
     → ((t : Term) → term m.type_at ≡ Some t → n ≡ counted (byte_count (member_tokens t m.name m.bits))) → MembersLeft term ms (counted (bytes + n)) total
 members_step term m ms bytes n total left own =
@@ -184,9 +169,6 @@ pub record ConstantsLeft (es : List EnumeratorOf) (bytes total : ℕ) : Type 0 w
   pub left : counted (bytes + byte_count (more_constants values)) ≡ counted total
   pub capped : bytes ≤ 65537
 
-pub constants_start : (es : List EnumeratorOf) (cs : List Constant) → constants_of es ≡ Some cs → ConstantsLeft es 0 (byte_count (more_constants cs))
-constants_start es cs are = record { values = cs; are = are; left = omega arith; capped = omega arith }
-
 pub constants_step : (e : EnumeratorOf) (es : List EnumeratorOf) (bytes n total : ℕ) → ConstantsLeft (e ∷ es) bytes total → IsEnumeratorLength e n → ConstantsLeft es (counted (bytes + counted (2 + n))) total
 constants_step e es bytes n total left own =
     let (name, value, rest, named, valued, are, same) = constant_inverted e es left.values left.are in
@@ -198,51 +180,7 @@ constants_step e es bytes n total left own =
     let so_far = left.left in
     record { values = rest; are = are; left = omega arith; capped = omega arith }
 
-pub constants_end : (bytes total : ℕ) → ConstantsLeft [] bytes total → bytes ≡ counted total
-constants_end bytes total left =
-    let same : [] ≡ left.values = (let are = left.are in cc) in
-    let none = ap (λ (u : List Constant). byte_count (more_constants u)) same in
-    let so_far = left.left in
-    let capped = left.capped in
-    omega arith
-
-pub enumerator_count : (name : List ℕ) (value : ℤ) → byte_count (constant (Valued name value)) ≡ length name + (3 + byte_count (value_tokens value))
-enumerator_count name value =
-    let a = count-cons (Identifier name) (Blank ∷ Equals ∷ Blank ∷ value_tokens value) in
-    let b = count-cons Blank (Equals ∷ Blank ∷ value_tokens value) in
-    let c = count-cons Equals (Blank ∷ value_tokens value) in
-    let d = count-cons Blank (value_tokens value) in
-    omega arith
-
-pub enumeration_none : (cs : List Constant) → constants_of [] ≡ Some cs → 4 ≡ counted (byte_count (enumeration_tokens cs))
-enumeration_none cs are =
-    let same : [] ≡ cs = cc in
-    let P : List Constant → Type 0 = λ u. 4 ≡ counted (byte_count (enumeration_tokens u)) in
-    subst P same refl
-
-pub enumeration_some : (e : EnumeratorOf) (es : List EnumeratorOf) (cs : List Constant) (one more : ℕ) → constants_of (e ∷ es) ≡ Some cs → IsEnumeratorLength e one
-    → ((rest : List Constant) → constants_of es ≡ Some rest → more ≡ counted (byte_count (more_constants rest))) → counted (4 + counted (one + more)) ≡ counted (byte_count (enumeration_tokens cs))
-enumeration_some e es cs one more h own others =
-    let (name, value, rest, named, valued, are, same) = constant_inverted e es cs h in
-    let here = own name value named valued in
-    let behind = others rest are in
-    let all = ap (λ (u : List Constant). byte_count (enumeration_tokens u)) same in
-    let c = constant (Valued name value) ++ more_constants rest in
-    let a = count-cons LeftBrace (Blank ∷ (c ++ Blank ∷ RightBrace ∷ [])) in
-    let b = count-cons Blank (c ++ Blank ∷ RightBrace ∷ []) in
-    let d = count-append c (Blank ∷ RightBrace ∷ []) in
-    let f = count-append (constant (Valued name value)) (more_constants rest) in
-    let g = count-cons Blank (RightBrace ∷ []) in
-    let i = count-cons RightBrace [] in
-    omega arith
-
 -- ---- dimensions
-
-pub counts_step : (n : ℕ) (count : Option ℕ) (counts : List (Option ℕ)) (bytes total : ℕ) → counted (bytes + byte_count (flat_map count_tokens (count ∷ counts))) ≡ counted total → n ≡ counted (byte_count (count_tokens count))
-    → counted (counted (bytes + n) + byte_count (flat_map count_tokens counts)) ≡ counted total
-counts_step n count counts bytes total so_far here =
-    let a = count-append (count_tokens count) (flat_map count_tokens counts) in
-    omega arith
 
 -- ---- parameters
 
@@ -259,10 +197,6 @@ parameter_inverted term at ps us h =
     let (t, has, after) = then_inverted (λ (t : Term). option_map (ParameterTerm t) (parameters_by term ps)) (term at) us h in
     let (rest, are, same) = map_inverted (ParameterTerm t) (parameters_by term ps) us after in
     (t, rest, has, are, same)
-
-pub parameters_start : (term : TypeAt → Option Term) (ps : List Parameter) (us : Parameters) → parameters_by term ps ≡ Some us → is_cut_short ps ≡ false
-    → ParametersLeft term ps 0 (byte_count (more_parameters us ++ ellipsis (has_more ps)))
-parameters_start term ps us are whole = record { terms = us; are = are; whole = whole; left = omega arith; capped = omega arith }
 
 pub parameters_step : (term : TypeAt → Option Term) (p : Parameter) (ps : List Parameter) (bytes n total : ℕ) → ParametersLeft term (p ∷ ps) bytes total → IsParameterLength term p n
     → ParametersLeft term ps (counted (bytes + counted (2 + n))) total
@@ -292,12 +226,6 @@ parameters_end term bytes total left =
     let so_far = left.left in
     let capped = left.capped in
     omega arith
-
-pub parameters_none : (term : TypeAt → Option Term) (us : Parameters) → parameters_by term [] ≡ Some us → 4 ≡ counted (byte_count (signature_tokens (Prototyped us (has_more []))))
-parameters_none term us are =
-    let same : NoParameter ≡ us = cc in
-    let P : Parameters → Type 0 = λ u. 4 ≡ counted (byte_count (signature_tokens (Prototyped u false))) in
-    subst P same refl
 
 pub parameters_some : (term : TypeAt → Option Term) (p : Parameter) (ps : List Parameter) (us : Parameters) (one more : ℕ) → is_misplaced (p ∷ ps) ≡ false → parameters_by term (p ∷ ps) ≡ Some us
     → IsParameterLength term p one
@@ -377,39 +305,4 @@ aggregate_written word (Some name) odd ms term d head inner e tag own =
     let l = count-cons Semicolon [] in
     let m = count-cons RightBrace [] in
     let n = count-cons (Identifier name) [] in
-    omega arith
-
-pub enumeration_written : (name : Name) (odd : Bool) (es : List EnumeratorOf) (term : TypeAt → Option Term) (d : Declaration) (head inner : ℕ) → declaration_by term (enumeration_subject name odd es) ≡ Some d
-    → head ≡ counted (length (tag_spelling Enum) + 1 + byte_count (name_tokens name)) → ((cs : List Constant) → constants_of es ≡ Some cs → inner ≡ counted (byte_count (enumeration_tokens cs)))
-    → counted (head + counted (inner + 2)) ≡ counted (length (written d))
-enumeration_written None odd es term d head inner e tag own = absurd (cc)
-enumeration_written (Some name) odd es term d head inner e tag own =
-    let (cs, are, same) = map_inverted (Constants name) (constants_of es) d e in
-    let here = own cs are in
-    let all = ap (λ (x : Declaration). byte_count (declaration_tokens x)) same in
-    let a = head-count Enum name (Blank ∷ LeftBrace ∷ Blank ∷ (constants cs ++ Blank ∷ RightBrace ∷ Semicolon ∷ [])) in
-    let b = count-cons Blank (LeftBrace ∷ Blank ∷ (constants cs ++ Blank ∷ RightBrace ∷ Semicolon ∷ [])) in
-    let c = count-cons LeftBrace (Blank ∷ (constants cs ++ Blank ∷ RightBrace ∷ Semicolon ∷ [])) in
-    let f = count-cons Blank (constants cs ++ Blank ∷ RightBrace ∷ Semicolon ∷ []) in
-    let g = count-append (constants cs) (Blank ∷ RightBrace ∷ Semicolon ∷ []) in
-    let h = count-cons LeftBrace (Blank ∷ (constants cs ++ Blank ∷ RightBrace ∷ [])) in
-    let i = count-cons Blank (constants cs ++ Blank ∷ RightBrace ∷ []) in
-    let j = count-append (constants cs) (Blank ∷ RightBrace ∷ []) in
-    let k = count-cons Blank (RightBrace ∷ Semicolon ∷ []) in
-    let l = count-cons RightBrace (Semicolon ∷ []) in
-    let m = count-cons Semicolon [] in
-    let n = count-cons Blank (RightBrace ∷ []) in
-    let o = count-cons RightBrace [] in
-    let p = count-cons (Identifier name) [] in
-    omega arith
-
-pub declared_written : (word : TagKeyword) (name : Name) (term : TypeAt → Option Term) (d : Declaration) (head : ℕ) → declaration_by term (declared_subject word name) ≡ Some d
-    → head ≡ counted (length (tag_spelling word) + 1 + byte_count (name_tokens name)) → counted (head + 1) ≡ counted (length (written d))
-declared_written word None term d head e tag = absurd (cc)
-declared_written word (Some name) term d head e tag =
-    let same : Declared word name ≡ d = cc in
-    let all = ap (λ (x : Declaration). byte_count (declaration_tokens x)) same in
-    let a = head-count word name (Semicolon ∷ []) in
-    let b = count-cons Semicolon [] in
-    let c = count-cons (Identifier name) [] in
     omega arith

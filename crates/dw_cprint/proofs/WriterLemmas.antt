@@ -9,8 +9,8 @@ use Rattle.dw_cprint.specs.Declarators.{is_there, gap, pointer_row, opened, befo
 use Rattle.dw_cprint.specs.Kept.{Writes, WritesParameter, kept_term}
 use Rattle.dw_cprint.specs.Legible.{is_identifier}
 use Rattle.dw_cprint.specs.Shapes.{Qualifier, TagKeyword, Parameter, Typed, More, Name, TypeAt, MemberOf, EnumeratorOf, ShapeOf, base, typedef, qualified, pointer, array, function, tagged, nameless, body, enumeration, foreign, other, typedef_subject, variable_subject, aggregate_subject, view_shape}
-use Rattle.dw_cprint.specs.Terms.{TypeWord, Enum, Constant, Valued, Term, Void, Named, Basic, Tagged, Body, Enumeration, Pointer, Function, Prototyped, Parameters, NoParameter, Parameter as ParameterTerm, Members, NoMember, Member as MemberTerm, Declaration, Typedef, Variable, Aggregate}
-use Rattle.dw_cprint.specs.Tokens.{Token, Blank, Star, Open, Close, LeftBrace, RightBrace, Semicolon, Comma, Dot, VoidWord, TypedefWord, TagWord, Identifier, spelling, text_of}
+use Rattle.dw_cprint.specs.Terms.{TypeWord, Enum, Constant, Valued, Term, Void, Named, Basic, Tagged, Body, Enumeration, Pointer, Function, Prototyped, Parameters, NoParameter, Parameter as ParameterTerm, Members, Member as MemberTerm, Declaration, Typedef, Variable, Aggregate}
+use Rattle.dw_cprint.specs.Tokens.{Token, Blank, Star, Open, Close, LeftBrace, RightBrace, Semicolon, Comma, Dot, TypedefWord, TagWord, Identifier, spelling, text_of}
 use Rattle.dw_cprint.specs.Writing.{spell, qualifying, count_tokens, name_tokens, bits_tokens, ellipsis, constant, more_constants, constants, signature_tokens, more_parameters, members_tokens, declaration_tokens, written}
 use Rattle.dw_cprint.specs.declared.shape.Shape.{Shape}
 use Rattle.dw_cprint.specs.declared.survey.Survey.{Survey}
@@ -28,10 +28,6 @@ text-append xs ys = flat_map-append spelling xs ys
 pub both : (a b : List Token) (old mid new : List ℕ) → Writes a old mid → Writes b mid new → Writes (a ++ b) old new
 both a b old mid new first second =
     second ∙ ap (λ (u : List ℕ). u ++ text_of b) first ∙ append_assoc old (text_of a) (text_of b) ∙ ap (λ (u : List ℕ). old ++ u) (sym (text-append a b))
-
--- no text
-pub same_text : (old : List ℕ) → Writes [] old old
-same_text old = sym (append-nil old)
 
 -- the same text in other tokens
 pub as_text : (a b : List Token) (old new : List ℕ) → text_of a ≡ text_of b → Writes a old new → Writes b old new
@@ -222,9 +218,6 @@ next-of f xs i d within = rw (drop_more xs i d within) refl
 pub record MembersLeft (term : TypeAt → Option Term) (all : List MemberOf) (old : List ℕ) (left : List MemberOf) (out : List ℕ) : Type 0 where
   pub rest : (us : Members) → members_by term all ≡ Some us → (vs : Members) × (members_by term left ≡ Some vs) × (out ++ text_of (members_tokens vs) ≡ old ++ text_of (members_tokens us))
 
-pub members_start : (term : TypeAt → Option Term) (all : List MemberOf) (old : List ℕ) → MembersLeft term all old all old
-members_start term all old = record { rest = λ us e. (us, e, refl) }
-
 member-tokens : (name : Name) (t : Term) (bits : Option ℕ) (us : Members)
     → (spell [] t (name_tokens name) ++ (bits_tokens bits ++ Semicolon ∷ Blank ∷ [])) ++ members_tokens us ≡ members_tokens (MemberTerm name t bits us)
 member-tokens name t bits us =
@@ -252,20 +245,9 @@ members_next term all m left old out out' so_far written = record {
       );
 }
 
-pub members_done : (term : TypeAt → Option Term) (all : List MemberOf) (begin old out new : List ℕ) → old ≡ begin ++ 123 ∷ 32 ∷ [] → MembersLeft term all old [] out → new ≡ out ++ 125 ∷ []
-    → (us : Members) → members_by term all ≡ Some us → Writes (body_tokens us) begin new
-members_done term all begin old out new opens left closes us e =
-    let r = left.rest us e in
-    let none : r.0 ≡ NoMember = cc in
-    let all_out : out ≡ old ++ text_of (members_tokens us) = sym (append-nil out) ∙ ap (λ (u : Members). out ++ text_of (members_tokens u)) (sym none) ∙ r.2 in
-    both (LeftBrace ∷ Blank ∷ []) (members_tokens us ++ RightBrace ∷ []) begin old new opens (both (members_tokens us) (RightBrace ∷ []) old out new all_out closes)
-
 -- the enumerators that are left are still to be written
 pub record EnumeratorsLeft (all : List EnumeratorOf) (old : List ℕ) (left : List EnumeratorOf) (out : List ℕ) : Type 0 where
   pub rest : (us : List Constant) → constants_of all ≡ Some us → (vs : List Constant) × (constants_of left ≡ Some vs) × (out ++ text_of (more_constants vs) ≡ old ++ text_of (more_constants us))
-
-pub enumerators_start : (all : List EnumeratorOf) (old : List ℕ) → EnumeratorsLeft all old all old
-enumerators_start all old = record { rest = λ us e. (us, e, refl) }
 
 -- the constants of one enumerator more
 record IsMoreConstants (x : EnumeratorOf) (es : List EnumeratorOf) (cs : List Constant) : Type 0 where
@@ -324,9 +306,6 @@ pub record ParametersLeft (term : TypeAt → Option Term) (all : List Parameter)
   pub rest : is_cut_short all ≡ false → (us : Parameters) → parameters_by term all ≡ Some us
       → (vs : Parameters) × (is_cut_short left ≡ false) × (parameters_by term left ≡ Some vs) × (out ++ text_of (following vs left) ≡ old ++ text_of (following us all))
 
-pub parameters_start : (term : TypeAt → Option Term) (all : List Parameter) (old : List ℕ) → ParametersLeft term all old all old
-parameters_start term all old = record { rest = λ whole us e. (us, whole, e, refl) }
-
 -- a parameter is written
 abbrev WritesItem : (TypeAt → Option Term) → Parameter → List ℕ → List ℕ → Type 0
 WritesItem term (Typed at) old new = (t : Term) → term at ≡ Some t → Writes (spell [] t []) old new
@@ -367,11 +346,6 @@ parameters_done term (Typed at) others begin old new first left placed us e =
     let all_out : new ≡ old ++ text_of (following rest.0 others) = sym (append-nil new) ∙ ap (λ (u : Parameters). new ++ text_of (following u [])) (sym none) ∙ r.3 in
     let P : Parameters → Type 0 = λ u. Writes (signature_tokens (Prototyped u (has_more others))) begin new in
     subst P rest.2 (both (spell [] t.0 []) (following rest.0 others) begin old new (first t.0 t.1) all_out)
-
-pub no_parameters : (term : TypeAt → Option Term) (old new : List ℕ) → Writes (VoidWord ∷ []) old new → (us : Parameters) → parameters_by term [] ≡ Some us → Writes (signature_tokens (Prototyped us (has_more []))) old new
-no_parameters term old new h us e =
-    let none : NoParameter ≡ us = cc in
-    let P : Parameters → Type 0 = λ u. Writes (signature_tokens (Prototyped u false)) old new in subst P none h
 
 -- ---- declarations
 

@@ -1,9 +1,17 @@
 -- The declaration of an entry, as a term: by the shapes of the entries that it reaches.
-use Rattle.std.specs.Prelude.{ℕ, ℤ, zero, suc, ◌==◌, Bool, true, false, not, List, [], ◌∷◌, Option, Some, None, is_some, option_map, option_and_then, codes, bytes_eq, if◌then◌else◌}
+use Rattle.std.specs.Prelude.{ℕ, ℤ, zero, suc, ◌==◌, Bool, true, false, not, List, [], ◌∷◌, Option, Some, None, is_some}
+use Rattle.std.specs.Prelude.{option_map, option_and_then, codes, bytes_eq, if◌then◌else◌}
 use Rattle.std.specs.List.{list_any, slice_split}
 use Rattle.dw_cprint.specs.Legible.{is_identifier}
-use Rattle.dw_cprint.specs.Terms.{TypeWord, Char, Short, Int, Long, Signed, Unsigned, Float, Double, BoolWord, Complex, Constant, Valued, Term, Void, Named, Basic, Tagged, Body, Enumeration, Qualified, Pointer, Array as ArrayTerm, Function, Unprototyped, Prototyped, Parameters, NoParameter, Parameter as ParameterTerm, Members, NoMember, Member as MemberTerm, Declaration, Typedef, Variable, Aggregate, Constants, Declared}
-use Rattle.dw_cprint.specs.Shapes.{Bits, Number, Parameter, Typed, More, TypeAt, MemberOf, EnumeratorOf, ShapeOf, base, typedef, qualified, pointer, array, function, tagged, body, enumeration, SubjectOf, typedef_subject, variable_subject, aggregate_subject, enumeration_subject, declared_subject}
+use Rattle.dw_cprint.specs.Terms.{TypeWord, Char, Short, Int, Long, Signed, Unsigned, Float, Double, BoolWord, Complex}
+use Rattle.dw_cprint.specs.Terms.{Constant, Valued, Term, Void, Named, Basic, Tagged, Body, Enumeration, Qualified}
+use Rattle.dw_cprint.specs.Terms.{Pointer, Array as ArrayTerm, Function, Unprototyped, Prototyped, Parameters}
+use Rattle.dw_cprint.specs.Terms.{NoParameter, Parameter as ParameterTerm, Members, NoMember, Member as MemberTerm}
+use Rattle.dw_cprint.specs.Terms.{Declaration, Typedef, Variable, Aggregate, Constants, Declared}
+use Rattle.dw_cprint.specs.Shapes.{Bits, Number, Parameter, Typed, More, TypeAt, MemberOf, EnumeratorOf, ShapeOf, base}
+use Rattle.dw_cprint.specs.Shapes.{typedef, qualified, pointer, array, function, tagged, body, enumeration, SubjectOf}
+use Rattle.dw_cprint.specs.Shapes.{typedef_subject, variable_subject, aggregate_subject, enumeration_subject}
+use Rattle.dw_cprint.specs.Shapes.{declared_subject}
 
 -- ---- names of base types
 
@@ -29,7 +37,8 @@ parts_of name = slice_split (λ byte. byte == 32) name
 abbrev pub words_of : (most : ℕ) → List (List ℕ) → Option (List TypeWord)
 words_of most [] = Some []
 words_of zero (part ∷ parts) = None
-words_of (suc most) (part ∷ parts) = option_and_then (λ (w : TypeWord). option_map (λ (ws : List TypeWord). w ∷ ws) (words_of most parts)) (word_of part)
+words_of (suc most) (part ∷ parts) =
+    option_and_then (λ (w : TypeWord). option_map (λ (ws : List TypeWord). w ∷ ws) (words_of most parts)) (word_of part)
 
 -- an identifier, or 1 to 4 type words joined by one space each
 abbrev pub base_term : List ℕ → Option Term
@@ -55,7 +64,12 @@ bits_of _ = None
 abbrev pub constants_of : List EnumeratorOf → Option (List Constant)
 constants_of [] = Some []
 constants_of (e ∷ es) =
-    option_and_then (λ (name : List ℕ). option_and_then (λ (value : ℤ). option_map (λ (cs : List Constant). Valued name value ∷ cs) (constants_of es)) e.value) e.name
+    option_and_then
+    (λ (name : List ℕ).
+    option_and_then
+    (λ (value : ℤ). option_map (λ (cs : List Constant). Valued name value ∷ cs) (constants_of es))
+    e.value)
+    e.name
 
 -- unspecified parameters before the end
 abbrev pub is_cut_short : List Parameter → Bool
@@ -79,12 +93,14 @@ has_more (More ∷ parameters) = true
 module _ (term : TypeAt → Option Term) where
   abbrev pub parameters_by : List Parameter → Option Parameters
   parameters_by [] = Some NoParameter
-  parameters_by (Typed at ∷ ps) = option_and_then (λ (t : Term). option_map (ParameterTerm t) (parameters_by ps)) (term at)
+  parameters_by (Typed at ∷ ps) =
+      option_and_then (λ (t : Term). option_map (ParameterTerm t) (parameters_by ps)) (term at)
   parameters_by (More ∷ ps) = parameters_by ps
 
   abbrev pub members_by : List MemberOf → Option Members
   members_by [] = Some NoMember
-  members_by (m ∷ ms) = option_and_then (λ (t : Term). option_map (MemberTerm m.name t (bits_of m.bits)) (members_by ms)) (term m.type_at)
+  members_by (m ∷ ms) =
+      option_and_then (λ (t : Term). option_map (MemberTerm m.name t (bits_of m.bits)) (members_by ms)) (term m.type_at)
 
   abbrev pub term_by : ShapeOf → Option Term
   term_by (base (Some name)) = base_term name
@@ -95,7 +111,9 @@ module _ (term : TypeAt → Option Term) where
   term_by (function at None) = option_map (λ (t : Term). Function t Unprototyped) (term at)
   term_by (function at (Some ps)) =
       if is_misplaced ps then None
-      else option_and_then (λ (t : Term). option_map (λ (us : Parameters). Function t (Prototyped us (has_more ps))) (parameters_by ps)) (term at)
+      else option_and_then
+      (λ (t : Term). option_map (λ (us : Parameters). Function t (Prototyped us (has_more ps))) (parameters_by ps))
+      (term at)
   term_by (tagged word name) = Some (Tagged word name)
   term_by (body word odd members) = option_map (Body word) (members_by members)
   term_by (enumeration odd enumerators) = option_map Enumeration (constants_of enumerators)
@@ -105,8 +123,10 @@ module _ (term : TypeAt → Option Term) where
   abbrev pub declaration_by : SubjectOf → Option Declaration
   declaration_by (typedef_subject (Some name) at) = option_map (Typedef name) (term at)
   declaration_by (variable_subject (Some name) at) = option_map (Variable name) (term at)
-  declaration_by (aggregate_subject word (Some name) odd members) = option_map (Aggregate word name) (members_by members)
-  declaration_by (enumeration_subject (Some name) odd enumerators) = option_map (Constants name) (constants_of enumerators)
+  declaration_by (aggregate_subject word (Some name) odd members) =
+      option_map (Aggregate word name) (members_by members)
+  declaration_by (enumeration_subject (Some name) odd enumerators) =
+      option_map (Constants name) (constants_of enumerators)
   declaration_by (declared_subject word (Some name)) = Some (Declared word name)
   declaration_by _ = None
 

@@ -1,7 +1,9 @@
 -- The text of a type in two parts: what stands before its declarator, and what behind it.
 use Rattle.std.specs.Prelude.{Bool, true, false, ◌||◌, List, [], ◌∷◌, ◌++◌}
-use Rattle.dw_cprint.specs.Terms.{Qualifier, Enum, Constant, Members, Term, Void, Named, Basic, Tagged, Body, Enumeration, Qualified, Pointer, Array, Function}
-use Rattle.dw_cprint.specs.Tokens.{Token, Blank, Star, Open, Close, LeftBrace, RightBrace, VoidWord, TagWord, QualifierWord, Identifier}
+use Rattle.dw_cprint.specs.Terms.{Qualifier, Enum, Constant, Members, Term, Void, Named, Basic, Tagged, Body}
+use Rattle.dw_cprint.specs.Terms.{Enumeration, Qualified, Pointer, Array, Function}
+use Rattle.dw_cprint.specs.Tokens.{Token, Blank, Star, Open, Close, LeftBrace, RightBrace, VoidWord, TagWord}
+use Rattle.dw_cprint.specs.Tokens.{QualifierWord, Identifier}
 use Rattle.dw_cprint.specs.Writing.{qualifying, basic, count_tokens, constants, signature_tokens, members_tokens}
 
 -- a declarator is not empty
@@ -54,8 +56,10 @@ before qs Void inside = qualifying qs ++ VoidWord ∷ gap inside
 before qs (Named name) inside = qualifying qs ++ Identifier name ∷ gap inside
 before qs (Basic words) inside = qualifying qs ++ (basic words ++ gap inside)
 before qs (Tagged tag name) inside = qualifying qs ++ TagWord tag ∷ Blank ∷ Identifier name ∷ gap inside
-before qs (Body tag members) inside = qualifying qs ++ TagWord tag ∷ Blank ∷ LeftBrace ∷ Blank ∷ (members_tokens members ++ RightBrace ∷ gap inside)
-before qs (Enumeration cs) inside = qualifying qs ++ TagWord Enum ∷ Blank ∷ LeftBrace ∷ Blank ∷ (constants cs ++ Blank ∷ RightBrace ∷ gap inside)
+before qs (Body tag members) inside =
+    qualifying qs ++ TagWord tag ∷ Blank ∷ LeftBrace ∷ Blank ∷ (members_tokens members ++ RightBrace ∷ gap inside)
+before qs (Enumeration cs) inside =
+    qualifying qs ++ TagWord Enum ∷ Blank ∷ LeftBrace ∷ Blank ∷ (constants cs ++ Blank ∷ RightBrace ∷ gap inside)
 before qs (Qualified q t) inside = before (qs ++ q ∷ []) t inside
 before qs (Pointer t) inside = before [] t true ++ (opened t ++ Star ∷ pointer_row qs inside)
 before qs (Array n t) inside = before [] t true

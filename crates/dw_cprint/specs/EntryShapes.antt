@@ -1,11 +1,24 @@
 -- The shape of each entry of an image (DWARF 5, chapter 5): what its tag, its attributes and its children make it.
-use Rattle.std.specs.Prelude.{ℕ, pos, zero, suc, Bool, ◌==◌, ◌&&◌, ◌||◌, not, List, Option, Some, None, map, filter, if◌then◌else◌}
+use Rattle.std.specs.Prelude.{ℕ, pos, zero, suc, Bool, ◌==◌, ◌&&◌, ◌||◌, not, List, Option, Some, None, map, filter}
+use Rattle.std.specs.Prelude.{if◌then◌else◌}
 use Rattle.std.specs.List.{list_any}
-use Rattle.dw_forms.specs.Codes.{DW_AT_bit_size, DW_AT_bit_stride, DW_AT_byte_stride, DW_AT_const_value, DW_AT_prototyped, DW_TAG_array_type, DW_TAG_atomic_type, DW_TAG_base_type, DW_TAG_const_type, DW_TAG_enumeration_type, DW_TAG_enumerator, DW_TAG_formal_parameter, DW_TAG_generic_subrange, DW_TAG_inheritance, DW_TAG_member, DW_TAG_pointer_type, DW_TAG_restrict_type, DW_TAG_structure_type, DW_TAG_subrange_type, DW_TAG_subroutine_type, DW_TAG_typedef, DW_TAG_union_type, DW_TAG_unspecified_parameters, DW_TAG_variable, DW_TAG_variant_part, DW_TAG_volatile_type, is_type_tag}
+use Rattle.dw_forms.specs.Codes.{DW_AT_bit_size, DW_AT_bit_stride, DW_AT_byte_stride, DW_AT_const_value}
+use Rattle.dw_forms.specs.Codes.{DW_AT_prototyped, DW_TAG_array_type, DW_TAG_atomic_type, DW_TAG_base_type}
+use Rattle.dw_forms.specs.Codes.{DW_TAG_const_type, DW_TAG_enumeration_type, DW_TAG_enumerator, DW_TAG_formal_parameter}
+use Rattle.dw_forms.specs.Codes.{DW_TAG_generic_subrange, DW_TAG_inheritance, DW_TAG_member, DW_TAG_pointer_type}
+use Rattle.dw_forms.specs.Codes.{DW_TAG_restrict_type, DW_TAG_structure_type, DW_TAG_subrange_type}
+use Rattle.dw_forms.specs.Codes.{DW_TAG_subroutine_type, DW_TAG_typedef, DW_TAG_union_type}
+use Rattle.dw_forms.specs.Codes.{DW_TAG_unspecified_parameters, DW_TAG_variable, DW_TAG_variant_part}
+use Rattle.dw_forms.specs.Codes.{DW_TAG_volatile_type, is_type_tag}
 use Rattle.dw_forms.specs.Value.{Datum, unsigned, signed}
 use Rattle.dw_image.specs.declared.image.Image.{Image}
-use Rattle.dw_cprint.specs.LookUps.{tag_at, value_at, name_at, type_at, children_at, count_in, has_at, flag_at, declared_at, number_at}
-use Rattle.dw_cprint.specs.Shapes.{Const, Volatile, Restrict, Atomic, TagKeyword, Struct, Union, Enum, Bits, Absent, Number, Wrong, Parameter, Typed, More, Name, MemberOf, EnumeratorOf, ShapeOf, base, typedef, qualified, pointer, array, function, tagged, nameless, body, enumeration, foreign, other, SubjectOf, typedef_subject, variable_subject, aggregate_subject, enumeration_subject, declared_subject, no_subject}
+use Rattle.dw_cprint.specs.LookUps.{tag_at, value_at, name_at, type_at, children_at, count_in, has_at, flag_at}
+use Rattle.dw_cprint.specs.LookUps.{declared_at, number_at}
+use Rattle.dw_cprint.specs.Shapes.{Const, Volatile, Restrict, Atomic, TagKeyword, Struct, Union, Enum, Bits, Absent}
+use Rattle.dw_cprint.specs.Shapes.{Number, Wrong, Parameter, Typed, More, Name, MemberOf, EnumeratorOf, ShapeOf, base}
+use Rattle.dw_cprint.specs.Shapes.{typedef, qualified, pointer, array, function, tagged, nameless, body, enumeration}
+use Rattle.dw_cprint.specs.Shapes.{foreign, other, SubjectOf, typedef_subject, variable_subject, aggregate_subject}
+use Rattle.dw_cprint.specs.Shapes.{enumeration_subject, declared_subject, no_subject}
 
 -- an entry has one of two tags
 abbrev pub has_tag : Image → (one other : ℕ) → ℕ → Bool
@@ -37,7 +50,9 @@ counts_in image id = map (count_in image) (filter (is_dimension image) (children
 -- a stride, or a dimension that is no subrange
 abbrev pub is_strange : Image → ℕ → Bool
 is_strange image id =
-    has_stride image id || (list_any (is_strided_dimension image) (children_at image id) || has_child image DW_TAG_enumeration_type DW_TAG_generic_subrange id)
+    has_stride image id
+    || (list_any (is_strided_dimension image) (children_at image id)
+    || has_child image DW_TAG_enumeration_type DW_TAG_generic_subrange id)
 
 -- ---- subroutines (DWARF 5, 5.8)
 
@@ -52,7 +67,8 @@ abbrev pub parameters_of : Image → List ℕ → List Parameter
 parameters_of image ids = map (parameter_at image) (filter (is_parameter image) ids)
 
 abbrev pub parameters_in : Image → ℕ → Option (List Parameter)
-parameters_in image id = if flag_at image id DW_AT_prototyped then Some (parameters_of image (children_at image id)) else None
+parameters_in image id =
+    if flag_at image id DW_AT_prototyped then Some (parameters_of image (children_at image id)) else None
 
 -- ---- structures and unions (DWARF 5, 5.7)
 
@@ -70,7 +86,8 @@ abbrev pub is_plain_member : Image → ℕ → Bool
 is_plain_member image id = tag_at image id == DW_TAG_member && not (declared_at image id)
 
 abbrev pub member_at : Image → ℕ → MemberOf
-member_at image id = record { name = name_at image id; type_at = type_at image id; bits = bits_in (value_at image id DW_AT_bit_size) }
+member_at image id =
+    record { name = name_at image id; type_at = type_at image id; bits = bits_in (value_at image id DW_AT_bit_size) }
 
 abbrev pub members_in : Image → ℕ → List MemberOf
 members_in image id = map (member_at image) (filter (is_plain_member image) (children_at image id))
@@ -78,7 +95,8 @@ members_in image id = map (member_at image) (filter (is_plain_member image) (chi
 -- one that is reached: with a name, declared without one, or a body
 abbrev pub aggregate_shape : Image → ℕ → TagKeyword → Name → ShapeOf
 aggregate_shape image id word (Some name) = tagged word name
-aggregate_shape image id word None = if declared_at image id then nameless word else body word (is_odd image id) (members_in image id)
+aggregate_shape image id word None =
+    if declared_at image id then nameless word else body word (is_odd image id) (members_in image id)
 
 -- ---- enumerations (DWARF 5, 5.9)
 
@@ -93,7 +111,8 @@ enumerators_in image id = map (enumerator_at image) (filter (is_enumerator image
 
 abbrev pub enumeration_shape : Image → ℕ → Name → ShapeOf
 enumeration_shape image id (Some name) = tagged Enum name
-enumeration_shape image id None = if declared_at image id then nameless Enum else enumeration (is_odd image id) (enumerators_in image id)
+enumeration_shape image id None =
+    if declared_at image id then nameless Enum else enumeration (is_odd image id) (enumerators_in image id)
 
 -- ---- all entries
 

@@ -1,9 +1,12 @@
 -- The shapes that a survey keeps, and what is written by them.
-use Rattle.std.specs.Prelude.{◌≡◌, ℕ, ℤ, Bool, false, List, [], ◌∷◌, ◌++◌, Option, Some, None, slice_get, option_and_then}
+use Rattle.std.specs.Prelude.{◌≡◌, ℕ, ℤ, Bool, false, List, [], ◌∷◌, ◌++◌, Option, Some, None, slice_get}
+use Rattle.std.specs.Prelude.{option_and_then}
 use Rattle.std.specs.Option.{option_map_or}
-use Rattle.dw_cprint.specs.Declarations.{term_at, members_by, parameters_by, term_by, has_more, is_misplaced, bits_of, constants_of, declaration_of}
+use Rattle.dw_cprint.specs.Declarations.{term_at, members_by, parameters_by, term_by, has_more, is_misplaced, bits_of}
+use Rattle.dw_cprint.specs.Declarations.{constants_of, declaration_of}
 use Rattle.dw_cprint.specs.Declarators.{before, after, core, opened, closed, body_tokens, enumeration_tokens}
-use Rattle.dw_cprint.specs.Shapes.{Qualifier, Parameter, Typed, More, Name, TypeAt, MemberOf, EnumeratorOf, ShapeOf, other, SubjectOf, view_shape}
+use Rattle.dw_cprint.specs.Shapes.{Qualifier, Parameter, Typed, More, Name, TypeAt, MemberOf, EnumeratorOf, ShapeOf}
+use Rattle.dw_cprint.specs.Shapes.{other, SubjectOf, view_shape}
 use Rattle.dw_cprint.specs.Terms.{Term, Members, Parameters, Prototyped, Constant, Valued, Declaration}
 use Rattle.dw_cprint.specs.Tokens.{Token, Semicolon, Blank, Dot, text_of}
 use Rattle.dw_cprint.specs.Writing.{spell, name_tokens, bits_tokens, constant, signature_tokens, written}
@@ -11,7 +14,9 @@ use Rattle.dw_cprint.specs.declared.survey.Survey.{Survey}
 
 -- the shape that is kept of an entry; other where none is
 unfoldable pub kept : Survey → ℕ → ShapeOf
-kept s entry = option_map_or view_shape (option_and_then (slice_get s.shapes.items) (slice_get s.summaries.places.items entry)) other
+kept s entry =
+    option_map_or view_shape
+    (option_and_then (slice_get s.shapes.items) (slice_get s.summaries.places.items entry)) other
 
 -- the term of a type, by the shapes that are kept
 abbrev pub kept_term : Survey → ℕ → TypeAt → Option Term
@@ -39,7 +44,8 @@ WritesClosed s to old new = (k : ℕ) (t : Term) → kept_term s k to ≡ Some t
 
 -- a type was written with a name inside, or with nothing
 abbrev pub WritesNamed : Survey → ℕ → TypeAt → Name → List ℕ → List ℕ → Type 0
-WritesNamed s k at name old new = (t : Term) → kept_term s k at ≡ Some t → Writes (spell [] t (name_tokens name)) old new
+WritesNamed s k at name old new =
+    (t : Term) → kept_term s k at ≡ Some t → Writes (spell [] t (name_tokens name)) old new
 
 -- the specifier that a shape is without its qualifiers was written
 abbrev pub WritesCore : Survey → ℕ → ShapeOf → List ℕ → List ℕ → Type 0
@@ -59,7 +65,8 @@ WritesMembers s k ms old new =
 -- an enumerator was written
 abbrev pub WritesEnumerator : EnumeratorOf → List ℕ → List ℕ → Type 0
 WritesEnumerator e old new =
-    (name : List ℕ) (value : ℤ) → e.name ≡ Some name → e.value ≡ Some value → Writes (constant (Valued name value)) old new
+    (name : List ℕ) (value : ℤ) → e.name ≡ Some name → e.value ≡ Some value
+    → Writes (constant (Valued name value)) old new
 
 -- the enumerators were written, in braces
 abbrev pub WritesEnumerators : List EnumeratorOf → List ℕ → List ℕ → Type 0

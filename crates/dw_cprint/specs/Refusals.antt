@@ -6,24 +6,30 @@ use Rattle.dw_cprint.specs.Shapes.{ShapeOf, SubjectOf, no_subject}
 use Rattle.dw_cprint.specs.Steps.{IsReached, IsOnCycle, HasPath}
 use Rattle.dw_cprint.specs.Terms.{Declaration}
 use Rattle.dw_cprint.specs.Writing.{written}
-use Rattle.dw_cprint.specs.Wrong.{HasBadName, HasBadNameItself, is_foreign, is_foreign_itself, IsUnspeakable, IsUnspeakableItself}
+use Rattle.dw_cprint.specs.Wrong.{HasBadName, HasBadNameItself, is_foreign, is_foreign_itself, IsUnspeakable}
+use Rattle.dw_cprint.specs.Wrong.{IsUnspeakableItself}
 pub use Rattle.dw_cprint.specs.declared.fault.PrintFault.{PrintFault}
-pub use Rattle.dw_cprint.specs.declared.fault.PrintFault.TheVariants.{NotPrintable, BadName, Foreign, Unspeakable, TooDeep, TooLong, Memory}
+pub use Rattle.dw_cprint.specs.declared.fault.PrintFault.TheVariants.{NotPrintable, BadName, Foreign, Unspeakable}
+pub use Rattle.dw_cprint.specs.declared.fault.PrintFault.TheVariants.{TooDeep, TooLong, Memory}
 
 -- the text of the entry's declaration has more than so many bytes
 abbrev pub IsLonger : ℕ → (ℕ → ShapeOf) → SubjectOf → Type 0
-IsLonger limit shapes subject = (d : Declaration) × (declaration_of shapes subject ≡ Some d) × (limit < length (written d))
+IsLonger limit shapes subject =
+    (d : Declaration) × (declaration_of shapes subject ≡ Some d) × (limit < length (written d))
 
 -- the condition of each refusal
 pub data Holds (shapes : ℕ → ShapeOf) (subject : SubjectOf) : PrintFault → Type 0 where
   other_kind : subject ≡ no_subject → Holds shapes subject NotPrintable
   cycle : (entry : ℕ) → IsReached shapes subject entry → IsOnCycle shapes entry → Holds shapes subject NotPrintable
   own_name : HasBadNameItself shapes subject → Holds shapes subject BadName
-  name_reached : (entry : ℕ) → IsReached shapes subject entry → HasBadName shapes (shapes entry) → Holds shapes subject BadName
+  name_reached : (entry : ℕ) → IsReached shapes subject entry → HasBadName shapes (shapes entry)
+      → Holds shapes subject BadName
   own_child : is_foreign_itself subject ≡ true → Holds shapes subject Foreign
-  foreign_reached : (entry : ℕ) → IsReached shapes subject entry → is_foreign (shapes entry) ≡ true → Holds shapes subject Foreign
+  foreign_reached : (entry : ℕ) → IsReached shapes subject entry → is_foreign (shapes entry) ≡ true
+      → Holds shapes subject Foreign
   own_shape : IsUnspeakableItself shapes subject → Holds shapes subject Unspeakable
-  shape_reached : (entry : ℕ) → IsReached shapes subject entry → IsUnspeakable shapes (shapes entry) → Holds shapes subject Unspeakable
+  shape_reached : (entry : ℕ) → IsReached shapes subject entry → IsUnspeakable shapes (shapes entry)
+      → Holds shapes subject Unspeakable
   deep : HasPath shapes subject 65 → Holds shapes subject TooDeep
   long : IsLonger 65536 shapes subject → Holds shapes subject TooLong
 
@@ -51,8 +57,11 @@ IsPrinted = HoldsNoneBelow 7
 
 -- the text of the entry's declaration stands behind what was there
 abbrev pub AppendsDeclaration : (ℕ → ShapeOf) → SubjectOf → List ℕ → List ℕ → Type 0
-AppendsDeclaration shapes subject old new = (d : Declaration) × (declaration_of shapes subject ≡ Some d) × (new ≡ old ++ written d)
+AppendsDeclaration shapes subject old new =
+    (d : Declaration) × (declaration_of shapes subject ≡ Some d) × (new ≡ old ++ written d)
 
 -- no other declaration has the text of the entry's
 abbrev pub HasOneReading : (ℕ → ShapeOf) → SubjectOf → Type 0
-HasOneReading shapes subject = (d another : Declaration) → declaration_of shapes subject ≡ Some d → IsDeclaration another → written another ≡ written d → another ≡ d
+HasOneReading shapes subject =
+    (d another : Declaration) → declaration_of shapes subject ≡ Some d → IsDeclaration another
+    → written another ≡ written d → another ≡ d

@@ -3,7 +3,8 @@ use Rattle.std.specs.Prelude.{ℕ, All, IfSome}
 use Rattle.dw_cprint.specs.Declarations.{bits_of}
 use Rattle.dw_cprint.specs.Legible.{IsAggregate, IsCount, IsValue}
 use Rattle.dw_cprint.specs.Steps.{IsReached}
-use Rattle.dw_cprint.specs.Shapes.{MemberOf, EnumeratorOf, ShapeOf, array, body, enumeration, SubjectOf, aggregate_subject, enumeration_subject}
+use Rattle.dw_cprint.specs.Shapes.{MemberOf, EnumeratorOf, ShapeOf, array, body, enumeration, SubjectOf}
+use Rattle.dw_cprint.specs.Shapes.{aggregate_subject, enumeration_subject}
 
 abbrev pub HasCountedBits : MemberOf → Type 0
 HasCountedBits m = IsCount (bits_of m.bits)

@@ -90,7 +90,9 @@ view_shape shape.Other = other
 abbrev pub view_subject : Subject → SubjectOf
 view_subject (subject.Typedef name at) = typedef_subject (option_copied name) at
 view_subject (subject.Variable name at) = variable_subject (option_copied name) at
-view_subject (subject.Aggregate word name odd members) = aggregate_subject word (option_copied name) odd (map view_member members.items)
-view_subject (subject.Enumeration name odd enumerators) = enumeration_subject (option_copied name) odd (map view_enumerator enumerators.items)
+view_subject (subject.Aggregate word name odd members) =
+    aggregate_subject word (option_copied name) odd (map view_member members.items)
+view_subject (subject.Enumeration name odd enumerators) =
+    enumeration_subject (option_copied name) odd (map view_enumerator enumerators.items)
 view_subject (subject.Declared word name) = declared_subject word (option_copied name)
 view_subject subject.Other = no_subject

@@ -1,9 +1,12 @@
 -- What a survey knows of a type that reaches no cycle: its kind, what is wrong with it, and how long its text is.
-use Rattle.std.specs.Prelude.{◌≡◌, ℕ, ℤ, ◌+◌, ◌<◌, ◌↔◌, Bool, true, false, IsTrue, List, [], ◌∷◌, ◌++◌, Option, Some, None, length, slice_get, slice_index, slice_index_or, is_some, option_and_then, unwrap_or, min, Contains}
+use Rattle.std.specs.Prelude.{◌≡◌, ℕ, ℤ, ◌+◌, ◌<◌, ◌↔◌, Bool, true, false, IsTrue, List, [], ◌∷◌, ◌++◌, Option, Some}
+use Rattle.std.specs.Prelude.{None, length, slice_get, slice_index, slice_index_or, is_some, option_and_then, unwrap_or}
+use Rattle.std.specs.Prelude.{min, Contains}
 use Rattle.dw_cprint.specs.Declarations.{term_at, bits_of, has_more, is_misplaced, parameters_by}
 use Rattle.dw_cprint.specs.Declarators.{before, after}
 use Rattle.dw_cprint.specs.Refusals.{Holds, BadName, Foreign, Unspeakable}
-use Rattle.dw_cprint.specs.Shapes.{Struct, Union, Bits, Parameter, Typed, More, Name, TypeAt, EnumeratorOf, ShapeOf, typedef, qualified, pointer, array, function, nameless, body, SubjectOf, view_shape}
+use Rattle.dw_cprint.specs.Shapes.{Struct, Union, Bits, Parameter, Typed, More, Name, TypeAt, EnumeratorOf, ShapeOf}
+use Rattle.dw_cprint.specs.Shapes.{typedef, qualified, pointer, array, function, nameless, body, SubjectOf, view_shape}
 use Rattle.dw_cprint.specs.Steps.{entries_of, steps_reached, IsReachedFrom}
 use Rattle.dw_cprint.specs.Terms.{Term, Valued, Parameters, Prototyped}
 use Rattle.dw_cprint.specs.Tokens.{Token, Semicolon, Blank, text_of}

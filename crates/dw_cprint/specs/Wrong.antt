@@ -1,10 +1,15 @@
 -- What is wrong with one entry, by the second, third and fourth refusal.
-use Rattle.std.specs.Prelude.{◌≡◌, ℕ, ◌⊎◌, Bool, true, false, not, ◌&&◌, ◌||◌, List, [], ◌∷◌, Option, Some, None, Any, is_some}
+use Rattle.std.specs.Prelude.{◌≡◌, ℕ, ◌⊎◌, Bool, true, false, not, ◌&&◌, ◌||◌, List, [], ◌∷◌, Option, Some, None, Any}
+use Rattle.std.specs.Prelude.{is_some}
 use Rattle.std.specs.List.{list_any}
 use Rattle.dw_cprint.specs.Declarations.{words_of, parts_of}
 pub use Rattle.dw_cprint.specs.Declarations.{is_miscounted, is_misplaced}
 use Rattle.dw_cprint.specs.Legible.{is_identifier}
-use Rattle.dw_cprint.specs.Shapes.{Qualifier, Restrict, TagKeyword, Struct, Union, Enum, Parameter, Bits, Absent, Number, Wrong, Name, TypeAt, MemberOf, EnumeratorOf, ShapeOf, base, typedef, qualified, pointer, array, function, tagged, nameless, body, enumeration, foreign, other, SubjectOf, typedef_subject, variable_subject, aggregate_subject, enumeration_subject, declared_subject}
+use Rattle.dw_cprint.specs.Shapes.{Qualifier, Restrict, TagKeyword, Struct, Union, Enum, Parameter, Bits, Absent}
+use Rattle.dw_cprint.specs.Shapes.{Number, Wrong, Name, TypeAt, MemberOf, EnumeratorOf, ShapeOf, base, typedef}
+use Rattle.dw_cprint.specs.Shapes.{qualified, pointer, array, function, tagged, nameless, body, enumeration, foreign}
+use Rattle.dw_cprint.specs.Shapes.{other, SubjectOf, typedef_subject, variable_subject, aggregate_subject}
+use Rattle.dw_cprint.specs.Shapes.{enumeration_subject, declared_subject}
 use Rattle.dw_cprint.specs.Steps.{parameter_types}
 
 -- ---- types
@@ -17,8 +22,10 @@ shape_of shapes (Some entry) = Some (shapes entry)
 -- what stands under a row of qualifiers; None is void
 pub data StandsUnder (shapes : ℕ → ShapeOf) : TypeAt → TypeAt → Type 0 where
   nothing : StandsUnder shapes None None
-  itself : {entry : ℕ} → ((q : Qualifier) (at : TypeAt) → shapes entry ≡ qualified q at → ⊥) → StandsUnder shapes (Some entry) (Some entry)
-  below : {entry : ℕ} {under : TypeAt} (q : Qualifier) (at : TypeAt) → shapes entry ≡ qualified q at → StandsUnder shapes at under → StandsUnder shapes (Some entry) under
+  itself : {entry : ℕ} → ((q : Qualifier) (at : TypeAt) → shapes entry ≡ qualified q at → ⊥)
+      → StandsUnder shapes (Some entry) (Some entry)
+  below : {entry : ℕ} {under : TypeAt} (q : Qualifier) (at : TypeAt) → shapes entry ≡ qualified q at
+      → StandsUnder shapes at under → StandsUnder shapes (Some entry) under
 
 -- absent, or a qualifier over a void-like type
 abbrev pub IsVoidLike : (ℕ → ShapeOf) → TypeAt → Type 0
@@ -52,7 +59,8 @@ is_whole _ = false
 
 -- a member needs a name but where its type is directly a structure or union without one and it has no bit size
 abbrev pub LacksMemberName : (ℕ → ShapeOf) → MemberOf → Name → Type 0
-LacksMemberName shapes member None = (is_unnamed_aggregate (shape_of shapes member.type_at) && is_whole member.bits) ≡ false
+LacksMemberName shapes member None =
+    (is_unnamed_aggregate (shape_of shapes member.type_at) && is_whole member.bits) ≡ false
 LacksMemberName shapes member (Some name) = is_identifier name ≡ false
 
 abbrev pub HasWrongMemberName : (ℕ → ShapeOf) → List MemberOf → Type 0
@@ -75,15 +83,20 @@ HasBadName shapes _ = ⊥
 pub data HasBadNameItself (shapes : ℕ → ShapeOf) : SubjectOf → Type 0 where
   typedef_name : {name : Name} {at : TypeAt} → LacksName name → HasBadNameItself shapes (typedef_subject name at)
   variable_name : {name : Name} {at : TypeAt} → LacksName name → HasBadNameItself shapes (variable_subject name at)
-  aggregate_name : {word : TagKeyword} {name : Name} {odd : Bool} {members : List MemberOf} → LacksName name → HasBadNameItself shapes (aggregate_subject word name odd members)
-  member_name : {word : TagKeyword} {name : Name} {odd : Bool} {members : List MemberOf} → HasWrongMemberName shapes members → HasBadNameItself shapes (aggregate_subject word name odd members)
-  enumeration_name : {name : Name} {odd : Bool} {enumerators : List EnumeratorOf} → LacksName name → HasBadNameItself shapes (enumeration_subject name odd enumerators)
-  enumerator_name : {name : Name} {odd : Bool} {enumerators : List EnumeratorOf} → HasWrongEnumeratorName enumerators → HasBadNameItself shapes (enumeration_subject name odd enumerators)
+  aggregate_name : {word : TagKeyword} {name : Name} {odd : Bool} {members : List MemberOf} → LacksName name
+      → HasBadNameItself shapes (aggregate_subject word name odd members)
+  member_name : {word : TagKeyword} {name : Name} {odd : Bool} {members : List MemberOf}
+      → HasWrongMemberName shapes members → HasBadNameItself shapes (aggregate_subject word name odd members)
+  enumeration_name : {name : Name} {odd : Bool} {enumerators : List EnumeratorOf} → LacksName name
+      → HasBadNameItself shapes (enumeration_subject name odd enumerators)
+  enumerator_name : {name : Name} {odd : Bool} {enumerators : List EnumeratorOf} → HasWrongEnumeratorName enumerators
+      → HasBadNameItself shapes (enumeration_subject name odd enumerators)
   tag_name : {word : TagKeyword} {name : Name} → LacksName name → HasBadNameItself shapes (declared_subject word name)
 
 -- ---- types of other languages
 
--- the third refusal, at an entry that is reached: of another language or unspecified, or a body with a child that C has not
+-- the third refusal, at an entry that is reached: of another language or unspecified, or a body with a child that C
+-- does not have
 abbrev pub is_foreign : ShapeOf → Bool
 is_foreign foreign = true
 is_foreign other = true
@@ -136,7 +149,8 @@ pub data IsWrongMember (shapes : ℕ → ShapeOf) (member : MemberOf) : Type 0 w
   function_member : is_function (shape_of shapes member.type_at) ≡ true → IsWrongMember shapes member
   bit_member : IsWrongBits (shape_of shapes member.type_at) member.bits → IsWrongMember shapes member
 
-pub data IsWrongArray (shapes : ℕ → ShapeOf) (counts : List (Option ℕ)) (strange : Bool) (element : TypeAt) : Type 0 where
+pub data IsWrongArray (shapes : ℕ → ShapeOf) (counts : List (Option ℕ)) (strange : Bool)
+    (element : TypeAt) : Type 0 where
   odd_child_or_stride : strange ≡ true → IsWrongArray shapes counts strange element
   count : is_miscounted counts ≡ true → IsWrongArray shapes counts strange element
   void_element : IsVoidLike shapes element → IsWrongArray shapes counts strange element
@@ -144,16 +158,23 @@ pub data IsWrongArray (shapes : ℕ → ShapeOf) (counts : List (Option ℕ)) (s
   open_element : begins_open (shape_of shapes element) ≡ true → IsWrongArray shapes counts strange element
 
 pub data IsWrongFunction (shapes : ℕ → ShapeOf) (returned : TypeAt) : Option (List Parameter) → Type 0 where
-  array_result : {parameters : Option (List Parameter)} → is_array (shape_of shapes returned) ≡ true → IsWrongFunction shapes returned parameters
-  function_result : {parameters : Option (List Parameter)} → is_function (shape_of shapes returned) ≡ true → IsWrongFunction shapes returned parameters
-  void_parameter : {parameters : List Parameter} → Any (IsVoidLike shapes) (parameter_types parameters) → IsWrongFunction shapes returned (Some parameters)
-  misplaced : {parameters : List Parameter} → is_misplaced parameters ≡ true → IsWrongFunction shapes returned (Some parameters)
+  array_result : {parameters : Option (List Parameter)} → is_array (shape_of shapes returned) ≡ true
+      → IsWrongFunction shapes returned parameters
+  function_result : {parameters : Option (List Parameter)} → is_function (shape_of shapes returned) ≡ true
+      → IsWrongFunction shapes returned parameters
+  void_parameter : {parameters : List Parameter} → Any (IsVoidLike shapes) (parameter_types parameters)
+      → IsWrongFunction shapes returned (Some parameters)
+  misplaced : {parameters : List Parameter} → is_misplaced parameters ≡ true
+      → IsWrongFunction shapes returned (Some parameters)
 
 -- a row of qualifiers that begins with this one
 pub data IsWrongRow (shapes : ℕ → ShapeOf) (q : Qualifier) (at : TypeAt) : Type 0 where
-  over_array : (under : TypeAt) → StandsUnder shapes at under → is_array (shape_of shapes under) ≡ true → IsWrongRow shapes q at
-  over_function : (under : TypeAt) → StandsUnder shapes at under → is_function (shape_of shapes under) ≡ true → IsWrongRow shapes q at
-  restrict : (under : TypeAt) → q ≡ Restrict → StandsUnder shapes at under → is_restrictable (shape_of shapes under) ≡ false → IsWrongRow shapes q at
+  over_array : (under : TypeAt) → StandsUnder shapes at under → is_array (shape_of shapes under) ≡ true
+      → IsWrongRow shapes q at
+  over_function : (under : TypeAt) → StandsUnder shapes at under → is_function (shape_of shapes under) ≡ true
+      → IsWrongRow shapes q at
+  restrict : (under : TypeAt) → q ≡ Restrict → StandsUnder shapes at under
+      → is_restrictable (shape_of shapes under) ≡ false → IsWrongRow shapes q at
 
 abbrev pub lacks_value : EnumeratorOf → Bool
 lacks_value e = not (is_some e.value)

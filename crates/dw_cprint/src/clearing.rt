@@ -36,7 +36,8 @@ fn turn<G: StepGraph>(graph: &G, walk: &mut Walk, node: usize) -> Result<(), All
         (walk.old.stack.items ++ node ∷ []) }
     ensures walk { OnOk result (IsWalk (G.graph graph.now)
         walk.new.marks.items walk.new.next.items walk.new.clear.items walk.new.stack.items) }
-    ensures less { OnOk result (work_left (G.graph graph.now) walk.new.marks.items walk.new.next.items walk.new.stack.items
+    ensures less { OnOk result (work_left (G.graph graph.now)
+        walk.new.marks.items walk.new.next.items walk.new.stack.items
         < work_left (G.graph graph.now) walk.old.marks.items walk.old.next.items (walk.old.stack.items ++ node ∷ [])) }
     ensures met { OnOk result (KeepsMet walk.old.marks.items walk.new.marks.items) }
 {

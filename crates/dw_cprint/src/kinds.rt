@@ -3,7 +3,8 @@
 ghost use Rattle.std.specs.Prelude.{◌≡◌, ◌||◌, Option, Some, is_none};
 ghost use Rattle.dw_cprint.specs.Shapes.{ShapeOf, view_shape};
 ghost use Rattle.dw_cprint.specs.Summaries.{kind_in};
-ghost use Rattle.dw_cprint.specs.Wrong.{begins_open, is_array, is_function, is_pointer, is_restrictable, is_unnamed_aggregate, starts_open};
+ghost use Rattle.dw_cprint.specs.Wrong.{begins_open, is_array, is_function, is_pointer, is_restrictable};
+ghost use Rattle.dw_cprint.specs.Wrong.{is_unnamed_aggregate, starts_open};
 
 use crate::shape::Shape;
 use crate::words::TagKeyword;

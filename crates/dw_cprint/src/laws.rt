@@ -29,13 +29,15 @@ pub fn one_reading()
 
 /// The text of a type is what is before its declarator, the declarator, and what is after it.
 pub fn text_in_parts()
-    ensures { (qs : List Qualifier) (t : Term) (d : List Token) → spell qs t d ≡ before qs t (is_there d) ++ (d ++ after t) }
+    ensures { (qs : List Qualifier) (t : Term) (d : List Token)
+        → spell qs t d ≡ before qs t (is_there d) ++ (d ++ after t) }
 {}
 
 /// The types that an entry of an image has, and that its shape names, are entries.
 pub fn types_are_entries()
     ensures one { (image : ImageOf) (id to : ℕ) → type_at image id ≡ Some to → to < length (entries_in image) }
-    ensures all { (image : ImageOf) (id : ℕ) → All (λ to. to < length (entries_in image)) (steps_reached (shape_in image) id) }
+    ensures all { (image : ImageOf) (id : ℕ)
+        → All (λ to. to < length (entries_in image)) (steps_reached (shape_in image) id) }
 {}
 
 /// An entry of which none of P1 to P5 holds has a declaration. If none of P1 to P4 holds, its declaration can be read

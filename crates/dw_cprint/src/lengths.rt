@@ -1,14 +1,20 @@
 //! How long the parts of the text of a type are, counted to one past the limit.
 
-ghost use Rattle.std.specs.Prelude.{◌≡◌, ◌+◌, ◌∷◌, ◌++◌, [], false, true, ℕ, ℤ, All, IfOk, IsTrue, List, Option, Some, decimal, flat_map, length, map, option_copied};
-ghost use Rattle.dw_cprint.specs.Declarations.{bits_of, constants_of, declaration_by, has_more, is_cut_short, is_misplaced, members_by, parameters_by, term_at, term_by};
+ghost use Rattle.std.specs.Prelude.{◌≡◌, ◌+◌, ◌∷◌, ◌++◌, [], false, true, ℕ, ℤ, All, IfOk, IsTrue, List, Option, Some};
+ghost use Rattle.std.specs.Prelude.{decimal, flat_map, length, map, option_copied};
+ghost use Rattle.dw_cprint.specs.Declarations.{bits_of, constants_of, declaration_by, has_more, is_cut_short};
+ghost use Rattle.dw_cprint.specs.Declarations.{is_misplaced, members_by, parameters_by, term_at, term_by};
 ghost use Rattle.dw_cprint.specs.Declarators.{body_tokens, enumeration_tokens};
-ghost use Rattle.dw_cprint.specs.Shapes.{ShapeOf, TypeAt as TypeAtOf, function, parameter_items, view_enumerator, view_member, view_shape, view_subject};
+ghost use Rattle.dw_cprint.specs.Shapes.{ShapeOf, TypeAt as TypeAtOf, function, parameter_items, view_enumerator};
+ghost use Rattle.dw_cprint.specs.Shapes.{view_member, view_shape, view_subject};
 ghost use Rattle.dw_cprint.specs.Steps.{member_types, parameter_types, types_declared, types_reached};
-ghost use Rattle.dw_cprint.specs.Summaries.{IsCallLength, IsEnumeratorLength, IsLength, IsParameterLength, IsSummary, Knows, KnowsLength, byte_count, counted, member_tokens, text_bytes};
-ghost use Rattle.dw_cprint.specs.Terms.{Constant, Declaration, Members, Parameters, Pointer, Prototyped, Qualified, Term};
+ghost use Rattle.dw_cprint.specs.Summaries.{IsCallLength, IsEnumeratorLength, IsLength, IsParameterLength, IsSummary};
+ghost use Rattle.dw_cprint.specs.Summaries.{Knows, KnowsLength, byte_count, counted, member_tokens, text_bytes};
+ghost use Rattle.dw_cprint.specs.Terms.{Constant, Declaration, Members, Parameters, Pointer, Prototyped, Qualified};
+ghost use Rattle.dw_cprint.specs.Terms.{Term};
 ghost use Rattle.dw_cprint.specs.Tokens.{tag_spelling};
-ghost use Rattle.dw_cprint.specs.Writing.{bits_tokens, count_tokens, ellipsis, more_constants, more_parameters, name_tokens, signature_tokens, spell, value_tokens, written};
+ghost use Rattle.dw_cprint.specs.Writing.{bits_tokens, count_tokens, ellipsis, more_constants, more_parameters};
+ghost use Rattle.dw_cprint.specs.Writing.{name_tokens, signature_tokens, spell, value_tokens, written};
 
 use crate::shape::{Bits, Enumerator, Member, Name, Parameter};
 use crate::summary::Summaries;

@@ -3,7 +3,8 @@
 ghost use Rattle.std.specs.Prelude.{◌≡◌, ◌<◌, length, slice_get, IfSome, IfOk, All, option_map, option_copied};
 ghost use Rattle.dw_forms.specs.Value.{view};
 ghost use Rattle.dw_image.specs.Images.{entries_in};
-ghost use Rattle.dw_cprint.specs.LookUps.{tag_at, value_at, name_at, type_at, children_at, count_in, has_at, flag_at, declared_at, number_at};
+ghost use Rattle.dw_cprint.specs.LookUps.{tag_at, value_at, name_at, type_at, children_at, count_in, has_at, flag_at};
+ghost use Rattle.dw_cprint.specs.LookUps.{declared_at, number_at};
 ghost use Rattle.dw_cprint.specs.EntryShapes.{bits_in};
 ghost use Rattle.dw_cprint.specs.Declarations.{bits_of};
 ghost use Rattle.dw_cprint.specs.Legible.{IsCount, IsValue};

@@ -4,7 +4,11 @@ ghost use Rattle.std.specs.Prelude.{◌≡◌, ◌<◌, length, IfOk, All, map, 
 ghost use Rattle.std.specs.List.{list_any};
 ghost use Rattle.dw_image.specs.Images.{entries_in};
 ghost use Rattle.dw_cprint.specs.LookUps.{children_at, count_in, tag_at, type_at, name_at};
-ghost use Rattle.dw_cprint.specs.EntryShapes.{has_tag, is_parameter, parameter_at, has_stride, is_strided_dimension, is_dimension, is_plain_member, member_at, is_enumerator, enumerator_at, parameters_of, members_in, enumerators_in, is_odd, aggregate_shape, enumeration_shape, counts_in, is_strange, parameters_in, shape_in, shape_by};
+ghost use Rattle.dw_cprint.specs.EntryShapes.{has_tag, is_parameter, parameter_at, has_stride, is_strided_dimension};
+ghost use Rattle.dw_cprint.specs.EntryShapes.{is_dimension, is_plain_member, member_at, is_enumerator, enumerator_at};
+ghost use Rattle.dw_cprint.specs.EntryShapes.{parameters_of, members_in, enumerators_in, is_odd, aggregate_shape};
+ghost use Rattle.dw_cprint.specs.EntryShapes.{enumeration_shape, counts_in, is_strange, parameters_in, shape_in};
+ghost use Rattle.dw_cprint.specs.EntryShapes.{shape_by};
 ghost use Rattle.dw_cprint.specs.Legible.{IsAggregate, IsCount};
 ghost use Rattle.dw_cprint.specs.Regular.{HasCountedBits, HasValue, IsRegular};
 ghost use Rattle.dw_cprint.specs.Shapes.{view_shape, view_member, view_enumerator, array, function, Enum};
@@ -70,7 +74,8 @@ fn counts_of(
     children: &[EntryId],
 ) -> Result<Vec<Option<u128>>, AllocError>
     requires { All (λ child. child < length (entries_in image.now)) children.now }
-    ensures counts { IfOk result (λ counts. counts.items ≡ map (count_in image.now) (filter (is_dimension image.now) children.now)) }
+    ensures counts { IfOk result (λ counts. counts.items
+        ≡ map (count_in image.now) (filter (is_dimension image.now) children.now)) }
     ensures fit { IfOk result (λ counts. All IsCount counts.items) }
 {
     let mut counts = Vec::new(alloc);
@@ -149,7 +154,8 @@ pub fn members_of<'a>(
     children: &[EntryId],
 ) -> Result<Vec<Member<'a>>, AllocError>
     requires { All (λ child. child < length (entries_in image.now)) children.now }
-    ensures members { IfOk result (λ members. map view_member members.items ≡ map (member_at image.now) (filter (is_plain_member image.now) children.now)) }
+    ensures members { IfOk result (λ members. map view_member members.items
+        ≡ map (member_at image.now) (filter (is_plain_member image.now) children.now)) }
     ensures fit { IfOk result (λ members. All HasCountedBits (map view_member members.items)) }
 {
     let mut members = Vec::new(alloc);
@@ -188,7 +194,8 @@ pub fn enumerators_of<'a>(
     children: &[EntryId],
 ) -> Result<Vec<Enumerator<'a>>, AllocError>
     requires { All (λ child. child < length (entries_in image.now)) children.now }
-    ensures enumerators { IfOk result (λ enumerators. map view_enumerator enumerators.items ≡ map (enumerator_at image.now) (filter (is_enumerator image.now) children.now)) }
+    ensures enumerators { IfOk result (λ enumerators. map view_enumerator enumerators.items
+        ≡ map (enumerator_at image.now) (filter (is_enumerator image.now) children.now)) }
     ensures fit { IfOk result (λ enumerators. All HasValue (map view_enumerator enumerators.items)) }
 {
     let mut enumerators = Vec::new(alloc);
@@ -251,7 +258,8 @@ pub fn enumerator_body<'a>(
 /// The shape of an array.
 fn array_shape<'a>(alloc: Global, image: &Image<'a>, id: EntryId) -> Result<Shape<'a>, AllocError>
     requires { id < length (entries_in image.now) }
-    ensures shape { IfOk result (λ shape. view_shape shape ≡ array (counts_in image.now id) (is_strange image.now id) (type_at image.now id)) }
+    ensures shape { IfOk result (λ shape. view_shape shape
+        ≡ array (counts_in image.now id) (is_strange image.now id) (type_at image.now id)) }
     ensures fit { IfOk result (λ shape. IsRegular (view_shape shape)) }
 {
     let children = children_at(alloc, image, id)?;
@@ -274,7 +282,8 @@ fn function_shape<'a>(
     id: EntryId,
 ) -> Result<Shape<'a>, AllocError>
     requires { id < length (entries_in image.now) }
-    ensures shape { IfOk result (λ shape. view_shape shape ≡ function (type_at image.now id) (parameters_in image.now id)) }
+    ensures shape { IfOk result (λ shape. view_shape shape
+        ≡ function (type_at image.now id) (parameters_in image.now id)) }
     ensures fit { IfOk result (λ shape. IsRegular (view_shape shape)) }
 {
     if !flag_at(image, id, DW_AT_prototyped) {

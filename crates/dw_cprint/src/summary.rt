@@ -3,7 +3,8 @@
 ghost use Rattle.std.specs.Prelude.{◌≡◌, ◌<◌, ℕ, List, Some, length, All, IfOk};
 ghost use Rattle.dw_cprint.specs.Shapes.{ShapeOf, view_shape};
 ghost use Rattle.dw_cprint.specs.Steps.{types_reached};
-ghost use Rattle.dw_cprint.specs.Summaries.{AreNodes, AreRight, HaveSummaries, IsBase, IsSummary, Knows, known_of, summary_at};
+ghost use Rattle.dw_cprint.specs.Summaries.{AreNodes, AreRight, HaveSummaries, IsBase, IsSummary, Knows, known_of};
+ghost use Rattle.dw_cprint.specs.Summaries.{summary_at};
 
 use crate::faults::{Faults, faults_of};
 use crate::kinds::{TypeKind, kind_of};

@@ -2,7 +2,9 @@
 
 ghost use Rattle.std.specs.Prelude.{◌≡◌, ◌<◌, ◌||◌, Some, None, map, option_copied, OnOk, IfSome, MatchOption};
 ghost use Rattle.dw_cprint.specs.Declarations.{term_by};
-ghost use Rattle.dw_cprint.specs.Kept.{kept, kept_term, WritesBefore, WritesAfter, WritesOpened, WritesClosed, WritesNamed, WritesCore, WritesMember, WritesMembers, WritesParameter, WritesParameters, WritesDeclaration};
+ghost use Rattle.dw_cprint.specs.Kept.{kept, kept_term, WritesBefore, WritesAfter, WritesOpened, WritesClosed};
+ghost use Rattle.dw_cprint.specs.Kept.{WritesNamed, WritesCore, WritesMember, WritesMembers, WritesParameter};
+ghost use Rattle.dw_cprint.specs.Kept.{WritesParameters, WritesDeclaration};
 ghost use Rattle.dw_cprint.specs.Shapes.{other, view_shape, view_subject, view_member};
 ghost use Rattle.dw_cprint.specs.Wrong.{is_array, is_function, shape_of};
 
@@ -34,7 +36,8 @@ impl<'a> Survey<'a> {
     fn shape_within(&self, entry: usize, depth: usize) -> Option<(&Shape<'a>, usize)>
         ensures below { IfSome result (λ found. found.1 < depth) }
         ensures found { MatchOption result (kept_term self.now depth (Some entry) ≡ None)
-            (λ found. kept_term self.now depth (Some entry) ≡ term_by (kept_term self.now found.1) (view_shape found.0.now)) }
+            (λ found. kept_term self.now depth (Some entry)
+            ≡ term_by (kept_term self.now found.1) (view_shape found.0.now)) }
     {
         let below = depth.checked_sub(1)?;
         let shape = self.kept_shape(entry)?;

@@ -14,11 +14,11 @@ use Rattle.dw_entries.specs.Tree.{Node, node_bytes, leaf, parent}
 use Rattle.dw_entries.specs.Items.{Item, entry, null, AreItems, decl_of, item_bytes, items_bytes, node_items, depth_along, root_depth, tree_depth}
 use Rattle.dw_entries.specs.Reading.{seen, item_at, first_at}
 use Rattle.dw_entries.specs.Units.{nulls_bytes, head_of}
-use Rattle.dw_entries.specs.Faults.{Front, in_unit, Stops, BodyFails}
+use Rattle.dw_entries.specs.Faults.{Front, in_unit, BodyFails}
 use Rattle.dw_entries.specs.Walk.{Walk, walk_of, link_last, open_list, enter, leave, step, walk_along}
 use Rattle.dw_entries.specs.Stopped.{TreeOf}
 use Rattle.dw_entries.specs.Records.{node_records}
-use Rattle.dw_entries.specs.ReadingLaws.{item_some, item_takes, first_takes, seen_ok, seen_err, seen_entry, item_shorter}
+use Rattle.dw_entries.specs.ReadingLaws.{item_some, item_takes, first_takes, seen_ok, seen_entry, item_shorter}
 use Rattle.dw_entries.proofs.ItemLaws.{items_bytes-append, AreItems-append, node_of, node_spelled, nulls_spelled, depth_along-append}
 use Rattle.dw_entries.proofs.WalkLaws.{length-link_last, along_root}
 
@@ -113,21 +113,6 @@ along_end t kind unit at body old rest w a e =
       records = ap (λ (x : Walk). x.records) (sym a.walked ∙ ap (λ (js : List Item). walk_along t.table unit at js start) (sym items) ∙ end);
     }
 
-stops_inside : (t : Context) (kind : HeaderKind) (i : Item) (is : List Item) (rest : List ℕ) (ls : List Level) (f : Failing) → ls ≢ [] → item_at t rest ≡ Err f → Stops t kind (i ∷ is) rest (length ls) f
-stops_inside t kind i is rest [] f more e = absurd (more refl)
-stops_inside t kind i is rest (l ∷ ls) f more e = e
-
-pub along_fault : (t : Context) (kind : HeaderKind) (unit header start : ℕ) (body : List ℕ) (old : List Record) (rest : List ℕ) (w : Walk) (f : Failing) (fault : Broken) → start ≡ header + header_size kind → Along t kind unit start body old rest w → w.levels ≢ [] → item_at t rest ≡ Err f → fault ≡ in_unit f header (start + (length body - length rest)) → BodyFails t kind header body fault
-along_fault t kind unit header start body old rest w f fault s a more read e = record {
-  items = entry a.first ∷ a.others;
-  rest = rest;
-  depth = length w.levels;
-  failing = f;
-  front = a.front;
-  stops = stops_inside t kind (entry a.first) a.others rest w.levels f more read;
-  is = e ∙ ap (λ (k : ℕ). in_unit f header (start + k)) (sym (taken t kind unit start body old rest w a)) ∙ ap (λ (k : ℕ). in_unit f header (k + length (items_bytes (entry a.first ∷ a.others)))) s;
-}
-
 pub first_fault : (t : Context) (kind : HeaderKind) (header start : ℕ) (body : List ℕ) (f : Failing) (fault : Broken) → start ≡ header + header_size kind → first_at t kind body ≡ Err f → fault ≡ in_unit f header start → BodyFails t kind header body fault
 first_fault t kind header start body f fault s read e = record {
   items = [];
@@ -157,10 +142,6 @@ next_turn t kind unit at body old rest records levels more above after a some re
 
 pub turn_shorter : {B : Type 0} (f : Item → B) (t : Context) (rest : List ℕ) (y : B) (after : List ℕ) → seen f (item_at t rest) ≡ Ok (y, after) → length after < length rest
 turn_shorter f t rest y after read = let (i, was, is) = seen_ok f (item_at t rest) y after read in item_shorter t rest i after was
-
-pub turn_fault : (t : Context) (kind : HeaderKind) (unit header start : ℕ) (body : List ℕ) (old : List Record) (rest : List ℕ) (records : List Record) (levels : List Level) (f : Failing) (fault : Broken) → start ≡ header + header_size kind → Along t kind unit start body old rest (walk_of records levels) → levels ≢ [] → seen (λ i. step t.table unit (start + (length body - length rest)) i (walk_of records levels)) (item_at t rest) ≡ Err f → fault ≡ in_unit f header (start + (length body - length rest)) → BodyFails t kind header body fault
-turn_fault t kind unit header start body old rest records levels f fault s a some read e =
-    along_fault t kind unit header start body old rest (walk_of records levels) f fault s a (reverse_some levels some) (seen_err (λ i. step t.table unit (start + (length body - length rest)) i (walk_of records levels)) (item_at t rest) f read) e
 
 -- what a test for an empty list says
 pub some_from : {A : Type 0} (xs : List A) (n : ℕ) → n ≡ length xs → false ≡ (n == 0) → xs ≢ []

@@ -10,7 +10,8 @@ use Rattle.dw_entries.specs.Entries.{entries_of}
 use Rattle.dw_entries.specs.Scanned.{record_of, Scanned, units_of}
 use Rattle.dw_entries.specs.Runs.{IsEntryAt}
 use Rattle.dw_entries.specs.Hints.{IsFirstFrom, AreHints}
-use Rattle.dw_entries.proofs.EntryFacts.{kept_get, three_ways, entries_rise}
+use Rattle.dw_entries.proofs.NumberOrder.{three_ways}
+use Rattle.dw_entries.proofs.EntryFacts.{kept_get, entries_rise}
 use Rattle.dw_entries.proofs.HeadLaws.{head_stands, stands_within}
 use Rattle.dw_entries.proofs.KeptLaws.{KeptEntry, kept_entry, record_is}
 

@@ -1,7 +1,7 @@
 -- The first failure of rules that are asked of entries one by one.
-use Rattle.std.proofs.Common.{◌≡◌, ℕ, ◌+◌, ◌<◌, ◌≤◌, List, length, Option, Some, refl, sym, ap, ◌∙◌, arith, subst, eq-or-lt_of_le, inl, inr, ◌⊎◌, get_or}
+use Rattle.std.proofs.Common.{◌≡◌, ℕ, ◌+◌, ◌<◌, ◌≤◌, List, length, Option, Some, refl, sym, ap, ◌∙◌, arith, subst, eq-or-lt_of_le, inl, inr, ◌⊎◌}
 use Rattle.std.specs.Prelude.{slice_get}
-use Rattle.std.proofs.lemmas.Option.{slice_get_within, slice_get-get_or}
+use Rattle.std.proofs.lemmas.Option.{slice_get_within}
 use Rattle.dw_forms.specs.Value.{Datum}
 use Rattle.dw_entries.specs.declared.rule.Rule.{Rule}
 use Rattle.dw_entries.specs.declared.fault.Broken.{Broken}
@@ -10,6 +10,7 @@ use Rattle.dw_entries.specs.Entries.{Entry}
 use Rattle.dw_entries.specs.Places.{Place, at_header, at_entry, at_attribute, IsBefore, offset_of}
 use Rattle.dw_entries.specs.Failures.{Failure, Precedes, Names, HasNone, IsFirst, IsLeast}
 use Rattle.dw_entries.specs.Asked.{OffsetsRise, values_of, HasAttribute, AtAttributes, InList, AtEntries}
+use Rattle.dw_entries.proofs.NumberOrder.{three_ways}
 
 -- the place is the entry at this offset, or an attribute of it
 abbrev pub IsAt : ℕ → Place → Type 0
@@ -42,9 +43,6 @@ precedes_le a b f g at_f at_g precedes =
       | inl before ↦ before_le a b f.place g.place at_f at_g before
       | inr same ↦ same_place a b f.place g.place at_f at_g same.0
     ]
-
-three_ways : (i j : ℕ) → ((i < j) ⊎ (i ≡ j)) ⊎ (j < i)
-three_ways i j = grind arith
 
 pub same_some : {X : Type 0} (o : Option X) (x y : X) → o ≡ Some x → o ≡ Some y → x ≡ y
 same_some o x y p q = cc
@@ -174,23 +172,3 @@ none_of_attributes Fails entry passed f fails =
 
 pub attributes_stand : (Fails : Entry → ℕ → Datum → Rule → Type 0) (e : Entry) (f : Failure) → AtAttributes Fails e f → IsAt e.at f.place
 attributes_stand Fails e f fails = let P : Place → Type 0 = λ p. IsAt e.at p in subst P (sym fails.place) refl
-
--- the attribute that stands at a place of the list
-pub attribute_at : (entry : Entry) (items : List (ℕ × Datum)) (k : ℕ) (d : ℕ × Datum) → items ≡ values_of entry.head → k < length items
-    → HasAttribute entry k (get_or items k d).0 (get_or items k d).1
-attribute_at entry items k d same within =
-    ap (λ (xs : List (ℕ × Datum)). slice_get xs k) (sym same) ∙ slice_get-get_or items k d within
-
-pub more_attributes : (Fails : Entry → ℕ → Datum → Rule → Type 0) (entry : Entry) (items : List (ℕ × Datum)) (k : ℕ) (d : ℕ × Datum) → items ≡ values_of entry.head → k < length items
-    → ((j a : ℕ) (v : Datum) → j < k → HasAttribute entry j a v → (r : Rule) → Fails entry a v r → ⊥)
-    → ((r : Rule) → Fails entry (get_or items k d).0 (get_or items k d).1 r → ⊥)
-    → (j a : ℕ) (v : Datum) → j < k + 1 → HasAttribute entry j a v → (r : Rule) → Fails entry a v r → ⊥
-more_attributes Fails entry items k d same within passed here j a v below has r fails =
-    elim (eq-or-lt_of_le (let p : j ≤ k = omega arith in p)) [
-      | inl is ↦
-          let at_k : HasAttribute entry k a v = let P : ℕ → Type 0 = λ i. HasAttribute entry i a v in subst P is has in
-          let one = same_some (slice_get (values_of entry.head) k) (a, v) (get_or items k d) at_k (attribute_at entry items k d same within) in
-          let P : (ℕ × Datum) → Type 0 = λ q. Fails entry q.0 q.1 r in
-          here r (subst P one fails)
-      | inr less ↦ passed j a v less has r fails
-    ]

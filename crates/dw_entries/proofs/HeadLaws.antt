@@ -2,7 +2,7 @@
 use Rattle.std.proofs.Common.{◌≡◌, ℕ, zero, suc, ◌+◌, ◌<◌, List, [], ◌∷◌, ◌++◌, length, drop, Option, Some, None, Ok, refl, sym, ap, ◌∙◌, arith, length-append, length-drop, subst, append_assoc, append-nil, drop_at, drop-drop}
 use Rattle.std.specs.Prelude.{slice_get}
 use Rattle.std.specs.List.{flat_map, AllByRecursion}
-use Rattle.dw_entries.specs.Grammar.{Context, declared, head_bytes, attribute_bytes, IsHead}
+use Rattle.dw_entries.specs.Grammar.{Context, head_bytes, attribute_bytes, IsHead}
 use Rattle.dw_entries.specs.Header.{header_size, header_bytes}
 use Rattle.dw_entries.specs.HeaderLaws.{length-header}
 use Rattle.dw_entries.specs.Items.{entry}
@@ -99,10 +99,6 @@ pub head_stands : (a info : List ℕ) (us : List DebugUnit) (id : ℕ) (e : Entr
 head_stands a info us id e s is =
     all_get (Stands us info) (entries_of us) id e
     (units_stand us a info 0 0 0 us [] s.are (λ k v at_k. ap (slice_get us) (let e : 0 + k ≡ k = omega arith in e) ∙ at_k) (s.parts ∙ sym (append-nil (units_bytes us)))) is
-
--- what its declaration and its code are in the section
-pub stands_declared : (us : List DebugUnit) (info : List ℕ) (e : Entry) (s : Stands us info e) → declared (context_of s.unit) e.head.decl.code ≡ Some e.head.decl
-stands_declared us info e s = s.is.decl
 
 pub stands_code : (us : List DebugUnit) (info : List ℕ) (e : Entry) (s : Stands us info e) → seen (λ c. c.number) (code_at (drop e.at info)) ≡ Ok (e.head.decl.code, flat_map attribute_bytes e.head.attributes ++ s.after)
 stands_code us info e s =

@@ -1,3 +1,5 @@
+pub mod NumberOrder
+pub mod StopLaws
 pub mod ItemLaws
 pub mod FaultLaws
 pub mod ReadingSteps
@@ -22,4 +24,3 @@ pub mod LeftLaws
 pub mod UnitTurns
 pub mod FindLaws
 pub mod RunLaws
-pub mod FirstEntries

@@ -1,5 +1,5 @@
 -- The nulls after a unit's tree.
-use Rattle.std.proofs.Common.{◌≡◌, ◌≢◌, ℕ, ◌+◌, ◌-◌, ◌<◌, map, true, false, List, [], ◌∷◌, ◌++◌, length, Ok, refl, sym, ap, ◌∙◌, append_assoc, append-nil, arith, length-append}
+use Rattle.std.proofs.Common.{◌≡◌, ℕ, ◌+◌, ◌-◌, ◌<◌, map, true, List, [], ◌∷◌, ◌++◌, length, Ok, refl, sym, ap, ◌∙◌, append_assoc, append-nil, arith, length-append}
 use Rattle.std.proofs.lemmas.List.Concat.{flat_map-append}
 use Rattle.dw_entries.specs.declared.record.Record.{Record}
 use Rattle.dw_entries.specs.declared.header.HeaderKind.{HeaderKind}
@@ -9,7 +9,7 @@ use Rattle.dw_entries.specs.Grammar.{Context}
 use Rattle.dw_entries.specs.Header.{fits_tag, header_size}
 use Rattle.dw_entries.specs.Tree.{Node, leaf, parent, node_bytes}
 use Rattle.dw_entries.specs.Items.{Item, null, items_bytes, node_items}
-use Rattle.dw_entries.specs.Reading.{Code, seen, code_at, null_first}
+use Rattle.dw_entries.specs.Reading.{Code, seen, code_at}
 use Rattle.dw_entries.specs.Units.{AreNulls, nulls_bytes, head_of}
 use Rattle.dw_entries.specs.Faults.{FitsUnit, in_unit, BodyFails}
 use Rattle.dw_entries.specs.Stopped.{TreeOf, AreAllNulls, NullsThen}
@@ -29,9 +29,6 @@ AreNulls-append : (zs ws : List (List ℕ)) → AreNulls zs → AreNulls ws → 
 AreNulls-append [] ws p q = q
 AreNulls-append (z ∷ zs) ws p q = (p.0, AreNulls-append zs ws p.1 q)
 
-pub nulls_start : (bytes : List ℕ) → NullsTo bytes bytes
-nulls_start bytes = record { nulls = []; are = tt; parts = refl }
-
 pub nulls_next : (bytes rest after : List ℕ) → NullsTo bytes rest → seen (λ c. c.number) (code_at rest) ≡ Ok (0, after) → NullsTo bytes after
 nulls_next bytes rest after n e =
     let (c, was, zero_code) = seen_ok (λ (c : Code). c.number) (code_at rest) 0 after e in
@@ -47,12 +44,6 @@ null_shorter rest after e =
     let (c, was, zero_code) = seen_ok (λ (c : Code). c.number) (code_at rest) 0 after e in
     let took = code_takes rest c after was in
     omega (arith, ap length took.0, length-append c.bytes after, code_some c.bytes c.number took.1)
-
-pub nulls_end : (bytes rest : List ℕ) → NullsTo bytes rest → rest ≡ [] → AreAllNulls bytes
-nulls_end bytes rest n e = (n.nulls, n.are, n.parts ∙ ap (λ (b : List ℕ). nulls_bytes n.nulls ++ b) e ∙ append-nil (nulls_bytes n.nulls))
-
-pub nulls_then : (bytes rest : List ℕ) → NullsTo bytes rest → rest ≢ [] → null_first (code_at rest) ≡ false → NullsThen bytes rest
-nulls_then bytes rest n more other = record { nulls = n.nulls; are = n.are; parts = n.parts; more = more; other = other }
 
 -- ---- the tree and the nulls
 

@@ -1,5 +1,5 @@
 -- The entries of one unit, by their offsets.
-use Rattle.std.proofs.Common.{◌≡◌, ℕ, ◌+◌, ◌<◌, ◌≤◌, ◌^◌, List, length, get_or, Option, Some, None, refl, sym, ap, subst, ◌∙◌, arith, inl, inr, ◌⊎◌}
+use Rattle.std.proofs.Common.{◌≡◌, ℕ, ◌+◌, ◌<◌, ◌≤◌, ◌^◌, List, length, get_or, Option, Some, None, refl, sym, ap, subst, ◌∙◌, arith, inl, inr}
 use Rattle.std.specs.Prelude.{slice_get, IfSome}
 use Rattle.dw_forms.specs.Abbrev.{Declaration}
 use Rattle.dw_entries.specs.declared.record.Record.{Record}
@@ -9,6 +9,7 @@ use Rattle.dw_entries.specs.Entries.{Entry, entries_of, PlacedUnit, placed}
 use Rattle.dw_entries.specs.Scanned.{record_of, records_of, IsKept, Scanned, units_of}
 use Rattle.dw_entries.specs.Runs.{IsEntryAt, IsEntryIn, ReachesInUnit}
 use Rattle.dw_entries.specs.Asked.{OffsetsRise}
+use Rattle.dw_entries.proofs.NumberOrder.{three_ways}
 use Rattle.dw_entries.proofs.HeadLaws.{head_stands, stands_within}
 use Rattle.dw_entries.proofs.KeptLaws.{KeptUnit, read_is}
 use Rattle.dw_entries.proofs.EntryFacts.{kept_get}
@@ -22,9 +23,6 @@ record_kept a info tables rs records s number k u read = let P : UnitRecord → 
 
 same_some : {X : Type 0} (o : Option X) (x y : X) → o ≡ Some x → o ≡ Some y → x ≡ y
 same_some o x y p q = cc
-
-three_ways : (i j : ℕ) → ((i < j) ⊎ (i ≡ j)) ⊎ (j < i)
-three_ways i j = grind arith
 
 -- one entry at most begins at an offset
 pub one_at : (entries : List Entry) (offset i j : ℕ) → OffsetsRise entries → IsEntryAt entries offset i → IsEntryAt entries offset j → i ≡ j

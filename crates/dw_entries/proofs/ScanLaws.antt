@@ -20,7 +20,6 @@ use Rattle.dw_entries.specs.HeaderLaws.{length-header}
 use Rattle.dw_entries.specs.Units.{DebugUnit, body_bytes, unit_bytes, IsUnit, AreUnits, units_bytes}
 use Rattle.dw_entries.specs.Entries.{node_count, PlacedUnit, placed_from, placed}
 use Rattle.dw_entries.specs.Records.{node_records, records_from, records_kept}
-use Rattle.dw_entries.specs.Faults.{FailsHere, Fails}
 use Rattle.dw_entries.specs.Scanned.{IsKept, Scanned}
 use Rattle.dw_entries.specs.Stopped.{IfBroken, UnitTaken}
 use Rattle.dw_entries.proofs.OrderLaws.{few_entries}
@@ -162,26 +161,12 @@ upto_end a info header kept u e =
     let whole : info ≡ units_bytes u.units = u.parts ∙ ap (λ (x : List ℕ). units_bytes u.units ++ x) (drop_of_length-le info e) ∙ append-nil (units_bytes u.units) in
     (u.units, record { spells = record { are = u.are; parts = whole }; kept = u.unit_records; entries = u.places ∙ sym (records_kept u.units) })
 
-pub upto_fault : (a info : List ℕ) (header : ℕ) (kept : Kept) (b : Break) → Upto a info header kept → header < length info → IfBroken (FailsHere a header (drop header info)) b → IfBroken (Fails a info) b
-upto_fault a info header kept Memory u lt here = tt
-upto_fault a info header kept (Breaks b) u lt here = record {
-  units = u.units;
-  rest = drop header info;
-  are = u.are;
-  parts = u.parts;
-  more = λ e. omega (arith, ap length e, length-drop header info);
-  fails = rw (← u.at) here;
-}
-
 pub unit_within : (a info : List ℕ) (header : ℕ) (old new : Kept) (len : ℕ) → header ≤ length info → UnitTaken a (drop header info) header old new len → header + len ≤ length info
 unit_within a info header old new len le t = omega (arith, t.len_is, length-drop header info, ap length t.parts, length-append (unit_bytes t.taken) t.after)
 
 -- the rest of a slice
 pub rest_of : (n : ℕ) (s : List ℕ) → n ≤ length s → take (length s - n) (drop n s) ≡ drop n s
 rest_of n s le = take_all _ (drop n s) (omega (arith, length-drop n s))
-
-pub unit_some : (a rest : List ℕ) (at : ℕ) (old new : Kept) (len : ℕ) → UnitTaken a rest at old new len → 0 < len
-unit_some a rest at old new len t = omega (arith, t.len_is, some_bytes t.taken)
 
 pub none_broken : (P : Broken → Type 0) (e : Break) (b : Broken) → e ≡ Breaks b → IfBroken P e → P b
 none_broken P Memory b e p = absurd cc

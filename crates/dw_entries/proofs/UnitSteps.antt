@@ -1,6 +1,5 @@
 -- What taking a unit rests on.
-use Rattle.std.proofs.Common.{◌≡◌, ℕ, ◌+◌, ◌<◌, ◌≤◌, List, [], ◌∷◌, ◌++◌, length, Option, Some, None, Result, Ok, Err, refl, sym, ap, ◌∙◌, append_assoc, append-nil, arith, length-append}
-use Rattle.dw_forms.specs.declared.abbrev_fault.BrokenTable.{BrokenTable}
+use Rattle.std.proofs.Common.{◌≡◌, ℕ, ◌+◌, ◌<◌, ◌≤◌, List, [], ◌∷◌, ◌++◌, length, Option, Some, None, Ok, refl, sym, ap, ◌∙◌, append_assoc, append-nil, arith, length-append}
 use Rattle.dw_forms.specs.Abbrev.{Declaration}
 use Rattle.dw_forms.specs.AbbrevReading.{table_at}
 use Rattle.std.proofs.lemmas.Option.{slice_get_within}
@@ -8,9 +7,6 @@ use Rattle.std.specs.Prelude.{slice_get}
 use Rattle.dw_entries.specs.declared.record.UnitRecord.{UnitRecord}
 use Rattle.dw_entries.specs.declared.record.Kept.{Kept}
 use Rattle.dw_entries.specs.Tables.{tables_of, IsTableAt, AreTables, GrowsByOne}
-use Rattle.dw_entries.specs.declared.rule.Rule.{Rule}
-use Rattle.dw_entries.specs.declared.fault.Break.{Break}
-use Rattle.dw_entries.specs.declared.fault.Break.TheVariants.{Memory, Broken as Breaks}
 use Rattle.dw_entries.specs.declared.header.UnitHeader.{UnitHeader}
 use Rattle.dw_entries.specs.Header.{IsSize, header_size, header_bytes, header_fields, header_at}
 use Rattle.dw_entries.specs.Records.{node_records}
@@ -18,8 +14,7 @@ use Rattle.byteorder.specs.Endian.{little_bytes}
 use Rattle.byteorder.specs.Numbers.{length-bytes_low_first}
 use Rattle.dw_entries.specs.HeaderLaws.{length-header}
 use Rattle.dw_entries.specs.Units.{DebugUnit, context_by, body_bytes}
-use Rattle.dw_entries.specs.Faults.{in_header, FailsBehind, FailsHere, BodyFails}
-use Rattle.dw_entries.specs.Stopped.{IfBroken, as_broken, BreaksBy, TreeOf, UnitTaken}
+use Rattle.dw_entries.specs.Stopped.{TreeOf, UnitTaken}
 use Rattle.dw_entries.proofs.HeaderReads.{AreBytes, header_takes}
 
 -- the table that is read from the tables is the one of the offset
@@ -77,20 +72,3 @@ module _ (a rest : List ℕ) (h : UnitHeader) (body : List ℕ) (bytes : AreByte
         tables = tables;
         stay = stay;
       }
-
-  pub body_fault : (at : ℕ) (table : List Declaration) (b : Break) → table_at a h.abbrev_offset ≡ Ok table → IfBroken (BodyFails (context_by h table) h.kind at body) b → IfBroken (FailsHere a at rest) b
-  body_fault at table Memory known f = tt
-  body_fault at table (Breaks b) known f =
-      let behind : FailsBehind at h body (table_at a h.abbrev_offset) b = rw known f in
-      rw read behind
-
-  pub table_fault : (at : ℕ) (b : Break) → BreaksBy b (table_at a h.abbrev_offset) → IfBroken (FailsHere a at rest) b
-  table_fault at Memory f = tt
-  table_fault at (Breaks b) f = rw read (behind (table_at a h.abbrev_offset) f)
-    where
-      behind : (r : Result (List Declaration) BrokenTable) → as_broken r ≡ Err b → FailsBehind at h body r b
-      behind (Ok t) e = absurd cc
-      behind (Err fault) e = cc
-
-pub header_fault : (a rest : List ℕ) (at : ℕ) (rule : Rule) → header_at (length a) rest ≡ Err rule → FailsHere a at rest (in_header rule at)
-header_fault a rest at rule read = rw read refl

@@ -71,10 +71,14 @@ pub record IsFault (P : Broken → Type 0) (f : Fault) : Type 0 where
   pub holds : P (broken_of f)
   pub cycle : f.cycle.items ≡ []
 
--- this holds of the fault, where memory did not run out
+-- this holds of the fault, unless memory ran out
+abbrev pub IfFaulty : (Fault → Type 0) → Stop → Type 0
+IfFaulty P stops.Memory = Unit {0}
+IfFaulty P (stops.Fault fault) = P fault
+
+-- the same of a fault without a cycle
 abbrev pub IfFault : (Broken → Type 0) → Stop → Type 0
-IfFault P stops.Memory = Unit {0}
-IfFault P (stops.Fault f) = IsFault P f
+IfFault P = IfFaulty (IsFault P)
 
 -- what a table's fault is, in the words of all rules
 abbrev pub as_broken : Result (List Declaration) BrokenTable → Result (List Declaration) Broken

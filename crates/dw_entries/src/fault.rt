@@ -1,10 +1,11 @@
 //! The first place where a rule is broken.
 
 ghost use Rattle.std.specs.Prelude.{◌≡◌};
-ghost use Rattle.dw_entries.specs.declared.fault.Stop.TheVariants.{Memory};
+ghost use Rattle.dw_entries.specs.declared.fault.Stop.TheVariants.{Memory, Fault as Faulty};
+ghost use Rattle.dw_entries.specs.Stopped.{IsFault};
 
 use crate::rule::Rule;
-use std::alloc::{AllocError, AllocFailed};
+use std::alloc::{AllocError, AllocFailed, Global};
 
 /// The section in which a fault stands: .debug_abbrev for a table's, .debug_info for all others.
 #[derive(Clone, Copy, Debug, PartialEq, Eq)]
@@ -64,6 +65,21 @@ pub struct Broken {
     pub attribute: u16,
 }
 
+impl Broken {
+    /// The fault that names this rule. It has no cycle.
+    pub fn into_fault(self, alloc: Global) -> Fault
+        ensures { IsFault (λ broken. broken ≡ self) result }
+    {
+        Fault {
+            rule: self.rule,
+            section: self.section,
+            at: self.at,
+            attribute: self.attribute,
+            cycle: Vec::new(alloc),
+        }
+    }
+}
+
 /// Why a unit is not taken.
 #[derive(Debug, Drop)]
 pub enum Break {
@@ -104,5 +120,13 @@ impl<T: Drop> From<AllocFailed<T>> for Stop {
 
     fn from(_e: AllocFailed<T>) -> Stop {
         Stop::Memory
+    }
+}
+
+impl From<Fault> for Stop {
+    ghost from_gives = { λ fault e. e ≡ Faulty fault };
+
+    fn from(fault: Fault) -> Stop {
+        Stop::Fault(fault)
     }
 }

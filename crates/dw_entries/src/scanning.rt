@@ -11,7 +11,7 @@ ghost use Rattle.dw_entries.specs.Units.{DebugUnit, Spells};
 ghost use Rattle.dw_entries.specs.Views.{sections_of};
 
 use crate::entries::Entries;
-use crate::fault::{Break, Fault, Stop};
+use crate::fault::{Break, Stop};
 use crate::hints::read_hints;
 use crate::record::Kept;
 use crate::tables::Tables;
@@ -46,24 +46,17 @@ pub fn scan<'a>(alloc: Global, sections: &Sections<'a>) -> Result<Entries<'a>, S
     ensures fault { IfErr result (IfFault (Fails sections.now.«abbrev».now sections.now.info.now)) }
     ensures none { IfErr result (IfFault (λ _. (units : List DebugUnit) → Spells sections.now.«abbrev».now units sections.now.info.now → ⊥)) }
 {
-    match scan_units(alloc, sections.abbrev, sections.info) {
-        Ok(kept) => {
-            let hints = read_hints(alloc, &kept.records, sections.info.len())?;
-            Ok(Entries {
-                sections: *sections,
-                tables: kept.tables.into_kept(),
-                units: kept.units,
-                records: kept.records,
-                hints,
-            })
-        }
-        Err(Break::Memory) => Err(Stop::Memory),
-        Err(Break::Broken(broken)) => Err(Stop::Fault(Fault {
-            rule: broken.rule,
-            section: broken.section,
-            at: broken.at,
-            attribute: broken.attribute,
-            cycle: Vec::new(alloc),
-        })),
-    }
+    let kept = match scan_units(alloc, sections.abbrev, sections.info) {
+        Ok(kept) => kept,
+        Err(Break::Memory) => return Err(Stop::Memory),
+        Err(Break::Broken(broken)) => return Err(Stop::Fault(broken.into_fault(alloc))),
+    };
+    let hints = read_hints(alloc, &kept.records, sections.info.len())?;
+    Ok(Entries {
+        sections: *sections,
+        tables: kept.tables.into_kept(),
+        units: kept.units,
+        records: kept.records,
+        hints,
+    })
 }

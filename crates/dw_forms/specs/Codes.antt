@@ -1,5 +1,5 @@
 -- Tags, attributes and languages by the standard's names (DWARF 5, 7.5.3, 7.5.4 and 7.12).
-use Rattle.std.specs.Prelude.{◌≡◌, ℕ, Bool, true, ◌==◌, ◌||◌}
+use Rattle.std.specs.Prelude.{ℕ, Bool, ◌==◌, ◌||◌}
 
 -- ---- tags (table 7.3)
 
@@ -154,10 +154,6 @@ is_type_tag tag =
     tag == DW_TAG_dynamic_type ||
     tag == DW_TAG_atomic_type ||
     tag == DW_TAG_immutable_type
-
--- entries with this tag are types
-abbrev pub IsTypeTag : ℕ → Type 0
-IsTypeTag tag = is_type_tag tag ≡ true
 
 -- ---- attributes (table 7.5)
 

@@ -1,7 +1,7 @@
 -- Functions that read a value from the front of bytes.
-use Rattle.std.proofs.Common.{◌≡◌, ℕ, ◌-◌, ◌≤◌, List, ◌++◌, length, take, drop, Result, Ok, Err, refl, sym, ap, subst, ◌∙◌, arith}
+use Rattle.std.proofs.Common.{◌≡◌, ℕ, ◌-◌, List, ◌++◌, length, take, Result, Ok, Err, refl, sym, ap, subst, ◌∙◌, arith}
 use Rattle.std.specs.Prelude.{MatchResult}
-use Rattle.std.proofs.lemmas.List.{take_at, drop_at, length-append}
+use Rattle.std.proofs.lemmas.List.{take_at, length-append}
 use Rattle.std.proofs.lemmas.Result.{MatchResult-at_ok, MatchResult-at_err}
 use Rattle.dw_forms.specs.Front.{BeginsWith, BeginsWithNone, Takes}
 
@@ -26,12 +26,6 @@ module _ {V E : Type 0} (read : List ℕ → Result (V × List ℕ) E) (Spells :
   pub reader_none : (bytes : List ℕ) (f : E) → read bytes ≡ Err f → BeginsWithNone Spells bytes
   reader_none bytes f e text rest v parts s = not_both (sym e ∙ ap read parts ∙ reader.again text rest v s)
 
-  pub reader_rest : (bytes : List ℕ) (v : V) (rest : List ℕ) → read bytes ≡ Ok (v, rest) → drop (length bytes - length rest) bytes ≡ rest
-  reader_rest bytes v rest e =
-      let t = takes bytes v rest e in
-      let len : length t.text ≡ length bytes - length rest = omega (arith, ap length t.parts, length-append t.text rest) in
-      ap (drop (length bytes - length rest)) t.parts ∙ drop_at t.text rest (length bytes - length rest) len
-
   pub reader_begins : (bytes : List ℕ) (v : V) (rest : List ℕ) → read bytes ≡ Ok (v, rest) → BeginsWith Spells bytes v (length bytes - length rest)
   reader_begins bytes v rest e =
       let t = takes bytes v rest e in
@@ -44,9 +38,6 @@ module _ {V E : Type 0} (read : List ℕ → Result (V × List ℕ) E) (Spells :
             let same_rest : rest' ≡ rest = ap (λ (p : V × List ℕ). p.1) same in
             (omega (arith, ap length parts', length-append text' rest', ap length same_rest), ap (λ (p : V × List ℕ). p.0) same);
       }
-
-  pub reader_shorter : (bytes : List ℕ) (v : V) (rest : List ℕ) → read bytes ≡ Ok (v, rest) → length rest ≤ length bytes
-  reader_shorter bytes v rest e = let t = takes bytes v rest e in omega (arith, ap length t.parts, length-append t.text rest)
 
 -- no spelling begins another
 pub reader_apart : {V E : Type 0} (read : List ℕ → Result (V × List ℕ) E) (Spells : List ℕ → V → Type 0) → ((text rest : List ℕ) (v : V) → Spells text v → read (text ++ rest) ≡ Ok (v, rest))

@@ -18,7 +18,7 @@ use Rattle.dw_forms.specs.LebReading.{uleb_at, sleb_at}
 use Rattle.dw_forms.specs.ValueFaults.{fault_of}
 use Rattle.dw_forms.specs.Value.{Datum, Layout, layout_of, fixed, leb, signed_leb, counted, leb_counted, ended, exactly, nothing, named, may_be_named, Fixed, Makes, Counted, Ended, Exactly, Named, SpellsPlain, Val, MayBeNamed, IsTooShort, LebFails, SignedFails, PlainFails, FailsIn, ValFails}
 use Rattle.dw_forms.specs.ValueReading.{fixed_at, with_rest, uleb_then, sleb_then, block_at, counted_at, leb_counted_at, text_at, layout_at, plain_at, named_at, value_at}
-use Rattle.dw_forms.specs.Readers.{IsReader, reader_fails, reader_none, reader_rest, reader_begins, reader_shorter}
+use Rattle.dw_forms.specs.Readers.{IsReader, reader_fails, reader_none, reader_begins}
 use Rattle.dw_forms.specs.Says.{bind_says, cond_says}
 use Rattle.dw_forms.specs.FormLaws.{bare, form_of-code_of, FormIs, form_of_says}
 use Rattle.dw_forms.specs.LebLaws.{uleb_says, uleb_again, sleb_says, sleb_again}
@@ -248,11 +248,5 @@ module _ (version : ℕ) (form : Form) (size : ℕ) (bytes : List ℕ) where
   pub value_none : (f : ValueFault) → value_at version form size bytes ≡ Err f → BeginsWithNone (Val version form size) bytes
   value_none f e = reader_none (value_at version form size) (Val version form size) (ValFails version form size) (value_reader version form size) bytes f e
 
-  pub value_rest : (v : Datum) (rest : List ℕ) → value_at version form size bytes ≡ Ok (v, rest) → drop (length bytes - length rest) bytes ≡ rest
-  value_rest v rest e = reader_rest (value_at version form size) (Val version form size) (ValFails version form size) (value_reader version form size) bytes v rest e
-
   pub value_begins : (v : Datum) (rest : List ℕ) → value_at version form size bytes ≡ Ok (v, rest) → BeginsWith (Val version form size) bytes v (length bytes - length rest)
   value_begins v rest e = reader_begins (value_at version form size) (Val version form size) (ValFails version form size) (value_reader version form size) bytes v rest e
-
-  pub value_shorter : (v : Datum) (rest : List ℕ) → value_at version form size bytes ≡ Ok (v, rest) → length rest ≤ length bytes
-  value_shorter v rest e = reader_shorter (value_at version form size) (Val version form size) (ValFails version form size) (value_reader version form size) bytes v rest e

@@ -2,22 +2,20 @@
 use Rattle.std.proofs.Common.{◌≡◌, subst, arith, inl, inr}
 use Rattle.dw_elf.specs.declared.sections.Sections.{Sections}
 use Rattle.dw_entries.specs.declared.fault.Fault.{Fault}
-use Rattle.dw_entries.specs.declared.fault.Stop.{Stop}
-use Rattle.dw_entries.specs.declared.fault.Stop.TheVariants as stops
 use Rattle.dw_entries.specs.declared.entries.Entries.{Entries}
 use Rattle.dw_entries.specs.Failures.{HasNone, IsFirst}
 use Rattle.dw_entries.specs.Scanned.{units_of}
-use Rattle.dw_entries.specs.Stopped.{IsFault, IfFault}
+use Rattle.dw_entries.specs.Stopped.{IsFault}
 use Rattle.dw_entries.specs.Views.{sections_of}
 use Rattle.dw_links.specs.Classes.{ClassFailures}
 use Rattle.dw_links.specs.Strings.{StringFailures}
 use Rattle.dw_links.specs.References.{ReferenceFailures}
 use Rattle.dw_image.specs.First.{Group, classes, strings, references, turn_of, IsFirstIn, IsFirstFault, in_group}
-use Rattle.dw_image.specs.Headline.{IsFaultOf, IfFaulty}
+use Rattle.dw_image.specs.Headline.{IsFaultOf}
 use Rattle.dw_image.specs.Measures.{FailsInTypes}
 use Rattle.dw_image.proofs.GroupLaws.{HoldBefore, none_before, one_more}
 use Rattle.dw_image.proofs.JoinLemmas.{fault_of}
-use Rattle.dw_image.proofs.OneFirst.{three_ways}
+use Rattle.dw_entries.proofs.NumberOrder.{three_ways}
 
 -- the first failure of a group, over the entries that a scan found
 faulty : (s : Sections) (entries : Entries) (group : Group) (fault : Fault) → entries.sections ≡ s
@@ -51,14 +49,13 @@ pub wrong_string : (s : Sections) (entries : Entries) (fault : Fault) → entrie
     → IsFault (IsFirst (StringFailures (sections_of entries) (units_of entries.scanned))) fault → IsFaultOf s fault
 wrong_string s entries fault same none first = faulty s entries strings fault same (before_strings entries none) first
 
-pub wrong_reference : (s : Sections) (entries : Entries) (stop : Stop) → entries.sections ≡ s → ClassesHold entries → StringsHold entries
-    → IfFault (IsFirst (ReferenceFailures (units_of entries.scanned))) stop → IfFaulty (IsFaultOf s) stop
-wrong_reference s entries stops.Memory same none nor first = tt
-wrong_reference s entries (stops.Fault fault) same none nor first = faulty s entries references fault same (before_references entries none nor) first
+pub wrong_reference : (s : Sections) (entries : Entries) (fault : Fault) → entries.sections ≡ s → ClassesHold entries → StringsHold entries
+    → IsFault (IsFirst (ReferenceFailures (units_of entries.scanned))) fault → IsFaultOf s fault
+wrong_reference s entries fault same none nor first = faulty s entries references fault same (before_references entries none nor) first
 
-wrong_types : (s : Sections) (entries : Entries) (fault : Fault) → entries.sections ≡ s → ClassesHold entries → StringsHold entries → HasNone (ReferenceFailures (units_of entries.scanned))
+pub wrong_type : (s : Sections) (entries : Entries) (fault : Fault) → entries.sections ≡ s → ClassesHold entries → StringsHold entries → HasNone (ReferenceFailures (units_of entries.scanned))
     → FailsInTypes (sections_of entries) (units_of entries.scanned) fault → IsFaultOf s fault
-wrong_types s entries fault same none nor neither fails =
+wrong_type s entries fault same none nor neither fails =
     faulty s entries fails.group fault same
     (λ earlier less. elim (three_ways 4 (turn_of earlier)) [
       | inl (inl late) ↦ fails.before earlier late less
@@ -66,8 +63,3 @@ wrong_types s entries fault same none nor neither fails =
       | inr early ↦ before_types entries none nor neither earlier (omega (arith, early))
     ])
     fails.first
-
-pub wrong_type : (s : Sections) (entries : Entries) (stop : Stop) → entries.sections ≡ s → ClassesHold entries → StringsHold entries → HasNone (ReferenceFailures (units_of entries.scanned))
-    → IfFaulty (FailsInTypes (sections_of entries) (units_of entries.scanned)) stop → IfFaulty (IsFaultOf s) stop
-wrong_type s entries stops.Memory same none nor neither fails = tt
-wrong_type s entries (stops.Fault fault) same none nor neither fails = wrong_types s entries fault same none nor neither fails

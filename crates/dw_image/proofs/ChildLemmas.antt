@@ -309,6 +309,3 @@ none_behind us id le = children_behind us id ∙ ap (λ xs. children_from xs id 
 -- the entry behind is the first child
 pub first_behind : (us : List DebugUnit) (id : ℕ) → siblings_from (entries_of us) id (Some (suc id)) ≡ children_from (entries_of us) id 0
 first_behind us id = sym (children_behind us id)
-
-pub linked_behind : (us : List DebugUnit) (id : ℕ) (d : Entry) → slice_get (entries_of us) (suc id) ≡ Some d → d.parent ≡ Some id → IsLinked (entries_of us) id (Some (suc id))
-linked_behind us id d there is = linked_there (entries_of us) id (suc id) d there is

@@ -26,7 +26,8 @@ use Rattle.dw_types.specs.Sizes.{size_to}
 use Rattle.dw_types.specs.SizeFaults.{breaks_size}
 use Rattle.dw_image.specs.First.{Group, classes, strings, references, shapes, cycles, sizes, turn_of, failures_of}
 use Rattle.dw_image.proofs.RuleLaws.{one_rule}
-use Rattle.dw_image.proofs.OneFirst.{three_ways, AreOneAtPlace, one_attribute}
+use Rattle.dw_entries.proofs.NumberOrder.{three_ways}
+use Rattle.dw_image.proofs.OneFirst.{AreOneAtPlace, one_attribute}
 
 -- ---- strings and addresses
 

@@ -18,7 +18,8 @@ use Rattle.dw_image.specs.Images.{sections_in, units_in, size_table_in}
 use Rattle.dw_image.specs.Valid.{SpellsInfo, HasSizes, IsValidBy, IsValid}
 use Rattle.dw_image.specs.First.{Group, classes, strings, references, shapes, cycles, sizes, turn_of, failures_of, FailsInTrees, IsFirstIn, FailsInGroup, IsFirstFault, in_trees, in_group, IsOneFault}
 use Rattle.dw_image.specs.Headline.{IsSpelled, IsImageOf, IsFaultOf}
-use Rattle.dw_image.proofs.OneFirst.{three_ways, one_first}
+use Rattle.dw_entries.proofs.NumberOrder.{three_ways}
+use Rattle.dw_image.proofs.OneFirst.{one_first}
 use Rattle.dw_image.proofs.GroupLaws.{one_group, one_at_place}
 use Rattle.dw_image.proofs.SizeLaws.{none_by_size}
 use Rattle.dw_image.proofs.CycleLaws.{no_cycle_holds, cycle_failure, cycle_fails, contained_of}

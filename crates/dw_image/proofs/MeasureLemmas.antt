@@ -2,10 +2,8 @@
 use Rattle.std.proofs.Common.{◌<◌, List, arith}
 use Rattle.dw_elf.specs.declared.sections.Sections.{Sections}
 use Rattle.dw_entries.specs.declared.fault.Fault.{Fault}
-use Rattle.dw_entries.specs.declared.fault.Stop.{Stop}
-use Rattle.dw_entries.specs.declared.fault.Stop.TheVariants as stops
 use Rattle.dw_entries.specs.Failures.{HasNone, IsFirst}
-use Rattle.dw_entries.specs.Stopped.{IsFault, IfFault}
+use Rattle.dw_entries.specs.Stopped.{IsFault}
 use Rattle.dw_entries.specs.Units.{DebugUnit}
 use Rattle.dw_types.specs.FactsOf.{facts_in}
 use Rattle.dw_types.specs.Graphs.{HasNoCycle}
@@ -14,7 +12,6 @@ use Rattle.dw_types.specs.SizeFaults.{IsFirstSizeFault}
 use Rattle.dw_types.specs.Steps.{by_value}
 use Rattle.dw_types.proofs.FactsLemmas.{facts-parents_first, facts-targets}
 use Rattle.dw_image.specs.First.{Group, classes, strings, references, shapes, cycles, sizes, turn_of, failures_of, NamesCycle}
-use Rattle.dw_image.specs.Headline.{IfFaulty}
 use Rattle.dw_image.specs.Measures.{FailsInTypes}
 use Rattle.dw_image.proofs.CycleLaws.{no_cycle_holds}
 use Rattle.dw_image.proofs.SizeLaws.{first_by_size}
@@ -38,25 +35,16 @@ cycles_late s us none nor shapes late less = none
 cycles_late s us none nor cycles late less = no_cycle_holds (facts_in us) nor
 cycles_late s us none nor sizes late less = absurd (omega (arith, less))
 
-wrong_shapes : (s : Sections) (us : List DebugUnit) (fault : Fault) → IsFault (IsFirst (ShapeFailures (facts_in us))) fault → FailsInTypes s us fault
-wrong_shapes s us fault first = record { group = shapes; late = omega arith; before = none_late s us; first = first }
-
-pub wrong_shape : (s : Sections) (us : List DebugUnit) (stop : Stop) → IfFault (IsFirst (ShapeFailures (facts_in us))) stop → IfFaulty (FailsInTypes s us) stop
-wrong_shape s us stops.Memory first = tt
-wrong_shape s us (stops.Fault fault) first = wrong_shapes s us fault first
+pub wrong_shape : (s : Sections) (us : List DebugUnit) (fault : Fault) → IsFault (IsFirst (ShapeFailures (facts_in us))) fault → FailsInTypes s us fault
+wrong_shape s us fault first = record { group = shapes; late = omega arith; before = none_late s us; first = first }
 
 pub contains_itself : (s : Sections) (us : List DebugUnit) (fault : Fault) → HasNone (ShapeFailures (facts_in us)) → NamesCycle (facts_in us) fault → FailsInTypes s us fault
 contains_itself s us fault none names = record { group = cycles; late = omega arith; before = shapes_late s us none; first = names }
 
-wrong_sizes : (s : Sections) (us : List DebugUnit) (fault : Fault) → HasNone (ShapeFailures (facts_in us)) → HasNoCycle (by_value (facts_in us)) → IsFault (IsFirstSizeFault (facts_in us)) fault → FailsInTypes s us fault
-wrong_sizes s us fault none nor first = record {
+pub wrong_size : (s : Sections) (us : List DebugUnit) (fault : Fault) → HasNone (ShapeFailures (facts_in us)) → HasNoCycle (by_value (facts_in us)) → IsFault (IsFirstSizeFault (facts_in us)) fault → FailsInTypes s us fault
+wrong_size s us fault none nor first = record {
   group = sizes;
   late = omega arith;
   before = cycles_late s us none nor;
   first = record { holds = first_by_size (facts_in us) (facts-parents_first us) (facts-targets us) _ first.holds; cycle = first.cycle };
 }
-
-pub wrong_size : (s : Sections) (us : List DebugUnit) (stop : Stop) → HasNone (ShapeFailures (facts_in us)) → HasNoCycle (by_value (facts_in us)) → IfFault (IsFirstSizeFault (facts_in us)) stop
-    → IfFaulty (FailsInTypes s us) stop
-wrong_size s us stops.Memory none nor first = tt
-wrong_size s us (stops.Fault fault) none nor first = wrong_sizes s us fault none nor first

@@ -1,5 +1,5 @@
 -- There is one first failure at most.
-use Rattle.std.proofs.Common.{◌≡◌, ℕ, ◌<◌, ◌⊎◌, List, Option, Some, sym, ap, ◌∙◌, arith, subst, inl, inr}
+use Rattle.std.proofs.Common.{◌≡◌, ℕ, ◌⊎◌, List, Option, Some, sym, ap, ◌∙◌, arith, subst, inl, inr}
 use Rattle.std.specs.Prelude.{slice_get}
 use Rattle.dw_forms.specs.Value.{Datum}
 use Rattle.dw_entries.specs.declared.rule.Rule.{Rule}
@@ -10,9 +10,7 @@ use Rattle.dw_entries.specs.Entries.{Entry}
 use Rattle.dw_entries.specs.Places.{Place, at_header, at_entry, at_attribute, IsBefore, offset_of}
 use Rattle.dw_entries.specs.Failures.{Failure, Names, IsFirst}
 use Rattle.dw_entries.specs.Asked.{OffsetsRise, HasAttribute, AtAttributes, AtEntries}
-
-pub three_ways : (i j : ℕ) → ((i < j) ⊎ (i ≡ j)) ⊎ (j < i)
-three_ways i j = grind arith
+use Rattle.dw_entries.proofs.NumberOrder.{three_ways}
 
 -- two places are one, or one of them comes first
 abbrev Compared : Place → Place → Type 0

@@ -1,4 +1,5 @@
--- The first fault of sections. Rules are asked in groups: a group is asked only where no rule of an earlier group fails.
+-- The first fault of sections. Rules are asked in groups: a group is asked only where no rule of an earlier group
+-- fails.
 use Rattle.std.specs.Prelude.{◌≡◌, ℕ, ◌<◌, ◌⊎◌, List, [], map, slice_index}
 use Rattle.dw_elf.specs.declared.sections.Sections.{Sections}
 use Rattle.dw_entries.specs.declared.fault.Fault.{Fault}
@@ -24,12 +25,13 @@ use Rattle.dw_types.specs.Sizes.{IsSizeTable}
 use Rattle.dw_types.specs.SizeFaults.{SizeFailures}
 use Rattle.dw_image.specs.Valid.{SpellsInfo}
 
--- a rule of tables, units or items fails there: whole units spell the bytes before, and no unit follows by the first check that fails
+-- a rule of tables, units or items fails there: whole units spell the bytes before, and no unit follows by the first
+-- check that fails
 abbrev pub FailsInTrees : Sections → Broken → Type 0
 FailsInTrees s broken = Fails s.«abbrev».now s.info.now broken
 
--- the groups of rules that are asked of entries, where units spell the sections: classes; strings and addresses; references;
--- the types of arrays and members, and counts; containment; sizes
+-- the groups of rules that are asked of entries, where units spell the sections: classes; strings and addresses;
+-- references; the types of arrays and members, and counts; containment; sizes
 pub data Group : Type 0 where
   classes : Group
   strings : Group
@@ -78,7 +80,8 @@ failures_of s units sizes = FailsBySize (facts_in units)
 pub record NamesCycle (facts : List Facts) (fault : Fault) : Type 0 where
   pub nodes : List ℕ
   pub is_cycle : IsCycle (by_value facts) nodes
-  pub named : broken_of fault ≡ record { rule = ContainsItself; section = Info; at = offset_at facts (slice_index nodes 0); attribute = 0 }
+  pub named : broken_of fault
+      ≡ record { rule = ContainsItself; section = Info; at = offset_at facts (slice_index nodes 0); attribute = 0 }
   pub cycle : fault.cycle.items ≡ map (offset_at facts) nodes
 
 -- a fault names the first failure of a group; of several cycles it names one

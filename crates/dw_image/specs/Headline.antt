@@ -6,8 +6,6 @@ use Rattle.dw_forms.specs.Codes.{DW_AT_str_offsets_base, DW_AT_addr_base}
 use Rattle.dw_forms.specs.Value.{Datum, str, line_str, str_index, addr_index}
 use Rattle.dw_entries.specs.declared.header.UnitHeader.{UnitHeader}
 use Rattle.dw_entries.specs.declared.fault.Fault.{Fault as FirstFault}
-use Rattle.dw_entries.specs.declared.fault.Stop.{Stop}
-use Rattle.dw_entries.specs.declared.fault.Stop.TheVariants as stops
 use Rattle.dw_entries.specs.Grammar.{IsHead, head_bytes}
 use Rattle.dw_entries.specs.Units.{DebugUnit, context_of}
 use Rattle.dw_entries.specs.Header.{version_of}
@@ -30,8 +28,8 @@ use Rattle.dw_image.specs.Images.{sections_in, units_in, size_table_in}
 use Rattle.dw_image.specs.Valid.{SpellsInfo, HasSizes, IsValid}
 use Rattle.dw_image.specs.First.{IsFirstFault}
 
--- an entry of these units stands at its offset of .debug_info, by a declared abbreviation and with its attributes in their
--- forms' grammar, as its unit's table, version and size of addresses have it
+-- an entry of these units stands at its offset of .debug_info, by a declared abbreviation and with its attributes in
+-- their forms' grammar, as its unit's table, version and size of addresses have it
 pub record IsSpelled (s : Sections) (units : List DebugUnit) (e : Entry) : Type 0 where
   pub unit : DebugUnit
   pub in_unit : slice_get units e.unit ≡ Some unit
@@ -39,8 +37,8 @@ pub record IsSpelled (s : Sections) (units : List DebugUnit) (e : Entry) : Type 
   pub rest : List ℕ
   pub stands : drop e.at s.info.now ≡ head_bytes e.head ++ rest
 
--- trees, abbreviations and forms: .debug_info is this list of units and no other, one tree of entries a unit, and each entry
--- is spelled there
+-- trees, abbreviations and forms: .debug_info is this list of units and no other, one tree of entries a unit, and each
+-- entry is spelled there
 pub record HasTrees (s : Sections) (units : List DebugUnit) : Type 0 where
   pub spelled : SpellsInfo s units
   pub only : (others : List DebugUnit) → SpellsInfo s others → others ≡ units
@@ -48,7 +46,8 @@ pub record HasTrees (s : Sections) (units : List DebugUnit) : Type 0 where
 
 -- each attribute of each entry, with its value
 abbrev pub EachValue : (Entry → ℕ → Datum → Type 0) → List Entry → Type 0
-EachValue P = EachEntry (λ e. (position attribute : ℕ) (v : Datum) → HasAttribute e position attribute v → P e attribute v)
+EachValue P =
+    EachEntry (λ e. (position attribute : ℕ) (v : Datum) → HasAttribute e position attribute v → P e attribute v)
 
 -- each value has one of the classes that its attribute may have in a unit of that version (DWARF 5, 7.5.4 and 7.5.5)
 abbrev pub HasClasses : List DebugUnit → Type 0
@@ -60,34 +59,38 @@ HasClasses units =
 abbrev pub HasStringAt : Sections → (base : Option ℕ) → ℕ → Type 0
 HasStringAt s None index = ⊥
 HasStringAt s (Some base) index =
-    IsStringContribution s base × (index < slot_count s.str_offsets.now 4 base) × Ends s.str.now (slot_at s.str_offsets.now 4 base index)
+    IsStringContribution s base × (index < slot_count s.str_offsets.now 4 base)
+    × Ends s.str.now (slot_at s.str_offsets.now 4 base index)
 
 -- an index is below the count of the unit's contribution to .debug_addr
 abbrev pub HasAddressAt : Sections → UnitHeader → (base : Option ℕ) → ℕ → Type 0
 HasAddressAt s header None index = ⊥
-HasAddressAt s header (Some base) index = IsAddressContribution s header base × (index < slot_count s.addr.now header.address_size base)
+HasAddressAt s header (Some base) index =
+    IsAddressContribution s header base × (index < slot_count s.addr.now header.address_size base)
 
 -- a string or an address is there, by the unit's contributions (DWARF 5, 7.26 and 7.27)
 abbrev pub LeadsToText : Sections → List Entry → PlacedUnit → Datum → Type 0
 LeadsToText s entries unit (str offset) = Ends s.str.now offset
 LeadsToText s entries unit (line_str offset) = Ends s.line_str.now offset
 LeadsToText s entries unit (str_index index) = HasStringAt s (base_in entries unit DW_AT_str_offsets_base) index
-LeadsToText s entries unit (addr_index index) = HasAddressAt s unit.unit.header (base_in entries unit DW_AT_addr_base) index
+LeadsToText s entries unit (addr_index index) =
+    HasAddressAt s unit.unit.header (base_in entries unit DW_AT_addr_base) index
 LeadsToText s entries unit _ = Unit {0}
 
 -- each string ends in its section, and each index has its slot
 abbrev pub HasTexts : Sections → List DebugUnit → Type 0
 HasTexts s units =
-    EachValue (λ e attribute v. (unit : PlacedUnit) → slice_get (placed units) e.unit ≡ Some unit → LeadsToText s (entries_of units) unit v) (entries_of units)
+    EachValue (λ e attribute v. (unit : PlacedUnit) → slice_get (placed units) e.unit ≡ Some unit
+    → LeadsToText s (entries_of units) unit v) (entries_of units)
 
--- references: each reaches one entry, of a permitted kind, and a sibling attribute the next sibling; signatures are distinct,
--- and a type begins at the type offset of each type unit (DWARF 5, 7.5.5)
+-- references: each reaches one entry, of a permitted kind, and a sibling attribute the next sibling; signatures are
+-- distinct, and a type begins at the type offset of each type unit (DWARF 5, 7.5.5)
 pub record HasReferences (units : List DebugUnit) : Type 0 where
   pub targets : HaveTargets units
   pub types : HaveTypes units
 
--- containment: arrays and members have their types and no count is below 0; no list of steps by value returns to its start,
--- where a step is from an entry to what it holds as its type, as the type of a plain member, or by its signature
+-- containment: arrays and members have their types and no count is below 0; no list of steps by value returns to its
+-- start, where a step is from an entry to what it holds as its type, as the type of a plain member, or by its signature
 pub record HoldsNoneOfItself (units : List DebugUnit) : Type 0 where
   pub shapes : HasNone (ShapeFailures (facts_in units))
   pub steps : (from to : ℕ) → IsStep (by_value (facts_in units)) from to ↔ IsStepByValue (facts_in units) from to
@@ -114,8 +117,3 @@ pub record IsFaultOf (s : Sections) (fault : FirstFault) : Type 0 where
 abbrev pub IsVerdictOf : Sections → Verdict → Type 0
 IsVerdictOf s (Sound image) = IsImageOf s image
 IsVerdictOf s (Fault fault) = IsFaultOf s fault
-
--- what is said of a stop: nothing where a growth was refused, else that its fault is of this kind
-abbrev pub IfFaulty : (FirstFault → Type 0) → Stop → Type 0
-IfFaulty P stops.Memory = Unit {0}
-IfFaulty P (stops.Fault fault) = P fault

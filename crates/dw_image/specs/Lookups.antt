@@ -1,5 +1,6 @@
 -- What the look-ups of an image answer, as functions of the list of its entries.
-use Rattle.std.specs.Prelude.{◌≡◌, ℕ, suc, ◌==◌, false, Bool, if◌then◌else◌, List, [], ◌∷◌, drop, slice_get, Option, Some, None, option_map}
+use Rattle.std.specs.Prelude.{◌≡◌, ℕ, suc, ◌==◌, false, Bool, if◌then◌else◌, List, [], ◌∷◌, drop, slice_get, Option}
+use Rattle.std.specs.Prelude.{Some, None, option_map}
 use Rattle.std.specs.Option.{ForSome, option_and_then}
 use Rattle.std.specs.List.{position_from}
 use Rattle.dw_forms.specs.Codes.{is_type_tag}
@@ -25,7 +26,8 @@ is_number id (Some p) = p == id
 -- the numbers of those of these entries, numbered from k on, whose parent is the entry with this number
 abbrev pub children_from : List Entry → ℕ → ℕ → List ℕ
 children_from [] id k = []
-children_from (e ∷ es) id k = if is_number id e.parent then k ∷ children_from es id (suc k) else children_from es id (suc k)
+children_from (e ∷ es) id k =
+    if is_number id e.parent then k ∷ children_from es id (suc k) else children_from es id (suc k)
 
 -- the numbers of an entry's children, in rising offset (DWARF 5, section 2.3)
 unfoldable pub children_of : List Entry → ℕ → List ℕ

@@ -30,5 +30,6 @@ pub record AreMeasures (facts : List Facts) (steps : Packed) (table : List Size)
 pub record FailsInTypes (s : Sections) (units : List DebugUnit) (fault : Fault) : Type 0 where
   pub group : Group
   pub late : 4 < turn_of group
-  pub before : (earlier : Group) → 4 < turn_of earlier → turn_of earlier < turn_of group → HasNone (failures_of s units earlier)
+  pub before : (earlier : Group) → 4 < turn_of earlier → turn_of earlier < turn_of group
+      → HasNone (failures_of s units earlier)
   pub first : IsFirstIn s units group fault

@@ -15,8 +15,8 @@ use Rattle.dw_types.specs.SizeTables.{Size}
 use Rattle.dw_types.specs.Sizes.{IsSizeTable}
 use Rattle.dw_types.specs.SizeFaults.{SizeFailures}
 
--- the units spell .debug_info by the tables of .debug_abbrev (DWARF 5, 7.5.1): a header each, a tree of entries with declared
--- abbreviations and attributes in their forms' grammar, and nulls
+-- the units spell .debug_info by the tables of .debug_abbrev (DWARF 5, 7.5.1): a header each, a tree of entries with
+-- declared abbreviations and attributes in their forms' grammar, and nulls
 abbrev pub SpellsInfo : Sections → List DebugUnit → Type 0
 SpellsInfo s units = Spells s.«abbrev».now units s.info.now
 
@@ -25,8 +25,8 @@ pub record HasSizes (facts : List Facts) (table : ℕ → Size) : Type 0 where
   pub one : IsSizeTable facts table
   pub none : HasNone (SizeFailures facts table)
 
--- the rules hold of sections that these units spell: those on trees, abbreviations and forms; on the classes of values; on
--- strings and addresses; on references; on the types of arrays and members, and on counts; on containment; on sizes
+-- the rules hold of sections that these units spell: those on trees, abbreviations and forms; on the classes of values;
+-- on strings and addresses; on references; on the types of arrays and members, and on counts; on containment; on sizes
 pub record IsValidBy (s : Sections) (units : List DebugUnit) : Type 0 where
   pub trees : SpellsInfo s units
   pub classes : HasNone (ClassFailures units)

@@ -37,7 +37,8 @@ impl<'i, 'a> Iterator for Children<'i, 'a> {
 /// Whether an entry is a child of another.
 fn is_child(entries: &Entries<'_>, id: EntryId, parent: EntryId) -> bool
     requires { id < length (entries_of (units_of entries.now.scanned)) }
-    ensures { IfSome (slice_get (entries_of (units_of entries.now.scanned)) id) (λ e. result ≡ is_number parent e.parent) }
+    ensures { IfSome (slice_get (entries_of (units_of entries.now.scanned)) id)
+        (λ e. result ≡ is_number parent e.parent) }
 {
     match entries.head(id).parent {
         Some(above) => above == parent,
@@ -48,7 +49,8 @@ fn is_child(entries: &Entries<'_>, id: EntryId, parent: EntryId) -> bool
 /// The first child of an entry: the entry behind it, if that is a child.
 fn first_child(entries: &Entries<'_>, id: EntryId) -> Option<EntryId>
     requires { id < length (entries_of (units_of entries.now.scanned)) }
-    ensures children { siblings_from (entries_of (units_of entries.now.scanned)) id result ≡ children_of (entries_of (units_of entries.now.scanned)) id }
+    ensures children { siblings_from (entries_of (units_of entries.now.scanned)) id result
+        ≡ children_of (entries_of (units_of entries.now.scanned)) id }
     ensures linked { IsLinked (entries_of (units_of entries.now.scanned)) id result }
 {
     match entries.nth(id.number() + 1) {

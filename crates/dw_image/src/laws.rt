@@ -12,7 +12,8 @@ ghost use Rattle.dw_image.specs.Images.{sections_in};
 
 /// Two lists of units that spell the same sections are one.
 pub fn one_list()
-    ensures { (s : Sections) (units others : List DebugUnit) → SpellsInfo s units → SpellsInfo s others → units ≡ others }
+    ensures { (s : Sections) (units others : List DebugUnit) → SpellsInfo s units → SpellsInfo s others
+        → units ≡ others }
 {}
 
 /// Sections are never both valid and faulty.
@@ -22,7 +23,8 @@ pub fn valid_has_no_fault()
 
 /// There is one first fault at most, where several cycles count as one.
 pub fn one_first_fault()
-    ensures { (s : Sections) (fault other : Fault) → IsFirstFault s fault → IsFirstFault s other → IsOneFault fault other }
+    ensures { (s : Sections) (fault other : Fault) → IsFirstFault s fault → IsFirstFault s other
+        → IsOneFault fault other }
 {}
 
 /// Each image has all that a sound verdict says, of the sections that it was made of.

@@ -44,7 +44,8 @@ impl<'a> Image<'a> {
     #[tactic(auto, unfolding(crate::specs::Images::units_in))]
     pub fn value(&self, id: EntryId, attribute: Attribute) -> Option<Value<'a>>
         requires { id < length (entries_in self.now) }
-        ensures { IfSome (slice_get (entries_in self.now) id) (λ e. option_map view result ≡ value_at_entry e attribute) }
+        ensures { IfSome (slice_get (entries_in self.now) id)
+            (λ e. option_map view result ≡ value_at_entry e attribute) }
     {
         self.entries.value(id, attribute)
     }
@@ -53,7 +54,8 @@ impl<'a> Image<'a> {
     #[tactic(auto, unfolding(crate::specs::Images::units_in))]
     pub fn target(&self, id: EntryId, attribute: Attribute) -> Option<EntryId>
         requires { id < length (entries_in self.now) }
-        ensures exact { IfSome (slice_get (entries_in self.now) id) (λ e. result ≡ target_of (entries_in self.now) (placed (units_in self.now)) e attribute) }
+        ensures exact { IfSome (slice_get (entries_in self.now) id)
+            (λ e. result ≡ target_of (entries_in self.now) (placed (units_in self.now)) e attribute) }
         ensures within { IfSome result (λ to. to < length (entries_in self.now)) }
     {
         self.tables.target(&self.entries, id, attribute)

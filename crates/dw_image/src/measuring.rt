@@ -3,12 +3,12 @@
 ghost use Rattle.std.specs.Prelude.{◌≡◌, ◌<◌, length, map, IfOk, IfErr};
 ghost use Rattle.dw_entries.specs.Entries.{entries_of};
 ghost use Rattle.dw_entries.specs.Scanned.{units_of};
+ghost use Rattle.dw_entries.specs.Stopped.{IfFaulty};
 ghost use Rattle.dw_entries.specs.Views.{sections_of};
 ghost use Rattle.dw_types.specs.FactsOf.{facts_in};
 ghost use Rattle.dw_types.specs.Graphs.{IsCycle};
 ghost use Rattle.dw_types.specs.Steps.{by_value};
 ghost use Rattle.dw_image.specs.First.{offset_at, NamesCycle};
-ghost use Rattle.dw_image.specs.Headline.{IfFaulty};
 ghost use Rattle.dw_image.specs.Measures.{AreMeasures, FailsInTypes};
 
 use dw_entries::{Entries, Fault, Rule, Section, Stop};
@@ -32,7 +32,8 @@ fn offsets_of(
     numbers: &[usize],
 ) -> Result<Vec<u32>, AllocError>
     requires { IsCycle (by_value (facts_in (units_of entries.now.scanned))) numbers.now }
-    ensures { IfOk result (λ offsets. offsets.items ≡ map (offset_at (facts_in (units_of entries.now.scanned))) numbers.now) }
+    ensures { IfOk result (λ offsets. offsets.items
+        ≡ map (offset_at (facts_in (units_of entries.now.scanned))) numbers.now) }
 {
     let mut offsets = Vec::with_capacity(alloc, numbers.len())?;
     for k in 0..numbers.len() {
@@ -69,20 +70,15 @@ pub fn measure(
     ensures sound { IfOk result (λ it. AreMeasures (facts_in (units_of entries.now.scanned)) it.0 it.1) }
     ensures fault { IfErr result (IfFaulty (FailsInTypes (sections_of entries.now) (units_of entries.now.scanned))) }
 {
-    let by_value = match ByValue::new(alloc, entries, links) {
-        Ok(by_value) => by_value,
-        Err(stop) => return Err(stop),
-    };
-    let steps = by_value.into_packed();
+    let steps = ByValue::new(alloc, entries, links)?.into_packed();
     match order(alloc, &steps) {
-        Ok(order) => match sizes(alloc, entries, links, &order) {
-            Ok(sizes) => Ok((steps, sizes)),
-            Err(stop) => Err(stop),
-        },
-        Err(OrderFault::Cycle(nodes)) => match cycle_fault(alloc, entries, nodes.as_slice()) {
-            Ok(fault) => Err(Stop::Fault(fault)),
-            Err(_) => Err(Stop::Memory),
-        },
+        Ok(order) => {
+            let sizes = sizes(alloc, entries, links, &order)?;
+            Ok((steps, sizes))
+        }
+        Err(OrderFault::Cycle(nodes)) => {
+            Err(Stop::Fault(cycle_fault(alloc, entries, nodes.as_slice())?))
+        }
         Err(OrderFault::Memory) => Err(Stop::Memory),
     }
 }

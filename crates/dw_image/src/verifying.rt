@@ -1,7 +1,8 @@
 //! The verdict on six sections: the groups of rules in their order.
 
 ghost use Rattle.std.specs.Prelude.{IfOk, IfErr};
-ghost use Rattle.dw_image.specs.Headline.{IsImageOf, IsFaultOf, IsVerdictOf, IfFaulty};
+ghost use Rattle.dw_entries.specs.Stopped.{IfFaulty};
+ghost use Rattle.dw_image.specs.Headline.{IsImageOf, IsFaultOf, IsVerdictOf};
 
 use crate::image::Image;
 use crate::measuring::measure;
@@ -20,26 +21,16 @@ pub enum Verdict<'a> {
     Fault(Fault),
 }
 
-/// Asks the groups of rules in their order.
+/// Checks the groups of rules in their order.
 fn image_of<'a>(alloc: Global, sections: Sections<'a>) -> Result<Image<'a>, Stop>
     ensures sound { IfOk result (IsImageOf sections.entry) }
     ensures fault { IfErr result (IfFaulty (IsFaultOf sections.entry)) }
 {
     let entries = scan(alloc, &sections)?;
-    if let Err(fault) = check_classes(alloc, &entries) {
-        return Err(Stop::Fault(fault));
-    }
-    if let Err(fault) = check_strings(alloc, &entries) {
-        return Err(Stop::Fault(fault));
-    }
-    let links = match link(alloc, &entries) {
-        Ok(links) => links,
-        Err(stop) => return Err(stop),
-    };
-    let (steps, sizes) = match measure(alloc, &entries, &links) {
-        Ok(measured) => measured,
-        Err(stop) => return Err(stop),
-    };
+    check_classes(alloc, &entries)?;
+    check_strings(alloc, &entries)?;
+    let links = link(alloc, &entries)?;
+    let (steps, sizes) = measure(alloc, &entries, &links)?;
     let tables = links.into_tables();
     Ok(Image {
         entries,

@@ -14,16 +14,13 @@ use Rattle.dw_entries.specs.Asked.{OffsetsRise}
 use Rattle.dw_entries.proofs.Firsts.{same_some}
 use Rattle.dw_links.specs.References.{HasSignature, Reaches, permits, permits_form, IsWrongKind, IsOtherThan, NoSignatureThere, ReferenceFails}
 use Rattle.dw_links.specs.Signatures.{IsFirstSigned, AreSignatures, AreDistinct}
-use Rattle.dw_links.proofs.Reached.{one_reached, signed_at}
+use Rattle.dw_links.proofs.Reached.{one_reached}
 
 -- no signature, by the table
 pub unsigned_if : (units : List PlacedUnit) (s below : ℕ) (table : BTreeMap ℕ ℕ) → AreSignatures units below table → length units ≤ below → None ≡ get nat_cmp table s → (n : ℕ) → HasSignature units s n → ⊥
 unsigned_if units s below table so all is n has =
     let P : Option ℕ → Type 0 = λ o. IsFirstSigned units s below o in
     (subst P (sym is) (so s)) n (let within = slice_get_within units n has.unit has.is_unit in omega (arith, within, all)) has
-
-pub signed_if : (units : List PlacedUnit) (s f below : ℕ) (table : BTreeMap ℕ ℕ) → AreSignatures units below table → Some f ≡ get nat_cmp table s → NoSignatureThere units (ref_sig s) → ⊥
-signed_if units s f below table so is none = none f (signed_at units below s f table so is)
 
 -- a reference that reaches an entry has its signature
 not_unsigned : (entries : List Entry) (units : List PlacedUnit) (entry : Head) (v : Datum) (id : ℕ) → Reaches entries units entry v id → NoSignatureThere units v → ⊥
@@ -45,11 +42,6 @@ not_unsigned entries units entry (sec_offset n) id reaches none = none
 not_unsigned entries units entry (expr n) id reaches none = none
 not_unsigned entries units entry (loc_index n) id reaches none = none
 not_unsigned entries units entry (rng_index n) id reaches none = none
-
--- R2
-pub wrong_target : (entries : List Entry) (units : List PlacedUnit) (entry : Head) (a : ℕ) (v : Datum) (id : ℕ) (target : Entry) → slice_get entries id ≡ Some target → Reaches entries units entry v id → permits entry a target ≡ false
-    → IsWrongKind entries units entry a v
-wrong_target entries units entry a v id target is reaches wrong = inr (record { id = id; target = target; is_target = is; reaches = reaches; wrong = wrong })
 
 pub not_wrong : (entries : List Entry) (units : List PlacedUnit) (entry : Head) (a : ℕ) (v : Datum) (id : ℕ) (target : Entry) → OffsetsRise entries → AreDistinct units → slice_get entries id ≡ Some target → Reaches entries units entry v id
     → permits_form entry a v ≡ true → permits entry a target ≡ true → IsWrongKind entries units entry a v → ⊥
@@ -125,12 +117,6 @@ by_rule entries units entry a v P p q s t rule.NoSize fails = absurd fails.1
 by_rule entries units entry a v P p q s t rule.SizeTooGreat fails = absurd fails.1
 by_rule entries units entry a v P p q s t rule.MemberOutside fails = absurd fails.1
 by_rule entries units entry a v P p q s t rule.EnumSize fails = absurd fails.1
-
--- the least rule
-pub least_wrong : (entries : List Entry) (units : List PlacedUnit) (entry : Head) (a : ℕ) (v : Datum) (id : ℕ) → Reaches entries units entry v id
-    → (r : Rule) → ReferenceFails entries units entry a v r → number_of r < 2 → ⊥
-least_wrong entries units entry a v id reaches =
-    by_rule entries units entry a v (λ r. number_of r < 2 → ⊥) (λ fails less. fails.1.1 id reaches) (λ fails less. omega (arith, less)) (λ fails less. omega (arith, less)) (λ fails less. omega (arith, less))
 
 pub least_other : (entries : List Entry) (units : List PlacedUnit) (entry : Head) (a : ℕ) (v : Datum) (id : ℕ) → Reaches entries units entry v id → (IsWrongKind entries units entry a v → ⊥)
     → (r : Rule) → ReferenceFails entries units entry a v r → number_of r < 3 → ⊥

@@ -1,8 +1,6 @@
 -- The rules at the headers of type units.
 use Rattle.std.proofs.Common.{◌≡◌, ℕ, zero, suc, ◌+◌, [], ◌∷◌, length, length-append, ◌<◌, ◌≤◌, true, false, List, Option, Some, None, refl, sym, ap, ◌∙◌, arith, subst, inl, inr}
 use Rattle.std.specs.Prelude.{slice_get}
-use Rattle.std.specs.Ordering.{nat_cmp}
-use Rattle.std.specs.BTreeMap.{BTreeMap, get}
 use Rattle.dw_entries.specs.declared.rule.Rule.{Rule}
 use Rattle.dw_entries.specs.declared.rule.Rule.TheVariants.{SignatureTwice, BadTypeOffset}
 use Rattle.dw_entries.specs.declared.fault.Broken.{Broken}
@@ -12,26 +10,18 @@ use Rattle.dw_entries.specs.Header.{header_size, header_bytes}
 use Rattle.dw_entries.specs.HeaderLaws.{length-header}
 use Rattle.dw_entries.specs.Units.{DebugUnit, unit_bytes, body_bytes}
 use Rattle.dw_entries.specs.Entries.{Entry, PlacedUnit, node_count, placed_from, placed}
-use Rattle.dw_entries.specs.Lookups.{entry_head}
 use Rattle.dw_entries.specs.Rules.{number_of}
 use Rattle.dw_entries.specs.Places.{at_header}
-use Rattle.dw_entries.specs.Failures.{Failure, Precedes, Names, HasNone, IsFirst, IsLeast}
+use Rattle.dw_entries.specs.Failures.{Names, HasNone, IsFirst, IsLeast}
 use Rattle.dw_entries.specs.Asked.{OffsetsRise, AtPlace}
-use Rattle.dw_entries.proofs.Firsts.{same_some, first_of_list, more_of_list, none_of_list, attributes_stand}
-use Rattle.dw_entries.proofs.FirstPlaces.{header_precedes_le, entry_after_header, first_at_place, none_at_place}
+use Rattle.dw_entries.proofs.Firsts.{same_some, first_of_list, more_of_list, none_of_list}
+use Rattle.dw_entries.proofs.FirstPlaces.{header_precedes_le, first_at_place, none_at_place}
 use Rattle.dw_entries.specs.Runs.{IsEntryIn}
-use Rattle.dw_links.specs.References.{HasSignature, IsSignedBefore, HasType, TypeUnitFails, HeaderFails, AtHeader, HeaderFailures, AttributeFailures, ReferenceFails}
+use Rattle.dw_links.specs.References.{HasSignature, IsSignedBefore, HasType, TypeUnitFails, HeaderFails, AtHeader, HeaderFailures}
 use Rattle.dw_forms.specs.Codes.{is_type_tag}
-use Rattle.dw_links.specs.Signatures.{IsFirstSigned, AreSignatures, AreDistinct}
+use Rattle.dw_links.specs.Signatures.{AreDistinct}
 use Rattle.dw_entries.proofs.RunLaws.{one_at, in_is_at}
-use Rattle.dw_links.proofs.Finds.{three_ways}
-
-pub not_before : (units : List PlacedUnit) (n s first number : ℕ) (table : BTreeMap ℕ ℕ) → AreSignatures units n table → Some first ≡ get nat_cmp table s → number ≤ first → IsSignedBefore units number s → ⊥
-not_before units n s first number table so is up before =
-    let P : Option ℕ → Type 0 = λ o. IsFirstSigned units s n o in
-    let found = subst P (sym is) (so s) in
-    let less = before.before in
-    found.2 before.earlier (omega (arith, less, up)) before.has
+use Rattle.dw_entries.proofs.NumberOrder.{three_ways}
 
 pub typed : (entries : List Entry) (number offset id : ℕ) (read : Entry) → IsEntryIn entries number offset id → slice_get entries id ≡ Some read → is_type_tag read.head.decl.tag ≡ true → HasType entries number offset
 typed entries number offset id read found is tag = record {
@@ -47,9 +37,6 @@ not_typed entries number offset id read rise found is tag has =
     let P : ℕ → Type 0 = λ i. slice_get entries i ≡ Some has.is_type.entry in
     let one = same_some (slice_get entries id) has.is_type.entry read (subst P same has.is_type.is_entry) is in
     let both : true ≡ false = sym has.tag ∙ ap (λ (e : Entry). is_type_tag e.head.decl.tag) one ∙ tag in cc
-
-pub none_typed : (entries : List Entry) (number offset : ℕ) → ((id : ℕ) → IsEntryIn entries number offset id → ⊥) → HasType entries number offset → ⊥
-none_typed entries number offset none has = none has.id has.is_type
 
 -- of the units, one after the other
 abbrev pub UnitsRise : List PlacedUnit → Type 0
@@ -86,10 +73,6 @@ distinct_from entries units none s i j has_i has_j =
       | inr more ↦ absurd (signed_twice entries units s j i none more has_j has_i)
     ]
 
--- what fails at an attribute never precedes what fails at a header
-pub attributes_after : (entries : List Entry) (units : List PlacedUnit) (f g : Failure) → AttributeFailures entries units f → HeaderFailures entries units g → Precedes f g → ⊥
-attributes_after entries units f g a h = entry_after_header a.item.at h.item.at f g (attributes_stand (λ e. ReferenceFails entries units (entry_head e)) a.item f a.fails) h.fails.stands
-
 -- a rule at the header of a type unit
 pub header_fails : (entries : List Entry) (units : List PlacedUnit) (number at signature t : ℕ) (o : Option (ℕ × ℕ)) (rule : Rule) (broken : Broken) → o ≡ Some (signature, t)
     → IsLeast (TypeUnitFails entries units number at signature t) (Some rule)
@@ -105,11 +88,6 @@ pub header_passes : (entries : List Entry) (units : List PlacedUnit) (number at 
 header_passes entries units number at signature t o is least =
     let P : Option (ℕ × ℕ) → Type 0 = λ x. HasNone (AtPlace (at_header at) (HeaderFails entries units number at x)) in
     subst P (sym is) (none_at_place (at_header at) (HeaderFails entries units number at (Some (signature, t))) least)
-
-pub other_header_passes : (entries : List Entry) (units : List PlacedUnit) (number at : ℕ) (o : Option (ℕ × ℕ)) → o ≡ None → HasNone (AtPlace (at_header at) (HeaderFails entries units number at o))
-other_header_passes entries units number at o is =
-    let P : Option (ℕ × ℕ) → Type 0 = λ x. HasNone (AtPlace (at_header at) (HeaderFails entries units number at x)) in
-    subst P (sym is) (λ f fails. fails.fails)
 
 -- units stand in rising offset
 placed_from_rise : (at first : ℕ) (us : List DebugUnit) (i j : ℕ) (a b : PlacedUnit) → i < j → slice_get (placed_from at first us) i ≡ Some a → slice_get (placed_from at first us) j ≡ Some b → (at ≤ a.at) × (a.at < b.at)

@@ -1,6 +1,5 @@
 pub mod Names
 pub mod Signed
-pub mod Finds
 pub mod Reached
 pub mod Asked
 pub mod HeaderLaws

@@ -1,5 +1,5 @@
 -- What references reach.
-use Rattle.std.proofs.Common.{◌≡◌, ℕ, ◌+◌, ◌<◌, ◌≤◌, List, length, Option, Some, None, refl, sym, ap, ◌∙◌, arith, subst}
+use Rattle.std.proofs.Common.{◌≡◌, ℕ, ◌+◌, ◌≤◌, List, length, Option, Some, None, refl, sym, ap, ◌∙◌, arith, subst}
 use Rattle.std.specs.Prelude.{slice_get, IfSome, IfNone}
 use Rattle.std.proofs.lemmas.Option.{slice_get_within}
 use Rattle.std.specs.Ordering.{nat_cmp}
@@ -7,7 +7,7 @@ use Rattle.std.specs.BTreeMap.{BTreeMap, get}
 use Rattle.dw_forms.specs.Value.{Datum, address, block, unsigned, signed, wide, text, flag, str, line_str, str_index, ref_info, ref_unit, ref_sig, sec_offset, expr, addr_index, loc_index, rng_index}
 use Rattle.dw_entries.specs.declared.lookup.Head.{Head}
 use Rattle.dw_entries.specs.Entries.{Entry, PlacedUnit}
-use Rattle.dw_entries.specs.Asked.{EachEntry, OffsetsRise}
+use Rattle.dw_entries.specs.Asked.{OffsetsRise}
 use Rattle.dw_entries.proofs.Firsts.{same_some}
 use Rattle.dw_entries.specs.Runs.{IsEntryIn, ReachesInUnit}
 use Rattle.dw_links.specs.References.{type_in, HasSignature, ReachesBySignature, Reaches}
@@ -25,13 +25,6 @@ pub in_unit_back : (entries : List Entry) (units : List PlacedUnit) (n offset at
 in_unit_back entries units n offset at id u is same reached =
     let one = ap (λ (x : PlacedUnit). x.at) (same_some (slice_get units n) u reached.unit is reached.is_unit) in
     at_offset entries n (reached.unit.at + offset) at id (omega arith) reached.target
-
-pub too_far : (entries : List Entry) (units : List PlacedUnit) (n offset id high : ℕ) (u : PlacedUnit) → EachEntry (λ e. e.at < high) entries → slice_get units n ≡ Some u → high ≤ offset + u.at → ReachesInUnit entries units n offset id → ⊥
-too_far entries units n offset id high u fit is far reached =
-    let one = ap (λ (x : PlacedUnit). x.at) (same_some (slice_get units n) u reached.unit is reached.is_unit) in
-    let at = reached.target.begins in
-    let fits = fit id reached.target.entry reached.target.is_entry in
-    omega (arith, one, at, fits)
 
 -- signatures
 pub by_signature : (entries : List Entry) (units : List PlacedUnit) (s n t id : ℕ) (u : PlacedUnit) → slice_get units n ≡ Some u → type_in u.unit.header.kind ≡ Some (s, t) → IsEntryIn entries n (u.at + t) id → ReachesBySignature entries units s id
@@ -86,16 +79,6 @@ none_map (Some n) A B over h = h
 pub signed_at : (units : List PlacedUnit) (n s f : ℕ) (table : BTreeMap ℕ ℕ) → AreSignatures units n table → Some f ≡ get nat_cmp table s → HasSignature units s f
 signed_at units n s f table so is = let P : Option ℕ → Type 0 = λ o. IsFirstSigned units s n o in (subst P (sym is) (so s)).1
 
-pub signature_some : (entries : List Entry) (units : List PlacedUnit) (s n t : ℕ) (o : Option ℕ) (u : PlacedUnit) → slice_get units n ≡ Some u → type_in u.unit.header.kind ≡ Some (s, t)
-    → IfSome o (IsEntryIn entries n (u.at + t)) → IfSome o (ReachesBySignature entries units s)
-signature_some entries units s n t o u is kind = some_map o (IsEntryIn entries n (u.at + t)) (ReachesBySignature entries units s) (λ id. by_signature entries units s n t id u is kind)
-
-pub signature_none : (entries : List Entry) (units : List PlacedUnit) (s n t : ℕ) (o : Option ℕ) (u : PlacedUnit) → AreDistinct units → slice_get units n ≡ Some u → type_in u.unit.header.kind ≡ Some (s, t)
-    → IfNone o ((id : ℕ) → IsEntryIn entries n (u.at + t) id → ⊥) → IfNone o ((id : ℕ) → ReachesBySignature entries units s id → ⊥)
-signature_none entries units s n t o u distinct is kind =
-    none_map o ((id : ℕ) → IsEntryIn entries n (u.at + t) id → ⊥) ((id : ℕ) → ReachesBySignature entries units s id → ⊥)
-    (λ none id reached. none id (by_signature_back entries units s n t id u distinct is kind reached))
-
 -- the type offset of the unit that a signature names
 pub signed_kind : (units : List PlacedUnit) (s n other t : ℕ) (p : PlacedUnit) → slice_get units n ≡ Some p → HasSignature units s n → type_in p.unit.header.kind ≡ Some (other, t) → type_in p.unit.header.kind ≡ Some (s, t)
 signed_kind units s n other t p is has kind =
@@ -104,11 +87,6 @@ signed_kind units s n other t p is has kind =
     let signature : other ≡ s = ap (λ (x : ℕ × ℕ). x.0) both in
     let P : ℕ → Type 0 = λ k. type_in p.unit.header.kind ≡ Some (k, t) in
     subst P signature kind
-
-pub never_untyped : (units : List PlacedUnit) (s n : ℕ) (p : PlacedUnit) → slice_get units n ≡ Some p → HasSignature units s n → type_in p.unit.header.kind ≡ None → ⊥
-never_untyped units s n p is has kind =
-    let same : type_in p.unit.header.kind ≡ Some (s, has.type_offset) = ap (λ (x : PlacedUnit). type_in x.unit.header.kind) (same_some (slice_get units n) p has.unit is has.is_unit) ∙ has.signed in
-    let both : ◌≡◌ {A = Option (ℕ × ℕ)} None (Some (s, has.type_offset)) = sym kind ∙ same in cc
 
 pub unsigned_nowhere : (entries : List Entry) (units : List PlacedUnit) (s below : ℕ) (table : BTreeMap ℕ ℕ) → AreSignatures units below table → length units ≤ below → None ≡ get nat_cmp table s → (id : ℕ) → ReachesBySignature entries units s id → ⊥
 unsigned_nowhere entries units s below table so all is id reached =

@@ -153,14 +153,6 @@ unfolding first_signed
 none_signed units signature none number has =
     let both : true ≡ false = sym (is_signed signature has.type_offset (type_in has.unit.unit.header.kind) has.signed) ∙ none_passes (signs signature) units none number has.unit has.is_unit in cc
 
--- the first unit that is found is the first of those that have the signature
-pub first_signed_all : (units : List PlacedUnit) (signature below : ℕ) (answer : Option ℕ) → length units ≡ below → answer ≡ first_signed units signature → IsFirstSigned units signature below answer
-first_signed_all units signature below answer all is = rw (is, ← all) (go (first_signed units signature) refl)
-  where
-    go : (o : Option ℕ) → first_signed units signature ≡ o → IsFirstSigned units signature (length units) (first_signed units signature)
-    go (Some number) found = rw found (at_first_signed units signature number found)
-    go None none = rw none (λ number less. none_signed units signature none number)
-
 -- ---- types by signatures
 
 pub type_of_unit_is : (entries : List Entry) (units : List PlacedUnit) (unit signature type_offset : ℕ) (u : PlacedUnit) (target : Option ℕ) → slice_get units unit ≡ Some u → type_in u.unit.header.kind ≡ Some (signature, type_offset)

@@ -92,10 +92,6 @@ abbrev pub is_string : Class → Bool
 is_string String = true
 is_string _ = false
 
-abbrev pub is_address : Class → Bool
-is_address Address = true
-is_address _ = false
-
 -- constant but data16, exprloc, reference
 abbrev pub is_size : Class → Bool
 is_size Constant = true

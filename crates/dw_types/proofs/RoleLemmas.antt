@@ -1,20 +1,11 @@
 -- The roles of entries, listed as a pass goes on.
-use Rattle.std.proofs.Common.{◌≡◌, ℕ, ◌+◌, ◌<◌, ◌≤◌, Bool, true, false, if◌then◌else◌, List, [], ◌∷◌, ◌++◌, Option, None, Some, map, take, length, arith, refl, sym, ap, ◌∙◌}
+use Rattle.std.proofs.Common.{◌≡◌, ℕ, ◌+◌, ◌<◌, ◌≤◌, List, [], ◌∷◌, ◌++◌, Option, None, Some, map, take, length, arith, refl, sym, ap, ◌∙◌}
 use Rattle.std.proofs.lemmas.List.{get_or-map, get_or-take, length-map, length-take-le, map_push, take_more}
 use Rattle.dw_types.specs.declared.facts.Facts.{Facts}
-use Rattle.dw_types.specs.declared.kind.Role.TheVariants.{Members, Dimensions, Other}
+use Rattle.dw_types.specs.declared.kind.Role.TheVariants.{Other}
 use Rattle.dw_types.specs.Entries.{entry_at, no_entry}
-use Rattle.dw_types.specs.Kinds.{has_members, is_array, is_members, role_in, role_of}
+use Rattle.dw_types.specs.Kinds.{role_in, role_of}
 use Rattle.dw_types.specs.Roles.{role_listed, roles_of_first}
-
-members-by : (a b : Bool) → is_members (if a then Members else if b then Dimensions else Other) ≡ a
-members-by true b = refl
-members-by false true = refl
-members-by false false = refl
-
--- the entries with members are the structures and unions that are not declared
-pub members-role : (entry : Facts) → is_members (role_of entry) ≡ has_members entry
-members-role entry = members-by (has_members entry) (is_array entry)
 
 pub roles-length : (entries : List Facts) (count : ℕ) → count ≤ length entries → length (roles_of_first entries count) ≡ count
 roles-length entries count within = length-map (take count entries) role_of ∙ length-take-le count entries within

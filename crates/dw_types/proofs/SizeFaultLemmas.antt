@@ -20,7 +20,7 @@ use Rattle.dw_types.specs.SizeFaults.{breaks_size, differ, fails_size, has_no_si
 use Rattle.dw_types.specs.SizeTables.{Size, cap_size}
 use Rattle.dw_types.specs.Sizes.{array_size, constant_or, is_regular, size_line, size_of_kind, size_to, times, ObeysSizeLines}
 use Rattle.dw_types.proofs.SizeLineLemmas.{declared-is}
-use Rattle.dw_types.specs.TypeFailures.{PassAll, IsFirstAt}
+use Rattle.dw_types.specs.TypeFailures.{IsFirstAt}
 
 -- the capped size passes each test as the size does, where it is compared with less than the limit
 
@@ -123,12 +123,6 @@ module _ (entries : List Facts) (parents : ParentsComeFirst entries) (targets : 
 
   not-great : (node : ℕ) → node < length entries → ¬ (fails_size entries found node SizeTooGreat ≡ true) → is_too_great (exact node) ≡ false
   not-great node below never = sym (great-at node below) ∙ false_from_ne_true (is_too_great (found node)) never
-
-  -- where no entry breaks a rule by the capped sizes, none does by the sizes
-  pub pass-same : PassAll entries (fails_size entries found) → PassAll entries (fails_size entries exact)
-  pass-same pass node below rule fails =
-      let small = λ (k : ℕ) (within : k < length entries). not-great k within (pass k within SizeTooGreat) in
-      pass node below rule (fails-same node below (λ k earlier. small k (omega arith)) rule (λ _. small node below) ∙ fails)
 
   -- the first entry that breaks a rule by the capped sizes is the first by the sizes
   pub first-same : (node : ℕ) (rule : Rule) → IsFirstAt entries (fails_size entries found) node rule → IsFirstAt entries (fails_size entries exact) node rule

@@ -160,14 +160,6 @@ array-by_element_count entries table node plain =
     (by-factor (constant_or (entry_at entries node).byte_stride (size_to table (entry_at entries node).type_target)) (product_of (map (factor_of entries) (dimensions entries node)))
     (has_elements (dimensions entries node)) (list_any (is_other_index entries) (children entries node)) (list_any (has_stride entries) (dimensions entries node)))
 
-no-array : (test : Bool) (size : Size) → None ≡ cap_size (2 ^ 63) (if test && false then size else None)
-no-array true size = refl
-no-array false size = refl
-
-pub array-by_bits : (entries : List Facts) (table : ℕ → Size) (node : ℕ) → is_present (entry_at entries node).bit_stride ≡ true → None ≡ cap_size (2 ^ 63) (array_size entries table node)
-array-by_bits entries table node bits =
-    rw bits (no-array (has_elements (dimensions entries node) && not (list_any (is_other_index entries) (children entries node))) _)
-
 -- the capped lines
 abbrev pub capped_line : List Facts → Lines
 capped_line entries table node = cap_size (2 ^ 63) (size_line entries table node)

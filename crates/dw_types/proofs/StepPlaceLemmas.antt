@@ -45,9 +45,6 @@ split-at steps i step inside = sym (take-append-drop (i + 1) steps) ∙ ap (λ (
 
 -- ---- counts
 
-pub counts-none : (nodes : ℕ) → CountsRows [] nodes (replicate nodes 0)
-counts-none nodes = record { long = length-replicate nodes 0; each = λ node below. get_or-replicate nodes node 0 0 below }
-
 pub counts-more : (placed : List Step) (step : Step) (nodes : ℕ) (counts : List ℕ) → CountsRows placed nodes counts → step.from < nodes → CountsRows (placed ++ step ∷ []) nodes (set counts step.from (get_or counts step.from 0 + 1))
 counts-more placed step nodes counts h below =
     let long = h.long in

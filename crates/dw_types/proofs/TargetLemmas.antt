@@ -1,5 +1,5 @@
 -- The entry that an attribute reaches is one of the entries.
-use Rattle.std.proofs.Common.{◌≡◌, ℕ, ◌+◌, ◌<◌, Bool, true, false, ◌&&◌, List, [], ◌∷◌, length, Option, Some, None, IfSome, is_some, refl, sym, arith}
+use Rattle.std.proofs.Common.{◌≡◌, ℕ, ◌+◌, ◌<◌, Bool, true, false, ◌&&◌, List, [], ◌∷◌, length, Some, refl, arith}
 use Rattle.std.specs.Prelude.{◌==◌, slice_get}
 use Rattle.std.specs.Option.{option_and_then}
 use Rattle.std.specs.List.{position_from}
@@ -49,19 +49,3 @@ pub target-below : (entries : List Entry) (units : List PlacedUnit) (e : Entry) 
 unfolding target_of
 target-below entries units e attribute k is =
     option_and_then_some (reach_of entries units (entry_head e)) (value_at_entry e attribute) k is (λ v has at. reach-below entries units (entry_head e) v k at)
-
--- an attribute that is absent reaches nothing
-pub target-absent : (entries : List Entry) (units : List PlacedUnit) (e : Entry) (attribute : ℕ) → value_at_entry e attribute ≡ None → target_of entries units e attribute ≡ None
-unfolding target_of
-target-absent entries units e attribute is = rw is refl
-
-none-reached : (o : Option Datum) → false ≡ is_some o → o ≡ None
-none-reached None e = refl
-none-reached (Some v) e = absurd cc
-
-pub absent-target : (entries : List Entry) (units : List PlacedUnit) (attribute : ℕ) (has : Bool) → has ≡ false → (o : Option Entry) → IfSome o (λ e. has ≡ is_some (value_at_entry e attribute))
-    → IfSome o (λ e. None ≡ target_of entries units e attribute)
-absent-target entries units attribute has none None known = tt
-absent-target entries units attribute has none (Some e) known =
-    let missing : false ≡ is_some (value_at_entry e attribute) = rw none at known in
-    sym (target-absent entries units e attribute (none-reached (value_at_entry e attribute) missing))

@@ -1,12 +1,12 @@
 -- A node is taken up, or a step looked at: each turn of a walk leads to another state of one.
-use Rattle.std.proofs.Common.{◌≡◌, ◌≢◌, ℕ, ◌+◌, ◌-◌, ◌^◌, ◌<◌, ◌⊎◌, List, [], ◌∷◌, cond, length, get_or, inl, inr, arith, refl, sym, ap, ◌∙◌, length-set, get_or-set_same, count_by}
+use Rattle.std.proofs.Common.{◌≡◌, ◌≢◌, ℕ, ◌+◌, ◌-◌, ◌^◌, ◌<◌, ◌⊎◌, [], ◌∷◌, cond, length, get_or, inl, inr, arith, refl, sym, ap, ◌∙◌, length-set, get_or-set_same}
 use Rattle.std.proofs.lemmas.Bool.{cases_lt}
 use Rattle.std.proofs.lemmas.List.{length_push, get_or_push, get_or_past, get_or_append_left}
 use Rattle.std.proofs.lemmas.List.Sums.{sum_by-set}
 use Rattle.dw_types.specs.declared.walk.Mark.{Mark}
 use Rattle.dw_types.specs.declared.walk.Mark.TheVariants.{Fresh, Open, Ranked}
 use Rattle.dw_types.specs.Graphs.{Graph, steps_of, step_at, IsStep}
-use Rattle.dw_types.specs.Walks.{HasPlaces, HasStack, HasCounters, IsCoherent, IsWalk, LooksUp, LooksUpBut, KeepsTaken, work_left, is_taken}
+use Rattle.dw_types.specs.Walks.{HasPlaces, HasStack, HasCounters, IsCoherent, IsWalk, LooksUp, LooksUpBut, work_left, is_taken}
 use Rattle.dw_types.specs.WalkStates.{State, mark_of, taken_up, with_step}
 use Rattle.dw_types.proofs.ListLemmas.{at_set, at_push}
 use Rattle.dw_types.proofs.TurnLemmas.{turns-le}
@@ -62,10 +62,6 @@ look-but graph s node h in_graph place k in_stack seen =
 pub looked-ranked : (graph : Graph) (s : State) (to : ℕ) → LooksUpBut graph s to → mark_of s to ≡ Ranked → LooksUp graph s
 looked-ranked graph s to but done place k in_stack seen =
     elim (but place k in_stack seen) [ inl known ↦ known | inr here ↦ inl (rw here done) ]
-
--- how many of the marks are of nodes that were taken up
-abbrev taken_count : List Mark → ℕ
-taken_count marks = count_by is_taken marks
 
 -- taking up a fresh node
 
@@ -200,9 +196,6 @@ module _ (graph : Graph) (s : State) (node to : ℕ) (h : IsWalk graph s) (t : I
     pub look-fresh_walk : IsWalk graph (taken_up (with_step s node) to)
     look-fresh_walk = record { coherent = turn-up; looks_up = up-looks_up graph (with_step s node) to turn-coherent turn-in_marks new turn-link turn-but }
 
-    pub keeps-fresh : KeepsTaken s (taken_up (with_step s node) to)
-    keeps-fresh = was-fresh graph (with_step s node) to turn-coherent turn-in_marks new turn-link
-
     pub look-fresh_less : work_left graph (taken_up (with_step s node) to) < work_left graph s
     look-fresh_less = let few = turns-le graph (taken_up (with_step s node) to) turn-up in let long = length_push s.stack to in omega arith
 
@@ -219,6 +212,3 @@ module _ (graph : Graph) (s : State) (node : ℕ) (h : IsWalk graph s) (empty : 
     coherent = up-coherent graph s node h.coherent first-in_marks new first-link;
     looks_up = up-looks_up graph s node h.coherent first-in_marks new first-link (λ place k in_stack seen. inl (h.looks_up place k in_stack seen));
   }
-
-  pub first-taken : (a : ℕ) → mark_of (taken_up s node) a ≡ Fresh → (a ≢ node) × (mark_of s a ≡ Fresh)
-  first-taken a fresh = elim (at_set s.marks node a Open Fresh first-in_marks) [ inl p ↦ absurd cc | inr p ↦ (p.0, sym p.1 ∙ fresh) ]

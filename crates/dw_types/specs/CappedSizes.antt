@@ -6,4 +6,5 @@ use Rattle.dw_types.specs.Sizes.{size_line}
 
 -- at each entry the table has the size that its line says of it, capped
 abbrev pub ObeysCappedLines : List Facts → (ℕ → Size) → Type 0
-ObeysCappedLines entries table = (node : ℕ) → node < length entries → table node ≡ cap_size (2 ^ 63) (size_line entries table node)
+ObeysCappedLines entries table =
+    (node : ℕ) → node < length entries → table node ≡ cap_size (2 ^ 63) (size_line entries table node)

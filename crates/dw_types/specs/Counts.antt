@@ -1,10 +1,12 @@
 -- The count of a dimension (DWARF 5, 5.13).
-use Rattle.std.specs.Prelude.{ℕ, ◌^◌, ◌-◌, ℤ, pos, negsuc, ◌+ℤ◌, ◌-ℤ◌, Bool, false, ◌&&◌, ◌||◌, not, List, [], ◌∷◌, Option, Some, None, if◌then◌else◌, nat_eq}
+use Rattle.std.specs.Prelude.{ℕ, ◌^◌, ◌-◌, ℤ, pos, negsuc, ◌+ℤ◌, ◌-ℤ◌, Bool, false, ◌&&◌, ◌||◌, not, List, [], ◌∷◌}
+use Rattle.std.specs.Prelude.{Option, Some, None, if◌then◌else◌, nat_eq}
 use Rattle.dw_types.specs.declared.constant.Constant.{Constant}
 use Rattle.dw_types.specs.declared.constant.Constant.TheVariants.{Absent, NotNumber, Unsigned, Signed}
 use Rattle.dw_types.specs.declared.facts.Facts.{Facts}
 use Rattle.dw_types.specs.declared.kind.Role.{Role}
-use Rattle.dw_forms.specs.Codes.{DW_TAG_array_type, DW_TAG_subrange_type, DW_LANG_C89, DW_LANG_C, DW_LANG_C_plus_plus, DW_LANG_C99, DW_LANG_C_plus_plus_11, DW_LANG_Rust, DW_LANG_C11, DW_LANG_C_plus_plus_14}
+use Rattle.dw_forms.specs.Codes.{DW_TAG_array_type, DW_TAG_subrange_type, DW_LANG_C89, DW_LANG_C, DW_LANG_C_plus_plus}
+use Rattle.dw_forms.specs.Codes.{DW_LANG_C99, DW_LANG_C_plus_plus_11, DW_LANG_Rust, DW_LANG_C11, DW_LANG_C_plus_plus_14}
 use Rattle.dw_types.specs.Constants.{is_present, natural, natural_of, number_in}
 use Rattle.dw_types.specs.Entries.{entry_at}
 use Rattle.dw_types.specs.Kinds.{is_dimensions, is_one_of, parent_role}
@@ -23,7 +25,9 @@ is_dimension parent entry = is_subrange_tag entry.tag && is_dimensions parent
 
 -- the languages whose bounds are read: their default lower bound is 0 (DWARF 5, 7.12)
 abbrev pub counted_languages : List ℕ
-counted_languages = DW_LANG_C89 ∷ DW_LANG_C ∷ DW_LANG_C_plus_plus ∷ DW_LANG_C99 ∷ DW_LANG_C_plus_plus_11 ∷ DW_LANG_Rust ∷ DW_LANG_C11 ∷ DW_LANG_C_plus_plus_14 ∷ []
+counted_languages =
+    DW_LANG_C89 ∷ DW_LANG_C ∷ DW_LANG_C_plus_plus ∷ DW_LANG_C99 ∷ DW_LANG_C_plus_plus_11 ∷ DW_LANG_Rust ∷ DW_LANG_C11
+    ∷ DW_LANG_C_plus_plus_14 ∷ []
 
 -- the number is one of these languages
 abbrev pub is_counted_language : Option ℕ → Bool
@@ -72,4 +76,6 @@ known_natural (Some n) = natural n
 
 -- the known count of a dimension, and none for any other entry
 abbrev pub count_at : List Facts → ℕ → Option ℕ
-count_at entries node = if is_dimension (parent_role entries node) (entry_at entries node) then known_natural (count_of (entry_at entries node)) else None
+count_at entries node =
+    if is_dimension (parent_role entries node) (entry_at entries node)
+    then known_natural (count_of (entry_at entries node)) else None

@@ -18,8 +18,12 @@ element_count_from (Some n) = Known n
 -- how many elements these children give: none is known with an index of another kind, a stride or an unknown count
 abbrev pub element_count_by : List Facts → List ℕ → ElementCount
 element_count_by entries children =
-    if list_any (is_other_index entries) children || list_any (has_stride entries) (filter (is_subrange entries) children) then Unknown
-    else if has_elements (filter (is_subrange entries) children) then element_count_from (cap_size (2 ^ 63) (product_of (map (factor_of entries) (filter (is_subrange entries) children))))
+    if list_any (is_other_index entries) children
+    || list_any (has_stride entries) (filter (is_subrange entries) children)
+    then Unknown
+    else if has_elements (filter (is_subrange entries) children)
+    then element_count_from
+    (cap_size (2 ^ 63) (product_of (map (factor_of entries) (filter (is_subrange entries) children))))
     else NoDimension
 
 -- one more count
@@ -38,7 +42,8 @@ is_index entry = is_one_of (DW_TAG_subrange_type ∷ DW_TAG_enumeration_type ∷
 abbrev pub with_child : List Facts → ElementCount → ℕ → ElementCount
 with_child entries elements child =
     if is_other_index entries child then Unknown
-    else if is_subrange entries child then (if has_stride entries child then Unknown else grown elements (factor_of entries child))
+    else if is_subrange entries child
+    then (if has_stride entries child then Unknown else grown elements (factor_of entries child))
     else elements
 
 -- the children of an entry that are among the first entries

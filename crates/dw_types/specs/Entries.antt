@@ -1,5 +1,6 @@
 -- The entries, each with its facts, and how they lie: by number, by parent and by offset.
-use Rattle.std.specs.Prelude.{◌≡◌, ℕ, ◌<◌, Bool, false, List, Option, Some, None, length, filter, nat_eq, slice_index_or}
+use Rattle.std.specs.Prelude.{◌≡◌, ℕ, ◌<◌, Bool, false, List, Option, Some, None, length, filter, nat_eq}
+use Rattle.std.specs.Prelude.{slice_index_or}
 use Rattle.std.specs.List.{range_with_len}
 use Rattle.dw_types.specs.declared.facts.Facts.{Facts}
 use Rattle.dw_types.specs.declared.constant.Constant.TheVariants.{Absent}
@@ -55,8 +56,13 @@ ParentsComeFirst entries = (child parent : ℕ) → (entry_at entries child).par
 
 -- each target is an entry
 abbrev pub TargetsAreEntries : List Facts → Type 0
-TargetsAreEntries entries = (node to : ℕ) → ((entry_at entries node).type_target ≡ Some to → to < length entries) × ((entry_at entries node).signature_target ≡ Some to → to < length entries)
+TargetsAreEntries entries =
+    (node to : ℕ)
+    → ((entry_at entries node).type_target ≡ Some to → to < length entries)
+    × ((entry_at entries node).signature_target ≡ Some to → to < length entries)
 
 -- entries stand in rising offset
 abbrev pub OffsetsRise : List Facts → Type 0
-OffsetsRise entries = (earlier later : ℕ) → earlier < later → later < length entries → (entry_at entries earlier).offset < (entry_at entries later).offset
+OffsetsRise entries =
+    (earlier later : ℕ) → earlier < later → later < length entries
+    → (entry_at entries earlier).offset < (entry_at entries later).offset

@@ -1,5 +1,6 @@
 -- Whether a plain member ends inside its container (DWARF 5, 5.7.6).
-use Rattle.std.specs.Prelude.{ℕ, ◌+◌, ◌*◌, ℤ, pos, negsuc, ◌*ℤ◌, Bool, true, false, ◌&&◌, Option, None, Some, is_some, if◌then◌else◌, nat_lt}
+use Rattle.std.specs.Prelude.{ℕ, ◌+◌, ◌*◌, ℤ, pos, negsuc, ◌*ℤ◌, Bool, true, false, ◌&&◌, Option, None, Some, is_some}
+use Rattle.std.specs.Prelude.{if◌then◌else◌, nat_lt}
 use Rattle.dw_types.specs.declared.facts.Facts.{Facts}
 use Rattle.dw_types.specs.declared.kind.Role.{Role}
 use Rattle.dw_types.specs.declared.constant.Constant.{Constant}
@@ -22,7 +23,8 @@ abbrev pub in_bits : Option ℤ → Option ℤ
 in_bits None = None
 in_bits (Some bytes) = Some (bytes *ℤ pos 8)
 
--- the bit at which a member starts, by its location in bytes, else its offset in bits, else 0; none where that is no number
+-- the bit at which a member starts, by its location in bytes, else its offset in bits, else 0; none if that is not a
+-- number
 abbrev pub start_of : Facts → Option ℤ
 start_of member =
     if is_present member.data_member_location then in_bits (number_in member.data_member_location)
@@ -43,7 +45,8 @@ bytes_end_past n (Some start) (Some size) = end_past n start size
 -- a member, whose type has a size, ends past the n bytes of its container; with a bit size it is asked by bits alone
 abbrev pub ends_past : ℕ → Facts → Size → Bool
 ends_past n member size =
-    if is_number member.bit_size && is_number member.data_bit_offset then bits_end_past n (natural_of member.bit_size) (natural_of member.data_bit_offset)
+    if is_number member.bit_size && is_number member.data_bit_offset
+    then bits_end_past n (natural_of member.bit_size) (natural_of member.data_bit_offset)
     else if is_present member.bit_size then false
     else bytes_end_past n (start_of member) size
 

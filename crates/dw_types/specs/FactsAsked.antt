@@ -27,12 +27,18 @@ asked_target entries units e attribute = if is_asked e.head.decl.tag then target
 
 -- the fact is what stands under this attribute
 abbrev pub IsConstantAt : (attribute : ℕ) → (Facts → Constant) → Type 0
-IsConstantAt attribute fact = (entries : List Entry) (units : List PlacedUnit) (e : Entry) → fact (facts_at entries units e) ≡ asked_constant e attribute
+IsConstantAt attribute fact =
+    (entries : List Entry) (units : List PlacedUnit) (e : Entry)
+    → fact (facts_at entries units e) ≡ asked_constant e attribute
 
 -- the fact is whether the entry has this attribute
 abbrev pub IsPresenceOf : (attribute : ℕ) → (Facts → Bool) → Type 0
-IsPresenceOf attribute fact = (entries : List Entry) (units : List PlacedUnit) (e : Entry) → fact (facts_at entries units e) ≡ asked_presence e attribute
+IsPresenceOf attribute fact =
+    (entries : List Entry) (units : List PlacedUnit) (e : Entry)
+    → fact (facts_at entries units e) ≡ asked_presence e attribute
 
 -- the fact is the entry that this attribute reaches
 abbrev pub IsTargetOf : (attribute : ℕ) → (Facts → Option ℕ) → Type 0
-IsTargetOf attribute fact = (entries : List Entry) (units : List PlacedUnit) (e : Entry) → fact (facts_at entries units e) ≡ asked_target entries units e attribute
+IsTargetOf attribute fact =
+    (entries : List Entry) (units : List PlacedUnit) (e : Entry)
+    → fact (facts_at entries units e) ≡ asked_target entries units e attribute

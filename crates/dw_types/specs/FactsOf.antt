@@ -1,7 +1,10 @@
 -- What types, counts and sizes read of the entries of units (DWARF 5, chapter 5).
 use Rattle.std.specs.Prelude.{ℕ, Bool, ◌||◌, ◌==◌, List, Option, None, Some, map, is_some, slice_get, if◌then◌else◌}
 use Rattle.std.specs.Option.{option_map_or}
-use Rattle.dw_forms.specs.Codes.{DW_AT_abstract_origin, DW_AT_bit_size, DW_AT_bit_stride, DW_AT_byte_size, DW_AT_byte_stride, DW_AT_count, DW_AT_data_bit_offset, DW_AT_data_member_location, DW_AT_language, DW_AT_lower_bound, DW_AT_signature, DW_AT_specification, DW_AT_type, DW_AT_upper_bound, DW_TAG_member, is_type_tag}
+use Rattle.dw_forms.specs.Codes.{DW_AT_abstract_origin, DW_AT_bit_size, DW_AT_bit_stride, DW_AT_byte_size}
+use Rattle.dw_forms.specs.Codes.{DW_AT_byte_stride, DW_AT_count, DW_AT_data_bit_offset, DW_AT_data_member_location}
+use Rattle.dw_forms.specs.Codes.{DW_AT_language, DW_AT_lower_bound, DW_AT_signature, DW_AT_specification, DW_AT_type}
+use Rattle.dw_forms.specs.Codes.{DW_AT_upper_bound, DW_TAG_member, is_type_tag}
 use Rattle.dw_forms.specs.Value.{Datum, unsigned, signed}
 use Rattle.dw_entries.specs.Asked.{values_of}
 use Rattle.dw_entries.specs.Entries.{Entry, PlacedUnit, entries_of, placed}

@@ -27,7 +27,8 @@ step_count graph = sum_by length graph
 
 -- each node of the list but the first is a step from the one before
 abbrev pub FollowsSteps : Graph → List ℕ → Type 0
-FollowsSteps graph nodes = (k : ℕ) → k + 1 < length nodes → IsStep graph (slice_index nodes k) (slice_index nodes (k + 1))
+FollowsSteps graph nodes =
+    (k : ℕ) → k + 1 < length nodes → IsStep graph (slice_index nodes k) (slice_index nodes (k + 1))
 
 -- a closed list: at least two nodes, each a step from the one before, the first and the last equal
 pub record IsClosed (graph : Graph) (nodes : List ℕ) : Type 0 where
@@ -47,4 +48,5 @@ HasNoCycle graph = (nodes : List ℕ) → IsClosed graph nodes → ⊥
 
 -- each step leads to a smaller rank
 abbrev pub FallsAlong : Graph → List ℕ → Type 0
-FallsAlong graph ranks = (node k : ℕ) → k < length (steps_of graph node) → slice_index ranks (step_at graph node k) < slice_index ranks node
+FallsAlong graph ranks =
+    (node k : ℕ) → k < length (steps_of graph node) → slice_index ranks (step_at graph node k) < slice_index ranks node

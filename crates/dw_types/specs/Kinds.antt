@@ -3,10 +3,18 @@ use Rattle.std.specs.Prelude.{ℕ, Bool, true, false, ◌&&◌, not, List, [], �
 use Rattle.std.specs.List.{list_any}
 use Rattle.dw_types.specs.declared.facts.Facts.{Facts}
 use Rattle.dw_types.specs.declared.kind.Kind.{Kind}
-use Rattle.dw_types.specs.declared.kind.Kind.TheVariants.{Declared, OwnSized, Pointer, Alias, Enumeration, Array, Subroutine, NoType}
+use Rattle.dw_types.specs.declared.kind.Kind.TheVariants.{Declared, OwnSized, Pointer, Alias, Enumeration, Array}
+use Rattle.dw_types.specs.declared.kind.Kind.TheVariants.{Subroutine, NoType}
 use Rattle.dw_types.specs.declared.kind.Role.{Role}
 use Rattle.dw_types.specs.declared.kind.Role.TheVariants.{Members, Dimensions, Other}
-use Rattle.dw_forms.specs.Codes.{DW_TAG_array_type, DW_TAG_class_type, DW_TAG_enumeration_type, DW_TAG_pointer_type, DW_TAG_reference_type, DW_TAG_string_type, DW_TAG_structure_type, DW_TAG_subroutine_type, DW_TAG_typedef, DW_TAG_union_type, DW_TAG_ptr_to_member_type, DW_TAG_set_type, DW_TAG_subrange_type, DW_TAG_base_type, DW_TAG_const_type, DW_TAG_file_type, DW_TAG_packed_type, DW_TAG_volatile_type, DW_TAG_restrict_type, DW_TAG_interface_type, DW_TAG_unspecified_type, DW_TAG_shared_type, DW_TAG_rvalue_reference_type, DW_TAG_template_alias, DW_TAG_coarray_type, DW_TAG_dynamic_type, DW_TAG_atomic_type, DW_TAG_immutable_type}
+use Rattle.dw_forms.specs.Codes.{DW_TAG_array_type, DW_TAG_class_type, DW_TAG_enumeration_type, DW_TAG_pointer_type}
+use Rattle.dw_forms.specs.Codes.{DW_TAG_reference_type, DW_TAG_string_type, DW_TAG_structure_type}
+use Rattle.dw_forms.specs.Codes.{DW_TAG_subroutine_type, DW_TAG_typedef, DW_TAG_union_type, DW_TAG_ptr_to_member_type}
+use Rattle.dw_forms.specs.Codes.{DW_TAG_set_type, DW_TAG_subrange_type, DW_TAG_base_type, DW_TAG_const_type}
+use Rattle.dw_forms.specs.Codes.{DW_TAG_file_type, DW_TAG_packed_type, DW_TAG_volatile_type, DW_TAG_restrict_type}
+use Rattle.dw_forms.specs.Codes.{DW_TAG_interface_type, DW_TAG_unspecified_type, DW_TAG_shared_type}
+use Rattle.dw_forms.specs.Codes.{DW_TAG_rvalue_reference_type, DW_TAG_template_alias, DW_TAG_coarray_type}
+use Rattle.dw_forms.specs.Codes.{DW_TAG_dynamic_type, DW_TAG_atomic_type, DW_TAG_immutable_type}
 use Rattle.dw_types.specs.Entries.{entry_at}
 
 -- the tag, or another number, is one of these
@@ -36,7 +44,9 @@ own_sized_tags =
 
 -- a typedef, const, volatile, restrict, atomic, array or enumeration
 abbrev pub passes_type_on : Facts → Bool
-passes_type_on entry = is_one_of (DW_TAG_typedef ∷ DW_TAG_const_type ∷ DW_TAG_volatile_type ∷ DW_TAG_restrict_type ∷ DW_TAG_atomic_type ∷ DW_TAG_array_type ∷ DW_TAG_enumeration_type ∷ []) entry.tag
+passes_type_on entry =
+    is_one_of (DW_TAG_typedef ∷ DW_TAG_const_type ∷ DW_TAG_volatile_type ∷ DW_TAG_restrict_type ∷ DW_TAG_atomic_type
+    ∷ DW_TAG_array_type ∷ DW_TAG_enumeration_type ∷ []) entry.tag
 
 -- a structure or union that is not declared
 abbrev pub has_members : Facts → Bool

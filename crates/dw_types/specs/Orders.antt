@@ -13,5 +13,8 @@ pub record IsOrderOf (graph : Graph) (order : Ranking) : Type 0 where
   pub nodes : length order.ranks ≡ length graph
   pub falls : FallsAlong graph order.ranks
   pub turns : order.turns ≡ length graph + step_count graph
-  pub listed : (node : ℕ) → node < length graph → (slice_index order.ranks node < length order.by_rank) × (slice_index order.by_rank (slice_index order.ranks node) ≡ node)
-  pub ranked : (k : ℕ) → k < length order.by_rank → (slice_index order.by_rank k < length graph) × (slice_index order.ranks (slice_index order.by_rank k) ≡ k)
+  pub listed : (node : ℕ) → node < length graph
+      → (slice_index order.ranks node < length order.by_rank)
+      × (slice_index order.by_rank (slice_index order.ranks node) ≡ node)
+  pub ranked : (k : ℕ) → k < length order.by_rank
+      → (slice_index order.by_rank k < length graph) × (slice_index order.ranks (slice_index order.by_rank k) ≡ k)

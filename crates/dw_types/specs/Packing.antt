@@ -13,7 +13,9 @@ begin_of ends node = slice_index (0 ∷ ends) node
 
 -- the steps of no node end before they begin, or past the last step
 abbrev pub CutsInOrder : List ℕ → List ℕ → Type 0
-CutsInOrder steps ends = (node : ℕ) → node < length ends → (begin_of ends node ≤ slice_index ends node) × (slice_index ends node ≤ length steps)
+CutsInOrder steps ends =
+    (node : ℕ) → node < length ends
+    → (begin_of ends node ≤ slice_index ends node) × (slice_index ends node ≤ length steps)
 
 -- each step leads to one of so many nodes
 abbrev pub LeadsBelow : List ℕ → ℕ → Type 0

@@ -22,7 +22,8 @@ stands_alone entry = not entry.has_specification && not entry.has_abstract_origi
 
 -- an array or a plain member with no type, which does not take one over from another entry either
 abbrev pub misses_type : Role → Facts → Bool
-misses_type parent entry = (is_array entry || is_plain parent entry) && (not (is_some entry.type_target) && stands_alone entry)
+misses_type parent entry =
+    (is_array entry || is_plain parent entry) && (not (is_some entry.type_target) && stands_alone entry)
 
 -- a count that is known and below 0
 abbrev pub is_known_negative : Option ℤ → Bool

@@ -3,7 +3,8 @@ use Rattle.std.specs.Prelude.{ℕ, ◌^◌, Bool, true, false, ◌&&◌, ◌||�
 use Rattle.dw_types.specs.declared.facts.Facts.{Facts}
 use Rattle.dw_entries.specs.declared.fault.Broken.{Broken}
 use Rattle.dw_types.specs.declared.kind.Kind.{Kind}
-use Rattle.dw_types.specs.declared.kind.Kind.TheVariants.{Declared, OwnSized, Pointer, Alias, Enumeration, Array, Subroutine, NoType}
+use Rattle.dw_types.specs.declared.kind.Kind.TheVariants.{Declared, OwnSized, Pointer, Alias, Enumeration, Array}
+use Rattle.dw_types.specs.declared.kind.Kind.TheVariants.{Subroutine, NoType}
 use Rattle.dw_types.specs.declared.kind.Role.{Role}
 use Rattle.dw_entries.specs.declared.rule.Rule.{Rule}
 use Rattle.dw_entries.specs.declared.rule.Rule.TheVariants.{NoSize, SizeTooGreat, MemberOutside, EnumSize}
@@ -29,7 +30,8 @@ reads_own Array = true
 reads_own Subroutine = false
 reads_own NoType = false
 
--- where the byte size is absent: a base type without bit size, a structure or union that stands alone, or an array with a negative stride
+-- where the byte size is absent: a base type without bit size, a structure or union that stands alone, or an array with
+-- a negative stride
 abbrev pub wants_own : Facts → Bool
 wants_own entry =
     (nat_eq entry.tag DW_TAG_base_type && not (is_present entry.bit_size))
@@ -37,7 +39,8 @@ wants_own entry =
 
 -- a negative byte size that is read, or none where one is wanted
 abbrev pub has_no_size : Facts → Bool
-has_no_size entry = (reads_own (kind_of entry) && is_negative entry.byte_size) || (not (is_present entry.byte_size) && wants_own entry)
+has_no_size entry =
+    (reads_own (kind_of entry) && is_negative entry.byte_size) || (not (is_present entry.byte_size) && wants_own entry)
 
 -- a size of 2^63 or more
 abbrev pub is_too_great : Size → Bool
@@ -68,7 +71,8 @@ breaks_size parent entry size container type_size _ = false
 -- the entry of a number breaks a rule on sizes, by a table of sizes
 abbrev pub fails_size : List Facts → (ℕ → Size) → ℕ → Rule → Bool
 fails_size entries table node rule =
-    breaks_size (parent_role entries node) (entry_at entries node) (table node) (size_to table (entry_at entries node).parent) (size_to table (entry_at entries node).type_target) rule
+    breaks_size (parent_role entries node) (entry_at entries node) (table node)
+    (size_to table (entry_at entries node).parent) (size_to table (entry_at entries node).type_target) rule
 
 -- the failures of the rules on sizes, by a table of sizes
 abbrev pub SizeFailures : List Facts → (ℕ → Size) → Failure → Type 0

@@ -1,11 +1,13 @@
 -- The size of each type entry (DWARF 5, 5.1 to 5.13).
-use Rattle.std.specs.Prelude.{◌≡◌, ℕ, ◌*◌, ◌<◌, Bool, true, false, ◌&&◌, ◌||◌, not, List, [], ◌∷◌, Option, Some, None, length, map, filter, if◌then◌else◌, nat_eq}
+use Rattle.std.specs.Prelude.{◌≡◌, ℕ, ◌*◌, ◌<◌, Bool, true, false, ◌&&◌, ◌||◌, not, List, [], ◌∷◌, Option, Some, None}
+use Rattle.std.specs.Prelude.{length, map, filter, if◌then◌else◌, nat_eq}
 use Rattle.std.specs.List.{list_any}
 use Rattle.dw_types.specs.declared.facts.Facts.{Facts}
 use Rattle.dw_types.specs.declared.constant.Constant.{Constant}
 use Rattle.dw_types.specs.declared.constant.Constant.TheVariants.{Absent, NotNumber, Unsigned, Signed}
 use Rattle.dw_types.specs.declared.kind.Kind.{Kind}
-use Rattle.dw_types.specs.declared.kind.Kind.TheVariants.{Declared, OwnSized, Pointer, Alias, Enumeration, Array, Subroutine, NoType}
+use Rattle.dw_types.specs.declared.kind.Kind.TheVariants.{Declared, OwnSized, Pointer, Alias, Enumeration, Array}
+use Rattle.dw_types.specs.declared.kind.Kind.TheVariants.{Subroutine, NoType}
 use Rattle.dw_forms.specs.Codes.{DW_TAG_enumeration_type, DW_TAG_generic_subrange, DW_TAG_subrange_type}
 use Rattle.dw_types.specs.Constants.{is_present, natural, natural_of}
 use Rattle.dw_types.specs.Counts.{count_of, known_natural}
@@ -38,11 +40,13 @@ factor_of entries dimension = known_natural (count_of (entry_at entries dimensio
 
 -- a stride of bits or of bytes
 abbrev pub has_stride : List Facts → ℕ → Bool
-has_stride entries node = is_present (entry_at entries node).bit_stride || is_present (entry_at entries node).byte_stride
+has_stride entries node =
+    is_present (entry_at entries node).bit_stride || is_present (entry_at entries node).byte_stride
 
 -- an enumeration or a generic subrange, which counts an array in another way
 abbrev pub is_other_index : List Facts → ℕ → Bool
-is_other_index entries node = is_one_of (DW_TAG_enumeration_type ∷ DW_TAG_generic_subrange ∷ []) (entry_at entries node).tag
+is_other_index entries node =
+    is_one_of (DW_TAG_enumeration_type ∷ DW_TAG_generic_subrange ∷ []) (entry_at entries node).tag
 
 -- the list is not empty
 abbrev pub has_elements : {A : Type 0} → List A → Bool
@@ -53,7 +57,8 @@ has_elements (x ∷ xs) = true
 abbrev pub is_regular : List Facts → ℕ → Bool
 is_regular entries array =
     (has_elements (dimensions entries array) && not (list_any (is_other_index entries) (children entries array)))
-    && (not (is_present (entry_at entries array).bit_stride) && not (list_any (has_stride entries) (dimensions entries array)))
+    && (not (is_present (entry_at entries array).bit_stride)
+    && not (list_any (has_stride entries) (dimensions entries array)))
 
 -- the size at a target, none where there is none
 abbrev pub size_to : (ℕ → Size) → Option ℕ → Size
@@ -70,16 +75,21 @@ constant_or (Signed n) other = natural n
 -- element storage times all counts
 abbrev pub array_size : List Facts → (ℕ → Size) → ℕ → Size
 array_size entries table array =
-    if is_regular entries array then times (constant_or (entry_at entries array).byte_stride (size_to table (entry_at entries array).type_target)) (product_of (map (factor_of entries) (dimensions entries array)))
+    if is_regular entries array
+    then times
+    (constant_or (entry_at entries array).byte_stride (size_to table (entry_at entries array).type_target))
+    (product_of (map (factor_of entries) (dimensions entries array)))
     else None
 
 -- the size of an entry of a kind, by those of others: one equation for each row
 abbrev pub size_of_kind : Kind → List Facts → (ℕ → Size) → ℕ → Size
 size_of_kind Declared entries table node = size_to table (entry_at entries node).signature_target
 size_of_kind OwnSized entries table node = natural_of (entry_at entries node).byte_size
-size_of_kind Pointer entries table node = constant_or (entry_at entries node).byte_size (Some (entry_at entries node).address_size)
+size_of_kind Pointer entries table node =
+    constant_or (entry_at entries node).byte_size (Some (entry_at entries node).address_size)
 size_of_kind Alias entries table node = size_to table (entry_at entries node).type_target
-size_of_kind Enumeration entries table node = constant_or (entry_at entries node).byte_size (size_to table (entry_at entries node).type_target)
+size_of_kind Enumeration entries table node =
+    constant_or (entry_at entries node).byte_size (size_to table (entry_at entries node).type_target)
 size_of_kind Array entries table node = constant_or (entry_at entries node).byte_size (array_size entries table node)
 size_of_kind Subroutine entries table node = None
 size_of_kind NoType entries table node = None
@@ -95,4 +105,5 @@ ObeysSizeLines entries table = (node : ℕ) → node < length entries → table 
 -- the one table of sizes: no other has the sizes that its lines say
 pub record IsSizeTable (entries : List Facts) (table : ℕ → Size) : Type 0 where
   pub obeys : ObeysSizeLines entries table
-  pub only : (other : ℕ → Size) → ObeysSizeLines entries other → (node : ℕ) → node < length entries → other node ≡ table node
+  pub only : (other : ℕ → Size) → ObeysSizeLines entries other → (node : ℕ) → node < length entries
+      → other node ≡ table node

@@ -1,5 +1,6 @@
 -- Steps in a list, and those of one node among them.
-use Rattle.std.specs.Prelude.{◌≡◌, ℕ, zero, suc, ◌+◌, ◌<◌, Bool, List, [], ◌∷◌, Option, None, Some, filter, length, map, nat_eq, slice_index}
+use Rattle.std.specs.Prelude.{◌≡◌, ℕ, zero, suc, ◌+◌, ◌<◌, Bool, List, [], ◌∷◌, Option, None, Some, filter, length, map}
+use Rattle.std.specs.Prelude.{nat_eq, slice_index}
 use Rattle.std.specs.List.{range_with_len}
 use Rattle.dw_types.specs.declared.step_list.Step.{Step}
 use Rattle.dw_types.specs.Graphs.{Graph}
@@ -45,6 +46,8 @@ pub record BeginsRows (steps : List Step) (nodes : ℕ) (begins : List ℕ) : Ty
 pub record HasPlaced (steps placed : List Step) (nodes : ℕ) (kept ends : List ℕ) : Type 0 where
   pub long : length ends ≡ nodes
   pub room : length kept ≡ length steps
-  pub each_end : (node : ℕ) → node < nodes → slice_index ends node ≡ steps_before steps node + length (row_of placed node)
-  pub rows : (node k : ℕ) → node < nodes → k < length (row_of placed node) → slice_index kept (steps_before steps node + k) ≡ slice_index (row_of placed node) k
+  pub each_end : (node : ℕ) → node < nodes
+      → slice_index ends node ≡ steps_before steps node + length (row_of placed node)
+  pub rows : (node k : ℕ) → node < nodes → k < length (row_of placed node)
+      → slice_index kept (steps_before steps node + k) ≡ slice_index (row_of placed node) k
   pub leads : LeadsBelow kept nodes

@@ -1,5 +1,6 @@
 -- Steps by value: what an entry holds, and so may not hold itself (DWARF 5, chapter 5).
-use Rattle.std.specs.Prelude.{◌≡◌, ◌≢◌, ℕ, ◌<◌, Bool, true, ◌&&◌, not, List, [], ◌∷◌, ◌++◌, Option, Some, map, if◌then◌else◌, nat_eq, length}
+use Rattle.std.specs.Prelude.{◌≡◌, ◌≢◌, ℕ, ◌<◌, Bool, true, ◌&&◌, not, List, [], ◌∷◌, ◌++◌, Option, Some, map}
+use Rattle.std.specs.Prelude.{if◌then◌else◌, nat_eq, length}
 use Rattle.std.specs.List.{flat_map, range_with_len}
 use Rattle.std.specs.Option.{option_to_list}
 use Rattle.dw_types.specs.declared.facts.Facts.{Facts}
@@ -11,13 +12,18 @@ use Rattle.dw_types.specs.Kinds.{has_members, is_declared_type, passes_type_on}
 -- a child with tag member of a structure or union, neither of the two declared
 abbrev pub is_plain_member : List Facts → ℕ → ℕ → Bool
 is_plain_member entries node child =
-    has_members (entry_at entries node) && (nat_eq (entry_at entries child).tag DW_TAG_member && (not (entry_at entries child).declared && is_parent (entry_at entries child).parent node))
+    has_members (entry_at entries node)
+    && (nat_eq (entry_at entries child).tag DW_TAG_member
+    && (not (entry_at entries child).declared && is_parent (entry_at entries child).parent node))
 
 -- one entry holds another by value: as its type, as the type of a plain member, or by its signature
 pub data IsStepByValue (entries : List Facts) (from to : ℕ) : Type 0 where
-  by_type : passes_type_on (entry_at entries from) ≡ true → (entry_at entries from).type_target ≡ Some to → IsStepByValue entries from to
-  by_member : (member : ℕ) → member < length entries → is_plain_member entries from member ≡ true → (entry_at entries member).type_target ≡ Some to → IsStepByValue entries from to
-  by_signature : is_declared_type (entry_at entries from) ≡ true → (entry_at entries from).signature_target ≡ Some to → IsStepByValue entries from to
+  by_type : passes_type_on (entry_at entries from) ≡ true → (entry_at entries from).type_target ≡ Some to
+      → IsStepByValue entries from to
+  by_member : (member : ℕ) → member < length entries → is_plain_member entries from member ≡ true
+      → (entry_at entries member).type_target ≡ Some to → IsStepByValue entries from to
+  by_signature : is_declared_type (entry_at entries from) ≡ true → (entry_at entries from).signature_target ≡ Some to
+      → IsStepByValue entries from to
 
 -- the target, where the test passes
 abbrev pub targets_if : Bool → Option ℕ → List ℕ
@@ -29,7 +35,8 @@ member_step entries node child = targets_if (is_plain_member entries node child)
 
 -- the steps that an entry makes by itself: to its type, and by its signature
 abbrev pub own_steps : Facts → List ℕ
-own_steps entry = targets_if (passes_type_on entry) entry.type_target ++ targets_if (is_declared_type entry) entry.signature_target
+own_steps entry =
+    targets_if (passes_type_on entry) entry.type_target ++ targets_if (is_declared_type entry) entry.signature_target
 
 -- the steps of an entry in their order: its type, the types of its plain members, its signature
 abbrev pub steps_by_value : List Facts → ℕ → List ℕ

@@ -9,7 +9,8 @@ use Rattle.dw_entries.specs.Places.{at_entry}
 
 -- the failures of rules that are asked of each entry by its number
 abbrev pub EntryFailures : List Facts → (ℕ → Rule → Bool) → Failure → Type 0
-EntryFailures entries fails = InList entries (λ node entry. AtPlace (at_entry entry.offset) (λ rule. fails node rule ≡ true))
+EntryFailures entries fails =
+    InList entries (λ node entry. AtPlace (at_entry entry.offset) (λ rule. fails node rule ≡ true))
 
 -- the entry breaks no rule
 abbrev pub PassesAt : (ℕ → Rule → Bool) → ℕ → Type 0

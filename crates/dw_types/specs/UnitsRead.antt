@@ -17,4 +17,8 @@ all_unit_facts us = map unit_facts (placed us)
 
 -- the same of the unit with a number
 abbrev pub unit_facts_at : List PlacedUnit → ℕ → UnitFacts
-unit_facts_at units number = record { address_size = option_map_or address_size_of (slice_get units number) 0; language = option_map_or language_of (slice_get units number) Absent }
+unit_facts_at units number =
+    record {
+      address_size = option_map_or address_size_of (slice_get units number) 0;
+      language = option_map_or language_of (slice_get units number) Absent;
+    }

@@ -1,5 +1,6 @@
 -- What is true of the state of a walk over a graph before and after each turn.
-use Rattle.std.specs.Prelude.{◌≡◌, ◌≢◌, ℕ, ◌+◌, ◌-◌, ◌*◌, ◌^◌, ◌<◌, ◌≤◌, ◌⊎◌, Bool, true, false, length, slice_index, sum, count_by}
+use Rattle.std.specs.Prelude.{◌≡◌, ◌≢◌, ℕ, ◌+◌, ◌-◌, ◌*◌, ◌^◌, ◌<◌, ◌≤◌, ◌⊎◌, Bool, true, false, length, slice_index}
+use Rattle.std.specs.Prelude.{sum, count_by}
 use Rattle.dw_types.specs.declared.walk.Mark.{Mark}
 use Rattle.dw_types.specs.declared.walk.Mark.TheVariants.{Fresh, Open, Ranked}
 use Rattle.dw_types.specs.Graphs.{Graph, steps_of, step_at, FollowsSteps, step_count}
@@ -30,9 +31,12 @@ pub record HasCounters (graph : Graph) (s : State) : Type 0 where
 pub record HasRanks (graph : Graph) (s : State) : Type 0 where
   pub below : (node : ℕ) → mark_of s node ≡ Ranked → slice_index s.ranks node < length s.by_rank
   pub listed : (node : ℕ) → mark_of s node ≡ Ranked → slice_index s.by_rank (slice_index s.ranks node) ≡ node
-  pub ranked : (k : ℕ) → k < length s.by_rank → (mark_of s (slice_index s.by_rank k) ≡ Ranked) × (slice_index s.ranks (slice_index s.by_rank k) ≡ k)
-  pub leads : (node k : ℕ) → mark_of s node ≡ Ranked → k < length (steps_of graph node) → mark_of s (step_at graph node k) ≡ Ranked
-  pub falls : (node k : ℕ) → mark_of s node ≡ Ranked → k < length (steps_of graph node) → slice_index s.ranks (step_at graph node k) < slice_index s.ranks node
+  pub ranked : (k : ℕ) → k < length s.by_rank
+      → (mark_of s (slice_index s.by_rank k) ≡ Ranked) × (slice_index s.ranks (slice_index s.by_rank k) ≡ k)
+  pub leads : (node k : ℕ) → mark_of s node ≡ Ranked → k < length (steps_of graph node)
+      → mark_of s (step_at graph node k) ≡ Ranked
+  pub falls : (node k : ℕ) → mark_of s node ≡ Ranked → k < length (steps_of graph node)
+      → slice_index s.ranks (step_at graph node k) < slice_index s.ranks node
 
 -- the node was taken up
 abbrev pub is_taken : Mark → Bool
@@ -64,7 +68,8 @@ LooksUp graph s = (place k : ℕ) → place < length s.stack → k < slice_index
 -- the same, but for steps to one node
 abbrev pub LooksUpBut : Graph → State → ℕ → Type 0
 LooksUpBut graph s to = (place k : ℕ) → place < length s.stack → k < slice_index s.next (slice_index s.stack place)
-    → ((mark_of s (stack_step graph s place k) ≡ Ranked) ⊎ IsAbove s place (stack_step graph s place k)) ⊎ (stack_step graph s place k ≡ to)
+    → ((mark_of s (stack_step graph s place k) ≡ Ranked) ⊎ IsAbove s place (stack_step graph s place k))
+    ⊎ (stack_step graph s place k ≡ to)
 
 -- the state is one that a walk over the graph comes to
 pub record IsWalk (graph : Graph) (s : State) : Type 0 where
@@ -77,7 +82,8 @@ KeepsTaken old new = (node : ℕ) → mark_of new node ≡ Fresh → mark_of old
 
 -- a fresh node was put on the stack, or ranked at once where it has no steps
 abbrev pub IsMet : Graph → State → ℕ → State → Type 0
-IsMet graph old node new = (new ≡ taken_up old node) ⊎ ((length (steps_of graph node) ≡ 0) × (new ≡ with_rank (taken_up old node) node))
+IsMet graph old node new =
+    (new ≡ taken_up old node) ⊎ ((length (steps_of graph node) ≡ 0) × (new ≡ with_rank (taken_up old node) node))
 
 -- how far the turns are from their number, and the stack from empty
 abbrev pub work_left : Graph → State → ℕ

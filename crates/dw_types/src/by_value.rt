@@ -118,8 +118,11 @@ impl ByValue {
     /// numbers of the entries, and the links are those of the same entries.
     pub fn new(alloc: Global, entries: &Entries<'_>, links: &Links<'_, '_>) -> Result<Self, Stop>
         requires { units_of links.now.entries.now.scanned ≡ units_of entries.now.scanned }
-        ensures graph { IfOk result (λ it. ⟦<ByValue as StepGraph>⟧.graph it ≡ by_value (facts_in (units_of entries.now.scanned))) }
-        ensures steps { IfOk result (λ it. (from to : ℕ) → IsStep (⟦<ByValue as StepGraph>⟧.graph it) from to ↔ IsStepByValue (facts_in (units_of entries.now.scanned)) from to) }
+        ensures graph { IfOk result (λ it. ⟦<ByValue as StepGraph>⟧.graph it
+            ≡ by_value (facts_in (units_of entries.now.scanned))) }
+        ensures steps { IfOk result (λ it. (from to : ℕ)
+            → IsStep (⟦<ByValue as StepGraph>⟧.graph it) from to
+            ↔ IsStepByValue (facts_in (units_of entries.now.scanned)) from to) }
         ensures sound { OnOk result (HasNone (ShapeFailures (facts_in (units_of entries.now.scanned)))) }
         ensures fault { IfErr result (IfFault (IsFirst (ShapeFailures (facts_in (units_of entries.now.scanned))))) }
     {
@@ -134,7 +137,8 @@ impl ByValue {
         requires rising { OffsetsRise entries.now }
         requires few { length entries.now < 2 ^ 32 }
         ensures graph { IfOk result (λ it. ⟦<ByValue as StepGraph>⟧.graph it ≡ by_value entries.now) }
-        ensures steps { IfOk result (λ it. (from to : ℕ) → IsStep (⟦<ByValue as StepGraph>⟧.graph it) from to ↔ IsStepByValue entries.now from to) }
+        ensures steps { IfOk result (λ it. (from to : ℕ)
+            → IsStep (⟦<ByValue as StepGraph>⟧.graph it) from to ↔ IsStepByValue entries.now from to) }
         ensures sound { OnOk result (HasNone (ShapeFailures entries.now)) }
         ensures fault { IfErr result (IfFault (IsFirst (ShapeFailures entries.now))) }
     {

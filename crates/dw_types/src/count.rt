@@ -5,7 +5,8 @@ ghost use Rattle.dw_entries.specs.Entries.{entries_of};
 ghost use Rattle.dw_entries.specs.Lookups.{entry_head};
 ghost use Rattle.dw_entries.specs.Scanned.{units_of};
 ghost use Rattle.dw_types.specs.Constants.{IsOf64Bits};
-ghost use Rattle.dw_types.specs.Counts.{count_at, count_from, count_of, is_array_tag, is_dimension, is_subrange_tag, known_natural, lower_of, reads_bounds, upper_of};
+ghost use Rattle.dw_types.specs.Counts.{count_at, count_from, count_of, is_array_tag, is_dimension, is_subrange_tag};
+ghost use Rattle.dw_types.specs.Counts.{known_natural, lower_of, reads_bounds, upper_of};
 ghost use Rattle.dw_types.specs.Entries.{entry_at};
 ghost use Rattle.dw_types.specs.FactsOf.{facts_in};
 ghost use Rattle.dw_types.specs.Kinds.{is_dimensions, parent_role, role_in};
@@ -152,7 +153,8 @@ fn is_in_array(entries: &Entries<'_>, parent: Option<EntryId>) -> bool
 fn is_dimension(entries: &Entries<'_>, id: EntryId, head: &Head) -> bool
     requires id { id < length (entries_of (units_of entries.now.scanned)) }
     requires head { IfSome (slice_get (entries_of (units_of entries.now.scanned)) id) (λ e. head.now ≡ entry_head e) }
-    ensures { result ≡ is_dimension (parent_role (facts_in (units_of entries.now.scanned)) id) (entry_at (facts_in (units_of entries.now.scanned)) id) }
+    ensures { result ≡ is_dimension (parent_role (facts_in (units_of entries.now.scanned)) id)
+        (entry_at (facts_in (units_of entries.now.scanned)) id) }
 {
     is_subrange_tag(head.tag) && is_in_array(entries, head.parent)
 }

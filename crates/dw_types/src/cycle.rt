@@ -35,7 +35,8 @@ pub(crate) fn round_from(
     place: usize,
 ) -> Result<Vec<usize>, AllocError>
     requires { place < length ring.now }
-    ensures { IfOk result (λ round. round.items ≡ (drop place ring.now ++ take place ring.now) ++ slice_index ring.now place ∷ []) }
+    ensures { IfOk result (λ round. round.items
+        ≡ (drop place ring.now ++ take place ring.now) ++ slice_index ring.now place ∷ []) }
 {
     let mut round = Vec::new(alloc);
     round.extend_from_slice(&ring[place..])?;

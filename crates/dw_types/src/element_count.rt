@@ -1,6 +1,7 @@
 //! How many elements an array has: the product of the counts of its dimensions (DWARF 5, 5.5 and 5.13).
 
-ghost use Rattle.std.specs.Prelude.{◌≡◌, ◌<◌, ℕ, None, length, map, replicate, slice_index_or, slice_set, IfOk, OnOk, if◌then◌else◌};
+ghost use Rattle.std.specs.Prelude.{◌≡◌, ◌<◌, ℕ, None, length, map, replicate, slice_index_or, slice_set, IfOk, OnOk};
+ghost use Rattle.std.specs.Prelude.{if◌then◌else◌};
 ghost use Rattle.dw_types.specs.Counts.{known_natural};
 ghost use Rattle.dw_types.specs.declared.element_count.ElementCount.TheVariants.{NoDimension};
 ghost use Rattle.dw_types.specs.ElementCounts.{element_count_by, grown, is_index, with_child, size_from};
@@ -188,7 +189,8 @@ pub(crate) fn element_counts(
 ) -> Result<ElementCounts, AllocError>
     requires { ParentsComeFirst entries.now }
     ensures long { IfOk result (λ found. length found ≡ length entries.now) }
-    ensures each { IfOk result (λ found. (node : ℕ) → node < length entries.now → slice_index_or found node NoDimension ≡ element_count_by entries.now (children entries.now node)) }
+    ensures each { IfOk result (λ found. (node : ℕ) → node < length entries.now
+        → slice_index_or found node NoDimension ≡ element_count_by entries.now (children entries.now node)) }
 {
     let mut counts = ElementCounts::new(alloc, entries.count())?;
     let mut cursor = entries.cursor();

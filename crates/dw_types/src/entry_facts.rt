@@ -27,7 +27,8 @@ impl<'r, 'a> Model for EntryFacts<'r, 'a> {
 
     ghost view = { λ it. facts_in (units_of it.entries.now.scanned) };
 
-    ghost invariant = { λ it. (it.units.items ≡ all_unit_facts (units_of it.entries.now.scanned)) × (units_of it.links.now.entries.now.scanned ≡ units_of it.entries.now.scanned) };
+    ghost invariant = { λ it. (it.units.items ≡ all_unit_facts (units_of it.entries.now.scanned))
+        × (units_of it.links.now.entries.now.scanned ≡ units_of it.entries.now.scanned) };
 }
 
 impl<'r, 'a> EntryFacts<'r, 'a> {
@@ -99,7 +100,8 @@ impl<'e, 'r, 'a> Model for FactsCursor<'e, 'r, 'a> {
 
     ghost view = { λ it. facts_in (units_of it.cursor.entries.now.scanned) };
 
-    ghost invariant = { λ it. (it.units.now ≡ all_unit_facts (units_of it.cursor.entries.now.scanned)) × (units_of it.links.now.entries.now.scanned ≡ units_of it.cursor.entries.now.scanned) };
+    ghost invariant = { λ it. (it.units.now ≡ all_unit_facts (units_of it.cursor.entries.now.scanned))
+        × (units_of it.links.now.entries.now.scanned ≡ units_of it.cursor.entries.now.scanned) };
 }
 
 impl<'e, 'r, 'a> FactsCursor<'e, 'r, 'a> {

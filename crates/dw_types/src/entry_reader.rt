@@ -1,6 +1,7 @@
 //! The facts of one entry, each read from .debug_info when it is asked.
 
-ghost use Rattle.std.specs.Prelude.{◌≡◌, ◌<◌, ℕ, Bool, Option, None, Some, length, slice_get, option_map, IfSome, if◌then◌else◌};
+ghost use Rattle.std.specs.Prelude.{◌≡◌, ◌<◌, ℕ, Bool, Option, None, Some, length, slice_get, option_map, IfSome};
+ghost use Rattle.std.specs.Prelude.{if◌then◌else◌};
 ghost use Rattle.dw_forms.specs.Value.{view};
 ghost use Rattle.dw_entries.specs.Entries.{entries_of};
 ghost use Rattle.dw_entries.specs.Scanned.{units_of};

@@ -74,7 +74,8 @@ impl EntryReader<'_, '_, '_> {
     pub(crate) fn is_outside(&self, parent: Role, sizes: &SizeTable) -> bool
         requires container_in { (node : ℕ) → self.now.parent ≡ Some node → node < length sizes.now }
         requires type_in { (node : ℕ) → self.now.type_target ≡ Some node → node < length sizes.now }
-        ensures { result ≡ is_outside parent self.now (size_to (size_at sizes.now) self.now.parent) (size_to (size_at sizes.now) self.now.type_target) }
+        ensures { result ≡ is_outside parent self.now (size_to (size_at sizes.now) self.now.parent)
+            (size_to (size_at sizes.now) self.now.type_target) }
     {
         if !matches!(self.tag(), DW_TAG_member) || !parent.is_members() {
             return false;

@@ -39,7 +39,8 @@ impl Constant {
     /// What stands under an attribute of an entry.
     pub(crate) fn read(entries: &Entries<'_>, id: EntryId, attribute: Attribute) -> Constant
         requires { id < length (entries_of (units_of entries.now.scanned)) }
-        ensures { IfSome (slice_get (entries_of (units_of entries.now.scanned)) id) (λ e. result ≡ constant_at e attribute) }
+        ensures { IfSome (slice_get (entries_of (units_of entries.now.scanned)) id)
+            (λ e. result ≡ constant_at e attribute) }
     {
         Constant::of_value(entries.value(id, attribute))
     }

@@ -1,7 +1,8 @@
 //! The kinds of entries that types, counts and sizes tell apart (DWARF 5, chapter 5).
 
 ghost use Rattle.std.specs.Prelude.{◌≡◌};
-ghost use Rattle.dw_types.specs.Kinds.{has_members, is_array, is_declared_type, is_dimensions, is_enumeration, is_members, kind_of, passes_type_on, role_of};
+ghost use Rattle.dw_types.specs.Kinds.{has_members, is_array, is_declared_type, is_dimensions, is_enumeration};
+ghost use Rattle.dw_types.specs.Kinds.{is_members, kind_of, passes_type_on, role_of};
 
 use crate::entry_reader::EntryReader;
 use dw_entries::constants::*;

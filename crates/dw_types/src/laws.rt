@@ -11,6 +11,7 @@ ghost use Rattle.dw_types.specs.SizeTables.{Size};
 /// The size of a structure or union that is not declared is its own byte size. So the container of a plain
 /// member, whose size the members are measured by, has the bytes that it says itself.
 pub fn container_has_its_own_size()
-    ensures { (entries : List FactsOf) (table : ℕ → Size) (node : ℕ) → ObeysSizeLines entries table → node < length entries
+    ensures { (entries : List FactsOf) (table : ℕ → Size) (node : ℕ)
+        → ObeysSizeLines entries table → node < length entries
         → has_members (entry_at entries node) ≡ true → table node ≡ natural_of (entry_at entries node).byte_size }
 {}

@@ -1,6 +1,7 @@
 //! Vectors of numbers in four bytes each, while all of them fit.
 
-ghost use Rattle.std.specs.Prelude.{◌≡◌, ◌+◌, ◌-◌, ◌<◌, [], ◌∷◌, ◌++◌, ℕ, List, length, replicate, slice_index, slice_set, take, IfOk, MatchOption, OnOk};
+ghost use Rattle.std.specs.Prelude.{◌≡◌, ◌+◌, ◌-◌, ◌<◌, [], ◌∷◌, ◌++◌, ℕ, List, length, replicate, slice_index};
+ghost use Rattle.std.specs.Prelude.{slice_set, take, IfOk, MatchOption, OnOk};
 
 use std::alloc::{AllocError, Global};
 use std::marker::Model;
@@ -99,7 +100,8 @@ impl Numbers {
     /// The last number, if there is one.
     #[inline]
     pub(crate) fn last(&self) -> Option<usize>
-        ensures { MatchOption result (self.now ≡ []) (λ last. (0 < length self.now) × (slice_index self.now (length self.now - 1) ≡ last)) }
+        ensures { MatchOption result (self.now ≡ [])
+            (λ last. (0 < length self.now) × (slice_index self.now (length self.now - 1) ≡ last)) }
     {
         let count = self.len();
         if count == 0 {

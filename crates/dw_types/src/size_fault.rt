@@ -2,7 +2,8 @@
 
 ghost use Rattle.std.specs.Prelude.{◌≡◌, ◌<◌, ℕ, Some, false, true, length, IfSome};
 ghost use Rattle.dw_entries.specs.Failures.{IsLeast};
-ghost use Rattle.dw_types.specs.SizeFaults.{breaks_size, differ, has_no_size, has_wrong_size, is_too_great, reads_own, wants_own};
+ghost use Rattle.dw_types.specs.SizeFaults.{breaks_size, differ, has_no_size, has_wrong_size, is_too_great, reads_own};
+ghost use Rattle.dw_types.specs.SizeFaults.{wants_own};
 ghost use Rattle.dw_types.specs.Sizes.{size_to};
 ghost use Rattle.dw_types.specs.SizeTables.{size_at};
 
@@ -96,7 +97,8 @@ impl EntryReader<'_, '_, '_> {
         requires own { IfSome size (λ _. has_no_size self.now ≡ false) }
         requires container_in { (node : ℕ) → self.now.parent ≡ Some node → node < length sizes.now }
         requires type_in { (node : ℕ) → self.now.type_target ≡ Some node → node < length sizes.now }
-        ensures { IsLeast (λ rule. breaks_size parent self.now size (size_to (size_at sizes.now) self.now.parent) (size_to (size_at sizes.now) self.now.type_target) rule ≡ true) result }
+        ensures { IsLeast (λ rule. breaks_size parent self.now size (size_to (size_at sizes.now) self.now.parent)
+            (size_to (size_at sizes.now) self.now.type_target) rule ≡ true) result }
     {
         if size.is_none() && self.has_no_size() {
             return Some(Rule::NoSize);

@@ -60,7 +60,9 @@ fn first_wrong_size(
     requires targets { TargetsAreEntries entries.now }
     requires sizes_in { length sizes.now ≡ length entries.now }
     requires obeys { ObeysCappedLines entries.now (size_at sizes.now) }
-    ensures { IfOk result (λ found. MatchOption found (PassAll entries.now (fails_size entries.now (size_at sizes.now))) (λ first. IsFirstAt entries.now (fails_size entries.now (size_at sizes.now)) first.0 first.1)) }
+    ensures { IfOk result (λ found. MatchOption found
+        (PassAll entries.now (fails_size entries.now (size_at sizes.now)))
+        (λ first. IsFirstAt entries.now (fails_size entries.now (size_at sizes.now)) first.0 first.1)) }
 {
     let mut roles = Roles::with_room(alloc, entries.count())?;
     let mut cursor = entries.cursor();
@@ -117,7 +119,8 @@ pub fn sizes(
     requires order { IsOrderOf (by_value (facts_in (units_of entries.now.scanned))) order.now }
     ensures long { IfOk result (λ table. length table ≡ length (entries_of (units_of entries.now.scanned))) }
     ensures only { IfOk result (λ table. IsSizeTable (facts_in (units_of entries.now.scanned)) (size_at table)) }
-    ensures sound { IfOk result (λ table. HasNone (SizeFailures (facts_in (units_of entries.now.scanned)) (size_at table))) }
+    ensures sound { IfOk result (λ table. HasNone
+        (SizeFailures (facts_in (units_of entries.now.scanned)) (size_at table))) }
     ensures fault { IfErr result (IfFault (IsFirstSizeFault (facts_in (units_of entries.now.scanned)))) }
 {
     let facts = EntryFacts::new(alloc, entries, links)?;

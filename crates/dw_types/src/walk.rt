@@ -1,6 +1,7 @@
 //! The state of a walk over a graph.
 
-ghost use Rattle.std.specs.Prelude.{◌≡◌, ◌+◌, ◌-◌, ◌^◌, ◌<◌, [], length, replicate, slice_index, IfOk, OnOk, MatchOption};
+ghost use Rattle.std.specs.Prelude.{◌≡◌, ◌+◌, ◌-◌, ◌^◌, ◌<◌, [], length, replicate, slice_index, IfOk, OnOk};
+ghost use Rattle.std.specs.Prelude.{MatchOption};
 ghost use Rattle.dw_types.specs.WalkStates.{mark_of, taken_up, with_step, with_rank};
 
 use crate::numbers::Numbers;
@@ -36,13 +37,28 @@ impl Model for Walk {
 
     ghost Value = { State };
 
-    ghost view = { λ w. record { marks = w.marks.items; next = w.next; ranks = ranks_listed w.nodes w.by_rank; by_rank = w.by_rank; stack = w.stack; turns = w.turns } };
+    ghost view = { λ w. record {
+      marks = w.marks.items;
+      next = w.next;
+      ranks = ranks_listed w.nodes w.by_rank;
+      by_rank = w.by_rank;
+      stack = w.stack;
+      turns = w.turns;
+    } };
 }
 
 impl Walk {
     /// The walk before its first turn.
     pub(crate) fn new(alloc: Global, nodes: usize) -> Result<Self, AllocError>
-        ensures { IfOk result (λ walk. walk ≡ record { marks = replicate nodes Mark.Fresh; next = replicate nodes 0; ranks = replicate nodes 0; by_rank = []; stack = []; turns = 0 }) }
+        ensures { IfOk result (λ walk. walk
+            ≡ record {
+              marks = replicate nodes Mark.Fresh;
+              next = replicate nodes 0;
+              ranks = replicate nodes 0;
+              by_rank = [];
+              stack = [];
+              turns = 0;
+            }) }
     {
         Ok(Walk {
             marks: vec![in alloc; Mark::Fresh; nodes]?,
@@ -83,7 +99,8 @@ impl Walk {
     /// The node on top of the stack.
     #[inline]
     pub(crate) fn top(&self) -> Option<usize>
-        ensures { MatchOption result (self.now.stack ≡ []) (λ node. (0 < length self.now.stack) × (slice_index self.now.stack (length self.now.stack - 1) ≡ node)) }
+        ensures { MatchOption result (self.now.stack ≡ [])
+            (λ node. (0 < length self.now.stack) × (slice_index self.now.stack (length self.now.stack - 1) ≡ node)) }
     {
         self.stack.last()
     }
