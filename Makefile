@@ -18,6 +18,7 @@ checks = $(shell printf '%d\n' $$(nproc) $(memory) | sort -n | head -n 1)
 test:
 	RT_JOBS=$(checks) rt ci
 	tests/rows.py
+	tests/examples.py
 	tests/real-programs.sh
 	tests/hostile-files.py
 	tests/refused-growths.py
