@@ -1,8 +1,8 @@
 #!/usr/bin/env python3
 """Runs the program on the smallest file of each rule: the rows in docs/RULES.md.
 
-A row is named after its rule and must print that rule. Each rule in the tables of the page must have a row. It prints one
-line a row and ends with 'N passed, M failed'.
+A row is named after its rule and must print that rule. Each rule in the tables of the page must have a row. It prints
+one line a row and ends with 'N passed, M failed'.
 """
 import pathlib
 import re
