@@ -4,7 +4,8 @@
 usage: bench.py [MEGABYTES ..]      sizes of .debug_info, 1, 3 and 10 if none is given
 
 Each program is run several times and the least processor time counts. The table is Markdown, as it
-stands in docs/PERFORMANCE.md. gnuplot draws the same numbers into docs/performance.svg, if it is installed.
+stands in docs/PERFORMANCE.md. gnuplot draws the same numbers into docs/performance.svg, if it is installed. The walk with
+gimli is built by cargo from Debian's librust-gimli-dev; DEBIAN_CARGO is the folder of such packages, if it is another.
 """
 import datetime
 import os
@@ -23,6 +24,9 @@ ROUNDS = 5
 
 # What is measured beside `dwv check`, if it is installed.
 PEERS = (("llvm-dwarfdump", "--verify"), ("dwarfdump", "-ka"), ("pahole", "--sizes"))
+
+# Debian's packages of Rust's libraries, among them librust-gimli-dev.
+LIBRARIES = pathlib.Path(os.environ.get("DEBIAN_CARGO", "/usr/share/cargo/registry"))
 
 # What draws the picture, before the points of each tool and the command that plots them.
 AXES = """set terminal svg size 800,480 background rgb "white"
@@ -54,6 +58,26 @@ def build(megabytes):
         for source in sources:
             source.with_suffix(".o").unlink()
     return program
+
+
+def walk():
+    """The program that reads all entries with gimli, or None if gimli or cargo is not installed."""
+    if not shutil.which("cargo") or not list(LIBRARIES.glob("gimli-0.27.*")):
+        return None
+    folder = OUT / "gimli"
+    shutil.copytree(HERE / "gimli", folder, dirs_exist_ok=True)
+    settings = ('source.crates-io.replace-with="debian"', f'source.debian.directory="{LIBRARIES}"')
+    words = [word for setting in settings for word in ("--config", setting)]
+    subprocess.run(["cargo", "build", "--quiet", "--offline", "--release", *words], cwd=folder, check=True)
+    return folder / "target/release/walk"
+
+
+def sections(program):
+    """Files with the bytes of .debug_info and .debug_abbrev."""
+    paths = [program.with_name(name) for name in ("info", "abbrev")]
+    words = [f"--dump-section=.debug_{path.name}={path}" for path in paths]
+    subprocess.run(["objcopy", *words, program, "/dev/null"], check=True)
+    return paths
 
 
 def info_size(program):
@@ -107,11 +131,13 @@ def main():
     print()
     print("| .debug_info, MB | entries | tool | processor s | ns an entry | peak MB | bytes an entry over the file |")
     print("|---|---|---|---|---|---|---|")
-    times, points = {}, {}
+    times, points, gimli = {}, {}, walk()
     for size in sizes:
         program = build(size)
         bytes_of_file = program.stat().st_size
         tools = [("dwv check", [DWV, "check", program])]
+        if gimli:
+            tools.append(("a walk with gimli", [gimli, *sections(program)]))
         tools += [(" ".join(words), [*words, program]) for words in PEERS if shutil.which(words[0])]
         entries = 0
         for name, words in tools:
@@ -126,7 +152,7 @@ def main():
             points.setdefault(name, []).append((info_size(program) / 1e6, seconds))
             print(f"| {info_size(program) / 1e6:.1f} | {entries} | {name} | {seconds:.3f} | {seconds / entries * 1e9:.0f} | {peak / 1024:.0f} | {over:.0f} |")
     print()
-    absent = [words[0] for words in PEERS if not shutil.which(words[0])]
+    absent = [words[0] for words in PEERS if not shutil.which(words[0])] + ([] if gimli else ["gimli or cargo"])
     if absent:
         print(f"Not installed: {', '.join(absent)}.")
     if shutil.which("gnuplot"):
