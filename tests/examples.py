@@ -9,6 +9,7 @@ import re
 import sys
 import tempfile
 
+sys.dont_write_bytecode = True
 import rows
 
 RULES = rows.HERE.parent / "docs/RULES.md"
