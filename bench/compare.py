@@ -61,32 +61,35 @@ def reports(tool, path):
     return ran.returncode, found
 
 
-def files():
-    """Each row of docs/RULES.md with its file, which is padded if dwv reports the same rule of it."""
-    table, parts = examples.read()
-    plain = {row.name: next(row.files(parts))[0] for row in table}
+def file_of(row, parts, nulls):
+    """The file of a row, with so many nulls after the tree of each unit."""
     made = rows.made
-    rows.made = lambda kind, items: made(kind, items + bytes(8)) if kind else items
+    rows.made = lambda kind, items: made(kind, items + bytes(nulls) if kind else items)
+    file, _ = next(row.files(parts))
+    rows.made = made
+    return file
+
+
+def files():
+    """Each row of docs/RULES.md with its file, padded if dwv reports the same rule of that. Sound rows come first."""
     table, parts = examples.read()
     with tempfile.TemporaryDirectory() as folder:
         path = pathlib.Path(folder) / "file"
-        for row in table:
-            padded = next(row.files(parts))[0]
+        for row in sorted(table, key=lambda it: not it.name.startswith("sound")):
+            wanted = [] if row.name.startswith("sound") else [row.name.split(",")[0]]
+            padded = file_of(row, parts, 8)
             path.write_bytes(padded)
             _, found = reports("dwv check", path)
-            wanted = [] if row.name.startswith("sound") else [row.name.split(",")[0]]
-            yield row, padded if [report.split(" at ")[0] for report in found] == wanted else plain[row.name]
-    rows.made = made
+            yield row, padded if [it.split(" at ")[0] for it in found] == wanted else file_of(row, parts, 0)
 
 
 def compared(tools):
     """The tables: which tool reports which rule, and the first report of each."""
     marks, lines, counts = [], [], dict.fromkeys(tools, 0)
     usual_of = {tool: ({0}, set()) for tool in tools}
-    every = sorted(files(), key=lambda it: not it[0].name.startswith("sound"))
     with tempfile.TemporaryDirectory() as folder:
         path = pathlib.Path(folder) / "file"
-        for row, file in every:
+        for row, file in files():
             path.write_bytes(file)
             rule, _, name = row.name.partition(" ")
             marks.append(f"| {rule} | {name} |")

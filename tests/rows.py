@@ -91,17 +91,18 @@ def elf(sections, more):
     kept = [(f".debug_{name}", 1, sections[name]) for name in SECTIONS if sections[name]] + more
     if ".debug_info" not in [name for name, _, _ in kept]:
         kept.append((".debug_info", 1, b""))
-    names, headers, body = b"\0", [bytes(64)], b""
+    names, headers, body, start = b"\0", [bytes(64)], [], 64
     for name, kind, data in [*kept, (".shstrtab", 3, None)]:
         at, names = len(names), names + name.encode() + b"\0"
         data = names if data is None else data
-        headers.append(struct.pack("<IIQQQQIIQQ", at, kind, 0, 0, 64 + len(body), len(data), 0, 0, 0, 0))
-        body += data
-    body += bytes(-len(body) % 8)
+        headers.append(struct.pack("<IIQQQQIIQQ", at, kind, 0, 0, start, len(data), 0, 0, 0, 0))
+        body.append(data)
+        start += len(data)
+    body.append(bytes(-start % 8))
     ident = b"\x7fELF\x02\x01\x01" + bytes(9)
-    start, count = 64 + len(body), len(headers)
+    start, count = start + len(body[-1]), len(headers)
     head = struct.pack("<HHIQQQIHHHHHH", 2, 62, 1, 0, 0, start, 0, 64, 0, 0, 64, count, count - 1)
-    return ident + head + body + b"".join(headers)
+    return b"".join([ident, head, *body, *headers])
 
 
 class Row:
