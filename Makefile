@@ -19,6 +19,7 @@ test:
 	tests/dead-names.py
 	RT_JOBS=$(checks) rt ci
 	tests/rows.py
+	tests/examples.py
 	tests/real-programs.sh
 	tests/hostile-files.py
 	tests/refused-growths.py
@@ -63,10 +64,15 @@ install:
 uninstall:
 	rm -f "$(bin)/dwv" "$(man)/dwv.1" "$(completions)/dwv"
 
-# Measures the program beside llvm-dwarfdump.
+# Measures the program beside the peers that are installed, and draws docs/performance.svg.
 .PHONY: bench
 bench:
 	bench/bench.py
+
+# Runs the peers that are installed on the smallest file of each rule, and writes docs/COMPARISON.md.
+.PHONY: compare
+compare:
+	bench/compare.py
 
 # Lays out every source file.
 .PHONY: fmt

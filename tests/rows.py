@@ -87,21 +87,22 @@ def made(kind, items):
 
 
 def elf(sections, more):
-    """A linked ELF64 file: the sections that are not empty, more sections, and the name table. It has .debug_info."""
+    """A linked ELF64 file: the sections that are not empty, more sections, the name table. It has .debug_info."""
     kept = [(f".debug_{name}", 1, sections[name]) for name in SECTIONS if sections[name]] + more
     if ".debug_info" not in [name for name, _, _ in kept]:
         kept.append((".debug_info", 1, b""))
-    names, headers, body = b"\0", [bytes(64)], b""
+    names, headers, body, start = b"\0", [bytes(64)], [], 64
     for name, kind, data in [*kept, (".shstrtab", 3, None)]:
         at, names = len(names), names + name.encode() + b"\0"
         data = names if data is None else data
-        headers.append(struct.pack("<IIQQQQIIQQ", at, kind, 0, 0, 64 + len(body), len(data), 0, 0, 0, 0))
-        body += data
-    body += bytes(-len(body) % 8)
+        headers.append(struct.pack("<IIQQQQIIQQ", at, kind, 0, 0, start, len(data), 0, 0, 0, 0))
+        body.append(data)
+        start += len(data)
+    body.append(bytes(-start % 8))
     ident = b"\x7fELF\x02\x01\x01" + bytes(9)
-    start, count = 64 + len(body), len(headers)
-    head = struct.pack("<HHIQQQIHHHHHH", 2, 0, 0, 0, 0, start, 0, 0, 0, 0, 64, count, count - 1)
-    return ident + head + body + b"".join(headers)
+    start, count = start + len(body[-1]), len(headers)
+    head = struct.pack("<HHIQQQIHHHHHH", 2, 62, 1, 0, 0, start, 0, 64, 0, 0, 64, count, count - 1)
+    return b"".join([ident, head, *body, *headers])
 
 
 class Row:
@@ -153,10 +154,10 @@ def numbers(text):
     return range(int(first, 16), int(last or first, 16) + 1)
 
 
-def read(path, parts):
-    """The rows of a file. Its parts are added to the others."""
+def read(path, parts, lines=None):
+    """The rows of a file, or of these lines of it. Its parts are added to the others."""
     rows, part = [], None
-    for number, line in enumerate(path.read_text().splitlines(), 1):
+    for number, line in enumerate(path.read_text().splitlines() if lines is None else lines, 1):
         line = line if line.lstrip().startswith("|") else re.sub(r"(^|\s+)#.*", "", line)
         try:
             if line.startswith("part "):
@@ -189,21 +190,32 @@ def wrong(row, parts, path):
     return runs, None if runs else "nothing is asked"
 
 
+def build():
+    """Proves and builds the program, if it is not built."""
+    if not DWV.exists():
+        subprocess.run(["rt", "run", "--", "check", "data/X1"], cwd=CRATE, check=True)
+
+
+def outcome(table, row, parts, path):
+    """Runs a row, prints a line on it, and returns whether it passed."""
+    try:
+        runs, why = wrong(row, parts, path)
+    except (ValueError, KeyError, IndexError) as error:
+        runs, why = 0, f"the file cannot be made: {error!r}"
+    print(f"{'passed' if why is None else 'FAILED'} {table}: {row.name}: {why or f'{runs} runs'}")
+    return why is None
+
+
 def main():
     passed = failed = 0
     parts, tables = {}, sorted((HERE / "rows").glob("*.txt"), key=lambda it: (it.name != "parts.txt", it.name))
-    if not DWV.exists():
-        subprocess.run(["rt", "run", "--", "check", "data/X1"], cwd=CRATE, check=True)
+    build()
     with tempfile.TemporaryDirectory() as folder:
         for table in tables:
             own = dict(parts)
             for row in read(table, parts if table.name == "parts.txt" else own):
-                try:
-                    runs, why = wrong(row, own, pathlib.Path(folder) / "file")
-                except (ValueError, KeyError, IndexError) as error:
-                    runs, why = 0, f"the file cannot be made: {error!r}"
-                passed, failed = passed + (why is None), failed + (why is not None)
-                print(f"{'passed' if why is None else 'FAILED'} {table.stem}: {row.name}: {why or f'{runs} runs'}")
+                is_passed = outcome(table.stem, row, own, pathlib.Path(folder) / "file")
+                passed, failed = passed + is_passed, failed + (not is_passed)
     print(f"{passed} passed, {failed} failed")
     return 1 if failed else 0
 

@@ -1,0 +1,140 @@
+#!/usr/bin/env python3
+"""Runs dwv and its peers on the smallest file of each rule, and writes what they report into docs/COMPARISON.md.
+
+A peer is left out if it is not installed. Eight nulls are added after the tree of each unit, because libdwarf passes
+over a unit that is shorter; if dwv would report another rule, the file stays as docs/RULES.md has it. What a peer also
+prints for the sound files of that page is no report.
+"""
+import datetime
+import pathlib
+import re
+import shutil
+import subprocess
+import sys
+import tempfile
+
+HERE = pathlib.Path(__file__).resolve().parent
+sys.dont_write_bytecode = True
+sys.path.insert(0, str(HERE.parent / "tests"))
+import examples
+import rows
+
+PAGE = HERE.parent / "docs/COMPARISON.md"
+BEGIN, END = "<!-- made by bench/compare.py -->\n", "<!-- end -->\n"
+SECONDS = 60
+
+# A tool, the words for its version, and what is a report among the lines that it prints.
+TOOLS = {
+    "dwv check": (None, r"fault (.*)"),
+    "llvm-dwarfdump --verify": ("--version", r"(?:error|warning|note): (?!Units\[)(.*)"),
+    "dwarfdump -ka": ("-V", r"DWARF CHECK: (.*?) \*\*\*|ERROR:\s+(.*)"),
+    "eu-elflint --gnu-ld": ("--version", r"^(?!No errors)(.+)"),
+    "pahole": ("--version", r"^(?!libbpf:|struct|union|enum|\t|}|$)(.+)"),
+}
+
+
+def words_of(tool):
+    """The program and its arguments."""
+    program, *words = tool.split(" ")
+    return [rows.DWV if program == "dwv" else program, *words]
+
+
+def version(tool):
+    """The program, and the version that it prints."""
+    program, *_ = words_of(tool)
+    said = subprocess.run([program, TOOLS[tool][0]], capture_output=True, text=True)
+    return f"{program} {re.search(r'(?:version |Version .|elfutils. |v)([0-9.]+)', said.stdout + said.stderr)[1]}"
+
+
+def reports(tool, path):
+    """The exit status of a tool on a file, or how it failed, and its reports."""
+    try:
+        ran = subprocess.run([*words_of(tool), path], capture_output=True, timeout=SECONDS)
+    except subprocess.TimeoutExpired:
+        return "no end", []
+    if ran.returncode < 0:
+        return "crash", []
+    found = []
+    for line in (ran.stdout + ran.stderr).decode(errors="replace").splitlines():
+        if report := re.search(TOOLS[tool][1], line):
+            found.append(next(group for group in report.groups() if group).strip().replace(str(path), "FILE"))
+    return ran.returncode, found
+
+
+def file_of(row, parts, nulls):
+    """The file of a row, with so many nulls after the tree of each unit."""
+    made = rows.made
+    rows.made = lambda kind, items: made(kind, items + bytes(nulls) if kind else items)
+    file, _ = next(row.files(parts))
+    rows.made = made
+    return file
+
+
+def files():
+    """Each row of docs/RULES.md with its file, padded if dwv reports the same rule of that. Sound rows come first."""
+    table, parts = examples.read()
+    with tempfile.TemporaryDirectory() as folder:
+        path = pathlib.Path(folder) / "file"
+        for row in sorted(table, key=lambda it: not it.name.startswith("sound")):
+            wanted = [] if row.name.startswith("sound") else [row.name.split(",")[0]]
+            padded = file_of(row, parts, 8)
+            path.write_bytes(padded)
+            _, found = reports("dwv check", path)
+            yield row, padded if [it.split(" at ")[0] for it in found] == wanted else file_of(row, parts, 0)
+
+
+def compared(tools):
+    """The tables: which tool reports which rule, and the first report of each."""
+    marks, lines, counts = [], [], dict.fromkeys(tools, 0)
+    usual_of = {tool: ({0}, set()) for tool in tools}
+    with tempfile.TemporaryDirectory() as folder:
+        path = pathlib.Path(folder) / "file"
+        for row, file in files():
+            path.write_bytes(file)
+            rule, _, name = row.name.partition(" ")
+            marks.append(f"| {rule} | {name} |")
+            for tool in tools:
+                status, found = reports(tool, path)
+                statuses, usual = usual_of[tool]
+                if rule.startswith("sound"):
+                    statuses.add(status)
+                    usual.update(found)
+                    continue
+                new = [report for report in found if report not in usual]
+                if not new and status not in statuses:
+                    new = [f"exit status {status}"] if isinstance(status, int) else []
+                mark = status if isinstance(status, str) else "yes" if new else "no"
+                counts[tool] += mark == "yes"
+                marks[-1] += f" {mark} |"
+                if new and tool != "dwv check":
+                    lines.append(f"| {rule} | `{tool.split(' ')[0]}` | {new[0].replace('|', '/')} |")
+    marks = [mark for mark in marks if not mark.startswith("| sound")]
+    return [
+        f"| Rule | Name | {' | '.join(f'`{tool}`' for tool in tools)} |",
+        "|---|---|" + "---|" * len(tools),
+        *marks,
+        f"| | yes, of {len(marks)} files | {' | '.join(map(str, counts.values()))} |",
+        "",
+        "The first report of each:",
+        "",
+        "| Rule | Tool | What it prints |",
+        "|---|---|---|",
+        *lines,
+    ]
+
+
+def main():
+    rows.build()
+    tools = [tool for tool in TOOLS if tool == "dwv check" or shutil.which(tool.split(" ")[0])]
+    absent = [tool.split(" ")[0] for tool in TOOLS if tool not in tools]
+    about = f"{datetime.date.today()}: {', '.join(version(tool) for tool in tools if tool != 'dwv check')}."
+    if absent:
+        about += f" Not installed: {', '.join(absent)}."
+    text = "\n".join([about, "", *compared(tools), ""])
+    page = PAGE.read_text()
+    before, after = page.index(BEGIN) + len(BEGIN), page.index(END)
+    PAGE.write_text(page[:before] + "\n" + text + "\n" + page[after:])
+    print(text)
+
+
+main()
