@@ -149,12 +149,12 @@ def files():
                f"sound: {TABLES} units, {TABLES} entries, 0 types")
 
 
-# 1 compile unit, 2 base type with a name and a size, 3 typedef with a name and a type, 4 structure with a size, 5 member with a name
-# and a type, 6 const with a type, 7 pointer with a type, 8 structure with a name and a size, 9 prototyped subroutine with a type,
-# 10 parameter with a type, 11 const
+# 1 compile unit, 2 base type with a name and a size, 3 typedef with a name and a type, 4 structure with a size, 5 member
+# with a name and a type, 6 const with a type, 7 pointer with a type, 8 structure with a name and a size, 9 prototyped
+# subroutine with a type, 10 parameter with a type, 11 const
 NAMES = bytes.fromhex(
-    "0111010000" "022400" "03080b0b0000" "031600" "030849130000" "041301" "0b0b0000" "050d00" "030849130000" "062600" "49130000"
-    "070f00" "49130000" "081301" "03080b0b0000" "091501" "271949130000" "0a0500" "49130000" "0b2600" "0000" "00")
+    "0111010000" "02240003080b0b0000" "031600030849130000" "0413010b0b0000" "050d00030849130000" "06260049130000"
+    "070f0049130000" "08130103080b0b0000" "091501271949130000" "0a050049130000" "0b26000000" "00")
 
 
 class Types:
@@ -179,7 +179,7 @@ class Types:
 
     def structure(self, members, name=None):
         """A structure, whose members are names and where their types stand."""
-        at = self.add(4, more=b"\x04") if name is None else self.add(8, name, more=b"\x04")
+        at = self.add(4, more=b"\x08") if name is None else self.add(8, name, more=b"\x08")
         for member, to in members:
             self.add(5, member, to)
         self.items.append(0)
@@ -265,8 +265,9 @@ def bodies():
         for _ in range(levels):
             last = types.structure([("a", last), ("b", last)])
             text = f"struct {{ {text} a; {text} b; }}" if len(text) < 1 << 16 else text
+        rule = "P5 TooDeep" if levels > 63 else "P6 TooLong" if levels > 11 else None
         for n in range(MANY if levels == 40 else 1):
-            types.typedef(f"t{n}", last, f"{text} t{n}", "P5 TooDeep" if levels > 63 else "P6 TooLong" if levels > 11 else None)
+            types.typedef(f"t{n}", last, f"{text} t{n}", rule)
         yield f"{levels} structures, each with two members of the one before", types
 
     types = Types()
@@ -342,7 +343,8 @@ def typed(path):
     ran = subprocess.run([DWV, "types", path], capture_output=True, text=True, timeout=LIMIT, preexec_fn=limited_types)
     after = os.times()
     seconds = after.children_user + after.children_system - before.children_user - before.children_system
-    return f"{ran.stdout}{ran.stderr}status {ran.returncode}, {'within' if seconds <= TYPES_SECONDS else 'past'} {TYPES_SECONDS} s\n"
+    how = "within" if seconds <= TYPES_SECONDS else "past"
+    return f"{ran.stdout}{ran.stderr}status {ran.returncode}, {how} {TYPES_SECONDS} s\n"
 
 
 def runs():

@@ -1,7 +1,7 @@
 #!/usr/bin/env bash
 # Runs dwv on programs that compilers make: the number of entries that `check` tells, and the depth and offset of each entry that
-# `show` lists, must be readelf's, and `size` must answer what `show` says of a type. `types` must list each named type once, and
-# compilers must accept what it lists of shapes.c, with the sizes that `size` answers.
+# `show` lists, must be readelf's, and `size` must answer what `show` says of a type. `types` must list each named type
+# once, and compilers must accept what it lists of shapes.c, with the sizes that `size` answers.
 # It prints one line a run and ends with 'N passed, M failed'. What is not installed is skipped.
 set -u
 cd "$(dirname "$0")/.." || exit 1
@@ -92,7 +92,8 @@ types() {
 accepted() {
     local said
     tests/listed.py asserts "$2" > "$built/listing.c"
-    if grep -q '^_Static_assert' "$built/listing.c" && said=$("$3" -std=gnu11 -fsyntax-only "$built/listing.c" 2>&1); then
+    if grep -q '^_Static_assert' "$built/listing.c" &&
+        said=$("$3" -std=gnu11 -fsyntax-only "$built/listing.c" 2>&1); then
         pass "$1: types, accepted by $3, $(grep -c '^_Static_assert' "$built/listing.c") sizes"
     else
         fail "$1: types, not accepted by $3: $(head -n 3 <<< "$said")"
