@@ -5,7 +5,7 @@ _dwv() {
     local word=${COMP_WORDS[COMP_CWORD]}
     COMPREPLY=()
     if [ "$COMP_CWORD" -eq 1 ]; then
-        mapfile -t COMPREPLY < <(compgen -W 'check show size' -- "$word")
+        mapfile -t COMPREPLY < <(compgen -W 'check show types size' -- "$word")
     elif [ "${COMP_WORDS[1]}" = check ] && [[ $word == -* ]]; then
         mapfile -t COMPREPLY < <(compgen -W --json -- "$word")
     fi

@@ -16,6 +16,12 @@ failed=0
 broken=$folder/broken
 LC_ALL=C sed 's/\x02int/\x03int/' "$file" > "$broken"
 
+# X1 with a structure in place of the base type; and with a structure whose name is a keyword.
+structure=$folder/structure
+LC_ALL=C sed -e 's/\x02\x24\x00/\x02\x13\x00/' -e 's/\x02int/\x02cat/' "$file" > "$structure"
+refused=$folder/refused
+LC_ALL=C sed 's/\x02\x24\x00/\x02\x13\x00/' "$file" > "$refused"
+
 # The program under a name that is not UTF-8.
 other=$folder/$'\xff'
 cp "$dwv" "$other"
@@ -46,15 +52,22 @@ sound='sound: 1 units, 2 entries, 1 types'
 ends 0 "$sound" '' check "$file"
 ends 0 '{"entries":2,"sound":true,"types":1,"units":1}' '' check --json "$file"
 ends 0 $'0x0000000c 0x0011 "a"\n0x0000000f   0x0024 "int" size 4' '' show "$file"
+ends 0 '' '' types "$file"
+ends 0 'struct cat { };' '' types "$structure"
+ends 0 '/* 0x0000000f P2 BadName */' '' types "$refused"
 ends 0 'size 4' '' size "$file" 0x0F
 how=under_another_name ends 0 "$sound" '' check "$file"
 ends 1 'fault G1 UndeclaredCode at .debug_info+0x0000000f attribute 0x0' '' check "$broken"
 fault='{"at":15,"attribute":0,"cycle":[],"name":"UndeclaredCode","rule":"G1","section":".debug_info","sound":false}'
 ends 1 "$fault" '' check --json "$broken"
+ends 1 'fault G1 UndeclaredCode at .debug_info+0x0000000f attribute 0x0' '' types "$broken"
 ends 1 'fault E2 NotElf64 at section 0' '' show /dev/null
+ends 1 'fault E2 NotElf64 at section 0' '' types /dev/null
 ends 1 'fault E2 NotElf64 at section 0' '' size /dev/null 0x10
 ends 2 'not a type' '' size "$file" 0x10
 ends 2 '' 'dwv: bad usage' show
+ends 2 '' 'dwv: bad usage' types
+ends 2 '' 'dwv: bad usage' types --json "$file"
 ends 2 '' 'dwv: bad usage' check $'\xff'
 ends 2 '' 'dwv: bad usage' size "$file"
 ends 2 '' 'dwv: bad usage' size no-such-file 10 --json
@@ -62,7 +75,9 @@ ends 2 '' 'dwv: bad usage' --help
 ends 2 '' 'dwv: bad offset' size no-such-file 10
 ends 3 '' 'dwv: cannot open file' size no-such-file 0x10
 ends 3 '' 'dwv: cannot open file' show no-such-file
+ends 3 '' 'dwv: cannot open file' types no-such-file
 ends 3 '' 'dwv: reading failed' show .
 how=to_a_full_disk ends 3 '' 'dwv: writing failed' check "$file"
+how=to_a_full_disk ends 3 '' 'dwv: writing failed' types "$structure"
 echo "$passed passed, $failed failed"
 [ "$failed" -eq 0 ]

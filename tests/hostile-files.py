@@ -2,9 +2,10 @@
 """Runs `dwv check` on files that are small and mean work: deep trees, long chains, one string with many names.
 
 Each has to be answered with the stated line within the time limit, and no run may crash. The lines of `show` of a deep tree
-are far more bytes than the memory that it may have: it has to say so, and to write nothing. It prints one line a run with the
-seconds it took, and ends with 'N passed, M failed'.
+are far more bytes than the memory that it may have: it has to say so, and to write nothing. `types` has to print its whole
+text within limits of its own. It prints one line a run with the seconds it took, and ends with 'N passed, M failed'.
 """
+import os
 import pathlib
 import resource
 import struct
@@ -19,6 +20,9 @@ LIMIT = 20
 MANY = 100_000
 # Bytes of memory that a run of `show` may have.
 MEMORY = 1 << 30
+# Bytes of memory and seconds of processor time that a run of `types` may have.
+TYPES_MEMORY = 1 << 29
+TYPES_SECONDS = 1
 TABLES = 40_000
 # Attributes of one declaration that come before its DW_AT_declaration.
 WIDE = 50_000
@@ -173,9 +177,180 @@ def files():
                f"sound: {TABLES} units, {TABLES} entries, 0 types")
 
 
+# 1 compile unit, 2 base type with a name and a size, 3 typedef with a name and a type, 4 structure with a size, 5 member
+# with a name and a type, 6 const with a type, 7 pointer with a type, 8 structure with a name and a size, 9 prototyped
+# subroutine with a type, 10 parameter with a type, 11 const
+NAMES = bytes.fromhex(
+    "0111010000" "02240003080b0b0000" "031600030849130000" "0413010b0b0000" "050d00030849130000" "06260049130000"
+    "070f0049130000" "08130103080b0b0000" "091501271949130000" "0a050049130000" "0b26000000" "00")
+
+
+class Types:
+    """The entries of a unit with the type `int`, and the lines that `types` has to print of them."""
+
+    def __init__(self):
+        self.items, self.printed, self.refused = bytearray(b"\x01"), [], []
+        self.int = self.add(2, "int", more=b"\x04")
+
+    def next(self):
+        """Where the next entry stands."""
+        return 12 + len(self.items)
+
+    def add(self, code, name=None, to=None, more=b""):
+        """An entry with a name and a reference where its code has them. It returns where the entry stands."""
+        at = self.next()
+        self.items.append(code)
+        self.items += b"" if name is None else name.encode() + b"\0"
+        self.items += b"" if to is None else struct.pack("<I", to)
+        self.items += more
+        return at
+
+    def structure(self, members, name=None):
+        """A structure, whose members are names and where their types stand."""
+        at = self.add(4, more=b"\x08") if name is None else self.add(8, name, more=b"\x08")
+        for member, to in members:
+            self.add(5, member, to)
+        self.items.append(0)
+        return at
+
+    def typedef(self, name, to, text=None, rule=None):
+        """A typedef, whose line has the text of its type and the name, or is refused by a rule."""
+        at = self.add(3, name, to)
+        if rule:
+            self.refuse(at, rule)
+        else:
+            self.printed.append(f"typedef {text};\n")
+        return at
+
+    def refuse(self, at, rule):
+        """The line of a refused type."""
+        self.refused.append(f"/* 0x{at:08x} {rule} */\n")
+
+    def file(self):
+        """The file."""
+        return elf([(".debug_abbrev", NAMES), (".debug_info", unit(bytes(self.items) + b"\0"))])
+
+    def text(self):
+        """What `types` prints of it."""
+        return "".join(self.printed + self.refused)
+
+
+def chains():
+    """Types in chains and cycles: the name of each file, and its types."""
+    types = Types()
+    for n in range(MANY):
+        types.typedef(f"t{n}", types.int, f"int t{n}")
+    yield f"{MANY:,} typedefs", types
+
+    types = Types()
+    last, word = types.int, "int"
+    for n in range(MANY):
+        last, word = types.typedef(f"t{n}", last, f"{word} t{n}"), f"t{n}"
+    yield f"a chain of {MANY:,} typedefs", types
+
+    types = Types()
+    consts = [types.int]
+    for _ in range(MANY):
+        consts.append(types.add(6, to=consts[-1]))
+    for n, at in enumerate(consts):
+        types.typedef(f"t{n}", at, "const " * n + f"int t{n}", "P5 TooDeep" if n > 63 else None)
+    yield f"a chain of {MANY:,} consts, and a typedef of each", types
+
+    types = Types()
+    pointers = [types.add(6, to=types.next() + 5)]
+    pointers.append(types.add(7, to=pointers[0]))
+    for _ in range(MANY):
+        pointers.append(types.add(7, to=pointers[-1]))
+    for n, at in enumerate(pointers):
+        types.typedef(f"t{n}", at, rule="P1 NotPrintable")
+    yield f"{MANY:,} pointers in a chain to a cycle, and a typedef of each", types
+
+    types = Types()
+    cycles = []
+    for _ in range(MANY // 2):
+        cycles.append(types.add(6, to=types.next() + 5))
+        types.add(7, to=cycles[-1])
+    for n, at in enumerate(cycles):
+        types.typedef(f"t{n}", at, rule="P1 NotPrintable")
+    yield f"{MANY // 2:,} cycles, and a typedef of each", types
+
+    types = Types()
+    first = types.next()
+    size = len(b"\x04\x04") + len(b"\x05m\0") + 4 + len(b"\0") + len(b"\x07") + 4
+    for n in range(MANY):
+        types.structure([("m", types.next() + size - 5)])
+        types.add(7, to=first + (n + 1) % MANY * size)
+    for n in range(MANY):
+        types.typedef(f"t{n}", first + n * size + size - 5, rule="P1 NotPrintable")
+    yield f"a cycle of {MANY:,} structures, and {MANY:,} typedefs of pointers to it", types
+
+
+def bodies():
+    """Structures with many members, or much text: the name of each file, and its types."""
+    for levels in (1, 11, 12, 40, 63, 64):
+        types = Types()
+        last, text = types.int, "int"
+        for _ in range(levels):
+            last = types.structure([("a", last), ("b", last)])
+            text = f"struct {{ {text} a; {text} b; }}" if len(text) < 1 << 16 else text
+        rule = "P5 TooDeep" if levels > 63 else "P6 TooLong" if levels > 11 else None
+        for n in range(MANY if levels == 40 else 1):
+            types.typedef(f"t{n}", last, f"{text} t{n}", rule)
+        yield f"{levels} structures, each with two members of the one before", types
+
+    types = Types()
+    wide = types.structure([(f"m{n}", types.int) for n in range(MANY // 10)])
+    for n in range(MANY):
+        types.typedef(f"t{n}", wide, rule="P6 TooLong")
+    yield f"a structure of {MANY // 10:,} members, and {MANY:,} typedefs of it", types
+
+    types = Types()
+    wide = types.structure([(f"m{n}", types.int) for n in range(MANY // 10)])
+    for n in range(MANY // 10):
+        types.refuse(types.structure([("m", wide)], f"s{n}"), "P6 TooLong")
+    yield f"a structure of {MANY // 10:,} members, and {MANY // 10:,} structures that contain it", types
+
+    types = Types()
+    pointer = types.add(7, to=types.next() + 5)
+    types.refuse(types.structure([(f"m{n}", pointer) for n in range(MANY)], "s"), "P6 TooLong")
+    yield f"a structure of {MANY:,} pointers to itself", types
+
+    types = Types()
+    other = types.add(4, more=b"\x04")
+    types.add(5, "x", types.int)
+    for _ in range(MANY):
+        types.add(11)
+    types.items.append(0)
+    for n in range(MANY):
+        types.typedef(f"t{n}", other, f"struct {{ int x; }} t{n}")
+    yield f"a structure of {MANY:,} children that are no members, and {MANY:,} typedefs of it", types
+
+    types = Types()
+    long = types.structure([(f"m{n:04}", types.int) for n in range(5000)])
+    text = "".join(f"int m{n:04}; " for n in range(5000))
+    for n in range(1000):
+        types.typedef(f"t{n}", long, f"struct {{ {text}}} t{n}")
+    yield "1,000 typedefs of a structure whose text has 55,000 bytes", types
+
+    types = Types()
+    last = types.int
+    for _ in range(30):
+        last = types.add(9, to=last)
+        types.add(10, to=types.int, more=b"\0")
+        last = types.add(7, to=last)
+    for n in range(MANY // 100):
+        types.typedef(f"t{n}", last, "int " + "(*" * 30 + f"t{n}" + ")(int)" * 30)
+    yield f"{MANY // 100:,} typedefs of a pointer to a function that returns such a pointer, 30 deep", types
+
+
 def limited():
     """Limits the memory of the process that is about to run."""
     resource.setrlimit(resource.RLIMIT_AS, (MEMORY, MEMORY))
+
+
+def limited_types():
+    """The same for `types`."""
+    resource.setrlimit(resource.RLIMIT_AS, (TYPES_MEMORY, TYPES_MEMORY))
 
 
 def checked(path):
@@ -190,10 +365,23 @@ def shown(path):
     return f"status {ran.returncode}, {len(ran.stdout)} bytes written, {ran.stderr.decode()}"
 
 
+def typed(path):
+    """What `types` of a file prints, its status, and whether it took no more than its processor time."""
+    before = os.times()
+    ran = subprocess.run([DWV, "types", path], capture_output=True, text=True, timeout=LIMIT, preexec_fn=limited_types)
+    after = os.times()
+    seconds = after.children_user + after.children_system - before.children_user - before.children_system
+    how = "within" if seconds <= TYPES_SECONDS else "past"
+    return f"{ran.stdout}{ran.stderr}status {ran.returncode}, {how} {TYPES_SECONDS} s\n"
+
+
 def runs():
     """Each run: its name, the file, what asks it, and the beginning of what it must say."""
     for name, sections, want in files():
         yield name, elf(sections), checked, want
+    for some in (chains(), bodies()):
+        for name, types in some:
+            yield f"types of {name}", types.file(), typed, f"{types.text()}status 0, within {TYPES_SECONDS} s\n"
     tree = [(".debug_abbrev", TABLE), (".debug_info", unit(deep()))]
     yield f"show of {MANY:,} nested structures", elf(tree), shown, "status 4, 0 bytes written, dwv: out of memory\n"
     yield f"{SECTIONS:,} sections with one name of 16 MB", alike(), checked, "sound: 0 units, 0 entries, 0 types"

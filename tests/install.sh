@@ -53,11 +53,12 @@ completed() {
     bash -c 'source "$1"; shift; COMP_WORDS=("$@"); COMP_CWORD=$(($# - 1)); _dwv; echo "${COMPREPLY[*]}"' - \
         "$installed/share/bash-completion/completions/dwv" "$@"
 }
-is 'completion of no word' "$(completed dwv '')" 'check show size'
+is 'completion of no word' "$(completed dwv '')" 'check show types size'
 is 'completion of a command' "$(completed dwv s)" 'show size'
 is 'completion of an option' "$(completed dwv check --)" '--json'
 is 'completion of an option after the file' "$(completed dwv check a.out -)" '--json'
 is 'names of files after check' "$(completed dwv check a)" ''
+is 'completion of types' "$(completed dwv t)" 'types'
 is 'show has no option' "$(completed dwv show -)" ''
 
 # The codes and names of rules: in the tables of docs/RULES.md, and in the lists of the page.

@@ -1,6 +1,7 @@
 #!/usr/bin/env bash
 # Runs dwv on programs that compilers make: the number of entries that `check` tells, and the depth and offset of each entry that
-# `show` lists, must be readelf's, and `size` must answer what `show` says of a type.
+# `show` lists, must be readelf's, and `size` must answer what `show` says of a type. `types` must list each named type
+# once, and compilers must accept what it lists of shapes.c, with the sizes that `size` answers.
 # It prints one line a run and ends with 'N passed, M failed'. What is not installed is skipped.
 set -u
 cd "$(dirname "$0")/.." || exit 1
@@ -77,6 +78,28 @@ show() {
     fi
 }
 
+# types NAME FILE: each type that readelf lists with a name must be listed once.
+types() {
+    local said
+    if said=$(tests/listed.py named "$2"); then
+        pass "$1: types, $said"
+    else
+        fail "$1: types, $said"
+    fi
+}
+
+# accepted NAME FILE COMPILER: the compiler must accept the listing, and give each type the size that `size` prints.
+accepted() {
+    local said
+    tests/listed.py asserts "$2" > "$built/listing.c"
+    if grep -q '^_Static_assert' "$built/listing.c" &&
+        said=$("$3" -std=gnu11 -fsyntax-only "$built/listing.c" 2>&1); then
+        pass "$1: types, accepted by $3, $(grep -c '^_Static_assert' "$built/listing.c") sizes"
+    else
+        fail "$1: types, not accepted by $3: $(head -n 3 <<< "$said")"
+    fi
+}
+
 if ! command -v readelf > /dev/null; then
     echo "skipped: readelf is not installed"
     echo "0 passed, 0 failed"
@@ -94,13 +117,20 @@ for compiler in gcc clang; do
             if "$compiler" "${flags[@]}" -o "$built/$name" "$sources/shapes.c" "$sources/calls.c"; then
                 check "$name" "$built/$name"
                 show "$name" "$built/$name"
+                types "$name" "$built/$name"
             else
                 echo "skipped: $name does not compile"
             fi
             if "$compiler" "${flags[@]}" -fPIC -shared -o "$built/$name.so" "$sources/library.c"; then
                 check "$name.so" "$built/$name.so"
+                types "$name.so" "$built/$name.so"
             else
                 echo "skipped: $name.so does not compile"
+            fi
+            if "$compiler" "${flags[@]}" -fPIC -shared -o "$built/shapes.so" "$sources/shapes.c"; then
+                for other in gcc clang; do
+                    command -v "$other" > /dev/null && accepted "$name, shapes.c" "$built/shapes.so" "$other"
+                done
             fi
         done
     done

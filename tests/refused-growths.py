@@ -17,7 +17,14 @@ import rows
 HERE = pathlib.Path(__file__).resolve().parent
 DWV = HERE.parent / "crates/dwv/out/dwv"
 # .debug_abbrev and .debug_info of small files, by the parts of tests/rows/parts.txt.
-FILES = {"sound": ("A", "B"), "G1": ("A", "B[0f=03]"), "C1": ("T", "F"), "Z2": ("T", "N2"), "functions": ("T", "M")}
+FILES = {
+    "sound": ("A", "B"),
+    "G1": ("A", "B[0f=03]"),
+    "C1": ("T", "F"),
+    "Z2": ("T", "N2"),
+    "functions": ("T", "M"),
+    "P1": ("T", "L"),
+}
 MEMORY = (4, b"", b"dwv: out of memory\n")
 # A number past those of all requests.
 ALL = 2**32
@@ -89,6 +96,7 @@ def commands(files):
         yield ["check", str(file)]
         yield ["check", "--json", str(file)]
         yield ["show", str(file)]
+        yield ["types", str(file)]
         yield ["size", str(file), "0x0f"]
 
 

@@ -1,8 +1,10 @@
-/* Structures, unions, bit fields, nested types without a name, arrays and enumerations. */
+/* Structures, unions, bit fields, nested types without a name, arrays and enumerations. A compiler accepts the lines that
+   `dwv types` prints of them, in their order. */
 #include <stddef.h>
 #include <stdint.h>
 
 typedef unsigned long word;
+typedef unsigned __int128 widest;
 
 enum colour { RED, GREEN = 5, BLUE = -1 };
 
@@ -65,6 +67,7 @@ enum colour paint = BLUE;
 _Complex double phase;
 long double precise = 1.5L;
 __int128 huge;
+widest limit;
 word words[3];
 struct empty nothing;
 wchar_t letter = L'x';

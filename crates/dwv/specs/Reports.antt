@@ -1,5 +1,5 @@
 -- The report of a request over the bytes of a file.
-use Rattle.std.specs.Prelude.{ℕ, ◌<◌, ◌≤◌, true, false, List, length, take, Option}
+use Rattle.std.specs.Prelude.{◌≡◌, ℕ, ◌<◌, ◌≤◌, true, false, List, length, take, Option}
 use Rattle.std.specs.Io.KnownBytes.{Appends}
 use Rattle.dw_elf.specs.declared.fault.ElfRule.TheVariants as elf_rules
 use Rattle.dw_elf.specs.declared.fault.ElfFault.{ElfFault}
@@ -8,6 +8,8 @@ use Rattle.dw_elf.specs.Checks.{ChecksPass}
 use Rattle.dw_elf.specs.Rules.{IsFault}
 use Rattle.dw_elf.specs.Sections.{AreSections}
 use Rattle.dw_entries.specs.declared.fault.Fault.{Fault as FirstFault}
+use Rattle.dw_cprint.specs.Listings.{IsListing, listing_text}
+use Rattle.dw_cprint.specs.declared.fault.PrintFault.{PrintFault}
 use Rattle.dw_image.specs.declared.image.Image.{Image}
 use Rattle.dw_image.specs.Headline.{IsImageOf, IsFaultOf}
 use Rattle.dw_image.specs.Images.{unit_count, entry_count, type_count}
@@ -15,7 +17,7 @@ use Rattle.dwv.specs.Lines.{sound_line, elf_fault_line, fault_lines}
 use Rattle.dwv.specs.Shown.{show_lines, size_text, size_status, type_at_offset}
 use Rattle.dwv.specs.Objects.{sound_object, fault_object, elf_fault_object, object_line}
 use Rattle.dwv.specs.declared.request.Request.{Request}
-use Rattle.dwv.specs.declared.request.Request.TheVariants.{Check, Show, Size}
+use Rattle.dwv.specs.declared.request.Request.TheVariants.{Check, Show, Types, Size}
 use Rattle.dwv.specs.declared.request.Status.{Status}
 use Rattle.dwv.specs.declared.request.Status.TheVariants.{Sound, Fault}
 
@@ -33,12 +35,20 @@ abbrev pub fault_text : Request → FirstFault → List ℕ
 fault_text (Check true) f = object_line (fault_object f)
 fault_text _ f = fault_lines f
 
+-- the lines of the listing of all named types
+pub record AreTypeLines (i : Image) (text : List ℕ) : Type 0 where
+  pub order : List ℕ
+  pub refused : List (ℕ × PrintFault)
+  pub listing : IsListing i order refused
+  pub lines : text ≡ listing_text i order refused
+
 -- what is written where the sections are sound
-abbrev pub sound_text : Request → Image → List ℕ
-sound_text (Check true) i = object_line (sound_object (unit_count i) (entry_count i) (type_count i))
-sound_text (Check false) i = sound_line (unit_count i) (entry_count i) (type_count i)
-sound_text Show i = show_lines i
-sound_text (Size offset) i = size_text i (type_at_offset i offset)
+abbrev pub IsSoundText : Request → Image → List ℕ → Type 0
+IsSoundText (Check true) i text = text ≡ object_line (sound_object (unit_count i) (entry_count i) (type_count i))
+IsSoundText (Check false) i text = text ≡ sound_line (unit_count i) (entry_count i) (type_count i)
+IsSoundText Show i text = text ≡ show_lines i
+IsSoundText Types i text = AreTypeLines i text
+IsSoundText (Size offset) i text = text ≡ size_text i (type_at_offset i offset)
 
 -- what is answered there
 abbrev pub sound_status : Request → Image → Status
@@ -55,7 +65,8 @@ pub data Report (limit : ℕ) (request : Request) (bytes : List ℕ) : Status �
   large : limit < length bytes → Report limit request bytes Fault (elf_fault_text request too_large)
   fails : (f : ElfFault) → length bytes ≤ limit → IsFault bytes f → Report limit request bytes Fault (elf_fault_text request f)
   fault : (s : Sections) (f : FirstFault) → length bytes ≤ limit → ChecksPass bytes → AreSections bytes s → IsFaultOf s f → Report limit request bytes Fault (fault_text request f)
-  sound : (s : Sections) (i : Image) → length bytes ≤ limit → ChecksPass bytes → AreSections bytes s → IsImageOf s i → Report limit request bytes (sound_status request i) (sound_text request i)
+  sound : (s : Sections) (i : Image) (text : List ℕ) → length bytes ≤ limit → ChecksPass bytes → AreSections bytes s
+      → IsImageOf s i → IsSoundText request i text → Report limit request bytes (sound_status request i) text
 
 -- a writer whose known bytes were `old` and are `new` has taken the report of these bytes
 abbrev pub WritesReport : ℕ → Request → List ℕ → Status → Option (List ℕ) → Option (List ℕ) → Type 0

@@ -1,12 +1,13 @@
 //! Which text answers a request over the bytes of a file.
 
 ghost use Rattle.std.specs.Prelude.{◌≡◌, IfOk};
-ghost use Rattle.dwv.specs.Reports.{fault_text, elf_fault_text, sound_text, sound_status, Report};
+ghost use Rattle.dwv.specs.Reports.{fault_text, elf_fault_text, AreTypeLines, IsSoundText, sound_status, Report};
 
 use crate::json::{put_elf_fault_object, put_fault_object, put_sound_object};
 use crate::lines::{put_elf_fault_line, put_fault_lines, put_sound_line};
 use crate::request::{Request, Status};
 use crate::shown::{put_show_lines, put_size_at};
+use dw_cprint::declare_all;
 use dw_elf::{ElfFault, ElfRule, find};
 use dw_image::{Fault, Image, NoMemory, Verdict, verify};
 use std::alloc::{AllocError, Global};
@@ -27,6 +28,7 @@ fn elf_fault_of(alloc: Global, request: Request, fault: ElfFault) -> Result<Vec<
         Request::Check { json: true } => put_elf_fault_object(&mut text, alloc, fault)?,
         Request::Check { json: false } => put_elf_fault_line(&mut text, fault)?,
         Request::Show => put_elf_fault_line(&mut text, fault)?,
+        Request::Types => put_elf_fault_line(&mut text, fault)?,
         Request::Size(_) => put_elf_fault_line(&mut text, fault)?,
     }
     Ok(text)
@@ -41,14 +43,23 @@ fn fault_of(alloc: Global, request: Request, fault: &Fault) -> Result<Vec<u8>, A
         Request::Check { json: true } => put_fault_object(&mut text, alloc, fault)?,
         Request::Check { json: false } => put_fault_lines(&mut text, fault)?,
         Request::Show => put_fault_lines(&mut text, fault)?,
+        Request::Types => put_fault_lines(&mut text, fault)?,
         Request::Size(_) => put_fault_lines(&mut text, fault)?,
     }
     Ok(text)
 }
 
+/// The lines of all named types.
+fn types_of(alloc: Global, image: &Image<'_>) -> Result<Vec<u8>, NoMemory>
+    ensures { IfOk result (λ text. AreTypeLines image.now text.items) }
+{
+    let listing = declare_all(alloc, image)?;
+    Ok(listing.text)
+}
+
 /// What is answered where the sections are sound.
-fn sound_of(alloc: Global, request: Request, image: &Image<'_>) -> Result<Answer, AllocError>
-    ensures text { IfOk result (λ answer. answer.text.items ≡ sound_text request image.now) }
+fn sound_of(alloc: Global, request: Request, image: &Image<'_>) -> Result<Answer, NoMemory>
+    ensures text { IfOk result (λ answer. IsSoundText request image.now answer.text.items) }
     ensures status { IfOk result (λ answer. answer.status ≡ sound_status request image.now) }
 {
     let mut text = Vec::new(alloc);
@@ -57,6 +68,7 @@ fn sound_of(alloc: Global, request: Request, image: &Image<'_>) -> Result<Answer
         Request::Check { json: true } => put_sound_object(&mut text, alloc, image)?,
         Request::Check { json: false } => put_sound_line(&mut text, image)?,
         Request::Show => put_show_lines(&mut text, image)?,
+        Request::Types => text = types_of(alloc, image)?,
         Request::Size(offset) => status = put_size_at(&mut text, image, offset)?,
     }
     Ok(Answer { status, text })

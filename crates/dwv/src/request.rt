@@ -14,6 +14,8 @@ pub enum Request {
     Check { json: bool },
     /// Each entry on a line: its offset, its tag, its name and its size.
     Show,
+    /// The C declaration of each named type, or why it has none.
+    Types,
     /// The size of the type whose entry begins at this offset of .debug_info.
     Size(u32),
 }

@@ -47,6 +47,7 @@ fn forms<'a>(alloc: Global) -> Result<Command<'a>, AllocError> {
         .arg(json)?
         .arg(file_arg(alloc))?;
     let show = Command::new(alloc, "show").arg(file_arg(alloc))?;
+    let types = Command::new(alloc, "types").arg(file_arg(alloc))?;
     let size = Command::new(alloc, "size")
         .arg(file_arg(alloc))?
         .arg(offset)?;
@@ -54,6 +55,7 @@ fn forms<'a>(alloc: Global) -> Result<Command<'a>, AllocError> {
         .no_binary_name(true)
         .subcommand(check)?
         .subcommand(show)?
+        .subcommand(types)?
         .subcommand(size)
 }
 
@@ -79,6 +81,7 @@ fn request_of<'a>(name: &str, matches: &ArgMatches<'a>) -> Result<(Request, &'a 
             json: matches.get_flag("json"),
         },
         "show" => Request::Show,
+        "types" => Request::Types,
         "size" => {
             let Some(text) = matches.get_str("OFFSET") else {
                 return Err(WordsFault::BadUsage);

@@ -59,6 +59,18 @@ fn sample() -> [u8; 400] {
     file
 }
 
+/// The sample with the structure `cat` in place of the base type.
+fn structure() -> [u8; 400] {
+    let mut file = sample();
+    file[0x48] = 0x13;
+    file[0x63] = b'c';
+    file[0x64] = b'a';
+    file
+}
+
+/// What `types` writes of it.
+const DECLARED: &[u8] = b"struct cat { };\n";
+
 #[test]
 fn longer_than_the_limit(rt: HostRuntime) -> Result<(), Fail> {
     let file = sample();
@@ -107,12 +119,12 @@ fn failing_reads(rt: HostRuntime) -> Result<(), Fail> {
     for (request, text) in &REQUESTS {
         assert_reads(&rt, rt.alloc(), &file, *request, text)?;
     }
-    Ok(())
+    assert_reads(&rt, rt.alloc(), &structure(), Request::Types, DECLARED)
 }
 
 /// Asserts what is answered where a writer that takes a byte a call fails, or takes none, at one call: call k leaves
 /// k - 1 bytes of the text.
-fn assert_writes(
+fn assert_write(
     rt: &impl Abort,
     alloc: Global,
     file: &[u8],
@@ -136,21 +148,33 @@ fn assert_writes(
     Ok(())
 }
 
+/// The same at each call in turn.
+fn assert_writes(
+    rt: &impl Abort,
+    alloc: Global,
+    file: &[u8],
+    request: Request,
+    text: &[u8],
+) -> Result<(), Fail> {
+    for fails_at in 1..=text.len() as u64 + 1 {
+        for takes_none in [false, true] {
+            let writer = SlowWriter {
+                taken: Vec::new(alloc),
+                calls: 0,
+                fails_at,
+                takes_none,
+            };
+            assert_write(rt, alloc, file, request, text, writer)?;
+        }
+    }
+    Ok(())
+}
+
 #[test]
 fn failing_writes(rt: HostRuntime) -> Result<(), Fail> {
     let file = sample();
     for (request, text) in &REQUESTS {
-        for fails_at in 1..=text.len() as u64 + 1 {
-            for takes_none in [false, true] {
-                let writer = SlowWriter {
-                    taken: Vec::new(rt.alloc()),
-                    calls: 0,
-                    fails_at,
-                    takes_none,
-                };
-                assert_writes(&rt, rt.alloc(), &file, *request, text, writer)?;
-            }
-        }
+        assert_writes(&rt, rt.alloc(), &file, *request, text)?;
     }
-    Ok(())
+    assert_writes(&rt, rt.alloc(), &structure(), Request::Types, DECLARED)
 }

@@ -1,7 +1,7 @@
 use Rattle.std.proofs.Common.{sym, subst}
 use Rattle.dwv.specs.declared.request.Status.TheVariants.{Fault}
 use Rattle.dw_image.specs.Headline.{IsFaultOf, IsImageOf}
-use Rattle.dwv.specs.Reports.{Report, large, fails, fault, sound, sound_text}
+use Rattle.dwv.specs.Reports.{Report, large, fails, fault, sound}
 use Rattle.dwv.proofs.report.report.Goals as goal
 
 pub returns-then-bytes-limit : goal.returns-then-bytes-limit
@@ -22,6 +22,7 @@ pub returns-in_ok-answer-in-Sound : goal.returns-in_ok-answer-in-Sound
 returns-in_ok-answer-in-Sound c =
     let judged : IsImageOf c.in-Ok.sections c.in-Sound.image = rw c.in-Sound.is at c.in_ok-fault.ensures in
     let answer = c.in_ok-answer-in-Sound.answer in
-    subst (λ t. Report c.args.limit c.args.request c.args.bytes.now answer.status t) (sym c.in_ok-answer-in-Sound.ensures.text)
-    (subst (λ s. Report c.args.limit c.args.request c.args.bytes.now s (sound_text c.args.request c.in-Sound.image)) (sym c.in_ok-answer-in-Sound.ensures.status)
-    (sound c.in-Ok.sections c.in-Sound.image c.if-bytes-limit.false c.in-Ok.ensures.passes c.in-Ok.ensures.sections judged))
+    subst (λ s. Report c.args.limit c.args.request c.args.bytes.now s answer.text.items)
+    (sym c.in_ok-answer-in-Sound.ensures.status)
+    (sound c.in-Ok.sections c.in-Sound.image answer.text.items c.if-bytes-limit.false c.in-Ok.ensures.passes
+    c.in-Ok.ensures.sections judged c.in_ok-answer-in-Sound.ensures.text)
