@@ -18,3 +18,5 @@ pub mod FixedSums
 pub mod RemainderLaws
 pub mod FewAttributes
 pub mod ValueAnswers
+pub mod PlanSteps
+pub mod PassSteps
