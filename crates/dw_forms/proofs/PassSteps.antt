@@ -1,6 +1,6 @@
 -- A reader by plan goes from one value of no one size to the next.
-use Rattle.std.proofs.Common.{◌≡◌, ℕ, ◌+◌, ◌-◌, ◌<◌, ◌≤◌, List, length, get_or, take, Result, Ok, Err, refl, sym, ap, subst, ◌∙◌, arith}
-use Rattle.std.specs.List.{sum_by, slice_range}
+use Rattle.std.proofs.Common.{◌≡◌, ℕ, ◌+◌, ◌-◌, ◌<◌, ◌≤◌, List, length, get_or, take, Result, Ok, Err, sym, ap, subst, ◌∙◌, arith}
+use Rattle.std.specs.List.{slice_range}
 use Rattle.std.proofs.lemmas.List.Sums.{sum_by-take-le}
 use Rattle.dw_forms.specs.declared.value.ValueFault.{ValueFault}
 use Rattle.dw_forms.specs.declared.decl.AttributeSpec.{AttributeSpec}
@@ -9,7 +9,7 @@ use Rattle.dw_forms.specs.declared.plan.Plan.{Plan}
 use Rattle.dw_forms.specs.Steps.{◌>>=◌}
 use Rattle.dw_forms.specs.Sizes.{rest_at}
 use Rattle.dw_forms.specs.Plans.{varying_one, known_sum, varying_count, before_of, IsVarying, IsPlan, cut_at, values_end}
-use Rattle.dw_forms.specs.PlanLaws.{sum_grows, count_grows, stands_behind, stands_before, run_step, one_step}
+use Rattle.dw_forms.specs.PlanLaws.{sum_grows, stands_behind, stands_before, run_step, one_step}
 
 pub count_within : (specs : List AttributeSpec) (k : ℕ) → varying_count (take k specs) ≤ varying_count specs
 count_within specs k = sum_by-take-le (λ (s : AttributeSpec). varying_one s.form) specs k

@@ -30,4 +30,4 @@ pub mod SizeLaws
 pub mod Plans
 pub mod PlanLaws
 pub mod FirstPlaces
-pub mod PlaceLaws
+pub mod Planned

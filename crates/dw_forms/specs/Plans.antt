@@ -1,5 +1,5 @@
 -- What is known of the values of a declaration before any entry is read.
-use Rattle.std.specs.Prelude.{◌≡◌, ℕ, ◌+◌, ◌<◌, List, [], ◌∷◌, length, take, drop, Bool, cond, is_none, Result, Ok, Err, nat_lt, if◌then◌else◌, slice_index_or}
+use Rattle.std.specs.Prelude.{◌≡◌, ℕ, ◌+◌, ◌<◌, List, [], ◌∷◌, length, take, drop, Bool, is_none, Result, Ok, Err, nat_lt, if◌then◌else◌, slice_index_or}
 use Rattle.std.specs.Option.{unwrap_or}
 use Rattle.std.specs.List.{sum_by}
 use Rattle.dw_forms.specs.declared.form.Form.{Form}

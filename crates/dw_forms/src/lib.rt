@@ -5,6 +5,7 @@ mod abbrev;
 mod abbrev_fault;
 mod abbrev_reader;
 mod attribute_index;
+mod attributes;
 pub mod constants;
 mod decl;
 mod decl_row;
@@ -23,7 +24,7 @@ mod value_reader;
 pub use abbrev::AbbrevTable;
 pub use abbrev_fault::{AbbrevFault, AbbrevRule, BrokenTable};
 pub use abbrev_reader::read_table;
-pub use attribute_index::{index_of, place_of};
+pub use attributes::Attributes;
 pub use constants::{Attribute, Language, Tag};
 pub use decl::{AttributeSpec, Decl};
 pub use decl_row::DeclRow;
@@ -34,7 +35,6 @@ pub use laws::{
     tables_are_read_by_grammar, unsigned_numbers_are_apart, values_are_apart,
 };
 pub use leb::{NumberFault, read_sleb, read_uleb};
-pub use plan::{Before, Plan, pass, plan_of, value_by_plan};
 pub use shared_table::{RowPlace, SharedTable};
 pub use value::{Value, ValueFault};
 pub use value_reader::{read_value, skip_value};

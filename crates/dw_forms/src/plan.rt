@@ -3,18 +3,14 @@
 ghost use Rattle.std.specs.Prelude.{◌≡◌, ◌<◌, ◌≤◌, ◌⊎◌, ◌-◌, ◌+◌, List, length, take, IfOk};
 ghost use Rattle.std.specs.List.{slice_range};
 ghost use Rattle.dw_forms.specs.Plans.{known_size, known_sum, does_vary, varying_one, before_behind, cut_at, values_end, IsPlan};
-ghost use Rattle.dw_forms.specs.FirstPlaces.{IsIndex, AnswersFirst};
 ghost use Rattle.dw_forms.specs.Sizes.{rest_at};
 ghost use Rattle.dw_forms.specs.ValueReading.{Gives};
 
-use crate::attribute_index::place_of;
-use crate::constants::Attribute;
 use crate::decl::AttributeSpec;
 use crate::form::Form;
-use crate::value::{Value, ValueFault};
-use crate::value_reader::{read_any, skip_any};
+use crate::value::ValueFault;
+use crate::value_reader::skip_any;
 use std::alloc::{AllocError, Global};
-use std::collections::BTreeMap;
 
 /// What lies before an attribute of a declaration, or before its end.
 #[derive(Clone, Copy, Debug, PartialEq, Eq)]
@@ -171,33 +167,4 @@ pub fn pass<'b>(
     let len = known_before(plan, to, address_size, specs)
         - known_before(plan, at, address_size, specs);
     cut_at(rest, len)
-}
-
-/// The value of the first attribute with this code, if one is declared. The work is bounded by the bytes before it.
-pub fn value_by_plan<'b>(
-    plan: &Plan,
-    places: &BTreeMap<u16, u32>,
-    specs: &[AttributeSpec],
-    version: u16,
-    address_size: u8,
-    attribute: Attribute,
-    bytes: &'b [u8],
-) -> Result<Option<Value<'b>>, ValueFault>
-    requires plan { IsPlan specs.now plan.now }
-    requires places { 16 < length specs.now → IsIndex specs.now places.now }
-    requires size { (address_size ≡ 4) ⊎ (address_size ≡ 8) }
-    ensures { AnswersFirst version address_size specs.now attribute bytes.now result }
-{
-    let Some(place) = place_of(specs, places, attribute) else {
-        return Ok(None);
-    };
-    let rest = match pass(plan, specs, version, address_size, 0, place, bytes) {
-        Ok(rest) => rest,
-        Err(fault) => return Err(fault),
-    };
-    let spec = specs[place];
-    match read_any(version, spec.form, address_size, rest) {
-        Ok((value, _)) => Ok(Some(value)),
-        Err(fault) => Err(fault),
-    }
 }

@@ -1,8 +1,8 @@
 use Rattle.std.proofs.Common.{take, sym, ◌∙◌, arith, ◌<◌, ◌≡◌}
 use Rattle.std.proofs.lemmas.Result.{err_from_is_err_and}
 use Rattle.dw_forms.specs.PlanLaws.{between, sum_grows, count_grows}
-use Rattle.dw_forms.specs.Plans.{varying_count, cut_at, known_sum}
-use Rattle.dw_forms.proofs.PassSteps.{varying_at, sums_grow, run_fails, one_fails, one_passes, is_before, counts_on, is_within}
+use Rattle.dw_forms.specs.Plans.{varying_count}
+use Rattle.dw_forms.proofs.PassSteps.{varying_at, sums_grow, run_fails, one_fails, one_passes, is_before, counts_on}
 use Rattle.dw_forms.proofs.plan.pass.Goals as goal
 
 pub overflow_sub-len : goal.overflow_sub-len

@@ -1,6 +1,5 @@
-use Rattle.std.proofs.Common.{◌≡◌, ◌+◌, ◌∷◌, ◌++◌, [], length, take, get_or, sym, ap, subst, ◌∙◌, arith, eqb-true, length-append}
-use Rattle.dw_forms.specs.declared.plan.Before.{Before}
-use Rattle.dw_forms.specs.Plans.{varying_one, varying_count, before_of, AtEach, IsVarying}
+use Rattle.std.proofs.Common.{◌≡◌, ◌∷◌, [], take, sym, ap, ◌∙◌, arith, length-append}
+use Rattle.dw_forms.specs.Plans.{before_of}
 use Rattle.dw_forms.proofs.PlanSteps.{at_each_push, behind_is, counted_on, counted_same, varying_on}
 use Rattle.dw_forms.proofs.plan.plan_of.Goals.{then-varying_one-eq1+in_ok-push-2, else-varying_one-eq1}
 use Rattle.dw_forms.proofs.plan.plan_of.Goals as goal
