@@ -15,6 +15,7 @@ pub mod Firsts
 pub mod FirstPlaces
 pub mod HeadLaws
 pub mod ValueSteps
+pub mod PassLaws
 pub mod ChosenSteps
 pub mod EntryFacts
 pub mod KeptLaws

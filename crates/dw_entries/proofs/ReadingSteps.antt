@@ -30,7 +30,7 @@ after_err : {A B : Type 0} (r : Result (A × List ℕ) Failing) (f : A × List �
 after_err (Ok x) f d e = absurd cc
 after_err (Err c) f d e = let same : c ≡ d = cc in ap (λ (x : Failing). Err x) same
 
-attributes_cons : (t : Context) (f : AttributeSpec) (fs : List AttributeSpec) (bytes rest : List ℕ) → after (attribute_at t f bytes) ≡ Ok rest → after (attributes_at t (f ∷ fs) bytes) ≡ after (attributes_at t fs rest)
+pub attributes_cons : (t : Context) (f : AttributeSpec) (fs : List AttributeSpec) (bytes rest : List ℕ) → after (attribute_at t f bytes) ≡ Ok rest → after (attributes_at t (f ∷ fs) bytes) ≡ after (attributes_at t fs rest)
 unfolding attributes_at
 attributes_cons t f fs bytes rest e =
     after_ok (attribute_at t f bytes) (λ p. attributes_at t fs p.1 >>= λ ps. Ok (p.0 ∷ ps.0, ps.1)) (λ b. after (attributes_at t fs b)) rest e (λ p. after_bind (attributes_at t fs p.1) (λ ps. p.0 ∷ ps))

@@ -121,6 +121,9 @@ from_place specs i s within = drop-cons specs i s within ∙ simp add-one
 pub from_here : (specs : List AttributeSpec) (i : ℕ) (s : AttributeSpec) → i < length specs → s ≡ get_or specs i s → drop i specs ≡ s ∷ drop (i + 1) specs
 from_here specs i s within is = from_place specs i s within ∙ ap (λ (g : AttributeSpec). g ∷ drop (i + 1) specs) (sym is)
 
+pub from_slice : (specs slice : List AttributeSpec) (i : ℕ) (s : AttributeSpec) → slice ≡ specs → i < length slice → s ≡ get_or slice i s → drop i specs ≡ s ∷ drop (i + 1) specs
+from_slice specs slice i s same within is = subst (λ (ss : List AttributeSpec). drop i ss ≡ s ∷ drop (i + 1) ss) same (from_here slice i s within is)
+
 -- behind the last place there is no attribute
 pub value_past : (x : Context) (specs : List AttributeSpec) (i : ℕ) (bytes : List ℕ) (m : Left x (drop i specs) bytes) (attribute : ℕ) → length specs ≤ i → None ≡ value_in (map value_of m.0.0) attribute
 value_past x specs i bytes m attribute past = value_of_none x (drop i specs) m.0.0 attribute m.1.are (rw (drop_of_length-le specs past) refl)
