@@ -20,3 +20,4 @@ pub mod FewAttributes
 pub mod ValueAnswers
 pub mod PlanSteps
 pub mod PassSteps
+pub mod StopLaws

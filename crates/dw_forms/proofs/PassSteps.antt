@@ -30,10 +30,10 @@ module _ (version size : ℕ) (specs : List AttributeSpec) (plan : Plan) (at num
   found = varying_found specs plan number place to p more is_place
 
   pub is_behind : at ≤ place
-  is_behind = stands_behind specs number place at found counts
+  is_behind = stands_behind (λ (s : AttributeSpec). varying_one s.form) specs number place at found (omega (arith, counts))
 
   pub is_before : place < to
-  is_before = stands_before specs number place to found more
+  is_before = stands_before (λ (s : AttributeSpec). varying_one s.form) specs number place to found more
 
   pub is_within : place < length specs
   is_within = found.within

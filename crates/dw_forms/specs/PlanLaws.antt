@@ -13,7 +13,7 @@ use Rattle.dw_forms.specs.declared.decl.AttributeSpec.{AttributeSpec}
 use Rattle.dw_forms.specs.Steps.{◌>>=◌}
 use Rattle.dw_forms.specs.Sizes.{fixed_size_of, rest_at}
 use Rattle.dw_forms.specs.SizeLaws.{rest_skips, rest_cuts}
-use Rattle.dw_forms.specs.Plans.{known_size, varying_one, known_sum, varying_count, IsVarying, cut_at, values_end}
+use Rattle.dw_forms.specs.Plans.{known_size, varying_one, known_sum, varying_count, IsCounted, cut_at, values_end}
 
 -- ---- a form that does not vary has one size
 
@@ -137,25 +137,28 @@ sum_grows size specs j k le = omega (arith, sum_split (λ (s : AttributeSpec). k
 pub count_grows : (specs : List AttributeSpec) (j k : ℕ) → j ≤ k → varying_count (take j specs) ≤ varying_count (take k specs)
 count_grows specs j k le = omega (arith, sum_split (λ (s : AttributeSpec). varying_one s.form) specs j k le)
 
--- the next value of no one size is not before a place that as many stand before
-pub stands_behind : (specs : List AttributeSpec) (number place at : ℕ) → IsVarying specs number place → varying_count (take at specs) ≡ number → at ≤ place
-stands_behind specs number place at v is = by_order (ltb place at) refl
+pub counts_grow : (one : AttributeSpec → ℕ) (specs : List AttributeSpec) (j k : ℕ) → j ≤ k → sum_by one (take j specs) ≤ sum_by one (take k specs)
+counts_grow one specs j k le = omega (arith, sum_split one specs j k le)
+
+-- a place is not before one that no more are counted before
+pub stands_behind : (one : AttributeSpec → ℕ) (specs : List AttributeSpec) (number place at : ℕ) → IsCounted one specs number place → sum_by one (take at specs) ≤ number → at ≤ place
+stands_behind one specs number place at v is = by_order (ltb place at) refl
   where
     by_order : (b : Bool) → ltb place at ≡ b → at ≤ place
     by_order true e =
         let lt = ltb-true _ _ e in
-        absurd (omega (arith, is, v.behind, count_grows specs (place + 1) at (omega (arith, lt))))
+        absurd (omega (arith, is, v.behind, counts_grow one specs (place + 1) at (omega (arith, lt))))
     by_order false e = ltb-false _ _ e
 
--- and it is before a place that more stand before
-pub stands_before : (specs : List AttributeSpec) (number place to : ℕ) → IsVarying specs number place → number < varying_count (take to specs) → place < to
-stands_before specs number place to v more = by_order (ltb place to) refl
+-- and it is before one that more are counted before
+pub stands_before : (one : AttributeSpec → ℕ) (specs : List AttributeSpec) (number place to : ℕ) → IsCounted one specs number place → number < sum_by one (take to specs) → place < to
+stands_before one specs number place to v more = by_order (ltb place to) refl
   where
     by_order : (b : Bool) → ltb place to ≡ b → place < to
     by_order true e = ltb-true _ _ e
     by_order false e =
         let le : to ≤ place = ltb-false _ _ e in
-        absurd (omega (arith, more, v.before, count_grows specs to place le))
+        absurd (omega (arith, more, v.before, counts_grow one specs to place le))
 
 -- ---- the steps of a reader by plan, which stands at a place and has these bytes in front
 

@@ -2,14 +2,14 @@
 
 ghost use Rattle.std.specs.Prelude.{◌≡◌, ◌≤◌, ◌⊎◌, length, IfOk};
 ghost use Rattle.std.specs.List.{slice_range};
-ghost use Rattle.dw_forms.specs.Plans.{values_end};
+ghost use Rattle.dw_forms.specs.Plans.{values_end, AreStopsFrom};
 ghost use Rattle.dw_forms.specs.FirstPlaces.{IsFirst, AnswersFirst};
 ghost use Rattle.dw_forms.specs.ValueReading.{Gives};
 
 use crate::attribute_index::{index_of, place_of};
 use crate::constants::Attribute;
 use crate::decl::AttributeSpec;
-use crate::plan::{Plan, pass, plan_of};
+use crate::plan::{Plan, pass, plan_of, stops_from};
 use crate::value::{Value, ValueFault};
 use crate::value_reader::read_any;
 use std::alloc::{AllocError, Global};
@@ -98,6 +98,16 @@ impl Attributes {
             to,
             bytes,
         )
+    }
+
+    /// The places from one on at which a search stops, in their order: the values there take bytes, or DWARF 5 defines
+    /// the codes.
+    #[inline(always)]
+    pub fn stops(&self, from: usize) -> &[u32]
+        requires { from ≤ length self.now }
+        ensures { AreStopsFrom self.now from result.now }
+    {
+        stops_from(&self.plan, &self.specs, from)
     }
 
     /// The value of the first attribute with this code, if one is declared. The work is bounded by the bytes before it.

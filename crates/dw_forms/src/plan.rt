@@ -1,8 +1,8 @@
 //! What is known of the values of a declaration before any entry is read.
 
-ghost use Rattle.std.specs.Prelude.{◌≡◌, ◌<◌, ◌≤◌, ◌⊎◌, ◌-◌, ◌+◌, List, length, take, IfOk};
+ghost use Rattle.std.specs.Prelude.{◌≡◌, ◌<◌, ◌≤◌, ◌⊎◌, ◌-◌, ◌+◌, List, length, take, IfOk, OnOk};
 ghost use Rattle.std.specs.List.{slice_range};
-ghost use Rattle.dw_forms.specs.Plans.{known_size, known_sum, does_vary, varying_one, before_behind, cut_at, values_end, IsPlan};
+ghost use Rattle.dw_forms.specs.Plans.{known_size, known_sum, does_vary, one_if, added_if, before_behind, cut_at, values_end, is_byteless, is_stop, IsPlan, AreStopsFrom};
 ghost use Rattle.dw_forms.specs.Sizes.{rest_at};
 ghost use Rattle.dw_forms.specs.ValueReading.{Gives};
 
@@ -21,6 +21,8 @@ pub struct Before {
     pub known_with_4: u32,
     /// The same where addresses have 8 bytes.
     pub known_with_8: u32,
+    /// At how many attributes there a search stops.
+    pub stops: u32,
 }
 
 /// Where the values of a declaration begin.
@@ -30,6 +32,8 @@ pub struct Plan {
     before: Vec<Before>,
     /// The places of the attributes whose values have no one size.
     varying: Vec<u32>,
+    /// The places of the attributes at which a search stops.
+    stops: Vec<u32>,
 }
 
 /// The size of each value of the form, 0 where they have no one size.
@@ -44,33 +48,69 @@ fn known_size(form: Form, address_size: u8) -> u32
     }
 }
 
-/// 1 where the values of the form have no one size, 0 otherwise.
+/// Whether the values of the form have no one size.
 #[inline(always)]
-fn varying_one(form: Form) -> u32
-    ensures same { result ≡ varying_one form }
-    ensures small { result ≤ 1 }
+fn does_vary(form: Form) -> bool
+    ensures { result ≡ does_vary form }
 {
-    match form.fixed_size(8) {
-        Some(_) => 0,
-        None => 1,
-    }
+    form.fixed_size(8).is_none()
 }
 
-/// What lies behind an attribute of this form.
-fn behind(before: Before, form: Form) -> Before
+/// Whether values of the form take no bytes of an entry.
+#[inline(always)]
+fn is_byteless(form: Form) -> bool
+    ensures { result ≡ is_byteless form }
+{
+    matches!(form, Form::FlagPresent | Form::ImplicitConst(_))
+}
+
+/// Whether a search stops at the attribute: its values take bytes, or DWARF 5 defines its code, and the last of those
+/// codes is 0x8c.
+#[inline(always)]
+fn is_stop(spec: &AttributeSpec) -> bool
+    ensures { result ≡ is_stop spec.now }
+{
+    !is_byteless(spec.form) || spec.attribute.0 <= 0x8c
+}
+
+/// 1 for true and 0 for false.
+#[inline(always)]
+fn one_if(is: bool) -> u32
+    ensures same { result ≡ one_if is }
+    ensures small { result ≤ 1 }
+{
+    if is { 1 } else { 0 }
+}
+
+/// What lies behind an attribute.
+fn behind(before: Before, spec: &AttributeSpec) -> Before
     requires few { before.varying ≤ 0xffffff }
+    requires few_stops { before.stops ≤ 0xffffff }
     requires small_4 { before.known_with_4 ≤ 0xffffff }
     requires small_8 { before.known_with_8 ≤ 0xffffff }
-    ensures same { result ≡ before_behind before form }
+    ensures same { result ≡ before_behind before spec.now }
     ensures few { result.varying ≤ before.varying + 1 }
+    ensures few_stops { result.stops ≤ before.stops + 1 }
     ensures small_4 { result.known_with_4 ≤ before.known_with_4 + 0xff }
     ensures small_8 { result.known_with_8 ≤ before.known_with_8 + 0xff }
 {
     Before {
-        varying: before.varying + varying_one(form),
-        known_with_4: before.known_with_4 + known_size(form, 4),
-        known_with_8: before.known_with_8 + known_size(form, 8),
+        varying: before.varying + one_if(does_vary(spec.form)),
+        known_with_4: before.known_with_4 + known_size(spec.form, 4),
+        known_with_8: before.known_with_8 + known_size(spec.form, 8),
+        stops: before.stops + one_if(is_stop(spec)),
     }
+}
+
+/// Adds a place at the end, if this is true.
+fn add_if(places: &mut Vec<u32>, place: usize, is: bool) -> Result<(), AllocError>
+    requires { place ≤ 0x10000 }
+    ensures { OnOk result (places.new.items ≡ added_if is places.old.items place) }
+{
+    if is {
+        places.push(place as u32)?;
+    }
+    Ok(())
 }
 
 /// The plan of a declaration with these attributes.
@@ -80,21 +120,26 @@ pub fn plan_of(alloc: Global, specs: &[AttributeSpec]) -> Result<Plan, AllocErro
 {
     let mut before = Vec::with_capacity(alloc, specs.len() + 1)?;
     let mut varying = Vec::new(alloc);
+    let mut stops = Vec::new(alloc);
     let mut here = Before {
         varying: 0,
         known_with_4: 0,
         known_with_8: 0,
+        stops: 0,
     };
     for place in 0..specs.len() {
         before.push(here)?;
-        let form = specs[place].form;
-        if varying_one(form) == 1 {
-            varying.push(place as u32)?;
-        }
-        here = behind(here, form);
+        let spec = &specs[place];
+        add_if(&mut varying, place, does_vary(spec.form))?;
+        add_if(&mut stops, place, is_stop(spec))?;
+        here = behind(here, spec);
     }
     before.push(here)?;
-    Ok(Plan { before, varying })
+    Ok(Plan {
+        before,
+        varying,
+        stops,
+    })
 }
 
 /// The sum of the sizes before a place, as far as they are known.
@@ -167,4 +212,14 @@ pub fn pass<'b>(
     let len = known_before(plan, to, address_size, specs)
         - known_before(plan, at, address_size, specs);
     cut_at(rest, len)
+}
+
+/// The places from one on at which a search stops.
+pub fn stops_from<'p>(plan: &'p Plan, specs: &[AttributeSpec], from: usize) -> &'p [u32]
+    requires plan { IsPlan specs.now plan.now }
+    requires within { from ≤ length specs.now }
+    ensures { AreStopsFrom specs.now from result.now }
+{
+    let first = plan.before[from].stops as usize;
+    &plan.stops[first..]
 }
