@@ -17,6 +17,7 @@ pub mod HeadLaws
 pub mod ValueSteps
 pub mod PassLaws
 pub mod ChosenSteps
+pub mod StopSteps
 pub mod EntryFacts
 pub mod KeptLaws
 pub mod LeftLaws

@@ -2,7 +2,7 @@
 
 ghost use Rattle.std.specs.Prelude.{◌≡◌, ◌≤◌, ◌-◌, length, drop, IfSome, IfNone};
 ghost use Rattle.std.specs.Bool.{OnFalse, OnTrue};
-ghost use Rattle.dw_entries.specs.Chosen.{Unasked, IsNextAsked};
+ghost use Rattle.dw_entries.specs.Chosen.{OthersPass, Unasked, IsNextAsked};
 ghost use Rattle.dw_entries.specs.Referring.{may_refer, is_asked};
 ghost use Rattle.dw_forms.specs.declared.decl.AttributeSpec.{AttributeSpec as SpecData};
 ghost use Rattle.dw_entries.specs.Header.{IsSize};
@@ -64,6 +64,13 @@ pub trait Choice {
     fn asks(&self, spec: &AttributeSpec) -> bool
         ensures passes { OnFalse result (passes self.now spec.now) }
         ensures asked { OnTrue result (asked self.now spec.now) };
+
+    /// Whether all that are asked for are among those at which a search stops, so that the others need not be asked.
+    fn keeps_to_stops(&self) -> bool
+        ensures { OnTrue result (OthersPass (passes self.now)) }
+    {
+        false
+    }
 }
 
 /// The attributes that have this code, and those whose values may be references.
@@ -83,11 +90,35 @@ impl Choice for Referring {
     fn asks(&self, spec: &AttributeSpec) -> bool {
         is_asked(*spec, self.attribute)
     }
+
+    #[inline]
+    #[tactic(auto, using(crate::proofs::StopSteps::others_pass))]
+    fn keeps_to_stops(&self) -> bool {
+        self.attribute.0 <= 0x8c
+    }
 }
 
-/// The place of the next attribute that is asked for, from a place on.
+/// The place of the next attribute that is asked for, where all such are among those at which a search stops.
 #[inline(always)]
-fn next_asked<C: Choice>(choice: &C, attributes: &Attributes, from: usize) -> Option<usize>
+fn next_stop<C: Choice>(choice: &C, attributes: &Attributes, from: usize) -> Option<usize>
+    requires within { from ≤ length attributes.now }
+    requires others { OthersPass (C.passes choice.now) }
+    ensures found { IfSome result (IsNextAsked (C.passes choice.now) (C.asked choice.now) attributes.now from) }
+    ensures none { IfNone result (Unasked (C.passes choice.now) attributes.now from (length attributes.now)) }
+{
+    let specs = attributes.as_slice();
+    let stops = attributes.stops(from);
+    for number in 0..stops.len() {
+        let place = stops[number] as usize;
+        if choice.asks(&specs[place]) {
+            return Some(place);
+        }
+    }
+    None
+}
+
+/// The same where any may be asked for.
+fn next_of_all<C: Choice>(choice: &C, attributes: &Attributes, from: usize) -> Option<usize>
     requires { from ≤ length attributes.now }
     ensures found { IfSome result (IsNextAsked (C.passes choice.now) (C.asked choice.now) attributes.now from) }
     ensures none { IfNone result (Unasked (C.passes choice.now) attributes.now from (length attributes.now)) }
@@ -99,6 +130,20 @@ fn next_asked<C: Choice>(choice: &C, attributes: &Attributes, from: usize) -> Op
         }
     }
     None
+}
+
+/// The place of the next attribute that is asked for, from a place on.
+#[inline(always)]
+fn next_asked<C: Choice>(choice: &C, attributes: &Attributes, from: usize) -> Option<usize>
+    requires { from ≤ length attributes.now }
+    ensures found { IfSome result (IsNextAsked (C.passes choice.now) (C.asked choice.now) attributes.now from) }
+    ensures none { IfNone result (Unasked (C.passes choice.now) attributes.now from (length attributes.now)) }
+{
+    if choice.keeps_to_stops() {
+        next_stop(choice, attributes, from)
+    } else {
+        next_of_all(choice, attributes, from)
+    }
 }
 
 impl<'a> Values<'_, 'a> {
