@@ -1,18 +1,34 @@
 -- The attributes that are passed, up to the next one that is asked for.
-use Rattle.std.proofs.Common.{◌≡◌, ℕ, zero, suc, List, [], ◌∷◌, ◌++◌, map, length, take, drop, Option, Some, None, refl, sym, ap, ◌∙◌, subst, ◌+◌, ◌-◌, add-one, arith, append-nil}
-use Rattle.std.specs.Prelude.{IfSome, IfNone, MatchOption}
-use Rattle.std.proofs.lemmas.List.{take-append-drop, take_all, take_rest, length-drop}
-use Rattle.std.proofs.lemmas.Option.{slice_get_within}
+use Rattle.std.proofs.Common.{◌≡◌, ℕ, zero, suc, List, [], ◌∷◌, ◌++◌, map, length, take, drop, Option, Some, None, refl, sym, ap, ◌∙◌, subst, ◌+◌, ◌-◌, arith, append-nil}
+use Rattle.std.specs.Prelude.{IfSome, IfNone, MatchOption, slice_get}
+use Rattle.std.proofs.lemmas.List.{take-append-drop, take_all, length-drop}
+use Rattle.std.proofs.lemmas.Option.{slice_get_within, slice_get_past}
 use Rattle.dw_forms.specs.declared.decl.AttributeSpec.{AttributeSpec}
 use Rattle.dw_forms.specs.declared.value.Value.{Value}
 use Rattle.dw_forms.specs.Value.{Datum}
 use Rattle.dw_entries.specs.declared.values.Values.{Values}
 use Rattle.dw_entries.specs.Grammar.{Context, Attribute, AreAttributes}
 use Rattle.dw_entries.specs.Asked.{value_of}
-use Rattle.dw_entries.specs.Chosen.{PassTo, IsFirstAsked, ArePassed, IsNextOf}
-use Rattle.dw_entries.specs.Values.{Left}
-use Rattle.dw_entries.specs.ValueLaws.{left_unique}
+use Rattle.dw_entries.specs.Chosen.{PassTo, IsFirstAsked, Unasked, IsNextAsked, ArePassed, IsNextOf}
 use Rattle.dw_entries.specs.ValuesLeft.{viewed, specs_left, values_left, FindsFirst}
+
+-- the specifications from a place on
+get_drop : (specs : List AttributeSpec) (from j k : ℕ) → k ≡ from + j → slice_get (drop from specs) j ≡ slice_get specs k
+get_drop specs zero j k e = let same : j ≡ k = omega (arith, e) in ap (slice_get specs) same
+get_drop [] (suc from) j k e = slice_get_past [] j (omega arith) ∙ sym (slice_get_past [] k (omega arith))
+get_drop (s ∷ specs) (suc from) j zero e = absurd (omega (arith, e))
+get_drop (s ∷ specs) (suc from) j (suc k) e = get_drop specs from j k (omega (arith, e))
+
+pub asked_from : (Passes Asked : AttributeSpec → Type 0) (specs : List AttributeSpec) (from place : ℕ) → IsNextAsked Passes Asked specs from place → IsFirstAsked Passes Asked (drop from specs) (place - from)
+asked_from Passes Asked specs from place p = record {
+  before = λ j spec less here. p.before (from + j) spec (omega arith) (omega (arith, less)) (sym (get_drop specs from j (from + j) refl) ∙ here);
+  spec = p.spec;
+  is_spec = get_drop specs from (place - from) place (omega (arith, p.on)) ∙ p.is_spec;
+  asked = p.asked;
+}
+
+pub none_from : (Passes : AttributeSpec → Type 0) (specs : List AttributeSpec) (from : ℕ) → Unasked Passes specs from (length specs) → PassTo Passes (drop from specs) (length (drop from specs))
+none_from Passes specs from none j spec less here = none (from + j) spec (omega arith) (omega (arith, less, length-drop from specs)) (sym (get_drop specs from j (from + j) refl) ∙ here)
 
 -- attributes are passed where their specifications are
 pub front_passed : (Passes : AttributeSpec → Type 0) (x : Context) (specs : List AttributeSpec) (bs : List Attribute) (k : ℕ) → AreAttributes x specs bs → PassTo Passes specs k → ArePassed Passes (take k (map value_of bs))
@@ -64,23 +80,3 @@ never_ends X Y Passes Asked x specs bs left k (Some y) ends rest are first = tt
 never_ends X Y Passes Asked x specs bs left k None ends rest are first =
     let within = slice_get_within specs k first.spec first.is_spec in
     absurd (omega (arith, within, same_length x specs bs are, ap length (sym rest ∙ ends.0), length-drop k (map value_of bs)))
-
--- ---- the values that are skipped
-
--- behind the first of those that are left
-pub behind_first : (items : List (ℕ × Datum)) (k : ℕ) (left rest : List (ℕ × Datum)) (item : ℕ × Datum) → left ≡ drop k items → left ≡ item ∷ rest → rest ≡ drop (k + 1) items
-behind_first [] zero left rest item here first = absurd (let both : [] ≡ item ∷ rest = sym here ∙ first in cc)
-behind_first [] (suc k) left rest item here first = absurd (let both : [] ≡ item ∷ rest = sym here ∙ first in cc)
-behind_first (x ∷ items) zero left rest item here first = let both : item ∷ rest ≡ x ∷ items = sym first ∙ here in cc
-behind_first (x ∷ items) (suc k) left rest item here first = rw (add-one (suc k)) (behind_first items k left rest item here first ∙ ap (λ (n : ℕ). drop n items) (add-one k))
-
--- one list is left
-pub left_same : (x : Context) (specs others : List AttributeSpec) (bytes : List ℕ) → specs ≡ others → (l : Left x specs bytes) (m : Left x others bytes) → map value_of l.0.0 ≡ map value_of m.0.0
-left_same x specs others bytes same l m =
-    subst (λ (ss : List AttributeSpec). (n : Left x ss bytes) → map value_of l.0.0 ≡ map value_of n.0.0) same (λ n. ap (λ (z : Left x specs bytes). map value_of z.0.0) (left_unique x specs bytes l n)) m
-
--- those that are left behind the last that is passed
-pub left_behind : (x : Context) (specs : List AttributeSpec) (bytes : List ℕ) (items : List (ℕ × Datum)) (k count : ℕ) → k ≡ count → (m : Left x (drop k specs) bytes) → map value_of m.0.0 ≡ drop k items
-    → (l : Left x (take (length specs - count) (drop count specs)) bytes) → map value_of l.0.0 ≡ drop count items
-left_behind x specs bytes items k count end m rest l =
-    left_same x (take (length specs - count) (drop count specs)) (drop k specs) bytes (take_rest specs count ∙ ap (λ (n : ℕ). drop n specs) (sym end)) l m ∙ rest ∙ ap (λ (n : ℕ). drop n items) end

@@ -17,7 +17,9 @@ pub mod Firsts
 pub mod FirstPlaces
 pub mod HeadLaws
 pub mod ValueSteps
+pub mod PassLaws
 pub mod ChosenSteps
+pub mod StopSteps
 pub mod EntryFacts
 pub mod KeptLaws
 pub mod LeftLaws

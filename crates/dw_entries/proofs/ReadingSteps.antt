@@ -1,5 +1,5 @@
 -- One turn of the loop that reads attributes.
-use Rattle.std.proofs.Common.{◌≡◌, ℕ, suc, true, [], Some, ◌+◌, ◌<◌, ◌≤◌, List, ◌∷◌, length, drop, get_or, Result, Ok, Err, refl, sym, ap, ◌∙◌, add-one, drop-cons, drop_of_length-le}
+use Rattle.std.proofs.Common.{◌≡◌, ℕ, suc, true, ◌+◌, ◌<◌, ◌≤◌, List, ◌∷◌, length, drop, get_or, Result, Ok, Err, refl, sym, ap, ◌∙◌, add-one, drop-cons, drop_of_length-le}
 use Rattle.dw_forms.specs.declared.decl.AttributeSpec.{AttributeSpec}
 use Rattle.dw_forms.specs.Steps.{◌>>=◌}
 use Rattle.dw_entries.specs.declared.fault.Failing.{Failing}
@@ -8,8 +8,7 @@ use Rattle.dw_forms.specs.declared.value.ValueFault.{ValueFault}
 use Rattle.dw_forms.specs.FormCodes.{is_allowed}
 use Rattle.dw_forms.specs.Value.{Datum}
 use Rattle.dw_forms.specs.ValueReading.{value_at}
-use Rattle.dw_forms.specs.Sizes.{rest_at, fixed_sum, ValuesEnd}
-use Rattle.dw_forms.specs.SizeLaws.{values_skip}
+use Rattle.dw_forms.specs.Sizes.{rest_at}
 use Rattle.dw_entries.specs.Reading.{fails, value_rule, after, as_attribute, attribute_at, attributes_at}
 
 abbrev done : {A : Type 0} → A → Result A Failing
@@ -30,7 +29,7 @@ after_err : {A B : Type 0} (r : Result (A × List ℕ) Failing) (f : A × List �
 after_err (Ok x) f d e = absurd cc
 after_err (Err c) f d e = let same : c ≡ d = cc in ap (λ (x : Failing). Err x) same
 
-attributes_cons : (t : Context) (f : AttributeSpec) (fs : List AttributeSpec) (bytes rest : List ℕ) → after (attribute_at t f bytes) ≡ Ok rest → after (attributes_at t (f ∷ fs) bytes) ≡ after (attributes_at t fs rest)
+pub attributes_cons : (t : Context) (f : AttributeSpec) (fs : List AttributeSpec) (bytes rest : List ℕ) → after (attribute_at t f bytes) ≡ Ok rest → after (attributes_at t (f ∷ fs) bytes) ≡ after (attributes_at t fs rest)
 unfolding attributes_at
 attributes_cons t f fs bytes rest e =
     after_ok (attribute_at t f bytes) (λ p. attributes_at t fs p.1 >>= λ ps. Ok (p.0 ∷ ps.0, ps.1)) (λ b. after (attributes_at t fs b)) rest e (λ p. after_bind (attributes_at t fs p.1) (λ ps. p.0 ∷ ps))
@@ -72,18 +71,3 @@ unfolding attribute_at rest_at
 attribute_fails t s version bytes f v allowed read =
     let known : is_allowed t.version s.form ≡ true = ap (λ (n : ℕ). is_allowed n s.form) (sym v) ∙ sym allowed in
     rw known (after_value_err s.attribute bytes f (value_at t.version s.form t.address_size bytes) (ap (λ (n : ℕ). value_at n s.form t.address_size bytes >>= λ x. Ok x.1) (sym v) ∙ read))
-
-attribute_is : (t : Context) (s : AttributeSpec) (bytes rest : List ℕ) (v : Datum) → is_allowed t.version s.form ≡ true → value_at t.version s.form t.address_size bytes ≡ Ok (v, rest) → after (attribute_at t s bytes) ≡ Ok rest
-unfolding attribute_at
-attribute_is t s bytes rest v allowed read = rw (allowed, read) refl
-
--- values that are read one after another end where the last of them does
-pub values_after : (t : Context) (specs : List AttributeSpec) (bytes rest : List ℕ) → ValuesEnd t.version t.address_size specs bytes rest → after (attributes_at t specs bytes) ≡ Ok rest
-unfolding attributes_at
-values_after t [] bytes rest e = ap done e
-values_after t (s ∷ specs) bytes rest (allowed, v, next, read, more) =
-    attributes_cons t s specs bytes next (attribute_is t s bytes next v allowed read) ∙ values_after t specs next rest more
-
--- values with a sum of sizes are skipped together
-pub fixed_after : (t : Context) (specs : List AttributeSpec) (version n : ℕ) (bytes : List ℕ) → version ≡ t.version → Some n ≡ fixed_sum version t.address_size specs → n ≤ length bytes → after (attributes_at t specs bytes) ≡ Ok (drop n bytes)
-fixed_after t specs version n bytes v e le = values_after t specs bytes (drop n bytes) (values_skip t.version t.address_size specs n bytes (ap (λ (k : ℕ). fixed_sum k t.address_size specs) (sym v) ∙ sym e) le)

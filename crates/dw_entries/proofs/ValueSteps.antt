@@ -1,14 +1,11 @@
 -- One attribute of those that are left.
-use Rattle.std.proofs.Common.{◌≡◌, ℕ, ◌+◌, ◌≤◌, ◌<◌, subst, List, [], ◌∷◌, ◌++◌, ◌-◌, length, take, drop, map, Some, None, Result, Ok, Err, refl, sym, ap, ◌∙◌, append_assoc, arith, Bool, true, false, get_or, add-one, drop-cons, drop_of_length-le}
-use Rattle.std.specs.Prelude.{IsTrue, ◌==◌}
+use Rattle.std.proofs.Common.{◌≡◌, ℕ, ◌+◌, ◌≤◌, ◌<◌, subst, List, [], ◌∷◌, ◌++◌, ◌-◌, length, take, drop, map, None, Result, Ok, Err, refl, sym, ap, ◌∙◌, append_assoc, arith, Bool, true, false, get_or, add-one, drop-cons}
+use Rattle.std.specs.Prelude.{◌==◌}
 use Rattle.std.specs.List.{flat_map}
-use Rattle.std.proofs.lemmas.Bool.{ne_eqb, eq-eqb}
 use Rattle.dw_forms.specs.declared.decl.AttributeSpec.{AttributeSpec}
 use Rattle.dw_forms.specs.declared.value.ValueFault.{ValueFault}
-use Rattle.dw_forms.specs.FormCodes.{is_allowed}
 use Rattle.dw_forms.specs.Value.{Datum}
 use Rattle.dw_forms.specs.ValueReading.{value_at}
-use Rattle.dw_forms.specs.Sizes.{rest_at}
 use Rattle.dw_entries.specs.Grammar.{Context, Attribute, IsAttribute, AreAttributes, attribute_bytes}
 use Rattle.dw_entries.specs.ReadingLaws.{value_again, ok_pair}
 use Rattle.dw_entries.specs.Asked.{value_of}
@@ -37,45 +34,12 @@ module _ (x : Context) (gs : List AttributeSpec) (s : AttributeSpec) (ss : List 
   pub left_goes : Goes x s ss bytes l.0
   left_goes = goes x s ss bytes l.0 (subst (λ (hs : List AttributeSpec). AreAttributes x hs l.0.0) e l.1.are) l.1.spelled
 
-  pub left_allowed : IsTrue (is_allowed x.version s.form)
-  left_allowed = let g = left_goes in let a : is_allowed x.version s.form ≡ true = g.is.allowed in a
-
   -- what the reader of a value answers
   pub left_read : value_at x.version s.form x.address_size bytes ≡ Ok (left_goes.first.value, flat_map attribute_bytes left_goes.others ++ l.0.1)
   left_read = ap (λ (b : List ℕ). value_at x.version s.form x.address_size b) left_goes.spelled ∙ value_again x s left_goes.first (flat_map attribute_bytes left_goes.others ++ l.0.1) left_goes.is
 
   pub never_fails : (f : ValueFault) → value_at x.version s.form x.address_size bytes ≡ Err f → ⊥
   never_fails f read = let ok = left_read in cc
-
-  -- what skipping the value answers
-  left_skipped : rest_at x.version s.form x.address_size bytes ≡ Ok (flat_map attribute_bytes left_goes.others ++ l.0.1)
-  unfolding rest_at
-  left_skipped = rw left_read refl
-
-  pub never_stays : (f : ValueFault) → rest_at x.version s.form x.address_size bytes ≡ Err f → ⊥
-  never_stays f read = let ok = left_skipped in cc
-
-  -- another attribute is among those behind, if at all
-  pub skips : (rest : List ℕ) → rest_at x.version s.form x.address_size bytes ≡ Ok rest → (attribute : ℕ) → (s.attribute ≡ attribute → ⊥)
-      → (m : Left x ss rest) × (value_in (map value_of l.0.0) attribute ≡ value_in (map value_of m.0.0) attribute)
-  skips rest skipped attribute other =
-      let same : flat_map attribute_bytes left_goes.others ++ l.0.1 ≡ rest = rest_is (sym left_skipped ∙ skipped) in
-      let code : left_goes.first.code ≡ s.attribute = left_goes.is.code in
-      let apart : left_goes.first.code ≡ attribute → ⊥ = λ here. other (sym code ∙ here) in
-      let behind : value_in (map value_of (left_goes.first ∷ left_goes.others)) attribute ≡ value_in (map value_of left_goes.others) attribute = rw (ne_eqb left_goes.first.code attribute apart) refl in
-      (((left_goes.others, l.0.1), record { are = left_goes.are; spelled = sym same }), ap (λ (bs : List Attribute). value_in (map value_of bs) attribute) left_goes.parts ∙ behind)
-    where
-      rest_is : {a b : List ℕ} → ◌≡◌ {A = Result (List ℕ) ValueFault} (Ok a) (Ok b) → a ≡ b
-      rest_is e = cc
-
-  -- its value is passed, and those behind are left
-  pub one_skipped : (rest : List ℕ) → rest_at x.version s.form x.address_size bytes ≡ Ok rest → (m : Left x ss rest) × (item : ℕ × Datum) × (map value_of l.0.0 ≡ item ∷ map value_of m.0.0)
-  one_skipped rest skipped =
-      let same : flat_map attribute_bytes left_goes.others ++ l.0.1 ≡ rest = rest_is (sym left_skipped ∙ skipped) in
-      (((left_goes.others, l.0.1), record { are = left_goes.are; spelled = sym same }), value_of left_goes.first, ap (map value_of) left_goes.parts)
-    where
-      rest_is : {a b : List ℕ} → ◌≡◌ {A = Result (List ℕ) ValueFault} (Ok a) (Ok b) → a ≡ b
-      rest_is e = cc
 
   module _ (v : Datum) (rest : List ℕ) (read : value_at x.version s.form x.address_size bytes ≡ Ok (v, rest)) where
     value_is : (left_goes.first.value ≡ v) × (flat_map attribute_bytes left_goes.others ++ l.0.1 ≡ rest)
@@ -90,12 +54,6 @@ module _ (x : Context) (gs : List AttributeSpec) (s : AttributeSpec) (ss : List 
         let same : m.0.0 ≡ left_goes.others = ap (λ (z : Left x ss rest). z.0.0) (left_unique x ss rest m next_left) in
         let one : value_of left_goes.first ≡ (s.attribute, v) = let c : left_goes.first.code ≡ s.attribute = left_goes.is.code in λ i. (c i, value_is.0 i) in
         ap (map value_of) left_goes.parts ∙ ap (λ (b : List Attribute). value_of left_goes.first ∷ map value_of b) (sym same) ∙ ap (λ (b : ℕ × Datum). b ∷ map value_of m.0.0) one
-
-    -- the value of the first attribute
-    pub first_value : (attribute : ℕ) → s.attribute ≡ attribute → Some v ≡ value_in (map value_of l.0.0) attribute
-    first_value attribute here =
-        let code : left_goes.first.code ≡ attribute = let c : left_goes.first.code ≡ s.attribute = left_goes.is.code in c ∙ here in
-        rw (left_goes.parts, eq-eqb left_goes.first.code attribute code) (ap (λ (d : Datum). Some d) (sym value_is.0))
 
     pub fewer : (m : Left x ss rest) → length (map value_of m.0.0) < length (map value_of l.0.0)
     fewer m = omega (arith, ap length (steps m))
@@ -121,13 +79,9 @@ from_place specs i s within = drop-cons specs i s within ∙ simp add-one
 pub from_here : (specs : List AttributeSpec) (i : ℕ) (s : AttributeSpec) → i < length specs → s ≡ get_or specs i s → drop i specs ≡ s ∷ drop (i + 1) specs
 from_here specs i s within is = from_place specs i s within ∙ ap (λ (g : AttributeSpec). g ∷ drop (i + 1) specs) (sym is)
 
--- behind the last place there is no attribute
-pub value_past : (x : Context) (specs : List AttributeSpec) (i : ℕ) (bytes : List ℕ) (m : Left x (drop i specs) bytes) (attribute : ℕ) → length specs ≤ i → None ≡ value_in (map value_of m.0.0) attribute
-value_past x specs i bytes m attribute past = value_of_none x (drop i specs) m.0.0 attribute m.1.are (rw (drop_of_length-le specs past) refl)
+pub from_slice : (specs slice : List AttributeSpec) (i : ℕ) (s : AttributeSpec) → slice ≡ specs → i < length slice → s ≡ get_or slice i s → drop i specs ≡ s ∷ drop (i + 1) specs
+from_slice specs slice i s same within is = subst (λ (ss : List AttributeSpec). drop i ss ≡ s ∷ drop (i + 1) ss) same (from_here slice i s within is)
 
 -- the bytes from a length on, as a slice has them
-pub skipped_on : (bytes : List ℕ) (len : ℕ) (r : Result (List ℕ) ValueFault) → len ≤ length bytes → r ≡ Ok (drop len bytes) → r ≡ Ok (take (length bytes - len) (drop len bytes))
-skipped_on bytes len r within e = e ∙ ap (λ (b : List ℕ). Ok b) (sym (rest_of len bytes within))
-
 pub read_on : (bytes : List ℕ) (len : ℕ) (r : Result (Datum × List ℕ) ValueFault) {v : Datum} → len ≤ length bytes → r ≡ Ok (v, drop len bytes) → r ≡ Ok (v, take (length bytes - len) (drop len bytes))
 read_on bytes len r {v} within e = e ∙ ap (λ (b : List ℕ). Ok (v, b)) (sym (rest_of len bytes within))

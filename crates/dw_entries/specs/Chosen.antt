@@ -1,6 +1,7 @@
 -- The attributes of an entry that are asked for, by how they are declared.
-use Rattle.std.specs.Prelude.{◌≡◌, ℕ, ◌<◌, List, ◌∷◌, ◌++◌, Some, slice_get}
+use Rattle.std.specs.Prelude.{◌≡◌, ℕ, ◌<◌, ◌≤◌, List, ◌∷◌, ◌++◌, Some, false, slice_get}
 use Rattle.dw_forms.specs.declared.decl.AttributeSpec.{AttributeSpec}
+use Rattle.dw_forms.specs.Plans.{is_stop}
 use Rattle.dw_forms.specs.Value.{Datum}
 use Rattle.dw_entries.specs.Grammar.{Context, Attribute, IsAttribute}
 use Rattle.dw_entries.specs.Asked.{value_of}
@@ -12,6 +13,22 @@ PassTo Passes specs k = (j : ℕ) (spec : AttributeSpec) → j < k → slice_get
 -- the specification at this place is asked for, and none before it
 pub record IsFirstAsked (Passes Asked : AttributeSpec → Type 0) (specs : List AttributeSpec) (place : ℕ) : Type 0 where
   pub before : PassTo Passes specs place
+  pub spec : AttributeSpec
+  pub is_spec : slice_get specs place ≡ Some spec
+  pub asked : Asked spec
+
+-- none is asked for but those at which a search stops
+abbrev pub OthersPass : (AttributeSpec → Type 0) → Type 0
+OthersPass Passes = (spec : AttributeSpec) → is_stop spec ≡ false → Passes spec
+
+-- from one place up to another no specification is asked for
+abbrev pub Unasked : (AttributeSpec → Type 0) → List AttributeSpec → ℕ → ℕ → Type 0
+Unasked Passes specs from to = (j : ℕ) (spec : AttributeSpec) → from ≤ j → j < to → slice_get specs j ≡ Some spec → Passes spec
+
+-- from a place on, the specification at this place is the first that is asked for
+pub record IsNextAsked (Passes Asked : AttributeSpec → Type 0) (specs : List AttributeSpec) (from place : ℕ) : Type 0 where
+  pub on : from ≤ place
+  pub before : Unasked Passes specs from place
   pub spec : AttributeSpec
   pub is_spec : slice_get specs place ≡ Some spec
   pub asked : Asked spec

@@ -17,7 +17,7 @@ values_left it = map value_of it.left.0.0
 
 -- the specifications of the attributes that are left, one for each
 abbrev pub specs_left : Values → List AttributeSpec
-specs_left it = it.specs.now
+specs_left it = drop it.at it.attributes.now
 
 -- of those that were left before, this is the one whose specification is the first that is asked for, and those behind
 -- it are left after

@@ -29,7 +29,7 @@ use std::marker::Model;
 #[inline(always)]
 #[tactic(auto, using(crate::proofs::LeftLaws::declares_none))]
 fn may_have(decl: &Decl, attribute: Attribute) -> bool
-    ensures { OnFalse result (declares decl.now.attributes.items attribute ≡ false) }
+    ensures { OnFalse result (declares decl.now.attributes attribute ≡ false) }
 {
     decl.may_have(attribute)
 }
@@ -183,7 +183,8 @@ impl<'e, 'a> EntryAt<'e, 'a> {
         ensures { IfSome self.now (λ e. values_left result ≡ values_of e.head) }
     {
         Values {
-            specs: &self.decl.attributes,
+            attributes: &self.decl.attributes,
+            at: 0,
             bytes: self.value_bytes(),
             version: self.header.kind.version(),
             address_size: self.header.address_size,
@@ -198,6 +199,15 @@ impl<'e, 'a> EntryAt<'e, 'a> {
         if !may_have(self.decl, attribute) {
             return None;
         }
-        self.values().value(attribute)
+        let version = self.header.kind.version();
+        let bytes = self.value_bytes();
+        match self
+            .decl
+            .attributes
+            .value(version, self.header.address_size, attribute, bytes)
+        {
+            Ok(value) => value,
+            Err(_) => unreachable!(),
+        }
     }
 }

@@ -113,7 +113,8 @@ fn skip_each<'b>(
     Ok(rest)
 }
 
-/// The bytes behind the values of an entry. Values that have one size each are skipped together.
+/// The bytes behind the values of an entry, which are passed together where the version has all their forms. Where that
+/// fails, they are read one by one up to the fault.
 #[inline(always)]
 fn skip_attributes<'b>(
     context: UnitContext<'_>,
@@ -121,12 +122,17 @@ fn skip_attributes<'b>(
     bytes: &'b [u8],
 ) -> Result<&'b [u8], Failing>
     ensures { Gives (λ rest. rest.now) result
-        (after (attributes_at (context_in context.entry) decl.now.attributes.items bytes.now)) }
+        (after (attributes_at (context_in context.entry) decl.now.attributes bytes.now)) }
 {
-    match decl.fixed_size(context.version, context.address_size) {
-        Some(size) if size <= bytes.len() => Ok(&bytes[size..]),
-        _ => skip_each(context, &decl.attributes, bytes),
+    let version = context.version;
+    let specs = decl.attributes.as_slice();
+    if decl.allows(version) {
+        let size = context.address_size;
+        if let Ok(rest) = decl.attributes.pass(version, size, 0, specs.len(), bytes) {
+            return Ok(rest);
+        }
     }
+    skip_each(context, specs, bytes)
 }
 
 /// The declaration with this code.

@@ -1,8 +1,8 @@
 //! The attributes of an entry, each value decoded when it is asked.
 
-ghost use Rattle.std.specs.Prelude.{◌≡◌, ◌≤◌, length, IfSome, IfNone};
+ghost use Rattle.std.specs.Prelude.{◌≡◌, ◌≤◌, ◌-◌, length, drop, IfSome, IfNone};
 ghost use Rattle.std.specs.Bool.{OnFalse, OnTrue};
-ghost use Rattle.dw_entries.specs.Chosen.{PassTo, IsFirstAsked};
+ghost use Rattle.dw_entries.specs.Chosen.{OthersPass, Unasked, IsNextAsked};
 ghost use Rattle.dw_entries.specs.Referring.{may_refer, is_asked};
 ghost use Rattle.dw_forms.specs.declared.decl.AttributeSpec.{AttributeSpec as SpecData};
 ghost use Rattle.dw_entries.specs.Header.{IsSize};
@@ -10,17 +10,20 @@ ghost use Rattle.dw_entries.specs.Values.{value_context, Left};
 ghost use Rattle.dw_entries.specs.Choices.{size_unique};
 ghost use Rattle.dw_entries.specs.ValueLaws.{left_unique};
 
-use dw_forms::{Attribute, AttributeSpec, Form, Value, read_value, skip_value};
+use dw_forms::{Attribute, AttributeSpec, Attributes, Form, Value, read_value};
 
 /// The attributes of an entry that are left, in their order. Its values lie in .debug_info.
 #[derive(Drop)]
 pub struct Values<'e, 'a> {
-    pub(crate) specs: &'e [AttributeSpec],
+    pub(crate) attributes: &'e Attributes,
+    /// The place of the first that is left.
+    pub(crate) at: usize,
     pub(crate) bytes: &'a [u8],
     pub(crate) version: u16,
     pub(crate) address_size: u8,
+    pub ghost within: { at ≤ length attributes.now },
     pub ghost sized: { IsSize address_size } by { size_unique address_size },
-    pub ghost left: { Left (value_context version address_size) specs.now bytes.now } by { left_unique (value_context version address_size) specs.now bytes.now },
+    pub ghost left: { Left (value_context version address_size) (drop at attributes.now) bytes.now } by { left_unique (value_context version address_size) (drop at attributes.now) bytes.now },
 }
 
 /// Whether values of the form may be references: those of class reference, and those that name another form.
@@ -61,6 +64,13 @@ pub trait Choice {
     fn asks(&self, spec: &AttributeSpec) -> bool
         ensures passes { OnFalse result (passes self.now spec.now) }
         ensures asked { OnTrue result (asked self.now spec.now) };
+
+    /// Whether all that are asked for are among those at which a search stops, so that the others need not be asked.
+    fn keeps_to_stops(&self) -> bool
+        ensures { OnTrue result (OthersPass (passes self.now)) }
+    {
+        false
+    }
 }
 
 /// The attributes that have this code, and those whose values may be references.
@@ -80,15 +90,26 @@ impl Choice for Referring {
     fn asks(&self, spec: &AttributeSpec) -> bool {
         is_asked(*spec, self.attribute)
     }
+
+    #[inline]
+    #[tactic(auto, using(crate::proofs::StopSteps::others_pass))]
+    fn keeps_to_stops(&self) -> bool {
+        self.attribute.0 <= 0x8c
+    }
 }
 
-/// The place of the first specification that is asked for.
+/// The place of the next attribute that is asked for, where all such are among those at which a search stops.
 #[inline(always)]
-fn first_asked<C: Choice>(choice: &C, specs: &[AttributeSpec]) -> Option<usize>
-    ensures found { IfSome result (IsFirstAsked (C.passes choice.now) (C.asked choice.now) specs.now) }
-    ensures none { IfNone result (PassTo (C.passes choice.now) specs.now (length specs.now)) }
+fn next_stop<C: Choice>(choice: &C, attributes: &Attributes, from: usize) -> Option<usize>
+    requires within { from ≤ length attributes.now }
+    requires others { OthersPass (C.passes choice.now) }
+    ensures found { IfSome result (IsNextAsked (C.passes choice.now) (C.asked choice.now) attributes.now from) }
+    ensures none { IfNone result (Unasked (C.passes choice.now) attributes.now from (length attributes.now)) }
 {
-    for place in 0..specs.len() {
+    let specs = attributes.as_slice();
+    let stops = attributes.stops(from);
+    for number in 0..stops.len() {
+        let place = stops[number] as usize;
         if choice.asks(&specs[place]) {
             return Some(place);
         }
@@ -96,51 +117,57 @@ fn first_asked<C: Choice>(choice: &C, specs: &[AttributeSpec]) -> Option<usize>
     None
 }
 
+/// The same where any may be asked for.
+fn next_of_all<C: Choice>(choice: &C, attributes: &Attributes, from: usize) -> Option<usize>
+    requires { from ≤ length attributes.now }
+    ensures found { IfSome result (IsNextAsked (C.passes choice.now) (C.asked choice.now) attributes.now from) }
+    ensures none { IfNone result (Unasked (C.passes choice.now) attributes.now from (length attributes.now)) }
+{
+    let specs = attributes.as_slice();
+    for place in from..specs.len() {
+        if choice.asks(&specs[place]) {
+            return Some(place);
+        }
+    }
+    None
+}
+
+/// The place of the next attribute that is asked for, from a place on.
+#[inline(always)]
+fn next_asked<C: Choice>(choice: &C, attributes: &Attributes, from: usize) -> Option<usize>
+    requires { from ≤ length attributes.now }
+    ensures found { IfSome result (IsNextAsked (C.passes choice.now) (C.asked choice.now) attributes.now from) }
+    ensures none { IfNone result (Unasked (C.passes choice.now) attributes.now from (length attributes.now)) }
+{
+    if choice.keeps_to_stops() {
+        next_stop(choice, attributes, from)
+    } else {
+        next_of_all(choice, attributes, from)
+    }
+}
+
 impl<'a> Values<'_, 'a> {
-    ghost use Rattle.std.specs.Prelude.{option_map, drop};
-    ghost use Rattle.dw_forms.specs.Value.{view};
     ghost use Rattle.dw_entries.specs.ValuesLeft.{viewed, values_left, FindsFirst, AsksNone};
     ghost use Rattle.dw_entries.specs.Chosen.{ArePassed, IsNextOf};
     ghost use Rattle.dw_entries.specs.Referring.{IsAsked, IsOther};
-    ghost use Rattle.dw_entries.specs.Lookups.{value_in};
 
-    /// The value of the first attribute with this code among those that are left. Values before it are skipped.
-    #[inline(never)]
-    pub(crate) fn value(&self, attribute: Attribute) -> Option<Value<'a>>
-        ensures { option_map view result ≡ value_in (values_left self.now) attribute }
-    {
-        let mut bytes = self.bytes;
-        for spec in self.specs {
-            if spec.attribute == attribute {
-                return match read_value(self.version, spec.form, self.address_size, bytes) {
-                    Ok((value, _)) => Some(value),
-                    Err(_) => unreachable!(),
-                };
-            }
-            match skip_value(self.version, spec.form, self.address_size, bytes) {
-                Ok(len) => bytes = &bytes[len..],
-                Err(_) => unreachable!(),
-            }
-        }
-        None
-    }
-
-    /// Passes this many attributes. Their values are skipped.
+    /// Passes the attributes up to this place.
     #[inline(always)]
-    fn pass(&mut self, count: usize)
-        requires { count ≤ length self.old.specs.now }
-        ensures { values_left self.new ≡ drop count (values_left self.old) }
+    fn pass(&mut self, to: usize)
+        requires on { self.old.at ≤ to }
+        requires within { to ≤ length self.old.attributes.now }
+        ensures { values_left self.new ≡ drop (to - self.old.at) (values_left self.old) }
     {
-        let mut bytes = self.bytes;
-        for place in 0..count {
-            let spec = self.specs[place];
-            let Ok(len) = skip_value(self.version, spec.form, self.address_size, bytes) else {
-                unreachable!();
-            };
-            bytes = &bytes[len..];
+        match self
+            .attributes
+            .pass(self.version, self.address_size, self.at, to, self.bytes)
+        {
+            Ok(bytes) => {
+                self.at = to;
+                self.bytes = bytes;
+            }
+            Err(_) => unreachable!(),
         }
-        self.specs = &self.specs[count..];
-        self.bytes = bytes;
     }
 
     /// The next attribute that is asked for. Values before it are skipped, and where none is asked for, nothing is read.
@@ -152,7 +179,7 @@ impl<'a> Values<'_, 'a> {
         ensures asked { IfSome result (FindsFirst (C.passes choice.now) (C.asked choice.now) self.old self.new) }
         ensures unasked { IfNone result (AsksNone (C.passes choice.now) self.old) }
     {
-        match first_asked(choice, self.specs) {
+        match next_asked(choice, self.attributes, self.at) {
             Some(place) => {
                 self.pass(place);
                 self.next()
@@ -186,10 +213,14 @@ impl<'e, 'a> Iterator for Values<'e, 'a> {
 
     #[inline(always)]
     fn next(&mut self) -> Option<(Attribute, Value<'a>)> {
-        let (spec, specs) = self.specs.split_first()?;
+        let specs = self.attributes.as_slice();
+        if self.at >= specs.len() {
+            return None;
+        }
+        let spec = specs[self.at];
         match read_value(self.version, spec.form, self.address_size, self.bytes) {
             Ok((value, len)) => {
-                self.specs = specs;
+                self.at += 1;
                 self.bytes = &self.bytes[len..];
                 Some((spec.attribute, value))
             }

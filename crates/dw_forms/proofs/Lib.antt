@@ -14,7 +14,10 @@ pub mod TableFaults
 pub mod TailLaws
 pub mod RowLaws
 pub mod RowPlaces
-pub mod FixedSums
 pub mod RemainderLaws
+pub mod AllowedForms
 pub mod FewAttributes
 pub mod ValueAnswers
+pub mod PlanSteps
+pub mod PassSteps
+pub mod StopLaws

@@ -23,7 +23,7 @@ pub record Declaration : Type 0 where
 
 -- the declaration, as it is seen
 abbrev pub view : Decl → Declaration
-view d = record { code = d.code; tag = d.tag; has_children = d.has_children; attributes = d.attributes.items }
+view d = record { code = d.code; tag = d.tag; has_children = d.has_children; attributes = d.attributes }
 
 -- the declarations, as they are seen
 abbrev pub views : List Decl → List Declaration

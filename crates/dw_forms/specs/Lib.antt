@@ -27,3 +27,7 @@ pub mod FormLaws
 pub mod ValueLaws
 pub mod Datums
 pub mod SizeLaws
+pub mod Plans
+pub mod PlanLaws
+pub mod FirstPlaces
+pub mod Planned

@@ -208,7 +208,7 @@ pub(crate) fn next_decl<'a>(
     let (has_children, rest) = read_children(rest)?;
     let (mut attributes, rest) = read_attributes(alloc, marks, rest)?;
     attributes.shrink_to_fit();
-    let decl = Decl::new(code, Tag(tag as u16), has_children, attributes);
+    let decl = Decl::new(alloc, code, Tag(tag as u16), has_children, attributes)?;
     Ok((Some(decl), rest))
 }
 

@@ -1,13 +1,15 @@
 //! Abbreviation declarations (DWARF 5, 7.5.3).
 
-ghost use Rattle.std.specs.Prelude.{◌≡◌, ◌≢◌, ◌≤◌, ◌%◌, ◌^◌, ◌⊎◌, All, bit_and, length};
+ghost use Rattle.std.specs.Prelude.{◌≡◌, ◌≢◌, ◌≤◌, ◌%◌, ◌^◌, ◌⊎◌, All, bit_and, length, IfOk};
 ghost use Rattle.std.specs.Bool.{OnFalse};
-ghost use Rattle.dw_forms.specs.Sizes.{fixed_sum, are_allowed};
+ghost use Rattle.dw_forms.specs.Sizes.{are_allowed};
 ghost use Rattle.dw_forms.specs.Codes.{is_type_tag};
 ghost use Rattle.dw_forms.specs.Remainders.{HasRemainders};
 
+use crate::attributes::Attributes;
 use crate::constants::{Attribute, Tag};
 use crate::form::Form;
+use std::alloc::{AllocError, Global};
 
 /// An attribute specification: an attribute, and the form of its values.
 #[derive(Clone, Copy, Debug, PartialEq, Eq)]
@@ -29,31 +31,12 @@ pub struct Decl {
     /// Whether each form is one of version 4.
     in_version_4: bool,
     /// In the order of their values in an entry. No attribute stands twice.
-    pub attributes: Vec<AttributeSpec>,
-    /// The sum of the sizes of the values in version 5 where addresses have 4 bytes.
-    fixed_with_4: Option<u32>,
-    /// The same where addresses have 8 bytes.
-    fixed_with_8: Option<u32>,
+    pub attributes: Attributes,
     /// The remainders of the attributes' codes modulo 64, one bit for each.
     remainders: u64,
-    ghost sum_with_4: { fixed_with_4 ≡ fixed_sum 5 4 attributes.items },
-    ghost sum_with_8: { fixed_with_8 ≡ fixed_sum 5 8 attributes.items },
-    ghost allowed_in_4: { in_version_4 ≡ are_allowed 4 attributes.items },
+    ghost allowed_in_4: { in_version_4 ≡ are_allowed 4 attributes },
     ghost type_tag: { is_type ≡ is_type_tag tag },
-    ghost remainders_are: { HasRemainders remainders attributes.items },
-}
-
-/// The sum of the sizes of the values in version 5, where each has one size.
-#[tactic(auto, using(crate::proofs::FixedSums::sum_more, crate::proofs::FixedSums::sum_none, crate::proofs::FixedSums::sum_all))]
-fn fixed_sum(attributes: &[AttributeSpec], address_size: u8) -> Option<u32>
-    requires { length attributes.now ≤ 0x10000 }
-    ensures { result ≡ fixed_sum 5 address_size attributes.now }
-{
-    let mut sum = 0;
-    for spec in attributes {
-        sum += spec.form.fixed_size(address_size)? as u32;
-    }
-    Some(sum)
+    ghost remainders_are: { HasRemainders remainders attributes },
 }
 
 /// Whether a unit of this version may have all these forms.
@@ -94,32 +77,29 @@ fn remainders_of(attributes: &[AttributeSpec]) -> u64
 impl Decl {
     ghost use Rattle.dw_forms.specs.Abbrev.{view};
 
-    /// A declaration, with the sizes of its values.
+    /// A declaration, with what is known of its values.
     pub(crate) fn new(
+        alloc: Global,
         code: u64,
         tag: Tag,
         has_children: bool,
         attributes: Vec<AttributeSpec>,
-    ) -> Decl
+    ) -> Result<Decl, AllocError>
         requires { length attributes.items ≤ 0x10000 }
-        ensures { view result ≡ record { code = code; tag = tag; has_children = has_children; attributes = attributes.items } }
+        ensures { IfOk result (λ decl. view decl ≡ record { code = code; tag = tag; has_children = has_children; attributes = attributes.items }) }
     {
-        let fixed_with_4 = fixed_sum(&attributes, 4);
-        let fixed_with_8 = fixed_sum(&attributes, 8);
         let in_version_4 = are_allowed(&attributes, 4);
         let remainders = remainders_of(&attributes);
         let is_type = tag.is_type();
-        Decl {
+        Ok(Decl {
             code,
             tag,
             has_children,
             is_type,
             in_version_4,
-            attributes,
-            fixed_with_4,
-            fixed_with_8,
+            attributes: Attributes::new(alloc, attributes)?,
             remainders,
-        }
+        })
     }
 
     /// Whether the entries are types, as `Tag::is_type` says.
@@ -133,39 +113,21 @@ impl Decl {
     /// Whether the attribute may be one of those declared. False says that it is none; that is known at once.
     #[inline(always)]
     pub fn may_have(&self, attribute: Attribute) -> bool
-        ensures { OnFalse result (All (λ spec. spec.attribute ≢ attribute) self.now.attributes.items) }
+        ensures { OnFalse result (All (λ spec. spec.attribute ≢ attribute) self.now.attributes) }
     {
         has_remainder(self.remainders, attribute)
     }
 
-    /// How many bytes the values of an entry have together in version 5, where each form has one size.
+    /// Whether a unit of this version may have all forms of the declaration.
     #[inline(always)]
-    fn fixed_size_in_5(&self, address_size: u8) -> Option<usize>
-        requires { (address_size ≡ 4) ⊎ (address_size ≡ 8) }
-        ensures { result ≡ fixed_sum 5 address_size self.now.attributes.items }
-    {
-        if address_size == 8 {
-            self.fixed_with_8.map(|size| size as usize)
-        } else {
-            self.fixed_with_4.map(|size| size as usize)
-        }
-    }
-
-    /// How many bytes the values of an entry have together, where the unit's version allows each form and
-    /// each form has one size.
-    #[inline(always)]
-    #[tactic(auto, using(crate::proofs::FixedSums::sum_barred, crate::proofs::FixedSums::sum_same))]
-    pub fn fixed_size(&self, version: u16, address_size: u8) -> Option<usize>
-        requires version { (version ≡ 4) ⊎ (version ≡ 5) }
-        requires size { (address_size ≡ 4) ⊎ (address_size ≡ 8) }
-        ensures { result ≡ fixed_sum version address_size self.now.attributes.items }
+    #[tactic(auto, using(crate::proofs::AllowedForms::all_allowed))]
+    pub fn allows(&self, version: u16) -> bool
+        requires { (version ≡ 4) ⊎ (version ≡ 5) }
+        ensures { result ≡ are_allowed version self.now.attributes }
     {
         if version != 4 {
-            return self.fixed_size_in_5(address_size);
+            return true;
         }
-        if !self.in_version_4 {
-            return None;
-        }
-        self.fixed_size_in_5(address_size)
+        self.in_version_4
     }
 }

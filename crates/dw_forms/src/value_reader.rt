@@ -152,6 +152,20 @@ fn value(
     }
 }
 
+/// The value of any form, and how many bytes it has, whether the version allows its form or not.
+#[inline(always)]
+pub(crate) fn read_any(
+    version: u16,
+    form: Form,
+    address_size: u8,
+    bytes: &[u8],
+) -> Result<(Value<'_>, usize), ValueFault>
+    requires { (address_size ≡ 4) ⊎ (address_size ≡ 8) }
+    ensures { Gives (λ x. (view x.0, drop x.1 bytes.now)) result (value_at version form address_size bytes.now) }
+{
+    value(version, form, address_size, bytes)
+}
+
 /// Reads the value at the front, in a form that the unit's version allows, and how many bytes it takes. Bytes may
 /// follow it.
 #[inline(always)]
@@ -194,9 +208,28 @@ fn skip_long(version: u16, form: Form, address_size: u8, bytes: &[u8]) -> Result
     }
 }
 
-/// How many bytes the value at the front takes, as `read_value` says it, without making the value.
+/// How many bytes the value at the front takes, whether the version allows its form or not.
 #[inline(always)]
 #[tactic(auto, using(crate::specs::SizeLaws::rest_skips, crate::specs::SizeLaws::rest_cuts), unfolding(crate::specs::Sizes::rest_at))]
+pub(crate) fn skip_any(
+    version: u16,
+    form: Form,
+    address_size: u8,
+    bytes: &[u8],
+) -> Result<usize, ValueFault>
+    requires { (address_size ≡ 4) ⊎ (address_size ≡ 8) }
+    ensures within { IfOk result (λ len. len ≤ length bytes.now) }
+    ensures exact { Gives (λ len. drop len bytes.now) result (rest_at version form address_size bytes.now) }
+{
+    match form.fixed_size(address_size) {
+        Some(size) if bytes.len() < size => Err(ValueFault::Cut),
+        Some(size) => Ok(size),
+        None => skip_long(version, form, address_size, bytes),
+    }
+}
+
+/// How many bytes the value at the front takes, as `read_value` says it, without making the value.
+#[inline(always)]
 pub fn skip_value(
     version: u16,
     form: Form,
@@ -208,9 +241,5 @@ pub fn skip_value(
     ensures within { IfOk result (λ len. len ≤ length bytes.now) }
     ensures exact { Gives (λ len. drop len bytes.now) result (rest_at version form address_size bytes.now) }
 {
-    match form.fixed_size(address_size) {
-        Some(size) if bytes.len() < size => Err(ValueFault::Cut),
-        Some(size) => Ok(size),
-        None => skip_long(version, form, address_size, bytes),
-    }
+    skip_any(version, form, address_size, bytes)
 }

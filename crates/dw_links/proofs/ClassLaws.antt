@@ -1,10 +1,16 @@
 -- The rule on classes, by declarations and by values.
-use Rattle.std.proofs.Common.{◌≡◌, ℕ, ◌<◌, Bool, true, false, List, length, Some, refl, sym, ap, ◌∙◌, arith, if◌then◌else◌, nat_eq}
-use Rattle.std.specs.Prelude.{slice_get, IfSome}
+use Rattle.std.proofs.Common.{◌≡◌, ℕ, ◌<◌, Bool, true, false, List, [], ◌∷◌, length, Some, refl, sym, ap, ◌∙◌, arith, if◌then◌else◌, nat_eq}
+use Rattle.std.specs.Prelude.{slice_get, IfSome, nat_le, not, ◌||◌, ◌&&◌}
+use Rattle.std.specs.List.{list_all}
+use Rattle.std.proofs.lemmas.Bool.{ne_eqb, leb-true, leb-false}
 use Rattle.std.proofs.lemmas.Option.{slice_get_within}
 use mathlib.Core.Logic.{∥∥₁_elim}
 use Rattle.dw_forms.specs.Value.{Datum}
+use Rattle.dw_forms.specs.declared.form.Form.{Form}
+use Rattle.dw_forms.specs.declared.form.Form.TheVariants as form
 use Rattle.dw_forms.specs.declared.decl.AttributeSpec.{AttributeSpec}
+use Rattle.dw_forms.specs.Plans.{is_byteless}
+use Rattle.dw_forms.specs.Codes.{DW_AT_sibling, DW_AT_name, DW_AT_byte_size, DW_AT_bit_size, DW_AT_import, DW_AT_lower_bound, DW_AT_prototyped, DW_AT_bit_stride, DW_AT_upper_bound, DW_AT_abstract_origin, DW_AT_count, DW_AT_data_member_location, DW_AT_declaration, DW_AT_encoding, DW_AT_specification, DW_AT_type, DW_AT_byte_stride, DW_AT_signature, DW_AT_data_bit_offset, DW_AT_str_offsets_base, DW_AT_addr_base}
 use Rattle.dw_entries.specs.declared.rule.Rule.TheVariants.{WrongClass}
 use Rattle.dw_entries.specs.declared.lookup.Head.{Head}
 use Rattle.dw_entries.specs.declared.lookup.UnitHead.{UnitHead}
@@ -14,11 +20,13 @@ use Rattle.dw_entries.specs.Entries.{Entry, entries_of, PlacedUnit, placed}
 use Rattle.dw_entries.specs.Lookups.{unit_head}
 use Rattle.dw_entries.specs.Rules.{number_of}
 use Rattle.dw_entries.specs.Failures.{IsLeast}
+use Rattle.dw_entries.specs.Chosen.{OthersPass}
 use Rattle.dw_entries.proofs.HeadLaws.{head_stands}
 use Rattle.dw_entries.proofs.EntryFacts.{length-placed_from}
 use Rattle.dw_links.specs.declared.class.Class.{Class}
+use Rattle.dw_links.specs.declared.class.Class.TheVariants.{Constant, Flag}
 use Rattle.dw_links.specs.Concerns.{Passes}
-use Rattle.dw_links.specs.Classes.{class_of, form_class, allows, allows_in, ClassFails}
+use Rattle.dw_links.specs.Classes.{class_of, form_class, is_one_of, allows, allows_in, ClassFails}
 use Rattle.dw_links.proofs.Skips.{there}
 use Rattle.dw_links.proofs.FormClasses.{class_by_form}
 
@@ -40,6 +48,40 @@ class_passes units spec c form ok x a is head rule fails =
     ap (λ (k : Class). allows_in (version_of fails.unit.unit.header.kind) spec.attribute k) (sym class)
     ∙ ap (λ (code : ℕ). allows_in (version_of fails.unit.unit.header.kind) code (class_of a.value)) (sym is.code) ∙ fails.class in
     let no : true ≡ false = sym (allowed_in (version_of fails.unit.unit.header.kind) spec.attribute c ok) ∙ both in cc)
+
+-- ---- a code past those of DWARF 5 has no line, and values that take no bytes have a class
+
+no_one : (codes : List ℕ) (a : ℕ) → 0x8c < a → list_all (λ code. nat_le code 0x8c) codes ≡ true → is_one_of codes a ≡ false
+no_one [] a past small = refl
+no_one (code ∷ codes) a past small = by_code (nat_le code 0x8c) refl small (λ others. no_one codes a past others)
+  where
+    by_code : (b : Bool) → nat_le code 0x8c ≡ b → (b && list_all (λ c. nat_le c 0x8c) codes) ≡ true → (list_all (λ c. nat_le c 0x8c) codes ≡ true → is_one_of codes a ≡ false) → is_one_of (code ∷ codes) a ≡ false
+    by_code true le others none = rw (ne_eqb a code (λ same. omega (arith, past, same, leb-true code 0x8c le))) (none others)
+    by_code false le others none = absurd (let both : false ≡ true = others in cc)
+
+or_else : (b x y : Bool) → b ≡ false → y ≡ true → (if b then x else y) ≡ true
+or_else b x y is not = rw is not
+
+allows_past : (a : ℕ) (c : Class) → 0x8c < a → allows a c ≡ true
+allows_past a c past =
+    or_else _ _ _ (no_one (DW_AT_sibling ∷ DW_AT_import ∷ DW_AT_abstract_origin ∷ DW_AT_specification ∷ DW_AT_type ∷ DW_AT_signature ∷ []) a past refl)
+    (or_else _ _ _ (no_one (DW_AT_name ∷ []) a past refl)
+    (or_else _ _ _ (no_one (DW_AT_byte_size ∷ DW_AT_bit_size ∷ DW_AT_count ∷ DW_AT_byte_stride ∷ DW_AT_data_bit_offset ∷ []) a past refl)
+    (or_else _ _ _ (no_one (DW_AT_lower_bound ∷ DW_AT_upper_bound ∷ DW_AT_bit_stride ∷ []) a past refl)
+    (or_else _ _ _ (no_one (DW_AT_data_member_location ∷ []) a past refl)
+    (or_else _ _ _ (no_one (DW_AT_encoding ∷ []) a past refl)
+    (or_else _ _ _ (no_one (DW_AT_prototyped ∷ DW_AT_declaration ∷ []) a past refl)
+    (or_else _ _ _ (no_one (DW_AT_str_offsets_base ∷ DW_AT_addr_base ∷ []) a past refl) refl)))))))
+
+byteless_class : (f : Form) (b : Bool) → (not (is_byteless f) || b) ≡ false → (c : Class) × (form_class f ≡ Some c) × (b ≡ false)
+byteless_class form.FlagPresent b is = (Flag, refl, is)
+byteless_class (form.ImplicitConst number) b is = (Constant, refl, is)
+byteless_class f b is = absurd (let both : true ≡ false = is in cc)
+
+pub others_pass : (units : List PlacedUnit) → OthersPass (Passes (ClassFails units))
+others_pass units spec is =
+    let (c, class, past) = byteless_class spec.form (nat_le spec.attribute 0x8c) is in
+    class_passes units spec c class (allows_past spec.attribute c (leb-false spec.attribute 0x8c past))
 
 -- a value of another class
 pub class_least : (units : List PlacedUnit) (head : Head) (a : ℕ) (v : Datum) (p : PlacedUnit) → slice_get units head.unit ≡ Some p → allows_in (version_of p.unit.header.kind) a (class_of v) ≡ false

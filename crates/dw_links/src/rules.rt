@@ -1,7 +1,7 @@
 //! Rules that are asked of each attribute of each entry, and the search for the first failure.
 
 ghost use Rattle.std.specs.Prelude.{ℕ, ◌≡◌, [], Some, slice_get, IsSome, OnOk, IfErr};
-ghost use Rattle.std.specs.Bool.{OnFalse};
+ghost use Rattle.std.specs.Bool.{OnFalse, OnTrue};
 ghost use Rattle.dw_forms.specs.Value.{Datum, view};
 ghost use Rattle.dw_entries.specs.declared.lookup.Head.{Head as HeadData};
 ghost use Rattle.dw_entries.specs.declared.rule.Rule.{Rule as RuleName};
@@ -12,6 +12,7 @@ ghost use Rattle.dw_entries.specs.Scanned.{units_of};
 ghost use Rattle.dw_entries.specs.Lookups.{entry_head};
 ghost use Rattle.dw_entries.specs.Failures.{HasNone, IsFirst, IsLeast};
 ghost use Rattle.dw_entries.specs.Asked.{AtEntries};
+ghost use Rattle.dw_entries.specs.Chosen.{OthersPass};
 ghost use Rattle.dw_links.specs.Concerns.{AtHead, Passes, AllPass, EachPasses, PassesAt, FailsAt};
 
 use dw_entries::{Broken, Choice, Entries, EntryAt, Fault, Head, Rule, Section};
@@ -29,6 +30,10 @@ pub trait AttributeRules {
     /// Whether a rule may fail at an attribute that is declared so.
     fn concerns(&self, spec: &AttributeSpec) -> bool
         ensures { OnFalse result (Passes (fails self.now) spec.now) };
+
+    /// Whether no rule can fail at attributes other than those at which a search stops.
+    fn keeps_to_stops(&self) -> bool
+        ensures { OnTrue result (OthersPass (Passes (fails self.now))) };
 
     /// The rule with the least number that fails at an attribute.
     fn ask(&self, head: &Head, attribute: Attribute, value: &Value<'_>) -> Option<Rule>
@@ -48,6 +53,11 @@ impl<R: AttributeRules> Choice for Concerned<'_, R> {
     #[inline]
     fn asks(&self, spec: &AttributeSpec) -> bool {
         self.rules.concerns(spec)
+    }
+
+    #[inline]
+    fn keeps_to_stops(&self) -> bool {
+        self.rules.keeps_to_stops()
     }
 }
 
@@ -94,7 +104,7 @@ fn concerns_row<R: AttributeRules>(rules: &R, row: &DeclRow) -> bool
     ensures { OnFalse result (EachPasses (R.fails rules.now) row.now) }
 {
     for place in 0..row.len() {
-        if concerns_any(rules, &row.decl(place).attributes) {
+        if concerns_any(rules, row.decl(place).attributes.as_slice()) {
             return true;
         }
     }

@@ -66,6 +66,12 @@ impl AttributeRules for UnitTexts<'_> {
         }
     }
 
+    // Strings, addresses and bases take bytes.
+    #[tactic(auto, using(crate::proofs::StringLaws::stops_only))]
+    fn keeps_to_stops(&self) -> bool {
+        true
+    }
+
     fn ask(&self, head: &Head, attribute: Attribute, value: &Value<'_>) -> Option<Rule> {
         match *value {
             Value::Str(offset) => ask_offset(self.sections.str, self.ends.str, offset),

@@ -17,7 +17,6 @@ fn a_table(rt: HostRuntime) -> Result<(), Fail> {
     let unit = table.get(1).ok_or("declared")?;
     assert_eq!(rt; unit.tag, DW_TAG_compile_unit);
     assert!(rt; unit.has_children && !unit.tag.is_type());
-    assert_eq!(rt; unit.fixed_size(5, 8), None);
     let base = table.get(2).ok_or("declared")?;
     assert_eq!(rt; base.tag, DW_TAG_base_type);
     assert!(rt; !base.has_children && base.tag.is_type());
@@ -60,12 +59,10 @@ fn codes_out_of_order(rt: HostRuntime) -> Result<(), Fail> {
     if let Some(place) = table.place(200) {
         let base = table.decl(place);
         assert_eq!(rt; base.tag, DW_TAG_base_type);
-        assert_eq!(rt; base.fixed_size(5, 8), Some(0));
-        assert_eq!(rt; base.fixed_size(4, 8), None);
+        assert!(rt; base.allows(5) && !base.allows(4));
     }
     let named = table.get(1).ok_or("declared")?;
-    assert_eq!(rt; named.fixed_size(4, 4), Some(5));
-    assert_eq!(rt; named.fixed_size(5, 8), Some(5));
+    assert!(rt; named.allows(4) && named.allows(5));
     Ok(())
 }
 

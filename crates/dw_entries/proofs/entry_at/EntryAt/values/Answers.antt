@@ -1,3 +1,4 @@
+use Rattle.std.proofs.Common.{arith, refl}
 use Rattle.dw_forms.specs.Abbrev.{view as decl_view}
 use Rattle.dw_entries.proofs.KeptLaws.{kept_entry}
 use Rattle.dw_entries.proofs.LeftLaws.{sized_here, left_here, values_here}
@@ -9,8 +10,9 @@ invariant_of-result c =
     let kept = kept_entry _ _ _ _ _ it.entries.now.scanned it.id c.self.invariant.0 in
     let behind = rw (← c.self.view_is) at c.value_bytes.ensures in
     record {
-      sized = sized_here kept it.header (decl_view it.decl.now) c.deref.result.now c.value_bytes.result.now c.version.result c.self.invariant.3 c.self.invariant.2 behind c.deref.ensures.value c.version.ensures;
-      left = left_here kept it.header (decl_view it.decl.now) c.deref.result.now c.value_bytes.result.now c.version.result c.self.invariant.3 c.self.invariant.2 behind c.deref.ensures.value c.version.ensures;
+      within = omega arith;
+      sized = sized_here kept it.header (decl_view it.decl.now) it.decl.now.attributes c.value_bytes.result.now c.version.result c.self.invariant.3 c.self.invariant.2 behind refl c.version.ensures;
+      left = left_here kept it.header (decl_view it.decl.now) it.decl.now.attributes c.value_bytes.result.now c.version.result c.self.invariant.3 c.self.invariant.2 behind refl c.version.ensures;
     }
 
 pub returns : goal.returns
@@ -19,4 +21,4 @@ returns c =
     let kept = kept_entry _ _ _ _ _ it.entries.now.scanned it.id c.self.invariant.0 in
     let behind = rw (← c.self.view_is) at c.value_bytes.ensures in
     rw (← c.self.view_is)
-    (search (values_here kept it.header (decl_view it.decl.now) c.deref.result.now c.value_bytes.result.now c.version.result c.self.invariant.3 c.self.invariant.2 behind c.deref.ensures.value c.version.ensures))
+    (search (values_here kept it.header (decl_view it.decl.now) it.decl.now.attributes c.value_bytes.result.now c.version.result c.self.invariant.3 c.self.invariant.2 behind refl c.version.ensures))

@@ -1,0 +1,168 @@
+-- Values that are passed together, and the value behind them.
+use Rattle.std.proofs.Common.{◌≡◌, ◌≢◌, ℕ, zero, suc, ◌+◌, ◌-◌, ◌≤◌, Bool, true, false, List, [], ◌∷◌, ◌++◌, length, take, drop, map, Option, Some, None, Result, Ok, Err, refl, sym, ap, subst, ◌∙◌, append_assoc, arith}
+use Rattle.std.specs.Prelude.{◌&&◌, slice_index_or, option_map}
+use Rattle.std.specs.List.{flat_map, slice_range}
+use Rattle.std.proofs.lemmas.Bool.{ne_eqb, eq-eqb}
+use Rattle.std.proofs.lemmas.List.{drop-drop, length-drop, take_all}
+use Rattle.dw_forms.specs.declared.decl.AttributeSpec.{AttributeSpec}
+use Rattle.dw_forms.specs.declared.value.ValueFault.{ValueFault}
+use Rattle.dw_forms.specs.Steps.{◌>>=◌}
+use Rattle.dw_forms.specs.FormCodes.{is_allowed}
+use Rattle.dw_forms.specs.declared.form.Form.TheVariants.{Flag}
+use Rattle.dw_forms.specs.declared.value.Value.{Value}
+use Rattle.dw_forms.specs.Value.{Datum, view}
+use Rattle.dw_forms.specs.Sizes.{rest_at, are_allowed}
+use Rattle.dw_forms.specs.Plans.{values_end}
+use Rattle.dw_forms.specs.FirstPlaces.{StandsFirst, value_behind, ReadsFirst, AnswersFirst}
+use Rattle.dw_entries.specs.Grammar.{Context, Attribute, IsAttribute, AreAttributes, attribute_bytes}
+use Rattle.dw_entries.specs.Reading.{after, attributes_at}
+use Rattle.dw_entries.specs.ReadingLaws.{value_again, bind_ok}
+use Rattle.dw_entries.specs.Asked.{value_of}
+use Rattle.dw_entries.specs.Lookups.{value_in}
+use Rattle.dw_entries.specs.Values.{Left}
+use Rattle.dw_entries.specs.ValueLaws.{left_unique}
+use Rattle.dw_entries.proofs.ReadingSteps.{attributes_cons, attribute_skipped}
+use Rattle.dw_entries.proofs.ValueSteps.{value_of_none}
+use Rattle.dw_entries.proofs.LeftLaws.{declares_none}
+
+-- ---- values that are read, one by one or together
+
+both_true : (a b : Bool) → (a && b) ≡ true → (a ≡ true) × (b ≡ true)
+both_true true b e = (refl, e)
+both_true false b e = absurd cc
+
+-- where all forms are allowed, values that are read one behind the other are the attributes at the front
+pub all_after : (t : Context) (specs : List AttributeSpec) (bytes rest : List ℕ) → are_allowed t.version specs ≡ true → values_end t.version t.address_size specs bytes ≡ Ok rest → after (attributes_at t specs bytes) ≡ Ok rest
+unfolding values_end attributes_at
+all_after t [] bytes rest allowed e = let same : ◌≡◌ {A = Result (List ℕ) ValueFault} (Ok bytes) (Ok rest) = e in cc
+all_after t (s ∷ specs) bytes rest allowed e =
+    let both = both_true (is_allowed t.version s.form) (are_allowed t.version specs) allowed in
+    let next = bind_ok (rest_at t.version s.form t.address_size bytes) (λ b. values_end t.version t.address_size specs b) rest e in
+    attributes_cons t s specs bytes next.0 (attribute_skipped t s t.version bytes next.0 refl (sym both.0) next.1) ∙ all_after t specs next.0 rest both.1 next.2
+
+pub front_range : (specs : List AttributeSpec) (k : ℕ) → slice_range specs 0 k ≡ take k specs
+front_range specs k = let same : k - 0 ≡ k = omega arith in ap (λ (n : ℕ). take n specs) same
+
+-- the same where all are passed together
+pub whole_after : (t : Context) (specs slice : List AttributeSpec) (bytes rest : List ℕ) → slice ≡ specs → true ≡ are_allowed t.version specs → values_end t.version t.address_size (slice_range specs 0 (length slice)) bytes ≡ Ok rest
+    → after (attributes_at t specs bytes) ≡ Ok rest
+whole_after t specs slice bytes rest same allowed e =
+    let whole : slice_range specs 0 (length slice) ≡ specs = front_range specs (length slice) ∙ take_all (length slice) specs (omega (arith, ap length same)) in
+    all_after t specs bytes rest (sym allowed) (ap (λ (ss : List AttributeSpec). values_end t.version t.address_size ss bytes) (sym whole) ∙ e)
+
+-- ---- values that are left
+
+-- the values of the first k of these attributes are read one behind the other, and the others are left
+pub record Passed (x : Context) (specs : List AttributeSpec) (bs : List Attribute) (rest bytes : List ℕ) (k : ℕ) : Type 0 where
+  pub behind : List ℕ
+  pub others : List Attribute
+  pub ends : values_end x.version x.address_size (take k specs) bytes ≡ Ok behind
+  pub are : AreAttributes x (drop k specs) others
+  pub spelled : behind ≡ flat_map attribute_bytes others ++ rest
+  pub values : map value_of others ≡ drop k (map value_of bs)
+
+one_end : (x : Context) (s : AttributeSpec) (b : Attribute) (rest : List ℕ) → IsAttribute x s b → rest_at x.version s.form x.address_size (b.bytes ++ rest) ≡ Ok rest
+unfolding rest_at
+one_end x s b rest p = rw (value_again x s b rest p) refl
+
+passed : (x : Context) (specs : List AttributeSpec) (bs : List Attribute) (rest bytes : List ℕ) (k : ℕ) → AreAttributes x specs bs → bytes ≡ flat_map attribute_bytes bs ++ rest → k ≤ length specs → Passed x specs bs rest bytes k
+unfolding values_end
+passed x specs bs rest bytes zero are spelled within = record { behind = bytes; others = bs; ends = refl; are = are; spelled = spelled; values = refl }
+passed x [] bs rest bytes (suc k) are spelled within = absurd (omega (arith, within))
+passed x (s ∷ specs) [] rest bytes (suc k) are spelled within = absurd are
+passed x (s ∷ specs) (b ∷ bs) rest bytes (suc k) are spelled within =
+    let here : bytes ≡ b.bytes ++ (flat_map attribute_bytes bs ++ rest) = spelled ∙ append_assoc b.bytes (flat_map attribute_bytes bs) rest in
+    let p = passed x specs bs rest (flat_map attribute_bytes bs ++ rest) k are.1 refl (omega (arith, within)) in
+    let first : rest_at x.version s.form x.address_size bytes ≡ Ok (flat_map attribute_bytes bs ++ rest) =
+    ap (λ (c : List ℕ). rest_at x.version s.form x.address_size c) here ∙ one_end x s b (flat_map attribute_bytes bs ++ rest) are.0 in
+    record {
+      behind = p.behind;
+      others = p.others;
+      ends = ap (λ (r : Result (List ℕ) ValueFault). r >>= λ more. values_end x.version x.address_size (take k specs) more) first ∙ p.ends;
+      are = p.are;
+      spelled = p.spelled;
+      values = p.values;
+    }
+
+module _ (x : Context) (specs : List AttributeSpec) (at to : ℕ) (bytes : List ℕ) (l : Left x (drop at specs) bytes) (on : at ≤ to) (within : to ≤ length specs) where
+  those : Passed x (drop at specs) l.0.0 l.0.1 bytes (to - at)
+  those = passed x (drop at specs) l.0.0 l.0.1 bytes (to - at) l.1.are l.1.spelled (omega (arith, on, within, length-drop at specs))
+
+  pub never_cut : (f : ValueFault) → values_end x.version x.address_size (slice_range specs at to) bytes ≡ Err f → ⊥
+  never_cut f e = let ok = those.ends in cc
+
+  -- what is left behind them
+  behind : (rest : List ℕ) → values_end x.version x.address_size (slice_range specs at to) bytes ≡ Ok rest → (m : Left x (drop (to - at) (drop at specs)) rest) × (map value_of m.0.0 ≡ drop (to - at) (map value_of l.0.0))
+  behind rest e =
+      let same : those.behind ≡ rest = is_ok (sym those.ends ∙ e) in
+      (((those.others, l.0.1), record { are = those.are; spelled = sym same ∙ those.spelled }), those.values)
+    where
+      is_ok : {a b : List ℕ} → ◌≡◌ {A = Result (List ℕ) ValueFault} (Ok a) (Ok b) → a ≡ b
+      is_ok e = cc
+
+  drop_is : drop (to - at) (drop at specs) ≡ drop to specs
+  drop_is = let same : at + (to - at) ≡ to = omega (arith, on) in drop-drop (to - at) at specs ∙ ap (λ (n : ℕ). drop n specs) same
+
+  pub left_on : (rest : List ℕ) → values_end x.version x.address_size (slice_range specs at to) bytes ≡ Ok rest → (m : Left x (drop to specs) rest) × (map value_of m.0.0 ≡ drop (to - at) (map value_of l.0.0))
+  left_on rest e = subst (λ (ss : List AttributeSpec). (m : Left x ss rest) × (map value_of m.0.0 ≡ drop (to - at) (map value_of l.0.0))) drop_is (behind rest e)
+
+  pub left_rest : (rest : List ℕ) → values_end x.version x.address_size (slice_range specs at to) bytes ≡ Ok rest → (n : Left x (drop to specs) rest) → map value_of n.0.0 ≡ drop (to - at) (map value_of l.0.0)
+  left_rest rest e n = let m = left_on rest e in ap (λ (z : Left x (drop to specs) rest). map value_of z.0.0) (left_unique x (drop to specs) rest n m.0) ∙ m.1
+
+-- ---- the value of the first attribute with a code
+
+-- the values before it are read one behind the other, and it behind them
+pub record FirstValue (version size : ℕ) (specs : List AttributeSpec) (bytes : List ℕ) (values : List (ℕ × Datum)) (code place : ℕ) : Type 0 where
+  pub datum : Datum
+  pub is_value : Some datum ≡ value_in values code
+  pub reads : (d : AttributeSpec) → value_behind version size (slice_index_or specs place d).form (values_end version size (take place specs) bytes) ≡ Ok datum
+
+pub first_value : (x : Context) (specs : List AttributeSpec) (bs : List Attribute) (rest bytes : List ℕ) (code place : ℕ) → AreAttributes x specs bs → bytes ≡ flat_map attribute_bytes bs ++ rest → StandsFirst specs code place
+    → FirstValue x.version x.address_size specs bytes (map value_of bs) code place
+unfolding values_end
+first_value x [] bs rest bytes code place are spelled first = absurd (omega (arith, first.within))
+first_value x (s ∷ specs) [] rest bytes code place are spelled first = absurd are
+first_value x (s ∷ specs) (b ∷ bs) rest bytes code zero are spelled first =
+    let here : bytes ≡ b.bytes ++ (flat_map attribute_bytes bs ++ rest) = spelled ∙ append_assoc b.bytes (flat_map attribute_bytes bs) rest in
+    let same : s.attribute ≡ code = first.has s in
+    let is : b.code ≡ code = let c : b.code ≡ s.attribute = are.0.code in c ∙ same in
+    record {
+      datum = b.value;
+      is_value = rw (eq-eqb b.code code is) refl;
+      reads = λ d. rw (here, value_again x s b (flat_map attribute_bytes bs ++ rest) are.0) refl;
+    }
+first_value x (s ∷ specs) (b ∷ bs) rest bytes code (suc place) are spelled first =
+    let here : bytes ≡ b.bytes ++ (flat_map attribute_bytes bs ++ rest) = spelled ∙ append_assoc b.bytes (flat_map attribute_bytes bs) rest in
+    let other : s.attribute ≢ code = first.none_before 0 s (omega arith) in
+    let apart : b.code ≡ code → ⊥ = let c : b.code ≡ s.attribute = are.0.code in λ same. other (sym c ∙ same) in
+    let behind : StandsFirst specs code place = record { within = omega (arith, first.within); has = first.has; none_before = λ k d less. first.none_before (suc k) d (omega (arith, less)) } in
+    let more = first_value x specs bs rest (flat_map attribute_bytes bs ++ rest) code place are.1 refl behind in
+    record {
+      datum = more.datum;
+      is_value = more.is_value ∙ rw (ne_eqb b.code code apart) refl;
+      reads = λ d. rw (here, one_end x s b (flat_map attribute_bytes bs ++ rest) are.0) (more.reads d);
+    }
+
+pub value_of_left : (x : Context) (specs : List AttributeSpec) (bytes : List ℕ) (l : Left x specs bytes) (attribute : ℕ) (answer : Result Datum ValueFault) → ReadsFirst x.version x.address_size specs attribute bytes answer
+    → (v : Datum) × (answer ≡ Ok v) × (Some v ≡ value_in (map value_of l.0.0) attribute)
+value_of_left x specs bytes l attribute answer r =
+    let f = first_value x specs l.0.0 l.0.1 bytes attribute r.place l.1.are l.1.spelled r.first in
+    let any : AttributeSpec = record { attribute = 0; form = Flag } in
+    let front = ap (λ (ss : List AttributeSpec). value_behind x.version x.address_size (slice_index_or specs r.place any).form (values_end x.version x.address_size ss bytes)) (front_range specs r.place) in
+    (f.datum, r.reads any ∙ front ∙ f.reads any, f.is_value)
+
+-- what reading the first attribute with a code answers is its value, if there is one
+pub answers_left : (x : Context) (specs : List AttributeSpec) (bytes : List ℕ) (l : Left x specs bytes) (attribute : ℕ) (found : Option Value) → AnswersFirst x.version x.address_size specs attribute bytes (Ok found)
+    → option_map view found ≡ value_in (map value_of l.0.0) attribute
+answers_left x specs bytes l attribute None none = value_of_none x specs l.0.0 attribute l.1.are (declares_none specs attribute none)
+answers_left x specs bytes l attribute (Some v) reads =
+    let (w, is, here) = value_of_left x specs bytes l attribute (Ok (view v)) reads in
+    ap (λ (d : Datum). Some d) (ok_is is) ∙ here
+  where
+    ok_is : {a b : Datum} → ◌≡◌ {A = Result Datum ValueFault} (Ok a) (Ok b) → a ≡ b
+    ok_is e = cc
+
+pub never_answers : (x : Context) (specs : List AttributeSpec) (bytes : List ℕ) (l : Left x specs bytes) (attribute : ℕ) (f : ValueFault) → ReadsFirst x.version x.address_size specs attribute bytes (Err f) → ⊥
+never_answers x specs bytes l attribute f reads =
+    let (w, is, here) = value_of_left x specs bytes l attribute (Err f) reads in
+    cc
