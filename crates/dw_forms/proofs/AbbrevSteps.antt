@@ -1,5 +1,5 @@
 -- One pair more of a declaration, and one declaration more of a table.
-use Rattle.std.proofs.Common.{◌≡◌, ℕ, zero, suc, ◌-◌, ◌<◌, ◌==◌, List, [], ◌∷◌, ◌++◌, length, drop, Some, None, Result, Ok, refl, sym, ap, ◌∙◌, arith}
+use Rattle.std.proofs.Common.{◌≡◌, ℕ, zero, suc, ◌-◌, ◌<◌, ◌==◌, List, [], ◌∷◌, ◌++◌, length, Some, None, Result, Ok, refl, sym, ap, ◌∙◌, arith}
 use Rattle.std.specs.Prelude.{◌||◌, Bool, true, false, cond, find, option_map}
 use Rattle.std.specs.List.{list_any}
 use Rattle.dw_forms.specs.declared.decl.AttributeSpec.{AttributeSpec}
@@ -9,7 +9,7 @@ use Rattle.dw_forms.specs.declared.abbrev_fault.DeclError.{DeclError}
 use Rattle.dw_forms.specs.declared.abbrev_fault.DeclError.TheVariants as errors
 use Rattle.dw_forms.specs.Steps.{◌>>=◌}
 use Rattle.dw_forms.specs.Abbrev.{Declaration, view, views}
-use Rattle.dw_forms.specs.AbbrevReading.{Fails, pair_at, attributes_from, attributes_of, has_code, decl_at, decls_from, table_at, placed, TableFails}
+use Rattle.dw_forms.specs.AbbrevReading.{Fails, pair_at, attributes_from, has_code, decl_at, decls_from, placed, TableFails}
 use Rattle.dw_forms.specs.declared.abbrev_fault.BrokenTable.{BrokenTable}
 use Rattle.dw_forms.specs.declared.abbrev_fault.AbbrevFault.{AbbrevFault}
 use Rattle.dw_forms.specs.declared.abbrev_fault.AbbrevFault.TheVariants as table
@@ -30,9 +30,6 @@ find_views code (d ∷ ds) = find_views_on code d ds (d.code == code) (find_view
 -- reading the rest, behind the earlier pairs, gives the total
 abbrev pub AttributesGoOn : List AttributeSpec → List ℕ → Result (List AttributeSpec × List ℕ) DeclFault → Type 0
 AttributesGoOn earlier rest total = (bound : ℕ) × (length rest < bound) × (attributes_from bound earlier rest ≡ total)
-
-pub attributes_begin : (bytes : List ℕ) → AttributesGoOn [] bytes (attributes_of bytes)
-attributes_begin bytes = (suc (length bytes), omega arith, refl)
 
 pub attributes_done : (earlier : List AttributeSpec) (rest after : List ℕ) (total : Result (List AttributeSpec × List ℕ) DeclFault)
     → AttributesGoOn earlier rest total → pair_at earlier rest ≡ Ok (None, after) → total ≡ Ok (earlier, after)
@@ -58,9 +55,6 @@ attributes_fail (errors.Fault f) earlier rest total (suc bound, lt, same) h = sy
 -- reading the rest, behind the earlier declarations, gives the total
 abbrev pub DeclsGoOn : ℕ → List Declaration → List ℕ → Result (List Declaration) BrokenTable → Type 0
 DeclsGoOn len earlier rest total = (bound : ℕ) × (length rest < bound) × ((decls_from bound len earlier rest >>= λ x. Ok x.0) ≡ total)
-
-pub decls_begin : (section : List ℕ) (offset : ℕ) → DeclsGoOn (length section) [] (drop offset section) (table_at section offset)
-decls_begin section offset = (suc (length (drop offset section)), omega arith, refl)
 
 pub decls_done : (len : ℕ) (earlier : List Declaration) (rest after : List ℕ) (total : Result (List Declaration) BrokenTable)
     → DeclsGoOn len earlier rest total → placed (len - length rest) (decl_at earlier rest) ≡ Ok (None, after) → total ≡ Ok earlier

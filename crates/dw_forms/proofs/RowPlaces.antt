@@ -39,12 +39,6 @@ module _ (row : List Declaration) (len : ℕ) (within : len ≤ length row) wher
       ∙ ap Some (turned_at (len - 1 - place) any (omega arith) ∙ ap (λ (n : ℕ). get_or row n any) back)
       ∙ sym (slice_get-get_or row place any (omega arith))
 
-  pub turned_read : (place : ℕ) (d : Declaration) → place < length (turned row len) → slice_get row (len - 1 - place) ≡ Some d → slice_get (turned row len) place ≡ Some d
-  turned_read place d lt e =
-      let less : place < len = omega (arith, turned_long) in
-      let back : len - 1 - (len - 1 - place) ≡ place = omega arith in
-      ap (slice_get (turned row len)) (sym back) ∙ turned_get (len - 1 - place) (omega arith) ∙ e
-
   turned_apart : Apart code_of_decl row → Apart code_of_decl (turned row len)
   turned_apart apart i j d less long =
       let below : j < len = omega (arith, turned_long) in

@@ -41,10 +41,6 @@ number_at bytes = with_rest bytes (uleb_at bytes)
 abbrev pub signed_at : List ℕ → Result (ℤ × List ℕ) DeclFault
 signed_at bytes = with_rest bytes (sleb_at bytes)
 
--- a fault, whatever was to be read
-abbrev pub failed : {A : Type 0} → DeclFault → Result A DeclFault
-failed f = Err f
-
 -- one answer for none, another for some
 abbrev pub on_option : {A : Type 0} {B : Type 0} → Option A → B → (A → B) → B
 on_option None none some = none
