@@ -1,7 +1,7 @@
 //! Every prefix of some sections and files, and each byte of them as each other byte: `find` and `verify` name the fault that
 //! the second reader (`slow_reader`) finds, and where it finds none, they name no rule that it knows.
 
-mod elf_file;
+pub mod elf_file;
 mod every_form;
 
 use crate::agreement::elf_file::{FIRST_SECTION, file_of};

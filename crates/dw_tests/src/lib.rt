@@ -4,6 +4,8 @@
 #[cfg(test)]
 mod agreement;
 #[cfg(test)]
+mod calling;
+#[cfg(test)]
 mod cprint;
 #[cfg(test)]
 mod elf;
