@@ -1,5 +1,5 @@
 #!/usr/bin/env python3
-"""Measures `dwv check` beside `llvm-dwarfdump --verify`, in one run, on generated programs.
+"""Measures `dwv check` beside `llvm-dwarfdump --verify`, and `dwv types` beside `pahole`, on generated programs.
 
 usage: bench.py [MEGABYTES ..]      sizes of .debug_info, 1 and 10 where none is given
 
@@ -16,6 +16,8 @@ import time
 
 HERE = pathlib.Path(__file__).resolve().parent
 DWV = HERE.parent / "crates/dwv/out/dwv"
+# The other tool that each command is measured beside, where it is installed.
+BESIDE = (("dwv check", "llvm-dwarfdump --verify"), ("dwv types", "pahole"))
 OUT = HERE / "out"
 ROUNDS = 5
 
@@ -85,9 +87,11 @@ def main():
     for size in sizes:
         program = build(size)
         bytes_of_file = program.stat().st_size
-        tools = [("dwv check", [DWV, "check", program])]
-        if shutil.which("llvm-dwarfdump"):
-            tools.append(("llvm-dwarfdump --verify", ["llvm-dwarfdump", "--verify", program]))
+        tools = []
+        for name, other in BESIDE:
+            tools.append((name, [DWV, name.split()[1], program]))
+            if shutil.which(other.split()[0]):
+                tools.append((other, [*other.split(), program]))
         entries = 0
         for name, words in tools:
             seconds, _, peak, text = run(words)
@@ -101,12 +105,12 @@ def main():
             print(f"| {info_size(program) / 1e6:.1f} | {entries} | {name} | {seconds:.3f} | {seconds / entries * 1e9:.0f} | {peak / 1024:.0f} | {over:.0f} |")
     print()
     for size in sizes:
-        other = times.get((size, "llvm-dwarfdump --verify"))
-        if other:
-            print(f"At {size:g} MB dwv takes {times[size, 'dwv check'] / other:.3f} of the time of llvm-dwarfdump --verify.")
+        for name, other in BESIDE:
+            if (size, other) in times:
+                print(f"At {size:g} MB {name} takes {times[size, name] / times[size, other]:.3f} of the time of {other}.")
     if len(sizes) > 1:
         first, last = sizes[0], sizes[-1]
-        print(f"From {first:g} to {last:g} MB the time of dwv grows by {times[last, 'dwv check'] / times[first, 'dwv check']:.1f}.")
+        print(f"From {first:g} to {last:g} MB the time of dwv check grows by {times[last, 'dwv check'] / times[first, 'dwv check']:.1f}.")
 
 
 main()
