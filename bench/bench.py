@@ -1,5 +1,5 @@
 #!/usr/bin/env python3
-"""Measures `dwv check` beside the peers that are installed, in one run, on generated programs.
+"""Measures `dwv check` beside the peers that are installed, and `dwv types` beside pahole, in one run, on generated programs.
 
 usage: bench.py [MEGABYTES ..]      sizes of .debug_info, 1, 3 and 10 if none is given
 
@@ -18,6 +18,8 @@ import time
 
 HERE = pathlib.Path(__file__).resolve().parent
 DWV = HERE.parent / "crates/dwv/out/dwv"
+# The other tool that each command is measured beside, where it is installed.
+BESIDE = (("dwv check", "llvm-dwarfdump --verify"), ("dwv types", "pahole"))
 OUT = HERE / "out"
 PICTURE = HERE.parent / "docs/performance.svg"
 ROUNDS = 5
@@ -139,6 +141,9 @@ def main():
         if gimli:
             tools.append(("a walk with gimli", [gimli, *sections(program)]))
         tools += [(" ".join(words), [*words, program]) for words in PEERS if shutil.which(words[0])]
+        tools.append(("dwv types", [DWV, "types", program]))
+        if shutil.which("pahole"):
+            tools.append(("pahole", ["pahole", program]))
         entries = 0
         for name, words in tools:
             seconds, _, peak, text = run(words)
@@ -149,7 +154,8 @@ def main():
                 entries = int(said.group(1))
             over = (peak * 1024 - bytes_of_file) / entries
             times[size, name] = seconds
-            points.setdefault(name, []).append((info_size(program) / 1e6, seconds))
+            if name not in ("dwv types", "pahole"):
+                points.setdefault(name, []).append((info_size(program) / 1e6, seconds))
             print(f"| {info_size(program) / 1e6:.1f} | {entries} | {name} | {seconds:.3f} | {seconds / entries * 1e9:.0f} | {peak / 1024:.0f} | {over:.0f} |")
     print()
     absent = [words[0] for words in PEERS if not shutil.which(words[0])] + ([] if gimli else ["gimli or cargo"])
@@ -160,12 +166,12 @@ def main():
     else:
         print(f"gnuplot is not installed: {PICTURE.name} is as it was.")
     for size in sizes:
-        other = times.get((size, "llvm-dwarfdump --verify"))
-        if other:
-            print(f"At {size:g} MB dwv takes {times[size, 'dwv check'] / other:.3f} of the time of llvm-dwarfdump --verify.")
+        for name, other in BESIDE:
+            if (size, other) in times:
+                print(f"At {size:g} MB {name} takes {times[size, name] / times[size, other]:.3f} of the time of {other}.")
     if len(sizes) > 1:
         first, last = sizes[0], sizes[-1]
-        print(f"From {first:g} to {last:g} MB the time of dwv grows by {times[last, 'dwv check'] / times[first, 'dwv check']:.1f}.")
+        print(f"From {first:g} to {last:g} MB the time of dwv check grows by {times[last, 'dwv check'] / times[first, 'dwv check']:.1f}.")
 
 
 main()
