@@ -1,5 +1,6 @@
 #!/usr/bin/env python3
-"""Runs `dwv check` on files that are small and mean work: deep trees, long chains, one string with many names.
+"""Runs `dwv check` on files that are small and mean work: deep trees, long chains, one string with many names,
+declarations of many attributes whose values take no bytes.
 
 Each has to be answered with the stated line within the time limit, and no run may crash. The lines of `show` of a deep tree
 are far more bytes than the memory that it may have: it has to say so, and to write nothing. `types` has to print its whole
@@ -22,7 +23,7 @@ MEMORY = 1 << 30
 # Bytes of memory that a run of `types` may have.
 TYPES_MEMORY = 1 << 29
 TABLES = 40_000
-# Attributes of one declaration that come before its DW_AT_declaration.
+# Attributes of a declaration that has many.
 WIDE = 50_000
 SECTIONS = 65_000
 # Bytes of the name of each of them.
@@ -118,6 +119,49 @@ def deep():
     return b"\x01" + b"\x04\x01" * MANY + b"\0" * (MANY + 1)
 
 
+# How an attribute is declared whose values take no bytes: by the form flag_present, or by implicit_const and a number.
+BYTELESS = {"flag_present": b"\x19", "implicit_const": b"\x21\x07"}
+# What comes after the attributes without bytes: its name, the specification, and the value in an entry.
+NAME = ("a name", b"\x03\x08", b"a\0")
+TYPE = ("a type", b"\x49\x13", struct.pack("<I", FIRST))
+BYTE_SIZE = ("a byte size", b"\x0b\x0b", b"\4")
+NOTHING = ("nothing", b"", b"")
+
+
+def wide(tag, byteless, last):
+    """A table whose declaration 11 has this tag, many attributes whose values take no bytes, and this one after them."""
+    specs = b"".join(uleb(0x2000 + n) + byteless for n in range(WIDE))
+    return TABLE[:-1] + b"\x0b" + uleb(tag) + b"\0" + specs + last + b"\0\0" + b"\0"
+
+
+def wide_files():
+    """Each file with entries of such a declaration: its name, its sections, and the beginning of the line that it must get."""
+    def sections(table, items):
+        return [(".debug_abbrev", table), (".debug_info", unit(b"\x01" + INT + items + b"\0"))]
+
+    count = 2 * MANY
+    for form, byteless in BYTELESS.items():
+        for what, spec, value in (NAME, TYPE, BYTE_SIZE, NOTHING):
+            variables = sections(wide(0x34, byteless, spec), (b"\x0b" + value) * count)
+            yield (f"{count:,} variables with {WIDE:,} attributes of the form {form} and then {what}", variables,
+                   f"sound: 1 units, {count + 2} entries, 1 types")
+
+        types = sections(wide(0x24, byteless, BYTE_SIZE[1]), (b"\x0b" + BYTE_SIZE[2]) * count)
+        yield (f"{count:,} base types with {WIDE:,} attributes of the form {form} and then a byte size", types,
+               f"sound: 1 units, {count + 2} entries, {count + 1} types")
+
+        members = b"\x04\x04" + (b"\x0b" + TYPE[2]) * count + b"\0"
+        yield (f"{count:,} members with {WIDE:,} attributes of the form {form} and then a type",
+               sections(wide(0x0d, byteless, TYPE[1]), members), f"sound: 1 units, {count + 3} entries, 2 types")
+
+        # Entry 12 of the table has a specification; the wide entries that these refer to end with DW_AT_declaration.
+        table = wide(0x34, byteless, b"\x3c\x19")[:-1] + b"\x0c\x34\0\x47\x13\0\0\0"
+        declared = FIRST + len(INT)
+        targets = b"".join(b"\x0c" + struct.pack("<I", declared + n) for n in range(MANY))
+        yield (f"{MANY:,} specifications of variables with {WIDE:,} attributes of the form {form}",
+               sections(table, b"\x0b" * MANY + targets), f"sound: 1 units, {2 * MANY + 2} entries, 1 types")
+
+
 def files():
     """Each file: its name, its sections, and the beginning of the line that it must get."""
     def sections(info, strings=b""):
@@ -173,6 +217,8 @@ def files():
     for order, some in (("rising", units), ("falling", units[::-1]), ("mixed", shuffled)):
         yield (f"{TABLES:,} units with overlapping tables, {order}", [(".debug_abbrev", row), (".debug_info", b"".join(some))],
                f"sound: {TABLES} units, {TABLES} entries, 0 types")
+
+    yield from wide_files()
 
 
 # 1 compile unit, 2 base type with a name and a size, 3 typedef with a name and a type, 4 structure with a size, 5 member
