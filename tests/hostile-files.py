@@ -99,8 +99,8 @@ def specified(others, values, targets):
     return table, unit(b"\x01" + target * targets + uses + b"\0")
 
 
-def wide(form):
-    """Many attributes in one form."""
+def many(form):
+    """How many attributes in one form are declared."""
     return b"".join(uleb(0x2000 + n) + form for n in range(WIDE))
 
 
@@ -130,8 +130,7 @@ NOTHING = ("nothing", b"", b"")
 
 def wide(tag, byteless, last):
     """A table whose declaration 11 has this tag, many attributes whose values take no bytes, and this one after them."""
-    specs = b"".join(uleb(0x2000 + n) + byteless for n in range(WIDE))
-    return TABLE[:-1] + b"\x0b" + uleb(tag) + b"\0" + specs + last + b"\0\0" + b"\0"
+    return TABLE[:-1] + b"\x0b" + uleb(tag) + b"\0" + many(byteless) + last + b"\0\0" + b"\0"
 
 
 def wide_files():
@@ -182,9 +181,9 @@ def files():
 
     for where, others, values, targets in (
         ("a name of 4 MB", b"\x03\x08", text, 1),
-        (f"{WIDE:,} numbers", wide(b"\x0f"), bytes(WIDE), 1),
-        (f"{WIDE:,} numbers, each of 10", wide(b"\x0f"), bytes(WIDE), 10),
-        (f"{WIDE:,} flags without bytes", wide(b"\x19"), b"", 1),
+        (f"{WIDE:,} numbers", many(b"\x0f"), bytes(WIDE), 1),
+        (f"{WIDE:,} numbers, each of 10", many(b"\x0f"), bytes(WIDE), 10),
+        (f"{WIDE:,} flags without bytes", many(b"\x19"), b"", 1),
     ):
         table, info = specified(others, values, targets)
         yield (f"{2 * MANY:,} specifications of an entry that is declared behind {where}",
