@@ -38,19 +38,15 @@ fn expect(rt: &impl Abort, alloc: Global, image: &Image<'_>, row: Row) -> Result
     out.push(b'x')?;
     let outcome = declare(alloc, image, id, &mut out);
     let text = String::from_utf8(out).ok().ok_or("no text")?;
+    let found = text.strip_prefix('x').ok_or("the text before it is gone")?;
     match row.1 {
         Ok(wanted) => {
-            assert_eq!(rt; outcome, Ok(()), "declaring {wanted}");
-            assert_eq!(rt; text.strip_prefix('x'), Some(wanted));
+            assert_eq!(rt; outcome, Ok(()));
+            assert_eq!(rt; found, wanted);
         }
         Err(refusal) => {
-            assert_eq!(rt;
-                outcome,
-                Err(refusal),
-                "declaring the entry at {:#x}",
-                row.0
-            );
-            assert_eq!(rt; text.as_str(), "x");
+            assert_eq!(rt; outcome, Err(refusal));
+            assert_eq!(rt; found.len(), 0);
         }
     }
     Ok(())
