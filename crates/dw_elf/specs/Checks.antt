@@ -1,6 +1,6 @@
--- The checks of a file, in the order in which they are asked, and when each of them fails. A check is asked
--- at a place: of the file at place 0, of section header k at place k, and of all headers together at the
--- place of their count. Sums are of whole numbers, so none of them wraps.
+-- Chapter: the checks of a file in their order, and when each of them fails. The place of a check is 0 for the file, k
+-- for section header k, and the count of the headers for all headers together. Sums are of whole numbers, so none of
+-- them wraps.
 use Rattle.std.specs.Prelude.{◌≡◌, ◌≢◌, ℕ, ◌+◌, ◌*◌, ◌<◌, ◌≤◌, ◌⊎◌, List, length, take, bit_and}
 use Rattle.dw_elf.specs.declared.names.DebugSection.TheVariants.{Info}
 use Rattle.dw_elf.specs.Limits.{section_limit}

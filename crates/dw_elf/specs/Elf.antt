@@ -1,6 +1,6 @@
--- The layout of an ELF-64 file: its header, its section headers and what they lead to (System V ABI,
--- chapter 4). A file is a list of bytes. Offsets and sizes count bytes, an offset counts from the file's
--- first byte where nothing else is said, and the lowest byte of a number comes first.
+-- Chapter: the layout of an ELF-64 file: its header, its section headers, and the names and bytes that these refer to
+-- (System V ABI, chapter 4). A file is a list of bytes. Offsets and sizes count bytes, an offset counts from the first
+-- byte of the file unless something else is said, and the lowest byte of a number comes first.
 use Rattle.std.specs.Prelude.{ℕ, ◌+◌, ◌*◌, ◌<◌, ◌==◌, List, [], ◌∷◌, ◌++◌, length, take, drop, codes, Contains}
 use Rattle.std.specs.List.{before_first}
 use Rattle.byteorder.specs.Endian.{little_number}

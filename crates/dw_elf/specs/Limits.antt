@@ -1,4 +1,4 @@
--- The limit of a section, which is this project's choice.
+-- Chapter: the limit of a section, which is this project's choice.
 use Rattle.std.specs.Prelude.{ℕ}
 
 -- the most bytes that a section may have: 1 GiB

@@ -1,4 +1,4 @@
--- The six sections that are looked for, by their names (DWARF 5, 7.5, 7.26 and 7.27).
+-- Chapter: the names of the six sections that are read (DWARF 5, 7.5, 7.26 and 7.27).
 use Rattle.std.specs.Prelude.{◌≡◌, ℕ, List, take, codes}
 use Rattle.dw_elf.specs.declared.names.DebugSection.{DebugSection}
 use Rattle.dw_elf.specs.declared.names.DebugSection.TheVariants.{Abbrev, Info, Str, LineStr, StrOffsets, Addr}

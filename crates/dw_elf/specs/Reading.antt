@@ -1,5 +1,5 @@
--- What is known while the headers are read: what the file header and a section header say, and what the
--- section headers so far name.
+-- State: what is known while the headers are read: the fields of the file header and of a section header, and the
+-- sections that the headers so far name.
 use Rattle.std.specs.Prelude.{◌≡◌, ◌≢◌, ℕ, ◌-◌, ◌<◌, ◌≤◌, ◌↔◌, List, length, slice_index, Option, Some, None}
 use Rattle.std.specs.Option.{option_copied}
 use Rattle.dw_elf.specs.declared.header.FileHeader.{FileHeader}

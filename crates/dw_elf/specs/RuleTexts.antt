@@ -1,4 +1,4 @@
--- The texts of the rules, as reports print them.
+-- Chapter: the codes and the names of the rules, as reports print them.
 use Rattle.std.specs.Prelude.{ℕ, List, codes}
 use Rattle.dw_elf.specs.declared.fault.ElfRule.{ElfRule}
 use Rattle.dw_elf.specs.declared.fault.ElfRule.TheVariants.{TooLarge, NotElf64, NotLinked, SectionTable, SectionName, SectionRange, Compressed, SectionTwice, NoInfo, NoBits}

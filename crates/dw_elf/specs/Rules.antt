@@ -1,4 +1,4 @@
--- The rule that a check asks, and the one fault of a file: the first check that fails.
+-- Chapter: the rule of each check, and the one fault of a file: the first check that fails.
 use Rattle.std.specs.Prelude.{◌≡◌, ℕ, ◌<◌, List}
 use Rattle.dw_elf.specs.declared.fault.ElfRule.{ElfRule}
 use Rattle.dw_elf.specs.declared.fault.ElfRule.TheVariants as rules

@@ -1,4 +1,4 @@
--- The bytes of a section by its name, and the six sections of a file.
+-- Chapter: the bytes of a section by its name, and the six sections of a file.
 use Rattle.std.specs.Prelude.{◌≡◌, ◌⊎◌, List, [], ℕ}
 use Rattle.dw_elf.specs.declared.sections.Sections.{Sections}
 use Rattle.dw_elf.specs.declared.names.DebugSection.TheVariants.{Abbrev, Info, Str, LineStr, StrOffsets, Addr}
