@@ -1,4 +1,4 @@
--- Abbreviation tables (DWARF 5, section 7.5.3): which bytes spell which declarations.
+-- Chapter: abbreviation tables (DWARF 5, 7.5.3): which bytes spell which declarations.
 use Rattle.std.specs.Prelude.{◌≡◌, ◌≢◌, ℕ, ◌+◌, ◌<◌, ◌≤◌, Bool, true, false, List, [], ◌∷◌, ◌++◌, length, drop, map, All, Any, AllPairs, ◌⊎◌}
 use Rattle.dw_forms.specs.declared.form.Form.{Form}
 use Rattle.dw_forms.specs.declared.form.Form.TheVariants.{ImplicitConst}

@@ -1,4 +1,4 @@
--- The faults of a table.
+-- Chapter: the faults of an abbreviation table.
 use Rattle.std.specs.Prelude.{ℕ, Result, Ok, Err}
 use Rattle.dw_forms.specs.declared.leb.NumberFault.{NumberFault}
 use Rattle.dw_forms.specs.declared.leb.NumberFault.TheVariants.{Cut, BadNumber}

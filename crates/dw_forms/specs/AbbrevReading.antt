@@ -1,4 +1,4 @@
--- Reading an abbreviation table from left to right, with the first fault that is met.
+-- Chapter: an abbreviation table read from left to right, or the first fault.
 use Rattle.std.specs.Prelude.{◌≡◌, ℕ, zero, suc, List, [], ◌∷◌, ◌++◌, length, drop, Option, Some, None, Bool, true, false, Result, Ok, Err, ◌==◌, nat_lt, ◌-◌, ◌&&◌, ◌||◌, if◌then◌else◌, ℤ}
 use Rattle.std.specs.List.{list_any}
 use Rattle.dw_forms.specs.Steps.{◌>>=◌}

@@ -1,4 +1,4 @@
--- Tags, attributes and languages by the standard's names (DWARF 5, 7.5.3, 7.5.4 and 7.12).
+-- Chapter: tags, attributes and languages by the standard's names (DWARF 5, 7.5.3, 7.5.4 and 7.12).
 use Rattle.std.specs.Prelude.{ℕ, Bool, ◌==◌, ◌||◌}
 
 -- ---- tags (table 7.3)

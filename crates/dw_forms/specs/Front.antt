@@ -1,4 +1,4 @@
--- What stands at the front of some bytes.
+-- Chapter: what it means that some bytes begin with a value.
 use Rattle.std.specs.Prelude.{◌≡◌, ℕ, ◌≤◌, List, ◌++◌, length, take}
 
 -- a beginning of the bytes spells this value and has this length. No other value, and no beginning of

@@ -1,4 +1,5 @@
--- The two number readers answer exactly what their grammars spell.
+-- Laws: reading a LEB128 number from left to right agrees with the grammar: the number is the one that is spelled, and
+-- the fault the one that the grammar names.
 use Rattle.std.proofs.Common.{◌≡◌, ℕ, ◌^◌, ◌<◌, ◌≤◌, Bool, true, false, cond, ltb, List, ◌++◌, length, Result, Ok, Err, refl, sym, ap, subst, ◌∙◌, inl, inr, arith}
 use Rattle.std.specs.Prelude.{MatchResult, ◌⊎◌, IfOk, IfErr, OnErr, ℤ, pos, negsuc}
 use Rattle.std.proofs.lemmas.Int.{ints}
@@ -21,6 +22,7 @@ abbrev Fails : (List ℕ → Type 0) → List ℕ → NumberFault → Type 0
 Fails Fits bytes Cut = IsCut bytes
 Fails Fits bytes BadNumber = IsUnending bytes ⊎ HasValueOutside Fits bytes
 
+-- the number if it fits, or else the fault of one that does not
 abbrev chosen : {A : Type 0} → Bool → A → Result A NumberFault
 chosen b x = cond b (Ok x) (Err BadNumber)
 

@@ -1,4 +1,4 @@
--- Reading a LEB128 number from left to right, with the first fault that is met.
+-- Chapter: a LEB128 number read from left to right, or the first fault.
 use Rattle.std.specs.Prelude.{ℕ, ◌+◌, ◌*◌, ◌^◌, ◌%◌, List, [], ◌∷◌, Result, Ok, Err, nat_lt, Bool, ℤ, pos, negsuc, ◌-ℤ◌, if◌then◌else◌}
 use Rattle.dw_forms.specs.Steps.{◌>>=◌}
 use Rattle.dw_forms.specs.declared.leb.Spelling.{Spelling}

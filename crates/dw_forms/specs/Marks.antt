@@ -1,4 +1,4 @@
--- Marks of the attributes that a declaration has so far.
+-- State: marks of the attributes that a declaration has so far.
 use Rattle.std.specs.Prelude.{◌≡◌, ℕ, ◌<◌, List, length, Bool, false, get_or}
 use Rattle.dw_forms.specs.declared.decl.AttributeSpec.{AttributeSpec}
 use Rattle.dw_forms.specs.AbbrevReading.{has_attribute}

@@ -1,4 +1,4 @@
--- Which values numbers and offsets are, by what their form says of them (DWARF 5, section 7.5.5).
+-- State: which value a number or an offset is, by its form (DWARF 5, 7.5.5).
 use Rattle.std.specs.Prelude.{ℕ}
 use Rattle.dw_forms.specs.declared.number.Number.{Number}
 use Rattle.dw_forms.specs.declared.number.Number.TheVariants as number

@@ -1,4 +1,4 @@
--- Where the declaration of a code stands among those of its table.
+-- State: the place of the declaration of a code among those of its table.
 use Rattle.std.specs.Prelude.{◌≡◌, ◌≢◌, ℕ, ◌+◌, ◌<◌, List, length, Option, Some, None, All, AllPairs, get_or, slice_get}
 use Rattle.std.specs.Ordering.{nat_cmp}
 use Rattle.std.specs.BTreeMap.{BTreeMap, get}

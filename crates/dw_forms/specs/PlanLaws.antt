@@ -1,4 +1,5 @@
--- Values between two places with as many values of no one size before them take the difference of the sums before those places.
+-- Laws: the values from one attribute of a plan to another take the difference of the sums before the two, if each of
+-- these values has one size.
 use Rattle.std.proofs.Common.{◌≡◌, ℕ, suc, ◌+◌, ◌-◌, ◌<◌, ◌≤◌, Bool, true, false, ltb, List, [], ◌∷◌, ◌++◌, length, get_or, take, drop, Some, Result, Ok, Err, refl, sym, ap, ◌∙◌, arith, add-one, drop-cons}
 use Rattle.std.specs.List.{sum_by, slice_range}
 use Rattle.std.proofs.Math.Seq.{take-add}

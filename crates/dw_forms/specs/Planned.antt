@@ -1,4 +1,4 @@
--- What is kept with the attributes of a declaration.
+-- State: what is kept with the attributes of a declaration: their plan, and an index of many attributes.
 use Rattle.std.specs.Prelude.{ℕ, ◌<◌, List, length}
 use Rattle.std.specs.BTreeMap.{BTreeMap}
 use Rattle.dw_forms.specs.declared.decl.AttributeSpec.{AttributeSpec}

@@ -1,4 +1,4 @@
--- What is known of the values of a declaration before any entry is read.
+-- State: the plan of a declaration: what is known of its values before any entry is read.
 use Rattle.std.specs.Prelude.{◌≡◌, ℕ, ◌+◌, ◌<◌, ◌≤◌, ◌||◌, not, List, [], ◌∷◌, ◌++◌, length, take, drop, Bool, true, false, is_none, Some, slice_get, nat_le, Result, Ok, Err, nat_lt, if◌then◌else◌, slice_index_or}
 use Rattle.std.specs.Option.{unwrap_or}
 use Rattle.std.specs.List.{sum_by}

@@ -1,4 +1,5 @@
--- Functions that read a value from the front of bytes.
+-- Laws: readers of values: a reader finds what is spelled at the front of some bytes, whatever follows, so no spelling
+-- is a prefix of another.
 use Rattle.std.proofs.Common.{◌≡◌, ℕ, ◌-◌, List, ◌++◌, length, take, Result, Ok, Err, refl, sym, ap, subst, ◌∙◌, arith}
 use Rattle.std.specs.Prelude.{MatchResult}
 use Rattle.std.proofs.lemmas.List.{take_at, length-append}

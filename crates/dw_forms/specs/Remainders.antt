@@ -1,4 +1,4 @@
--- Remainders of attributes' codes, by which one that is not there is mostly known at once.
+-- State: the remainders of attributes' codes, which tell that most absent attributes are absent.
 use Rattle.std.specs.Prelude.{◌≡◌, ℕ, ◌%◌, List, All}
 use Rattle.std.specs.Int.{bit_at}
 use Rattle.dw_forms.specs.declared.decl.AttributeSpec.{AttributeSpec}

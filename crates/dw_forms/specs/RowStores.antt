@@ -1,4 +1,4 @@
--- The abbreviation tables that were read of a section.
+-- State: the abbreviation tables that have been read from a section.
 use Rattle.std.specs.Prelude.{ℕ, List, []}
 use Rattle.dw_forms.specs.declared.decl_rows.DeclRows.{DeclRows}
 use Rattle.dw_forms.specs.Marks.{AreMarks}

@@ -1,5 +1,5 @@
--- Abbreviation tables that share declarations: a row has declarations in the reverse of their order in the
--- section, so a table that is the tail of another one is a shorter beginning of the same row.
+-- State: abbreviation tables that share declarations. A row has declarations in the reverse of their order in the
+-- section, so a table that is the tail of another is a shorter prefix of the same row.
 use Rattle.std.specs.Prelude.{◌≡◌, ℕ, ◌<◌, ◌≤◌, Bool, true, false, List, [], ◌∷◌, ◌++◌, length, take, drop, reverse, Option, Some, None, Ok, get_or}
 use Rattle.std.specs.Ordering.{nat_cmp}
 use Rattle.std.specs.BTreeMap.{BTreeMap, get}

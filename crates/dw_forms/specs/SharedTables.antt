@@ -1,4 +1,4 @@
--- The declarations of a table that is a part of a row.
+-- State: the declarations of a table that is a part of a row.
 use Rattle.std.specs.Prelude.{List}
 use Rattle.dw_forms.specs.declared.shared_table.SharedTable.{SharedTable}
 use Rattle.dw_forms.specs.Abbrev.{Declaration}

@@ -1,4 +1,4 @@
--- A value of a form with one size is skipped by that size, and the values of a declaration by the sum of theirs.
+-- Laws: a value of a form with one size is skipped by that size, and the values of a declaration by the sum of theirs.
 use Rattle.std.proofs.Common.{◌≡◌, ℕ, ◌+◌, ◌<◌, ◌≤◌, Bool, true, false, cond, List, [], ◌∷◌, length, drop, Option, Some, None, Result, Ok, Err, refl, sym, ap, subst, ◌∙◌, arith}
 use Rattle.std.proofs.lemmas.Bool.{lt-ltb, le-ltb}
 use Rattle.std.proofs.lemmas.List.{drop-drop, length-drop}
@@ -73,6 +73,7 @@ value_skips version f size n bytes e le = value_before (value_at version f size 
 
 -- ---- all values of a declaration
 
+-- a sum of two sizes that are both known
 record Parts (o p : Option ℕ) (n : ℕ) : Type 0 where
   first : ℕ
   others : ℕ

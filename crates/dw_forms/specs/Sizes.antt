@@ -1,4 +1,5 @@
--- How many bytes a value has, where each value of its form has as many.
+-- State: how many bytes a value has, if all values of its form have as many; and the bytes after the values of a
+-- declaration.
 use Rattle.std.specs.Prelude.{◌≡◌, ℕ, ◌+◌, List, [], ◌∷◌, Bool, true, if◌then◌else◌, Option, Some, None, Result, Ok}
 use Rattle.std.specs.List.{list_all}
 use Rattle.dw_forms.specs.declared.form.Form.{Form}

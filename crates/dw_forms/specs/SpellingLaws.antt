@@ -1,4 +1,4 @@
--- What reading from left to right answers, in the words of the grammar of LEB128.
+-- Laws: reading the bytes of a LEB128 number from left to right agrees with the grammar.
 use Rattle.std.proofs.Common.{◌≡◌, ℕ, suc, ◌+◌, ◌-◌, ◌*◌, ◌^◌, ◌%◌, ◌<◌, ◌≤◌, List, [], ◌∷◌, ◌++◌, length, take, Ok, refl, ap, ◌∙◌, inl, inr, arith}
 use Rattle.std.specs.Prelude.{MatchResult}
 use Rattle.std.specs.List.{AllByRecursion}
@@ -49,6 +49,7 @@ ended_again (b ∷ c ∷ text) rest place sum ended short =
 abbrev pub OpenFor : ℕ → List ℕ → Type 0
 OpenFor n bytes = AllByRecursion (λ b. 128 ≤ b) (take n bytes)
 
+-- from this place on the bytes spell no number: they end before the tenth, or all ten are at least 128
 abbrev pub FailsFrom : ℕ → List ℕ → NumberFault → Type 0
 FailsFrom place bytes Cut = (place + length bytes < 10) × AllByRecursion (λ b. 128 ≤ b) bytes
 FailsFrom place bytes BadNumber = (10 ≤ place + length bytes) × OpenFor (10 - place) bytes
@@ -105,6 +106,7 @@ whole_of text = record { sum = sum_from 0 text; last = last_of text; len = lengt
 read_of-whole : (text : List ℕ) → read_of 0 0 text ≡ whole_of text
 read_of-whole text = same_spelling _ _ _ _ _ _ (omega arith) refl (omega arith)
 
+-- a text that ends at its last byte is at the front, and this is what is read of it
 pub record IsWhole (bytes : List ℕ) (s : Spelling) : Type 0 where
   pub text : List ℕ
   pub rest : List ℕ
@@ -116,6 +118,7 @@ pub record IsWhole (bytes : List ℕ) (s : Spelling) : Type 0 where
 pub whole_again : (text rest : List ℕ) → IsEnded text → length text ≤ 10 → spelling_at (text ++ rest) ≡ Ok (whole_of text)
 whole_again text rest ended short = ended_again text rest 0 0 ended (omega arith) ∙ ap Ok (read_of-whole text)
 
+-- no number is at the front: the bytes are cut, or the first ten don't end a number
 abbrev pub WholeFails : List ℕ → NumberFault → Type 0
 WholeFails bytes Cut = IsCut bytes
 WholeFails bytes BadNumber = IsUnending bytes

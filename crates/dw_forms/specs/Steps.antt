@@ -1,4 +1,4 @@
--- Steps of which each may fail, as with `?`.
+-- Chapter: steps one after another, each of which may fail, as with `?`.
 use Rattle.std.specs.Prelude.{Result, Ok, Err}
 
 -- the next step goes on from what the first one gave, unless that failed

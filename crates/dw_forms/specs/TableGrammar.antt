@@ -1,4 +1,5 @@
--- Reading an abbreviation table from left to right gives what the grammar of tables says (DWARF 5, section 7.5.3).
+-- Laws: reading an abbreviation table from left to right agrees with the grammar (DWARF 5, 7.5.3); the function
+-- `tables_are_read_by_grammar` has the proof.
 use Rattle.std.specs.Prelude.{◌≡◌, ◌↔◌, ℕ, ◌≤◌, List, length, drop, Ok, Err}
 use Rattle.dw_forms.specs.declared.abbrev_fault.BrokenTable.{BrokenTable}
 use Rattle.dw_forms.specs.Abbrev.{Declaration, Decls, TableFails}

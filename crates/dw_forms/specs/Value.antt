@@ -1,4 +1,4 @@
--- The values of attributes (DWARF 5, sections 7.5.5 and 7.5.6): which bytes spell which value.
+-- Chapter: the values of attributes (DWARF 5, 7.5.5 and 7.5.6): which bytes spell which value.
 use Rattle.std.specs.Prelude.{◌≡◌, ℕ, ◌<◌, List, [], ◌∷◌, ◌++◌, length, Bool, true, false, not, ◌==◌, All, ℤ, ◌⊎◌}
 use Rattle.byteorder.specs.Endian.{little_number}
 use Rattle.dw_forms.specs.declared.form.Form.{Form}

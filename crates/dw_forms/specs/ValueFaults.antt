@@ -1,4 +1,4 @@
--- Which fault of a value a number's fault is.
+-- Chapter: the fault of a value whose number can't be read.
 use Rattle.dw_forms.specs.declared.leb.NumberFault.{NumberFault}
 use Rattle.dw_forms.specs.declared.leb.NumberFault.TheVariants as number
 use Rattle.dw_forms.specs.declared.value.ValueFault.{ValueFault}

@@ -1,4 +1,5 @@
--- The reader of values answers exactly what the grammar spells.
+-- Laws: reading a value from left to right agrees with the grammar: the value is the one that is spelled, and the fault
+-- the one that the grammar names.
 use Rattle.std.proofs.Common.{◌≡◌, ℕ, zero, suc, ◌-◌, ◌<◌, ◌≤◌, Bool, true, false, cond, ltb, List, [], ◌∷◌, ◌++◌, length, take, drop, Option, Some, None, Result, Ok, Err, refl, sym, ap, subst, ◌∙◌, inl, inr, All, append_assoc, arith}
 use Rattle.std.specs.Prelude.{MatchResult, ◌⊎◌}
 use Rattle.std.proofs.lemmas.Bool.{ltb-true, ltb-false, le-ltb, false≢true}
@@ -89,6 +90,7 @@ sleb_reader = record {
 
 -- ---- a count and as many bytes
 
+-- no count is at the front, or fewer bytes than it says follow
 CountFails : (List ℕ → ℕ → Type 0) → (List ℕ → ValueFault → Type 0) → List ℕ → ValueFault → Type 0
 CountFails Count Fails bytes f = Fails bytes f ⊎ ((n : ℕ) × (rest : List ℕ) × Takes Count bytes n rest × IsTooShort n rest f)
 
@@ -122,6 +124,7 @@ text_takes b bytes content rest t = record {
   spelled = record { parts = ap (λ (r : List ℕ). suc b ∷ r) t.spelled.parts; none_before = All-cons (λ c. 0 < c) (suc b) content (omega arith) t.spelled.none_before };
 }
 
+-- no zero byte ends the text
 TextFails : List ℕ → ValueFault → Type 0
 TextFails bytes f = All (λ byte. 0 < byte) bytes × (f ≡ Cut)
 

@@ -1,4 +1,4 @@
--- Reading a value from left to right, with the first fault that is met.
+-- Chapter: a value read from left to right, or the first fault.
 use Rattle.std.specs.Prelude.{◌≡◌, ℕ, zero, suc, List, [], ◌∷◌, length, take, drop, Option, Some, None, Result, Ok, Err, nat_lt, if◌then◌else◌, ℤ}
 use Rattle.byteorder.specs.Endian.{little_number}
 use Rattle.dw_forms.specs.Steps.{◌>>=◌}
