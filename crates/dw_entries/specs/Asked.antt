@@ -1,4 +1,4 @@
--- Rules that are asked of each entry, of each attribute of an entry, or of each unit.
+-- Chapter: rules on each entry, on each attribute of an entry, or on each unit.
 use Rattle.std.specs.Prelude.{◌≡◌, ℕ, ◌<◌, List, Some, slice_get, map}
 use Rattle.dw_forms.specs.Value.{Datum}
 use Rattle.dw_entries.specs.declared.rule.Rule.{Rule}

@@ -1,4 +1,4 @@
--- A number that is one of two is known in one way.
+-- Laws: an address has one size, and a unit one version.
 use Rattle.std.proofs.Common.{ℕ, inl, inr, ap, arith}
 use Rattle.std.specs.Coded.{Coded-set, coded_ℕ}
 use Rattle.dw_entries.specs.Header.{IsSize, IsVersion}

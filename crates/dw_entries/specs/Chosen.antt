@@ -1,4 +1,4 @@
--- The attributes of an entry that are asked for, by how they are declared.
+-- State: the attributes of an entry that a search selects, by how they are declared.
 use Rattle.std.specs.Prelude.{◌≡◌, ℕ, ◌<◌, ◌≤◌, List, ◌∷◌, ◌++◌, Some, false, slice_get}
 use Rattle.dw_forms.specs.declared.decl.AttributeSpec.{AttributeSpec}
 use Rattle.dw_forms.specs.Plans.{is_stop}

@@ -1,4 +1,4 @@
--- A unit that is kept at hand while entries are looked up: its header (DWARF 5, 7.5.1) and its abbreviation table (7.5.3).
+-- State: the unit that a cursor keeps: its header (DWARF 5, 7.5.1) and its abbreviation table (7.5.3).
 use Rattle.std.specs.Prelude.{◌≡◌, ℕ, List, Option, Some, slice_get}
 use Rattle.dw_forms.specs.Abbrev.{Declaration}
 use Rattle.dw_forms.specs.SharedTables.{declarations}

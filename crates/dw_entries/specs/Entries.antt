@@ -1,4 +1,4 @@
--- The entries of the units in rising offset, each with its place in the tree.
+-- Chapter: the entries of the units in rising offset, each with its place in the tree.
 use Rattle.std.specs.Prelude.{ℕ, suc, ◌+◌, List, [], ◌∷◌, ◌++◌, length, Option, Some, None}
 use Rattle.dw_entries.specs.Grammar.{Head, head_bytes}
 use Rattle.dw_entries.specs.Header.{header_size}

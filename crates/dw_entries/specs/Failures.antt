@@ -1,4 +1,4 @@
--- Failures of rules over scanned entries, the order in which they are named, and the first of them.
+-- Chapter: failures of rules over entries, their order, and the first of them.
 use Rattle.std.specs.Prelude.{◌≡◌, ℕ, ◌<◌, ◌⊎◌, Option, None, Some}
 use Rattle.dw_entries.specs.declared.rule.Rule.{Rule}
 use Rattle.dw_entries.specs.declared.fault.Section.TheVariants.{Info}

@@ -1,4 +1,4 @@
--- The first place where no list of units goes on.
+-- Chapter: the first place where .debug_info does not go on as a list of units, and its rule.
 use Rattle.std.specs.Prelude.{◌≡◌, ◌≢◌, ℕ, zero, suc, true, false, ◌+◌, List, [], ◌∷◌, ◌++◌, length, Some, Result, Ok, Err}
 use Rattle.dw_forms.specs.declared.abbrev_fault.AbbrevRule.{AbbrevRule}
 use Rattle.dw_forms.specs.declared.abbrev_fault.AbbrevRule.TheVariants as table

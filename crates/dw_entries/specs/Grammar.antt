@@ -1,4 +1,4 @@
--- An entry and its attributes, as they are spelled (DWARF 5, sections 2.2 and 7.5.2).
+-- Chapter: an entry and its attributes, as they are spelled (DWARF 5, 2.2 and 7.5.2).
 use Rattle.std.specs.Prelude.{◌≡◌, ◌≢◌, ℕ, ◌<◌, ◌^◌, length, AllPairs, true, false, List, [], ◌∷◌, ◌++◌, Option, Some, ◌==◌, find}
 use Rattle.std.specs.List.{flat_map, position_or_len}
 use Rattle.dw_forms.specs.declared.decl.AttributeSpec.{AttributeSpec}

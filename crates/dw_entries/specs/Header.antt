@@ -1,4 +1,4 @@
--- The header of a unit (DWARF 5, section 7.5.1; DWARF 4, section 7.5.1.1).
+-- Chapter: the header of a unit (DWARF 5, 7.5.1; DWARF 4, 7.5.1.1).
 use Rattle.std.specs.Prelude.{◌≡◌, ℕ, ◌<◌, ◌^◌, ◌⊎◌, Bool, List, [], ◌++◌, length, take, drop, Result, Ok, Err, nat_lt, ◌==◌, ◌||◌, if◌then◌else◌}
 use Rattle.byteorder.specs.Endian.{little_number, little_bytes}
 use Rattle.dw_forms.specs.Codes.{DW_TAG_compile_unit, DW_TAG_partial_unit, DW_TAG_type_unit}

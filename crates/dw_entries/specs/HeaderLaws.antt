@@ -1,4 +1,4 @@
--- A header that is spelled is read, whatever follows its unit.
+-- Laws: a header that is spelled is read, whatever follows its unit.
 use Rattle.std.proofs.Common.{◌≡◌, ℕ, ◌+◌, ◌<◌, ◌^◌, inl, inr, true, false, List, [], ◌++◌, length, Ok, eqb, ltb, refl, sym, ap, ◌∙◌, append_assoc, append-nil, arith, length-append, take_at, drop_at, le-ltb, lt-ltb}
 use Rattle.std.specs.Prelude.{◌||◌}
 use Rattle.byteorder.specs.Endian.{little_number, little_bytes}
@@ -33,6 +33,7 @@ abbrev_offset_again : (n o : ℕ) (rest bytes : List ℕ) → bytes ≡ little_b
 unfolding abbrev_offset_at
 abbrev_offset_again n o rest bytes e within small = rw (field_again 4 o rest bytes e small, lt-ltb _ _ within) refl
 
+-- the header with these fields
 abbrev made : ℕ → HeaderKind → ℕ → ℕ → UnitHeader
 made len kind size offset = record { unit_length = len; kind = kind; address_size = size; abbrev_offset = offset }
 

@@ -1,4 +1,4 @@
--- Where the search for an entry by its offset begins.
+-- State: the record at which the search for an offset starts.
 use Rattle.std.specs.Prelude.{◌≡◌, ℕ, ◌*◌, ◌<◌, ◌≤◌, List, length, Some, slice_get}
 use Rattle.dw_entries.specs.declared.record.Record.{Record}
 

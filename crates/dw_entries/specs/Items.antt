@@ -1,4 +1,4 @@
--- A tree as the row of its items: each entry's head, and each closing null.
+-- Chapter: the items of a tree in their order: the head of each entry, and each null that closes a list of children.
 use Rattle.std.specs.Prelude.{ℕ, zero, suc, List, [], ◌∷◌, ◌++◌, Option, Some, None, if◌then◌else◌}
 use Rattle.std.specs.List.{flat_map, AllByRecursion}
 use Rattle.dw_forms.specs.Abbrev.{Declaration}

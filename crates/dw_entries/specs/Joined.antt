@@ -1,4 +1,4 @@
--- Joined spellings of which none begins another.
+-- Laws: if no spelling is a prefix of another, joined spellings are taken apart in one way.
 use Rattle.std.proofs.Common.{◌≡◌, ℕ, List, [], ◌∷◌, ◌++◌, ◌⊎◌, inl, inr, refl, sym, ◌∙◌, append_assoc}
 use Rattle.std.specs.List.{flat_map, AllByRecursion}
 

@@ -1,4 +1,4 @@
--- What the look-ups of entries and of units answer.
+-- Chapter: what the look-ups of entries and of units return.
 use Rattle.std.specs.Prelude.{◌≡◌, ℕ, List, length, slice_get, ◌==◌, nat_lt, if◌then◌else◌, Bool, Option, Some, None, find, option_map}
 use Rattle.std.specs.List.{list_any}
 use Rattle.dw_forms.specs.declared.decl.AttributeSpec.{AttributeSpec}

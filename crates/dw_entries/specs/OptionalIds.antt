@@ -1,4 +1,4 @@
--- A number or none, in four bytes.
+-- State: a number or none, stored in four bytes.
 use Rattle.std.specs.Prelude.{◌≡◌, ℕ, true, false, ◌==◌, Option, Some, None, if◌then◌else◌, refl}
 use Rattle.std.proofs.Common.{ap, sym}
 use Rattle.std.proofs.lemmas.Bool.{eqb-true}
@@ -19,6 +19,7 @@ number_of-option_of n = elim (n == 0xffffffff) as (λ b. b ≡ (n == 0xffffffff)
   | false ↦ λ e. refl
 ] refl
 
+-- the stored form of this number
 abbrev inside : ℕ → Inside
 inside n = record { number = n }
 

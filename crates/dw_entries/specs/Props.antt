@@ -1,4 +1,4 @@
--- What the entries are known by has one proof.
+-- Laws: what is known of the entries has one proof.
 use Rattle.std.proofs.Common.{ℕ, List, [], ◌∷◌}
 use Rattle.std.specs.Coded.{×_prop}
 use mathlib.Core.HLevel.{Σ_prop_path}

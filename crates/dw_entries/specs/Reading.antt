@@ -1,4 +1,4 @@
--- One item of a unit, read from the left: the first part that is not there is the fault.
+-- Chapter: one item of a unit, read from left to right: the first part that is missing is the fault.
 use Rattle.std.specs.Prelude.{◌≡◌, ℕ, ◌-◌, List, [], ◌∷◌, length, take, drop, Option, Some, None, Result, Ok, Err, Bool, false, ◌==◌, if◌then◌else◌}
 use Rattle.dw_forms.specs.declared.decl.AttributeSpec.{AttributeSpec}
 use Rattle.dw_forms.specs.declared.leb.NumberFault.{NumberFault}

@@ -1,4 +1,4 @@
--- What is read is spelled so, and what is spelled so is read, whatever follows.
+-- Laws: an item that is read is spelled so, and an item that is spelled is read, whatever follows.
 use Rattle.std.proofs.Common.{◌≡◌, ℕ, ◌-◌, ◌<◌, Bool, true, false, cond, ◌⊎◌, inl, inr, List, [], ◌∷◌, ◌++◌, Option, Some, None, Result, Ok, Err, eqb, refl, sym, ap, subst, ◌∙◌, append_assoc, arith, length, take, drop, length-append, take_at, drop_at, take-append-drop, eqb-true}
 use Rattle.std.specs.Prelude.{MatchResult}
 use Rattle.std.specs.List.{flat_map}
@@ -51,6 +51,7 @@ at_read P i j x y e p = let q = ok_pair i j x y e in subst (λ a. P a y) q.0 (su
 
 -- ---- codes
 
+-- the code with this number and these bytes
 abbrev code : ℕ → List ℕ → Code
 code n bytes = record { number = n; bytes = bytes }
 
@@ -75,6 +76,7 @@ code_some (a ∷ bs) n h = omega arith
 
 -- ---- attributes
 
+-- the attribute with this code, this value and these bytes
 abbrev attribute : ℕ → Datum → List ℕ → Attribute
 attribute code v bytes = record { code = code; value = v; bytes = bytes }
 
@@ -129,6 +131,7 @@ attributes_again t (f ∷ fs) (p ∷ ps) rest h =
 
 -- ---- items
 
+-- a declaration that is found
 abbrev some : Declaration → Option Declaration
 some d = Some d
 
@@ -140,6 +143,7 @@ declared_code (c ∷ ds) n d e = elim (chosen (eqb c.code n) (some c) (declared_
   | inr miss ↦ declared_code ds n d miss.1
 ]
 
+-- the head of an entry with this declaration, these bytes of its code, and these attributes
 abbrev head : Declaration → List ℕ → List Attribute → Head
 head d code bs = record { decl = d; code = code; attributes = bs }
 

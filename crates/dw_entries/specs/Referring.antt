@@ -1,4 +1,4 @@
--- The attributes of an entry that have one code, or whose values may be references.
+-- State: the attributes of an entry that have one code, or whose values may be references.
 use Rattle.std.specs.Prelude.{◌≡◌, ℕ, ◌==◌, ◌||◌, Bool, true, false}
 use Rattle.dw_forms.specs.declared.decl.AttributeSpec.{AttributeSpec}
 use Rattle.dw_forms.specs.declared.form.Form.{Form}

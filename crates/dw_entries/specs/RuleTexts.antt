@@ -1,4 +1,4 @@
--- The codes and the names of the rules, and the names of the sections.
+-- Chapter: the codes and the names of the rules, and the names of the sections.
 use Rattle.std.specs.Prelude.{ℕ, List, codes}
 use Rattle.dw_entries.specs.declared.rule.Rule.{Rule}
 use Rattle.dw_entries.specs.declared.rule.Rule.TheVariants.{AbbrevCut, AbbrevNumber, CodeTwice, BadTag, BadChildren, BadPair, UnknownForm, AttributeTwice, UnitCut, Not32Bit, BadVersion, BadUnitType, BadAddressSize, BadAbbrevOffset, NoUnitEntry, WrongUnitTag, LeftOver, UndeclaredCode, Cut, BadNumber, BadIndirect, FormVersion, WrongClass, BadStrBase, StrIndex, StringEnd, BadAddrBase, AddrIndex, NoEntry, WrongKind, NotNextSibling, NoSignature, SignatureTwice, BadTypeOffset, MissingType, BadCount, ContainsItself, NoSize, SizeTooGreat, MemberOutside, EnumSize}

@@ -1,4 +1,4 @@
--- The groups of rules, in the order in which they are asked, and the number of a rule in its group's order.
+-- Chapter: the groups of rules in the order in which they are checked, and the number of each rule.
 use Rattle.std.specs.Prelude.{ℕ}
 use Rattle.dw_entries.specs.declared.rule.Rule.{Rule}
 use Rattle.dw_entries.specs.declared.rule.Rule.TheVariants.{AbbrevCut, AbbrevNumber, CodeTwice, BadTag, BadChildren, BadPair, UnknownForm, AttributeTwice, UnitCut, Not32Bit, BadVersion, BadUnitType, BadAddressSize, BadAbbrevOffset, NoUnitEntry, WrongUnitTag, LeftOver, UndeclaredCode, Cut, BadNumber, BadIndirect, FormVersion, WrongClass, BadStrBase, StrIndex, StringEnd, BadAddrBase, AddrIndex, NoEntry, WrongKind, NotNextSibling, NoSignature, SignatureTwice, BadTypeOffset, MissingType, BadCount, ContainsItself, NoSize, SizeTooGreat, MemberOutside, EnumSize}

@@ -1,4 +1,4 @@
--- Entries by their offsets, and the entries of one unit.
+-- Chapter: which entry is at an offset, of .debug_info or of a unit.
 use Rattle.std.specs.Prelude.{◌≡◌, ℕ, ◌+◌, List, Some, slice_get}
 use Rattle.dw_entries.specs.Entries.{Entry, PlacedUnit}
 

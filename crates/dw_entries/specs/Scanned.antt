@@ -1,4 +1,4 @@
--- What the entries of the sections are.
+-- State: what is known of the result of a scan: its units, and what is kept of them and of their entries.
 use Rattle.std.specs.Prelude.{◌≡◌, ℕ, zero, suc, List, [], ◌∷◌, map, slice_get, Some}
 use Rattle.std.specs.List.{AllZip}
 use Rattle.dw_forms.specs.Abbrev.{Declaration}

@@ -1,4 +1,4 @@
--- What is said of an answer, where memory did not run out.
+-- State: what holds of a result, unless memory ran out.
 use Rattle.dw_forms.specs.declared.abbrev_fault.BrokenTable.{BrokenTable}
 use Rattle.dw_forms.specs.Abbrev.{Declaration}
 use Rattle.dw_entries.specs.Faults.{in_table}

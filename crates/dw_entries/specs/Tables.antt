@@ -1,4 +1,4 @@
--- The abbreviation tables that units name, each kept once.
+-- State: the abbreviation tables that units name, each kept once.
 use Rattle.std.specs.Prelude.{◌≡◌, ℕ, ◌≤◌, List, ◌++◌, length, map, slice_get, Some, Ok, All}
 use Rattle.std.specs.Ordering.{nat_cmp}
 use Rattle.std.specs.BTreeMap.{get}

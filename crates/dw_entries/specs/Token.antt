@@ -1,4 +1,4 @@
--- What a token stands for.
+-- State: the declaration that a code names, and its place in the table.
 use Rattle.std.specs.Prelude.{ℕ, Option, Some, None}
 use Rattle.dw_entries.specs.declared.reading.Declared.{Declared}
 use Rattle.dw_entries.specs.declared.reading.Token.{Token}

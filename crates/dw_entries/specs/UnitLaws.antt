@@ -1,4 +1,4 @@
--- One list of units at most.
+-- Laws: one list of units at most spells .debug_info.
 use Rattle.std.proofs.Common.{◌≡◌, ℕ, List, [], ◌∷◌, ◌++◌, length, drop, ◌⊎◌, inl, inr, Result, Ok, refl, sym, ap, subst, ◌∙◌, append_assoc, append-nil, arith, length-append, drop_at}
 use Rattle.std.specs.List.{flat_map}
 use Rattle.std.proofs.lemmas.List.Concat.{flat_map-append}
@@ -17,6 +17,7 @@ use Rattle.dw_entries.specs.HeaderLaws.{header_again}
 use Rattle.dw_entries.specs.ReadingLaws.{code_some, item_unique, ok_pair}
 use Rattle.dw_entries.specs.TreeLaws.{node_unique}
 
+-- the unit with these parts
 abbrev made : UnitHeader → List Declaration → Node → List (List ℕ) → DebugUnit
 made header table root nulls = record { header = header; table = table; root = root; nulls = nulls }
 

@@ -1,4 +1,4 @@
--- Units, and .debug_info as a row of them (DWARF 5, section 7.5.1).
+-- Chapter: units, and .debug_info as a list of them (DWARF 5, 7.5.1).
 use Rattle.std.specs.Prelude.{◌≡◌, ℕ, true, List, ◌++◌, length, Ok}
 use Rattle.std.specs.List.{flat_map, AllByRecursion}
 use Rattle.dw_forms.specs.Abbrev.{Declaration}

@@ -1,4 +1,4 @@
--- What an iterator over the units has left.
+-- State: what an iterator over the units has left.
 use Rattle.std.specs.Prelude.{List, map, drop}
 use Rattle.dw_entries.specs.declared.lookup.UnitHead.{UnitHead}
 use Rattle.dw_entries.specs.declared.units.Units.{Units}

@@ -1,4 +1,4 @@
--- Attributes that stand at the front of some bytes: there is one list of them at most.
+-- Laws: some bytes begin with one list of attributes at most.
 use Rattle.std.proofs.Common.{◌≡◌, ℕ, List, [], ◌∷◌, sym, ap, ◌∙◌}
 use mathlib.Core.HLevel.{Σ_prop_path}
 use Rattle.std.proofs.Props.{props}

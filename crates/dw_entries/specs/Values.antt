@@ -1,4 +1,4 @@
--- The attributes of an entry that are still to be read from the front of some bytes.
+-- State: the attributes of an entry that are still to be read.
 use Rattle.std.specs.Prelude.{◌≡◌, ℕ, List, [], ◌++◌}
 use Rattle.std.specs.List.{flat_map}
 use Rattle.dw_forms.specs.declared.decl.AttributeSpec.{AttributeSpec}

@@ -1,4 +1,4 @@
--- What an iterator over the attributes of an entry has left.
+-- State: what an iterator over the attributes of an entry has left.
 use Rattle.std.specs.Prelude.{◌≡◌, ℕ, List, ◌∷◌, length, drop, map}
 use Rattle.dw_forms.specs.declared.decl.AttributeSpec.{AttributeSpec}
 use Rattle.dw_forms.specs.declared.value.Value.{Value}

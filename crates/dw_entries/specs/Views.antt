@@ -1,4 +1,4 @@
--- What the entries of a scan show besides their units.
+-- State: the sections of a scan.
 use Rattle.dw_elf.specs.declared.sections.Sections.{Sections}
 use Rattle.dw_entries.specs.declared.entries.Entries.{Entries}
 

@@ -1,4 +1,4 @@
--- One pass over the items of a tree: the entries so far, and the open lists of children, the innermost first.
+-- State: one pass over the items of a tree: the entries so far, and the open lists of children, the innermost first.
 use Rattle.std.specs.Prelude.{ℕ, zero, suc, ◌+◌, Bool, true, false, List, [], ◌∷◌, ◌++◌, length, reverse, Option, Some, None}
 use Rattle.dw_entries.specs.declared.record.Record.{Record}
 use Rattle.dw_entries.specs.declared.record.Level.{Level}
