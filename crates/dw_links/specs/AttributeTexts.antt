@@ -1,4 +1,4 @@
--- The texts and addresses that attributes of entries lead to (DWARF 5, sections 7.26 and 7.27).
+-- Chapter: the text or the address of an attribute of an entry (DWARF 5, 7.26 and 7.27).
 use Rattle.std.specs.Prelude.{ℕ, List, Option, slice_get, option_and_then}
 use Rattle.dw_elf.specs.declared.sections.Sections.{Sections}
 use Rattle.dw_forms.specs.Codes.{DW_AT_str_offsets_base, DW_AT_addr_base}

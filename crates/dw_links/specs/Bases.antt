@@ -1,4 +1,4 @@
--- Where a unit's contributions begin (DWARF 5, sections 7.26 and 7.27).
+-- Chapter: the offset at which a unit's contribution starts (DWARF 5, 7.26 and 7.27).
 use Rattle.std.specs.Prelude.{ℕ, ◌==◌, List, Option, None, Some, slice_get, if◌then◌else◌}
 use Rattle.std.specs.Option.{option_and_then}
 use Rattle.dw_forms.specs.Value.{Datum, sec_offset}
@@ -7,10 +7,12 @@ use Rattle.dw_entries.specs.Entries.{Entry}
 use Rattle.dw_entries.specs.Lookups.{value_at_entry}
 use Rattle.dw_entries.specs.Entries.{PlacedUnit}
 
+-- the offset into a section that a value is, if its class is that of such offsets
 abbrev pub section_offset_in : Datum → Option ℕ
 section_offset_in (sec_offset offset) = Some offset
 section_offset_in _ = None
 
+-- the offset into a section under an attribute of an entry
 abbrev pub section_offset_of : Entry → ℕ → Option ℕ
 section_offset_of entry attribute = option_and_then section_offset_in (value_at_entry entry attribute)
 

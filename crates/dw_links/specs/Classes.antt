@@ -1,4 +1,4 @@
--- The classes of values, and the classes that an attribute may have (DWARF 5, sections 7.5.4 and 7.5.5).
+-- Chapter: the classes of values, and the classes that an attribute may have (DWARF 5, 7.5.4 and 7.5.5).
 use Rattle.std.specs.Prelude.{◌≡◌, ℕ, Bool, true, false, List, [], ◌∷◌, if◌then◌else◌, nat_eq, slice_get, Option, Some, None}
 use Rattle.std.specs.List.{list_any}
 use Rattle.dw_forms.specs.declared.form.Form.{Form}
@@ -81,13 +81,16 @@ form_class form.Addrx2 = Some Address
 form_class form.Addrx3 = Some Address
 form_class form.Addrx4 = Some Address
 
+-- the code is one of these
 abbrev pub is_one_of : List ℕ → ℕ → Bool
 is_one_of codes code = list_any (nat_eq code) codes
 
+-- reference
 abbrev pub is_reference : Class → Bool
 is_reference Reference = true
 is_reference _ = false
 
+-- string
 abbrev pub is_string : Class → Bool
 is_string String = true
 is_string _ = false
@@ -115,15 +118,18 @@ is_location SectionOffset = true
 is_location ListIndex = true
 is_location _ = false
 
+-- constant, data16 too
 abbrev pub is_constant : Class → Bool
 is_constant Constant = true
 is_constant WideConstant = true
 is_constant _ = false
 
+-- flag
 abbrev pub is_flag : Class → Bool
 is_flag Flag = true
 is_flag _ = false
 
+-- section offset
 abbrev pub is_section_offset : Class → Bool
 is_section_offset SectionOffset = true
 is_section_offset _ = false

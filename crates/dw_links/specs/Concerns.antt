@@ -1,4 +1,4 @@
--- Rules that are asked of the attributes of entries, and what a declaration already says of them.
+-- Chapter: rules on the attributes of entries, and the declarations at which none of them can fail.
 use Rattle.std.specs.Prelude.{◌≡◌, ℕ, List, Option, Some, slice_get}
 use Rattle.dw_forms.specs.Value.{Datum}
 use Rattle.dw_forms.specs.Abbrev.{Declaration}
@@ -32,9 +32,10 @@ AllPass Fails specs = (k : ℕ) (spec : AttributeSpec) → slice_get specs k ≡
 abbrev pub EachPasses : Rules → List Declaration → Type 0
 EachPasses Fails decls = (place : ℕ) (decl : Declaration) → slice_get decls place ≡ Some decl → AllPass Fails decl.attributes
 
--- no rule fails at an entry that was looked up, or the first that does is named
+-- no rule fails at an entry that was looked up
 abbrev pub PassesAt : Option Entry → (Entry → Failure → Type 0) → Type 0
 PassesAt entry Fails = (e : Entry) → entry ≡ Some e → HasNone (Fails e)
 
+-- this failure is the first of the rules at an entry that was looked up
 abbrev pub FailsAt : Option Entry → (Entry → Failure → Type 0) → Broken → Type 0
 FailsAt entry Fails broken = (e : Entry) → entry ≡ Some e → IsFirst (Fails e) broken

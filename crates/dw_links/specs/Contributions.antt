@@ -1,4 +1,4 @@
--- Contributions to .debug_str_offsets and .debug_addr (DWARF 5, sections 7.26 and 7.27), and the ends of strings.
+-- Chapter: contributions to .debug_str_offsets and .debug_addr (DWARF 5, 7.26 and 7.27), and strings at offsets.
 use Rattle.std.specs.Prelude.{◌≡◌, ℕ, ◌+◌, ◌-◌, ◌*◌, ◌/◌, ◌%◌, ◌<◌, ◌≤◌, List, length, drop, slice_index, Option, None, Some, ◌==◌}
 use Rattle.std.specs.List.{before_first}
 use Rattle.byteorder.specs.Endian.{little_number}

@@ -1,4 +1,4 @@
--- What is kept of an entry's type while its attributes are read.
+-- State: the target of an entry's type, while the entry's attributes are read.
 use Rattle.std.specs.Prelude.{ℕ, ◌==◌, if◌then◌else◌, Option, None, Some}
 use Rattle.dw_forms.specs.Codes.{DW_AT_type}
 

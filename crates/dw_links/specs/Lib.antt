@@ -1,17 +1,20 @@
+-- Chapters, in reading order.
 pub mod Concerns
 pub mod Classes
 pub mod Contributions
 pub mod Bases
 pub mod Strings
 pub mod Texts
-pub mod Ready
+pub mod AttributeTexts
 pub mod References
-pub mod DeclaredEntries
+pub mod Targets
+-- Laws.
+pub mod LinkLaws
+-- State.
+pub mod Ready
+pub mod Slots
 pub mod Signatures
 pub mod Linkable
-pub mod Targets
-pub mod Tables
-pub mod AttributeTexts
-pub mod LinkLaws
-pub mod Slots
 pub mod Kept
+pub mod DeclaredEntries
+pub mod Tables

@@ -1,4 +1,5 @@
--- What holds of the values of entries where no rule on strings, addresses and references fails.
+-- Laws: what holds of all values, if no rule on strings, addresses and references fails; the functions of `laws.rt`
+-- have the proofs.
 use Rattle.std.specs.Prelude.{◌≡◌, ℕ, ◌+◌, true, List, Some, slice_get, IsSome}
 use Rattle.dw_elf.specs.declared.sections.Sections.{Sections}
 use Rattle.dw_forms.specs.Codes.{DW_AT_sibling}

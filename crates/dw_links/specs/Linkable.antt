@@ -1,4 +1,4 @@
--- What the rules on references are asked with.
+-- State: what must be known before the rules on references are checked.
 use Rattle.std.specs.Prelude.{◌<◌, length}
 use Rattle.dw_entries.specs.declared.lookup.Head.{Head}
 use Rattle.dw_entries.specs.Entries.{placed}

@@ -1,4 +1,4 @@
--- What is read once of a unit, so that the rules on its strings and addresses can be asked.
+-- State: what is read once of a unit to check the rules on its strings and addresses.
 use Rattle.std.specs.Prelude.{◌≡◌, ℕ, List, Some, slice_get}
 use Rattle.dw_elf.specs.declared.sections.Sections.{Sections}
 use Rattle.dw_forms.specs.Value.{Datum}
@@ -14,6 +14,7 @@ use Rattle.dw_links.specs.Contributions.{IsRead, base_of, IsEndOfStrings}
 use Rattle.dw_links.specs.Bases.{base_in}
 use Rattle.dw_links.specs.Strings.{StringFailsIn}
 
+-- what was read of a unit is right: the size of its addresses, its contributions, and where strings end
 pub record IsReady (texts : UnitTexts) : Type 0 where
   pub address_size : IsSize texts.header.address_size
   pub strings : IsRead texts.sections.str_offsets.now 4 0 texts.strings
@@ -21,9 +22,11 @@ pub record IsReady (texts : UnitTexts) : Type 0 where
   pub str_end : IsEndOfStrings texts.sections.str.now texts.ends.str
   pub line_str_end : IsEndOfStrings texts.sections.line_str.now texts.ends.line_str
 
+-- the rules on strings and addresses, by what was read of the unit
 abbrev pub FailsByTexts : UnitTexts → Head → ℕ → Datum → Rule → Type 0
 FailsByTexts texts = StringFailsIn texts.sections texts.header (base_of texts.strings) (base_of texts.addresses)
 
+-- the ends of strings are those of .debug_str and .debug_line_str
 pub record AreEnds (sections : Sections) (ends : StringEnds) : Type 0 where
   pub in_str : IsEndOfStrings sections.str.now ends.str
   pub in_line_str : IsEndOfStrings sections.line_str.now ends.line_str

@@ -1,4 +1,4 @@
--- What references reach (DWARF 5, sections 2.3 and 7.5.5), and the rules on them.
+-- Chapter: which entries references refer to (DWARF 5, 2.3 and 7.5.5), and the rules on them.
 use Rattle.std.specs.Prelude.{◌≡◌, ◌≢◌, ℕ, ◌+◌, ◌<◌, ◌⊎◌, Bool, true, false, not, ◌&&◌, ◌==◌, List, [], ◌∷◌, Option, None, Some, slice_get, if◌then◌else◌}
 use Rattle.dw_forms.specs.Value.{Datum, flag, ref_info, ref_unit, ref_sig}
 use Rattle.dw_entries.specs.declared.header.HeaderKind.{HeaderKind}
@@ -43,6 +43,7 @@ Reaches entries units head (ref_unit offset) id = ReachesInUnit entries units he
 Reaches entries units head (ref_sig signature) id = ReachesBySignature entries units signature id
 Reaches entries units head _ id = ⊥
 
+-- a flag that is there and true
 abbrev pub is_true : Option Datum → Bool
 is_true (Some (flag b)) = b
 is_true _ = false
@@ -64,6 +65,7 @@ permits head attribute target =
     else (if attribute == DW_AT_import && head.tag == DW_TAG_imported_unit then is_one_of (DW_TAG_compile_unit ∷ DW_TAG_partial_unit ∷ []) target.head.decl.tag
     else true)))
 
+-- a value in form ref_sig8
 abbrev pub is_signature : Datum → Bool
 is_signature (ref_sig signature) = true
 is_signature _ = false
@@ -98,6 +100,7 @@ abbrev pub NoSignatureThere : List PlacedUnit → Datum → Type 0
 NoSignatureThere units (ref_sig signature) = (number : ℕ) → HasSignature units signature number → ⊥
 NoSignatureThere units _ = ⊥
 
+-- a value of class reference
 abbrev pub is_reference_value : Datum → Bool
 is_reference_value (ref_info offset) = true
 is_reference_value (ref_unit offset) = true
@@ -112,6 +115,7 @@ ReferenceFailsBy entries units head attribute v NotNextSibling = (attribute ≡ 
 ReferenceFailsBy entries units head attribute v NoSignature = NoSignatureThere units v
 ReferenceFailsBy entries units head attribute v _ = ⊥
 
+-- the rules at an attribute of an entry; only values of class reference have any
 abbrev pub ReferenceFails : List Entry → List PlacedUnit → Head → ℕ → Datum → Rule → Type 0
 ReferenceFails entries units head attribute v rule = (is_reference_value v ≡ true) × ReferenceFailsBy entries units head attribute v rule
 
@@ -138,13 +142,15 @@ abbrev pub HeaderFails : List Entry → List PlacedUnit → ℕ → ℕ → Opti
 HeaderFails entries units number at None rule = ⊥
 HeaderFails entries units number at (Some (signature, type_offset)) rule = TypeUnitFails entries units number at signature type_offset rule
 
+-- the failures at the header of a unit
 abbrev pub AtHeader : List Entry → List PlacedUnit → ℕ → PlacedUnit → Failure → Type 0
 AtHeader entries units number unit = AtPlace (at_header unit.at) (HeaderFails entries units number unit.at (type_in unit.unit.header.kind))
 
--- the failures at the headers of units, and those at the attributes of entries
+-- the failures at the headers of units
 abbrev pub HeaderFailures : List Entry → List PlacedUnit → Failure → Type 0
 HeaderFailures entries units = InList units (AtHeader entries units)
 
+-- the failures at the attributes of entries
 abbrev pub AttributeFailures : List Entry → List PlacedUnit → Failure → Type 0
 AttributeFailures entries units = AtEntries entries (AtHead (ReferenceFails entries units))
 

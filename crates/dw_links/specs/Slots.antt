@@ -1,4 +1,4 @@
--- Texts and addresses that lie within their sections.
+-- State: texts and addresses that are within their sections.
 use Rattle.std.specs.Prelude.{ℕ, ◌+◌, ◌*◌, ◌≤◌, length, Option, IfSome}
 use Rattle.dw_elf.specs.declared.sections.Sections.{Sections}
 use Rattle.dw_forms.specs.Value.{Datum, str, line_str, str_index, addr_index}

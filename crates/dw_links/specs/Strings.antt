@@ -1,4 +1,4 @@
--- The rules on strings and addresses (DWARF 5, sections 7.26 and 7.27).
+-- Chapter: the rules on strings and addresses (DWARF 5, 7.26 and 7.27).
 use Rattle.std.specs.Prelude.{◌≡◌, ◌≢◌, ℕ, ◌<◌, ◌≤◌, ◌⊎◌, Bool, true, false, List, Option, None, Some, slice_get}
 use Rattle.dw_elf.specs.declared.sections.Sections.{Sections}
 use Rattle.dw_forms.specs.declared.form.Form.{Form}

@@ -1,4 +1,4 @@
--- What is read once of all units, so that the values of attributes can be followed.
+-- State: what is read once of all units, to follow the values of attributes.
 use Rattle.std.specs.Prelude.{◌≡◌, ℕ, List, map, Option}
 use Rattle.dw_forms.specs.Codes.{DW_AT_str_offsets_base, DW_AT_addr_base, DW_AT_type}
 use Rattle.dw_entries.specs.declared.entries.Entries.{Entries}

@@ -1,4 +1,4 @@
--- The entry that an attribute's value reaches, as a function (DWARF 5, section 7.5.5).
+-- Chapter: the target of an attribute, as a function (DWARF 5, 7.5.5).
 use Rattle.std.specs.Prelude.{◌≡◌, ℕ, ◌+◌, Bool, false, ◌&&◌, ◌==◌, List, Option, None, Some, slice_get, option_and_then}
 use Rattle.std.specs.List.{position_from}
 use Rattle.std.specs.Ordering.{nat_cmp}

@@ -1,4 +1,4 @@
--- The texts and addresses of values (DWARF 5, sections 7.26 and 7.27).
+-- Chapter: the text or the address of a value (DWARF 5, 7.26 and 7.27).
 use Rattle.std.specs.Prelude.{ℕ, List, Option, None, Some}
 use Rattle.dw_elf.specs.declared.sections.Sections.{Sections}
 use Rattle.dw_forms.specs.Value.{Datum, address, text, str, line_str, str_index, addr_index}
