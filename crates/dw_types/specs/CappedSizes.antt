@@ -1,4 +1,4 @@
--- Sizes where 2^63 stands for all that are no smaller.
+-- State: sizes in which 2^63 represents all that are no smaller.
 use Rattle.std.specs.Prelude.{◌≡◌, ℕ, ◌^◌, ◌<◌, List, length}
 use Rattle.dw_types.specs.declared.facts.Facts.{Facts}
 use Rattle.dw_types.specs.SizeTables.{Size, cap_size}

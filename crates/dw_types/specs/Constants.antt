@@ -1,4 +1,4 @@
--- What stands under an attribute, as a number (DWARF 5, 2.19 and 7.5.5).
+-- Chapter: the number under an attribute (DWARF 5, 2.19 and 7.5.5).
 use Rattle.std.specs.Prelude.{ℕ, ◌^◌, ◌-◌, ℤ, pos, negsuc, ◌≤ℤ◌, Bool, true, false, Option, None, Some}
 use Rattle.dw_types.specs.declared.constant.Constant.{Constant}
 use Rattle.dw_types.specs.declared.constant.Constant.TheVariants.{Absent, NotNumber, Unsigned, Signed}

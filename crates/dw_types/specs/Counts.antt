@@ -1,4 +1,4 @@
--- The count of a dimension (DWARF 5, 5.13).
+-- Chapter: the count of a dimension (DWARF 5, 5.13).
 use Rattle.std.specs.Prelude.{ℕ, ◌^◌, ◌-◌, ℤ, pos, negsuc, ◌+ℤ◌, ◌-ℤ◌, Bool, false, ◌&&◌, ◌||◌, not, List, [], ◌∷◌}
 use Rattle.std.specs.Prelude.{Option, Some, None, if◌then◌else◌, nat_eq}
 use Rattle.dw_types.specs.declared.constant.Constant.{Constant}
@@ -12,10 +12,11 @@ use Rattle.dw_types.specs.Entries.{entry_at}
 use Rattle.dw_types.specs.Kinds.{is_dimensions, is_one_of, parent_role}
 use Rattle.dw_types.specs.SizeTables.{Size}
 
--- the tag of arrays, and that of subranges
+-- the tag of arrays
 abbrev pub is_array_tag : ℕ → Bool
 is_array_tag tag = nat_eq tag DW_TAG_array_type
 
+-- the tag of subranges
 abbrev pub is_subrange_tag : ℕ → Bool
 is_subrange_tag tag = nat_eq tag DW_TAG_subrange_type
 

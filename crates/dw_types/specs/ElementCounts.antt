@@ -1,4 +1,4 @@
--- How many elements an array has, by its children: the product of the counts of its dimensions (DWARF 5, 5.5).
+-- State: how many elements an array has, as a product that grows child by child (DWARF 5, 5.5).
 use Rattle.std.specs.Prelude.{ℕ, ◌*◌, ◌^◌, Bool, ◌||◌, List, [], ◌∷◌, None, Some, map, filter, min, if◌then◌else◌}
 use Rattle.std.specs.List.{list_any, range_with_len}
 use Rattle.dw_types.specs.declared.facts.Facts.{Facts}

@@ -1,4 +1,4 @@
--- The entries, each with its facts, and how they lie: by number, by parent and by offset.
+-- Chapter: the entries with their facts: by number, by parent and by offset.
 use Rattle.std.specs.Prelude.{◌≡◌, ℕ, ◌<◌, Bool, false, List, Option, Some, None, length, filter, nat_eq}
 use Rattle.std.specs.Prelude.{slice_index_or}
 use Rattle.std.specs.List.{range_with_len}

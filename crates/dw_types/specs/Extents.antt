@@ -1,4 +1,4 @@
--- Whether a plain member ends inside its container (DWARF 5, 5.7.6).
+-- Chapter: whether a plain member ends inside its container (DWARF 5, 5.7.6).
 use Rattle.std.specs.Prelude.{ℕ, ◌+◌, ◌*◌, ℤ, pos, negsuc, ◌*ℤ◌, Bool, true, false, ◌&&◌, Option, None, Some, is_some}
 use Rattle.std.specs.Prelude.{if◌then◌else◌, nat_lt}
 use Rattle.dw_types.specs.declared.facts.Facts.{Facts}

@@ -1,4 +1,4 @@
--- Single facts of an entry, each read when it is asked (DWARF 5, chapter 5).
+-- State: single facts of an entry, each read when it is needed (DWARF 5, chapter 5).
 use Rattle.std.specs.Prelude.{◌≡◌, ℕ, Bool, false, List, Option, None, is_some, if◌then◌else◌}
 use Rattle.dw_forms.specs.Value.{Datum}
 use Rattle.dw_entries.specs.Entries.{Entry, PlacedUnit}

@@ -1,4 +1,4 @@
--- What types, counts and sizes read of the entries of units (DWARF 5, chapter 5).
+-- Chapter: the facts of an entry that the rules on types, counts and sizes read (DWARF 5, chapter 5).
 use Rattle.std.specs.Prelude.{ℕ, Bool, ◌||◌, ◌==◌, List, Option, None, Some, map, is_some, slice_get, if◌then◌else◌}
 use Rattle.std.specs.Option.{option_map_or}
 use Rattle.dw_forms.specs.Codes.{DW_AT_abstract_origin, DW_AT_bit_size, DW_AT_bit_stride, DW_AT_byte_size}

@@ -1,4 +1,4 @@
--- Graphs of steps, the lists of nodes that steps make, and what it means to have no cycle.
+-- Chapter: graphs of steps, lists of nodes along steps, and cycles.
 use Rattle.std.specs.Prelude.{◌≡◌, ◌≢◌, ℕ, ◌+◌, ◌-◌, ◌<◌, ◌≤◌, List, [], length, slice_index, slice_index_or, sum_by}
 
 -- the steps of each node, in order: the node k has the k-th list, and a step is the node that it leads to

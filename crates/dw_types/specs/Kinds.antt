@@ -1,4 +1,4 @@
--- The kinds of entries that types, counts and sizes tell apart (DWARF 5, chapter 5).
+-- Chapter: the kinds of entries that the rules on types, counts and sizes distinguish (DWARF 5, chapter 5).
 use Rattle.std.specs.Prelude.{ℕ, Bool, true, false, ◌&&◌, not, List, [], ◌∷◌, Option, None, Some, if◌then◌else◌, nat_eq}
 use Rattle.std.specs.List.{list_any}
 use Rattle.dw_types.specs.declared.facts.Facts.{Facts}

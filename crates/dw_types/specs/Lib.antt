@@ -1,27 +1,30 @@
+-- Chapters, in reading order.
 pub mod Constants
 pub mod Entries
 pub mod FactsOf
-pub mod FactsAsked
-pub mod UnitsRead
 pub mod Kinds
-pub mod Graphs
-pub mod Orders
-pub mod RanksListed
-pub mod OrderFaults
-pub mod WalkStates
-pub mod Walks
-pub mod Packing
-pub mod PackingLaws
-pub mod Steps
-pub mod StepLists
-pub mod TypeFailures
-pub mod Counts
-pub mod Shapes
 pub mod SizeTables
+pub mod Counts
+pub mod TypeFailures
+pub mod Shapes
+pub mod Graphs
+pub mod Steps
+pub mod Orders
+pub mod OrderFaults
 pub mod Sizes
 pub mod Extents
 pub mod SizeFaults
+-- Laws.
+pub mod PackingLaws
+-- State.
+pub mod FactsAsked
+pub mod UnitsRead
+pub mod Roles
+pub mod Packing
+pub mod StepLists
+pub mod WalkStates
+pub mod Walks
+pub mod RanksListed
 pub mod ElementCounts
 pub mod CappedSizes
 pub mod StoredSizes
-pub mod Roles

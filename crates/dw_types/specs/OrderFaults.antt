@@ -1,4 +1,4 @@
--- Why a graph has no order.
+-- Chapter: why a graph has no order.
 use Rattle.dw_types.specs.declared.ranking.OrderFault.{OrderFault}
 use Rattle.dw_types.specs.declared.ranking.OrderFault.TheVariants.{Cycle, Memory}
 use Rattle.dw_types.specs.Graphs.{Graph, IsCycle}

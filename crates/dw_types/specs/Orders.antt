@@ -1,4 +1,4 @@
--- Orders of graphs.
+-- Chapter: an order of the nodes of a graph along its steps.
 use Rattle.std.specs.Prelude.{◌≡◌, ℕ, ◌+◌, ◌<◌, List, length, slice_index}
 use Rattle.dw_types.specs.Graphs.{Graph, FallsAlong, step_count}
 

@@ -1,4 +1,4 @@
--- A graph in two lists: all steps, and where those of each node end.
+-- State: a graph in two lists: all steps, and where those of each node end.
 use Rattle.std.specs.Prelude.{ℕ, ◌-◌, ◌<◌, ◌≤◌, List, [], ◌∷◌, length, take, drop, slice_index}
 use Rattle.dw_types.specs.Graphs.{Graph}
 

@@ -1,4 +1,4 @@
--- What stands in a graph that is cut from a list of steps.
+-- Laws: the nodes and steps of a graph that is cut from a list of steps.
 use Rattle.std.proofs.Common.{◌≡◌, ℕ, ◌+◌, ◌-◌, ◌<◌, ◌≤◌, List, [], ◌∷◌, ◌++◌, length, get_or, take, drop, inl, inr}
 use Rattle.std.proofs.Common.{arith, refl, ap, ◌∙◌, suc, zero, length-append, length-drop}
 use Rattle.std.proofs.lemmas.Bool.{cases_lt}

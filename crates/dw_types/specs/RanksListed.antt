@@ -1,4 +1,4 @@
--- The rank of each node, by the nodes in the order of their ranks.
+-- State: the rank of each node, from the nodes in the order of their ranks.
 use Rattle.std.specs.Prelude.{ℕ, List, [], ◌∷◌, suc, replicate, slice_set}
 
 -- ranks, where nodes from a first rank on are given theirs one after another

@@ -1,4 +1,4 @@
--- What entries are to their children, listed by number.
+-- State: what entries are to their children, listed by number.
 use Rattle.std.specs.Prelude.{ℕ, List, Option, None, Some, map, slice_index_or, take}
 use Rattle.dw_types.specs.declared.facts.Facts.{Facts}
 use Rattle.dw_types.specs.declared.kind.Role.{Role}

@@ -1,4 +1,5 @@
--- Plain members, and which shapes of arrays and members are wrong (DWARF 5, 5.5, 5.7.6 and 5.13).
+-- Chapter: plain members, and the rules on the types of arrays and members and on counts (DWARF 5, 5.5, 5.7.6 and
+-- 5.13).
 use Rattle.std.specs.Prelude.{ℕ, ℤ, Bool, false, ◌&&◌, ◌||◌, not, List, Option, None, Some, is_some, nat_eq}
 use Rattle.dw_types.specs.declared.facts.Facts.{Facts}
 use Rattle.dw_types.specs.declared.kind.Role.{Role}

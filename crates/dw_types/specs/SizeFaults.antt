@@ -1,4 +1,4 @@
--- Which sizes are wrong (DWARF 5, 5.1, 5.5, 5.7 and 5.8).
+-- Chapter: the rules on sizes (DWARF 5, 5.1, 5.5, 5.7 and 5.8).
 use Rattle.std.specs.Prelude.{ℕ, ◌^◌, Bool, true, false, ◌&&◌, ◌||◌, not, List, None, Some, is_some, nat_eq, nat_le}
 use Rattle.dw_types.specs.declared.facts.Facts.{Facts}
 use Rattle.dw_entries.specs.declared.fault.Broken.{Broken}

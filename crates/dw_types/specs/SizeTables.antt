@@ -1,4 +1,4 @@
--- Tables of sizes: a size or none for each entry.
+-- Chapter: tables with a size or none for each entry.
 use Rattle.std.specs.Prelude.{ℕ, List, Option, None, Some, min, slice_index_or}
 
 -- a size or none

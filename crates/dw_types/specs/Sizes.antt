@@ -1,4 +1,4 @@
--- The size of each type entry (DWARF 5, 5.1 to 5.13).
+-- Chapter: the size of each type entry (DWARF 5, 5.1 to 5.13).
 use Rattle.std.specs.Prelude.{◌≡◌, ℕ, ◌*◌, ◌<◌, Bool, true, false, ◌&&◌, ◌||◌, not, List, [], ◌∷◌, Option, Some, None}
 use Rattle.std.specs.Prelude.{length, map, filter, if◌then◌else◌, nat_eq}
 use Rattle.std.specs.List.{list_any}

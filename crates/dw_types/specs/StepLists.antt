@@ -1,4 +1,4 @@
--- Steps in a list, and those of one node among them.
+-- State: a list of steps, and the steps of one node among them.
 use Rattle.std.specs.Prelude.{◌≡◌, ℕ, zero, suc, ◌+◌, ◌<◌, Bool, List, [], ◌∷◌, Option, None, Some, filter, length, map}
 use Rattle.std.specs.Prelude.{nat_eq, slice_index}
 use Rattle.std.specs.List.{range_with_len}

@@ -1,4 +1,4 @@
--- Steps by value: what an entry holds, and so may not hold itself (DWARF 5, chapter 5).
+-- Chapter: steps by value: what an entry contains, and so may not be contained in (DWARF 5, chapter 5).
 use Rattle.std.specs.Prelude.{◌≡◌, ◌≢◌, ℕ, ◌<◌, Bool, true, ◌&&◌, not, List, [], ◌∷◌, ◌++◌, Option, Some, map}
 use Rattle.std.specs.Prelude.{if◌then◌else◌, nat_eq, length}
 use Rattle.std.specs.List.{flat_map, range_with_len}

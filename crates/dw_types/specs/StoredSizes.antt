@@ -1,4 +1,4 @@
--- Sizes and counts of elements as they are kept, in one number each.
+-- State: sizes and counts of elements as they are stored, in one number each.
 use Rattle.std.specs.Prelude.{ℕ, ◌^◌, ◌-◌, ◌<◌, suc, zero, List, None, Some, map}
 use Rattle.dw_types.specs.declared.element_count.ElementCount.{ElementCount}
 use Rattle.dw_types.specs.declared.element_count.ElementCount.TheVariants.{NoDimension, Known, Unknown}

@@ -1,4 +1,4 @@
--- Failures of rules that are asked of entries, and the first entry that has one.
+-- Chapter: failures of rules on entries, and the first entry that has one.
 use Rattle.std.specs.Prelude.{◌≡◌, ℕ, ◌<◌, Bool, true, List, length}
 use Rattle.dw_types.specs.declared.facts.Facts.{Facts}
 use Rattle.dw_entries.specs.declared.rule.Rule.{Rule}

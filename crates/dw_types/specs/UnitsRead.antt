@@ -1,4 +1,4 @@
--- What is read of a unit, once for all its entries.
+-- State: what is read of a unit, once for all its entries.
 use Rattle.std.specs.Prelude.{ℕ, List, map, slice_get}
 use Rattle.std.specs.Option.{option_map_or}
 use Rattle.dw_entries.specs.Entries.{PlacedUnit, placed}

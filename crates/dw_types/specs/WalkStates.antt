@@ -1,4 +1,4 @@
--- The state of a walk over a graph, and what it is after a node is taken up, a step looked at, or a node ranked.
+-- State: the state of a walk over a graph, and what it is after each kind of turn.
 use Rattle.std.specs.Prelude.{ℕ, ◌+◌, ◌-◌, List, [], ◌∷◌, ◌++◌, length, take, slice_index, slice_index_or, slice_set}
 use Rattle.dw_types.specs.declared.walk.Mark.{Mark}
 use Rattle.dw_types.specs.declared.walk.Mark.TheVariants.{Fresh, Open, Ranked}

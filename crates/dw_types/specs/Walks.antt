@@ -1,4 +1,4 @@
--- What is true of the state of a walk over a graph before and after each turn.
+-- State: what holds of the state of a walk over a graph before and after each turn.
 use Rattle.std.specs.Prelude.{◌≡◌, ◌≢◌, ℕ, ◌+◌, ◌-◌, ◌*◌, ◌^◌, ◌<◌, ◌≤◌, ◌⊎◌, Bool, true, false, length, slice_index}
 use Rattle.std.specs.Prelude.{sum, count_by}
 use Rattle.dw_types.specs.declared.walk.Mark.{Mark}
