@@ -1,4 +1,4 @@
--- What an iterator over the children of an entry has left.
+-- State: what an iterator over the children of an entry has left.
 use Rattle.std.specs.Prelude.{ℕ, List}
 use Rattle.dw_entries.specs.Entries.{entries_of}
 use Rattle.dw_entries.specs.Scanned.{units_of}

@@ -1,4 +1,4 @@
--- The first fault of sections. Rules are asked in groups: a group is asked only where no rule of an earlier group
+-- Chapter: the first fault of sections. Rules come in groups: a group is checked only if no rule of an earlier group
 -- fails.
 use Rattle.std.specs.Prelude.{◌≡◌, ℕ, ◌<◌, ◌⊎◌, List, [], map, slice_index}
 use Rattle.dw_elf.specs.declared.sections.Sections.{Sections}

@@ -1,5 +1,5 @@
--- What a verdict says of the sections that were verified. This is the file to read first: the words behind it stand in
--- Valid.antt, First.antt and Images.antt, and those of the grammar in the crates below.
+-- Chapter: what a verdict says of the sections. This is the file to read first: its words are defined in Valid.antt,
+-- First.antt and Images.antt, and those of the grammar in the crates below.
 use Rattle.std.specs.Prelude.{◌≡◌, ◌↔◌, ℕ, ◌<◌, true, List, ◌++◌, drop, slice_get, Option, None, Some}
 use Rattle.dw_elf.specs.declared.sections.Sections.{Sections}
 use Rattle.dw_forms.specs.Codes.{DW_AT_str_offsets_base, DW_AT_addr_base}

@@ -1,4 +1,4 @@
--- What an image is seen as: the sections that were verified, and the units that these spell, with their entries.
+-- Chapter: what an image has: the sections that were verified, the units that they spell, and the entries of these.
 use Rattle.std.specs.Prelude.{ℕ, List, length, Option, option_and_then}
 use Rattle.std.specs.List.{count_by}
 use Rattle.dw_elf.specs.declared.sections.Sections.{Sections}

@@ -1,7 +1,9 @@
-pub mod Lookups
-pub mod Images
-pub mod ChildrenLeft
+-- Chapters, in reading order.
+pub mod Headline
 pub mod Valid
 pub mod First
+pub mod Lookups
+pub mod Images
+-- State.
 pub mod Measures
-pub mod Headline
+pub mod ChildrenLeft

@@ -1,4 +1,4 @@
--- What the look-ups of an image answer, as functions of the list of its entries.
+-- Chapter: what the look-ups of an image return, as functions of the list of its entries.
 use Rattle.std.specs.Prelude.{◌≡◌, ℕ, suc, ◌==◌, false, Bool, if◌then◌else◌, List, [], ◌∷◌, drop, slice_get, Option}
 use Rattle.std.specs.Prelude.{Some, None, option_map}
 use Rattle.std.specs.Option.{ForSome, option_and_then}

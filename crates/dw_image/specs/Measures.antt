@@ -1,4 +1,4 @@
--- What is made of the types of entries, and how it fails.
+-- State: the steps by value and the sizes of the entries, and the first fault of the groups that find them.
 use Rattle.std.specs.Prelude.{◌≡◌, ◌<◌, List, length}
 use Rattle.dw_elf.specs.declared.sections.Sections.{Sections}
 use Rattle.dw_entries.specs.declared.fault.Fault.{Fault}

@@ -1,4 +1,4 @@
--- When sections are valid: which rules hold, group by group.
+-- Chapter: when sections are valid: which rules hold, group by group.
 use Rattle.std.specs.Prelude.{ℕ, List}
 use Rattle.dw_elf.specs.declared.sections.Sections.{Sections}
 use Rattle.dw_entries.specs.Failures.{HasNone}
