@@ -1,4 +1,4 @@
--- The state of a walk that finds the nodes that reach no cycle.
+-- State: the state of a walk that finds the nodes that reach no cycle.
 use Rattle.std.specs.Prelude.{◌≡◌, ℕ, ◌+◌, ◌-◌, ◌*◌, ◌<◌, ◌≤◌}
 use Rattle.std.specs.Prelude.{List, [], ◌∷◌, length, slice_index, slice_index_or, Contains}
 use Rattle.dw_types.specs.Graphs.{Graph, steps_of, step_at, FollowsSteps}
@@ -6,6 +6,7 @@ use Rattle.dw_cprint.specs.Cycles.{ReachesCycle, ComeInOrder}
 use Rattle.dw_cprint.specs.declared.clearing.Mark.{Mark}
 use Rattle.dw_cprint.specs.declared.clearing.Mark.TheVariants.{Fresh, Open, Clear, Stuck}
 
+-- how far the walk has come with a node; a node without a mark is fresh
 abbrev pub mark_of : List Mark → ℕ → Mark
 mark_of marks node = slice_index_or marks node Fresh
 
@@ -30,6 +31,7 @@ steps_left [] next = 0
 steps_left (row ∷ graph) [] = length row + steps_left graph []
 steps_left (row ∷ graph) (n ∷ next) = length row - n + steps_left graph next
 
+-- how many marks are fresh
 abbrev pub fresh_count : List Mark → ℕ
 fresh_count [] = 0
 fresh_count (Fresh ∷ marks) = 1 + fresh_count marks
@@ -37,6 +39,8 @@ fresh_count (Open ∷ marks) = fresh_count marks
 fresh_count (Clear ∷ marks) = fresh_count marks
 fresh_count (Stuck ∷ marks) = fresh_count marks
 
+-- a number that falls with each turn of the walk: the steps that are not looked at, twice the fresh nodes, and the
+-- nodes on the stack
 abbrev pub work_left : Graph → List Mark → List ℕ → List ℕ → ℕ
 work_left graph marks next stack = steps_left graph next + (2 * fresh_count marks + length stack)
 

@@ -1,4 +1,4 @@
--- Which nodes of a graph reach a cycle, and the others in an order.
+-- Chapter: which nodes of a graph reach a cycle, and an order of the others.
 use Rattle.std.specs.Prelude.{◌≡◌, ℕ, zero, suc, ◌<◌, List, length, slice_index, Contains}
 use Rattle.dw_types.specs.Graphs.{Graph, steps_of, step_at, IsStep}
 

@@ -1,4 +1,4 @@
--- The declaration of an entry, as a term: by the shapes of the entries that it reaches.
+-- Chapter: the declaration of an entry as a term, by the shapes of the entries that it reaches.
 use Rattle.std.specs.Prelude.{ℕ, ℤ, zero, suc, ◌==◌, Bool, true, false, not, List, [], ◌∷◌, Option, Some, None, is_some}
 use Rattle.std.specs.Prelude.{option_map, option_and_then, codes, bytes_eq, if◌then◌else◌}
 use Rattle.std.specs.List.{list_any, slice_split}
@@ -15,6 +15,7 @@ use Rattle.dw_cprint.specs.Shapes.{declared_subject}
 
 -- ---- names of base types
 
+-- the type word that a part of a name is
 abbrev pub word_of : List ℕ → Option TypeWord
 word_of name =
     if bytes_eq name (codes "char") then Some Char
@@ -56,6 +57,7 @@ abbrev pub is_miscounted : List (Option ℕ) → Bool
 is_miscounted [] = true
 is_miscounted (count ∷ counts) = list_any (λ (c : Option ℕ). not (is_some c)) counts
 
+-- the bit size of a member, if it is a number
 abbrev pub bits_of : Bits → Option ℕ
 bits_of (Number n) = Some n
 bits_of _ = None
@@ -89,19 +91,22 @@ has_more [] = false
 has_more (Typed at ∷ parameters) = has_more parameters
 has_more (More ∷ parameters) = true
 
--- the terms of parameters, members, entries, by those of the types that they name
+-- the terms of parameters, members and entries, by those of the types that they name
 module _ (term : TypeAt → Option Term) where
+  -- the parameters of a function; unspecified parameters are left out here
   abbrev pub parameters_by : List Parameter → Option Parameters
   parameters_by [] = Some NoParameter
   parameters_by (Typed at ∷ ps) =
       option_and_then (λ (t : Term). option_map (ParameterTerm t) (parameters_by ps)) (term at)
   parameters_by (More ∷ ps) = parameters_by ps
 
+  -- the members of a body
   abbrev pub members_by : List MemberOf → Option Members
   members_by [] = Some NoMember
   members_by (m ∷ ms) =
       option_and_then (λ (t : Term). option_map (MemberTerm m.name t (bits_of m.bits)) (members_by ms)) (term m.type_at)
 
+  -- the term of an entry that is reached, by its shape, if it has one
   abbrev pub term_by : ShapeOf → Option Term
   term_by (base (Some name)) = base_term name
   term_by (typedef (Some name)) = Some (Named name)

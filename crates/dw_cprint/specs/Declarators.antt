@@ -1,4 +1,4 @@
--- The text of a type in two parts: what stands before its declarator, and what behind it.
+-- State: the text of a type in two parts: before its declarator, and after it.
 use Rattle.std.specs.Prelude.{Bool, true, false, ◌||◌, List, [], ◌∷◌, ◌++◌}
 use Rattle.dw_cprint.specs.Terms.{Qualifier, Enum, Constant, Members, Term, Void, Named, Basic, Tagged, Body}
 use Rattle.dw_cprint.specs.Terms.{Enumeration, Qualified, Pointer, Array, Function}
@@ -21,12 +21,13 @@ abbrev pub pointer_row : List Qualifier → Bool → List Token
 pointer_row [] inside = []
 pointer_row (q ∷ qs) inside = QualifierWord q ∷ (gap (is_there qs || inside) ++ pointer_row qs inside)
 
--- the parentheses of a pointer to t: an array's and a function's brackets would bind before the star
+-- the parenthesis before the star of a pointer to t: an array's or a function's brackets would bind before the star
 abbrev pub opened : Term → List Token
 opened (Array n t) = Open ∷ []
 opened (Function t signature) = Open ∷ []
 opened _ = []
 
+-- the parenthesis that closes the one of `opened`
 abbrev pub closed : Term → List Token
 closed (Array n t) = Close ∷ []
 closed (Function t signature) = Close ∷ []

@@ -1,4 +1,4 @@
--- The shape of each entry of an image (DWARF 5, chapter 5): what its tag, its attributes and its children make it.
+-- Chapter: the shape of each entry of an image, by its tag, its attributes and its children (DWARF 5, chapter 5).
 use Rattle.std.specs.Prelude.{ℕ, pos, zero, suc, Bool, ◌==◌, ◌&&◌, ◌||◌, not, List, Option, Some, None, map, filter}
 use Rattle.std.specs.Prelude.{if◌then◌else◌}
 use Rattle.std.specs.List.{list_any}
@@ -34,12 +34,15 @@ is_odd image id = has_child image DW_TAG_inheritance DW_TAG_variant_part id
 
 -- ---- arrays (DWARF 5, 5.5)
 
+-- a dimension of an array is a subrange
 abbrev pub is_dimension : Image → ℕ → Bool
 is_dimension image id = tag_at image id == DW_TAG_subrange_type
 
+-- the entry has a stride in bytes or in bits
 abbrev pub has_stride : Image → ℕ → Bool
 has_stride image id = has_at image id DW_AT_byte_stride || has_at image id DW_AT_bit_stride
 
+-- a dimension with a stride of its own
 abbrev pub is_strided_dimension : Image → ℕ → Bool
 is_strided_dimension image id = is_dimension image id && has_stride image id
 
@@ -56,9 +59,11 @@ is_strange image id =
 
 -- ---- subroutines (DWARF 5, 5.8)
 
+-- a parameter, or the entry that represents unspecified parameters
 abbrev pub is_parameter : Image → ℕ → Bool
 is_parameter image id = tag_at image id == DW_TAG_formal_parameter || tag_at image id == DW_TAG_unspecified_parameters
 
+-- a parameter by its type, or unspecified parameters
 abbrev pub parameter_at : Image → ℕ → Parameter
 parameter_at image id = if tag_at image id == DW_TAG_formal_parameter then Typed (type_at image id) else More
 
@@ -66,6 +71,7 @@ parameter_at image id = if tag_at image id == DW_TAG_formal_parameter then Typed
 abbrev pub parameters_of : Image → List ℕ → List Parameter
 parameters_of image ids = map (parameter_at image) (filter (is_parameter image) ids)
 
+-- the parameters of a subroutine type that is prototyped; none if it is not
 abbrev pub parameters_in : Image → ℕ → Option (List Parameter)
 parameters_in image id =
     if flag_at image id DW_AT_prototyped then Some (parameters_of image (children_at image id)) else None
@@ -85,10 +91,12 @@ bits_in (Some _) = Wrong
 abbrev pub is_plain_member : Image → ℕ → Bool
 is_plain_member image id = tag_at image id == DW_TAG_member && not (declared_at image id)
 
+-- a member: its name, its type and its bit size
 abbrev pub member_at : Image → ℕ → MemberOf
 member_at image id =
     record { name = name_at image id; type_at = type_at image id; bits = bits_in (value_at image id DW_AT_bit_size) }
 
+-- the plain members of a structure or a union, in rising offset
 abbrev pub members_in : Image → ℕ → List MemberOf
 members_in image id = map (member_at image) (filter (is_plain_member image) (children_at image id))
 
@@ -100,15 +108,19 @@ aggregate_shape image id word None =
 
 -- ---- enumerations (DWARF 5, 5.9)
 
+-- a child with tag enumerator
 abbrev pub is_enumerator : Image → ℕ → Bool
 is_enumerator image id = tag_at image id == DW_TAG_enumerator
 
+-- an enumerator: its name, and its value if that is a number
 abbrev pub enumerator_at : Image → ℕ → EnumeratorOf
 enumerator_at image id = record { name = name_at image id; value = number_at image id DW_AT_const_value }
 
+-- the enumerators of an enumeration, in rising offset
 abbrev pub enumerators_in : Image → ℕ → List EnumeratorOf
 enumerators_in image id = map (enumerator_at image) (filter (is_enumerator image) (children_at image id))
 
+-- an enumeration that is reached: with a name, declared without one, or with its body
 abbrev pub enumeration_shape : Image → ℕ → Name → ShapeOf
 enumeration_shape image id (Some name) = tagged Enum name
 enumeration_shape image id None =
@@ -134,6 +146,7 @@ shape_by image id tag =
     else if is_type_tag tag then foreign
     else other
 
+-- the shape of an entry of an image
 unfoldable pub shape_in : Image → ℕ → ShapeOf
 shape_in image id = shape_by image id (tag_at image id)
 
@@ -143,6 +156,7 @@ aggregate_in image id word =
     if declared_at image id then declared_subject word (name_at image id)
     else aggregate_subject word (name_at image id) (is_odd image id) (members_in image id)
 
+-- an enumeration that is declared to C, and is a declaration in DWARF or not
 abbrev pub enumeration_in : Image → ℕ → SubjectOf
 enumeration_in image id =
     if declared_at image id then declared_subject Enum (name_at image id)
@@ -158,5 +172,6 @@ subject_by image id tag =
     else if tag == DW_TAG_enumeration_type then enumeration_in image id
     else no_subject
 
+-- the subject that an entry of an image is
 unfoldable pub subject_in : Image → ℕ → SubjectOf
 subject_in image id = subject_by image id (tag_at image id)

@@ -1,4 +1,4 @@
--- What is found of each named type: that it is printed, or why it is not.
+-- State: the judgement of each named type: it is printed, or the refusal that holds.
 use Rattle.std.specs.Prelude.{◌≡◌, ℕ, ◌<◌, ◌≤◌, ◌⊎◌, List, [], ◌∷◌, ◌++◌, Option, Some, None}
 use Rattle.std.specs.Prelude.{slice_index, slice_index_or, Contains, AllPairs}
 use Rattle.dw_cprint.specs.Declarations.{declaration_of}

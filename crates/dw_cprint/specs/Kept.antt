@@ -1,4 +1,4 @@
--- The shapes that a survey keeps, and what is written by them.
+-- State: the shapes that a survey keeps, and what is written from them.
 use Rattle.std.specs.Prelude.{◌≡◌, ℕ, ℤ, Bool, false, List, [], ◌∷◌, ◌++◌, Option, Some, None, slice_get}
 use Rattle.std.specs.Prelude.{option_and_then}
 use Rattle.std.specs.Option.{option_map_or}

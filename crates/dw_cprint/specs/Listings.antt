@@ -1,4 +1,4 @@
--- The listing of all named types of an image, and its text.
+-- Chapter: the listing of all named types of an image, and its text.
 use Rattle.std.specs.Prelude.{◌≡◌, ℕ, ◌+◌, ◌/◌, ◌%◌, ◌<◌, ◌⊎◌, ◌↔◌, Bool, true, false, List, [], ◌∷◌, ◌++◌}
 use Rattle.std.specs.Prelude.{Option, Some, None, is_some, if◌then◌else◌, nat_lt, codes}
 use Rattle.std.specs.Prelude.{length, slice_get, flat_map, Contains, AllPairs}
@@ -22,6 +22,7 @@ is_named_type (aggregate_subject word name odd members) = is_some name
 is_named_type (enumeration_subject name odd enumerators) = is_some name
 is_named_type _ = false
 
+-- the entry of this number is a named type
 abbrev pub IsNamedType : Image → ℕ → Type 0
 IsNamedType image entry = (entry < length (entries_in image)) × (is_named_type (subject_in image entry) ≡ true)
 
@@ -53,6 +54,7 @@ pub record IsListing (image : Image) (order : List ℕ) (refused : List (ℕ × 
 
 -- ---- the text
 
+-- the digit of a number below 16, in lower case
 abbrev pub hex_digit : ℕ → ℕ
 hex_digit n = if nat_lt n 10 then 48 + n else 87 + n
 
@@ -63,7 +65,7 @@ hex_digits n =
     ∷ hex_digit (n / 1048576 % 16) ∷ hex_digit (n / 65536 % 16)
     ∷ hex_digit (n / 4096 % 16) ∷ hex_digit (n / 256 % 16) ∷ hex_digit (n / 16 % 16) ∷ hex_digit (n % 16) ∷ []
 
--- the short and the long name of a refusal
+-- the code of a refusal
 abbrev pub code_text : PrintFault → List ℕ
 code_text NotPrintable = codes "P1"
 code_text BadName = codes "P2"
@@ -73,6 +75,7 @@ code_text TooDeep = codes "P5"
 code_text TooLong = codes "P6"
 code_text Memory = []
 
+-- the long name of a refusal
 abbrev pub name_text : PrintFault → List ℕ
 name_text NotPrintable = codes "NotPrintable"
 name_text BadName = codes "BadName"
@@ -82,6 +85,7 @@ name_text TooDeep = codes "TooDeep"
 name_text TooLong = codes "TooLong"
 name_text Memory = codes "Memory"
 
+-- the text of a declaration, or nothing if there is none
 abbrev pub text_if : Option Declaration → List ℕ
 text_if None = []
 text_if (Some d) = written d

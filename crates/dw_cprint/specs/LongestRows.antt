@@ -1,4 +1,4 @@
--- How many steps the longest row of steps from a node of a graph has.
+-- Chapter: how many steps the longest row of steps from a node of a graph has.
 use Rattle.std.specs.Prelude.{◌≡◌, ℕ, zero, suc, ◌+◌, ◌<◌, ◌≤◌, ◌⊎◌, List, length, slice_index, Contains}
 use Rattle.dw_types.specs.Graphs.{Graph, steps_of, step_at, IsStep}
 

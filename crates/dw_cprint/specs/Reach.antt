@@ -1,4 +1,4 @@
--- The entries that are reached from some declared ones, and the graph of the steps between them.
+-- State: the entries that are reached from some declared ones, and the graph of the steps between them.
 use Rattle.std.specs.Prelude.{◌≡◌, ℕ, ◌<◌, ◌≤◌, List, Vec, length, map, slice_index, Contains}
 use Rattle.std.specs.Global.{Global}
 use Rattle.dw_types.specs.Graphs.{Graph, steps_of}

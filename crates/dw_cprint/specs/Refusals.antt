@@ -1,4 +1,4 @@
--- Why an entry is not printed: the least of the six refusals that holds.
+-- Chapter: why an entry is not printed: the first of the six refusals that holds.
 use Rattle.std.specs.Prelude.{◌≡◌, ℕ, ◌<◌, true, List, ◌++◌, Some, length}
 use Rattle.dw_cprint.specs.Declarations.{declaration_of}
 use Rattle.dw_cprint.specs.Legible.{IsDeclaration}
@@ -33,6 +33,7 @@ pub data Holds (shapes : ℕ → ShapeOf) (subject : SubjectOf) : PrintFault →
   deep : HasPath shapes subject 65 → Holds shapes subject TooDeep
   long : IsLonger 65536 shapes subject → Holds shapes subject TooLong
 
+-- the number of a refusal, as its code has it; running out of memory comes after all of them
 abbrev pub number_of : PrintFault → ℕ
 number_of NotPrintable = 1
 number_of BadName = 2

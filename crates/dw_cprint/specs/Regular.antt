@@ -1,4 +1,5 @@
--- What holds of each entry that is read: its numbers have 128 bits, and a body belongs to a structure or a union.
+-- State: what holds of each entry that is read: its numbers have at most 128 bits, and a body of members belongs to a
+-- structure or a union.
 use Rattle.std.specs.Prelude.{ℕ, All, IfSome}
 use Rattle.dw_cprint.specs.Declarations.{bits_of}
 use Rattle.dw_cprint.specs.Legible.{IsAggregate, IsCount, IsValue}
@@ -6,9 +7,11 @@ use Rattle.dw_cprint.specs.Steps.{IsReached}
 use Rattle.dw_cprint.specs.Shapes.{MemberOf, EnumeratorOf, ShapeOf, array, body, enumeration, SubjectOf}
 use Rattle.dw_cprint.specs.Shapes.{aggregate_subject, enumeration_subject}
 
+-- a bit size of at most 128 bits, if the member has one
 abbrev pub HasCountedBits : MemberOf → Type 0
 HasCountedBits m = IsCount (bits_of m.bits)
 
+-- a value whose number has at most 128 bits, if the enumerator has one
 abbrev pub HasValue : EnumeratorOf → Type 0
 HasValue e = IfSome e.value IsValue
 

@@ -1,4 +1,4 @@
--- Two ways to see entries that agree on those that a declaration reaches.
+-- State: two assignments of shapes that agree on the entries that a declaration reaches.
 use Rattle.std.specs.Prelude.{◌≡◌, ℕ}
 use Rattle.dw_cprint.specs.Shapes.{ShapeOf, SubjectOf}
 use Rattle.dw_cprint.specs.Steps.{IsReached}

@@ -1,4 +1,5 @@
--- What the printer asks of an entry: as one that is reached, and as the one that is declared.
+-- Chapter: the shape of an entry that is reached, and the subject that is declared: all that the printer reads of an
+-- entry.
 use Rattle.std.specs.Prelude.{ℕ, ℤ, Bool, List, Option, map, option_map, option_copied, Vec}
 use Rattle.std.specs.Global.{Global}
 pub use Rattle.dw_cprint.specs.declared.words.Qualifier.{Qualifier}
@@ -64,15 +65,19 @@ pub data SubjectOf : Type 0 where
 
 -- ---- what the code keeps of them
 
+-- the member that a value of the code represents
 abbrev pub view_member : Member → MemberOf
 view_member m = record { name = option_copied m.name; type_at = m.type_at; bits = m.bits }
 
+-- the enumerator that a value of the code represents
 abbrev pub view_enumerator : Enumerator → EnumeratorOf
 view_enumerator e = record { name = option_copied e.name; value = e.value }
 
+-- the parameters in a vector, if there is one
 abbrev pub parameter_items : Option (Vec Parameter Global) → Option (List Parameter)
 parameter_items parameters = option_map (λ (ps : Vec Parameter Global). ps.items) parameters
 
+-- the shape that a value of the code represents
 abbrev pub view_shape : Shape → ShapeOf
 view_shape (shape.Base name) = base (option_copied name)
 view_shape (shape.Typedef name) = typedef (option_copied name)
@@ -87,6 +92,7 @@ view_shape (shape.Enumeration odd enumerators) = enumeration odd (map view_enume
 view_shape shape.Foreign = foreign
 view_shape shape.Other = other
 
+-- the subject that a value of the code represents
 abbrev pub view_subject : Subject → SubjectOf
 view_subject (subject.Typedef name at) = typedef_subject (option_copied name) at
 view_subject (subject.Variable name at) = variable_subject (option_copied name) at

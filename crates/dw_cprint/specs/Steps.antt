@@ -1,5 +1,5 @@
--- Spelling steps: from an entry that is reached, and from the one that is declared. The latter are not the steps of the
--- same entry where it is reached.
+-- Chapter: spelling steps from an entry that is reached, and from the one that is declared. The latter are not the
+-- steps of the same entry where it is reached.
 use Rattle.std.specs.Prelude.{◌≡◌, ℕ, zero, suc, List, [], ◌∷◌, Option, Some, None, Contains, map, flat_map}
 use Rattle.dw_cprint.specs.Shapes.{Parameter, Typed, More, MemberOf}
 use Rattle.dw_cprint.specs.Shapes.{ShapeOf, qualified, pointer, array, function, body}
@@ -11,11 +11,13 @@ entries_of [] = []
 entries_of (None ∷ types) = entries_of types
 entries_of (Some entry ∷ types) = entry ∷ entries_of types
 
+-- the types of parameters; unspecified parameters have none
 abbrev pub parameter_types : List Parameter → List (Option ℕ)
 parameter_types [] = []
 parameter_types (Typed at ∷ parameters) = at ∷ parameter_types parameters
 parameter_types (More ∷ parameters) = parameter_types parameters
 
+-- the types of members
 abbrev pub member_types : List MemberOf → List (Option ℕ)
 member_types members = map (λ (m : MemberOf). m.type_at) members
 

@@ -1,4 +1,5 @@
--- What a survey knows of a type that reaches no cycle: its kind, what is wrong with it, and how long its text is.
+-- State: what a survey keeps of a type that reaches no cycle: its kind, what is wrong with it, and how long its text
+-- is.
 use Rattle.std.specs.Prelude.{◌≡◌, ℕ, ℤ, ◌+◌, ◌<◌, ◌↔◌, Bool, true, false, IsTrue, List, [], ◌∷◌, ◌++◌, Option, Some}
 use Rattle.std.specs.Prelude.{None, length, slice_get, slice_index, slice_index_or, is_some, option_and_then, unwrap_or}
 use Rattle.std.specs.Prelude.{min, Contains}
@@ -40,6 +41,7 @@ kind_in (Some _) = kind.Other
 abbrev pub ReachesOne : (ShapeOf → Type 0) → (ℕ → ShapeOf) → List TypeAt → Type 0
 ReachesOne P shapes types = (entry : ℕ) × IsReachedFrom shapes (entries_of types) entry × P (shapes entry)
 
+-- the third refusal holds for the shape
 abbrev pub IsForeign : ShapeOf → Type 0
 IsForeign shape = is_foreign shape ≡ true
 
@@ -61,6 +63,7 @@ pub record AreFaultsOf (shapes : ℕ → ShapeOf) (subject : SubjectOf) (faults 
 abbrev pub counted : ℕ → ℕ
 counted n = min n 65537
 
+-- how many bytes the text of some tokens has
 abbrev pub byte_count : List Token → ℕ
 byte_count tokens = length (text_of tokens)
 
@@ -68,6 +71,7 @@ byte_count tokens = length (text_of tokens)
 abbrev pub text_bytes : Term → (inside : Bool) → ℕ
 text_bytes t inside = byte_count (before [] t inside) + byte_count (after t)
 
+-- the bytes of the space before a declarator, if there is one
 abbrev pub gap_bytes : Bool → ℕ
 gap_bytes true = 1
 gap_bytes false = 0

@@ -1,4 +1,4 @@
--- What a survey of some declarations tells of the entries that they reach.
+-- State: what a survey of some declarations keeps of the entries that they reach.
 use Rattle.std.specs.Prelude.{◌≡◌, ◌↔◌, ℕ, ◌≤◌, Bool, true, false, List, Option, Some}
 use Rattle.std.specs.Prelude.{Contains, option_and_then, is_some}
 use Rattle.std.specs.Option.{option_map_or}

@@ -1,4 +1,4 @@
--- What is wrong with one entry, by the second, third and fourth refusal.
+-- Chapter: what is wrong with one entry, by the second, third and fourth refusal.
 use Rattle.std.specs.Prelude.{◌≡◌, ℕ, ◌⊎◌, Bool, true, false, not, ◌&&◌, ◌||◌, List, [], ◌∷◌, Option, Some, None, Any}
 use Rattle.std.specs.Prelude.{is_some}
 use Rattle.std.specs.List.{list_any}
@@ -42,6 +42,7 @@ abbrev pub LacksName : Name → Type 0
 LacksName None = Unit {0}
 LacksName (Some name) = is_identifier name ≡ false
 
+-- there is no name of a base type
 abbrev pub LacksBaseName : Name → Type 0
 LacksBaseName None = Unit {0}
 LacksBaseName (Some name) = is_base_name name ≡ false
@@ -53,6 +54,7 @@ is_unnamed_aggregate (Some (nameless Struct)) = true
 is_unnamed_aggregate (Some (nameless Union)) = true
 is_unnamed_aggregate _ = false
 
+-- the member has no bit size
 abbrev pub is_whole : Bits → Bool
 is_whole Absent = true
 is_whole _ = false
@@ -63,9 +65,11 @@ LacksMemberName shapes member None =
     (is_unnamed_aggregate (shape_of shapes member.type_at) && is_whole member.bits) ≡ false
 LacksMemberName shapes member (Some name) = is_identifier name ≡ false
 
+-- some member lacks a name that it needs, or has one that is no identifier
 abbrev pub HasWrongMemberName : (ℕ → ShapeOf) → List MemberOf → Type 0
 HasWrongMemberName shapes members = Any (λ (m : MemberOf). LacksMemberName shapes m m.name) members
 
+-- some enumerator has no identifier as its name
 abbrev pub HasWrongEnumeratorName : List EnumeratorOf → Type 0
 HasWrongEnumeratorName enumerators = Any (λ (e : EnumeratorOf). LacksName e.name) enumerators
 
@@ -104,6 +108,7 @@ is_foreign (body word odd members) = odd
 is_foreign (enumeration odd enumerators) = odd
 is_foreign _ = false
 
+-- the same of the declared entry: its body has a child that C does not have
 abbrev pub is_foreign_itself : SubjectOf → Bool
 is_foreign_itself (aggregate_subject word name odd members) = odd
 is_foreign_itself (enumeration_subject name odd enumerators) = odd
@@ -111,14 +116,17 @@ is_foreign_itself _ = false
 
 -- ---- what C has no words for
 
+-- the type is directly a function
 abbrev pub is_function : Option ShapeOf → Bool
 is_function (Some (function at parameters)) = true
 is_function _ = false
 
+-- the type is directly an array
 abbrev pub is_array : Option ShapeOf → Bool
 is_array (Some (array counts strange at)) = true
 is_array _ = false
 
+-- the type is directly a pointer
 abbrev pub is_pointer : Option ShapeOf → Bool
 is_pointer (Some (pointer at)) = true
 is_pointer _ = false
@@ -134,6 +142,7 @@ abbrev pub starts_open : List (Option ℕ) → Bool
 starts_open (None ∷ counts) = true
 starts_open _ = false
 
+-- the type is directly an array whose first count is unknown
 abbrev pub begins_open : Option ShapeOf → Bool
 begins_open (Some (array counts strange at)) = starts_open counts
 begins_open _ = false
@@ -144,11 +153,14 @@ IsWrongBits type Absent = ⊥
 IsWrongBits type (Number n) = (is_array type || is_pointer type) ≡ true
 IsWrongBits type Wrong = Unit {0}
 
+-- C has no such member: its type is void or a function, or its bit size is wrong
 pub data IsWrongMember (shapes : ℕ → ShapeOf) (member : MemberOf) : Type 0 where
   void_member : IsVoidLike shapes member.type_at → IsWrongMember shapes member
   function_member : is_function (shape_of shapes member.type_at) ≡ true → IsWrongMember shapes member
   bit_member : IsWrongBits (shape_of shapes member.type_at) member.bits → IsWrongMember shapes member
 
+-- C has no such array: a child, a stride or a count that C has no words for, or elements that are void, functions or
+-- arrays whose first count is unknown
 pub data IsWrongArray (shapes : ℕ → ShapeOf) (counts : List (Option ℕ)) (strange : Bool)
     (element : TypeAt) : Type 0 where
   odd_child_or_stride : strange ≡ true → IsWrongArray shapes counts strange element
@@ -157,6 +169,8 @@ pub data IsWrongArray (shapes : ℕ → ShapeOf) (counts : List (Option ℕ)) (s
   function_element : is_function (shape_of shapes element) ≡ true → IsWrongArray shapes counts strange element
   open_element : begins_open (shape_of shapes element) ≡ true → IsWrongArray shapes counts strange element
 
+-- C has no such function: its result is an array or a function, a parameter is void, or unspecified parameters are not
+-- last or are alone
 pub data IsWrongFunction (shapes : ℕ → ShapeOf) (returned : TypeAt) : Option (List Parameter) → Type 0 where
   array_result : {parameters : Option (List Parameter)} → is_array (shape_of shapes returned) ≡ true
       → IsWrongFunction shapes returned parameters
@@ -176,9 +190,11 @@ pub data IsWrongRow (shapes : ℕ → ShapeOf) (q : Qualifier) (at : TypeAt) : T
   restrict : (under : TypeAt) → q ≡ Restrict → StandsUnder shapes at under
       → is_restrictable (shape_of shapes under) ≡ false → IsWrongRow shapes q at
 
+-- the enumerator has no number as its value
 abbrev pub lacks_value : EnumeratorOf → Bool
 lacks_value e = not (is_some e.value)
 
+-- C has no such enumeration: it has no enumerator, or one without a value
 abbrev pub IsWrongEnumeration : List EnumeratorOf → Type 0
 IsWrongEnumeration enumerators = (enumerators ≡ []) ⊎ (list_any lacks_value enumerators ≡ true)
 
