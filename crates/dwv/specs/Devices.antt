@@ -1,4 +1,4 @@
--- What the calls of a device tell: which bytes were given, and how many calls failed.
+-- State: what the calls of a reader or a writer tell: which bytes it gave or took, and how many calls failed.
 use Rattle.std.specs.Prelude.{ℕ, ◌+◌, ◌==◌, ◌&&◌, nat_lt, if◌then◌else◌, Result, Ok, Err, Option, None, Some, List, length, take}
 use Rattle.std.specs.Io.KnownBytes.{Consumes}
 

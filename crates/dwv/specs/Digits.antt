@@ -1,4 +1,4 @@
--- Digits of numbers.
+-- Chapter: the digits of numbers.
 use Rattle.std.specs.Prelude.{ℕ, zero, suc, ◌^◌, ◌+◌, ◌/◌, ◌%◌, nat_lt, if◌then◌else◌, List, [], ◌∷◌}
 
 -- the digit of a number below 16, in lower case

@@ -1,8 +1,10 @@
-pub mod Devices
+-- Chapters, in reading order.
+pub mod Words
 pub mod Digits
 pub mod Lines
 pub mod Objects
+pub mod Shown
 pub mod Reports
 pub mod Ending
-pub mod Shown
-pub mod Words
+-- State.
+pub mod Devices

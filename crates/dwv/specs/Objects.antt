@@ -1,4 +1,4 @@
--- The objects of a report in JSON.
+-- Chapter: the objects of a report in JSON.
 use Rattle.std.specs.Prelude.{ℕ, true, false, List, [], map, codes}
 use Rattle.serde_json.specs.Data.{Data, number, unsigned, string, boolean, array, object, member, no_members}
 use Rattle.serde_json.specs.View.{items_of}

@@ -1,4 +1,4 @@
--- The report of a request over the bytes of a file.
+-- Chapter: the report of a request over the bytes of a file.
 use Rattle.std.specs.Prelude.{◌≡◌, ℕ, ◌<◌, ◌≤◌, true, false, List, length, take, Option}
 use Rattle.std.specs.Io.KnownBytes.{Appends}
 use Rattle.dw_elf.specs.declared.fault.ElfRule.TheVariants as elf_rules

@@ -1,4 +1,4 @@
--- The entries of an image as they are shown, and what is answered of a type's size.
+-- Chapter: the line of each entry of an image, and the text of a type's size.
 use Rattle.std.specs.Prelude.{ℕ, ◌*◌, ◌==◌, ◌||◌, nat_lt, List, [], ◌∷◌, ◌++◌, codes, replicate, Option, None, Some, if◌then◌else◌}
 use Rattle.std.specs.Option.{option_and_then}
 use Rattle.std.specs.List.{enumerate_from, flat_map}

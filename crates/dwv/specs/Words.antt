@@ -1,4 +1,4 @@
--- The words of the command line.
+-- Chapter: the words of the command line.
 use Rattle.std.specs.Prelude.{◌≡◌, ℕ, ◌≤◌, List, ◌++◌, codes, length, drop}
 use Rattle.std.specs.Str.Parse.{IsNumeral, digits_value}
 
