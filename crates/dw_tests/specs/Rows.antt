@@ -1,4 +1,4 @@
--- The lists in a vector of vectors.
+-- State: the lists in a vector of vectors.
 use Rattle.std.specs.Prelude.{ℕ, List, Vec, map}
 use Rattle.std.specs.declared.alloc.Global.{Global}
 
