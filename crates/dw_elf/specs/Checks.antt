@@ -4,7 +4,10 @@
 use Rattle.std.specs.Prelude.{◌≡◌, ◌≢◌, ℕ, ◌+◌, ◌*◌, ◌<◌, ◌≤◌, ◌⊎◌, List, length, take, bit_and}
 use Rattle.dw_elf.specs.declared.names.DebugSection.TheVariants.{Info}
 use Rattle.dw_elf.specs.Limits.{section_limit}
-use Rattle.dw_elf.specs.Elf.{identification, FILE_HEADER_SIZE, file_type, ET_EXEC, ET_DYN, table_offset, header_size, section_count, names_index, SECTION_HEADER_SIZE, IsHeader, HasText, name_offset, section_type, SHT_NOBITS, section_flags, SHF_COMPRESSED, section_offset, section_size, name_table, section_name}
+use Rattle.dw_elf.specs.Elf.{identification, FILE_HEADER_SIZE, file_type, ET_EXEC, ET_DYN, table_offset, header_size}
+use Rattle.dw_elf.specs.Elf.{section_count, names_index, SECTION_HEADER_SIZE, IsHeader, HasText, name_offset}
+use Rattle.dw_elf.specs.Elf.{section_type, SHT_NOBITS, section_flags, SHF_COMPRESSED, section_offset, section_size}
+use Rattle.dw_elf.specs.Elf.{name_table, section_name}
 use Rattle.dw_elf.specs.Names.{name_of, IsWanted, IsZdebug}
 
 -- a whole file header, with the identification of a 64-bit little-endian file

@@ -8,7 +8,8 @@ use Rattle.dw_elf.specs.declared.found.Found.{Found}
 use Rattle.dw_elf.specs.declared.names.DebugSection.{DebugSection}
 use Rattle.dw_elf.specs.declared.names.DebugSection.TheVariants.{Abbrev, Info, Str, LineStr, StrOffsets, Addr}
 use Rattle.dw_elf.specs.Limits.{section_limit}
-use Rattle.dw_elf.specs.Elf.{file_type, table_offset, header_size, section_count, names_index, name_offset, section_type, section_flags, section_offset, section_size, section_name, section_bytes}
+use Rattle.dw_elf.specs.Elf.{file_type, table_offset, header_size, section_count, names_index, name_offset}
+use Rattle.dw_elf.specs.Elf.{section_type, section_flags, section_offset, section_size, section_name, section_bytes}
 use Rattle.dw_elf.specs.Names.{name_of, IsZdebug}
 
 -- these are the fields of the file header
@@ -52,7 +53,8 @@ slot f Addr = option_copied f.addr
 abbrev pub IsSlot : List ℕ → ℕ → List ℕ → Option (List ℕ) → Type 0
 IsSlot file k name None = (j : ℕ) → 0 < j → j < k → section_name file j ≢ name
 IsSlot file k name (Some bytes) =
-    (j : ℕ) × ((0 < j) × (j < k)) × (section_name file j ≡ name) × ((i : ℕ) → 0 < i → i < k → section_name file i ≡ name → i ≡ j)
+    (j : ℕ) × ((0 < j) × (j < k)) × (section_name file j ≡ name)
+    × ((i : ℕ) → 0 < i → i < k → section_name file i ≡ name → i ≡ j)
     × (bytes ≡ section_bytes file j) × (length bytes ≤ section_limit)
 
 -- what was found is what the headers from 1 on and below k name

@@ -1,7 +1,8 @@
 -- Chapter: the codes and the names of the rules, as reports print them.
 use Rattle.std.specs.Prelude.{ℕ, List, codes}
 use Rattle.dw_elf.specs.declared.fault.ElfRule.{ElfRule}
-use Rattle.dw_elf.specs.declared.fault.ElfRule.TheVariants.{TooLarge, NotElf64, NotLinked, SectionTable, SectionName, SectionRange, Compressed, SectionTwice, NoInfo, NoBits}
+use Rattle.dw_elf.specs.declared.fault.ElfRule.TheVariants.{TooLarge, NotElf64, NotLinked, SectionTable, SectionName}
+use Rattle.dw_elf.specs.declared.fault.ElfRule.TheVariants.{SectionRange, Compressed, SectionTwice, NoInfo, NoBits}
 
 -- the code of a rule: the letter E and its number
 unfoldable pub code_text : ElfRule → List ℕ

@@ -3,7 +3,8 @@ use Rattle.std.specs.Prelude.{◌≡◌, ℕ, ◌<◌, List}
 use Rattle.dw_elf.specs.declared.fault.ElfRule.{ElfRule}
 use Rattle.dw_elf.specs.declared.fault.ElfRule.TheVariants as rules
 use Rattle.dw_elf.specs.declared.fault.ElfFault.{ElfFault}
-use Rattle.dw_elf.specs.Checks.{Check, NotElf64, NotLinked, SectionTable, SectionName, Zdebug, SectionTwice, NoBits, Compressed, SectionRange, TooLarge, NoInfo, turn, Fails, Passes}
+use Rattle.dw_elf.specs.Checks.{Check, NotElf64, NotLinked, SectionTable, SectionName, Zdebug, SectionTwice, NoBits}
+use Rattle.dw_elf.specs.Checks.{Compressed, SectionRange, TooLarge, NoInfo, turn, Fails, Passes}
 
 -- the rule that a check asks: one of its own, but for the two that find compressed bytes
 abbrev pub rule_of : Check → ElfRule

@@ -2,7 +2,8 @@
 
 ghost use Rattle.std.specs.Prelude.{◌≡◌, ◌+◌, ◌*◌, ◌<◌, ◌≤◌, length, IfOk, IfErr, IfSome, IfNone, OnOk, OnSome};
 ghost use Rattle.dw_elf.specs.Limits.{section_limit};
-ghost use Rattle.dw_elf.specs.Elf.{FILE_HEADER_SIZE, SECTION_HEADER_SIZE, table_offset, section_count, section_name, section_bytes, name_table, IsHeader};
+ghost use Rattle.dw_elf.specs.Elf.{FILE_HEADER_SIZE, SECTION_HEADER_SIZE, table_offset, section_count, section_name};
+ghost use Rattle.dw_elf.specs.Elf.{section_bytes, name_table, IsHeader};
 ghost use Rattle.dw_elf.specs.Names.{name_of, IsWanted, IsZdebug};
 ghost use Rattle.dw_elf.specs.Checks.{HasSectionTable, IsNamed, IsNamedBefore, Passes};
 ghost use Rattle.dw_elf.specs.Reading.{IsFileHeader};

@@ -1,5 +1,5 @@
-//! Every prefix of some sections and files, and each byte of them as each other byte: `find` and `verify` name the fault that
-//! the second reader (`slow_reader`) finds, and where it finds none, they name no rule that it knows.
+//! Every prefix of some sections and files, and each byte of them changed to each other value: `find` and `verify` name
+//! the fault that the second reader (`slow_reader`) finds, and if it finds none, they name no rule that it knows.
 
 pub mod elf_file;
 mod every_form;

@@ -217,10 +217,10 @@ fn doubled_bodies(rt: HostRuntime) -> Result<(), Fail> {
     Ok(())
 }
 
-/// A table: a compile unit; a base type; a typedef; a pointer; a const, a restrict and a volatile without a type; an array, a
-/// dimension with a count and one without; a subroutine without a prototype and one with; a parameter and unspecified
-/// parameters; a structure and a union without a name; members with a name, without one, and with a bit size; an enumeration
-/// and an enumerator; a structure that is declared; a variable; an enumeration without a name.
+/// A table: a compile unit; a base type; a typedef; a pointer; a const, a restrict and a volatile without a type; an
+/// array, a dimension with a count and one without; a subroutine without a prototype and one with; a parameter and
+/// unspecified parameters; a structure and a union without a name; members with a name, without one, and with a bit
+/// size; an enumeration and an enumerator; a structure that is declared; a variable; an enumeration without a name.
 const W: [u8; 181] = [
     0x01, 0x11, 0x01, 0x00, 0x00, //
     0x02, 0x24, 0x00, 0x03, 0x08, 0x0b, 0x0b, 0x00, 0x00, //

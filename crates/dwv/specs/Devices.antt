@@ -1,5 +1,6 @@
 -- State: what the calls of a reader or a writer tell: which bytes it gave or took, and how many calls failed.
-use Rattle.std.specs.Prelude.{ℕ, ◌+◌, ◌==◌, ◌&&◌, nat_lt, if◌then◌else◌, Result, Ok, Err, Option, None, Some, List, length, take}
+use Rattle.std.specs.Prelude.{ℕ, ◌+◌, ◌==◌, ◌&&◌, nat_lt, if◌then◌else◌, Result, Ok, Err, Option, None, Some, List}
+use Rattle.std.specs.Prelude.{length, take}
 use Rattle.std.specs.Io.KnownBytes.{Consumes}
 
 -- the count after a read: one more at an error

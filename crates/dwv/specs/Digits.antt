@@ -12,4 +12,8 @@ places (suc k) n = hex_digit (n / 16 ^ k % 16) ∷ places k n
 
 -- the digits of a number of 16 bits, without leading zeros
 unfoldable pub hex : ℕ → List ℕ
-hex n = if nat_lt n 16 then places 1 n else if nat_lt n 256 then places 2 n else if nat_lt n 4096 then places 3 n else places 4 n
+hex n =
+    if nat_lt n 16 then places 1 n
+    else if nat_lt n 256 then places 2 n
+    else if nat_lt n 4096 then places 3 n
+    else places 4 n

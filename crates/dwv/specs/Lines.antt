@@ -18,7 +18,9 @@ offset_text n = codes "0x" ++ places 8 n
 
 -- `sound: U units, E entries, T types`
 unfoldable pub sound_line : ℕ → ℕ → ℕ → List ℕ
-sound_line units entries types = line (codes "sound: " ++ decimal units ++ codes " units, " ++ decimal entries ++ codes " entries, " ++ decimal types ++ codes " types")
+sound_line units entries types =
+    line (codes "sound: " ++ decimal units ++ codes " units, " ++ decimal entries ++ codes " entries, "
+    ++ decimal types ++ codes " types")
 
 -- `fault RULE NAME`
 unfoldable pub rule_part : List ℕ → List ℕ → List ℕ
@@ -26,11 +28,13 @@ rule_part code name = codes "fault " ++ code ++ codes " " ++ name
 
 -- `fault RULE NAME at section N`
 unfoldable pub elf_fault_line : ElfFault → List ℕ
-elf_fault_line f = line (rule_part (elf.code_text f.rule) (elf.name_text f.rule) ++ codes " at section " ++ decimal f.section)
+elf_fault_line f =
+    line (rule_part (elf.code_text f.rule) (elf.name_text f.rule) ++ codes " at section " ++ decimal f.section)
 
 -- ` at SECTION+0xOOOOOOOO attribute 0xA`
 unfoldable pub place_part : List ℕ → ℕ → ℕ → List ℕ
-place_part section at attribute = codes " at " ++ section ++ codes "+" ++ offset_text at ++ codes " attribute 0x" ++ hex attribute
+place_part section at attribute =
+    codes " at " ++ section ++ codes "+" ++ offset_text at ++ codes " attribute 0x" ++ hex attribute
 
 -- an offset of a cycle, after a space
 unfoldable pub cycle_offset : ℕ → List ℕ

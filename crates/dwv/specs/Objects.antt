@@ -38,11 +38,14 @@ fault_members at attribute cycle name rule section =
 
 -- a fault of the sections
 abbrev pub fault_object : Fault → Data
-fault_object f = fault_members f.at f.attribute (cycle_array f.cycle.items) (name_text f.rule) (code_text f.rule) (section_text f.section)
+fault_object f =
+    fault_members f.at f.attribute (cycle_array f.cycle.items) (name_text f.rule) (code_text f.rule)
+    (section_text f.section)
 
 -- a fault of the file: its place is a section's number
 abbrev pub elf_fault_object : ElfFault → Data
-elf_fault_object f = fault_members f.section 0 (cycle_array []) (elf.name_text f.rule) (elf.code_text f.rule) (codes "file")
+elf_fault_object f =
+    fault_members f.section 0 (cycle_array []) (elf.name_text f.rule) (elf.code_text f.rule) (codes "file")
 
 -- an object on a line, with no spaces
 abbrev pub object_line : Data → List ℕ

@@ -25,7 +25,7 @@ use Rattle.dwv.specs.declared.request.Status.TheVariants.{Sound, Fault}
 abbrev pub file_limit : ℕ
 file_limit = 4_294_967_296
 
--- a fault of the file: an object in JSON where it is asked, else a line
+-- a fault of the file: an object in JSON if `--json` was given, else a line
 abbrev pub elf_fault_text : Request → ElfFault → List ℕ
 elf_fault_text (Check true) f = object_line (elf_fault_object f)
 elf_fault_text _ f = elf_fault_line f
@@ -42,7 +42,7 @@ pub record AreTypeLines (i : Image) (text : List ℕ) : Type 0 where
   pub listing : IsListing i order refused
   pub lines : text ≡ listing_text i order refused
 
--- what is written where the sections are sound
+-- what is written if the sections are sound
 abbrev pub IsSoundText : Request → Image → List ℕ → Type 0
 IsSoundText (Check true) i text = text ≡ object_line (sound_object (unit_count i) (entry_count i) (type_count i))
 IsSoundText (Check false) i text = text ≡ sound_line (unit_count i) (entry_count i) (type_count i)
@@ -50,7 +50,7 @@ IsSoundText Show i text = text ≡ show_lines i
 IsSoundText Types i text = AreTypeLines i text
 IsSoundText (Size offset) i text = text ≡ size_text i (type_at_offset i offset)
 
--- what is answered there
+-- the status that goes with it
 abbrev pub sound_status : Request → Image → Status
 sound_status (Size offset) i = size_status (type_at_offset i offset)
 sound_status _ i = Sound
@@ -59,20 +59,24 @@ sound_status _ i = Sound
 abbrev pub too_large : ElfFault
 too_large = record { rule = elf_rules.TooLarge; section = 0 }
 
--- what is answered and written for these bytes of a file, where a file has at most `limit` of them:
--- the fault of a longer file, the first check of the file that fails, the first fault of its sections, or what is asked of sound ones
+-- what is returned and written for these bytes of a file, if a file has at most `limit` of them: the fault of a longer
+-- file, the first check of the file that fails, the first fault of its sections, or what is requested of sound ones
 pub data Report (limit : ℕ) (request : Request) (bytes : List ℕ) : Status → List ℕ → Type 0 where
   large : limit < length bytes → Report limit request bytes Fault (elf_fault_text request too_large)
-  fails : (f : ElfFault) → length bytes ≤ limit → IsFault bytes f → Report limit request bytes Fault (elf_fault_text request f)
-  fault : (s : Sections) (f : FirstFault) → length bytes ≤ limit → ChecksPass bytes → AreSections bytes s → IsFaultOf s f → Report limit request bytes Fault (fault_text request f)
+  fails : (f : ElfFault) → length bytes ≤ limit → IsFault bytes f
+      → Report limit request bytes Fault (elf_fault_text request f)
+  fault : (s : Sections) (f : FirstFault) → length bytes ≤ limit → ChecksPass bytes → AreSections bytes s
+      → IsFaultOf s f → Report limit request bytes Fault (fault_text request f)
   sound : (s : Sections) (i : Image) (text : List ℕ) → length bytes ≤ limit → ChecksPass bytes → AreSections bytes s
       → IsImageOf s i → IsSoundText request i text → Report limit request bytes (sound_status request i) text
 
 -- a writer whose known bytes were `old` and are `new` has taken the report of these bytes
 abbrev pub WritesReport : ℕ → Request → List ℕ → Status → Option (List ℕ) → Option (List ℕ) → Type 0
-WritesReport limit request input status old new = (text : List ℕ) × Report limit request input status text × Appends old new text
+WritesReport limit request input status old new =
+    (text : List ℕ) × Report limit request input status text × Appends old new text
 
--- it has taken a beginning of the report
+-- it has taken a prefix of the report
 abbrev pub WritesBeginning : ℕ → Request → List ℕ → Option (List ℕ) → Option (List ℕ) → Type 0
 WritesBeginning limit request input old new =
-    (status : Status) × (text : List ℕ) × (n : ℕ) × Report limit request input status text × Appends old new (take n text)
+    (status : Status) × (text : List ℕ) × (n : ℕ)
+    × Report limit request input status text × Appends old new (take n text)

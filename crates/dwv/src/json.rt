@@ -4,7 +4,8 @@ ghost use Rattle.std.specs.Prelude.{◌≡◌, ◌++◌, OnOk, IfOk, false};
 ghost use Rattle.serde_json.specs.View.{view};
 ghost use Rattle.serde_json.specs.Written.{has_float};
 ghost use Rattle.dw_image.specs.Images.{unit_count, entry_count, type_count};
-ghost use Rattle.dwv.specs.Objects.{cycle_array as array_of, sound_object, fault_members, fault_object, elf_fault_object, object_line};
+ghost use Rattle.dwv.specs.Objects.{cycle_array as array_of, sound_object, fault_members, fault_object};
+ghost use Rattle.dwv.specs.Objects.{elf_fault_object, object_line};
 
 use dw_elf::ElfFault;
 use dw_image::{Fault, Image};
@@ -32,7 +33,8 @@ fn fault_value(
     rule: &str,
     section: &str,
 ) -> Result<Value, AllocError>
-    ensures { IfOk result (λ value. view value ≡ fault_members at attribute (view cycle) name.now rule.now section.now) }
+    ensures { IfOk result (λ value.
+        view value ≡ fault_members at attribute (view cycle) name.now rule.now section.now) }
 {
     let mut members = Map::new(alloc);
     put(&mut members, alloc, "at", Value::from(at))?;
@@ -84,7 +86,8 @@ pub fn put_sound_object(
     image: &Image<'_>,
 ) -> Result<(), AllocError>
     ensures ok { OnOk result (text.new.items
-        ≡ text.old.items ++ object_line (sound_object (unit_count image.now) (entry_count image.now) (type_count image.now))) }
+        ≡ text.old.items
+        ++ object_line (sound_object (unit_count image.now) (entry_count image.now) (type_count image.now))) }
 {
     let units = image.units() as u64;
     let entries = image.entries() as u64;

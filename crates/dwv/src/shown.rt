@@ -1,9 +1,11 @@
 //! The entries of an image, one a line, and the size of the type at an offset.
 
-ghost use Rattle.std.specs.Prelude.{◌≡◌, ◌<◌, ◌++◌, ◌*◌, length, slice_get, replicate, option_copied, IfSome, IfOk, OnOk};
+ghost use Rattle.std.specs.Prelude.{◌≡◌, ◌<◌, ◌++◌, ◌*◌, length, slice_get, replicate, option_copied, IfSome, IfOk};
+ghost use Rattle.std.specs.Prelude.{OnOk};
 ghost use Rattle.std.specs.List.{flat_map};
 ghost use Rattle.dw_image.specs.Images.{entries_in};
-ghost use Rattle.dwv.specs.Shown.{glyph, name_part, size_part, entry_part, shown_line, shown_size, entry_line, show_lines, size_line, size_text, size_status, type_at_offset};
+ghost use Rattle.dwv.specs.Shown.{glyph, name_part, size_part, entry_part, shown_line, shown_size, entry_line};
+ghost use Rattle.dwv.specs.Shown.{show_lines, size_line, size_text, size_status, type_at_offset};
 
 use crate::digits::{put_decimal, put_four_digits, put_two_digits};
 use crate::lines::put_offset;
@@ -88,7 +90,8 @@ fn put_shown_line(
     name: Option<&[u8]>,
     size: Option<u64>,
 ) -> Result<(), AllocError>
-    ensures ok { OnOk result (text.new.items ≡ text.old.items ++ shown_line head.offset head.depth head.tag (option_copied name.entry) size) }
+    ensures ok { OnOk result (text.new.items
+        ≡ text.old.items ++ shown_line head.offset head.depth head.tag (option_copied name.entry) size) }
 {
     put_entry_part(text, head.offset, head.depth, head.tag.0)?;
     put_name(text, name)?;
@@ -111,7 +114,8 @@ fn size_of_entry(image: &Image<'_>, id: EntryId) -> Option<u64>
 /// The line of an entry.
 fn put_entry_line(text: &mut Vec<u8>, image: &Image<'_>, id: EntryId) -> Result<(), AllocError>
     requires { id < length (entries_in image.now) }
-    ensures ok { OnOk result (IfSome (slice_get (entries_in image.now) id) (λ e. text.new.items ≡ text.old.items ++ entry_line image.now (id, e))) }
+    ensures ok { OnOk result (IfSome (slice_get (entries_in image.now) id) (λ e.
+        text.new.items ≡ text.old.items ++ entry_line image.now (id, e))) }
 {
     let head = image.head(id);
     let name = image.name_of(id);
@@ -122,7 +126,8 @@ fn put_entry_line(text: &mut Vec<u8>, image: &Image<'_>, id: EntryId) -> Result<
 /// The line of the entry with a number.
 fn put_numbered_line(text: &mut Vec<u8>, image: &Image<'_>, number: usize) -> Result<(), AllocError>
     requires { number < length (entries_in image.now) }
-    ensures ok { OnOk result (IfSome (slice_get (entries_in image.now) number) (λ e. text.new.items ≡ text.old.items ++ entry_line image.now (number, e))) }
+    ensures ok { OnOk result (IfSome (slice_get (entries_in image.now) number) (λ e.
+        text.new.items ≡ text.old.items ++ entry_line image.now (number, e))) }
 {
     match image.nth(number) {
         Some(id) => put_entry_line(text, image, id),
@@ -167,7 +172,8 @@ fn put_size_line(text: &mut Vec<u8>, size: Option<u64>) -> Result<(), AllocError
 
 /// The size of the type whose entry begins at an offset, and whether a type is there.
 pub fn put_size_at(text: &mut Vec<u8>, image: &Image<'_>, offset: u32) -> Result<Status, AllocError>
-    ensures text { OnOk result (text.new.items ≡ text.old.items ++ size_text image.now (type_at_offset image.now offset)) }
+    ensures text { OnOk result (text.new.items
+        ≡ text.old.items ++ size_text image.now (type_at_offset image.now offset)) }
     ensures status { IfOk result (λ status. status ≡ size_status (type_at_offset image.now offset)) }
 {
     match type_at(image, offset) {

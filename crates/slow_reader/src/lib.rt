@@ -1,6 +1,6 @@
-//! A second reader of ELF files, abbreviation tables, units and entries, written apart from the crates of `dwv` to test them:
-//! the first of the rules E, A, U and G that a file breaks, and where. It is slow: it keeps nothing in memory, and reads
-//! earlier bytes again where it needs them. E1 of the whole file is left out.
+//! A second reader of ELF files, abbreviation tables, units and entries, written apart from the crates of `dwv` to test
+//! them. It finds the first of the rules E, A, U and G that a file violates, and where. It is slow: it keeps nothing in
+//! memory, and reads earlier bytes again when it needs them. E1 of the whole file is left out.
 #![tactic(auto)]
 
 mod abbrev;
