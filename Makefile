@@ -8,8 +8,8 @@ all:
 	cd crates/dwv && rt run -- check data/X1
 	@echo "The program is crates/dwv/out/dwv: copy it where you like."
 
-# How many checks `make test` runs side by side: one a processor, if there are 3 GB of memory for each. With RT_JOBS each has
-# one job, which costs the least processor time: jobs that share a check each load all that it stands on.
+# How many checks `make test` runs side by side: one a processor, if there are 3 GB of memory for each. With RT_JOBS
+# each has one job, which costs the least processor time: jobs that share a check each load all that it stands on.
 memory = $(shell awk '/MemAvailable/ { print int($$2 / 3000000) }' /proc/meminfo)
 checks = $(shell printf '%d\n' $$(nproc) $(memory) | sort -n | head -n 1)
 
@@ -39,7 +39,8 @@ try:
 	@echo "This proves nothing: it is a first look."
 	cd crates/dwv && rt try -- check $(abspath $(FILE))
 
-# Runs the program on programs that are broken at random, and compares it with the second reader: `make fuzz SECONDS=600`.
+# Runs the program on programs that are broken at random, and compares it with the second reader:
+# `make fuzz SECONDS=600`.
 SECONDS = 60
 .PHONY: fuzz
 fuzz: all

@@ -1,11 +1,12 @@
 #!/usr/bin/env python3
-"""Measures `dwv check` beside the peers that are installed, and `dwv types` beside pahole, in one run, on generated programs.
+"""Measures `dwv check` beside the peers that are installed, and `dwv types` beside pahole, on generated programs.
 
 usage: bench.py [MEGABYTES ..]      sizes of .debug_info, 1, 3 and 10 if none is given
 
-Each program is run several times and the least processor time counts. The table is Markdown, as it
-stands in docs/PERFORMANCE.md. gnuplot draws the same numbers into docs/performance.svg, if it is installed. The walk with
-gimli is built by cargo from Debian's librust-gimli-dev; DEBIAN_CARGO is the folder of such packages, if it is another.
+All of them are measured in one run. Each program is run several times and the least processor time counts. The table is
+Markdown, as docs/PERFORMANCE.md has it. gnuplot draws the same numbers into docs/performance.svg, if it is installed.
+The walk with gimli is built by cargo from Debian's librust-gimli-dev; DEBIAN_CARGO is the folder of such packages, if
+it is another.
 """
 import datetime
 import os
@@ -51,7 +52,8 @@ def build(megabytes):
         sources = sorted(folder.glob("*.c"))
         jobs = []
         for source in sources:
-            jobs.append(subprocess.Popen(["gcc", "-gdwarf-5", "-O0", "-w", "-c", "-o", source.with_suffix(".o"), source]))
+            words = ["gcc", "-gdwarf-5", "-O0", "-w", "-c", "-o", source.with_suffix(".o"), source]
+            jobs.append(subprocess.Popen(words))
             if len(jobs) >= (os.cpu_count() or 1):
                 jobs.pop(0).wait()
         for job in jobs:
@@ -84,7 +86,8 @@ def sections(program):
 
 def info_size(program):
     """The bytes of .debug_info."""
-    said = subprocess.run(["readelf", "--wide", "--section-headers", program], capture_output=True, text=True, check=True)
+    words = ["readelf", "--wide", "--section-headers", program]
+    said = subprocess.run(words, capture_output=True, text=True, check=True)
     row = re.search(r"\.debug_info\s+\S+\s+\S+\s+\S+\s+([0-9a-f]+)", said.stdout)
     return int(row.group(1), 16)
 
@@ -156,7 +159,8 @@ def main():
             times[size, name] = seconds
             if name not in ("dwv types", "pahole"):
                 points.setdefault(name, []).append((info_size(program) / 1e6, seconds))
-            print(f"| {info_size(program) / 1e6:.1f} | {entries} | {name} | {seconds:.3f} | {seconds / entries * 1e9:.0f} | {peak / 1024:.0f} | {over:.0f} |")
+            print(f"| {info_size(program) / 1e6:.1f} | {entries} | {name} | {seconds:.3f} "
+                  f"| {seconds / entries * 1e9:.0f} | {peak / 1024:.0f} | {over:.0f} |")
     print()
     absent = [words[0] for words in PEERS if not shutil.which(words[0])] + ([] if gimli else ["gimli or cargo"])
     if absent:
@@ -168,10 +172,12 @@ def main():
     for size in sizes:
         for name, other in BESIDE:
             if (size, other) in times:
-                print(f"At {size:g} MB {name} takes {times[size, name] / times[size, other]:.3f} of the time of {other}.")
+                part = times[size, name] / times[size, other]
+                print(f"At {size:g} MB {name} takes {part:.3f} of the time of {other}.")
     if len(sizes) > 1:
         first, last = sizes[0], sizes[-1]
-        print(f"From {first:g} to {last:g} MB the time of dwv check grows by {times[last, 'dwv check'] / times[first, 'dwv check']:.1f}.")
+        growth = times[last, "dwv check"] / times[first, "dwv check"]
+        print(f"From {first:g} to {last:g} MB the time of dwv check grows by {growth:.1f}.")
 
 
 main()

@@ -74,7 +74,8 @@ def main():
         (folder / f"unit_{unit}.c").write_text("".join(text))
     declared = "".join(f"int unit_{unit}(int n);\n" for unit in range(units))
     calls = "".join(f"    sum += unit_{unit}(argc);\n" for unit in range(units))
-    (folder / "main.c").write_text(f"{declared}int main(int argc, char **argv)\n{{\n    int sum = 0;\n{calls}    return sum & 0;\n}}\n")
+    body = f"    int sum = 0;\n{calls}    return sum & 0;\n"
+    (folder / "main.c").write_text(f"{declared}int main(int argc, char **argv)\n{{\n{body}}}\n")
 
 
 main()

@@ -1,8 +1,8 @@
 #!/usr/bin/env python3
 """Compares the code on the pages crates/*/CALLING.md with the code that the tests compile.
 
-Each part of a block of code, up to an empty line, must be in `calling.rt` of `dw_tests` or in the crate's own `src/`. It
-prints each part that is not, and ends with status 1 if there is one.
+Each part of a block of code, up to an empty line, must be in `calling.rt` of `dw_tests` or in the crate's own `src/`.
+It prints each part that is not, and ends with status 1 if there is one.
 """
 import pathlib
 import re

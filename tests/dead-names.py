@@ -16,7 +16,8 @@ COMMENT = {".rt": re.compile(r"//.*"), ".antt": re.compile(r"(?m)(?:^|(?<=\s))--
 GROUP = re.compile(r" *(?:abbrev |pub )*(?:module|mutual)\b")
 LEMMA = re.compile(r" *(?:abbrev |unfoldable |pub )*(?:(?:record|data|class) ([^ :]+)|([^ :]+) :)")
 IMPL = re.compile(r"impl(?:<[^{]*?>)? (?P<trait>[\w:]+(?:<.*>)? for )?(?P<type>\w+)")
-ITEM = re.compile(r"( *)(?P<pub>pub )?(?:pub\(crate\) )?(?:const |unsafe )*(?:fn|const|static|struct|enum|type|trait) (?P<name>\w+)")
+KINDS = "fn|const|static|struct|enum|type|trait"
+ITEM = re.compile(rf"( *)(?P<pub>pub )?(?:pub\(crate\) )?(?:const |unsafe )*(?:{KINDS}) (?P<name>\w+)")
 ENDS = ("}", "{}", "};", "];", ");")
 WORD = re.compile(r"[A-Za-z_]\w*|[<>=+*&|-]+")
 PROOF_WORD = re.compile(r"[^\s()\[\]{},;.:\"\\&|!?*<>=/#@^~$λ→◌]+")
@@ -57,7 +58,7 @@ class File:
         split(lines)
 
     def split_lemmas(self, lines):
-        """A definition goes up to the next one. Inside a module or a mutual group it is indented by two columns more."""
+        """A definition goes up to the next one. In a module or a mutual group it is indented by two columns more."""
         answers = len(self.path.relative_to(TOP).parts) > 4
         groups, item = [], self.items[0]
         for number, line in enumerate(lines, 1):

@@ -1,15 +1,16 @@
 #!/usr/bin/env python3
 """Runs `dwv check` on broken programs: fuzz.py [SECONDS] [SEED].
 
-It compiles the programs of tests/programs with gcc and clang in versions 4 and 5, and changes each copy in one to three steps,
-inside the six sections: 1 to 8 bytes are changed, a range is cut, copied over another, or swapped with another. Of each file:
+It compiles the programs of tests/programs with gcc and clang in versions 4 and 5, and changes each copy in one to
+three steps, inside the six sections: 1 to 8 bytes are changed, or a range is cut, copied over another or swapped with
+another. Of each file:
 
 - `dwv check` ends within the time limit, with a line of docs/REPORTS.md and the exit status that belongs to it;
 - a second run writes the same bytes, and `check --json` has the same exit status;
 - the second reader (crates/slow_reader) finds the same fault of the rules E, A, U and G, or none.
 
-It prints the rules that were met, how often, and ends with 'N files agreed, M did not'. A file that does not agree is kept in the
-folder of temporary files, with its name printed.
+It prints how often each rule was found, and ends with 'N files agreed, M did not'. A file that does not agree is kept
+in the folder of temporary files, with its name printed.
 """
 import collections
 import pathlib
@@ -33,7 +34,8 @@ LIMIT = 20
 BATCH = 50
 SOUND = re.compile(r"sound: \d+ units, \d+ entries, \d+ types\n")
 FAULT = re.compile(
-    r"fault ([A-Z]\d+ \w+) at (section \d+|\.debug_(abbrev|info)\+0x[0-9a-f]{8} attribute 0x[0-9a-f]+)\n(cycle( 0x[0-9a-f]{8})+\n)?"
+    r"fault ([A-Z]\d+ \w+) at (section \d+|\.debug_(abbrev|info)\+0x[0-9a-f]{8} attribute 0x[0-9a-f]+)\n"
+    r"(cycle( 0x[0-9a-f]{8})+\n)?"
 )
 # The rules that the second reader knows.
 READ = ("E", "A", "U", "G")
@@ -84,7 +86,8 @@ def changed(program, chance):
         if step == "bytes":
             for _ in range(chance.randint(1, 8)):
                 old = file[offset + (at := chance.randrange(size))]
-                file[offset + at] = chance.choice([chance.randrange(256), old ^ 1 << chance.randrange(8), 0, 0x7f, 0x80, 0xff])
+                changed = old ^ 1 << chance.randrange(8)
+                file[offset + at] = chance.choice([chance.randrange(256), changed, 0, 0x7f, 0x80, 0xff])
             continue
         length = chance.randint(1, min(size, 64))
         one, two = chance.randint(0, size - length), chance.randint(0, size - length)
@@ -131,7 +134,8 @@ def rule_of(text):
 
 def agreed(files):
     """Which of these files, each with its line, the second reader reads otherwise."""
-    said = subprocess.run([SLOW, *[file for file, _ in files]], capture_output=True, text=True, check=True).stdout.splitlines()
+    ran = subprocess.run([SLOW, *[file for file, _ in files]], capture_output=True, text=True, check=True)
+    said = ran.stdout.splitlines()
     wrong = []
     for (file, text), other in zip(files, said, strict=True):
         first = text.split("\n")[0] if rule_of(text).startswith(READ) else "fine"

@@ -2,9 +2,10 @@
 """Runs `dwv check` on files that are small and mean work: deep trees, long chains, one string with many names,
 declarations of many attributes whose values take no bytes.
 
-Each has to be answered with the stated line within the time limit, and no run may crash. The lines of `show` of a deep tree
-are far more bytes than the memory that it may have: it has to say so, and to write nothing. `types` has to print its whole
-text within less memory. It prints one line a run with the seconds it took, and ends with 'N passed, M failed'.
+For each the program must print the stated line within the time limit, and no run may crash. The lines of `show` of a
+deep tree are far more bytes than the memory that it may have: it must say so, and write nothing. `types` must print its
+whole text within less memory. The script prints one line a run with the seconds it took, and ends with 'N passed, M
+failed'.
 """
 import pathlib
 import resource
@@ -78,8 +79,9 @@ def uleb(number):
     return bytes(out) + bytes([number])
 
 
-# 1 compile unit, 2 base type with a size, 3 typedef with a type, 4 structure with a size, 5 member with a type, 6 array with a
-# type, 7 dimension with a count of 8 bytes, 8 variable with a name by offset, 9 type unit, 10 variable with a type by signature
+# 1 compile unit, 2 base type with a size, 3 typedef with a type, 4 structure with a size, 5 member with a type, 6 array
+# with a type, 7 dimension with a count of 8 bytes, 8 variable with a name by offset, 9 type unit, 10 variable with a
+# type by signature
 TABLE = bytes.fromhex(
     "0111010000" "0224000b0b0000" "0316004913" "0000" "0413010b0b0000" "050d0049130000"
     "0601014913" "0000" "07210037070000" "083400030e0000" "0941010000" "0a340049200000" "00")
@@ -129,12 +131,12 @@ NOTHING = ("nothing", b"", b"")
 
 
 def wide(tag, byteless, last):
-    """A table whose declaration 11 has this tag, many attributes whose values take no bytes, and this one after them."""
+    """A table whose declaration 11 has this tag, many attributes whose values take no bytes, and this one after."""
     return TABLE[:-1] + b"\x0b" + uleb(tag) + b"\0" + many(byteless) + last + b"\0\0" + b"\0"
 
 
 def wide_files():
-    """Each file with entries of such a declaration: its name, its sections, and the beginning of the line that it must get."""
+    """Each file with entries of such a declaration: its name, its sections, and how the line must start."""
     def sections(table, items):
         return [(".debug_abbrev", table), (".debug_info", unit(b"\x01" + INT + items + b"\0"))]
 
@@ -169,15 +171,18 @@ def files():
     yield f"{MANY:,} nested structures", sections(unit(deep())), f"sound: 1 units, {MANY + 1} entries, {MANY} types"
 
     chain = b"\x01" + INT + typedefs(FIRST, MANY) + b"\0"
-    yield f"a chain of {MANY:,} typedefs", sections(unit(chain)), f"sound: 1 units, {MANY + 2} entries, {MANY + 1} types"
+    yield (f"a chain of {MANY:,} typedefs", sections(unit(chain)),
+           f"sound: 1 units, {MANY + 2} entries, {MANY + 1} types")
 
     last = FIRST + len(INT) + 5 * (MANY - 1)
     ring = b"\x01" + INT + typedefs(last, MANY) + b"\0"
-    yield f"a ring of {MANY:,} typedefs", sections(unit(ring)), f"fault C1 ContainsItself at .debug_info+0x{FIRST + len(INT):08x} "
+    yield (f"a ring of {MANY:,} typedefs", sections(unit(ring)),
+           f"fault C1 ContainsItself at .debug_info+0x{FIRST + len(INT):08x} ")
 
     text = b"a" * (4 << 20) + b"\0"
     names = b"\x01" + b"\x08\0\0\0\0" * 2 * MANY + b"\0"
-    yield f"one string of 4 MB with {2 * MANY:,} names", sections(unit(names), text), f"sound: 1 units, {2 * MANY + 1} entries, 0 types"
+    yield (f"one string of 4 MB with {2 * MANY:,} names", sections(unit(names), text),
+           f"sound: 1 units, {2 * MANY + 1} entries, 0 types")
 
     for where, others, values, targets in (
         ("a name of 4 MB", b"\x03\x08", text, 1),
@@ -187,7 +192,8 @@ def files():
     ):
         table, info = specified(others, values, targets)
         yield (f"{2 * MANY:,} specifications of an entry that is declared behind {where}",
-               [(".debug_abbrev", table), (".debug_info", info)], f"sound: 1 units, {2 * MANY + targets + 1} entries, 0 types")
+               [(".debug_abbrev", table), (".debug_info", info)],
+               f"sound: 1 units, {2 * MANY + targets + 1} entries, 0 types")
 
     counts = b"".join(b"\x07" + struct.pack("<Q", n) for n in (1 << 40, 1 << 40, 0))
     array = b"\x01" + INT + b"\x06" + struct.pack("<I", FIRST) + counts + b"\0\0"
@@ -195,7 +201,8 @@ def files():
 
     ones = (b"\x07" + struct.pack("<Q", 1)) * MANY
     array = b"\x01" + INT + b"\x06" + struct.pack("<I", FIRST) + ones + b"\0\0"
-    yield f"an array of {MANY:,} dimensions", sections(unit(array)), f"sound: 1 units, {MANY + 3} entries, {MANY + 2} types"
+    yield (f"an array of {MANY:,} dimensions", sections(unit(array)),
+           f"sound: 1 units, {MANY + 3} entries, {MANY + 2} types")
 
     member = b"\x05" + struct.pack("<I", FIRST)
     holder = b"\x01" + INT + b"\x04\x04" + member * MANY + b"\0\0"
@@ -203,7 +210,8 @@ def files():
 
     signed = b"".join(unit(b"\x09" + INT + b"\0", 2, struct.pack("<QI", n, 25)) for n in range(MANY))
     users = unit(b"\x01" + b"".join(b"\x0a" + struct.pack("<Q", n) for n in range(MANY)) + b"\0")
-    yield f"{MANY:,} type units and references to each", sections(signed + users), f"sound: {MANY + 1} units, {3 * MANY + 1} entries, {MANY} types"
+    yield (f"{MANY:,} type units and references to each", sections(signed + users),
+           f"sound: {MANY + 1} units, {3 * MANY + 1} entries, {MANY} types")
 
     # Each declaration begins a table of its own, whose tail is the table of the next one.
     codes = [uleb(n + 1) for n in range(TABLES)]
@@ -214,15 +222,16 @@ def files():
     units = [unit(code, table=start) for code, start in zip(codes, starts)]
     shuffled = units[::2] + units[1::2][::-1]
     for order, some in (("rising", units), ("falling", units[::-1]), ("mixed", shuffled)):
-        yield (f"{TABLES:,} units with overlapping tables, {order}", [(".debug_abbrev", row), (".debug_info", b"".join(some))],
+        yield (f"{TABLES:,} units with overlapping tables, {order}",
+               [(".debug_abbrev", row), (".debug_info", b"".join(some))],
                f"sound: {TABLES} units, {TABLES} entries, 0 types")
 
     yield from wide_files()
 
 
-# 1 compile unit, 2 base type with a name and a size, 3 typedef with a name and a type, 4 structure with a size, 5 member
-# with a name and a type, 6 const with a type, 7 pointer with a type, 8 structure with a name and a size, 9 prototyped
-# subroutine with a type, 10 parameter with a type, 11 const
+# 1 compile unit, 2 base type with a name and a size, 3 typedef with a name and a type, 4 structure with a size,
+# 5 member with a name and a type, 6 const with a type, 7 pointer with a type, 8 structure with a name and a size,
+# 9 prototyped subroutine with a type, 10 parameter with a type, 11 const
 NAMES = bytes.fromhex(
     "0111010000" "02240003080b0b0000" "031600030849130000" "0413010b0b0000" "050d00030849130000" "06260049130000"
     "070f0049130000" "08130103080b0b0000" "091501271949130000" "0a050049130000" "0b26000000" "00")
@@ -403,7 +412,7 @@ def checked(path):
 
 
 def shown(path):
-    """How `show` of a file ends where memory is limited: the status, the bytes written, and the line on standard error."""
+    """How `show` of a file ends under a limit of memory: the status, the bytes written, the line on standard error."""
     ran = subprocess.run([DWV, "show", path], capture_output=True, timeout=LIMIT, preexec_fn=limited)
     return f"status {ran.returncode}, {len(ran.stdout)} bytes written, {ran.stderr.decode()}"
 

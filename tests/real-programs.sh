@@ -1,7 +1,7 @@
 #!/usr/bin/env bash
-# Runs dwv on programs that compilers make: the number of entries that `check` tells, and the depth and offset of each entry that
-# `show` lists, must be readelf's, and `size` must answer what `show` says of a type. `types` must list each named type
-# once, and compilers must accept what it lists of shapes.c, with the sizes that `size` answers.
+# Runs dwv on programs that compilers make: the number of entries that `check` prints, and the depth and offset of each
+# entry that `show` lists, must be readelf's, and `size` must print what `show` says of a type. `types` must list each
+# named type once, and compilers must accept what it lists of shapes.c, with the sizes that `size` prints.
 # It prints one line a run and ends with 'N passed, M failed'. What is not installed is skipped.
 set -u
 cd "$(dirname "$0")/.." || exit 1
@@ -57,8 +57,8 @@ shown_places() {
     awk '{ at = substr($1, 3); sub(/^0+/, "", at); match($0, / +/); print (RLENGTH - 1) / 2, at }' "$1"
 }
 
-# show NAME FILE: there must be a line for each entry that readelf lists, and `size` must say of the first type with a size what
-# its line says, and of the first entry that it is no type.
+# show NAME FILE: there must be a line for each entry that readelf lists, and `size` must say of the first type with a
+# size what its line says, and of the first entry that it is no type.
 show() {
     local at size said
     "$dwv" show "$2" > "$built/shown"

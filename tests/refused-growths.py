@@ -1,8 +1,9 @@
 #!/usr/bin/env python3
-"""Refuses requests for memory: `dwv` then ends with status 4 and writes nothing, or answers as ever.
+"""Makes allocations fail: `dwv` then ends with status 4 and writes nothing, or prints the same as otherwise.
 
-Each request that `dwv` makes on a file is refused by a malloc of our own (tests/refusing-malloc.c): once alone, and once with all
-requests after it. The script prints one line a command and ends with 'N passed, M failed'. Without gcc it is skipped.
+Each allocation that `dwv` makes on a file fails by a malloc of our own (tests/refusing-malloc.c): once alone, and once
+with all allocations after it. The script prints one line a command and ends with 'N passed, M failed'. Without gcc it
+is skipped.
 """
 import os
 import pathlib
@@ -31,7 +32,7 @@ ALL = 2**32
 
 
 def ran(words, library, folder, refused, last):
-    """The status and both texts of a run in which the requests from one to another are refused, and how many it made."""
+    """The status and both texts of a run in which the requests from one to another fail, and how many it made."""
     count = folder / "requests"
     count.unlink(missing_ok=True)
     environment = dict(os.environ, LD_PRELOAD=str(library), REFUSED=str(refused), LAST=str(last), REQUESTS=str(count))
@@ -62,9 +63,11 @@ def main():
     with tempfile.TemporaryDirectory() as name:
         folder = pathlib.Path(name)
         library = folder / "refusing-malloc.so"
-        subprocess.run(["gcc", "-O1", "-shared", "-fPIC", "-o", library, HERE / "refusing-malloc.c", "-ldl"], check=True)
+        source = HERE / "refusing-malloc.c"
+        subprocess.run(["gcc", "-O1", "-shared", "-fPIC", "-o", library, source, "-ldl"], check=True)
         program = folder / "program"
-        subprocess.run(["gcc", "-gdwarf-5", "-O0", "-w", "-o", program, HERE / "programs/shapes.c", HERE / "programs/calls.c"], check=True)
+        sources = [HERE / "programs/shapes.c", HERE / "programs/calls.c"]
+        subprocess.run(["gcc", "-gdwarf-5", "-O0", "-w", "-o", program, *sources], check=True)
         for words in commands([*small(folder), program]):
             requests, ended, wrong = tried(words, library, folder)
             line = " ".join(pathlib.Path(word).name for word in words)

@@ -1,6 +1,6 @@
-/* A malloc that refuses the requests from REFUSED to LAST, by their numbers from 1; with no LAST only the one with the number
-   REFUSED, and with no REFUSED none. At exit it writes the number of requests to the file that REQUESTS names, if it names one.
-   It is loaded by LD_PRELOAD. */
+/* A malloc that refuses the requests from REFUSED to LAST, by their numbers from 1; with no LAST only the one with the
+   number REFUSED, and with no REFUSED none. At exit it writes the number of requests to the file that REQUESTS names,
+   if it names one. It is loaded by LD_PRELOAD. */
 #define _GNU_SOURCE
 #include <dlfcn.h>
 #include <stdio.h>

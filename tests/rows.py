@@ -1,9 +1,9 @@
 #!/usr/bin/env python3
 """Runs the program on the rows of tests/rows: small files made of named parts, and what it must print of each.
 
-A part gives bytes a name. A row has the sections of a file, and below them the requests: the words, the exit status and,
-after a bar each, the lines of standard output. Standard error must be empty. docs/TESTING.md says how rows are written.
-It prints one line a row and ends with 'N passed, M failed'.
+A part gives bytes a name. A row has the sections of a file, and below them the requests: the words, the exit status
+and, after a bar each, the lines of standard output. Standard error must be empty. docs/TESTING.md says how rows are
+written. It prints one line a row and ends with 'N passed, M failed'.
 """
 import pathlib
 import re

@@ -1,5 +1,5 @@
-/* Structures, unions, bit fields, nested types without a name, arrays and enumerations. A compiler accepts the lines that
-   `dwv types` prints of them, in their order. */
+/* Structures, unions, bit fields, nested types without a name, arrays and enumerations. A compiler accepts the lines
+   that `dwv types` prints of them, in their order. */
 #include <stddef.h>
 #include <stdint.h>
 
