@@ -8,12 +8,11 @@ pub mod Texts
 pub mod AttributeTexts
 pub mod References
 pub mod Targets
--- Laws.
+pub mod Signatures
 pub mod LinkLaws
 -- State.
 pub mod Ready
 pub mod Slots
-pub mod Signatures
 pub mod Linkable
 pub mod Kept
 pub mod DeclaredEntries

@@ -1,5 +1,5 @@
--- Laws: what holds of all values, if no rule on strings, addresses and references fails; the functions of `laws.rt`
--- have the proofs.
+-- Chapter: what each value has if no rule on strings, addresses and references fails: a target, a text, an address. The
+-- functions of `laws.rt` have the proofs.
 use Rattle.std.specs.Prelude.{◌≡◌, ℕ, ◌+◌, true, List, Some, slice_get, IsSome}
 use Rattle.dw_elf.specs.declared.sections.Sections.{Sections}
 use Rattle.dw_forms.specs.Codes.{DW_AT_sibling}

@@ -1,4 +1,4 @@
--- State: the table of the type units by their signatures.
+-- Chapter: the type units by their signatures: the first that has one, and that no two have the same.
 use Rattle.std.specs.Prelude.{◌≡◌, ℕ, ◌<◌, List, Option, None, Some}
 use Rattle.std.specs.Ordering.{nat_cmp}
 use Rattle.std.specs.BTreeMap.{BTreeMap, get}
