@@ -17,6 +17,7 @@ checks = $(shell printf '%d\n' $$(nproc) $(memory) | sort -n | head -n 1)
 .PHONY: test
 test:
 	tests/dead-names.py
+	tests/reading-order.py
 	tests/calling.py
 	RT_JOBS=$(checks) rt ci
 	tests/rows.py
