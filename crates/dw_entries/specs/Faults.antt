@@ -1,4 +1,4 @@
--- Chapter: the first place where .debug_info does not go on as a list of units, and its rule.
+-- Chapter: the first place at which .debug_info stops being a list of units, and the rule that fails there.
 use Rattle.std.specs.Prelude.{◌≡◌, ◌≢◌, ℕ, zero, suc, true, false, ◌+◌, List, [], ◌∷◌, ◌++◌, length, Some, Result, Ok, Err}
 use Rattle.dw_forms.specs.declared.abbrev_fault.AbbrevRule.{AbbrevRule}
 use Rattle.dw_forms.specs.declared.abbrev_fault.AbbrevRule.TheVariants as table
