@@ -20,7 +20,7 @@ pub struct Answer {
 }
 
 /// What is written for a fault of the file.
-fn elf_fault_of(alloc: Global, request: Request, fault: ElfFault) -> Result<Vec<u8>, AllocError>
+fn text_of_elf_fault(alloc: Global, request: Request, fault: ElfFault) -> Result<Vec<u8>, AllocError>
     ensures { IfOk result (λ text. text.items ≡ elf_fault_text request fault) }
 {
     let mut text = Vec::new(alloc);
@@ -35,7 +35,7 @@ fn elf_fault_of(alloc: Global, request: Request, fault: ElfFault) -> Result<Vec<
 }
 
 /// What is written for a fault of the sections.
-fn fault_of(alloc: Global, request: Request, fault: &Fault) -> Result<Vec<u8>, AllocError>
+fn text_of_fault(alloc: Global, request: Request, fault: &Fault) -> Result<Vec<u8>, AllocError>
     ensures { IfOk result (λ text. text.items ≡ fault_text request fault.now) }
 {
     let mut text = Vec::new(alloc);
@@ -50,7 +50,7 @@ fn fault_of(alloc: Global, request: Request, fault: &Fault) -> Result<Vec<u8>, A
 }
 
 /// The lines of all named types.
-fn types_of(alloc: Global, image: &Image<'_>) -> Result<Vec<u8>, NoMemory>
+fn text_of_types(alloc: Global, image: &Image<'_>) -> Result<Vec<u8>, NoMemory>
     ensures { IfOk result (λ text. AreTypeLines image.now text.items) }
 {
     let listing = declare_all(alloc, image)?;
@@ -58,7 +58,7 @@ fn types_of(alloc: Global, image: &Image<'_>) -> Result<Vec<u8>, NoMemory>
 }
 
 /// What is answered where the sections are sound.
-fn sound_of(alloc: Global, request: Request, image: &Image<'_>) -> Result<Answer, NoMemory>
+fn answer_of_sound(alloc: Global, request: Request, image: &Image<'_>) -> Result<Answer, NoMemory>
     ensures text { IfOk result (λ answer. IsSoundText request image.now answer.text.items) }
     ensures status { IfOk result (λ answer. answer.status ≡ sound_status request image.now) }
 {
@@ -68,7 +68,7 @@ fn sound_of(alloc: Global, request: Request, image: &Image<'_>) -> Result<Answer
         Request::Check { json: true } => put_sound_object(&mut text, alloc, image)?,
         Request::Check { json: false } => put_sound_line(&mut text, image)?,
         Request::Show => put_show_lines(&mut text, image)?,
-        Request::Types => text = types_of(alloc, image)?,
+        Request::Types => text = text_of_types(alloc, image)?,
         Request::Size(offset) => status = put_size_at(&mut text, image, offset)?,
     }
     Ok(Answer { status, text })
@@ -88,26 +88,26 @@ pub fn report(
             rule: ElfRule::TooLarge,
             section: 0,
         };
-        let text = elf_fault_of(alloc, request, fault)?;
+        let text = text_of_elf_fault(alloc, request, fault)?;
         let status = Status::Fault;
         return Ok(Answer { status, text });
     }
     let sections = match find(bytes) {
         Ok(sections) => sections,
         Err(fault) => {
-            let text = elf_fault_of(alloc, request, fault)?;
+            let text = text_of_elf_fault(alloc, request, fault)?;
             let status = Status::Fault;
             return Ok(Answer { status, text });
         }
     };
     match verify(alloc, sections)? {
         Verdict::Fault(fault) => {
-            let text = fault_of(alloc, request, &fault)?;
+            let text = text_of_fault(alloc, request, &fault)?;
             let status = Status::Fault;
             Ok(Answer { status, text })
         }
         Verdict::Sound(image) => {
-            let answer = sound_of(alloc, request, &image)?;
+            let answer = answer_of_sound(alloc, request, &image)?;
             Ok(answer)
         }
     }

@@ -1,6 +1,6 @@
 //! One request over a source and a sink: read, make the whole text, write.
 
-ghost use Rattle.std.specs.Prelude.{◌≡◌, ◌<◌, ◌^◌, ◌↔◌, IfOk, IfSome, OnOk, IsErrOf};
+ghost use Rattle.std.specs.Prelude.{◌≡◌, ◌<◌, ◌↔◌, IfOk, IfSome, OnOk, IsErrOf};
 ghost use Rattle.dwv.specs.Devices.{TakesInput};
 ghost use Rattle.dwv.specs.Reports.{WritesReport, WritesBeginning, file_limit};
 
@@ -11,43 +11,14 @@ use crate::report::report;
 use crate::request::{Request, RunFault, Status};
 use std::alloc::Global;
 
-/// The most bytes that a file may have.
-pub const FILE_LIMIT: usize = 4_294_967_296;
-
-/// Answers a request over the bytes of a reader, of which a file may have up to the limit.
-pub fn run_within<R: Source, W: Sink>(
-    alloc: Global,
-    limit: usize,
-    request: Request,
-    reader: &mut R,
-    writer: &mut W,
-) -> Result<Status, RunFault>
-    requires limit { limit < 2 ^ 63 }
-    requires reads { R.failures reader.old < u64.MAX }
-    requires writes { W.failures writer.old < u64.MAX }
-
-    // What is written is the report of what the reader gives, to its end or one byte past the limit.
-    ensures answered { IfOk result (λ status. IfSome (R.remaining reader.old) (λ input.
-        WritesReport limit request input status (W.contents writer.old) (W.contents writer.new))) }
-    ensures taken { OnOk result (TakesInput limit (R.remaining reader.old) (R.remaining reader.new)) }
-
-    // What stands after each fault.
-    ensures read_failed { IsErrOf result RunFault.ReadFailed → writer.new ≡ writer.old }
-    ensures memory { IsErrOf result RunFault.Memory → writer.new ≡ writer.old }
-    ensures write_failed { IsErrOf result RunFault.WriteFailed → IfSome (R.remaining reader.old) (λ input.
-        WritesBeginning limit request input (W.contents writer.old) (W.contents writer.new)) }
-
-    // A device's fault is answered exactly where its count rose.
-    ensures reads_counted { IsErrOf result RunFault.ReadFailed ↔ (R.failures reader.old < R.failures reader.new) }
-    ensures writes_counted { IsErrOf result RunFault.WriteFailed ↔ (W.failures writer.old < W.failures writer.new) }
+/// How many bytes the longest file has that is read as one.
+fn longest_file() -> usize
+    ensures { result ≡ file_limit }
 {
-    let bytes = read_input(alloc, limit, reader)?;
-    let answer = report(alloc, limit, request, bytes.as_slice())?;
-    write_text(answer.text.as_slice(), writer)?;
-    Ok(answer.status)
+    4_294_967_296
 }
 
-/// Answers a request over the bytes of a reader.
+/// Answers a request over the bytes of a reader: nothing is written before all of them were read.
 pub fn run<R: Source, W: Sink>(
     alloc: Global,
     request: Request,
@@ -56,15 +27,25 @@ pub fn run<R: Source, W: Sink>(
 ) -> Result<Status, RunFault>
     requires reads { R.failures reader.old < u64.MAX }
     requires writes { W.failures writer.old < u64.MAX }
+
+    // What is written is the report of what the reader gives, to its end or one byte past the limit.
     ensures answered { IfOk result (λ status. IfSome (R.remaining reader.old) (λ input.
         WritesReport file_limit request input status (W.contents writer.old) (W.contents writer.new))) }
     ensures taken { OnOk result (TakesInput file_limit (R.remaining reader.old) (R.remaining reader.new)) }
+
+    // What stands after each fault.
     ensures read_failed { IsErrOf result RunFault.ReadFailed → writer.new ≡ writer.old }
     ensures memory { IsErrOf result RunFault.Memory → writer.new ≡ writer.old }
     ensures write_failed { IsErrOf result RunFault.WriteFailed → IfSome (R.remaining reader.old) (λ input.
         WritesBeginning file_limit request input (W.contents writer.old) (W.contents writer.new)) }
+
+    // A device's fault is answered exactly where its count rose.
     ensures reads_counted { IsErrOf result RunFault.ReadFailed ↔ (R.failures reader.old < R.failures reader.new) }
     ensures writes_counted { IsErrOf result RunFault.WriteFailed ↔ (W.failures writer.old < W.failures writer.new) }
 {
-    run_within(alloc, FILE_LIMIT, request, reader, writer)
+    let limit = longest_file();
+    let bytes = read_input(alloc, limit, reader)?;
+    let answer = report(alloc, limit, request, bytes.as_slice())?;
+    write_text(answer.text.as_slice(), writer)?;
+    Ok(answer.status)
 }

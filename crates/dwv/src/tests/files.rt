@@ -1,7 +1,8 @@
 use super::devices::{SlowReader, SlowWriter};
 use crate::device::Device;
+use crate::report::report;
 use crate::request::{Request, RunFault, Status};
-use crate::running::{run, run_within};
+use crate::running::run;
 use std::alloc::Global;
 use std::process::Abort;
 use std::test::Fail;
@@ -78,10 +79,8 @@ fn longer_than_the_limit(rt: HostRuntime) -> Result<(), Fail> {
         (399, "fault E1 TooLarge at section 0\n"),
         (400, "sound: 1 units, 2 entries, 1 types\n"),
     ] {
-        let mut reader = Device::new(file.as_slice());
-        let mut writer = Device::new(Vec::new(rt.alloc()));
-        run_within(rt.alloc(), limit, CHECK, &mut reader, &mut writer)?;
-        assert_eq!(rt; writer.inner.as_slice(), line.as_bytes());
+        let answer = report(rt.alloc(), limit, CHECK, &file)?;
+        assert_eq!(rt; answer.text.as_slice(), line.as_bytes());
     }
     Ok(())
 }
