@@ -18,7 +18,7 @@ IsElf64 file = (FILE_HEADER_SIZE ≤ length file) × (take 7 file ≡ identifica
 abbrev pub IsLinked : List ℕ → Type 0
 IsLinked file = (file_type file ≡ ET_EXEC) ⊎ (file_type file ≡ ET_DYN)
 
--- the bytes of section k lie in the file
+-- the bytes of section k are in the file
 abbrev pub IsInFile : List ℕ → ℕ → Type 0
 IsInFile file k = section_offset file k + section_size file k ≤ length file
 
@@ -36,7 +36,7 @@ pub record HasSectionTable (file : List ℕ) : Type 0 where
   pub names_have_bits : ¬ HasNoBits file (names_index file)
   pub names_in_file : IsInFile file (names_index file)
 
--- the name of section k begins inside the name table, and a zero byte ends it there
+-- the name of section k starts inside the name table, and a zero byte ends it there
 abbrev pub IsNamed : List ℕ → ℕ → Type 0
 IsNamed file k = HasText (name_table file) (name_offset file k)
 
@@ -70,7 +70,7 @@ pub data Check : Type 0 where
   TooLarge : Check
   NoInfo : Check
 
--- the turn of a check among those of one place: the lower is asked first
+-- the turn of a check among those of one place: the check of the lower turn comes first
 abbrev pub turn : Check → ℕ
 turn NotElf64 = 0
 turn NotLinked = 1

@@ -9,11 +9,11 @@ use Rattle.byteorder.specs.Endian.{little_number}
 unfoldable pub number_at : ℕ → List ℕ → ℕ → ℕ
 number_at n file offset = little_number n (drop offset file)
 
--- the text that begins at an offset of some bytes: what stands there before the first zero byte
+-- the text at an offset of some bytes: the bytes from there on, before the first zero byte
 unfoldable pub text_at : List ℕ → ℕ → List ℕ
 text_at bytes offset = before_first (λ b. b == 0) (drop offset bytes)
 
--- a text begins at an offset inside these bytes, and a zero byte ends it inside them
+-- a text starts at an offset inside these bytes, and a zero byte ends it inside them
 abbrev pub HasText : List ℕ → ℕ → Type 0
 HasText bytes offset = (offset < length bytes) × Contains (drop offset bytes) 0
 
@@ -49,7 +49,7 @@ ET_EXEC = 2
 abbrev pub ET_DYN : ℕ
 ET_DYN = 3
 
--- e_shoff, where the section headers begin: 8 bytes at 40
+-- e_shoff, where the section headers start: 8 bytes at 40
 abbrev pub table_offset : List ℕ → ℕ
 table_offset file = number_at 8 file 40
 
@@ -69,7 +69,7 @@ names_index file = number_at 2 file 62
 abbrev pub SECTION_HEADER_SIZE : ℕ
 SECTION_HEADER_SIZE = 64
 
--- where section header k begins: the headers stand in a row, counted from 0
+-- where section header k starts: the headers follow one another, counted from 0
 abbrev pub header_offset : List ℕ → ℕ → ℕ
 header_offset file k = table_offset file + SECTION_HEADER_SIZE * k
 
@@ -77,7 +77,7 @@ header_offset file k = table_offset file + SECTION_HEADER_SIZE * k
 abbrev pub IsHeader : List ℕ → ℕ → Type 0
 IsHeader file k = (0 < k) × (k < section_count file)
 
--- sh_name of section k, where its name begins in the name table: 4 bytes at 0 of the header
+-- sh_name of section k, where its name starts in the name table: 4 bytes at 0 of the header
 abbrev pub name_offset : List ℕ → ℕ → ℕ
 name_offset file k = number_at 4 file (header_offset file k)
 
@@ -97,7 +97,7 @@ section_flags file k = number_at 8 file (header_offset file k + 8)
 abbrev pub SHF_COMPRESSED : ℕ
 SHF_COMPRESSED = 0x800
 
--- sh_offset of section k, where its bytes begin: 8 bytes at 24 of the header
+-- sh_offset of section k, where its bytes start: 8 bytes at 24 of the header
 abbrev pub section_offset : List ℕ → ℕ → ℕ
 section_offset file k = number_at 8 file (header_offset file k + 24)
 

@@ -16,6 +16,6 @@ name_of Addr = codes ".debug_addr"
 abbrev pub IsWanted : List ℕ → Type 0
 IsWanted name = (s : DebugSection) × (name ≡ name_of s)
 
--- a name that begins .zdebug_, which says that the section's bytes are compressed in an older way
+-- a name that starts with .zdebug_, which means that the section's bytes are compressed in an older way
 abbrev pub IsZdebug : List ℕ → Type 0
 IsZdebug name = take 8 name ≡ codes ".zdebug_"

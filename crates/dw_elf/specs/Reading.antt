@@ -28,13 +28,13 @@ pub record IsHeaderAt (file : List ℕ) (k : ℕ) (header : SectionHeader) : Typ
   pub offset : header.offset ≡ section_offset file k
   pub size : header.size ≡ section_size file k
 
--- the end is just after the last zero byte, or 0 where no byte is zero
+-- the end is just after the last zero byte, or 0 if no byte is zero
 abbrev pub IsAfterLastZero : List ℕ → ℕ → Type 0
 IsAfterLastZero bytes end =
     (end ≤ length bytes) × (0 < end → slice_index bytes (end - 1) ≡ 0)
     × ((k : ℕ) → end ≤ k → k < length bytes → slice_index bytes k ≢ 0)
 
--- a part of a name tells the same as the name: whether it begins .zdebug_, and which of the six it is
+-- a part of a name decides the same as the name: whether it starts with .zdebug_, and which of the six it is
 pub record StandsFor (part name : List ℕ) : Type 0 where
   pub zdebug : IsZdebug part ↔ IsZdebug name
   pub named : (s : DebugSection) → (part ≡ name_of s) ↔ (name ≡ name_of s)

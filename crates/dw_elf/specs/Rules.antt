@@ -6,7 +6,7 @@ use Rattle.dw_elf.specs.declared.fault.ElfFault.{ElfFault}
 use Rattle.dw_elf.specs.Checks.{Check, NotElf64, NotLinked, SectionTable, SectionName, Zdebug, SectionTwice, NoBits}
 use Rattle.dw_elf.specs.Checks.{Compressed, SectionRange, TooLarge, NoInfo, turn, Fails, Passes}
 
--- the rule that a check asks: one of its own, but for the two that find compressed bytes
+-- the rule of a check; the two checks that find compressed bytes have one rule
 abbrev pub rule_of : Check → ElfRule
 rule_of NotElf64 = rules.NotElf64
 rule_of NotLinked = rules.NotLinked
@@ -20,8 +20,8 @@ rule_of SectionRange = rules.SectionRange
 rule_of TooLarge = rules.TooLarge
 rule_of NoInfo = rules.NoInfo
 
--- the section number that is named for a check at place k: the header's, or 0 where the check is of the
--- file or of all headers together
+-- the section number that is named for a check at place k: the header's, or 0 if the check is of the file or of all
+-- headers together
 abbrev pub section_of : Check → ℕ → ℕ
 section_of NotElf64 k = 0
 section_of NotLinked k = 0
@@ -37,7 +37,7 @@ pub record FailsAt (file : List ℕ) (k : ℕ) (rule : ElfRule) (section : ℕ) 
   pub fails : Fails file check k
   pub before : (c : Check) → turn c < turn check → ¬ Fails file c k
 
--- the fault of the file: the first check that fails at some place, where all checks pass at every lower one
+-- the fault of the file: the first check that fails at some place, if all checks pass at every lower place
 pub record IsFault (file : List ℕ) (fault : ElfFault) : Type 0 where
   pub place : ℕ
   pub first : FailsAt file place fault.rule fault.section

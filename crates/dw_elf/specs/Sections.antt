@@ -12,7 +12,7 @@ pub record HasOne (file name : List ℕ) (k : ℕ) : Type 0 where
   pub named : section_name file k ≡ name
   pub alone : (j : ℕ) → IsHeader file j → section_name file j ≡ name → j ≡ k
 
--- the bytes of the section of this name: those of the one header that has it, or none where no header has it
+-- the bytes of the section of this name: those of the one header that has it, or none if no header has it
 abbrev pub IsSection : List ℕ → List ℕ → List ℕ → Type 0
 IsSection file name bytes =
     ((k : ℕ) × HasOne file name k × (bytes ≡ section_bytes file k))

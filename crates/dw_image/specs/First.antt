@@ -30,7 +30,7 @@ use Rattle.dw_image.specs.Valid.{SpellsInfo}
 abbrev pub FailsInTrees : Sections → Broken → Type 0
 FailsInTrees s broken = Fails s.«abbrev».now s.info.now broken
 
--- the groups of rules that are asked of entries, where units spell the sections: classes; strings and addresses;
+-- the groups of rules on entries, once units spell the sections: classes; strings and addresses;
 -- references; the types of arrays and members, and counts; containment; sizes
 pub data Group : Type 0 where
   classes : Group
@@ -49,11 +49,11 @@ turn_of shapes = 5
 turn_of cycles = 6
 turn_of sizes = 7
 
--- where an entry begins, by its number
+-- the offset of an entry, by its number
 abbrev pub offset_at : List Facts → ℕ → ℕ
 offset_at facts node = (entry_at facts node).offset
 
--- an entry contains itself: a cycle of steps by value begins there, with its least entry
+-- an entry contains itself: a cycle of steps by value starts there, and it is the least entry of the cycle
 pub record ContainsItselfAt (facts : List Facts) (f : Failure) : Type 0 where
   pub nodes : List ℕ
   pub is_cycle : IsCycle (by_value facts) nodes
@@ -110,7 +110,7 @@ pub record IsSame (fault other : Fault) : Type 0 where
   pub broken : broken_of fault ≡ broken_of other
   pub cycle : fault.cycle.items ≡ other.cycle.items
 
--- a type that contains itself: which cycle is named is left open where there are several
+-- a type that contains itself: if there are several cycles, any one may be named
 pub record NamesCycles (fault other : Fault) : Type 0 where
   pub one : fault.rule ≡ ContainsItself
   pub two : other.rule ≡ ContainsItself

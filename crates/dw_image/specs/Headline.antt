@@ -28,7 +28,7 @@ use Rattle.dw_image.specs.Images.{sections_in, units_in, size_table_in}
 use Rattle.dw_image.specs.Valid.{SpellsInfo, HasSizes, IsValid}
 use Rattle.dw_image.specs.First.{IsFirstFault}
 
--- an entry of these units stands at its offset of .debug_info, by a declared abbreviation and with its attributes in
+-- an entry of these units is at its offset of .debug_info, by a declared abbreviation and with its attributes in
 -- their forms' grammar, as its unit's table, version and size of addresses have it
 pub record IsSpelled (s : Sections) (units : List DebugUnit) (e : Entry) : Type 0 where
   pub unit : DebugUnit
@@ -55,7 +55,7 @@ HasClasses units =
     EachValue (λ e attribute v. (unit : PlacedUnit) → slice_get (placed units) e.unit ≡ Some unit
     → allows_in (version_of unit.unit.header.kind) attribute (class_of v) ≡ true) (entries_of units)
 
--- an index is below the count of the unit's contribution to .debug_str_offsets, and a string begins where the slot says
+-- an index is below the count of the unit's contribution to .debug_str_offsets, and a string starts where the slot says
 abbrev pub HasStringAt : Sections → (base : Option ℕ) → ℕ → Type 0
 HasStringAt s None index = ⊥
 HasStringAt s (Some base) index =
@@ -84,7 +84,7 @@ HasTexts s units =
     → LeadsToText s (entries_of units) unit v) (entries_of units)
 
 -- references: each reaches one entry, of a permitted kind, and a sibling attribute the next sibling; signatures are
--- distinct, and a type begins at the type offset of each type unit (DWARF 5, 7.5.5)
+-- distinct, and a type starts at the type offset of each type unit (DWARF 5, 7.5.5)
 pub record HasReferences (units : List DebugUnit) : Type 0 where
   pub targets : HaveTargets units
   pub types : HaveTypes units

@@ -10,7 +10,7 @@ use Rattle.dw_entries.specs.Entries.{Entry}
 abbrev pub is_type_entry : Entry → Bool
 is_type_entry e = is_type_tag e.head.decl.tag
 
--- the number itself, where the entry is a type
+-- the number itself, if the entry is a type
 abbrev pub type_number : List Entry → ℕ → Option ℕ
 type_number entries id = option_and_then (λ e. if is_type_entry e then Some id else None) (slice_get entries id)
 
@@ -35,11 +35,11 @@ children_of entries id = children_from entries id 0
 
 -- ---- going over the children
 
--- the children of the entry with number p that stand from its child m on
+-- the children of the entry with number p, from its child m on
 abbrev pub siblings_from : List Entry → ℕ → Option ℕ → List ℕ
 siblings_from entries p None = []
 siblings_from entries p (Some m) = children_from (drop m entries) p m
 
--- an entry stands there, and this is its parent
+-- an entry has this number, if there is one, and this is its parent
 abbrev pub IsLinked : List Entry → ℕ → Option ℕ → Type 0
 IsLinked entries p next = ForSome next (λ m. option_map (λ (e : Entry). e.parent) (slice_get entries m) ≡ Some (Some p))

@@ -34,7 +34,7 @@ abbrev pub is_below_zero : ℤ → Bool
 is_below_zero (pos n) = false
 is_below_zero (negsuc n) = true
 
--- a number below 0 stands under the attribute
+-- the attribute is a number below 0
 abbrev pub is_negative : Constant → Bool
 is_negative Absent = false
 is_negative NotNumber = false

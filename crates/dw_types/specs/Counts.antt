@@ -35,38 +35,38 @@ abbrev pub is_counted_language : Option ℕ → Bool
 is_counted_language None = false
 is_counted_language (Some language) = is_one_of counted_languages language
 
--- bounds are read where the unit names no language, or one of those
+-- bounds are read if the unit names no language, or one of those
 abbrev pub reads_bounds : Constant → Bool
 reads_bounds language = not (is_present language) || is_counted_language (natural_of language)
 
--- the lower bound, 0 where it is absent
+-- the lower bound, 0 if it is absent
 abbrev pub lower_of : Constant → Option ℤ
 lower_of Absent = Some (pos 0)
 lower_of NotNumber = None
 lower_of (Unsigned n) = Some (pos n)
 lower_of (Signed n) = Some n
 
--- the upper bound, where the greatest number of 64 bits is read as -1
+-- the upper bound; the greatest number of 64 bits is read as -1
 abbrev pub upper_of : Constant → Option ℤ
 upper_of Absent = None
 upper_of NotNumber = None
 upper_of (Unsigned n) = Some (if nat_eq n (2 ^ 64 - 1) then negsuc 0 else pos n)
 upper_of (Signed n) = Some n
 
--- upper - lower + 1, where both are known
+-- upper - lower + 1, if both are known
 abbrev pub count_between : Option ℤ → Option ℤ → Option ℤ
 count_between None lower = None
 count_between (Some upper) None = None
 count_between (Some upper) (Some lower) = Some ((upper -ℤ lower) +ℤ pos 1)
 
--- the count that a count attribute gives, or else two bounds in a unit of a language; none where it is unknown
+-- the count that a count attribute gives, or else two bounds in a unit of a language; none if it is unknown
 abbrev pub count_from : (count language upper lower : Constant) → Option ℤ
 count_from count language upper lower =
     if is_present count then number_in count
     else if reads_bounds language then count_between (upper_of upper) (lower_of lower)
     else None
 
--- the count of a dimension, none where it is unknown
+-- the count of a dimension, none if it is unknown
 abbrev pub count_of : Facts → Option ℤ
 count_of entry = count_from entry.count entry.language entry.upper_bound entry.lower_bound
 

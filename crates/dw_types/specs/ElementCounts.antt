@@ -50,7 +50,7 @@ with_child entries elements child =
 abbrev pub children_before : List Facts → ℕ → ℕ → List ℕ
 children_before entries node count = filter (is_child entries node) (range_with_len 0 count)
 
--- the number of elements, where it is known
+-- the number of elements, if it is known
 abbrev pub size_from : ElementCount → Size
 size_from NoDimension = None
 size_from (Known n) = Some n

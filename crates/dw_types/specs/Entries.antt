@@ -5,7 +5,7 @@ use Rattle.std.specs.List.{range_with_len}
 use Rattle.dw_types.specs.declared.facts.Facts.{Facts}
 use Rattle.dw_types.specs.declared.constant.Constant.TheVariants.{Absent}
 
--- what stands past the last entry
+-- the facts of a number past the last entry
 abbrev pub no_entry : Facts
 no_entry = record {
   offset = 0;
@@ -50,7 +50,7 @@ is_child entries node child = is_parent (entry_at entries child).parent node
 abbrev pub children : List Facts → ℕ → List ℕ
 children entries node = filter (is_child entries node) (entry_numbers entries)
 
--- each parent stands before its child
+-- each parent comes before its child
 abbrev pub ParentsComeFirst : List Facts → Type 0
 ParentsComeFirst entries = (child parent : ℕ) → (entry_at entries child).parent ≡ Some parent → parent < child
 
@@ -61,7 +61,7 @@ TargetsAreEntries entries =
     → ((entry_at entries node).type_target ≡ Some to → to < length entries)
     × ((entry_at entries node).signature_target ≡ Some to → to < length entries)
 
--- entries stand in rising offset
+-- entries are in rising offset
 abbrev pub OffsetsRise : List Facts → Type 0
 OffsetsRise entries =
     (earlier later : ℕ) → earlier < later → later < length entries

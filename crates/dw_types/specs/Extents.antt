@@ -8,7 +8,7 @@ use Rattle.dw_types.specs.Constants.{is_present, number_in, natural_of}
 use Rattle.dw_types.specs.Shapes.{is_plain}
 use Rattle.dw_types.specs.SizeTables.{Size}
 
--- a number stands under the attribute
+-- the attribute is a number
 abbrev pub is_number : Constant → Bool
 is_number constant = is_some (number_in constant)
 
@@ -36,13 +36,13 @@ abbrev pub end_past : ℕ → ℤ → ℕ → Bool
 end_past n (pos start) size = nat_lt (8 * n) (start + 8 * size)
 end_past n (negsuc start) size = true
 
--- the same, where start and size are known
+-- the same, if start and size are known
 abbrev pub bytes_end_past : ℕ → Option ℤ → Size → Bool
 bytes_end_past n None size = false
 bytes_end_past n (Some start) None = false
 bytes_end_past n (Some start) (Some size) = end_past n start size
 
--- a member, whose type has a size, ends past the n bytes of its container; with a bit size it is asked by bits alone
+-- a member, whose type has a size, ends past the n bytes of its container; with a bit size only its bits count
 abbrev pub ends_past : ℕ → Facts → Size → Bool
 ends_past n member size =
     if is_number member.bit_size && is_number member.data_bit_offset

@@ -13,7 +13,7 @@ use Rattle.dw_types.specs.FactsOf.{constant_at, facts_at, is_asked}
 abbrev pub asked_value : Entry → (attribute : ℕ) → Option Datum
 asked_value e attribute = if is_asked e.head.decl.tag then value_at_entry e attribute else None
 
--- what stands under an attribute of a type or a member; nothing does at any other entry
+-- the number of an attribute of a type or a member; any other entry has none
 abbrev pub asked_constant : Entry → (attribute : ℕ) → Constant
 asked_constant e attribute = if is_asked e.head.decl.tag then constant_at e attribute else Absent
 
@@ -25,7 +25,7 @@ asked_presence e attribute = if is_asked e.head.decl.tag then is_some (value_at_
 abbrev pub asked_target : List Entry → List PlacedUnit → Entry → (attribute : ℕ) → Option ℕ
 asked_target entries units e attribute = if is_asked e.head.decl.tag then target_of entries units e attribute else None
 
--- the fact is what stands under this attribute
+-- the fact is the number of this attribute
 abbrev pub IsConstantAt : (attribute : ℕ) → (Facts → Constant) → Type 0
 IsConstantAt attribute fact =
     (entries : List Entry) (units : List PlacedUnit) (e : Entry)

@@ -23,12 +23,12 @@ constant_in (unsigned n) = Unsigned n
 constant_in (signed n) = Signed n
 constant_in _ = NotNumber
 
--- the same, where the attribute may be absent
+-- the same, if the attribute may be absent
 abbrev pub constant_of : Option Datum → Constant
 constant_of None = Absent
 constant_of (Some v) = constant_in v
 
--- what stands under an attribute of an entry
+-- the number of an attribute of an entry, or that it is absent or no number
 abbrev pub constant_at : Entry → (attribute : ℕ) → Constant
 constant_at e attribute = constant_of (value_at_entry e attribute)
 
@@ -68,7 +68,7 @@ facts_read entries units e = record {
   data_bit_offset = constant_at e DW_AT_data_bit_offset;
 }
 
--- what is read of any other entry: where it stands, and its tag
+-- what is read of any other entry: its place, and its tag
 unfoldable pub facts_unread : Entry → Facts
 facts_unread e = record no_entry { offset = e.at; tag = e.head.decl.tag; parent = e.parent }
 

@@ -1,7 +1,7 @@
 -- Chapter: graphs of steps, lists of nodes along steps, and cycles.
 use Rattle.std.specs.Prelude.{◌≡◌, ◌≢◌, ℕ, ◌+◌, ◌-◌, ◌<◌, ◌≤◌, List, [], length, slice_index, slice_index_or, sum_by}
 
--- the steps of each node, in order: the node k has the k-th list, and a step is the node that it leads to
+-- the steps of each node, in order: the node k has the k-th list, and a step is the node that it goes to
 abbrev pub Graph : Type 0
 Graph = List (List ℕ)
 
@@ -9,15 +9,15 @@ Graph = List (List ℕ)
 abbrev pub steps_of : Graph → ℕ → List ℕ
 steps_of graph node = slice_index_or graph node []
 
--- where the k-th step of a node leads
+-- the node that the k-th step of a node goes to
 abbrev pub step_at : Graph → ℕ → ℕ → ℕ
 step_at graph node k = slice_index (steps_of graph node) k
 
--- some step leads from one node to another
+-- some step goes from one node to another
 abbrev pub IsStep : Graph → ℕ → ℕ → Type 0
 IsStep graph from to = (k : ℕ) × (k < length (steps_of graph from)) × (step_at graph from k ≡ to)
 
--- each step leads to a node
+-- each step goes to a node
 abbrev pub LeadsToNodes : Graph → Type 0
 LeadsToNodes graph = (node k : ℕ) → k < length (steps_of graph node) → step_at graph node k < length graph
 
@@ -36,7 +36,7 @@ pub record IsClosed (graph : Graph) (nodes : List ℕ) : Type 0 where
   pub steps : FollowsSteps graph nodes
   pub closed : slice_index nodes 0 ≡ slice_index nodes (length nodes - 1)
 
--- a cycle: a closed list that begins and ends with its least node, and has every other node once
+-- a cycle: a closed list that starts and ends with its least node, and has every other node once
 pub record IsCycle (graph : Graph) (nodes : List ℕ) : Type 0 where
   pub closed : IsClosed graph nodes
   pub least : (k : ℕ) → k < length nodes → slice_index nodes 0 ≤ slice_index nodes k
@@ -46,7 +46,7 @@ pub record IsCycle (graph : Graph) (nodes : List ℕ) : Type 0 where
 abbrev pub HasNoCycle : Graph → Type 0
 HasNoCycle graph = (nodes : List ℕ) → IsClosed graph nodes → ⊥
 
--- each step leads to a smaller rank
+-- each step goes to a node of smaller rank
 abbrev pub FallsAlong : Graph → List ℕ → Type 0
 FallsAlong graph ranks =
     (node k : ℕ) → k < length (steps_of graph node) → slice_index ranks (step_at graph node k) < slice_index ranks node

@@ -64,7 +64,7 @@ is_array entry = nat_eq entry.tag DW_TAG_array_type
 abbrev pub is_enumeration : Facts → Bool
 is_enumeration entry = nat_eq entry.tag DW_TAG_enumeration_type && not entry.declared
 
--- the kinds that the size table tells apart
+-- the kinds that the size table distinguishes
 abbrev pub kind_of : Facts → Kind
 kind_of entry =
     if is_one_of declarable_tags entry.tag && entry.declared then Declared

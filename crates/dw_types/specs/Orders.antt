@@ -8,7 +8,7 @@ pub record Ranking : Type 0 where
   pub by_rank : List ℕ
   pub turns : ℕ
 
--- each node has a rank, each step leads to a smaller one, and there were as many turns as nodes and steps
+-- each node has a rank, each step goes to a smaller one, and there were as many turns as nodes and steps
 pub record IsOrderOf (graph : Graph) (order : Ranking) : Type 0 where
   pub nodes : length order.ranks ≡ length graph
   pub falls : FallsAlong graph order.ranks

@@ -11,7 +11,7 @@ pub length-cut : (steps : List ℕ) (from : ℕ) (ends : List ℕ) → length (c
 length-cut steps from [] = refl
 length-cut steps from (end ∷ ends) = ap suc (length-cut steps end ends)
 
--- the steps of a node lie between its beginning and its end
+-- the steps of a node are between its start and its end
 pub cut-at : (steps : List ℕ) (from : ℕ) (ends : List ℕ) (node : ℕ) → node < length ends
     → get_or (cut steps from ends) node []
     ≡ take (get_or ends node 0 - get_or (from ∷ ends) node 0) (drop (get_or (from ∷ ends) node 0) steps)

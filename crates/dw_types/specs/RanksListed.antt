@@ -1,7 +1,7 @@
 -- State: the rank of each node, from the nodes in the order of their ranks.
 use Rattle.std.specs.Prelude.{ℕ, List, [], ◌∷◌, suc, replicate, slice_set}
 
--- ranks, where nodes from a first rank on are given theirs one after another
+-- these ranks, after some nodes are given theirs one after another, from a first rank on
 abbrev pub ranks_from : List ℕ → ℕ → List ℕ → List ℕ
 ranks_from ranks first [] = ranks
 ranks_from ranks first (node ∷ rest) = ranks_from (slice_set ranks node first) (suc first) rest

@@ -35,13 +35,13 @@ is_known_negative (Some n) = is_below_zero n
 abbrev pub has_bad_count : Role → Facts → Bool
 has_bad_count parent entry = is_dimension parent entry && is_known_negative (count_of entry)
 
--- the entry, whose parent is this to it, breaks a rule on shapes
+-- the entry, whose parent has this role, violates a rule on shapes
 abbrev pub breaks_shape : Role → Facts → Rule → Bool
 breaks_shape parent entry MissingType = misses_type parent entry
 breaks_shape parent entry BadCount = has_bad_count parent entry
 breaks_shape parent entry _ = false
 
--- the entry of a number breaks a rule on shapes
+-- the entry of a number violates a rule on shapes
 abbrev pub fails_shape : List Facts → ℕ → Rule → Bool
 fails_shape entries node rule = breaks_shape (parent_role entries node) (entry_at entries node) rule
 

@@ -30,14 +30,14 @@ reads_own Array = true
 reads_own Subroutine = false
 reads_own NoType = false
 
--- where the byte size is absent: a base type without bit size, a structure or union that stands alone, or an array with
+-- if the byte size is absent: a base type without bit size, a structure or union that stands alone, or an array with
 -- a negative stride
 abbrev pub wants_own : Facts → Bool
 wants_own entry =
     (nat_eq entry.tag DW_TAG_base_type && not (is_present entry.bit_size))
     || ((has_members entry && stands_alone entry) || (is_array entry && is_negative entry.byte_stride))
 
--- a negative byte size that is read, or none where one is wanted
+-- a negative byte size that is read, or none if one is required
 abbrev pub has_no_size : Facts → Bool
 has_no_size entry =
     (reads_own (kind_of entry) && is_negative entry.byte_size) || (not (is_present entry.byte_size) && wants_own entry)
@@ -60,7 +60,7 @@ has_wrong_size entry type_size =
     && ((not (is_present entry.byte_size) && (not (is_some entry.type_target) && stands_alone entry))
     || differ (natural_of entry.byte_size) type_size)
 
--- the entry, whose parent is this to it, breaks a rule on sizes, where it, its container and its type have these sizes
+-- the entry, whose parent has this role, violates a rule on sizes, if it, its container and its type have these sizes
 abbrev pub breaks_size : Role → Facts → Size → Size → Size → Rule → Bool
 breaks_size parent entry size container type_size NoSize = has_no_size entry
 breaks_size parent entry size container type_size SizeTooGreat = is_too_great size
@@ -68,7 +68,7 @@ breaks_size parent entry size container type_size MemberOutside = is_outside par
 breaks_size parent entry size container type_size EnumSize = has_wrong_size entry type_size
 breaks_size parent entry size container type_size _ = false
 
--- the entry of a number breaks a rule on sizes, by a table of sizes
+-- the entry of a number violates a rule on sizes, by a table of sizes
 abbrev pub fails_size : List Facts → (ℕ → Size) → ℕ → Rule → Bool
 fails_size entries table node rule =
     breaks_size (parent_role entries node) (entry_at entries node) (table node)

@@ -9,7 +9,7 @@ Size = Option ℕ
 abbrev pub size_at : List Size → ℕ → Size
 size_at sizes node = slice_index_or sizes node None
 
--- a size, where a limit stands for all that is no smaller
+-- a size, in which a limit represents all that is no smaller
 abbrev pub cap_size : ℕ → Size → Size
 cap_size limit None = None
 cap_size limit (Some size) = Some (min limit size)

@@ -29,12 +29,12 @@ times None b = None
 times (Some a) None = None
 times (Some a) (Some b) = Some (a * b)
 
--- the product of numbers, where all are known
+-- the product of numbers, if all are known
 abbrev pub product_of : List Size → Size
 product_of [] = Some 1
 product_of (n ∷ rest) = times n (product_of rest)
 
--- the count of a dimension, where it is known
+-- the count of a dimension, if it is known
 abbrev pub factor_of : List Facts → ℕ → Size
 factor_of entries dimension = known_natural (count_of (entry_at entries dimension))
 
@@ -60,12 +60,12 @@ is_regular entries array =
     && (not (is_present (entry_at entries array).bit_stride)
     && not (list_any (has_stride entries) (dimensions entries array)))
 
--- the size at a target, none where there is none
+-- the size at a target, none if there is no target
 abbrev pub size_to : (ℕ → Size) → Option ℕ → Size
 size_to table None = None
 size_to table (Some to) = table to
 
--- the number of 0 or more under an attribute, or another size where the attribute is absent
+-- the number of 0 or more under an attribute, or another size if the attribute is absent
 abbrev pub constant_or : Constant → Size → Size
 constant_or Absent other = other
 constant_or NotNumber other = None

@@ -6,7 +6,7 @@ use Rattle.dw_types.specs.declared.step_list.Step.{Step}
 use Rattle.dw_types.specs.Graphs.{Graph}
 use Rattle.dw_types.specs.Packing.{LeadsBelow}
 
--- the node that a step leads to
+-- the node that a step goes to
 abbrev pub to_of : Step → ℕ
 to_of step = step.to
 
@@ -14,7 +14,7 @@ to_of step = step.to
 abbrev pub is_from : ℕ → Step → Bool
 is_from node step = nat_eq step.from node
 
--- where the steps of a node lead, in their order
+-- the nodes that the steps of a node go to, in their order
 abbrev pub row_of : List Step → ℕ → List ℕ
 row_of steps node = map to_of (filter (is_from node) steps)
 
@@ -37,12 +37,12 @@ pub record CountsRows (steps : List Step) (nodes : ℕ) (counts : List ℕ) : Ty
   pub long : length counts ≡ nodes
   pub each : (node : ℕ) → node < nodes → slice_index counts node ≡ length (row_of steps node)
 
--- the place of the first step of each of so many nodes, where those of one node stand behind another's
+-- the place of the first step of each of so many nodes, if those of one node follow those of the node before
 pub record BeginsRows (steps : List Step) (nodes : ℕ) (begins : List ℕ) : Type 0 where
   pub long : length begins ≡ nodes
   pub each : (node : ℕ) → node < nodes → slice_index begins node ≡ steps_before steps node
 
--- some of the steps stand in their places, and where those of each node end so far
+-- some of the steps are in their places, and where those of each node end so far
 pub record HasPlaced (steps placed : List Step) (nodes : ℕ) (kept ends : List ℕ) : Type 0 where
   pub long : length ends ≡ nodes
   pub room : length kept ≡ length steps

@@ -25,7 +25,7 @@ pub data IsStepByValue (entries : List Facts) (from to : ℕ) : Type 0 where
   by_signature : is_declared_type (entry_at entries from) ≡ true → (entry_at entries from).signature_target ≡ Some to
       → IsStepByValue entries from to
 
--- the target, where the test passes
+-- the target, if the test passes
 abbrev pub targets_if : Bool → Option ℕ → List ℕ
 targets_if test target = if test then option_to_list target else []
 

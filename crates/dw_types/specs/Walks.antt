@@ -56,11 +56,11 @@ pub record IsCoherent (graph : Graph) (s : State) : Type 0 where
 abbrev pub IsAbove : State → ℕ → ℕ → Type 0
 IsAbove s place node = (k : ℕ) × (place < k) × (k < length s.stack) × (slice_index s.stack k ≡ node)
 
--- where the k-th step of the node at a place of the stack leads
+-- the node that the k-th step of the node at a place of the stack goes to
 abbrev pub stack_step : Graph → State → ℕ → ℕ → ℕ
 stack_step graph s place k = step_at graph (slice_index s.stack place) k
 
--- each step that was looked at leads to a node that was ranked, or to one further up the stack
+-- each step that was looked at goes to a node that was ranked, or to one further up the stack
 abbrev pub LooksUp : Graph → State → Type 0
 LooksUp graph s = (place k : ℕ) → place < length s.stack → k < slice_index s.next (slice_index s.stack place)
     → (mark_of s (stack_step graph s place k) ≡ Ranked) ⊎ IsAbove s place (stack_step graph s place k)
@@ -80,7 +80,7 @@ pub record IsWalk (graph : Graph) (s : State) : Type 0 where
 abbrev pub KeepsTaken : State → State → Type 0
 KeepsTaken old new = (node : ℕ) → mark_of new node ≡ Fresh → mark_of old node ≡ Fresh
 
--- a fresh node was put on the stack, or ranked at once where it has no steps
+-- a fresh node was put on the stack, or ranked at once if it has no steps
 abbrev pub IsMet : Graph → State → ℕ → State → Type 0
 IsMet graph old node new =
     (new ≡ taken_up old node) ⊎ ((length (steps_of graph node) ≡ 0) × (new ≡ with_rank (taken_up old node) node))

@@ -1,4 +1,4 @@
--- State: what the calls of a reader or a writer tell: which bytes it gave or took, and how many calls failed.
+-- State: what is known of the calls of a reader or a writer: which bytes it gave or took, and how many calls failed.
 use Rattle.std.specs.Prelude.{ℕ, ◌+◌, ◌==◌, ◌&&◌, nat_lt, if◌then◌else◌, Result, Ok, Err, Option, None, Some, List}
 use Rattle.std.specs.Prelude.{length, take}
 use Rattle.std.specs.Io.KnownBytes.{Consumes}
@@ -8,7 +8,7 @@ abbrev pub after_read : {E : Type 0} → ℕ → Result ℕ E → ℕ
 after_read count (Ok n) = count
 after_read count (Err e) = count + 1
 
--- the count after a write: one more at an error, and where no byte was taken of some
+-- the count after a write: one more at an error, or if no byte of a text that has some was taken
 abbrev pub after_write : {E : Type 0} → ℕ → Result ℕ E → List ℕ → ℕ
 after_write count (Ok n) bytes = if n == 0 && nat_lt 0 (length bytes) then count + 1 else count
 after_write count (Err e) bytes = count + 1

@@ -40,7 +40,7 @@ place_part section at attribute =
 unfoldable pub cycle_offset : ℕ → List ℕ
 cycle_offset n = codes " " ++ offset_text n
 
--- `cycle` and the offsets, on a line where there are any
+-- `cycle` and the offsets on a line, if there are any
 unfoldable pub cycle_line : List ℕ → List ℕ
 cycle_line [] = []
 cycle_line (n ∷ ns) = line (codes "cycle" ++ flat_map cycle_offset (n ∷ ns))

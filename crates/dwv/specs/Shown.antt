@@ -21,12 +21,12 @@ entry_part offset depth tag = offset_text offset ++ codes " " ++ replicate (2 * 
 unfoldable pub glyph : ℕ → List ℕ
 glyph b = if nat_lt b 0x20 || nat_lt 0x7e b || b == 0x22 || b == 0x5c then codes "\\x" ++ places 2 b else b ∷ []
 
--- ` "NAME"`, where there is a name
+-- ` "NAME"`, if there is a name
 unfoldable pub name_part : Option (List ℕ) → List ℕ
 name_part None = []
 name_part (Some name) = codes " \"" ++ flat_map glyph name ++ codes "\""
 
--- ` size N`, where there is a size
+-- ` size N`, if there is a size
 unfoldable pub size_part : Option ℕ → List ℕ
 size_part None = []
 size_part (Some n) = codes " size " ++ decimal n
@@ -35,7 +35,7 @@ size_part (Some n) = codes " size " ++ decimal n
 unfoldable pub shown_line : (offset depth tag : ℕ) → (name : Option (List ℕ)) → (size : Option ℕ) → List ℕ
 shown_line offset depth tag name size = line (entry_part offset depth tag ++ name_part name ++ size_part size)
 
--- the size of the entry with a number, where it is a type and has one
+-- the size of the entry with a number, if it is a type and has one
 unfoldable pub shown_size : Image → ℕ → Entry → Option ℕ
 shown_size i number e = if is_type_entry e then size_table_in i number else None
 
@@ -47,7 +47,7 @@ entry_line i (number, e) = shown_line e.at e.depth e.head.decl.tag (name_in i e)
 unfoldable pub show_lines : Image → List ℕ
 show_lines i = flat_map (entry_line i) (enumerate_from 0 (entries_in i))
 
--- the number of the type whose entry begins at an offset
+-- the number of the type whose entry starts at an offset
 unfoldable pub type_at_offset : Image → ℕ → Option ℕ
 type_at_offset i offset = option_and_then (type_number (entries_in i)) (entry_at (entries_in i) offset)
 
@@ -56,7 +56,7 @@ unfoldable pub size_line : Option ℕ → List ℕ
 size_line None = line (codes "no size")
 size_line (Some n) = line (codes "size " ++ decimal n)
 
--- what is written of the type with a number, or where no type is
+-- what is written of the type with a number, or if there is none
 abbrev pub size_text : Image → Option ℕ → List ℕ
 size_text i None = line (codes "not a type")
 size_text i (Some number) = size_line (size_table_in i number)
