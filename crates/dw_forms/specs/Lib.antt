@@ -28,6 +28,5 @@ pub mod ValueLaws
 pub mod Datums
 pub mod SizeLaws
 pub mod Plans
-pub mod PlanLaws
 pub mod FirstPlaces
 pub mod Planned
