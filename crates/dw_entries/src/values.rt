@@ -2,6 +2,7 @@
 
 ghost use Rattle.std.specs.Prelude.{◌≡◌, ◌≤◌, ◌-◌, length, drop, IfSome, IfNone};
 ghost use Rattle.std.specs.Bool.{OnFalse, OnTrue};
+ghost use Rattle.dw_forms.specs.Codes.{DW_AT_type};
 ghost use Rattle.dw_entries.specs.Chosen.{OthersPass, Unasked, IsNextAsked};
 ghost use Rattle.dw_entries.specs.Referring.{may_refer, is_asked};
 ghost use Rattle.dw_forms.specs.declared.decl.AttributeSpec.{AttributeSpec as SpecData};
@@ -10,6 +11,7 @@ ghost use Rattle.dw_entries.specs.Values.{value_context, Left};
 ghost use Rattle.dw_entries.specs.Choices.{size_unique};
 ghost use Rattle.dw_entries.specs.ValueLaws.{left_unique};
 
+use dw_forms::constants::DW_AT_type;
 use dw_forms::{Attribute, AttributeSpec, Attributes, Form, Value, read_value};
 
 /// The attributes of an entry that are left, in their order. Its values lie in .debug_info.
@@ -65,40 +67,33 @@ pub trait Choice {
         ensures passes { OnFalse result (passes self.now spec.now) }
         ensures asked { OnTrue result (asked self.now spec.now) };
 
-    /// Whether all that are asked for are among those at which a search stops, so that the others need not be asked.
-    fn keeps_to_stops(&self) -> bool
-        ensures { OnTrue result (OthersPass (passes self.now)) }
-    {
-        false
-    }
+    /// All that are asked for are among those at which a search stops, so that the others need not be looked at.
+    fn keeps_to_stops(&self)
+        ensures { OthersPass (passes self.now) };
 }
 
-/// The attributes that have this code, and those whose values may be references.
+/// The attribute DW_AT_type, and those whose values may be references.
 #[derive(Drop)]
-struct Referring {
-    attribute: Attribute,
-}
+struct Referring;
 
 impl Choice for Referring {
     ghost use Rattle.dw_entries.specs.Referring.{IsAsked, IsOther};
 
-    ghost passes = { λ choice. IsOther choice.attribute };
+    ghost passes = { λ _. IsOther DW_AT_type };
 
-    ghost asked = { λ choice. IsAsked choice.attribute };
+    ghost asked = { λ _. IsAsked DW_AT_type };
 
     #[inline]
     fn asks(&self, spec: &AttributeSpec) -> bool {
-        is_asked(*spec, self.attribute)
+        is_asked(*spec, DW_AT_type)
     }
 
     #[inline]
     #[tactic(auto, using(crate::proofs::StopSteps::others_pass))]
-    fn keeps_to_stops(&self) -> bool {
-        self.attribute.0 <= 0x8c
-    }
+    fn keeps_to_stops(&self) {}
 }
 
-/// The place of the next attribute that is asked for, where all such are among those at which a search stops.
+/// The place of the next attribute that is asked for, by the places at which a search stops.
 #[inline(always)]
 fn next_stop<C: Choice>(choice: &C, attributes: &Attributes, from: usize) -> Option<usize>
     requires within { from ≤ length attributes.now }
@@ -107,17 +102,17 @@ fn next_stop<C: Choice>(choice: &C, attributes: &Attributes, from: usize) -> Opt
     ensures none { IfNone result (Unasked (C.passes choice.now) attributes.now from (length attributes.now)) }
 {
     let specs = attributes.as_slice();
-    let stops = attributes.stops(from);
-    for number in 0..stops.len() {
-        let place = stops[number] as usize;
+    let mut place = attributes.next_stop(from);
+    while place < specs.len() {
         if choice.asks(&specs[place]) {
             return Some(place);
         }
+        place = attributes.next_stop(place + 1);
     }
     None
 }
 
-/// The same where any may be asked for.
+/// The same by all places, for few attributes.
 fn next_of_all<C: Choice>(choice: &C, attributes: &Attributes, from: usize) -> Option<usize>
     requires { from ≤ length attributes.now }
     ensures found { IfSome result (IsNextAsked (C.passes choice.now) (C.asked choice.now) attributes.now from) }
@@ -132,18 +127,18 @@ fn next_of_all<C: Choice>(choice: &C, attributes: &Attributes, from: usize) -> O
     None
 }
 
-/// The place of the next attribute that is asked for, from a place on.
+/// The place of the next attribute that is asked for, from a place on. Of at most 16 attributes all are looked at.
 #[inline(always)]
 fn next_asked<C: Choice>(choice: &C, attributes: &Attributes, from: usize) -> Option<usize>
     requires { from ≤ length attributes.now }
     ensures found { IfSome result (IsNextAsked (C.passes choice.now) (C.asked choice.now) attributes.now from) }
     ensures none { IfNone result (Unasked (C.passes choice.now) attributes.now from (length attributes.now)) }
 {
-    if choice.keeps_to_stops() {
-        next_stop(choice, attributes, from)
-    } else {
-        next_of_all(choice, attributes, from)
+    if attributes.as_slice().len() <= 16 {
+        return next_of_all(choice, attributes, from);
     }
+    choice.keeps_to_stops();
+    next_stop(choice, attributes, from)
 }
 
 impl<'a> Values<'_, 'a> {
@@ -188,16 +183,16 @@ impl<'a> Values<'_, 'a> {
         }
     }
 
-    /// The next attribute that has this code or whose value may be a reference. Values before it are skipped.
+    /// The next attribute that is DW_AT_type, or whose value may be a reference. Values before it are skipped.
     #[inline(always)]
-    pub fn next_of(&mut self, attribute: Attribute) -> Option<(Attribute, Value<'a>)>
-        ensures some { IfSome result (λ found. IsNextOf (IsOther attribute) (values_left self.old) (viewed found) (values_left self.new)) }
-        ensures none { IfNone result (ArePassed (IsOther attribute) (values_left self.old)) }
+    pub fn next_reference(&mut self) -> Option<(Attribute, Value<'a>)>
+        ensures some { IfSome result (λ found. IsNextOf (IsOther DW_AT_type) (values_left self.old) (viewed found) (values_left self.new)) }
+        ensures none { IfNone result (ArePassed (IsOther DW_AT_type) (values_left self.old)) }
         // What is found is asked for as it is declared, and what is passed is not.
-        ensures asked { IfSome result (FindsFirst (IsOther attribute) (IsAsked attribute) self.old self.new) }
-        ensures unasked { IfNone result (AsksNone (IsOther attribute) self.old) }
+        ensures asked { IfSome result (FindsFirst (IsOther DW_AT_type) (IsAsked DW_AT_type) self.old self.new) }
+        ensures unasked { IfNone result (AsksNone (IsOther DW_AT_type) self.old) }
     {
-        self.next_by(&Referring { attribute })
+        self.next_by(&Referring)
     }
 }
 

@@ -20,4 +20,3 @@ pub mod FewAttributes
 pub mod ValueAnswers
 pub mod PlanSteps
 pub mod PassSteps
-pub mod StopLaws

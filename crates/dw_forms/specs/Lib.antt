@@ -21,7 +21,6 @@ pub mod ValueLaws
 pub mod TableGrammar
 pub mod Datums
 pub mod SizeLaws
-pub mod PlanLaws
 -- State.
 pub mod NumberValues
 pub mod Sizes

@@ -2,14 +2,14 @@
 
 ghost use Rattle.std.specs.Prelude.{◌≡◌, ◌≤◌, ◌⊎◌, length, IfOk};
 ghost use Rattle.std.specs.List.{slice_range};
-ghost use Rattle.dw_forms.specs.Plans.{values_end, AreStopsFrom};
+ghost use Rattle.dw_forms.specs.Plans.{values_end, is_stop, IsNext};
 ghost use Rattle.dw_forms.specs.FirstPlaces.{IsFirst, AnswersFirst};
 ghost use Rattle.dw_forms.specs.ValueReading.{Gives};
 
 use crate::attribute_index::{index_of, place_of};
 use crate::constants::Attribute;
 use crate::decl::AttributeSpec;
-use crate::plan::{Plan, pass, plan_of, stops_from};
+use crate::plan::{Plan, next_stop, pass, plan_of};
 use crate::value::{Value, ValueFault};
 use crate::value_reader::read_any;
 use std::alloc::{AllocError, Global};
@@ -87,7 +87,8 @@ impl Attributes {
         requires order { from ≤ to }
         requires within { to ≤ length self.now }
         requires size { (address_size ≡ 4) ⊎ (address_size ≡ 8) }
-        ensures { Gives (λ rest. rest.now) result (values_end version address_size (slice_range self.now from to) bytes.now) }
+        ensures { Gives (λ rest. rest.now) result
+            (values_end version address_size (slice_range self.now from to) bytes.now) }
     {
         pass(
             &self.plan,
@@ -100,14 +101,14 @@ impl Attributes {
         )
     }
 
-    /// The places from one on at which a search stops, in their order: the values there take bytes, or DWARF 5 defines
-    /// the codes.
+    /// The first place from one on at which a search stops, or how many attributes there are: the value there takes
+    /// bytes, or DWARF 5 defines the code.
     #[inline(always)]
-    pub fn stops(&self, from: usize) -> &[u32]
+    pub fn next_stop(&self, from: usize) -> usize
         requires { from ≤ length self.now }
-        ensures { AreStopsFrom self.now from result.now }
+        ensures { IsNext is_stop self.now from result }
     {
-        stops_from(&self.plan, &self.specs, from)
+        next_stop(&self.plan, &self.specs, from)
     }
 
     /// The value of the first attribute with this code, if one is declared. The work is bounded by the bytes before it.

@@ -1,8 +1,9 @@
 //! What is known of the values of a declaration before any entry is read.
 
-ghost use Rattle.std.specs.Prelude.{◌≡◌, ◌<◌, ◌≤◌, ◌⊎◌, ◌-◌, ◌+◌, List, length, take, IfOk, OnOk};
+ghost use Rattle.std.specs.Prelude.{◌≡◌, ◌<◌, ◌≤◌, ◌⊎◌, ◌+◌, drop, length, IfOk};
 ghost use Rattle.std.specs.List.{slice_range};
-ghost use Rattle.dw_forms.specs.Plans.{known_size, known_sum, does_vary, one_if, added_if, before_behind, cut_at, values_end, is_byteless, is_stop, IsPlan, AreStopsFrom};
+ghost use Rattle.dw_forms.specs.Plans.{known_size, known_sum, known_of, does_vary, place_or, is_byteless, is_stop};
+ghost use Rattle.dw_forms.specs.Plans.{cut_at, values_end, IsNext, IsAhead, IsPlan};
 ghost use Rattle.dw_forms.specs.Sizes.{rest_at};
 ghost use Rattle.dw_forms.specs.ValueReading.{Gives};
 
@@ -12,28 +13,26 @@ use crate::value::ValueFault;
 use crate::value_reader::skip_any;
 use std::alloc::{AllocError, Global};
 
-/// What lies before an attribute of a declaration, or before its end.
-#[derive(Clone, Copy, Debug, PartialEq, Eq)]
-pub struct Before {
-    /// How many values there have no one size.
-    pub varying: u32,
-    /// The sum of the sizes of the others where addresses have 4 bytes.
+/// What is known of the attributes from a place on.
+#[derive(Clone, Copy, Debug)]
+pub struct Ahead {
+    /// The sum of the sizes of the values that have one size each, where addresses have 4 bytes.
     pub known_with_4: u32,
     /// The same where addresses have 8 bytes.
     pub known_with_8: u32,
-    /// At how many attributes there a search stops.
-    pub stops: u32,
+    /// The first place whose values have no one size, or the end.
+    pub next_varying: u32,
+    /// The first place at which a search stops, or the end.
+    pub next_stop: u32,
 }
 
 /// Where the values of a declaration begin.
 #[derive(Debug, Drop)]
 pub struct Plan {
-    /// What lies before each attribute, and before the end.
-    before: Vec<Before>,
-    /// The places of the attributes whose values have no one size.
-    varying: Vec<u32>,
-    /// The places of the attributes at which a search stops.
-    stops: Vec<u32>,
+    /// What is known of all attributes.
+    whole: Ahead,
+    /// What is known from each place on, and at the end.
+    ahead: Vec<Ahead>,
 }
 
 /// The size of each value of the form, 0 where they have no one size.
@@ -73,44 +72,33 @@ fn is_stop(spec: &AttributeSpec) -> bool
     !is_byteless(spec.form) || spec.attribute.0 <= 0x8c
 }
 
-/// 1 for true and 0 for false.
+/// The place, if this is true, and else the next one.
 #[inline(always)]
-fn one_if(is: bool) -> u32
-    ensures same { result ≡ one_if is }
-    ensures small { result ≤ 1 }
+fn place_or(place: u32, is: bool, next: u32) -> u32
+    ensures { result ≡ place_or place is next }
 {
-    if is { 1 } else { 0 }
+    if is { place } else { next }
 }
 
-/// What lies behind an attribute.
-fn behind(before: Before, spec: &AttributeSpec) -> Before
-    requires few { before.varying ≤ 0xffffff }
-    requires few_stops { before.stops ≤ 0xffffff }
-    requires small_4 { before.known_with_4 ≤ 0xffffff }
-    requires small_8 { before.known_with_8 ≤ 0xffffff }
-    ensures same { result ≡ before_behind before spec.now }
-    ensures few { result.varying ≤ before.varying + 1 }
-    ensures few_stops { result.stops ≤ before.stops + 1 }
-    ensures small_4 { result.known_with_4 ≤ before.known_with_4 + 0xff }
-    ensures small_8 { result.known_with_8 ≤ before.known_with_8 + 0xff }
+/// What is known from a place on, by what is known behind it.
+fn ahead_of(specs: &[AttributeSpec], place: usize, behind: Ahead) -> Ahead
+    requires within { place < length specs.now }
+    requires few { length specs.now ≤ 0x10000 }
+    requires behind { IsAhead specs.now (place + 1) behind }
+    requires small_4 { behind.known_with_4 ≤ 0xffffff }
+    requires small_8 { behind.known_with_8 ≤ 0xffffff }
+    ensures ahead { IsAhead specs.now place result }
+    ensures small_4 { result.known_with_4 ≤ behind.known_with_4 + 0xff }
+    ensures small_8 { result.known_with_8 ≤ behind.known_with_8 + 0xff }
 {
-    Before {
-        varying: before.varying + one_if(does_vary(spec.form)),
-        known_with_4: before.known_with_4 + known_size(spec.form, 4),
-        known_with_8: before.known_with_8 + known_size(spec.form, 8),
-        stops: before.stops + one_if(is_stop(spec)),
+    let spec = &specs[place];
+    let place = place as u32;
+    Ahead {
+        known_with_4: behind.known_with_4 + known_size(spec.form, 4),
+        known_with_8: behind.known_with_8 + known_size(spec.form, 8),
+        next_varying: place_or(place, does_vary(spec.form), behind.next_varying),
+        next_stop: place_or(place, is_stop(spec), behind.next_stop),
     }
-}
-
-/// Adds a place at the end, if this is true.
-fn add_if(places: &mut Vec<u32>, place: usize, is: bool) -> Result<(), AllocError>
-    requires { place ≤ 0x10000 }
-    ensures { OnOk result (places.new.items ≡ added_if is places.old.items place) }
-{
-    if is {
-        places.push(place as u32)?;
-    }
-    Ok(())
 }
 
 /// The plan of a declaration with these attributes.
@@ -118,42 +106,60 @@ pub fn plan_of(alloc: Global, specs: &[AttributeSpec]) -> Result<Plan, AllocErro
     requires { length specs.now ≤ 0x10000 }
     ensures { IfOk result (IsPlan specs.now) }
 {
-    let mut before = Vec::with_capacity(alloc, specs.len() + 1)?;
-    let mut varying = Vec::new(alloc);
-    let mut stops = Vec::new(alloc);
-    let mut here = Before {
-        varying: 0,
+    let mut place = specs.len();
+    let mut here = Ahead {
         known_with_4: 0,
         known_with_8: 0,
-        stops: 0,
+        next_varying: place as u32,
+        next_stop: place as u32,
     };
-    for place in 0..specs.len() {
-        before.push(here)?;
-        let spec = &specs[place];
-        add_if(&mut varying, place, does_vary(spec.form))?;
-        add_if(&mut stops, place, is_stop(spec))?;
-        here = behind(here, spec);
+    let mut ahead = vec![in alloc; here; place + 1]?;
+    while place > 0 {
+        place -= 1;
+        here = ahead_of(specs, place, here);
+        ahead[place] = here;
     }
-    before.push(here)?;
-    Ok(Plan {
-        before,
-        varying,
-        stops,
-    })
+    Ok(Plan { whole: here, ahead })
 }
 
-/// The sum of the sizes before a place, as far as they are known.
+/// What is known from a place on. At the first place no other memory is read.
 #[inline(always)]
-fn known_before(plan: &Plan, place: usize, address_size: u8, specs: &[AttributeSpec]) -> usize
+fn ahead_at(plan: &Plan, specs: &[AttributeSpec], place: usize) -> Ahead
+    requires plan { IsPlan specs.now plan.now }
+    requires within { place ≤ length specs.now }
+    ensures { IsAhead specs.now place result }
+{
+    if place == 0 {
+        plan.whole
+    } else {
+        plan.ahead[place]
+    }
+}
+
+/// The sum of the sizes from a place on of which this is known.
+#[inline(always)]
+fn known(ahead: Ahead, address_size: u8) -> usize
+    ensures { result ≡ known_of address_size ahead }
+{
+    if address_size == 8 {
+        ahead.known_with_8 as usize
+    } else {
+        ahead.known_with_4 as usize
+    }
+}
+
+/// The sum of the sizes from a place on, as far as they are known. At the end there are none.
+#[inline(always)]
+fn known_from(plan: &Plan, specs: &[AttributeSpec], address_size: u8, place: usize) -> usize
     requires plan { IsPlan specs.now plan.now }
     requires within { place ≤ length specs.now }
     requires size { (address_size ≡ 4) ⊎ (address_size ≡ 8) }
-    ensures { result ≡ known_sum address_size (take place specs.now) }
+    ensures { result ≡ known_sum address_size (drop place specs.now) }
 {
-    if address_size == 8 {
-        plan.before[place].known_with_8 as usize
+    if place == specs.len() {
+        0
     } else {
-        plan.before[place].known_with_4 as usize
+        known(plan.ahead[place], address_size)
     }
 }
 
@@ -166,6 +172,31 @@ fn cut_at(bytes: &[u8], len: usize) -> Result<&[u8], ValueFault>
         return Err(ValueFault::Cut);
     }
     Ok(&bytes[len..])
+}
+
+/// The bytes behind a run of values from a place on, of which this is known, up to another.
+#[inline(always)]
+fn pass_run<'b>(
+    plan: &Plan,
+    specs: &[AttributeSpec],
+    address_size: u8,
+    here: Ahead,
+    from: usize,
+    to: usize,
+    bytes: &'b [u8],
+) -> Result<&'b [u8], ValueFault>
+    requires plan { IsPlan specs.now plan.now }
+    requires here { IsAhead specs.now from here }
+    requires order { from ≤ to }
+    requires within { to ≤ length specs.now }
+    requires size { (address_size ≡ 4) ⊎ (address_size ≡ 8) }
+    ensures { Gives (λ rest. rest.now) result
+        (cut_at (known_sum address_size (slice_range specs.now from to)) bytes.now) }
+{
+    cut_at(
+        bytes,
+        known(here, address_size) - known_from(plan, specs, address_size, to),
+    )
 }
 
 /// The bytes behind one value.
@@ -182,6 +213,37 @@ fn skip_one(version: u16, form: Form, address_size: u8, bytes: &[u8]) -> Result<
 
 /// The bytes behind the values from one place up to another. A step is made for each value that has no one size, so
 /// it takes a byte of the entry at least.
+fn pass_varying<'b>(
+    plan: &Plan,
+    specs: &[AttributeSpec],
+    version: u16,
+    address_size: u8,
+    from: usize,
+    to: usize,
+    bytes: &'b [u8],
+) -> Result<&'b [u8], ValueFault>
+    requires plan { IsPlan specs.now plan.now }
+    requires order { from ≤ to }
+    requires within { to ≤ length specs.now }
+    requires size { (address_size ≡ 4) ⊎ (address_size ≡ 8) }
+    ensures { Gives (λ rest. rest.now) result
+        (values_end version address_size (slice_range specs.now from to) bytes.now) }
+{
+    let mut rest = bytes;
+    let mut at = from;
+    let mut here = ahead_at(plan, specs, from);
+    while (here.next_varying as usize) < to {
+        let place = here.next_varying as usize;
+        rest = pass_run(plan, specs, address_size, here, at, place, rest)?;
+        rest = skip_one(version, specs[place].form, address_size, rest)?;
+        at = place + 1;
+        here = ahead_at(plan, specs, at);
+    }
+    pass_run(plan, specs, address_size, here, at, to, rest)
+}
+
+/// The bytes behind the values from one place up to another.
+#[inline(always)]
 pub fn pass<'b>(
     plan: &Plan,
     specs: &[AttributeSpec],
@@ -195,31 +257,22 @@ pub fn pass<'b>(
     requires order { from ≤ to }
     requires within { to ≤ length specs.now }
     requires size { (address_size ≡ 4) ⊎ (address_size ≡ 8) }
-    ensures { Gives (λ rest. rest.now) result (values_end version address_size (slice_range specs.now from to) bytes.now) }
+    ensures { Gives (λ rest. rest.now) result
+        (values_end version address_size (slice_range specs.now from to) bytes.now) }
 {
-    let mut rest = bytes;
-    let mut at = from;
-    let first = plan.before[from].varying as usize;
-    let end = plan.before[to].varying as usize;
-    for number in first..end {
-        let place = plan.varying[number] as usize;
-        let len = known_before(plan, place, address_size, specs)
-            - known_before(plan, at, address_size, specs);
-        rest = cut_at(rest, len)?;
-        rest = skip_one(version, specs[place].form, address_size, rest)?;
-        at = place + 1;
+    let here = ahead_at(plan, specs, from);
+    if to <= here.next_varying as usize {
+        return pass_run(plan, specs, address_size, here, from, to, bytes);
     }
-    let len = known_before(plan, to, address_size, specs)
-        - known_before(plan, at, address_size, specs);
-    cut_at(rest, len)
+    pass_varying(plan, specs, version, address_size, from, to, bytes)
 }
 
-/// The places from one on at which a search stops.
-pub fn stops_from<'p>(plan: &'p Plan, specs: &[AttributeSpec], from: usize) -> &'p [u32]
+/// The first place from one on at which a search stops, or the end.
+#[inline(always)]
+pub fn next_stop(plan: &Plan, specs: &[AttributeSpec], from: usize) -> usize
     requires plan { IsPlan specs.now plan.now }
     requires within { from ≤ length specs.now }
-    ensures { AreStopsFrom specs.now from result.now }
+    ensures { IsNext is_stop specs.now from result }
 {
-    let first = plan.before[from].stops as usize;
-    &plan.stops[first..]
+    ahead_at(plan, specs, from).next_stop as usize
 }

@@ -95,7 +95,7 @@ impl References<'_, '_> {
         let head = entry.head();
         let mut values = entry.values();
         let mut kept = None;
-        while let Some(item) = values.next_of(DW_AT_type) {
+        while let Some(item) = values.next_reference() {
             match self.link_value(declared, &head, item.0, &item.1) {
                 Ok(target) => kept = keep(kept, item.0, target),
                 Err(rule) => return Err(broken_at(&head, item.0, rule)),

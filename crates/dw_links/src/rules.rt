@@ -1,7 +1,7 @@
 //! Rules that are asked of each attribute of each entry, and the search for the first failure.
 
 ghost use Rattle.std.specs.Prelude.{ℕ, ◌≡◌, [], Some, slice_get, IsSome, OnOk, IfErr};
-ghost use Rattle.std.specs.Bool.{OnFalse, OnTrue};
+ghost use Rattle.std.specs.Bool.{OnFalse};
 ghost use Rattle.dw_forms.specs.Value.{Datum, view};
 ghost use Rattle.dw_entries.specs.declared.lookup.Head.{Head as HeadData};
 ghost use Rattle.dw_entries.specs.declared.rule.Rule.{Rule as RuleName};
@@ -31,9 +31,9 @@ pub trait AttributeRules {
     fn concerns(&self, spec: &AttributeSpec) -> bool
         ensures { OnFalse result (Passes (fails self.now) spec.now) };
 
-    /// Whether no rule can fail at attributes other than those at which a search stops.
-    fn keeps_to_stops(&self) -> bool
-        ensures { OnTrue result (OthersPass (Passes (fails self.now))) };
+    /// No rule can fail at attributes other than those at which a search stops.
+    fn keeps_to_stops(&self)
+        ensures { OthersPass (Passes (fails self.now)) };
 
     /// The rule with the least number that fails at an attribute.
     fn ask(&self, head: &Head, attribute: Attribute, value: &Value<'_>) -> Option<Rule>
@@ -56,8 +56,8 @@ impl<R: AttributeRules> Choice for Concerned<'_, R> {
     }
 
     #[inline]
-    fn keeps_to_stops(&self) -> bool {
-        self.rules.keeps_to_stops()
+    fn keeps_to_stops(&self) {
+        self.rules.keeps_to_stops();
     }
 }
 

@@ -68,9 +68,7 @@ impl AttributeRules for UnitTexts<'_> {
 
     // Strings, addresses and bases take bytes.
     #[tactic(auto, using(crate::proofs::StringLaws::stops_only))]
-    fn keeps_to_stops(&self) -> bool {
-        true
-    }
+    fn keeps_to_stops(&self) {}
 
     fn ask(&self, head: &Head, attribute: Attribute, value: &Value<'_>) -> Option<Rule> {
         match *value {

@@ -1,27 +1,37 @@
-use Rattle.std.proofs.Common.{◌<◌, length, get_or, refl, arith}
-use Rattle.dw_entries.proofs.StopSteps.{none_stops, stop_within, spec_at, more_pass, first_stop}
+use Rattle.std.proofs.Common.{ap, length, arith}
+use Rattle.dw_entries.proofs.StopSteps.{up_to_stop, on_to_stop, spec_at}
 use Rattle.dw_entries.proofs.values.next_stop.Goals as goal
+
+pub loop-place-init : goal.loop-place-init
+loop-place-init g c = record {
+  on = c.next_stop-place.ensures.on;
+  within = c.next_stop-place.ensures.within;
+  before = up_to_stop (g.C.Choice.passes c.args.choice.now) c.args.attributes.now c.args.from c.requires.others c.args.from c.next_stop-place.result c.next_stop-place.ensures;
+}
+
+pub loop-place-preserved : goal.loop-place-preserved
+loop-place-preserved g c =
+    let l = c.loop-place in
+    let n = c.next_stop-place-in-loop-place in
+    let spec = c.index-specs-place.result in
+    record {
+      on = omega (arith, l.invariant.on, n.ensures.on);
+      within = n.ensures.within;
+      before = on_to_stop (g.C.Choice.passes c.args.choice.now) c.args.attributes.now c.args.from c.requires.others l.place n.result spec
+          (spec_at c.args.attributes.now c.as_slice-specs.result.now l.place spec c.as_slice-specs.ensures c.loop-place-test.true c.index-specs-place.is) c.if-asks.ensures.passes l.invariant.before n.ensures;
+    }
 
 pub returns-then-asks-clause-found : goal.returns-then-asks-clause-found
 returns-then-asks-clause-found g c =
-    let P = g.C.Choice.passes c.args.choice.now in
-    let stops = c.stops-stops.result.now in
-    let place = get_or stops c.loop-number.number 0 in
-    let lt : c.loop-number.number < length stops = omega (arith, c.loop-number-test.true) in
-    let here = stop_within P c.args.attributes.now c.args.from stops c.stops-stops.ensures c.requires.others c.loop-number.number place lt refl in
-    first_stop P c.args.attributes.now c.args.from stops c.stops-stops.ensures c.requires.others (g.C.Choice.asked c.args.choice.now) c.loop-number.number place c.index-specs-place.result lt refl
-    (spec_at P c.args.attributes.now c.args.from stops c.stops-stops.ensures c.requires.others c.as_slice-specs.result.now place c.index-specs-place.result c.as_slice-specs.ensures here c.index-specs-place.is) c.if-asks.ensures.asked c.loop-number.invariant
-
-pub loop-number-preserved : goal.loop-number-preserved
-loop-number-preserved g c =
-    let P = g.C.Choice.passes c.args.choice.now in
-    let stops = c.stops-stops.result.now in
-    let place = get_or stops c.loop-number.number 0 in
-    let lt : c.loop-number.number < length stops = omega (arith, c.loop-number-test.true) in
-    let here = stop_within P c.args.attributes.now c.args.from stops c.stops-stops.ensures c.requires.others c.loop-number.number place lt refl in
-    more_pass P c.args.attributes.now c.args.from stops c.stops-stops.ensures c.requires.others c.loop-number.number place c.index-specs-place.result refl
-    (spec_at P c.args.attributes.now c.args.from stops c.stops-stops.ensures c.requires.others c.as_slice-specs.result.now place c.index-specs-place.result c.as_slice-specs.ensures here c.index-specs-place.is) c.if-asks.ensures.passes c.loop-number.invariant
+    let l = c.loop-place in
+    let spec = c.index-specs-place.result in
+    record {
+      on = l.invariant.on;
+      before = l.invariant.before;
+      spec = spec;
+      is_spec = spec_at c.args.attributes.now c.as_slice-specs.result.now l.place spec c.as_slice-specs.ensures c.loop-place-test.true c.index-specs-place.is;
+      asked = c.if-asks.ensures.asked;
+    }
 
 pub returns-clause-none : goal.returns-clause-none
-returns-clause-none g c =
-    none_stops (g.C.Choice.passes c.args.choice.now) c.args.attributes.now c.args.from c.stops-stops.result.now c.stops-stops.ensures c.requires.others c.loop-number.number (omega (arith, c.loop-number-test.false)) c.loop-number.invariant
+returns-clause-none g c = λ j spec on less at. c.loop-place.invariant.before j spec on (omega (arith, less, c.loop-place-test.false, ap length c.as_slice-specs.ensures)) at

@@ -1,22 +1,34 @@
-use Rattle.std.proofs.Common.{◌≡◌, ◌∷◌, [], take, sym, ap, ◌∙◌, arith, length-append}
-use Rattle.dw_forms.specs.declared.decl.AttributeSpec.{AttributeSpec}
-use Rattle.dw_forms.specs.Plans.{does_vary, is_stop, before_of}
-use Rattle.dw_forms.proofs.PlanSteps.{at_each_push, behind_is, counted_on}
+use Rattle.std.proofs.Common.{◌+◌, ap, ◌∙◌, arith, length}
+use Rattle.std.proofs.lemmas.List.{length-set, length-replicate}
+use Rattle.dw_forms.proofs.PlanSteps.{nothing_ahead, ahead_end, ahead_first, ahead_more, plan_is}
 use Rattle.dw_forms.proofs.plan.plan_of.Goals as goal
+
+pub loop-place-init : goal.loop-place-init
+loop-place-init c =
+    let s = c.args.specs.now in
+    let all = c.in_ok-ahead.ensures.items_if_clones_equal (λ y same. same) in
+    record {
+      within = omega arith;
+      small_4 = omega arith;
+      small_8 = omega arith;
+      is_here = ahead_end s;
+      places = ap length all ∙ length-replicate (length s + 1) (nothing_ahead (length s));
+      ahead = ahead_first s c.in_ok-ahead.ahead.items all;
+    }
 
 pub loop-place-preserved : goal.loop-place-preserved
 loop-place-preserved c =
     let s = c.args.specs.now in
-    let i = c.loop-place.invariant in
-    let d = c.index-specs-place.result in
+    let l = c.loop-place in
+    let here = c.ahead_of-here.result in
     record {
-      few = omega (arith, c.behind-here.ensures.few, i.few);
-      few_stops = omega (arith, c.behind-here.ensures.few_stops, i.few_stops);
-      small_4 = omega (arith, c.behind-here.ensures.small_4, i.small_4);
-      small_8 = omega (arith, c.behind-here.ensures.small_8, i.small_8);
-      is_here = c.behind-here.ensures.same ∙ behind_is s d c.loop-place.place c.loop-place.here c.loop-place-test.true c.index-specs-place.is i.is_here;
-      places = rw (c.in_ok-push.ensures.items) (omega (arith, i.places, length-append c.loop-place.before.items (c.loop-place.here ∷ [])));
-      before = rw (c.in_ok-push.ensures.items) (at_each_push (λ k before. before ≡ before_of (take k s)) c.loop-place.before.items c.loop-place.here i.before (i.is_here ∙ ap (λ k. before_of (take k s)) (sym i.places)));
-      varying = counted_on (λ (s : AttributeSpec). does_vary s.form) s d c.loop-place.place c.loop-place.varying.items _ _ c.loop-place-test.true c.index-specs-place.is c.does_vary.ensures c.in_ok-add_if.ensures i.varying;
-      stops = counted_on is_stop s d c.loop-place.place c.loop-place.stops.items _ _ c.loop-place-test.true c.index-specs-place.is c.is_stop.ensures c.in_ok-add_if-2.ensures i.stops;
+      within = omega (arith, l.invariant.within);
+      small_4 = omega (arith, c.ahead_of-here.ensures.small_4, l.invariant.small_4, l.invariant.within, c.loop-place-test.true);
+      small_8 = omega (arith, c.ahead_of-here.ensures.small_8, l.invariant.small_8, l.invariant.within, c.loop-place-test.true);
+      is_here = c.ahead_of-here.ensures.ahead;
+      places = length-set l.ahead.items _ here ∙ l.invariant.places;
+      ahead = ahead_more s l.place l.ahead.items here c.loop-place-test.true (omega (arith, l.invariant.within, l.invariant.places)) c.ahead_of-here.ensures.ahead l.invariant.ahead;
     }
+
+pub returns : goal.returns
+returns c = plan_is c.args.specs.now (record { whole = c.loop-place.here; ahead = c.loop-place.ahead }) c.loop-place.place (omega (arith, c.loop-place-test.false)) c.loop-place.invariant.is_here c.loop-place.invariant.places c.loop-place.invariant.ahead

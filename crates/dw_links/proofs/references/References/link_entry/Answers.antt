@@ -36,7 +36,7 @@ returns-in-Err-clause-err c = λ e is.
     let us = units_of c.args.self.now.entries.now.scanned in
     let head : c.head-head.result ≡ entry_head e = rw is at c.head-head.ensures in
     let P : Head → Type 0 = λ h. IsLeast (ReferenceFails (entries_of us) (placed us) h c.in-Some.item.0 (view c.in-Some.item.1)) (Some c.in-Err.rule) in
-    linked_fails (entries_of us) (placed us) e (values_left c.loop-item.values) (values_left c.next_of.new.self) c.loop-item.kept c.in-Some.item.0 (view c.in-Some.item.1) (c.loop-item.invariant.linked e is) c.in-Some.ensures.some c.in-Err.rule c.broken_at.result
+    linked_fails (entries_of us) (placed us) e (values_left c.loop-item.values) (values_left c.next_reference.new.self) c.loop-item.kept c.in-Some.item.0 (view c.in-Some.item.1) (c.loop-item.invariant.linked e is) c.in-Some.ensures.some c.in-Err.rule c.broken_at.result
     (subst P head c.in-Err.ensures.err) (c.broken_at.ensures ∙ ap (λ (h : Head). record { rule = c.in-Err.rule; section = Info; at = h.offset; attribute = c.in-Some.item.0 }) head)
 
 pub loop-item-preserved : goal.loop-item-preserved
@@ -47,7 +47,7 @@ loop-item-preserved c =
           let head : c.head-head.result ≡ entry_head e = rw is at c.head-head.ensures in
           let P : Head → Type 0 = λ h. IsLeast (ReferenceFails (entries_of us) (placed us) h c.in-Some.item.0 (view c.in-Some.item.1)) None in
           rw c.keep-kept.ensures
-          (linked_more (entries_of us) (placed us) (entry_head e) (values_of e.head) (values_left c.loop-item.values) (values_left c.next_of.new.self) c.loop-item.kept c.in-Some.item.0 (view c.in-Some.item.1) (c.loop-item.invariant.linked e is) c.in-Some.ensures.some
+          (linked_more (entries_of us) (placed us) (entry_head e) (values_of e.head) (values_left c.loop-item.values) (values_left c.next_reference.new.self) c.loop-item.kept c.in-Some.item.0 (view c.in-Some.item.1) (c.loop-item.invariant.linked e is) c.in-Some.ensures.some
           c.in-Ok.target (c.in-Ok.ensures.reached ∙ ap (λ (h : Head). reach_of (entries_of us) (placed us) h (view c.in-Some.item.1)) head) (subst P head c.in-Ok.ensures.ok));
       kept = c.in-Ok.ensures.kept;
     }
@@ -56,7 +56,7 @@ pub loop-item-smaller : goal.loop-item-smaller
 loop-item-smaller c =
     let us = units_of c.args.self.now.entries.now.scanned in
     let (e, is) = found c.args.entry.now c.requires.found in
-    fewer (entries_of us) (placed us) (entry_head e) (values_of e.head) (values_left c.loop-item.values) (values_left c.next_of.new.self) c.loop-item.kept c.in-Some.item.0 (view c.in-Some.item.1) (c.loop-item.invariant.linked e is) c.in-Some.ensures.some
+    fewer (entries_of us) (placed us) (entry_head e) (values_of e.head) (values_left c.loop-item.values) (values_left c.next_reference.new.self) c.loop-item.kept c.in-Some.item.0 (view c.in-Some.item.1) (c.loop-item.invariant.linked e is) c.in-Some.ensures.some
 
 pub returns-in-Some-kept-clause-ok : goal.returns-in-Some-kept-clause-ok
 returns-in-Some-kept-clause-ok c = λ e is.
