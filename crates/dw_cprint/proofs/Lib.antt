@@ -20,6 +20,7 @@ pub mod SurveyLemmas
 pub mod ListingLemmas
 pub mod KeptLemmas
 pub mod ListingTextLemmas
+pub mod OrderLemmas
 pub mod RefusalLemmas
 pub mod KindLemmas
 pub mod FaultLemmas

@@ -282,7 +282,7 @@ judged-none shapes named subjects levels listed refused no_listed no_refused = r
 abbrev pub Apart : List Listed → Type 0
 Apart xs = (i j : ℕ) (d : Listed) → i < length xs → j < length xs → (get_or xs i d).entry ≡ (get_or xs j d).entry → i ≡ j
 
-apart-rising : (xs : List Listed) → AllPairs (λ (a b : Listed). a.entry < b.entry) xs → Apart xs
+pub apart-rising : (xs : List Listed) → AllPairs (λ (a b : Listed). a.entry < b.entry) xs → Apart xs
 apart-rising xs rising i j d v w same = elim (cases_lt i j) [
   | inl less ↦ (let more = rising i j d less w in absurd (omega arith))
   | inr other ↦ elim (cases_lt j i) [
@@ -324,7 +324,7 @@ apart-swap xs a b in_a in_b apart i j d v w same =
           ]
         ]
 
-apart-permuted : (xs ys : List Listed) → IsPermutation xs ys → Apart xs → Apart ys
+pub apart-permuted : (xs ys : List Listed) → IsPermutation xs ys → Apart xs → Apart ys
 apart-permuted xs ys permuted apart = IsPermutation-keeps xs Apart apart (λ l a b in_a in_b h. apart-swap l a b in_a in_b h) ys permuted
 
 -- ---- the listing
@@ -339,7 +339,7 @@ from-mapped f [] n (k, w, e) = absurd (omega arith)
 from-mapped f (y ∷ xs) n (zero, w, e) = (y, (0, (omega arith), refl), e)
 from-mapped f (y ∷ xs) n (suc k, w, e) = (let (x, (j, v, g), same) = from-mapped f xs n (k, (omega arith), e) in (x, (suc j, (omega arith), g), same))
 
-get-mapped : {X : Type 0} (f : X → ℕ) (xs : List X) (i d : ℕ) (x : X) → i < length xs → get_or (map f xs) i d ≡ f (get_or xs i x)
+pub get-mapped : {X : Type 0} (f : X → ℕ) (xs : List X) (i d : ℕ) (x : X) → i < length xs → get_or (map f xs) i d ≡ f (get_or xs i x)
 get-mapped f [] i d x w = absurd (omega arith)
 get-mapped f (y ∷ xs) zero d x w = refl
 get-mapped f (y ∷ xs) (suc i) d x w = get-mapped f xs i d x (omega arith)
