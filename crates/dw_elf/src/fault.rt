@@ -1,4 +1,4 @@
-//! What a file may break: the rules of its ELF layout, and the fault that names one of them.
+//! The rules of the ELF layout of a file, and the fault that names the one that the file violates.
 
 ghost use Rattle.std.specs.Prelude.{◌≡◌};
 
@@ -8,22 +8,22 @@ ghost use Rattle.std.specs.Prelude.{◌≡◌};
 pub enum ElfRule {
     /// One of the six sections has more than `SECTION_LIMIT` bytes.
     TooLarge,
-    /// The file has fewer than 64 bytes, or does not begin as a 64-bit little-endian ELF file of
-    /// version 1 does.
+    /// The file has fewer than 64 bytes, or does not start like a 64-bit little-endian ELF file of
+    /// version 1.
     NotElf64,
     /// The file is neither an executable nor a shared object (`e_type`).
     NotLinked,
-    /// There are no section headers, they have not 64 bytes each, they pass the file's end, or the
-    /// name table is missing: its header is number 0 or none of the headers, has no bytes
-    /// (SHT_NOBITS), or has bytes past the file's end.
+    /// There are no section headers, they don't have 64 bytes each, they pass the file's end, or the
+    /// name table is missing: its number is 0 or not that of a header, or the table has no bytes
+    /// (SHT_NOBITS) or bytes past the file's end.
     SectionTable,
-    /// A section's name does not begin inside the name table, or no zero byte ends it there. Asked of
-    /// every section header but number 0.
+    /// A section's name does not start inside the name table, or no zero byte ends it there. This is
+    /// checked for every section header except number 0.
     SectionName,
     /// One of the six sections has bytes past the file's end.
     SectionRange,
-    /// One of the six sections has compressed bytes (SHF_COMPRESSED), or a name begins `.zdebug_`.
-    /// Compressed bytes are never inflated. This project's choice: such a name is refused, whatever
+    /// One of the six sections has compressed bytes (SHF_COMPRESSED), or a name starts with
+    /// `.zdebug_`. Compressed bytes are never decompressed. This project's choice: such a name is refused, whatever
     /// follows the prefix.
     Compressed,
     /// One of the six sections has the name of a section before it.
@@ -79,9 +79,9 @@ impl ElfRule {
 /// The first check that a file fails.
 #[derive(Clone, Copy, Debug, PartialEq, Eq)]
 pub struct ElfFault {
-    /// The rule that the file breaks.
+    /// The rule that the file violates.
     pub rule: ElfRule,
-    /// The number of the section header that breaks it, from 1 on, or 0 for a rule of the whole file:
+    /// The number of the section header that violates it, from 1 on, or 0 for a rule of the whole file:
     /// `NotElf64`, `NotLinked`, `SectionTable` and `NoInfo`.
     pub section: u16,
 }

@@ -71,7 +71,7 @@ pub fn find<'a>(file: &'a [u8]) -> Result<Sections<'a>, ElfFault>
     Ok(sections_of(file, &found))
 }
 
-/// A file has one fault at most, and none where no check fails: so `find` has one answer.
+/// A file has one fault at most, and none if no check fails: so `find` has one possible result.
 pub fn one_fault()
     ensures one { (file : List ℕ) (e f : AnyFault) → IsFault file e → IsFault file f → e ≡ f }
     ensures none { (file : List ℕ) (e : AnyFault) → IsFault file e → ¬ ChecksPass file }

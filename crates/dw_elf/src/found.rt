@@ -48,7 +48,7 @@ impl<'a> Found<'a> {
         }
     }
 
-    /// The bytes of a section, or no bytes where no header names it.
+    /// The bytes of a section, or no bytes if no header names it.
     pub(crate) fn bytes(&self, section: DebugSection) -> &'a [u8]
         ensures { result.now ≡ unwrap_or (slot self.now section) [] }
     {

@@ -21,7 +21,7 @@ const ET_DYN: u16 = 3;
 pub(crate) struct FileHeader {
     /// The type of the file (`e_type`).
     pub kind: u16,
-    /// Where the section headers begin, from the file's first byte (`e_shoff`).
+    /// Where the section headers start, from the file's first byte (`e_shoff`).
     pub table_offset: u64,
     /// The size of a section header in bytes (`e_shentsize`).
     pub header_size: u16,

@@ -23,7 +23,7 @@ use crate::section_header::{
 pub(crate) struct SectionTable<'a> {
     /// The bytes of the file.
     pub file: &'a [u8],
-    /// Where the section headers begin, from the file's first byte.
+    /// Where the section headers start, from the file's first byte.
     pub start: u64,
     /// The count of section headers, number 0 included.
     pub count: u16,
@@ -40,7 +40,7 @@ impl<'a> SectionTable<'a> {
     ghost use Rattle.dw_elf.specs.Rules.{FailsAt};
     ghost use Rattle.dw_elf.specs.Reading.{IsHeaderAt, slot, SlotsUpTo};
 
-    /// Asks the checks of the file.
+    /// Makes the checks of the file.
     pub(crate) fn of(file: &'a [u8]) -> Result<SectionTable<'a>, ElfRule>
         ensures file { IfOk result (λ table. table.file ≡ file.entry) }
         ensures passes { OnOk result (Passes file.now 0) }
@@ -59,8 +59,8 @@ impl<'a> SectionTable<'a> {
         Ok(table)
     }
 
-    /// Asks the checks of header `k`, where `found` is what lower headers name. The answer is the
-    /// section that this header names, if it is looked for.
+    /// Makes the checks of header `k`, where `found` is what lower headers name. Returns the section
+    /// that this header names, if it is one of the six.
     pub(crate) fn check(
         &self,
         k: u16,
@@ -123,7 +123,7 @@ impl<'a> SectionTable<'a> {
     }
 }
 
-/// The table that a file header leads to, if it is there as it must be.
+/// The table of section headers that a file header describes, if it is valid.
 #[tactic(auto, unfolding(crate::specs::Elf::section_bytes))]
 fn table_of<'a>(file: &'a [u8], header: &FileHeader) -> Option<SectionTable<'a>>
     requires long { FILE_HEADER_SIZE ≤ length file.now }

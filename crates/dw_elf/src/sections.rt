@@ -31,7 +31,7 @@ pub struct Sections<'a> {
 }
 
 impl<'a> Sections<'a> {
-    /// The six slices as sections, where each of them is within the limit.
+    /// The six slices as sections, if each of them is within the limit.
     pub fn new(
         abbrev: &'a [u8],
         info: &'a [u8],

@@ -46,7 +46,7 @@ fn is_child(entries: &Entries<'_>, id: EntryId, parent: EntryId) -> bool
     }
 }
 
-/// The first child of an entry: the entry behind it, if that is a child.
+/// The first child of an entry: the entry after it, if that is a child.
 fn first_child(entries: &Entries<'_>, id: EntryId) -> Option<EntryId>
     requires { id < length (entries_of (units_of entries.now.scanned)) }
     ensures children { siblings_from (entries_of (units_of entries.now.scanned)) id result

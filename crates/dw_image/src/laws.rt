@@ -21,7 +21,7 @@ pub fn valid_has_no_fault()
     ensures { (s : Sections) (fault : Fault) → IsValid s → IsFirstFault s fault → ⊥ }
 {}
 
-/// There is one first fault at most, where several cycles count as one.
+/// There is one first fault at most, if several cycles count as one.
 pub fn one_first_fault()
     ensures { (s : Sections) (fault other : Fault) → IsFirstFault s fault → IsFirstFault s other
         → IsOneFault fault other }

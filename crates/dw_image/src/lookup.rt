@@ -31,7 +31,7 @@ impl<'a> Image<'a> {
         self.entries.nth(k)
     }
 
-    /// What is told of an entry besides its attributes.
+    /// What is known of an entry besides its attributes.
     #[tactic(auto, unfolding(crate::specs::Images::units_in))]
     pub fn head(&self, id: EntryId) -> Head
         requires { id < length (entries_in self.now) }
@@ -50,7 +50,7 @@ impl<'a> Image<'a> {
         self.entries.value(id, attribute)
     }
 
-    /// The entry that an entry's attribute reaches. None where the attribute is absent or no reference.
+    /// The entry that an entry's attribute refers to. None if the attribute is absent or not a reference.
     #[tactic(auto, unfolding(crate::specs::Images::units_in))]
     pub fn target(&self, id: EntryId, attribute: Attribute) -> Option<EntryId>
         requires { id < length (entries_in self.now) }
@@ -61,7 +61,7 @@ impl<'a> Image<'a> {
         self.tables.target(&self.entries, id, attribute)
     }
 
-    /// The text of an entry's DW_AT_name, without its closing zero byte. None where the entry has no name.
+    /// The text of an entry's DW_AT_name, without its closing zero byte. None if the entry has no name.
     #[tactic(auto, unfolding(crate::specs::Images::units_in, crate::specs::Images::sections_in, crate::specs::Images::name_in))]
     pub fn name_of(&self, id: EntryId) -> Option<&'a [u8]>
         requires { id < length (entries_in self.now) }

@@ -16,7 +16,7 @@ use dw_links::Links;
 use dw_types::{ByValue, OrderFault, Packed, SizeTable, order, sizes};
 use std::alloc::{AllocError, Global};
 
-/// Where the entry with a number begins.
+/// The offset of the entry with a number.
 fn offset_of(entries: &Entries<'_>, number: usize) -> u32
     requires { number < length (entries_of (units_of entries.now.scanned)) }
     ensures { result ≡ offset_at (facts_in (units_of entries.now.scanned)) number }

@@ -14,7 +14,7 @@ use dw_entries::constants::DW_AT_type;
 use dw_types::{Packed, StepGraph, count_at};
 
 impl Image<'_> {
-    /// The type at an entry. None where its tag is no type's.
+    /// The type at an entry. None if its tag is not a type's.
     #[tactic(auto, unfolding(crate::specs::Images::units_in))]
     pub fn type_at(&self, id: EntryId) -> Option<TypeId>
         requires { id < length (entries_in self.now) }
@@ -41,7 +41,7 @@ impl Image<'_> {
         }
     }
 
-    /// The size of a type in bytes, below 2^63. None where its size is not known.
+    /// The size of a type in bytes, below 2^63. None if its size is not known.
     #[tactic(auto, unfolding(crate::specs::Images::units_in, crate::specs::Images::size_table_in))]
     pub fn size_of(&self, id: TypeId) -> Option<u64>
         requires { id < length (entries_in self.now) }

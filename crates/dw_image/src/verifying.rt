@@ -17,7 +17,7 @@ use std::alloc::Global;
 pub enum Verdict<'a> {
     /// They are valid.
     Sound(Image<'a>),
-    /// They are not: the first rule that fails, and where.
+    /// They are not: the first rule that fails, and its place.
     Fault(Fault),
 }
 

@@ -10,13 +10,13 @@ use std::io::{Read, Write};
 
 /// What is read from: a reader that counts the calls that failed.
 pub trait Source {
-    /// The bytes that reads will give from here on, where they are known.
+    /// The bytes that reads will give from here on, if they are known.
     ghost remaining: { Self → Option (List ℕ) };
 
-    /// How many calls have answered an error.
+    /// How many calls have returned an error.
     ghost failures: { Self → ℕ };
 
-    /// Reads some bytes into the front of the buffer, and answers how many.
+    /// Reads some bytes into the front of the buffer, and returns how many.
     fn read(&mut self, buf: &mut [u8]) -> io::Result<usize>
         requires { failures self.old < u64.MAX }
         ensures bound { ReadsAtMost result buf.new }
@@ -30,13 +30,13 @@ pub trait Source {
 
 /// What is written to: a writer that counts the calls that failed.
 pub trait Sink {
-    /// The bytes that the writer holds, where they are known.
+    /// The bytes that the writer holds, if they are known.
     ghost contents: { Self → Option (List ℕ) };
 
-    /// How many calls have answered an error, or took no byte of some.
+    /// How many calls have returned an error, or took no byte of a text that has some.
     ghost failures: { Self → ℕ };
 
-    /// Writes some bytes of the front of the buffer, and answers how many.
+    /// Writes some bytes from the front of the buffer, and returns how many.
     fn write(&mut self, buf: &[u8]) -> io::Result<usize>
         requires { failures self.old < u64.MAX }
         ensures bound { WritesAtMost result buf.now }

@@ -5,7 +5,7 @@ ghost use Rattle.dwv.specs.Ending.{status_of, line_of};
 
 use crate::request::{RunFault, Status};
 
-/// The exit status of an answer, and the line for standard error, empty where there is none.
+/// The exit status of a result, and the line for standard error, empty if there is none.
 pub fn ending(answer: &Result<Status, RunFault>) -> (u8, &'static str)
     ensures status { result.0 ≡ status_of answer.now }
     ensures line { result.1.now ≡ line_of answer.now }

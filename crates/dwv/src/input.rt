@@ -7,7 +7,7 @@ use crate::device::Source;
 use crate::request::RunFault;
 use std::alloc::Global;
 
-/// The most bytes that one read asks for.
+/// The most bytes that one read requests.
 const CHUNK: usize = 65_536;
 
 /// Reads up to the end of input, or one byte past the limit.

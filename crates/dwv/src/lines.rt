@@ -101,7 +101,7 @@ fn put_offsets(text: &mut Vec<u8>, offsets: &[u32]) -> Result<(), AllocError>
     Ok(())
 }
 
-/// `cycle` and the offsets, where there are any.
+/// `cycle` and the offsets, if there are any.
 #[tactic(auto, unfolding(crate::specs::Lines::cycle_line))]
 fn put_cycle_line(text: &mut Vec<u8>, cycle: &[u32]) -> Result<(), AllocError>
     ensures ok { OnOk result (text.new.items ≡ text.old.items ++ cycle_line cycle.now) }

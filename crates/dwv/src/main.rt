@@ -24,7 +24,7 @@ use std::process::ExitCode;
 use std::rt::{Env, Files};
 use std::{fs, io};
 
-/// What the words after the program's name ask.
+/// What the words after the program's name request.
 fn asked<R: Env + AllocGlobal>(rt: &R) -> Result<(Request, String), WordsFault> {
     let mut all = Vec::new(rt.alloc());
     let arguments = match arguments::arguments(rt) {

@@ -1,4 +1,4 @@
-//! Which text answers a request over the bytes of a file.
+//! The text for a request over the bytes of a file.
 
 ghost use Rattle.std.specs.Prelude.{◌≡◌, IfOk};
 ghost use Rattle.dwv.specs.Reports.{fault_text, elf_fault_text, AreTypeLines, IsSoundText, sound_status, Report};
@@ -12,7 +12,7 @@ use dw_elf::{ElfFault, ElfRule, find};
 use dw_image::{Fault, Image, NoMemory, Verdict, verify};
 use std::alloc::{AllocError, Global};
 
-/// What a request is answered, and the text that is written for it.
+/// The status of a request, and the text that is written for it.
 #[derive(Drop)]
 pub struct Answer {
     pub status: Status,
@@ -57,7 +57,7 @@ fn text_of_types(alloc: Global, image: &Image<'_>) -> Result<Vec<u8>, NoMemory>
     Ok(listing.text)
 }
 
-/// What is answered where the sections are sound.
+/// The result if the sections are sound.
 fn answer_of_sound(alloc: Global, request: Request, image: &Image<'_>) -> Result<Answer, NoMemory>
     ensures text { IfOk result (λ answer. IsSoundText request image.now answer.text.items) }
     ensures status { IfOk result (λ answer. answer.status ≡ sound_status request image.now) }
@@ -74,7 +74,7 @@ fn answer_of_sound(alloc: Global, request: Request, image: &Image<'_>) -> Result
     Ok(Answer { status, text })
 }
 
-/// The answer to a request over the bytes of a file.
+/// The result of a request over the bytes of a file.
 pub fn report(
     alloc: Global,
     limit: usize,

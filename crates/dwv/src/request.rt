@@ -1,4 +1,4 @@
-//! What the program is asked, and what it answers.
+//! What is requested of the program, and how a request ends.
 
 ghost use Rattle.std.specs.Prelude.{◌≡◌};
 ghost use Rattle.dwv.specs.declared.request.RunFault.TheVariants.{Memory};
@@ -7,7 +7,7 @@ use dw_image::NoMemory;
 use std::alloc::{AllocError, AllocFailed};
 use thiserror::Error;
 
-/// What is asked of a file.
+/// What is requested of a file.
 #[derive(Clone, Copy, Debug, PartialEq, Eq)]
 pub enum Request {
     /// Whether the file is sound: a line, or an object in JSON.
@@ -16,31 +16,31 @@ pub enum Request {
     Show,
     /// The C declaration of each named type, or why it has none.
     Types,
-    /// The size of the type whose entry begins at this offset of .debug_info.
+    /// The size of the type whose entry starts at this offset of .debug_info.
     Size(u32),
 }
 
-/// How an answered request ends.
+/// How a request ends that has a result.
 #[derive(Clone, Copy, Debug, PartialEq, Eq)]
 pub enum Status {
     /// The file is sound.
     Sound,
-    /// The file breaks a rule.
+    /// The file violates a rule.
     Fault,
-    /// The file is sound, and no type's entry begins at the offset that was asked.
+    /// The file is sound, and no type's entry starts at the given offset.
     NotAType,
 }
 
-/// Why a request is not answered.
+/// Why a request has no result.
 #[derive(Clone, Copy, Debug, PartialEq, Eq, Error)]
 pub enum RunFault {
-    /// A read answered an error; nothing was written.
+    /// A read returned an error; nothing was written.
     #[error("reading failed")]
     ReadFailed,
-    /// A write answered an error, or took no byte; a beginning of the text was written.
+    /// A write returned an error, or took no byte; a prefix of the text was written.
     #[error("writing failed")]
     WriteFailed,
-    /// A growth was refused; nothing was written.
+    /// An allocation failed; nothing was written.
     #[error("out of memory")]
     Memory,
 }

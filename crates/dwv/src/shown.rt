@@ -57,7 +57,7 @@ fn put_glyphs(text: &mut Vec<u8>, name: &[u8]) -> Result<(), AllocError>
     Ok(())
 }
 
-/// ` "NAME"`, where there is a name.
+/// ` "NAME"`, if there is a name.
 #[tactic(auto, unfolding(crate::specs::Shown::name_part))]
 fn put_name(text: &mut Vec<u8>, name: Option<&[u8]>) -> Result<(), AllocError>
     ensures ok { OnOk result (text.new.items ≡ text.old.items ++ name_part (option_copied name.entry)) }
@@ -70,7 +70,7 @@ fn put_name(text: &mut Vec<u8>, name: Option<&[u8]>) -> Result<(), AllocError>
     text.extend_from_slice(b"\"")
 }
 
-/// ` size N`, where there is a size.
+/// ` size N`, if there is a size.
 #[tactic(auto, unfolding(crate::specs::Shown::size_part))]
 fn put_size(text: &mut Vec<u8>, size: Option<u64>) -> Result<(), AllocError>
     ensures ok { OnOk result (text.new.items ≡ text.old.items ++ size_part size) }
@@ -82,7 +82,7 @@ fn put_size(text: &mut Vec<u8>, size: Option<u64>) -> Result<(), AllocError>
     put_decimal(text, size)
 }
 
-/// An entry's line: what is told of it, its name and its size.
+/// An entry's line: its head, its name and its size.
 #[tactic(auto, unfolding(crate::specs::Shown::shown_line))]
 fn put_shown_line(
     text: &mut Vec<u8>,
@@ -99,7 +99,7 @@ fn put_shown_line(
     text.extend_from_slice(b"\n")
 }
 
-/// The size of an entry, where it is a type and has one.
+/// The size of an entry, if it is a type and has one.
 #[tactic(auto, unfolding(crate::specs::Shown::shown_size))]
 fn size_of_entry(image: &Image<'_>, id: EntryId) -> Option<u64>
     requires { id < length (entries_in image.now) }
@@ -145,7 +145,7 @@ pub fn put_show_lines(text: &mut Vec<u8>, image: &Image<'_>) -> Result<(), Alloc
     Ok(())
 }
 
-/// The type whose entry begins at an offset.
+/// The type whose entry starts at an offset.
 #[tactic(auto, unfolding(crate::specs::Shown::type_at_offset))]
 fn type_at(image: &Image<'_>, offset: u32) -> Option<TypeId>
     ensures exact { result ≡ type_at_offset image.now offset }
@@ -170,7 +170,7 @@ fn put_size_line(text: &mut Vec<u8>, size: Option<u64>) -> Result<(), AllocError
     text.extend_from_slice(b"\n")
 }
 
-/// The size of the type whose entry begins at an offset, and whether a type is there.
+/// The size of the type whose entry starts at an offset, and whether a type is there.
 pub fn put_size_at(text: &mut Vec<u8>, image: &Image<'_>, offset: u32) -> Result<Status, AllocError>
     ensures text { OnOk result (text.new.items
         ≡ text.old.items ++ size_text image.now (type_at_offset image.now offset)) }

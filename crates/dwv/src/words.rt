@@ -16,7 +16,7 @@ pub enum WordsFault {
     BadUsage,
     /// The offset is not `0x` and 1 to 8 hexadecimal digits.
     BadOffset,
-    /// A growth was refused.
+    /// An allocation failed.
     Memory,
 }
 
