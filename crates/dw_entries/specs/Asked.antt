@@ -25,7 +25,8 @@ EachEntry P entries = (id : ℕ) (entry : Entry) → slice_get entries id ≡ So
 
 -- the entries stand in rising offset
 abbrev pub OffsetsRise : List Entry → Type 0
-OffsetsRise entries = (i j : ℕ) (a b : Entry) → i < j → slice_get entries i ≡ Some a → slice_get entries j ≡ Some b → a.at < b.at
+OffsetsRise entries = (i j : ℕ) (a b : Entry) → i < j → slice_get entries i ≡ Some a → slice_get entries j ≡ Some b
+    → a.at < b.at
 
 -- the failures of rules that are asked of what stands at a place, as of an entry or of a unit, and of no attribute
 pub record AtPlace (place : Place) (Fails : Rule → Type 0) (f : Failure) : Type 0 where

@@ -23,10 +23,12 @@ OthersPass Passes = (spec : AttributeSpec) → is_stop spec ≡ false → Passes
 
 -- from one place up to another no specification is asked for
 abbrev pub Unasked : (AttributeSpec → Type 0) → List AttributeSpec → ℕ → ℕ → Type 0
-Unasked Passes specs from to = (j : ℕ) (spec : AttributeSpec) → from ≤ j → j < to → slice_get specs j ≡ Some spec → Passes spec
+Unasked Passes specs from to = (j : ℕ) (spec : AttributeSpec) → from ≤ j → j < to → slice_get specs j ≡ Some spec
+    → Passes spec
 
 -- from a place on, the specification at this place is the first that is asked for
-pub record IsNextAsked (Passes Asked : AttributeSpec → Type 0) (specs : List AttributeSpec) (from place : ℕ) : Type 0 where
+pub record IsNextAsked (Passes Asked : AttributeSpec → Type 0) (specs : List AttributeSpec)
+    (from place : ℕ) : Type 0 where
   pub on : from ≤ place
   pub before : Unasked Passes specs from place
   pub spec : AttributeSpec
@@ -47,7 +49,8 @@ abbrev pub ArePassed : (AttributeSpec → Type 0) → List (ℕ × Datum) → Ty
 ArePassed Passes items = (k : ℕ) (item : ℕ × Datum) → slice_get items k ≡ Some item → IsPassed Passes item
 
 -- the found attribute follows some that are passed, and these are behind it
-pub record IsNextOf (Passes : AttributeSpec → Type 0) (items : List (ℕ × Datum)) (found : ℕ × Datum) (behind : List (ℕ × Datum)) : Type 0 where
+pub record IsNextOf (Passes : AttributeSpec → Type 0) (items : List (ℕ × Datum)) (found : ℕ × Datum)
+    (behind : List (ℕ × Datum)) : Type 0 where
   pub passed : List (ℕ × Datum)
   pub parts : items ≡ passed ++ found ∷ behind
   pub are_passed : ArePassed Passes passed

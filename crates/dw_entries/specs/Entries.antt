@@ -33,20 +33,24 @@ first_id (n then ns) id = Some id
 -- a node's entries: itself, number id, at this offset under this parent and with this next sibling, and those below it
 abbrev mutual
   pub node_entries : (unit : ℕ) (above : Option ℕ) (depth : ℕ) (next : Option ℕ) (id : ℕ) (at : ℕ) → Node → List Entry
-  node_entries unit above depth next id at (leaf h) = record { at = at; unit = unit; parent = above; depth = depth; next = next; head = h } ∷ []
+  node_entries unit above depth next id at (leaf h) =
+      record { at = at; unit = unit; parent = above; depth = depth; next = next; head = h } ∷ []
   node_entries unit above depth next id at (parent h ns z) =
-      record { at = at; unit = unit; parent = above; depth = depth; next = next; head = h } ∷ nodes_entries unit id (suc depth) (suc id) (at + length (head_bytes h)) ns
+      record { at = at; unit = unit; parent = above; depth = depth; next = next; head = h }
+      ∷ nodes_entries unit id (suc depth) (suc id) (at + length (head_bytes h)) ns
 
   pub nodes_entries : (unit : ℕ) (above : ℕ) (depth : ℕ) (id : ℕ) (at : ℕ) → Nodes → List Entry
   nodes_entries unit above depth id at none = []
   nodes_entries unit above depth id at (n then ns) =
-      node_entries unit (Some above) depth (first_id ns (id + node_count n)) id at n ++ nodes_entries unit above depth (id + node_count n) (at + length (node_bytes n)) ns
+      node_entries unit (Some above) depth (first_id ns (id + node_count n)) id at n
+      ++ nodes_entries unit above depth (id + node_count n) (at + length (node_bytes n)) ns
 
 -- the entries of these units, of which the first has this number and begins at this offset, with entry number id
 abbrev pub entries_from : (unit : ℕ) (id : ℕ) (at : ℕ) → List DebugUnit → List Entry
 entries_from unit id at [] = []
 entries_from unit id at (u ∷ us) =
-    node_entries unit None 0 None id (at + header_size u.header.kind) u.root ++ entries_from (suc unit) (id + node_count u.root) (at + length (unit_bytes u)) us
+    node_entries unit None 0 None id (at + header_size u.header.kind) u.root
+    ++ entries_from (suc unit) (id + node_count u.root) (at + length (unit_bytes u)) us
 
 -- the entries of these units, from the beginning of .debug_info
 abbrev pub entries_of : List DebugUnit → List Entry
@@ -63,7 +67,9 @@ pub record PlacedUnit : Type 0 where
 -- these units, the first of which begins at this offset with entry first
 abbrev pub placed_from : ℕ → ℕ → List DebugUnit → List PlacedUnit
 placed_from at first [] = []
-placed_from at first (u ∷ us) = record { at = at; first = first; unit = u } ∷ placed_from (at + length (unit_bytes u)) (first + node_count u.root) us
+placed_from at first (u ∷ us) =
+    record { at = at; first = first; unit = u }
+    ∷ placed_from (at + length (unit_bytes u)) (first + node_count u.root) us
 
 -- the units from the beginning of .debug_info, each where it stands
 abbrev pub placed : List DebugUnit → List PlacedUnit

@@ -1,12 +1,14 @@
 -- Chapter: the first place at which .debug_info stops being a list of units, and the rule that fails there.
-use Rattle.std.specs.Prelude.{◌≡◌, ◌≢◌, ℕ, zero, suc, true, false, ◌+◌, List, [], ◌∷◌, ◌++◌, length, Some, Result, Ok, Err}
+use Rattle.std.specs.Prelude.{◌≡◌, ◌≢◌, ℕ, zero, suc, true, false, ◌+◌, List, [], ◌∷◌, ◌++◌, length, Some, Result, Ok}
+use Rattle.std.specs.Prelude.{Err}
 use Rattle.dw_forms.specs.declared.abbrev_fault.AbbrevRule.{AbbrevRule}
 use Rattle.dw_forms.specs.declared.abbrev_fault.AbbrevRule.TheVariants as table
 use Rattle.dw_forms.specs.declared.abbrev_fault.BrokenTable.{BrokenTable}
 use Rattle.dw_forms.specs.Abbrev.{Declaration}
 use Rattle.dw_forms.specs.AbbrevReading.{table_at}
 use Rattle.dw_entries.specs.declared.rule.Rule.{Rule}
-use Rattle.dw_entries.specs.declared.rule.Rule.TheVariants.{AbbrevCut, AbbrevNumber, CodeTwice, BadTag, BadChildren, BadPair, UnknownForm, AttributeTwice, NoUnitEntry, LeftOver}
+use Rattle.dw_entries.specs.declared.rule.Rule.TheVariants.{AbbrevCut, AbbrevNumber, CodeTwice, BadTag, BadChildren}
+use Rattle.dw_entries.specs.declared.rule.Rule.TheVariants.{BadPair, UnknownForm, AttributeTwice, NoUnitEntry, LeftOver}
 use Rattle.dw_entries.specs.declared.fault.Section.TheVariants.{Abbrev, Info}
 use Rattle.dw_entries.specs.declared.fault.Failing.{Failing}
 use Rattle.dw_entries.specs.declared.fault.Broken.{Broken}
@@ -55,7 +57,8 @@ FitsUnit kind (entry h ∷ is) = fits_tag kind h.decl.tag ≡ true
 FitsUnit kind (null z ∷ is) = ⊥
 
 -- these items spell the beginning of a unit's body, and so many lists are open after them
-pub record Front (x : Context) (kind : HeaderKind) (body : List ℕ) (is : List Item) (rest : List ℕ) (depth : ℕ) : Type 0 where
+pub record Front (x : Context) (kind : HeaderKind) (body : List ℕ) (is : List Item) (rest : List ℕ)
+    (depth : ℕ) : Type 0 where
   pub are : AreItems x is
   pub fits : FitsUnit kind is
   pub at_depth : tree_depth is ≡ Some depth
@@ -63,7 +66,8 @@ pub record Front (x : Context) (kind : HeaderKind) (body : List ℕ) (is : List 
 
 -- an item is missing inside the tree, or something else than nulls comes after it
 abbrev pub Stops : Context → HeaderKind → List Item → List ℕ → ℕ → Failing → Type 0
-Stops x kind is rest zero f = (rest ≢ []) × (null_first (code_at rest) ≡ false) × (f ≡ record { rule = LeftOver; attribute = 0 })
+Stops x kind is rest zero f = (rest ≢ []) × (null_first (code_at rest) ≡ false)
+    × (f ≡ record { rule = LeftOver; attribute = 0 })
 Stops x kind is rest (suc depth) f = next_at x kind is rest ≡ Err f
 
 -- some items begin the body of the unit, and it does not go on

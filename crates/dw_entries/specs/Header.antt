@@ -1,10 +1,12 @@
 -- Chapter: the header of a unit (DWARF 5, 7.5.1; DWARF 4, 7.5.1.1).
-use Rattle.std.specs.Prelude.{◌≡◌, ℕ, ◌<◌, ◌^◌, ◌⊎◌, Bool, List, [], ◌++◌, length, take, drop, Result, Ok, Err, nat_lt, ◌==◌, ◌||◌, if◌then◌else◌}
+use Rattle.std.specs.Prelude.{◌≡◌, ℕ, ◌<◌, ◌^◌, ◌⊎◌, Bool, List, [], ◌++◌, length, take, drop, Result, Ok, Err, nat_lt}
+use Rattle.std.specs.Prelude.{◌==◌, ◌||◌, if◌then◌else◌}
 use Rattle.byteorder.specs.Endian.{little_number, little_bytes}
 use Rattle.dw_forms.specs.Codes.{DW_TAG_compile_unit, DW_TAG_partial_unit, DW_TAG_type_unit}
 use Rattle.dw_forms.specs.Steps.{◌>>=◌}
 use Rattle.dw_entries.specs.declared.rule.Rule.{Rule}
-use Rattle.dw_entries.specs.declared.rule.Rule.TheVariants.{UnitCut, Not32Bit, BadVersion, BadUnitType, BadAddressSize, BadAbbrevOffset}
+use Rattle.dw_entries.specs.declared.rule.Rule.TheVariants.{UnitCut, Not32Bit, BadVersion, BadUnitType, BadAddressSize}
+use Rattle.dw_entries.specs.declared.rule.Rule.TheVariants.{BadAbbrevOffset}
 use Rattle.dw_entries.specs.declared.header.HeaderKind.{HeaderKind}
 use Rattle.dw_entries.specs.declared.header.HeaderKind.TheVariants.{Version4, CompileUnit, PartialUnit, TypeUnit}
 use Rattle.dw_entries.specs.declared.header.UnitHeader.{UnitHeader}
@@ -53,7 +55,9 @@ type_fields kind = []
 -- what stands between the version and the unit's entries
 abbrev pub fields_after_version : UnitHeader → HeaderKind → List ℕ
 fields_after_version h Version4 = little_bytes 4 h.abbrev_offset ++ little_bytes 1 h.address_size
-fields_after_version h kind = little_bytes 1 (type_code kind) ++ (little_bytes 1 h.address_size ++ (little_bytes 4 h.abbrev_offset ++ type_fields kind))
+fields_after_version h kind =
+    little_bytes 1 (type_code kind)
+    ++ (little_bytes 1 h.address_size ++ (little_bytes 4 h.abbrev_offset ++ type_fields kind))
 
 -- the header behind its unit_length, which counts these bytes too
 abbrev pub header_fields : UnitHeader → List ℕ
@@ -94,7 +98,8 @@ pub record IsHeader (abbrev_size : ℕ) (h : UnitHeader) : Type 0 where
 
 -- a field of so many bytes, the lowest first
 unfoldable pub field_at : ℕ → List ℕ → Result (ℕ × List ℕ) Rule
-field_at size bytes = if nat_lt (length bytes) size then Err UnitCut else Ok (little_number size (take size bytes), drop size bytes)
+field_at size bytes =
+    if nat_lt (length bytes) size then Err UnitCut else Ok (little_number size (take size bytes), drop size bytes)
 
 -- the size of an address: 4 or 8
 unfoldable pub address_size_at : List ℕ → Result (ℕ × List ℕ) Rule
@@ -132,7 +137,8 @@ version5_at abbrev_size unit_length bytes = do
       address_size_at code.1 >>= λ size.
       abbrev_offset_at abbrev_size size.1 >>= λ offset.
       kind_at code.0 offset.1 >>= λ kind.
-      Ok (record { unit_length = unit_length; kind = kind.0; address_size = size.0; abbrev_offset = offset.0 }, kind.1)) else Err BadUnitType
+      Ok (record { unit_length = unit_length; kind = kind.0; address_size = size.0; abbrev_offset = offset.0 }, kind.1))
+      else Err BadUnitType
 
 -- the fields behind unit_length, and what follows them
 unfoldable pub fields_at : ℕ → ℕ → List ℕ → Result (UnitHeader × List ℕ) Rule
@@ -145,7 +151,8 @@ fields_at abbrev_size unit_length bytes = do
 unfoldable pub unit_at : List ℕ → Result (ℕ × List ℕ) Rule
 unit_at bytes = do
   len ← field_at 4 bytes
-  if nat_lt len.0 0xfffffff0 then (if nat_lt (length len.1) len.0 then Err UnitCut else Ok (len.0, take len.0 len.1)) else Err Not32Bit
+  if nat_lt len.0 0xfffffff0 then (if nat_lt (length len.1) len.0 then Err UnitCut else Ok (len.0, take len.0 len.1))
+      else Err Not32Bit
 
 -- a header, and the unit's bytes behind it
 unfoldable pub header_at : ℕ → List ℕ → Result (UnitHeader × List ℕ) Rule

@@ -15,15 +15,19 @@ module _ {A : Type 0} (bytes : A → List ℕ) (Is : A → Type 0) where
   IsUnique = (i j : A) (x y : List ℕ) → Is i → Is j → bytes i ++ x ≡ bytes j ++ y → (i ≡ j) × (x ≡ y)
 
   -- of two lists that spell beginnings of the same bytes one goes on where the other ends
-  pub begins : IsUnique → (is js : List A) (x y : List ℕ) → AllByRecursion Is is → AllByRecursion Is js → flat_map bytes is ++ x ≡ flat_map bytes js ++ y → GoesOn is js x y ⊎ GoesOn js is y x
+  pub begins : IsUnique → (is js : List A) (x y : List ℕ) → AllByRecursion Is is → AllByRecursion Is js
+      → flat_map bytes is ++ x ≡ flat_map bytes js ++ y → GoesOn is js x y ⊎ GoesOn js is y x
   begins unique [] js x y p q e = inl (record { more = js; are = q; items = refl; rest = e })
   begins unique (i ∷ is) [] x y p q e = inr (record { more = i ∷ is; are = p; items = refl; rest = sym e })
   begins unique (i ∷ is) (j ∷ js) x y p q e =
-      let u = unique i j (flat_map bytes is ++ x) (flat_map bytes js ++ y) p.0 q.0 (sym (append_assoc (bytes i) (flat_map bytes is) x) ∙ e ∙ append_assoc (bytes j) (flat_map bytes js) y) in
+      let u = unique i j (flat_map bytes is ++ x) (flat_map bytes js ++ y) p.0 q.0
+      (sym (append_assoc (bytes i) (flat_map bytes is) x) ∙ e ∙ append_assoc (bytes j) (flat_map bytes js) y) in
       let same : i ≡ j = u.0 in
       elim (begins unique is js x y p.1 q.1 u.1) [
-        | inl g ↦ let g_items : js ≡ is ++ g.more = g.items in inl (record { more = g.more; are = g.are; items = cc; rest = g.rest })
-        | inr g ↦ let g_items : is ≡ js ++ g.more = g.items in inr (record { more = g.more; are = g.are; items = cc; rest = g.rest })
+        | inl g ↦ let g_items : js ≡ is ++ g.more = g.items in
+            inl (record { more = g.more; are = g.are; items = cc; rest = g.rest })
+        | inr g ↦ let g_items : is ≡ js ++ g.more = g.items in
+            inr (record { more = g.more; are = g.are; items = cc; rest = g.rest })
       ]
 
 -- a joining of no bytes ends in no bytes

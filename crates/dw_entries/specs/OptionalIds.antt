@@ -14,10 +14,11 @@ number_of None = 0xffffffff
 number_of (Some n) = n
 
 number_of-option_of : (n : ℕ) → number_of (option_of n) ≡ n
-number_of-option_of n = elim (n == 0xffffffff) as (λ b. b ≡ (n == 0xffffffff) → number_of (if b then None else Some n) ≡ n) [
-  | true ↦ λ e. sym (eqb-true n 0xffffffff (sym e))
-  | false ↦ λ e. refl
-] refl
+number_of-option_of n = elim (n == 0xffffffff) as
+    (λ b. b ≡ (n == 0xffffffff) → number_of (if b then None else Some n) ≡ n) [
+      | true ↦ λ e. sym (eqb-true n 0xffffffff (sym e))
+      | false ↦ λ e. refl
+    ] refl
 
 -- the stored form of this number
 abbrev inside : ℕ → Inside

@@ -1,5 +1,6 @@
 -- Chapter: one item of a unit, read from left to right: the first part that is missing is the fault.
-use Rattle.std.specs.Prelude.{◌≡◌, ℕ, ◌-◌, List, [], ◌∷◌, length, take, drop, Option, Some, None, Result, Ok, Err, Bool, false, ◌==◌, if◌then◌else◌}
+use Rattle.std.specs.Prelude.{◌≡◌, ℕ, ◌-◌, List, [], ◌∷◌, length, take, drop, Option, Some, None, Result, Ok, Err, Bool}
+use Rattle.std.specs.Prelude.{false, ◌==◌, if◌then◌else◌}
 use Rattle.dw_forms.specs.declared.decl.AttributeSpec.{AttributeSpec}
 use Rattle.dw_forms.specs.declared.leb.NumberFault.{NumberFault}
 use Rattle.dw_forms.specs.declared.leb.NumberFault.TheVariants as number
@@ -12,7 +13,8 @@ use Rattle.dw_forms.specs.LebReading.{uleb_at}
 use Rattle.dw_forms.specs.Value.{Datum}
 use Rattle.dw_forms.specs.ValueReading.{value_at}
 use Rattle.dw_entries.specs.declared.rule.Rule.{Rule}
-use Rattle.dw_entries.specs.declared.rule.Rule.TheVariants.{NoUnitEntry, WrongUnitTag, UndeclaredCode, Cut, BadNumber, BadIndirect, FormVersion}
+use Rattle.dw_entries.specs.declared.rule.Rule.TheVariants.{NoUnitEntry, WrongUnitTag, UndeclaredCode, Cut, BadNumber}
+use Rattle.dw_entries.specs.declared.rule.Rule.TheVariants.{BadIndirect, FormVersion}
 use Rattle.dw_entries.specs.declared.fault.Failing.{Failing}
 use Rattle.dw_entries.specs.declared.header.HeaderKind.{HeaderKind}
 use Rattle.dw_entries.specs.Grammar.{Context, declared, Attribute}
@@ -50,23 +52,30 @@ code_at bytes = as_code bytes (uleb_at bytes)
 
 -- an attribute by what reading its value gives
 abbrev pub as_attribute : ℕ → List ℕ → Result (Datum × List ℕ) ValueFault → Result (Attribute × List ℕ) Failing
-as_attribute code bytes (Ok v) = Ok (record { code = code; value = v.0; bytes = take (length bytes - length v.1) bytes }, v.1)
+as_attribute code bytes (Ok v) =
+    Ok (record { code = code; value = v.0; bytes = take (length bytes - length v.1) bytes }, v.1)
 as_attribute code bytes (Err f) = fails (value_rule f) code
 
 -- the value of an attribute, whose form is asked before its bytes
 unfoldable pub attribute_at : Context → AttributeSpec → List ℕ → Result (Attribute × List ℕ) Failing
 attribute_at x spec bytes =
-    if is_allowed x.version spec.form then as_attribute spec.attribute bytes (value_at x.version spec.form x.address_size bytes)
+    if is_allowed x.version spec.form then as_attribute spec.attribute bytes
+    (value_at x.version spec.form x.address_size bytes)
     else fails FormVersion spec.attribute
 
 -- the values of these attributes, one behind another
 unfoldable pub attributes_at : Context → List AttributeSpec → List ℕ → Result (List Attribute × List ℕ) Failing
 attributes_at x [] bytes = Ok ([], bytes)
-attributes_at x (spec ∷ specs) bytes = attribute_at x spec bytes >>= λ a. attributes_at x specs a.1 >>= λ more. Ok (a.0 ∷ more.0, more.1)
+attributes_at x (spec ∷ specs) bytes = attribute_at x spec bytes >>= λ a. attributes_at x specs a.1 >>=
+    λ more. Ok (a.0 ∷ more.0, more.1)
 
 -- the entry of this declaration and spelling of its code, whose values come next
 unfoldable pub entry_at : Context → Declaration → List ℕ → List ℕ → Result (Item × List ℕ) Failing
-entry_at x d code bytes = attributes_at x d.attributes bytes >>= λ more. Ok (entry (record { decl = d; code = code; attributes = more.0 }), more.1)
+entry_at x d code bytes =
+    attributes_at x d.attributes bytes >>= λ more. Ok (
+      entry (record { decl = d; code = code; attributes = more.0 }),
+      more.1,
+    )
 
 -- an entry by its declaration, if there is one
 abbrev pub declared_at : Context → Option Declaration → List ℕ → List ℕ → Result (Item × List ℕ) Failing
@@ -75,7 +84,8 @@ declared_at x (Some d) code bytes = entry_at x d code bytes
 
 -- an item: a null, or an entry
 unfoldable pub item_at : Context → List ℕ → Result (Item × List ℕ) Failing
-item_at x bytes = code_at bytes >>= λ c. if c.0.number == 0 then Ok (null c.0.bytes, c.1) else declared_at x (declared x c.0.number) c.0.bytes c.1
+item_at x bytes = code_at bytes >>= λ c. if c.0.number == 0 then Ok (null c.0.bytes, c.1) else declared_at x
+    (declared x c.0.number) c.0.bytes c.1
 
 -- the first entry by its declaration, if there is one
 abbrev pub first_entry : Context → HeaderKind → Option Declaration → List ℕ → List ℕ → Result (Item × List ℕ) Failing
@@ -86,7 +96,8 @@ first_entry x kind (Some d) code bytes = if fits_tag kind d.tag then entry_at x 
 unfoldable pub first_at : Context → HeaderKind → List ℕ → Result (Item × List ℕ) Failing
 first_at x kind [] = fails NoUnitEntry 0
 first_at x kind (b ∷ bytes) =
-    code_at (b ∷ bytes) >>= λ c. if c.0.number == 0 then fails NoUnitEntry 0 else first_entry x kind (declared x c.0.number) c.0.bytes c.1
+    code_at (b ∷ bytes) >>= λ c. if c.0.number == 0 then fails NoUnitEntry 0 else first_entry x kind
+    (declared x c.0.number) c.0.bytes c.1
 
 -- the item after these
 abbrev pub next_at : Context → HeaderKind → List Item → List ℕ → Result (Item × List ℕ) Failing

@@ -4,7 +4,8 @@ use Rattle.dw_forms.specs.declared.decl.AttributeSpec.{AttributeSpec}
 use Rattle.dw_forms.specs.declared.form.Form.{Form}
 use Rattle.dw_forms.specs.declared.form.Form.TheVariants.{RefAddr, Ref1, Ref2, Ref4, Ref8, RefUdata, RefSig8, Indirect}
 
--- values of the form may be references: those of class reference, and those that name another form (DWARF 5, section 7.5.5)
+-- values of the form may be references: those of class reference, and those that name another form (DWARF 5, section
+-- 7.5.5)
 abbrev pub may_refer : Form → Bool
 may_refer RefAddr = true
 may_refer Ref1 = true

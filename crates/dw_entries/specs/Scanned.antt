@@ -42,3 +42,13 @@ Scanned «abbrev» info tables unit_records records = (units : List DebugUnit) �
 -- the units that a scan found
 abbrev pub units_of : {a : List ℕ} {info : List ℕ} {tables : List (List Declaration)} {unit_records : List UnitRecord} {records : List Record} → Scanned a info tables unit_records records → List DebugUnit
 units_of s = s.0
+
+-- the entries that a scan found, by rising offset
+abbrev pub all_entries : {a info : List ℕ} {tables : List (List Declaration)} {unit_records : List UnitRecord}
+    {records : List Record} → Scanned a info tables unit_records records → List Entry
+all_entries s = entries_of (units_of s)
+
+-- the units that a scan found, each with its place
+abbrev pub all_units : {a info : List ℕ} {tables : List (List Declaration)} {unit_records : List UnitRecord}
+    {records : List Record} → Scanned a info tables unit_records records → List PlacedUnit
+all_units s = placed (units_of s)

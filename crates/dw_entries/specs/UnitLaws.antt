@@ -1,5 +1,6 @@
 -- Laws: one list of units at most spells .debug_info.
-use Rattle.std.proofs.Common.{◌≡◌, ℕ, List, [], ◌∷◌, ◌++◌, length, drop, ◌⊎◌, inl, inr, Result, Ok, refl, sym, ap, subst, ◌∙◌, append_assoc, append-nil, arith, length-append, drop_at}
+use Rattle.std.proofs.Common.{◌≡◌, ℕ, List, [], ◌∷◌, ◌++◌, length, drop, ◌⊎◌, inl, inr, Result, Ok, refl, sym, ap}
+use Rattle.std.proofs.Common.{subst, ◌∙◌, append_assoc, append-nil, arith, length-append, drop_at}
 use Rattle.std.specs.List.{flat_map}
 use Rattle.std.proofs.lemmas.List.Concat.{flat_map-append}
 use Rattle.dw_forms.specs.declared.abbrev_fault.BrokenTable.{BrokenTable}
@@ -11,7 +12,8 @@ use Rattle.dw_entries.specs.Grammar.{Context, IsNull}
 use Rattle.dw_entries.specs.Header.{header_bytes, header_at}
 use Rattle.dw_entries.specs.Tree.{Node, IsNode}
 use Rattle.dw_entries.specs.Items.{null}
-use Rattle.dw_entries.specs.Units.{DebugUnit, context_by, context_of, nulls_bytes, AreNulls, body_bytes, unit_bytes, IsUnit, AreUnits, units_bytes, Spells}
+use Rattle.dw_entries.specs.Units.{DebugUnit, context_by, context_of, nulls_bytes, AreNulls, body_bytes, unit_bytes}
+use Rattle.dw_entries.specs.Units.{IsUnit, AreUnits, units_bytes, Spells}
 use Rattle.dw_entries.specs.Joined.{GoesOn, IsUnique, begins}
 use Rattle.dw_entries.specs.HeaderLaws.{header_again}
 use Rattle.dw_entries.specs.ReadingLaws.{code_some, item_unique, ok_pair}
@@ -31,41 +33,64 @@ no_nulls : (zs : List (List ℕ)) → AreNulls zs → length (nulls_bytes zs) �
 no_nulls [] p e = refl
 no_nulls (z ∷ zs) p e = absurd (omega (arith, e, code_some z 0 p.0, length-append z (nulls_bytes zs)))
 
-more_nulls : (zs ws : List (List ℕ)) (x y : List ℕ) → length (nulls_bytes zs) ≡ length (nulls_bytes ws) → GoesOn (λ z. z) IsNull zs ws x y → zs ≡ ws
+more_nulls : (zs ws : List (List ℕ)) (x y : List ℕ) → length (nulls_bytes zs) ≡ length (nulls_bytes ws)
+    → GoesOn (λ z. z) IsNull zs ws x y → zs ≡ ws
 more_nulls zs ws x y len g =
-    let none : g.more ≡ [] = no_nulls g.more g.are (omega (arith, len, ap (λ (vs : List (List ℕ)). length (nulls_bytes vs)) g.items, ap length (flat_map-append (λ (z : List ℕ). z) zs g.more), length-append (nulls_bytes zs) (nulls_bytes g.more))) in
+    let none : g.more ≡ [] =
+    no_nulls g.more g.are (omega (
+      arith,
+      len,
+      ap (λ (vs : List (List ℕ)). length (nulls_bytes vs)) g.items,
+      ap length (flat_map-append (λ (z : List ℕ). z) zs g.more),
+      length-append (nulls_bytes zs) (nulls_bytes g.more),
+    ))
+    in
     sym (g.items ∙ ap (λ (vs : List (List ℕ)). zs ++ vs) none ∙ append-nil zs)
 
 -- the same bytes of nulls are the same nulls
-nulls_unique : (t : Context) (zs ws : List (List ℕ)) → AreNulls zs → AreNulls ws → nulls_bytes zs ≡ nulls_bytes ws → zs ≡ ws
-nulls_unique t zs ws p q e = elim (begins (λ z. z) IsNull (null_unique t) zs ws [] [] p q (ap (λ (b : List ℕ). b ++ []) e)) [
-  | inl on ↦ more_nulls zs ws [] [] (ap length e) on
-  | inr on ↦ sym (more_nulls ws zs [] [] (sym (ap length e)) on)
-]
+nulls_unique : (t : Context) (zs ws : List (List ℕ)) → AreNulls zs → AreNulls ws → nulls_bytes zs ≡ nulls_bytes ws
+    → zs ≡ ws
+nulls_unique t zs ws p q e =
+    elim (begins (λ z. z) IsNull (null_unique t) zs ws [] [] p q (ap (λ (b : List ℕ). b ++ []) e)) [
+      | inl on ↦ more_nulls zs ws [] [] (ap length e) on
+      | inr on ↦ sym (more_nulls ws zs [] [] (sym (ap length e)) on)
+    ]
 
 table_is : (r : Result (List Declaration) BrokenTable) (x y : List Declaration) → r ≡ Ok x → r ≡ Ok y → x ≡ y
 table_is r x y p q = let same : ◌≡◌ {A = Result (List Declaration) BrokenTable} (Ok x) (Ok y) = sym p ∙ q in cc
 
 -- the header of a unit is read, and the bytes behind it
-pub unit_header : (a : List ℕ) (u : DebugUnit) (x : List ℕ) → IsUnit a u → header_at (length a) (unit_bytes u ++ x) ≡ Ok (u.header, body_bytes u)
-unit_header a u x p = header_again (length a) u.header (body_bytes u) x _ (append_assoc (header_bytes u.header) (body_bytes u) x) p.header p.unit_length
+pub unit_header : (a : List ℕ) (u : DebugUnit) (x : List ℕ) → IsUnit a u
+    → header_at (length a) (unit_bytes u ++ x) ≡ Ok (u.header, body_bytes u)
+unit_header a u x p = header_again (length a) u.header (body_bytes u) x _
+    (append_assoc (header_bytes u.header) (body_bytes u) x) p.header p.unit_length
 
 -- no spelling of a unit begins another
 pub unit_unique : (a : List ℕ) → IsUnique unit_bytes (IsUnit a)
 unit_unique a u v x y p q e =
-    let both = ok_pair {E = Rule} u.header v.header (body_bytes u) (body_bytes v) (sym (unit_header a u x p) ∙ ap (header_at (length a)) e ∙ unit_header a v y q) in
+    let both = ok_pair {E = Rule} u.header v.header (body_bytes u) (body_bytes v)
+    (sym (unit_header a u x p) ∙ ap (header_at (length a)) e ∙ unit_header a v y q) in
     let header : u.header ≡ v.header = both.0 in
-    let table : u.table ≡ v.table = table_is (table_at a v.header.abbrev_offset) u.table v.table (ap (λ (h : UnitHeader). table_at a h.abbrev_offset) (sym header) ∙ p.table) q.table in
-    let context : context_of v ≡ context_of u = ap (λ (h : UnitHeader). context_by h v.table) (sym header) ∙ ap (context_by u.header) (sym table) in
-    let roots = node_unique (context_of u) u.root v.root (nulls_bytes u.nulls) (nulls_bytes v.nulls) p.root (subst (λ (t : Context). IsNode t v.root) context q.root) both.1 in
+    let table : u.table ≡ v.table =
+    table_is (table_at a v.header.abbrev_offset) u.table v.table
+    (ap (λ (h : UnitHeader). table_at a h.abbrev_offset) (sym header) ∙ p.table) q.table in
+    let context : context_of v ≡ context_of u =
+    ap (λ (h : UnitHeader). context_by h v.table) (sym header) ∙ ap (context_by u.header) (sym table) in
+    let roots = node_unique (context_of u) u.root v.root (nulls_bytes u.nulls) (nulls_bytes v.nulls) p.root
+    (subst (λ (t : Context). IsNode t v.root) context q.root) both.1 in
     let root : u.root ≡ v.root = roots.0 in
     let nulls : u.nulls ≡ v.nulls = nulls_unique (context_of u) u.nulls v.nulls p.nulls q.nulls roots.1 in
     let whole : made u.header u.table u.root u.nulls ≡ made v.header v.table v.root v.nulls = cc in
-    let same : unit_bytes v ≡ unit_bytes u = ap unit_bytes (sym whole) in
-    (whole, sym (drop_at (unit_bytes u) x (length (unit_bytes u)) refl) ∙ ap (drop (length (unit_bytes u))) e ∙ drop_at (unit_bytes v) y (length (unit_bytes u)) (ap length same))
+    let same : unit_bytes v ≡ unit_bytes u = ap unit_bytes (sym whole) in (
+      whole,
+      sym (drop_at (unit_bytes u) x (length (unit_bytes u)) refl) ∙ ap (drop (length (unit_bytes u))) e
+          ∙ drop_at (unit_bytes v) y (length (unit_bytes u)) (ap length same),
+    )
 
 -- of two lists of units that spell beginnings of the same bytes one goes on where the other ends
-pub units_begin : (a : List ℕ) (us vs : List DebugUnit) (x y : List ℕ) → AreUnits a us → AreUnits a vs → units_bytes us ++ x ≡ units_bytes vs ++ y → GoesOn unit_bytes (IsUnit a) us vs x y ⊎ GoesOn unit_bytes (IsUnit a) vs us y x
+pub units_begin : (a : List ℕ) (us vs : List DebugUnit) (x y : List ℕ) → AreUnits a us → AreUnits a vs
+    → units_bytes us ++ x ≡ units_bytes vs ++ y → GoesOn unit_bytes (IsUnit a) us vs x y
+    ⊎ GoesOn unit_bytes (IsUnit a) vs us y x
 units_begin a = begins unit_bytes (IsUnit a) (unit_unique a)
 
 no_more : (a : List ℕ) (us vs : List DebugUnit) → GoesOn unit_bytes (IsUnit a) us vs [] [] → us ≡ vs

@@ -9,7 +9,8 @@ abbrev pub value_context : ℕ → ℕ → Context
 value_context version address_size = record { table = []; address_size = address_size; version = version }
 
 -- the bytes begin with attributes that are declared so, and go on
-pub record Begin (x : Context) (specs : List AttributeSpec) (bytes : List ℕ) (found : List Attribute × List ℕ) : Type 0 where
+pub record Begin (x : Context) (specs : List AttributeSpec) (bytes : List ℕ) (found : List Attribute
+    × List ℕ) : Type 0 where
   pub are : AreAttributes x specs found.0
   pub spelled : bytes ≡ flat_map attribute_bytes found.0 ++ found.1
 

@@ -1,7 +1,8 @@
 //! Reading a unit's header: the first check that fails is answered.
 
 ghost use Rattle.std.specs.Prelude.{◌≡◌, ◌≤◌, ◌⊎◌, ◌<◌, length, IfOk};
-ghost use Rattle.dw_entries.specs.Header.{IsSize, field_at, address_size_at, abbrev_offset_at, version4_at, kind_at, version5_at, fields_at, unit_at, header_at};
+ghost use Rattle.dw_entries.specs.Header.{IsSize, field_at, address_size_at, abbrev_offset_at, version4_at, kind_at};
+ghost use Rattle.dw_entries.specs.Header.{version5_at, fields_at, unit_at, header_at};
 ghost use Rattle.dw_entries.specs.Reading.{Gives};
 
 use crate::header::{HeaderKind, UnitHeader};

@@ -1,8 +1,7 @@
 //! Entries by their numbers, and the entries of one unit by their offsets from its header.
 
 ghost use Rattle.std.specs.Prelude.{◌≡◌, ◌<◌, ℕ, length, slice_get, IfSome, IfNone};
-ghost use Rattle.dw_entries.specs.Entries.{entries_of, placed};
-ghost use Rattle.dw_entries.specs.Scanned.{units_of};
+ghost use Rattle.dw_entries.specs.Scanned.{all_entries, all_units, units_of};
 ghost use Rattle.dw_entries.specs.Runs.{ReachesInUnit};
 
 use crate::entries::Entries;
@@ -12,7 +11,7 @@ impl Entries<'_> {
     /// The entry with this number.
     #[inline(always)]
     pub fn id(&self, number: usize) -> EntryId
-        requires { number < length (entries_of (units_of self.now.scanned)) }
+        requires { number < length (all_entries self.now.scanned) }
         ensures { result ≡ number }
     {
         EntryId::new(number as u32)
@@ -21,8 +20,8 @@ impl Entries<'_> {
     /// The number of an entry's unit.
     #[inline(always)]
     pub fn unit_of(&self, id: EntryId) -> usize
-        requires { id < length (entries_of (units_of self.now.scanned)) }
-        ensures { IfSome (slice_get (entries_of (units_of self.now.scanned)) id) (λ e. result ≡ e.unit) }
+        requires { id < length (all_entries self.now.scanned) }
+        ensures { IfSome (slice_get (all_entries self.now.scanned) id) (λ e. result ≡ e.unit) }
     {
         self.record(id).unit as usize
     }
@@ -31,8 +30,10 @@ impl Entries<'_> {
     #[inline(always)]
     pub fn find_in_unit(&self, unit: usize, offset: u64) -> Option<EntryId>
         requires { unit < length (units_of self.now.scanned) }
-        ensures found { IfSome result (ReachesInUnit (entries_of (units_of self.now.scanned)) (placed (units_of self.now.scanned)) unit offset) }
-        ensures none { IfNone result ((id : ℕ) → ReachesInUnit (entries_of (units_of self.now.scanned)) (placed (units_of self.now.scanned)) unit offset id → ⊥) }
+        ensures found { IfSome result
+            (ReachesInUnit (all_entries self.now.scanned) (all_units self.now.scanned) unit offset) }
+        ensures none { IfNone result ((id : ℕ)
+            → ReachesInUnit (all_entries self.now.scanned) (all_units self.now.scanned) unit offset id → ⊥) }
     {
         let Some(at) = offset.checked_add(self.units[unit].at as u64) else {
             return None;

@@ -1,8 +1,7 @@
 //! The units in their order.
 
 ghost use Rattle.std.specs.Prelude.{◌≡◌, map};
-ghost use Rattle.dw_entries.specs.Entries.{placed};
-ghost use Rattle.dw_entries.specs.Scanned.{units_of};
+ghost use Rattle.dw_entries.specs.Scanned.{all_units};
 ghost use Rattle.dw_entries.specs.Lookups.{unit_head};
 ghost use Rattle.dw_entries.specs.UnitsLeft.{units_left};
 
@@ -39,7 +38,7 @@ impl<'e, 'a> Iterator for Units<'e, 'a> {
 impl<'a> Entries<'a> {
     /// The units in rising offset.
     pub fn units(&self) -> Units<'_, 'a>
-        ensures { units_left result ≡ map unit_head (placed (units_of self.now.scanned)) }
+        ensures { units_left result ≡ map unit_head (all_units self.now.scanned) }
     {
         Units {
             entries: self,

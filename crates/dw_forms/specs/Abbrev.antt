@@ -1,12 +1,14 @@
 -- Chapter: abbreviation tables (DWARF 5, 7.5.3): which bytes spell which declarations.
-use Rattle.std.specs.Prelude.{◌≡◌, ◌≢◌, ℕ, ◌+◌, ◌<◌, ◌≤◌, Bool, true, false, List, [], ◌∷◌, ◌++◌, length, drop, map, All, Any, AllPairs, ◌⊎◌}
+use Rattle.std.specs.Prelude.{◌≡◌, ◌≢◌, ℕ, ◌+◌, ◌<◌, ◌≤◌, Bool, true, false, List, [], ◌∷◌, ◌++◌, length, drop, map}
+use Rattle.std.specs.Prelude.{All, Any, AllPairs, ◌⊎◌}
 use Rattle.dw_forms.specs.declared.form.Form.{Form}
 use Rattle.dw_forms.specs.declared.form.Form.TheVariants.{ImplicitConst}
 use Rattle.dw_forms.specs.declared.leb.NumberFault.{NumberFault}
 use Rattle.dw_forms.specs.declared.decl.AttributeSpec.{AttributeSpec}
 use Rattle.dw_forms.specs.declared.decl.Decl.{Decl}
 use Rattle.dw_forms.specs.declared.abbrev_fault.AbbrevRule.{AbbrevRule}
-use Rattle.dw_forms.specs.declared.abbrev_fault.AbbrevRule.TheVariants.{AbbrevCut, CodeTwice, BadTag, BadChildren, BadPair, UnknownForm, AttributeTwice}
+use Rattle.dw_forms.specs.declared.abbrev_fault.AbbrevRule.TheVariants.{AbbrevCut, CodeTwice, BadTag, BadChildren}
+use Rattle.dw_forms.specs.declared.abbrev_fault.AbbrevRule.TheVariants.{BadPair, UnknownForm, AttributeTwice}
 use Rattle.dw_forms.specs.declared.abbrev_fault.DeclFault.{DeclFault}
 use Rattle.dw_forms.specs.declared.abbrev_fault.BrokenTable.{BrokenTable}
 use Rattle.dw_forms.specs.AbbrevFaults.{fault_of, fault_at}
@@ -56,7 +58,8 @@ pub record SpellsAttribute (bytes : List ℕ) (spec : AttributeSpec) : Type 0 wh
 abbrev pub SpellsAttributes : List AttributeSpec → List ℕ → Type 0
 SpellsAttributes [] bytes = SpellsPair bytes (0, 0)
 SpellsAttributes (spec ∷ specs) bytes =
-    (first : List ℕ) × (others : List ℕ) × (bytes ≡ first ++ others) × SpellsAttribute first spec × SpellsAttributes specs others
+    (first : List ℕ) × (others : List ℕ) × (bytes ≡ first ++ others) × SpellsAttribute first spec
+    × SpellsAttributes specs others
 
 -- the byte that says whether there are children
 abbrev pub children_byte : Bool → ℕ
@@ -74,7 +77,8 @@ pub record SpellsDecl (bytes : List ℕ) (d : Declaration) : Type 0 where
 -- one spelling for each declaration, and the code 0
 abbrev pub SpellsTable : List Declaration → List ℕ → Type 0
 SpellsTable [] bytes = Uleb bytes 0
-SpellsTable (d ∷ ds) bytes = (first : List ℕ) × (others : List ℕ) × (bytes ≡ first ++ others) × SpellsDecl first d × SpellsTable ds others
+SpellsTable (d ∷ ds) bytes = (first : List ℕ) × (others : List ℕ) × (bytes ≡ first ++ others) × SpellsDecl first d
+    × SpellsTable ds others
 
 -- ---- what may be declared
 
@@ -125,20 +129,26 @@ IsBadPair attribute code = ((attribute ≡ 0) × (0 < code)) ⊎ (((0 < attribut
 -- why no attribute and no end of the attributes follows the earlier ones, by the first check that fails
 pub data PairFails (earlier : List AttributeSpec) (bytes : List ℕ) (fault : DeclFault) : Type 0 where
   attribute_number : NumberFails bytes fault → PairFails earlier bytes fault
-  form_number : (attribute : ℕ) (rest : List ℕ) → Takes Uleb bytes attribute rest → NumberFails rest fault → PairFails earlier bytes fault
-  bad_pair : (attribute code : ℕ) (rest : List ℕ) → Takes SpellsPair bytes (attribute, code) rest → IsBadPair attribute code
+  form_number : (attribute : ℕ) (rest : List ℕ) → Takes Uleb bytes attribute rest → NumberFails rest fault
+      → PairFails earlier bytes fault
+  bad_pair : (attribute code : ℕ) (rest : List ℕ) → Takes SpellsPair bytes (attribute, code) rest
+      → IsBadPair attribute code
       → fault ≡ broken BadPair 0 → PairFails earlier bytes fault
-  unknown_form : (attribute code : ℕ) (rest : List ℕ) → Takes SpellsPair bytes (attribute, code) rest → IsCode16 attribute → 0 < code
+  unknown_form : (attribute code : ℕ) (rest : List ℕ) → Takes SpellsPair bytes (attribute, code) rest
+      → IsCode16 attribute → 0 < code
       → ((form : Form) → code_of form ≢ code) → fault ≡ broken UnknownForm attribute → PairFails earlier bytes fault
-  attribute_twice : (attribute : ℕ) (form : Form) (rest : List ℕ) → Takes SpellsPair bytes (attribute, code_of form) rest → IsCode16 attribute
-      → Any (λ s. s.attribute ≡ attribute) earlier → fault ≡ broken AttributeTwice attribute → PairFails earlier bytes fault
+  attribute_twice : (attribute : ℕ) (form : Form) (rest : List ℕ)
+      → Takes SpellsPair bytes (attribute, code_of form) rest → IsCode16 attribute
+      → Any (λ s. s.attribute ≡ attribute) earlier → fault ≡ broken AttributeTwice attribute
+      → PairFails earlier bytes fault
   constant_number : (attribute : ℕ) (rest : List ℕ) → Takes SpellsPair bytes (attribute, 0x21) rest → IsCode16 attribute
       → All (λ s. s.attribute ≢ attribute) earlier → ConstantFails rest fault → PairFails earlier bytes fault
 
 -- these attributes are spelled, with no pair 0, 0 behind them
 abbrev pub SpellsFront : List AttributeSpec → List ℕ → Type 0
 SpellsFront [] bytes = bytes ≡ []
-SpellsFront (spec ∷ specs) bytes = (first : List ℕ) × (others : List ℕ) × (bytes ≡ first ++ others) × SpellsAttribute first spec × SpellsFront specs others
+SpellsFront (spec ∷ specs) bytes = (first : List ℕ) × (others : List ℕ) × (bytes ≡ first ++ others)
+    × SpellsAttribute first spec × SpellsFront specs others
 
 -- some attributes are spelled, and behind them no next one and no end
 pub record AttributesFail (bytes : List ℕ) (fault : DeclFault) : Type 0 where
@@ -160,20 +170,25 @@ pub data DeclFails (earlier : List Declaration) (bytes : List ℕ) (fault : Decl
   code_number : NumberFails bytes fault → DeclFails earlier bytes fault
   code_twice : (code : ℕ) (rest : List ℕ) → Takes Uleb bytes code rest → 0 < code → Any (λ d. d.code ≡ code) earlier
       → fault ≡ broken CodeTwice 0 → DeclFails earlier bytes fault
-  tag_number : (code : ℕ) (rest : List ℕ) → Takes Uleb bytes code rest → IsNewCode earlier code → NumberFails rest fault → DeclFails earlier bytes fault
-  bad_tag : (code tag : ℕ) (rest : List ℕ) → Takes SpellsPair bytes (code, tag) rest → IsNewCode earlier code → (IsCode16 tag → ⊥)
+  tag_number : (code : ℕ) (rest : List ℕ) → Takes Uleb bytes code rest → IsNewCode earlier code → NumberFails rest fault
+      → DeclFails earlier bytes fault
+  bad_tag : (code tag : ℕ) (rest : List ℕ) → Takes SpellsPair bytes (code, tag) rest → IsNewCode earlier code
+      → (IsCode16 tag → ⊥)
       → fault ≡ broken BadTag 0 → DeclFails earlier bytes fault
   children_cut : (code tag : ℕ) → Takes SpellsPair bytes (code, tag) [] → IsNewCode earlier code → IsCode16 tag
       → fault ≡ broken AbbrevCut 0 → DeclFails earlier bytes fault
-  bad_children : (code tag byte : ℕ) (rest : List ℕ) → Takes SpellsPair bytes (code, tag) (byte ∷ rest) → IsNewCode earlier code → IsCode16 tag
+  bad_children : (code tag byte : ℕ) (rest : List ℕ) → Takes SpellsPair bytes (code, tag) (byte ∷ rest)
+      → IsNewCode earlier code → IsCode16 tag
       → 1 < byte → fault ≡ broken BadChildren 0 → DeclFails earlier bytes fault
-  attributes_fail : (code tag : ℕ) (children : Bool) (rest : List ℕ) → Takes SpellsPair bytes (code, tag) (children_byte children ∷ rest)
+  attributes_fail : (code tag : ℕ) (children : Bool) (rest : List ℕ)
+      → Takes SpellsPair bytes (code, tag) (children_byte children ∷ rest)
       → IsNewCode earlier code → IsCode16 tag → AttributesFail rest fault → DeclFails earlier bytes fault
 
 -- these declarations are spelled, with no code 0 behind them
 abbrev pub SpellsDecls : List Declaration → List ℕ → Type 0
 SpellsDecls [] bytes = bytes ≡ []
-SpellsDecls (d ∷ ds) bytes = (first : List ℕ) × (others : List ℕ) × (bytes ≡ first ++ others) × SpellsDecl first d × SpellsDecls ds others
+SpellsDecls (d ∷ ds) bytes = (first : List ℕ) × (others : List ℕ) × (bytes ≡ first ++ others) × SpellsDecl first d
+    × SpellsDecls ds others
 
 -- a beginning of the table spells some declarations, and nothing behind it spells a next one or the end.
 -- The place is where that next one begins

@@ -1,12 +1,14 @@
 -- Chapter: an abbreviation table read from left to right, or the first fault.
-use Rattle.std.specs.Prelude.{◌≡◌, ℕ, zero, suc, List, [], ◌∷◌, ◌++◌, length, drop, Option, Some, None, Bool, true, false, Result, Ok, Err, ◌==◌, nat_lt, ◌-◌, ◌&&◌, ◌||◌, if◌then◌else◌, ℤ}
+use Rattle.std.specs.Prelude.{◌≡◌, ℕ, zero, suc, List, [], ◌∷◌, ◌++◌, length, drop, Option, Some, None, Bool, true}
+use Rattle.std.specs.Prelude.{false, Result, Ok, Err, ◌==◌, nat_lt, ◌-◌, ◌&&◌, ◌||◌, if◌then◌else◌, ℤ}
 use Rattle.std.specs.List.{list_any}
 use Rattle.dw_forms.specs.Steps.{◌>>=◌}
 use Rattle.dw_forms.specs.declared.form.Form.{Form}
 use Rattle.dw_forms.specs.declared.form.Form.TheVariants.{ImplicitConst}
 use Rattle.dw_forms.specs.declared.leb.NumberFault.{NumberFault}
 use Rattle.dw_forms.specs.declared.decl.AttributeSpec.{AttributeSpec}
-use Rattle.dw_forms.specs.declared.abbrev_fault.AbbrevRule.TheVariants.{AbbrevCut, CodeTwice, BadTag, BadChildren, BadPair, UnknownForm, AttributeTwice}
+use Rattle.dw_forms.specs.declared.abbrev_fault.AbbrevRule.TheVariants.{AbbrevCut, CodeTwice, BadTag, BadChildren}
+use Rattle.dw_forms.specs.declared.abbrev_fault.AbbrevRule.TheVariants.{BadPair, UnknownForm, AttributeTwice}
 use Rattle.dw_forms.specs.declared.abbrev_fault.DeclFault.{DeclFault}
 use Rattle.dw_forms.specs.declared.abbrev_fault.DeclError.{DeclError}
 use Rattle.dw_forms.specs.declared.abbrev_fault.DeclError.TheVariants as errors
@@ -78,7 +80,8 @@ pair_at earlier bytes = do
 unfoldable pub attributes_from : ℕ → List AttributeSpec → List ℕ → Result (List AttributeSpec × List ℕ) DeclFault
 attributes_from zero earlier bytes = Err (record { rule = AbbrevCut; attribute = 0 })
 attributes_from (suc bound) earlier bytes =
-    pair_at earlier bytes >>= λ p. on_option p.0 (Ok (earlier, p.1)) (λ spec. attributes_from bound (earlier ++ spec ∷ []) p.1)
+    pair_at earlier bytes >>= λ p. on_option p.0 (Ok (earlier, p.1))
+    (λ spec. attributes_from bound (earlier ++ spec ∷ []) p.1)
 
 -- all pairs of a declaration, up to the pair 0, 0
 abbrev pub attributes_of : List ℕ → Result (List AttributeSpec × List ℕ) DeclFault
@@ -105,7 +108,10 @@ decl_at earlier bytes = do
       if tag.0 == 0 || nat_lt 65535 tag.0 then Err (record { rule = BadTag; attribute = 0 }) else (
       children_at tag.1 >>= λ children.
       attributes_of children.1 >>= λ attributes.
-      Ok (Some (record { code = code.0; tag = tag.0; has_children = children.0; attributes = attributes.0 }), attributes.1))))
+      Ok (
+        Some (record { code = code.0; tag = tag.0; has_children = children.0; attributes = attributes.0 }),
+        attributes.1,
+      ))))
 
 -- what a function failed with is the fault that reading a table gives, unless memory ran out
 abbrev pub TableFails : {Y : Type 0} → AbbrevFault → Result Y BrokenTable → Type 0
@@ -127,7 +133,8 @@ placed place (Err e) = Err (fault_at place e)
 unfoldable pub decls_from : ℕ → ℕ → List Declaration → List ℕ → Result (List Declaration × List ℕ) BrokenTable
 decls_from zero len earlier bytes = Err (record { rule = AbbrevCut; at = len - length bytes; attribute = 0 })
 decls_from (suc bound) len earlier bytes =
-    placed (len - length bytes) (decl_at earlier bytes) >>= λ d. on_option d.0 (Ok (earlier, d.1)) (λ decl. decls_from bound len (earlier ++ decl ∷ []) d.1)
+    placed (len - length bytes) (decl_at earlier bytes) >>= λ d. on_option d.0 (Ok (earlier, d.1))
+    (λ decl. decls_from bound len (earlier ++ decl ∷ []) d.1)
 
 -- the declarations at the front of the end of a section of this length
 abbrev pub decls_of : ℕ → List ℕ → Result (List Declaration × List ℕ) BrokenTable

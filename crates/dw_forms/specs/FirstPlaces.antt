@@ -32,10 +32,13 @@ abbrev pub value_behind : ℕ → ℕ → Form → Result (List ℕ) ValueFault 
 value_behind version size form before = before >>= λ rest. value_at version form size rest >>= λ v. Ok v.0
 
 -- the answer is what reading one value after another up to the first attribute with the code gives
-pub record ReadsFirst (version size : ℕ) (specs : List AttributeSpec) (code : ℕ) (bytes : List ℕ) (answer : Result Datum ValueFault) : Type 0 where
+pub record ReadsFirst (version size : ℕ) (specs : List AttributeSpec) (code : ℕ) (bytes : List ℕ)
+    (answer : Result Datum ValueFault) : Type 0 where
   pub place : ℕ
   pub first : StandsFirst specs code place
-  pub reads : (d : AttributeSpec) → answer ≡ value_behind version size (slice_index_or specs place d).form (values_end version size (slice_range specs 0 place) bytes)
+  pub reads : (d : AttributeSpec)
+      → answer ≡ value_behind version size (slice_index_or specs place d).form
+      (values_end version size (slice_range specs 0 place) bytes)
 
 -- none has the code, or the answer is the value of the first that has it
 abbrev pub AnswersFirst : ℕ → ℕ → List AttributeSpec → ℕ → List ℕ → Result (Option Value) ValueFault → Type 0

@@ -1,7 +1,12 @@
 -- Chapter: the codes of the forms (DWARF 5, 7.5.6, table 7.6).
 use Rattle.std.specs.Prelude.{ℕ, pos, Option, List, [], ◌∷◌, find, Bool, ◌||◌, nat_le, if◌then◌else◌, ◌==◌}
 use Rattle.dw_forms.specs.declared.form.Form.{Form}
-use Rattle.dw_forms.specs.declared.form.Form.TheVariants.{Addr, Block2, Block4, Data2, Data4, Data8, Text, Block, Block1, Data1, Flag, Sdata, Strp, Udata, RefAddr, Ref1, Ref2, Ref4, Ref8, RefUdata, Indirect, SecOffset, Exprloc, FlagPresent, Strx, Addrx, Data16, LineStrp, RefSig8, ImplicitConst, Loclistx, Rnglistx, Strx1, Strx2, Strx3, Strx4, Addrx1, Addrx2, Addrx3, Addrx4}
+use Rattle.dw_forms.specs.declared.form.Form.TheVariants.{Addr, Block2, Block4, Data2, Data4, Data8, Text, Block}
+use Rattle.dw_forms.specs.declared.form.Form.TheVariants.{Block1, Data1, Flag, Sdata, Strp, Udata, RefAddr, Ref1, Ref2}
+use Rattle.dw_forms.specs.declared.form.Form.TheVariants.{Ref4, Ref8, RefUdata, Indirect, SecOffset, Exprloc}
+use Rattle.dw_forms.specs.declared.form.Form.TheVariants.{FlagPresent, Strx, Addrx, Data16, LineStrp, RefSig8}
+use Rattle.dw_forms.specs.declared.form.Form.TheVariants.{ImplicitConst, Loclistx, Rnglistx, Strx1, Strx2, Strx3, Strx4}
+use Rattle.dw_forms.specs.declared.form.Form.TheVariants.{Addrx1, Addrx2, Addrx3, Addrx4}
 
 -- the code of a form
 abbrev pub code_of : Form → ℕ

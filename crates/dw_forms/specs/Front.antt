@@ -6,7 +6,8 @@ use Rattle.std.specs.Prelude.{◌≡◌, ℕ, ◌≤◌, List, ◌++◌, length,
 pub record BeginsWith {V : Type 0} (Spells : List ℕ → V → Type 0) (bytes : List ℕ) (value : V) (len : ℕ) : Type 0 where
   pub within : len ≤ length bytes
   pub spelled : Spells (take len bytes) value
-  pub only : (text rest : List ℕ) (other : V) → bytes ≡ text ++ rest → Spells text other → (length text ≡ len) × (other ≡ value)
+  pub only : (text rest : List ℕ) (other : V) → bytes ≡ text ++ rest → Spells text other → (length text ≡ len)
+      × (other ≡ value)
 
 -- no beginning of the bytes spells any value
 abbrev pub BeginsWithNone : {V : Type 0} → (List ℕ → V → Type 0) → List ℕ → Type 0

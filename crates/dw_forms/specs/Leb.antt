@@ -1,5 +1,6 @@
 -- Chapter: LEB128 numbers (DWARF 5, 7.6): which bytes spell which number.
-use Rattle.std.specs.Prelude.{◌≡◌, ℕ, ◌+◌, ◌*◌, ◌^◌, ◌%◌, ◌<◌, ◌≤◌, List, [], ◌∷◌, ◌++◌, length, take, All, ◌⊎◌, ℤ, pos, neg_ℤ, ◌-ℤ◌, ◌≤ℤ◌, ◌<ℤ◌, nat_lt, if◌then◌else◌}
+use Rattle.std.specs.Prelude.{◌≡◌, ℕ, ◌+◌, ◌*◌, ◌^◌, ◌%◌, ◌<◌, ◌≤◌, List, [], ◌∷◌, ◌++◌, length, take, All, ◌⊎◌, ℤ, pos}
+use Rattle.std.specs.Prelude.{neg_ℤ, ◌-ℤ◌, ◌≤ℤ◌, ◌<ℤ◌, nat_lt, if◌then◌else◌}
 use Rattle.dw_forms.specs.declared.leb.NumberFault.{NumberFault}
 use Rattle.dw_forms.specs.declared.leb.NumberFault.TheVariants.{Cut, BadNumber}
 
@@ -26,7 +27,8 @@ unsigned_value bytes = sum_from 0 bytes
 
 -- the same sum, less 128 to the power of the number of bytes where bit 6 of the last byte is set
 abbrev pub signed_value : List ℕ → ℤ
-signed_value bytes = if nat_lt (last_of bytes) 64 then pos (sum_from 0 bytes) else pos (sum_from 0 bytes) -ℤ pos (128 ^ length bytes)
+signed_value bytes = if nat_lt (last_of bytes) 64 then pos (sum_from 0 bytes) else pos (sum_from 0 bytes) -ℤ pos
+    (128 ^ length bytes)
 
 -- these bytes spell this unsigned number
 pub record Uleb (bytes : List ℕ) (n : ℕ) : Type 0 where

@@ -1,5 +1,6 @@
 -- Chapter: a LEB128 number read from left to right, or the first fault.
-use Rattle.std.specs.Prelude.{ℕ, ◌+◌, ◌*◌, ◌^◌, ◌%◌, List, [], ◌∷◌, Result, Ok, Err, nat_lt, Bool, ℤ, pos, negsuc, ◌-ℤ◌, if◌then◌else◌}
+use Rattle.std.specs.Prelude.{ℕ, ◌+◌, ◌*◌, ◌^◌, ◌%◌, List, [], ◌∷◌, Result, Ok, Err, nat_lt, Bool, ℤ, pos, negsuc, ◌-ℤ◌}
+use Rattle.std.specs.Prelude.{if◌then◌else◌}
 use Rattle.dw_forms.specs.Steps.{◌>>=◌}
 use Rattle.dw_forms.specs.declared.leb.Spelling.{Spelling}
 use Rattle.dw_forms.specs.declared.leb.NumberFault.{NumberFault}

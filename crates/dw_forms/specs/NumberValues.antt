@@ -4,7 +4,8 @@ use Rattle.dw_forms.specs.declared.number.Number.{Number}
 use Rattle.dw_forms.specs.declared.number.Number.TheVariants as number
 use Rattle.dw_forms.specs.declared.number.SectionOffset.{SectionOffset}
 use Rattle.dw_forms.specs.declared.number.SectionOffset.TheVariants as offset
-use Rattle.dw_forms.specs.Value.{Datum, unsigned, flag_of, ref_unit, ref_sig, str_index, addr_index, loc_index, rng_index, str, line_str, ref_info, sec_offset}
+use Rattle.dw_forms.specs.Value.{Datum, unsigned, flag_of, ref_unit, ref_sig, str_index, addr_index, loc_index}
+use Rattle.dw_forms.specs.Value.{rng_index, str, line_str, ref_info, sec_offset}
 
 -- the value that a number is
 abbrev pub number_datum : Number → ℕ → Datum

@@ -43,8 +43,10 @@ fixed_sum version size (spec ∷ specs) = plus (allowed_size version size spec.f
 abbrev pub are_allowed : ℕ → List AttributeSpec → Bool
 are_allowed version specs = list_all (λ spec. is_allowed version spec.form) specs
 
--- the values of these attributes are read one behind the other, each form being allowed, and these bytes come after the last
+-- the values of these attributes are read one behind the other, each form being allowed, and these bytes come after
+-- the last
 abbrev pub ValuesEnd : ℕ → ℕ → List AttributeSpec → List ℕ → List ℕ → Type 0
 ValuesEnd version size [] bytes rest = bytes ≡ rest
 ValuesEnd version size (spec ∷ specs) bytes rest =
-    (is_allowed version spec.form ≡ true) × (v : Datum) × (after : List ℕ) × (value_at version spec.form size bytes ≡ Ok (v, after)) × ValuesEnd version size specs after rest
+    (is_allowed version spec.form ≡ true) × (v : Datum) × (after : List ℕ)
+    × (value_at version spec.form size bytes ≡ Ok (v, after)) × ValuesEnd version size specs after rest

@@ -1,5 +1,6 @@
 -- Chapter: a value read from left to right, or the first fault.
-use Rattle.std.specs.Prelude.{◌≡◌, ℕ, zero, suc, List, [], ◌∷◌, length, take, drop, Option, Some, None, Result, Ok, Err, nat_lt, if◌then◌else◌, ℤ}
+use Rattle.std.specs.Prelude.{◌≡◌, ℕ, zero, suc, List, [], ◌∷◌, length, take, drop, Option, Some, None, Result, Ok, Err}
+use Rattle.std.specs.Prelude.{nat_lt, if◌then◌else◌, ℤ}
 use Rattle.byteorder.specs.Endian.{little_number}
 use Rattle.dw_forms.specs.Steps.{◌>>=◌}
 use Rattle.dw_forms.specs.declared.form.Form.{Form}
@@ -10,7 +11,8 @@ use Rattle.dw_forms.specs.declared.value.ValueFault.{ValueFault}
 use Rattle.dw_forms.specs.declared.value.ValueFault.TheVariants.{Cut, BadIndirect}
 use Rattle.dw_forms.specs.FormCodes.{form_of}
 use Rattle.dw_forms.specs.LebReading.{uleb_at, sleb_at}
-use Rattle.dw_forms.specs.Value.{Datum, view, Layout, layout_of, fixed, leb, signed_leb, counted, leb_counted, ended, exactly, nothing, named, may_be_named}
+use Rattle.dw_forms.specs.Value.{Datum, view, Layout, layout_of, fixed, leb, signed_leb, counted, leb_counted, ended}
+use Rattle.dw_forms.specs.Value.{exactly, nothing, named, may_be_named}
 use Rattle.dw_forms.specs.ValueFaults.{fault_of}
 
 -- what a function returned, seen by view, is what reading gives
@@ -20,7 +22,8 @@ Gives view (Err e) read = read ≡ Err e
 
 -- a number of so many bytes, lowest first, and the bytes after it; so for all below
 unfoldable pub fixed_at : ℕ → List ℕ → Result (ℕ × List ℕ) ValueFault
-fixed_at size bytes = if nat_lt (length bytes) size then Err Cut else Ok (little_number size (take size bytes), drop size bytes)
+fixed_at size bytes =
+    if nat_lt (length bytes) size then Err Cut else Ok (little_number size (take size bytes), drop size bytes)
 
 -- a number and the bytes after it
 abbrev pub with_rest : {V : Type 0} → List ℕ → Result (V × ℕ) NumberFault → Result (V × List ℕ) ValueFault
@@ -96,7 +99,8 @@ plain_at form size bytes = layout_at (layout_of size form) bytes
 -- the value of a form that an indirect value names
 abbrev pub named_at : ℕ → Option Form → ℕ → List ℕ → Result (Datum × List ℕ) ValueFault
 named_at version None size bytes = Err BadIndirect
-named_at version (Some form) size bytes = if may_be_named version form then plain_at form size bytes else Err BadIndirect
+named_at version (Some form) size bytes =
+    if may_be_named version form then plain_at form size bytes else Err BadIndirect
 
 -- the value of a form, and the bytes after it
 abbrev pub value_at : ℕ → Form → ℕ → List ℕ → Result (Datum × List ℕ) ValueFault

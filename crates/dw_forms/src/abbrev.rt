@@ -1,6 +1,7 @@
 //! Abbreviation tables (DWARF 5, 7.5.3).
 
-ghost use Rattle.std.specs.Prelude.{◌≡◌, ◌==◌, ◌<◌, [], ◌∷◌, ◌++◌, length, false, find, option_map, option_copied, option_and_then, slice_get, IfSome, IfNone, OnOk, All, ◌≢◌, ◌+◌, Some};
+ghost use Rattle.std.specs.Prelude.{◌≡◌, ◌==◌, ◌<◌, [], ◌∷◌, ◌++◌, length, false, find, option_map, option_copied};
+ghost use Rattle.std.specs.Prelude.{option_and_then, slice_get, IfSome, IfNone, OnOk, All, ◌≢◌, ◌+◌, Some};
 ghost use Rattle.std.specs.Ordering.{nat_cmp};
 ghost use Rattle.std.specs.BTreeMap.{get};
 ghost use Rattle.dw_forms.specs.AbbrevFaults.{IfFault};
@@ -64,7 +65,8 @@ fn make_room(
     requires index { IsIndex decls.now elsewhere.old }
     requires new { All (λ d. d.code ≢ code) decls.now }
     ensures index { IsIndex decls.now elsewhere.new }
-    ensures entered { OnOk result (code ≢ length decls.now + 1 → get nat_cmp elsewhere.new code ≡ Some (length decls.now)) }
+    ensures entered { OnOk result (code ≢ length decls.now + 1
+        → get nat_cmp elsewhere.new code ≡ Some (length decls.now)) }
     ensures err { IfFault result (λ _. ⊥) }
 {
     if code != decls.len() as u64 + 1 {

@@ -1,11 +1,14 @@
 //! Reading abbreviation tables (DWARF 5, 7.5.3).
 
-ghost use Rattle.std.specs.Prelude.{◌≡◌, ◌<◌, ◌≤◌, ℕ, [], ◌∷◌, ◌++◌, length, drop, false, option_map, IfOk, IfSome, OnOk};
+ghost use Rattle.std.specs.Prelude.{◌≡◌, ◌<◌, ◌≤◌, ℕ, [], ◌∷◌, ◌++◌, length, drop, false, option_map, IfOk, IfSome};
+ghost use Rattle.std.specs.Prelude.{OnOk};
 ghost use Rattle.dw_forms.specs.Front.{BeginsWith, BeginsWithNone};
 ghost use Rattle.dw_forms.specs.AbbrevFaults.{IfFault};
 ghost use Rattle.dw_forms.specs.Abbrev.{view, Decls, TableFails};
 ghost use Rattle.dw_forms.specs.Marks.{AreMarks};
-ghost use Rattle.dw_forms.specs.AbbrevReading.{Gives, has_attribute, has_code, number_at, signed_at, new_form_of, form_at, pair_at, attributes_of, children_at, decl_at, TableGives, placed, table_at};
+ghost use Rattle.dw_forms.specs.AbbrevReading.{Gives, has_attribute, has_code, number_at, signed_at, new_form_of};
+ghost use Rattle.dw_forms.specs.AbbrevReading.{form_at, pair_at, attributes_of, children_at, decl_at, TableGives};
+ghost use Rattle.dw_forms.specs.AbbrevReading.{placed, table_at};
 
 use crate::abbrev::AbbrevTable;
 use crate::abbrev_fault::{AbbrevFault, AbbrevRule, DeclError, DeclFault};
@@ -222,7 +225,8 @@ fn next_decl_at<'a>(
 ) -> Result<(Option<Decl>, &'a [u8]), AbbrevFault>
     requires { AreMarks [] marks.old }
     ensures unmarked { OnOk result (AreMarks [] marks.new) }
-    ensures exact { TableGives (λ x. (option_map view x.0, x.1.now)) result (placed place (decl_at earlier.now bytes.now)) }
+    ensures exact { TableGives
+        (λ x. (option_map view x.0, x.1.now)) result (placed place (decl_at earlier.now bytes.now)) }
     ensures new { IfOk result (λ x. IfSome x.0 (λ d. has_code d.code earlier.now ≡ false)) }
     ensures shorter { IfOk result (λ x. length x.1.now < length bytes.now) }
 {

@@ -86,7 +86,12 @@ impl Decl {
         attributes: Vec<AttributeSpec>,
     ) -> Result<Decl, AllocError>
         requires { length attributes.items ≤ 0x10000 }
-        ensures { IfOk result (λ decl. view decl ≡ record { code = code; tag = tag; has_children = has_children; attributes = attributes.items }) }
+        ensures { IfOk result (λ decl. view decl ≡ record {
+          code = code;
+          tag = tag;
+          has_children = has_children;
+          attributes = attributes.items;
+        }) }
     {
         let in_version_4 = are_allowed(&attributes, 4);
         let remainders = remainders_of(&attributes);

@@ -26,14 +26,18 @@ pub fn signed_numbers_are_apart()
 
 /// No value of a form begins another, and bytes that begin with none have one fault.
 pub fn values_are_apart()
-    ensures apart { (version : ℕ) (form : AnyForm) (size : ℕ) (a b x y : List ℕ) (v w : Datum) → Val version form size a v → Val version form size b w → a ++ x ≡ b ++ y → (a ≡ b) × (v ≡ w) }
-    ensures one_fault { (version : ℕ) (form : AnyForm) (size : ℕ) (bytes : List ℕ) (f g : AnyValueFault) → ValFails version form size bytes f → ValFails version form size bytes g → f ≡ g }
+    ensures apart { (version : ℕ) (form : AnyForm) (size : ℕ) (a b x y : List ℕ) (v w : Datum)
+        → Val version form size a v → Val version form size b w → a ++ x ≡ b ++ y → (a ≡ b) × (v ≡ w) }
+    ensures one_fault { (version : ℕ) (form : AnyForm) (size : ℕ) (bytes : List ℕ) (f g : AnyValueFault)
+        → ValFails version form size bytes f → ValFails version form size bytes g → f ≡ g }
 {}
 
 /// No table begins another, and bytes that begin with none have one fault.
 pub fn tables_are_apart()
-    ensures apart { (a b x y : List ℕ) (ds es : List Declaration) → Decls a ds → Decls b es → a ++ x ≡ b ++ y → (a ≡ b) × (ds ≡ es) }
-    ensures one_fault { (section : List ℕ) (offset : ℕ) (f g : AnyBrokenTable) → offset ≤ length section → TableFails section offset f → TableFails section offset g → f ≡ g }
+    ensures apart { (a b x y : List ℕ) (ds es : List Declaration) → Decls a ds → Decls b es → a ++ x ≡ b ++ y → (a ≡ b)
+        × (ds ≡ es) }
+    ensures one_fault { (section : List ℕ) (offset : ℕ) (f g : AnyBrokenTable) → offset ≤ length section
+        → TableFails section offset f → TableFails section offset g → f ≡ g }
 {}
 
 /// Reading a table from left to right gives the table that the section spells from an offset on, or, where it spells
@@ -45,5 +49,6 @@ pub fn tables_are_read_by_grammar()
 /// Where all values of a declaration have one size and there are enough bytes, they are read, and they take as many
 /// bytes as the sum of the sizes says.
 pub fn fixed_values_take_their_sum()
-    ensures { (version size : ℕ) (specs : List AnyAttributeSpec) (n : ℕ) (bytes : List ℕ) → fixed_sum version size specs ≡ Some n → n ≤ length bytes → ValuesEnd version size specs bytes (drop n bytes) }
+    ensures { (version size : ℕ) (specs : List AnyAttributeSpec) (n : ℕ) (bytes : List ℕ)
+        → fixed_sum version size specs ≡ Some n → n ≤ length bytes → ValuesEnd version size specs bytes (drop n bytes) }
 {}

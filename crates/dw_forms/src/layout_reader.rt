@@ -1,7 +1,9 @@
 //! Reading a value by its layout (DWARF 5, 7.5.6): first what its bytes hold, then the value, one function a layout.
 
 ghost use Rattle.std.specs.Prelude.{◌≡◌, ◌+◌, ◌≤◌, ◌⊎◌, length, drop, IfOk};
-ghost use Rattle.dw_forms.specs.Value.{fixed as number_layout, leb, signed_leb, counted as counted_layout, leb_counted as leb_counted_layout, ended, exactly, address as address_datum, block as block_datum, signed, wide, text as text_datum, expr};
+ghost use Rattle.dw_forms.specs.Value.{fixed as number_layout, leb, signed_leb, counted as counted_layout};
+ghost use Rattle.dw_forms.specs.Value.{leb_counted as leb_counted_layout, ended, exactly, address as address_datum};
+ghost use Rattle.dw_forms.specs.Value.{block as block_datum, signed, wide, text as text_datum, expr};
 ghost use Rattle.dw_forms.specs.NumberValues.{number_datum, offset_datum};
 ghost use Rattle.dw_forms.specs.ValueReading.{Gives, GivesIn, fixed_at, block_at, counted_at, leb_counted_at, text_at};
 
@@ -85,7 +87,8 @@ pub(crate) fn counted(bytes: &[u8], size: usize) -> Result<&[u8], ValueFault>
     requires some { 1 ≤ size }
     requires few { size ≤ 8 }
     ensures within { IfOk result (λ content. size + length content.now ≤ length bytes.now) }
-    ensures exact { Gives (λ content. (content.now, drop (size + length content.now) bytes.now)) result (counted_at size bytes.now) }
+    ensures exact { Gives (λ content. (content.now, drop (size + length content.now) bytes.now)) result
+        (counted_at size bytes.now) }
 {
     let len = fixed(bytes, size)?;
     block(&bytes[size..], len)

@@ -10,9 +10,12 @@ use Rattle.dw_links.specs.Texts.{text_of, address_of}
 -- the text of an attribute of an entry; None where the attribute is absent or no string
 unfoldable pub text_at : Sections → List Entry → List PlacedUnit → Entry → (attribute : ℕ) → Option (List ℕ)
 text_at sections entries units e attribute =
-    option_and_then (λ (p : PlacedUnit). option_and_then (text_of sections (base_in entries p DW_AT_str_offsets_base)) (value_at_entry e attribute)) (slice_get units e.unit)
+    option_and_then (λ (p : PlacedUnit). option_and_then (text_of sections (base_in entries p DW_AT_str_offsets_base))
+    (value_at_entry e attribute)) (slice_get units e.unit)
 
 -- the address of an attribute of an entry; None where the attribute is absent or no address
 unfoldable pub address_at : Sections → List Entry → List PlacedUnit → Entry → (attribute : ℕ) → Option ℕ
 address_at sections entries units e attribute =
-    option_and_then (λ (p : PlacedUnit). option_and_then (address_of sections p.unit.header (base_in entries p DW_AT_addr_base)) (value_at_entry e attribute)) (slice_get units e.unit)
+    option_and_then (λ (p : PlacedUnit).
+    option_and_then (address_of sections p.unit.header (base_in entries p DW_AT_addr_base))
+    (value_at_entry e attribute)) (slice_get units e.unit)

@@ -19,4 +19,5 @@ section_offset_of entry attribute = option_and_then section_offset_in (value_at_
 -- the base that a unit's first entry gives to its contribution; in version 4 there is none
 abbrev pub base_in : List Entry → PlacedUnit → ℕ → Option ℕ
 base_in entries unit attribute =
-    if version_of unit.unit.header.kind == 4 then None else option_and_then (λ first. section_offset_of first attribute) (slice_get entries unit.first)
+    if version_of unit.unit.header.kind == 4 then None else option_and_then
+    (λ first. section_offset_of first attribute) (slice_get entries unit.first)

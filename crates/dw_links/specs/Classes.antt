@@ -1,9 +1,11 @@
 -- Chapter: the classes of values, and the classes that an attribute may have (DWARF 5, 7.5.4 and 7.5.5).
-use Rattle.std.specs.Prelude.{◌≡◌, ℕ, Bool, true, false, List, [], ◌∷◌, if◌then◌else◌, nat_eq, slice_get, Option, Some, None}
+use Rattle.std.specs.Prelude.{◌≡◌, ℕ, Bool, true, false, List, [], ◌∷◌, if◌then◌else◌, nat_eq, slice_get, Option, Some}
+use Rattle.std.specs.Prelude.{None}
 use Rattle.std.specs.List.{list_any}
 use Rattle.dw_forms.specs.declared.form.Form.{Form}
 use Rattle.dw_forms.specs.declared.form.Form.TheVariants as form
-use Rattle.dw_forms.specs.Value.{Datum, address, block, unsigned, signed, wide, text, flag, str, line_str, str_index, ref_info, ref_unit, ref_sig, sec_offset, expr, addr_index, loc_index, rng_index}
+use Rattle.dw_forms.specs.Value.{Datum, address, block, unsigned, signed, wide, text, flag, str, line_str, str_index}
+use Rattle.dw_forms.specs.Value.{ref_info, ref_unit, ref_sig, sec_offset, expr, addr_index, loc_index, rng_index}
 use Rattle.dw_entries.specs.declared.rule.Rule.{Rule}
 use Rattle.dw_entries.specs.declared.rule.Rule.TheVariants.{WrongClass}
 use Rattle.dw_entries.specs.Header.{version_of}
@@ -13,9 +15,14 @@ use Rattle.dw_entries.specs.Entries.{entries_of, PlacedUnit, placed}
 use Rattle.dw_entries.specs.Failures.{Failure}
 use Rattle.dw_entries.specs.Asked.{AtEntries}
 use Rattle.dw_links.specs.Concerns.{AtHead}
-use Rattle.dw_forms.specs.Codes.{DW_AT_sibling, DW_AT_name, DW_AT_byte_size, DW_AT_bit_size, DW_AT_import, DW_AT_lower_bound, DW_AT_prototyped, DW_AT_bit_stride, DW_AT_upper_bound, DW_AT_abstract_origin, DW_AT_count, DW_AT_data_member_location, DW_AT_declaration, DW_AT_encoding, DW_AT_specification, DW_AT_type, DW_AT_byte_stride, DW_AT_signature, DW_AT_data_bit_offset, DW_AT_str_offsets_base, DW_AT_addr_base}
+use Rattle.dw_forms.specs.Codes.{DW_AT_sibling, DW_AT_name, DW_AT_byte_size, DW_AT_bit_size, DW_AT_import}
+use Rattle.dw_forms.specs.Codes.{DW_AT_lower_bound, DW_AT_prototyped, DW_AT_bit_stride, DW_AT_upper_bound}
+use Rattle.dw_forms.specs.Codes.{DW_AT_abstract_origin, DW_AT_count, DW_AT_data_member_location, DW_AT_declaration}
+use Rattle.dw_forms.specs.Codes.{DW_AT_encoding, DW_AT_specification, DW_AT_type, DW_AT_byte_stride, DW_AT_signature}
+use Rattle.dw_forms.specs.Codes.{DW_AT_data_bit_offset, DW_AT_str_offsets_base, DW_AT_addr_base}
 use Rattle.dw_links.specs.declared.class.Class.{Class}
-use Rattle.dw_links.specs.declared.class.Class.TheVariants.{Address, Block, Constant, WideConstant, Exprloc, Flag, ListIndex, Reference, SectionOffset, String}
+use Rattle.dw_links.specs.declared.class.Class.TheVariants.{Address, Block, Constant, WideConstant, Exprloc, Flag}
+use Rattle.dw_links.specs.declared.class.Class.TheVariants.{ListIndex, Reference, SectionOffset, String}
 
 -- the class of a value
 abbrev pub class_of : Datum → Class
@@ -137,9 +144,11 @@ is_section_offset _ = false
 -- the attribute may have a value of the class
 abbrev pub allows : ℕ → Class → Bool
 allows attribute class =
-    if is_one_of (DW_AT_sibling ∷ DW_AT_import ∷ DW_AT_abstract_origin ∷ DW_AT_specification ∷ DW_AT_type ∷ DW_AT_signature ∷ []) attribute then is_reference class
+    if is_one_of (DW_AT_sibling ∷ DW_AT_import ∷ DW_AT_abstract_origin ∷ DW_AT_specification ∷ DW_AT_type
+    ∷ DW_AT_signature ∷ []) attribute then is_reference class
     else (if is_one_of (DW_AT_name ∷ []) attribute then is_string class
-    else (if is_one_of (DW_AT_byte_size ∷ DW_AT_bit_size ∷ DW_AT_count ∷ DW_AT_byte_stride ∷ DW_AT_data_bit_offset ∷ []) attribute then is_size class
+    else (if is_one_of (DW_AT_byte_size ∷ DW_AT_bit_size ∷ DW_AT_count ∷ DW_AT_byte_stride ∷ DW_AT_data_bit_offset ∷ [])
+    attribute then is_size class
     else (if is_one_of (DW_AT_lower_bound ∷ DW_AT_upper_bound ∷ DW_AT_bit_stride ∷ []) attribute then is_bound class
     else (if is_one_of (DW_AT_data_member_location ∷ []) attribute then is_location class
     else (if is_one_of (DW_AT_encoding ∷ []) attribute then is_constant class
@@ -150,7 +159,9 @@ allows attribute class =
 -- in a version 4 unit two attributes may have any class
 abbrev pub allows_in : (version : ℕ) → ℕ → Class → Bool
 allows_in version attribute class =
-    if nat_eq version 4 then (if is_one_of (DW_AT_str_offsets_base ∷ DW_AT_addr_base ∷ []) attribute then true else allows attribute class) else allows attribute class
+    if nat_eq version 4 then
+    (if is_one_of (DW_AT_str_offsets_base ∷ DW_AT_addr_base ∷ []) attribute then true else allows attribute class)
+    else allows attribute class
 
 -- WrongClass: the attribute's value has none of its classes
 pub record ClassFails (units : List PlacedUnit) (head : Head) (attribute : ℕ) (v : Datum) (rule : Rule) : Type 0 where

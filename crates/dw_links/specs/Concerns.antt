@@ -22,7 +22,8 @@ AtHead Fails = AtAttributes (λ e. Fails (entry_head e))
 
 -- no rule fails at an attribute that is declared so
 abbrev pub Passes : Rules → AttributeSpec → Type 0
-Passes Fails spec = (x : Context) (a : Attribute) → IsAttribute x spec a → (head : Head) (rule : Rule) → Fails head a.code a.value rule → ⊥
+Passes Fails spec = (x : Context) (a : Attribute) → IsAttribute x spec a → (head : Head) (rule : Rule)
+    → Fails head a.code a.value rule → ⊥
 
 -- nor at any of a declaration
 abbrev pub AllPass : Rules → List AttributeSpec → Type 0
@@ -30,7 +31,8 @@ AllPass Fails specs = (k : ℕ) (spec : AttributeSpec) → slice_get specs k ≡
 
 -- nor at any of these declarations
 abbrev pub EachPasses : Rules → List Declaration → Type 0
-EachPasses Fails decls = (place : ℕ) (decl : Declaration) → slice_get decls place ≡ Some decl → AllPass Fails decl.attributes
+EachPasses Fails decls = (place : ℕ) (decl : Declaration) → slice_get decls place ≡ Some decl
+    → AllPass Fails decl.attributes
 
 -- no rule fails at an entry that was looked up
 abbrev pub PassesAt : Option Entry → (Entry → Failure → Type 0) → Type 0

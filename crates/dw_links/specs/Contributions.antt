@@ -1,5 +1,6 @@
 -- Chapter: contributions to .debug_str_offsets and .debug_addr (DWARF 5, 7.26 and 7.27), and strings at offsets.
-use Rattle.std.specs.Prelude.{◌≡◌, ℕ, ◌+◌, ◌-◌, ◌*◌, ◌/◌, ◌%◌, ◌<◌, ◌≤◌, List, length, drop, slice_index, Option, None, Some, ◌==◌}
+use Rattle.std.specs.Prelude.{◌≡◌, ℕ, ◌+◌, ◌-◌, ◌*◌, ◌/◌, ◌%◌, ◌<◌, ◌≤◌, List, length, drop, slice_index, Option, None}
+use Rattle.std.specs.Prelude.{Some, ◌==◌}
 use Rattle.std.specs.List.{before_first}
 use Rattle.byteorder.specs.Endian.{little_number}
 use Rattle.dw_links.specs.declared.contribution.Contribution.{Contribution}
@@ -44,7 +45,8 @@ base_of (Sound base count) = Some base
 abbrev pub IsRead : List ℕ → ℕ → ℕ → Contribution → Type 0
 IsRead section slot mark Absent = Unit {0}
 IsRead section slot mark (Broken base) = IsContribution section slot mark base → ⊥
-IsRead section slot mark (Sound base count) = IsContribution section slot mark base × (count ≡ slot_count section slot base)
+IsRead section slot mark (Sound base count) = IsContribution section slot mark base
+    × (count ≡ slot_count section slot base)
 
 -- a string begins at the offset: a zero byte stands there or behind
 pub record Ends (section : List ℕ) (offset : ℕ) : Type 0 where

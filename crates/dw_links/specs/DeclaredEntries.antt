@@ -19,4 +19,5 @@ IsKnownOf e NotDeclared = is_declared e ≡ false
 -- what is known of each entry is true of it
 pub record KeepsDeclared (entries : List Entry) (kept : List Known) : Type 0 where
   pub all : length kept ≡ length entries
-  pub right : (id : ℕ) (e : Entry) (known : Known) → slice_get entries id ≡ Some e → slice_get kept id ≡ Some known → IsKnownOf e known
+  pub right : (id : ℕ) (e : Entry) (known : Known) → slice_get entries id ≡ Some e → slice_get kept id ≡ Some known
+      → IsKnownOf e known

@@ -18,11 +18,15 @@ use Rattle.dw_links.specs.AttributeTexts.{text_at, address_at}
 
 -- a fact of each attribute that has a value of a class
 abbrev pub EachValue : Class → (Entry → ℕ → Datum → Type 0) → List Entry → Type 0
-EachValue class P entries = EachEntry (λ e. (attribute : ℕ) (v : Datum) → value_at_entry e attribute ≡ Some v → class_of v ≡ class → P e attribute v) entries
+EachValue class P entries =
+    EachEntry (λ e. (attribute : ℕ) (v : Datum) → value_at_entry e attribute ≡ Some v → class_of v ≡ class
+    → P e attribute v) entries
 
--- the value reaches one entry, which is the attribute's target; the attribute may have this form and reach this entry, and
+-- the value reaches one entry, which is the attribute's target; the attribute may have this form and reach this entry,
+-- and
 -- a sibling attribute reaches the next sibling
-pub record HasTarget (entries : List Entry) (units : List PlacedUnit) (e : Entry) (attribute : ℕ) (v : Datum) : Type 0 where
+pub record HasTarget (entries : List Entry) (units : List PlacedUnit) (e : Entry) (attribute : ℕ)
+    (v : Datum) : Type 0 where
   pub id : ℕ
   pub target : Entry
   pub is_entry : slice_get entries id ≡ Some target
@@ -40,12 +44,18 @@ HaveTargets units = EachValue Reference (HasTarget (entries_of units) (placed un
 -- no two type units have one signature, and a type begins at the type offset of each
 pub record HaveTypes (units : List DebugUnit) : Type 0 where
   pub distinct : AreDistinct (placed units)
-  pub types : (number signature type_offset : ℕ) (p : PlacedUnit) → slice_get (placed units) number ≡ Some p → type_in p.unit.header.kind ≡ Some (signature, type_offset) → HasType (entries_of units) number (p.at + type_offset)
+  pub types : (number signature type_offset : ℕ) (p : PlacedUnit) → slice_get (placed units) number ≡ Some p
+      → type_in p.unit.header.kind ≡ Some (signature, type_offset)
+      → HasType (entries_of units) number (p.at + type_offset)
 
 -- each value of class string has a text
 abbrev pub HaveTexts : Sections → List DebugUnit → Type 0
-HaveTexts sections units = EachValue String (λ e attribute v. IsSome (text_at sections (entries_of units) (placed units) e attribute)) (entries_of units)
+HaveTexts sections units =
+    EachValue String (λ e attribute v. IsSome (text_at sections (entries_of units) (placed units) e attribute))
+    (entries_of units)
 
 -- each value of class address is an address
 abbrev pub HaveAddresses : Sections → List DebugUnit → Type 0
-HaveAddresses sections units = EachValue Address (λ e attribute v. IsSome (address_at sections (entries_of units) (placed units) e attribute)) (entries_of units)
+HaveAddresses sections units =
+    EachValue Address (λ e attribute v. IsSome (address_at sections (entries_of units) (placed units) e attribute))
+    (entries_of units)

@@ -32,7 +32,8 @@ pub record AreEnds (sections : Sections) (ends : StringEnds) : Type 0 where
   pub in_line_str : IsEndOfStrings sections.line_str.now ends.line_str
 
 -- what was read is that of its unit
-pub record AreTexts (sections : Sections) (entries : List Entry) (units : List PlacedUnit) (texts : UnitTexts) : Type 0 where
+pub record AreTexts (sections : Sections) (entries : List Entry) (units : List PlacedUnit)
+    (texts : UnitTexts) : Type 0 where
   pub ready : IsReady texts
   pub same_sections : texts.sections ≡ sections
   pub place : PlacedUnit

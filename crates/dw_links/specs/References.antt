@@ -1,10 +1,12 @@
 -- Chapter: which entries references refer to (DWARF 5, 2.3 and 7.5.5), and the rules on them.
-use Rattle.std.specs.Prelude.{◌≡◌, ◌≢◌, ℕ, ◌+◌, ◌<◌, ◌⊎◌, Bool, true, false, not, ◌&&◌, ◌==◌, List, [], ◌∷◌, Option, None, Some, slice_get, if◌then◌else◌}
+use Rattle.std.specs.Prelude.{◌≡◌, ◌≢◌, ℕ, ◌+◌, ◌<◌, ◌⊎◌, Bool, true, false, not, ◌&&◌, ◌==◌, List, [], ◌∷◌, Option}
+use Rattle.std.specs.Prelude.{None, Some, slice_get, if◌then◌else◌}
 use Rattle.dw_forms.specs.Value.{Datum, flag, ref_info, ref_unit, ref_sig}
 use Rattle.dw_entries.specs.declared.header.HeaderKind.{HeaderKind}
 use Rattle.dw_entries.specs.declared.header.HeaderKind.TheVariants.{TypeUnit}
 use Rattle.dw_entries.specs.declared.rule.Rule.{Rule}
-use Rattle.dw_entries.specs.declared.rule.Rule.TheVariants.{NoEntry, WrongKind, NotNextSibling, NoSignature, SignatureTwice, BadTypeOffset}
+use Rattle.dw_entries.specs.declared.rule.Rule.TheVariants.{NoEntry, WrongKind, NotNextSibling, NoSignature}
+use Rattle.dw_entries.specs.declared.rule.Rule.TheVariants.{SignatureTwice, BadTypeOffset}
 use Rattle.dw_entries.specs.declared.lookup.Head.{Head}
 use Rattle.dw_entries.specs.Lookups.{value_at_entry}
 use Rattle.dw_entries.specs.Units.{DebugUnit}
@@ -13,7 +15,9 @@ use Rattle.dw_entries.specs.Runs.{IsEntryAt, IsEntryIn, ReachesInUnit}
 use Rattle.dw_entries.specs.Places.{at_header}
 use Rattle.dw_entries.specs.Failures.{Failure}
 use Rattle.dw_entries.specs.Asked.{AtPlace, AtEntries, InList}
-use Rattle.dw_forms.specs.Codes.{DW_AT_sibling, DW_AT_import, DW_AT_specification, DW_AT_type, DW_AT_signature, DW_AT_declaration, DW_TAG_imported_unit, DW_TAG_structure_type, DW_TAG_union_type, DW_TAG_enumeration_type, DW_TAG_compile_unit, DW_TAG_partial_unit, is_type_tag}
+use Rattle.dw_forms.specs.Codes.{DW_AT_sibling, DW_AT_import, DW_AT_specification, DW_AT_type, DW_AT_signature}
+use Rattle.dw_forms.specs.Codes.{DW_AT_declaration, DW_TAG_imported_unit, DW_TAG_structure_type, DW_TAG_union_type}
+use Rattle.dw_forms.specs.Codes.{DW_TAG_enumeration_type, DW_TAG_compile_unit, DW_TAG_partial_unit, is_type_tag}
 use Rattle.dw_entries.specs.Entries.{PlacedUnit, placed}
 use Rattle.dw_links.specs.Classes.{is_one_of}
 use Rattle.dw_links.specs.Concerns.{AtHead}
@@ -54,7 +58,9 @@ is_declared entry = is_true (value_at_entry entry DW_AT_declaration)
 
 -- a structure, union or enumeration with a signature
 abbrev pub is_signed : Head → ℕ → Bool
-is_signed head attribute = attribute == DW_AT_signature && is_one_of (DW_TAG_structure_type ∷ DW_TAG_union_type ∷ DW_TAG_enumeration_type ∷ []) head.tag
+is_signed head attribute =
+    attribute == DW_AT_signature
+    && is_one_of (DW_TAG_structure_type ∷ DW_TAG_union_type ∷ DW_TAG_enumeration_type ∷ []) head.tag
 
 -- an attribute of the entry may reach the target
 abbrev pub permits : Head → ℕ → Entry → Bool
@@ -62,7 +68,9 @@ permits head attribute target =
     if attribute == DW_AT_type then is_type_tag target.head.decl.tag
     else (if attribute == DW_AT_specification then not (target.at == head.offset) && is_declared target
     else (if is_signed head attribute then target.head.decl.tag == head.tag
-    else (if attribute == DW_AT_import && head.tag == DW_TAG_imported_unit then is_one_of (DW_TAG_compile_unit ∷ DW_TAG_partial_unit ∷ []) target.head.decl.tag
+    else (if attribute == DW_AT_import
+    && head.tag == DW_TAG_imported_unit then is_one_of
+    (DW_TAG_compile_unit ∷ DW_TAG_partial_unit ∷ []) target.head.decl.tag
     else true)))
 
 -- a value in form ref_sig8
@@ -79,7 +87,8 @@ abbrev pub NoEntryThere : List Entry → List PlacedUnit → Head → Datum → 
 NoEntryThere entries units head v = (is_signature v ≡ false) × ((id : ℕ) → Reaches entries units head v id → ⊥)
 
 -- it reaches an entry that is not permitted
-pub record ReachesWrong (entries : List Entry) (units : List PlacedUnit) (head : Head) (attribute : ℕ) (v : Datum) : Type 0 where
+pub record ReachesWrong (entries : List Entry) (units : List PlacedUnit) (head : Head) (attribute : ℕ)
+    (v : Datum) : Type 0 where
   pub id : ℕ
   pub target : Entry
   pub is_target : slice_get entries id ≡ Some target
@@ -88,7 +97,8 @@ pub record ReachesWrong (entries : List Entry) (units : List PlacedUnit) (head :
 
 -- WrongKind: its form or its target is not permitted
 abbrev pub IsWrongKind : List Entry → List PlacedUnit → Head → ℕ → Datum → Type 0
-IsWrongKind entries units head attribute v = (permits_form head attribute v ≡ false) ⊎ ReachesWrong entries units head attribute v
+IsWrongKind entries units head attribute v = (permits_form head attribute v ≡ false)
+    ⊎ ReachesWrong entries units head attribute v
 
 -- NotNextSibling: there is no next sibling, or it reaches another entry
 abbrev pub IsOtherThan : Option ℕ → (ℕ → Type 0) → Type 0
@@ -111,13 +121,15 @@ is_reference_value _ = false
 abbrev pub ReferenceFailsBy : List Entry → List PlacedUnit → Head → ℕ → Datum → Rule → Type 0
 ReferenceFailsBy entries units head attribute v NoEntry = NoEntryThere entries units head v
 ReferenceFailsBy entries units head attribute v WrongKind = IsWrongKind entries units head attribute v
-ReferenceFailsBy entries units head attribute v NotNextSibling = (attribute ≡ DW_AT_sibling) × IsOtherThan head.next_sibling (Reaches entries units head v)
+ReferenceFailsBy entries units head attribute v NotNextSibling = (attribute ≡ DW_AT_sibling)
+    × IsOtherThan head.next_sibling (Reaches entries units head v)
 ReferenceFailsBy entries units head attribute v NoSignature = NoSignatureThere units v
 ReferenceFailsBy entries units head attribute v _ = ⊥
 
 -- the rules at an attribute of an entry; only values of class reference have any
 abbrev pub ReferenceFails : List Entry → List PlacedUnit → Head → ℕ → Datum → Rule → Type 0
-ReferenceFails entries units head attribute v rule = (is_reference_value v ≡ true) × ReferenceFailsBy entries units head attribute v rule
+ReferenceFails entries units head attribute v rule = (is_reference_value v ≡ true)
+    × ReferenceFailsBy entries units head attribute v rule
 
 -- SignatureTwice: an earlier type unit has the signature
 pub record IsSignedBefore (units : List PlacedUnit) (number signature : ℕ) : Type 0 where
@@ -140,11 +152,13 @@ TypeUnitFails entries units number at signature type_offset rule =
 -- the rules at the header of a unit; only type units have any
 abbrev pub HeaderFails : List Entry → List PlacedUnit → ℕ → ℕ → Option (ℕ × ℕ) → Rule → Type 0
 HeaderFails entries units number at None rule = ⊥
-HeaderFails entries units number at (Some (signature, type_offset)) rule = TypeUnitFails entries units number at signature type_offset rule
+HeaderFails entries units number at (Some (signature, type_offset)) rule =
+    TypeUnitFails entries units number at signature type_offset rule
 
 -- the failures at the header of a unit
 abbrev pub AtHeader : List Entry → List PlacedUnit → ℕ → PlacedUnit → Failure → Type 0
-AtHeader entries units number unit = AtPlace (at_header unit.at) (HeaderFails entries units number unit.at (type_in unit.unit.header.kind))
+AtHeader entries units number unit =
+    AtPlace (at_header unit.at) (HeaderFails entries units number unit.at (type_in unit.unit.header.kind))
 
 -- the failures at the headers of units
 abbrev pub HeaderFailures : List Entry → List PlacedUnit → Failure → Type 0
@@ -156,4 +170,5 @@ AttributeFailures entries units = AtEntries entries (AtHead (ReferenceFails entr
 
 -- the failures of the rules on references
 abbrev pub ReferenceFailures : List DebugUnit → Failure → Type 0
-ReferenceFailures units f = HeaderFailures (entries_of units) (placed units) f ⊎ AttributeFailures (entries_of units) (placed units) f
+ReferenceFailures units f = HeaderFailures (entries_of units) (placed units) f
+    ⊎ AttributeFailures (entries_of units) (placed units) f

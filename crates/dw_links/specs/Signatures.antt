@@ -9,7 +9,8 @@ use Rattle.dw_links.specs.References.{HasSignature}
 abbrev pub IsFirstSigned : List PlacedUnit → (signature below : ℕ) → Option ℕ → Type 0
 IsFirstSigned units signature below None = (number : ℕ) → number < below → HasSignature units signature number → ⊥
 IsFirstSigned units signature below (Some first) =
-    (first < below) × HasSignature units signature first × ((number : ℕ) → number < first → HasSignature units signature number → ⊥)
+    (first < below) × HasSignature units signature first
+    × ((number : ℕ) → number < first → HasSignature units signature number → ⊥)
 
 -- the table has the first type unit of each signature, of those below a number
 abbrev pub AreSignatures : List PlacedUnit → ℕ → BTreeMap ℕ ℕ → Type 0

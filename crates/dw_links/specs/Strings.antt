@@ -2,7 +2,8 @@
 use Rattle.std.specs.Prelude.{◌≡◌, ◌≢◌, ℕ, ◌<◌, ◌≤◌, ◌⊎◌, Bool, true, false, List, Option, None, Some, slice_get}
 use Rattle.dw_elf.specs.declared.sections.Sections.{Sections}
 use Rattle.dw_forms.specs.declared.form.Form.{Form}
-use Rattle.dw_forms.specs.declared.form.Form.TheVariants.{Strp, LineStrp, Strx, Strx1, Strx2, Strx3, Strx4, Addrx, Addrx1, Addrx2, Addrx3, Addrx4, Indirect}
+use Rattle.dw_forms.specs.declared.form.Form.TheVariants.{Strp, LineStrp, Strx, Strx1, Strx2, Strx3, Strx4, Addrx}
+use Rattle.dw_forms.specs.declared.form.Form.TheVariants.{Addrx1, Addrx2, Addrx3, Addrx4, Indirect}
 use Rattle.dw_forms.specs.Value.{Datum, str, line_str, str_index, addr_index, sec_offset}
 use Rattle.dw_entries.specs.declared.header.UnitHeader.{UnitHeader}
 use Rattle.dw_entries.specs.declared.rule.Rule.{Rule}
@@ -43,7 +44,8 @@ IsStringContribution sections base = IsContribution sections.str_offsets.now 4 0
 
 -- the header of an address contribution ends with the unit's address size, which a slot has too, and a zero byte
 abbrev pub IsAddressContribution : Sections → UnitHeader → ℕ → Type 0
-IsAddressContribution sections header base = IsContribution sections.addr.now header.address_size header.address_size base
+IsAddressContribution sections header base =
+    IsContribution sections.addr.now header.address_size header.address_size base
 
 -- BadStrBase and BadAddrBase at a base
 abbrev pub BaseFails : Sections → UnitHeader → ℕ → ℕ → Rule → Type 0
@@ -55,15 +57,18 @@ BaseFails sections header attribute base rule =
 -- under a broken contribution none of them fails
 abbrev pub StringIndexFails : Sections → (base : Option ℕ) → ℕ → Rule → Type 0
 StringIndexFails sections None index BadStrBase = Unit {0}
-StringIndexFails sections (Some base) index StrIndex = IsStringContribution sections base × (slot_count sections.str_offsets.now 4 base ≤ index)
+StringIndexFails sections (Some base) index StrIndex = IsStringContribution sections base
+    × (slot_count sections.str_offsets.now 4 base ≤ index)
 StringIndexFails sections (Some base) index StringEnd =
-    IsStringContribution sections base × (index < slot_count sections.str_offsets.now 4 base) × (Ends sections.str.now (slot_at sections.str_offsets.now 4 base index) → ⊥)
+    IsStringContribution sections base × (index < slot_count sections.str_offsets.now 4 base)
+    × (Ends sections.str.now (slot_at sections.str_offsets.now 4 base index) → ⊥)
 StringIndexFails sections base index _ = ⊥
 
 -- at an indexed address: the unit names no contribution, or it has no such index
 abbrev pub AddressIndexFails : Sections → UnitHeader → (base : Option ℕ) → ℕ → Rule → Type 0
 AddressIndexFails sections header None index BadAddrBase = Unit {0}
-AddressIndexFails sections header (Some base) index AddrIndex = IsAddressContribution sections header base × (slot_count sections.addr.now header.address_size base ≤ index)
+AddressIndexFails sections header (Some base) index AddrIndex = IsAddressContribution sections header base
+    × (slot_count sections.addr.now header.address_size base ≤ index)
 AddressIndexFails sections header base index _ = ⊥
 
 -- at an offset into a section of strings: no string begins there
@@ -73,20 +78,27 @@ OffsetFails section offset _ = ⊥
 
 -- the rules at an attribute of a unit that has this header and these bases
 abbrev pub StringFailsIn : Sections → UnitHeader → (strings addresses : Option ℕ) → Head → ℕ → Datum → Rule → Type 0
-StringFailsIn sections header strings addresses head attribute (str offset) rule = OffsetFails sections.str.now offset rule
-StringFailsIn sections header strings addresses head attribute (line_str offset) rule = OffsetFails sections.line_str.now offset rule
-StringFailsIn sections header strings addresses head attribute (str_index index) rule = StringIndexFails sections strings index rule
-StringFailsIn sections header strings addresses head attribute (addr_index index) rule = AddressIndexFails sections header addresses index rule
+StringFailsIn sections header strings addresses head attribute (str offset) rule =
+    OffsetFails sections.str.now offset rule
+StringFailsIn sections header strings addresses head attribute (line_str offset) rule =
+    OffsetFails sections.line_str.now offset rule
+StringFailsIn sections header strings addresses head attribute (str_index index) rule =
+    StringIndexFails sections strings index rule
+StringFailsIn sections header strings addresses head attribute (addr_index index) rule =
+    AddressIndexFails sections header addresses index rule
 StringFailsIn sections header strings addresses head attribute (sec_offset base) rule =
     (head.parent ≡ None) × (version_of header.kind ≢ 4) × BaseFails sections header attribute base rule
 StringFailsIn sections header strings addresses head attribute _ rule = ⊥
 
 -- the rules at an attribute of an entry
-pub record StringFails (sections : Sections) (entries : List Entry) (units : List PlacedUnit) (head : Head) (attribute : ℕ) (v : Datum) (rule : Rule) : Type 0 where
+pub record StringFails (sections : Sections) (entries : List Entry) (units : List PlacedUnit) (head : Head)
+    (attribute : ℕ) (v : Datum) (rule : Rule) : Type 0 where
   pub unit : PlacedUnit
   pub in_unit : slice_get units head.unit ≡ Some unit
-  pub fails : StringFailsIn sections unit.unit.header (base_in entries unit DW_AT_str_offsets_base) (base_in entries unit DW_AT_addr_base) head attribute v rule
+  pub fails : StringFailsIn sections unit.unit.header (base_in entries unit DW_AT_str_offsets_base)
+      (base_in entries unit DW_AT_addr_base) head attribute v rule
 
 -- the failures of the rules on strings and addresses
 abbrev pub StringFailures : Sections → List DebugUnit → Failure → Type 0
-StringFailures sections units = AtEntries (entries_of units) (AtHead (StringFails sections (entries_of units) (placed units)))
+StringFailures sections units =
+    AtEntries (entries_of units) (AtHead (StringFails sections (entries_of units) (placed units)))

@@ -8,7 +8,8 @@ use Rattle.dw_links.specs.Contributions.{slot_at, string_at}
 -- the text of an indexed string: the one that its slot leads to
 abbrev pub indexed_text : Sections → (base : Option ℕ) → ℕ → Option (List ℕ)
 indexed_text sections None index = None
-indexed_text sections (Some base) index = Some (string_at sections.str.now (slot_at sections.str_offsets.now 4 base index))
+indexed_text sections (Some base) index =
+    Some (string_at sections.str.now (slot_at sections.str_offsets.now 4 base index))
 
 -- the text of a value of class string, in a unit that has this base
 abbrev pub text_of : Sections → (base : Option ℕ) → Datum → Option (List ℕ)

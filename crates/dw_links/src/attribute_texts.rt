@@ -2,8 +2,7 @@
 
 ghost use Rattle.std.specs.Prelude.{◌≡◌, ◌<◌, length, slice_get, IfSome, option_copied};
 ghost use Rattle.dw_forms.specs.Value.{view};
-ghost use Rattle.dw_entries.specs.Entries.{entries_of, placed};
-ghost use Rattle.dw_entries.specs.Scanned.{units_of};
+ghost use Rattle.dw_entries.specs.Scanned.{all_entries, all_units, units_of};
 ghost use Rattle.dw_entries.specs.Views.{sections_of};
 ghost use Rattle.dw_entries.specs.Failures.{HasNone};
 ghost use Rattle.dw_links.specs.Strings.{StringFailures};
@@ -57,9 +56,11 @@ fn address_of_value(
 impl UnitTables {
     /// The bases of an entry's unit.
     fn bases_of(&self, entries: &Entries<'_>, id: EntryId) -> UnitBases
-        requires id { id < length (entries_of (units_of entries.now.scanned)) }
+        requires id { id < length (all_entries entries.now.scanned) }
         requires tables { AreTables entries.now self.now }
-        ensures { IfSome (slice_get (entries_of (units_of entries.now.scanned)) id) (λ e. IfSome (slice_get (placed (units_of entries.now.scanned)) e.unit) (λ p. result ≡ bases_in (entries_of (units_of entries.now.scanned)) p)) }
+        ensures { IfSome (slice_get (all_entries entries.now.scanned) id)
+            (λ e. IfSome (slice_get (all_units entries.now.scanned) e.unit)
+            (λ p. result ≡ bases_in (all_entries entries.now.scanned) p)) }
     {
         self.bases[entries.unit_of(id)]
     }
@@ -71,10 +72,13 @@ impl UnitTables {
         id: EntryId,
         attribute: Attribute,
     ) -> Option<&'a [u8]>
-        requires id { id < length (entries_of (units_of entries.now.scanned)) }
+        requires id { id < length (all_entries entries.now.scanned) }
         requires tables { AreTables entries.now self.now }
         requires strings { HasNone (StringFailures (sections_of entries.now) (units_of entries.now.scanned)) }
-        ensures { IfSome (slice_get (entries_of (units_of entries.now.scanned)) id) (λ e. option_copied result ≡ text_at (sections_of entries.now) (entries_of (units_of entries.now.scanned)) (placed (units_of entries.now.scanned)) e attribute) }
+        ensures { IfSome (slice_get (all_entries entries.now.scanned) id)
+            (λ e. option_copied result
+            ≡ text_at (sections_of entries.now) (all_entries entries.now.scanned)
+            (all_units entries.now.scanned) e attribute) }
     {
         match entries.value(id, attribute) {
             Some(value) => {
@@ -90,10 +94,12 @@ impl UnitTables {
 
     /// The address of an entry's attribute. None where the attribute is absent or no address.
     pub fn address(&self, entries: &Entries<'_>, id: EntryId, attribute: Attribute) -> Option<u64>
-        requires id { id < length (entries_of (units_of entries.now.scanned)) }
+        requires id { id < length (all_entries entries.now.scanned) }
         requires tables { AreTables entries.now self.now }
         requires strings { HasNone (StringFailures (sections_of entries.now) (units_of entries.now.scanned)) }
-        ensures { IfSome (slice_get (entries_of (units_of entries.now.scanned)) id) (λ e. result ≡ address_at (sections_of entries.now) (entries_of (units_of entries.now.scanned)) (placed (units_of entries.now.scanned)) e attribute) }
+        ensures { IfSome (slice_get (all_entries entries.now.scanned) id)
+            (λ e. result ≡ address_at (sections_of entries.now) (all_entries entries.now.scanned)
+            (all_units entries.now.scanned) e attribute) }
     {
         match entries.value(id, attribute) {
             Some(value) => {

@@ -2,8 +2,7 @@
 
 ghost use Rattle.std.specs.Prelude.{◌≡◌, ◌<◌, length, OnOk, IfErr};
 ghost use Rattle.dw_forms.specs.Value.{view};
-ghost use Rattle.dw_entries.specs.Entries.{placed};
-ghost use Rattle.dw_entries.specs.Scanned.{units_of};
+ghost use Rattle.dw_entries.specs.Scanned.{all_units, units_of};
 ghost use Rattle.dw_entries.specs.Stopped.{IsFault};
 ghost use Rattle.dw_entries.specs.Failures.{HasNone, IsFirst};
 ghost use Rattle.dw_links.specs.Classes.{class_of, form_class, allows, allows_in, ClassFailures};
@@ -14,7 +13,8 @@ use dw_entries::{Entries, Fault, Head, Rule};
 use dw_forms::{Attribute, AttributeSpec, Form, Value};
 use std::alloc::Global;
 
-/// A class of values (DWARF 5, section 7.5.5). Values that lead into other sections are told apart by their forms alone.
+/// A class of values (DWARF 5, section 7.5.5). Values that lead into other sections are told apart by their forms
+/// alone.
 #[derive(Clone, Copy, Debug, PartialEq, Eq)]
 pub enum Class {
     Address,
@@ -90,7 +90,8 @@ pub fn class_of_form(form: Form) -> Option<Class>
     })
 }
 
-/// Whether an attribute may have a value of this class. This project's choice: attributes without a line here may have any.
+/// Whether an attribute may have a value of this class. This project's choice: attributes without a line here may have
+/// any.
 fn is_allowed(attribute: Attribute, class: Class) -> bool
     ensures { result ≡ allows attribute class }
 {
@@ -128,7 +129,8 @@ fn is_allowed(attribute: Attribute, class: Class) -> bool
     }
 }
 
-/// The same in a unit of a version. Version 4 does not know the bases of contributions, so their codes may have any class there.
+/// The same in a unit of a version. Version 4 does not know the bases of contributions, so their codes may have any
+/// class there.
 pub fn is_allowed_in(version: u16, attribute: Attribute, class: Class) -> bool
     ensures { result ≡ allows_in version attribute class }
 {
@@ -149,7 +151,7 @@ impl AttributeRules for Classes<'_, '_> {
 
     ghost may_ask = { λ rules head. head.unit < length (units_of rules.entries.now.scanned) };
 
-    ghost fails = { λ rules. ClassFails (placed (units_of rules.entries.now.scanned)) };
+    ghost fails = { λ rules. ClassFails (all_units rules.entries.now.scanned) };
 
     fn concerns(&self, spec: &AttributeSpec) -> bool {
         match class_of_form(spec.form) {

@@ -1,8 +1,7 @@
 //! Which entries are declared and not defined: each entry is read once, however many references reach it.
 
 ghost use Rattle.std.specs.Prelude.{◌≡◌, ◌<◌, length, replicate, slice_get, IfSome, IfOk};
-ghost use Rattle.dw_entries.specs.Entries.{entries_of};
-ghost use Rattle.dw_entries.specs.Scanned.{units_of};
+ghost use Rattle.dw_entries.specs.Scanned.{all_entries};
 ghost use Rattle.dw_links.specs.References.{is_declared};
 ghost use Rattle.dw_links.specs.DeclaredEntries.{known_as, KeepsDeclared};
 
@@ -38,8 +37,8 @@ impl Model for DeclaredEntries {
 
 /// Whether DW_AT_declaration of an entry is true.
 fn read_declared(entries: &Entries<'_>, id: EntryId) -> bool
-    requires { id < length (entries_of (units_of entries.now.scanned)) }
-    ensures { IfSome (slice_get (entries_of (units_of entries.now.scanned)) id) (λ e. result ≡ is_declared e) }
+    requires { id < length (all_entries entries.now.scanned) }
+    ensures { IfSome (slice_get (all_entries entries.now.scanned) id) (λ e. result ≡ is_declared e) }
 {
     matches!(
         entries.value(id, DW_AT_declaration),
@@ -61,7 +60,7 @@ fn known_as(declared: bool) -> Known
 impl DeclaredEntries {
     /// Nothing is known of any entry.
     pub fn new(alloc: Global, entries: &Entries<'_>) -> Result<Self, AllocError>
-        ensures { IfOk result (KeepsDeclared (entries_of (units_of entries.now.scanned))) }
+        ensures { IfOk result (KeepsDeclared (all_entries entries.now.scanned)) }
     {
         Ok(DeclaredEntries {
             known: vec![in alloc; Known::Unread; entries.count()]?,
@@ -70,10 +69,10 @@ impl DeclaredEntries {
 
     /// Whether an entry is declared and not defined.
     pub fn has(&mut self, entries: &Entries<'_>, id: EntryId) -> bool
-        requires id { id < length (entries_of (units_of entries.now.scanned)) }
-        requires kept { KeepsDeclared (entries_of (units_of entries.now.scanned)) self.old }
-        ensures exact { IfSome (slice_get (entries_of (units_of entries.now.scanned)) id) (λ e. result ≡ is_declared e) }
-        ensures kept { KeepsDeclared (entries_of (units_of entries.now.scanned)) self.new }
+        requires id { id < length (all_entries entries.now.scanned) }
+        requires kept { KeepsDeclared (all_entries entries.now.scanned) self.old }
+        ensures exact { IfSome (slice_get (all_entries entries.now.scanned) id) (λ e. result ≡ is_declared e) }
+        ensures kept { KeepsDeclared (all_entries entries.now.scanned) self.new }
     {
         match self.known[id.number()] {
             Known::Declared => true,

@@ -2,10 +2,11 @@
 
 ghost use Rattle.std.specs.Prelude.{ℕ, ◌≡◌, ◌+◌, ◌<◌, Some, length, slice_get, OnOk, IfErr};
 ghost use Rattle.std.specs.Bool.{OnTrue, OnFalse};
-ghost use Rattle.dw_entries.specs.Entries.{PlacedUnit, entries_of, placed};
-ghost use Rattle.dw_entries.specs.Scanned.{units_of};
+ghost use Rattle.dw_entries.specs.Entries.{PlacedUnit};
+ghost use Rattle.dw_entries.specs.Scanned.{all_entries, all_units, units_of};
 ghost use Rattle.dw_entries.specs.Failures.{HasNone, IsFirst, IsLeast};
-ghost use Rattle.dw_links.specs.References.{HasSignature, IsSignedBefore, HasType, TypeUnitFails, AtHeader, HeaderFailures};
+ghost use Rattle.dw_links.specs.References.{HasSignature, IsSignedBefore, HasType, TypeUnitFails, AtHeader};
+ghost use Rattle.dw_links.specs.References.{HeaderFailures};
 ghost use Rattle.dw_links.specs.Linkable.{IsLinkable};
 
 use crate::references::References;
@@ -16,9 +17,10 @@ impl References<'_, '_> {
     /// Whether an earlier type unit has a signature.
     fn is_signed_before(&self, number: usize, signature: u64) -> bool
         requires linkable { IsLinkable self.now }
-        requires has { HasSignature (placed (units_of self.now.entries.now.scanned)) signature number }
-        ensures yes { OnTrue result (IsSignedBefore (placed (units_of self.now.entries.now.scanned)) number signature) }
-        ensures otherwise { OnFalse result (IsSignedBefore (placed (units_of self.now.entries.now.scanned)) number signature → ⊥) }
+        requires has { HasSignature (all_units self.now.entries.now.scanned) signature number }
+        ensures yes { OnTrue result (IsSignedBefore (all_units self.now.entries.now.scanned) number signature) }
+        ensures otherwise { OnFalse result (IsSignedBefore (all_units self.now.entries.now.scanned) number signature
+            → ⊥) }
     {
         match self.signatures.get(&signature) {
             Some(first) if *first < number => true,
@@ -29,8 +31,12 @@ impl References<'_, '_> {
     /// Whether a type begins so far behind the first byte of a unit's header.
     fn has_type(&self, number: usize, type_offset: u32) -> bool
         requires { number < length (units_of self.now.entries.now.scanned) }
-        ensures yes { OnTrue result ((p : PlacedUnit) → slice_get (placed (units_of self.now.entries.now.scanned)) number ≡ Some p → HasType (entries_of (units_of self.now.entries.now.scanned)) number (p.at + type_offset)) }
-        ensures otherwise { OnFalse result ((p : PlacedUnit) → slice_get (placed (units_of self.now.entries.now.scanned)) number ≡ Some p → HasType (entries_of (units_of self.now.entries.now.scanned)) number (p.at + type_offset) → ⊥) }
+        ensures yes { OnTrue result ((p : PlacedUnit)
+            → slice_get (all_units self.now.entries.now.scanned) number ≡ Some p
+            → HasType (all_entries self.now.entries.now.scanned) number (p.at + type_offset)) }
+        ensures otherwise { OnFalse result ((p : PlacedUnit)
+            → slice_get (all_units self.now.entries.now.scanned) number ≡ Some p
+            → HasType (all_entries self.now.entries.now.scanned) number (p.at + type_offset) → ⊥) }
     {
         let Some(id) = self.entries.find_in_unit(number, type_offset as u64) else {
             return false;
@@ -45,9 +51,10 @@ impl References<'_, '_> {
     fn ask_header(&self, number: usize, signature: u64, type_offset: u32) -> Option<Rule>
         requires linkable { IsLinkable self.now }
         requires within { number < length (units_of self.now.entries.now.scanned) }
-        requires has { HasSignature (placed (units_of self.now.entries.now.scanned)) signature number }
-        ensures { (p : PlacedUnit) → slice_get (placed (units_of self.now.entries.now.scanned)) number ≡ Some p
-            → IsLeast (TypeUnitFails (entries_of (units_of self.now.entries.now.scanned)) (placed (units_of self.now.entries.now.scanned)) number p.at signature type_offset) result }
+        requires has { HasSignature (all_units self.now.entries.now.scanned) signature number }
+        ensures { (p : PlacedUnit) → slice_get (all_units self.now.entries.now.scanned) number ≡ Some p
+            → IsLeast (TypeUnitFails (all_entries self.now.entries.now.scanned) (all_units self.now.entries.now.scanned)
+            number p.at signature type_offset) result }
     {
         if self.is_signed_before(number, signature) {
             return Some(Rule::SignatureTwice);
@@ -62,10 +69,13 @@ impl References<'_, '_> {
     fn check_header(&self, number: usize) -> Result<(), Broken>
         requires linkable { IsLinkable self.now }
         requires within { number < length (units_of self.now.entries.now.scanned) }
-        ensures ok { OnOk result ((p : PlacedUnit) → slice_get (placed (units_of self.now.entries.now.scanned)) number ≡ Some p
-            → HasNone (AtHeader (entries_of (units_of self.now.entries.now.scanned)) (placed (units_of self.now.entries.now.scanned)) number p)) }
-        ensures err { IfErr result (λ broken. (p : PlacedUnit) → slice_get (placed (units_of self.now.entries.now.scanned)) number ≡ Some p
-            → IsFirst (AtHeader (entries_of (units_of self.now.entries.now.scanned)) (placed (units_of self.now.entries.now.scanned)) number p) broken) }
+        ensures ok { OnOk result ((p : PlacedUnit) → slice_get (all_units self.now.entries.now.scanned) number ≡ Some p
+            → HasNone (AtHeader (all_entries self.now.entries.now.scanned) (all_units self.now.entries.now.scanned)
+            number p)) }
+        ensures err { IfErr result
+            (λ broken. (p : PlacedUnit) → slice_get (all_units self.now.entries.now.scanned) number ≡ Some p
+            → IsFirst (AtHeader (all_entries self.now.entries.now.scanned) (all_units self.now.entries.now.scanned)
+            number p) broken) }
     {
         let unit = self.entries.unit(number);
         let Some((signature, type_offset)) = type_in_header(unit.header.kind) else {
@@ -85,8 +95,12 @@ impl References<'_, '_> {
     /// The first failure at a header.
     pub fn check_headers(&self) -> Result<(), Broken>
         requires linkable { IsLinkable self.now }
-        ensures ok { OnOk result (HasNone (HeaderFailures (entries_of (units_of self.now.entries.now.scanned)) (placed (units_of self.now.entries.now.scanned)))) }
-        ensures err { IfErr result (IsFirst (HeaderFailures (entries_of (units_of self.now.entries.now.scanned)) (placed (units_of self.now.entries.now.scanned)))) }
+        ensures ok { OnOk result
+            (HasNone (HeaderFailures (all_entries self.now.entries.now.scanned)
+            (all_units self.now.entries.now.scanned))) }
+        ensures err { IfErr result
+            (IsFirst (HeaderFailures (all_entries self.now.entries.now.scanned)
+            (all_units self.now.entries.now.scanned))) }
     {
         for number in 0..self.entries.unit_count() {
             self.check_header(number)?;

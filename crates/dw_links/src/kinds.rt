@@ -2,8 +2,8 @@
 
 ghost use Rattle.std.specs.Prelude.{◌≡◌, ◌<◌, Some, length, slice_get};
 ghost use Rattle.dw_forms.specs.Value.{view};
-ghost use Rattle.dw_entries.specs.Entries.{Entry, entries_of};
-ghost use Rattle.dw_entries.specs.Scanned.{units_of};
+ghost use Rattle.dw_entries.specs.Entries.{Entry};
+ghost use Rattle.dw_entries.specs.Scanned.{all_entries};
 ghost use Rattle.dw_links.specs.DeclaredEntries.{KeepsDeclared};
 ghost use Rattle.dw_links.specs.References.{is_signed, is_signature, is_reference_value, permits, permits_form};
 
@@ -61,10 +61,11 @@ pub fn is_permitted(
     attribute: Attribute,
     id: EntryId,
 ) -> bool
-    requires id { id < length (entries_of (units_of entries.now.scanned)) }
-    requires kept { KeepsDeclared (entries_of (units_of entries.now.scanned)) declared.old }
-    ensures kept { KeepsDeclared (entries_of (units_of entries.now.scanned)) declared.new }
-    ensures exact { (target : Entry) → slice_get (entries_of (units_of entries.now.scanned)) id ≡ Some target → result ≡ permits head.now attribute target }
+    requires id { id < length (all_entries entries.now.scanned) }
+    requires kept { KeepsDeclared (all_entries entries.now.scanned) declared.old }
+    ensures kept { KeepsDeclared (all_entries entries.now.scanned) declared.new }
+    ensures exact { (target : Entry) → slice_get (all_entries entries.now.scanned) id ≡ Some target
+        → result ≡ permits head.now attribute target }
 {
     let target = entries.at(id);
     if attribute == DW_AT_type {

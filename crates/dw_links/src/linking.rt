@@ -1,8 +1,8 @@
 //! The rules on references, asked of all entries, and the entries that the types of entries reach.
 
 ghost use Rattle.std.specs.Prelude.{ℕ, ◌≡◌, ◌<◌, length, map, None, Some, slice_get, IfSome, IsSome, OnOk, IfOk, IfErr};
-ghost use Rattle.dw_entries.specs.Entries.{Entry, entries_of, placed};
-ghost use Rattle.dw_entries.specs.Scanned.{units_of};
+ghost use Rattle.dw_entries.specs.Entries.{Entry};
+ghost use Rattle.dw_entries.specs.Scanned.{all_entries, all_units, units_of};
 ghost use Rattle.dw_entries.specs.Lookups.{entry_head};
 ghost use Rattle.dw_entries.specs.Failures.{HasNone, IsFirst, IsLeast};
 ghost use Rattle.dw_forms.specs.Value.{view};
@@ -26,7 +26,7 @@ use std::alloc::Global;
 /// The number of an entry, or none.
 #[inline(always)]
 fn number_of(entries: &Entries<'_>, id: &Option<EntryId>) -> OptionalId
-    requires { IfSome id.now (λ t. t < length (entries_of (units_of entries.now.scanned))) }
+    requires { IfSome id.now (λ t. t < length (all_entries entries.now.scanned)) }
     ensures { result ≡ id.now }
 {
     match id {
@@ -63,11 +63,17 @@ impl References<'_, '_> {
         value: &Value<'_>,
     ) -> Result<OptionalId, Rule>
         requires may { MayAsk self.now head.now }
-        requires kept { KeepsDeclared (entries_of (units_of self.now.entries.now.scanned)) declared.old }
-        ensures kept { KeepsDeclared (entries_of (units_of self.now.entries.now.scanned)) declared.new }
-        ensures ok { OnOk result (IsLeast (ReferenceFails (entries_of (units_of self.now.entries.now.scanned)) (placed (units_of self.now.entries.now.scanned)) head.now attribute (view value.now)) None) }
-        ensures reached { IfOk result (λ target. target ≡ reach_of (entries_of (units_of self.now.entries.now.scanned)) (placed (units_of self.now.entries.now.scanned)) head.now (view value.now)) }
-        ensures err { IfErr result (λ rule. IsLeast (ReferenceFails (entries_of (units_of self.now.entries.now.scanned)) (placed (units_of self.now.entries.now.scanned)) head.now attribute (view value.now)) (Some rule)) }
+        requires kept { KeepsDeclared (all_entries self.now.entries.now.scanned) declared.old }
+        ensures kept { KeepsDeclared (all_entries self.now.entries.now.scanned) declared.new }
+        ensures ok { OnOk result
+            (IsLeast (ReferenceFails (all_entries self.now.entries.now.scanned) (all_units self.now.entries.now.scanned)
+            head.now attribute (view value.now)) None) }
+        ensures reached { IfOk result
+            (λ target. target ≡ reach_of (all_entries self.now.entries.now.scanned)
+            (all_units self.now.entries.now.scanned) head.now (view value.now)) }
+        ensures err { IfErr result
+            (λ rule. IsLeast (ReferenceFails (all_entries self.now.entries.now.scanned)
+            (all_units self.now.entries.now.scanned) head.now attribute (view value.now)) (Some rule)) }
     {
         let reached = self.reach(head, value);
         let target = number_of(self.entries, &reached);
@@ -86,11 +92,18 @@ impl References<'_, '_> {
     ) -> Result<OptionalId, Broken>
         requires found { IsSome entry.now }
         requires may { (e : Entry) → entry.now ≡ Some e → MayAsk self.now (entry_head e) }
-        requires kept { KeepsDeclared (entries_of (units_of self.now.entries.now.scanned)) declared.old }
-        ensures kept { KeepsDeclared (entries_of (units_of self.now.entries.now.scanned)) declared.new }
-        ensures ok { OnOk result (PassesAt entry.now (AtHead (ReferenceFails (entries_of (units_of self.now.entries.now.scanned)) (placed (units_of self.now.entries.now.scanned))))) }
-        ensures target { IfOk result (λ target. IfSome entry.now (λ e. target ≡ type_target (entries_of (units_of self.now.entries.now.scanned)) (placed (units_of self.now.entries.now.scanned)) e)) }
-        ensures err { IfErr result (FailsAt entry.now (AtHead (ReferenceFails (entries_of (units_of self.now.entries.now.scanned)) (placed (units_of self.now.entries.now.scanned))))) }
+        requires kept { KeepsDeclared (all_entries self.now.entries.now.scanned) declared.old }
+        ensures kept { KeepsDeclared (all_entries self.now.entries.now.scanned) declared.new }
+        ensures ok { OnOk result
+            (PassesAt entry.now (AtHead
+            (ReferenceFails (all_entries self.now.entries.now.scanned) (all_units self.now.entries.now.scanned)))) }
+        ensures target { IfOk result
+            (λ target. IfSome entry.now
+            (λ e. target ≡ type_target (all_entries self.now.entries.now.scanned)
+            (all_units self.now.entries.now.scanned) e)) }
+        ensures err { IfErr result
+            (FailsAt entry.now (AtHead
+            (ReferenceFails (all_entries self.now.entries.now.scanned) (all_units self.now.entries.now.scanned)))) }
     {
         let head = entry.head();
         let mut values = entry.values();
@@ -109,10 +122,18 @@ impl References<'_, '_> {
 
     /// The entries that the types of all entries reach, in their order, or the first failure at a reference.
     fn link_entries(&self, alloc: Global) -> Result<Vec<OptionalId>, Stop>
-        requires { (id : ℕ) (e : Entry) → slice_get (entries_of (units_of self.now.entries.now.scanned)) id ≡ Some e → MayAsk self.now (entry_head e) }
-        ensures ok { OnOk result (HasNone (AttributeFailures (entries_of (units_of self.now.entries.now.scanned)) (placed (units_of self.now.entries.now.scanned)))) }
-        ensures types { IfOk result (λ types. types.items ≡ map (type_target (entries_of (units_of self.now.entries.now.scanned)) (placed (units_of self.now.entries.now.scanned))) (entries_of (units_of self.now.entries.now.scanned))) }
-        ensures fault { IfErr result (IfFault (IsFirst (AttributeFailures (entries_of (units_of self.now.entries.now.scanned)) (placed (units_of self.now.entries.now.scanned))))) }
+        requires { (id : ℕ) (e : Entry) → slice_get (all_entries self.now.entries.now.scanned) id ≡ Some e
+            → MayAsk self.now (entry_head e) }
+        ensures ok { OnOk result
+            (HasNone (AttributeFailures (all_entries self.now.entries.now.scanned)
+            (all_units self.now.entries.now.scanned))) }
+        ensures types { IfOk result
+            (λ types. types.items ≡ map
+            (type_target (all_entries self.now.entries.now.scanned) (all_units self.now.entries.now.scanned))
+            (all_entries self.now.entries.now.scanned)) }
+        ensures fault { IfErr result
+            (IfFault (IsFirst (AttributeFailures (all_entries self.now.entries.now.scanned)
+            (all_units self.now.entries.now.scanned)))) }
     {
         let count = self.entries.count();
         let mut types = Vec::with_capacity(alloc, count)?;
@@ -133,7 +154,10 @@ impl References<'_, '_> {
     pub fn link(&self, alloc: Global) -> Result<Vec<OptionalId>, Stop>
         requires { IsLinkable self.now }
         ensures ok { OnOk result (HasNone (ReferenceFailures (units_of self.now.entries.now.scanned))) }
-        ensures types { IfOk result (λ types. types.items ≡ map (type_target (entries_of (units_of self.now.entries.now.scanned)) (placed (units_of self.now.entries.now.scanned))) (entries_of (units_of self.now.entries.now.scanned))) }
+        ensures types { IfOk result
+            (λ types. types.items ≡ map
+            (type_target (all_entries self.now.entries.now.scanned) (all_units self.now.entries.now.scanned))
+            (all_entries self.now.entries.now.scanned)) }
         ensures fault { IfErr result (IfFault (IsFirst (ReferenceFailures (units_of self.now.entries.now.scanned)))) }
     {
         match self.check_headers() {

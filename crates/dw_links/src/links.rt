@@ -1,8 +1,7 @@
 //! Entries whose references all reach an entry, and what their attributes lead to.
 
 ghost use Rattle.std.specs.Prelude.{◌≡◌, ◌<◌, length, slice_get, option_copied, IfSome, OnOk, IfOk, IfErr};
-ghost use Rattle.dw_entries.specs.Entries.{entries_of, placed};
-ghost use Rattle.dw_entries.specs.Scanned.{units_of};
+ghost use Rattle.dw_entries.specs.Scanned.{all_entries, all_units, units_of};
 ghost use Rattle.dw_entries.specs.Views.{sections_of};
 ghost use Rattle.dw_entries.specs.Stopped.{IfFault};
 ghost use Rattle.dw_entries.specs.Failures.{HasNone, IsFirst};
@@ -64,25 +63,32 @@ impl<'a> Links<'_, 'a> {
     /// The entry that an entry's attribute reaches. None where the attribute is absent or no reference.
     #[inline]
     pub fn target(&self, id: EntryId, attribute: Attribute) -> Option<EntryId>
-        requires { id < length (entries_of (units_of self.now.entries.now.scanned)) }
-        ensures exact { IfSome (slice_get (entries_of (units_of self.now.entries.now.scanned)) id) (λ e. result ≡ target_of (entries_of (units_of self.now.entries.now.scanned)) (placed (units_of self.now.entries.now.scanned)) e attribute) }
-        ensures within { IfSome result (λ t. t < length (entries_of (units_of self.now.entries.now.scanned))) }
+        requires { id < length (all_entries self.now.entries.now.scanned) }
+        ensures exact { IfSome (slice_get (all_entries self.now.entries.now.scanned) id)
+            (λ e. result ≡ target_of (all_entries self.now.entries.now.scanned) (all_units self.now.entries.now.scanned)
+            e attribute) }
+        ensures within { IfSome result (λ t. t < length (all_entries self.now.entries.now.scanned)) }
     {
         self.tables.target(self.entries, id, attribute)
     }
 
     /// The text of an entry's attribute. None where the attribute is absent or no string.
     pub fn text(&self, id: EntryId, attribute: Attribute) -> Option<&'a [u8]>
-        requires { id < length (entries_of (units_of self.now.entries.now.scanned)) }
-        ensures { IfSome (slice_get (entries_of (units_of self.now.entries.now.scanned)) id) (λ e. option_copied result ≡ text_at (sections_of self.now.entries.now) (entries_of (units_of self.now.entries.now.scanned)) (placed (units_of self.now.entries.now.scanned)) e attribute) }
+        requires { id < length (all_entries self.now.entries.now.scanned) }
+        ensures { IfSome (slice_get (all_entries self.now.entries.now.scanned) id)
+            (λ e. option_copied result
+            ≡ text_at (sections_of self.now.entries.now) (all_entries self.now.entries.now.scanned)
+            (all_units self.now.entries.now.scanned) e attribute) }
     {
         self.tables.text(self.entries, id, attribute)
     }
 
     /// The address of an entry's attribute. None where the attribute is absent or no address.
     pub fn address(&self, id: EntryId, attribute: Attribute) -> Option<u64>
-        requires { id < length (entries_of (units_of self.now.entries.now.scanned)) }
-        ensures { IfSome (slice_get (entries_of (units_of self.now.entries.now.scanned)) id) (λ e. result ≡ address_at (sections_of self.now.entries.now) (entries_of (units_of self.now.entries.now.scanned)) (placed (units_of self.now.entries.now.scanned)) e attribute) }
+        requires { id < length (all_entries self.now.entries.now.scanned) }
+        ensures { IfSome (slice_get (all_entries self.now.entries.now.scanned) id)
+            (λ e. result ≡ address_at (sections_of self.now.entries.now) (all_entries self.now.entries.now.scanned)
+            (all_units self.now.entries.now.scanned) e attribute) }
     {
         self.tables.address(self.entries, id, attribute)
     }

@@ -3,11 +3,11 @@
 ghost use Rattle.std.specs.Prelude.{true, ◌≡◌, ℕ, ◌<◌, length, Some, slice_get, IfSome, IfNone};
 ghost use Rattle.std.specs.Bool.{OnTrue, OnFalse};
 ghost use Rattle.dw_forms.specs.Value.{view};
-ghost use Rattle.dw_entries.specs.Entries.{entries_of, placed};
-ghost use Rattle.dw_entries.specs.Scanned.{units_of};
+ghost use Rattle.dw_entries.specs.Scanned.{all_entries, all_units};
 ghost use Rattle.dw_entries.specs.Runs.{IsEntryAt};
 ghost use Rattle.dw_entries.specs.Failures.{IsLeast};
-ghost use Rattle.dw_links.specs.References.{is_reference_value, NoSignatureThere, IsWrongKind, ReachesBySignature, Reaches, ReferenceFails};
+ghost use Rattle.dw_links.specs.References.{is_reference_value, NoSignatureThere, IsWrongKind, ReachesBySignature};
+ghost use Rattle.dw_links.specs.References.{Reaches, ReferenceFails};
 ghost use Rattle.dw_links.specs.DeclaredEntries.{KeepsDeclared};
 ghost use Rattle.dw_links.specs.Signatures.{AreDistinct};
 ghost use Rattle.dw_links.specs.Linkable.{IsLinkable, MayAsk};
@@ -30,8 +30,8 @@ pub struct References<'r, 'd> {
 /// The entry that begins at an offset of .debug_info.
 #[inline(always)]
 fn find_entry(entries: &Entries<'_>, offset: u32) -> Option<EntryId>
-    ensures some { IfSome result (IsEntryAt (entries_of (units_of entries.now.scanned)) offset) }
-    ensures none { IfNone result ((id : ℕ) → IsEntryAt (entries_of (units_of entries.now.scanned)) offset id → ⊥) }
+    ensures some { IfSome result (IsEntryAt (all_entries entries.now.scanned) offset) }
+    ensures none { IfNone result ((id : ℕ) → IsEntryAt (all_entries entries.now.scanned) offset id → ⊥) }
 {
     entries.find(offset)
 }
@@ -52,9 +52,13 @@ impl References<'_, '_> {
     /// The entry that a signature reaches.
     fn reach_by_signature(&self, signature: u64) -> Option<EntryId>
         requires linkable { IsLinkable self.now }
-        requires distinct { AreDistinct (placed (units_of self.now.entries.now.scanned)) }
-        ensures some { IfSome result (ReachesBySignature (entries_of (units_of self.now.entries.now.scanned)) (placed (units_of self.now.entries.now.scanned)) signature) }
-        ensures none { IfNone result ((id : ℕ) → ReachesBySignature (entries_of (units_of self.now.entries.now.scanned)) (placed (units_of self.now.entries.now.scanned)) signature id → ⊥) }
+        requires distinct { AreDistinct (all_units self.now.entries.now.scanned) }
+        ensures some { IfSome result
+            (ReachesBySignature (all_entries self.now.entries.now.scanned) (all_units self.now.entries.now.scanned)
+            signature) }
+        ensures none { IfNone result ((id : ℕ)
+            → ReachesBySignature (all_entries self.now.entries.now.scanned)
+            (all_units self.now.entries.now.scanned) signature id → ⊥) }
     {
         let Some(number) = self.signatures.get(&signature).copied() else {
             return None;
@@ -70,8 +74,12 @@ impl References<'_, '_> {
     #[inline(always)]
     pub fn reach(&self, head: &Head, value: &Value<'_>) -> Option<EntryId>
         requires { MayAsk self.now head.now }
-        ensures some { IfSome result (Reaches (entries_of (units_of self.now.entries.now.scanned)) (placed (units_of self.now.entries.now.scanned)) head.now (view value.now)) }
-        ensures none { IfNone result ((id : ℕ) → Reaches (entries_of (units_of self.now.entries.now.scanned)) (placed (units_of self.now.entries.now.scanned)) head.now (view value.now) id → ⊥) }
+        ensures some { IfSome result
+            (Reaches (all_entries self.now.entries.now.scanned) (all_units self.now.entries.now.scanned) head.now
+            (view value.now)) }
+        ensures none { IfNone result ((id : ℕ)
+            → Reaches (all_entries self.now.entries.now.scanned) (all_units self.now.entries.now.scanned) head.now
+            (view value.now) id → ⊥) }
     {
         match *value {
             Value::RefInfo(offset) => find_entry(self.entries, offset),
@@ -84,8 +92,9 @@ impl References<'_, '_> {
     /// Whether a value is a signature that no type unit has.
     fn is_unsigned(&self, value: &Value<'_>) -> bool
         requires { IsLinkable self.now }
-        ensures yes { OnTrue result (NoSignatureThere (placed (units_of self.now.entries.now.scanned)) (view value.now)) }
-        ensures otherwise { OnFalse result (NoSignatureThere (placed (units_of self.now.entries.now.scanned)) (view value.now) → ⊥) }
+        ensures yes { OnTrue result (NoSignatureThere (all_units self.now.entries.now.scanned) (view value.now)) }
+        ensures otherwise { OnFalse result (NoSignatureThere (all_units self.now.entries.now.scanned) (view value.now)
+            → ⊥) }
     {
         match value {
             Value::RefSig(signature) => match self.signatures.get(signature) {
@@ -100,8 +109,11 @@ impl References<'_, '_> {
     fn ask_unreached(&self, head: &Head, attribute: Attribute, value: &Value<'_>) -> Option<Rule>
         requires may { MayAsk self.now head.now }
         requires reference { is_reference_value (view value.now) ≡ true }
-        requires none { (id : ℕ) → Reaches (entries_of (units_of self.now.entries.now.scanned)) (placed (units_of self.now.entries.now.scanned)) head.now (view value.now) id → ⊥ }
-        ensures { IsLeast (ReferenceFails (entries_of (units_of self.now.entries.now.scanned)) (placed (units_of self.now.entries.now.scanned)) head.now attribute (view value.now)) result }
+        requires none { (id : ℕ)
+            → Reaches (all_entries self.now.entries.now.scanned) (all_units self.now.entries.now.scanned) head.now
+            (view value.now) id → ⊥ }
+        ensures { IsLeast (ReferenceFails (all_entries self.now.entries.now.scanned)
+            (all_units self.now.entries.now.scanned) head.now attribute (view value.now)) result }
     {
         if !is_sig8(value) {
             return Some(Rule::NoEntry);
@@ -126,11 +138,16 @@ impl References<'_, '_> {
         id: EntryId,
     ) -> bool
         requires may { MayAsk self.now head.now }
-        requires reaches { Reaches (entries_of (units_of self.now.entries.now.scanned)) (placed (units_of self.now.entries.now.scanned)) head.now (view value.now) id }
-        requires kept { KeepsDeclared (entries_of (units_of self.now.entries.now.scanned)) declared.old }
-        ensures kept { KeepsDeclared (entries_of (units_of self.now.entries.now.scanned)) declared.new }
-        ensures yes { OnTrue result (IsWrongKind (entries_of (units_of self.now.entries.now.scanned)) (placed (units_of self.now.entries.now.scanned)) head.now attribute (view value.now)) }
-        ensures otherwise { OnFalse result (IsWrongKind (entries_of (units_of self.now.entries.now.scanned)) (placed (units_of self.now.entries.now.scanned)) head.now attribute (view value.now) → ⊥) }
+        requires reaches { Reaches (all_entries self.now.entries.now.scanned) (all_units self.now.entries.now.scanned)
+            head.now (view value.now) id }
+        requires kept { KeepsDeclared (all_entries self.now.entries.now.scanned) declared.old }
+        ensures kept { KeepsDeclared (all_entries self.now.entries.now.scanned) declared.new }
+        ensures yes { OnTrue result
+            (IsWrongKind (all_entries self.now.entries.now.scanned) (all_units self.now.entries.now.scanned) head.now
+            attribute (view value.now)) }
+        ensures otherwise { OnFalse result
+            (IsWrongKind (all_entries self.now.entries.now.scanned) (all_units self.now.entries.now.scanned) head.now
+            attribute (view value.now) → ⊥) }
     {
         if !is_permitted_form(head, attribute, value) {
             return true;
@@ -153,10 +170,12 @@ impl References<'_, '_> {
     ) -> Option<Rule>
         requires may { MayAsk self.now head.now }
         requires reference { is_reference_value (view value.now) ≡ true }
-        requires reaches { Reaches (entries_of (units_of self.now.entries.now.scanned)) (placed (units_of self.now.entries.now.scanned)) head.now (view value.now) id }
-        requires kept { KeepsDeclared (entries_of (units_of self.now.entries.now.scanned)) declared.old }
-        ensures kept { KeepsDeclared (entries_of (units_of self.now.entries.now.scanned)) declared.new }
-        ensures rule { IsLeast (ReferenceFails (entries_of (units_of self.now.entries.now.scanned)) (placed (units_of self.now.entries.now.scanned)) head.now attribute (view value.now)) result }
+        requires reaches { Reaches (all_entries self.now.entries.now.scanned) (all_units self.now.entries.now.scanned)
+            head.now (view value.now) id }
+        requires kept { KeepsDeclared (all_entries self.now.entries.now.scanned) declared.old }
+        ensures kept { KeepsDeclared (all_entries self.now.entries.now.scanned) declared.new }
+        ensures rule { IsLeast (ReferenceFails (all_entries self.now.entries.now.scanned)
+            (all_units self.now.entries.now.scanned) head.now attribute (view value.now)) result }
     {
         if self.is_wrong(declared, head, attribute, value, id) {
             return Some(Rule::WrongKind);
@@ -181,11 +200,16 @@ impl References<'_, '_> {
         reached: Option<EntryId>,
     ) -> Option<Rule>
         requires may { MayAsk self.now head.now }
-        requires some { IfSome reached (Reaches (entries_of (units_of self.now.entries.now.scanned)) (placed (units_of self.now.entries.now.scanned)) head.now (view value.now)) }
-        requires none { IfNone reached ((id : ℕ) → Reaches (entries_of (units_of self.now.entries.now.scanned)) (placed (units_of self.now.entries.now.scanned)) head.now (view value.now) id → ⊥) }
-        requires kept { KeepsDeclared (entries_of (units_of self.now.entries.now.scanned)) declared.old }
-        ensures kept { KeepsDeclared (entries_of (units_of self.now.entries.now.scanned)) declared.new }
-        ensures rule { IsLeast (ReferenceFails (entries_of (units_of self.now.entries.now.scanned)) (placed (units_of self.now.entries.now.scanned)) head.now attribute (view value.now)) result }
+        requires some { IfSome reached
+            (Reaches (all_entries self.now.entries.now.scanned) (all_units self.now.entries.now.scanned) head.now
+            (view value.now)) }
+        requires none { IfNone reached ((id : ℕ)
+            → Reaches (all_entries self.now.entries.now.scanned) (all_units self.now.entries.now.scanned) head.now
+            (view value.now) id → ⊥) }
+        requires kept { KeepsDeclared (all_entries self.now.entries.now.scanned) declared.old }
+        ensures kept { KeepsDeclared (all_entries self.now.entries.now.scanned) declared.new }
+        ensures rule { IsLeast (ReferenceFails (all_entries self.now.entries.now.scanned)
+            (all_units self.now.entries.now.scanned) head.now attribute (view value.now)) result }
     {
         if !is_reference(value) {
             return None;

@@ -6,9 +6,9 @@ ghost use Rattle.dw_forms.specs.Value.{Datum, view};
 ghost use Rattle.dw_entries.specs.declared.lookup.Head.{Head as HeadData};
 ghost use Rattle.dw_entries.specs.declared.rule.Rule.{Rule as RuleName};
 ghost use Rattle.dw_entries.specs.declared.fault.Section.TheVariants.{Info};
-ghost use Rattle.dw_entries.specs.Entries.{Entry, entries_of};
+ghost use Rattle.dw_entries.specs.Entries.{Entry};
 ghost use Rattle.dw_entries.specs.Stopped.{broken_of};
-ghost use Rattle.dw_entries.specs.Scanned.{units_of};
+ghost use Rattle.dw_entries.specs.Scanned.{all_entries};
 ghost use Rattle.dw_entries.specs.Lookups.{entry_head};
 ghost use Rattle.dw_entries.specs.Failures.{HasNone, IsFirst, IsLeast};
 ghost use Rattle.dw_entries.specs.Asked.{AtEntries};
@@ -113,7 +113,7 @@ fn concerns_row<R: AttributeRules>(rules: &R, row: &DeclRow) -> bool
 
 /// Whether a rule may fail at an attribute of any entry, by the declarations alone.
 pub fn concerns_entries<R: AttributeRules>(rules: &R, entries: &Entries<'_>) -> bool
-    ensures { OnFalse result (HasNone (AtEntries (entries_of (units_of entries.now.scanned)) (AtHead (R.fails rules.now)))) }
+    ensures { OnFalse result (HasNone (AtEntries (all_entries entries.now.scanned) (AtHead (R.fails rules.now)))) }
 {
     for row in entries.rows() {
         if concerns_row(rules, row) {
@@ -143,9 +143,10 @@ pub fn check_entry<R: AttributeRules>(rules: &R, entry: &EntryAt<'_, '_>) -> Res
 
 /// The first failure among the attributes of all entries.
 pub fn check_entries<R: AttributeRules>(rules: &R, entries: &Entries<'_>) -> Result<(), Broken>
-    requires { (id : ℕ) (e : Entry) → slice_get (entries_of (units_of entries.now.scanned)) id ≡ Some e → R.may_ask rules.now (entry_head e) }
-    ensures ok { OnOk result (HasNone (AtEntries (entries_of (units_of entries.now.scanned)) (AtHead (R.fails rules.now)))) }
-    ensures err { IfErr result (IsFirst (AtEntries (entries_of (units_of entries.now.scanned)) (AtHead (R.fails rules.now)))) }
+    requires { (id : ℕ) (e : Entry) → slice_get (all_entries entries.now.scanned) id ≡ Some e
+        → R.may_ask rules.now (entry_head e) }
+    ensures ok { OnOk result (HasNone (AtEntries (all_entries entries.now.scanned) (AtHead (R.fails rules.now)))) }
+    ensures err { IfErr result (IsFirst (AtEntries (all_entries entries.now.scanned) (AtHead (R.fails rules.now)))) }
 {
     let mut cursor = entries.cursor();
     for number in 0..entries.count() {

@@ -1,8 +1,7 @@
 //! The type units by their signatures.
 
 ghost use Rattle.std.specs.Prelude.{◌≡◌, length, IfOk, OnOk, ◌+◌, ◌<◌};
-ghost use Rattle.dw_entries.specs.Entries.{placed};
-ghost use Rattle.dw_entries.specs.Scanned.{units_of};
+ghost use Rattle.dw_entries.specs.Scanned.{all_units, units_of};
 ghost use Rattle.dw_links.specs.References.{type_in};
 ghost use Rattle.dw_links.specs.Signatures.{AreSignatures};
 
@@ -30,8 +29,8 @@ fn add_signature(
     number: usize,
 ) -> Result<(), AllocError>
     requires within { number < length (units_of entries.now.scanned) }
-    requires before { AreSignatures (placed (units_of entries.now.scanned)) number table.old }
-    ensures { OnOk result (AreSignatures (placed (units_of entries.now.scanned)) (number + 1) table.new) }
+    requires before { AreSignatures (all_units entries.now.scanned) number table.old }
+    ensures { OnOk result (AreSignatures (all_units entries.now.scanned) (number + 1) table.new) }
 {
     let unit = entries.unit(number);
     let Some((signature, _)) = type_in_header(unit.header.kind) else {
@@ -49,7 +48,7 @@ pub fn read_signatures(
     alloc: Global,
     entries: &Entries<'_>,
 ) -> Result<BTreeMap<u64, usize>, AllocError>
-    ensures { IfOk result (AreSignatures (placed (units_of entries.now.scanned)) (length (units_of entries.now.scanned))) }
+    ensures { IfOk result (AreSignatures (all_units entries.now.scanned) (length (units_of entries.now.scanned))) }
 {
     let mut table: BTreeMap<u64, usize> = BTreeMap::new(alloc);
     for number in 0..entries.unit_count() {

@@ -3,8 +3,8 @@
 ghost use Rattle.std.specs.Prelude.{ℕ, ◌≡◌, ◌⊎◌, ◌<◌, length, Some, slice_get, OnOk, IfErr};
 ghost use Rattle.std.specs.Bool.{OnFalse};
 ghost use Rattle.dw_forms.specs.Codes.{DW_AT_str_offsets_base, DW_AT_addr_base};
-ghost use Rattle.dw_entries.specs.Entries.{PlacedUnit, entries_of, placed};
-ghost use Rattle.dw_entries.specs.Scanned.{units_of};
+ghost use Rattle.dw_entries.specs.Entries.{PlacedUnit};
+ghost use Rattle.dw_entries.specs.Scanned.{all_entries, all_units, units_of};
 ghost use Rattle.dw_entries.specs.Views.{sections_of};
 ghost use Rattle.dw_entries.specs.Stopped.{IsFault};
 ghost use Rattle.dw_entries.specs.Failures.{HasNone, IsFirst};
@@ -95,7 +95,8 @@ pub(crate) fn base_in_unit(
     attribute: Attribute,
 ) -> Option<u32>
     requires { number < length (units_of entries.now.scanned) }
-    ensures { (p : PlacedUnit) → slice_get (placed (units_of entries.now.scanned)) number ≡ Some p → result ≡ base_in (entries_of (units_of entries.now.scanned)) p attribute }
+    ensures { (p : PlacedUnit) → slice_get (all_units entries.now.scanned) number ≡ Some p
+        → result ≡ base_in (all_entries entries.now.scanned) p attribute }
 {
     let unit = entries.unit(number);
     if unit.header.kind.version() == 4 {
@@ -111,7 +112,8 @@ pub(crate) fn base_in_unit(
 pub fn read_texts<'a>(entries: &Entries<'a>, ends: StringEnds, number: usize) -> UnitTexts<'a>
     requires ends { AreEnds (sections_of entries.now) ends }
     requires number { number < length (units_of entries.now.scanned) }
-    ensures texts { AreTexts (sections_of entries.now) (entries_of (units_of entries.now.scanned)) (placed (units_of entries.now.scanned)) result }
+    ensures texts { AreTexts (sections_of entries.now) (all_entries entries.now.scanned) (all_units entries.now.scanned)
+        result }
     ensures unit { result.unit ≡ number }
 {
     let sections = *entries.sections();
@@ -139,8 +141,10 @@ pub fn keep_texts<'a>(
 )
     requires ends { AreEnds (sections_of entries.now) ends }
     requires next { next < length (units_of entries.now.scanned) }
-    requires texts { AreTexts (sections_of entries.now) (entries_of (units_of entries.now.scanned)) (placed (units_of entries.now.scanned)) texts.old }
-    ensures texts { AreTexts (sections_of entries.now) (entries_of (units_of entries.now.scanned)) (placed (units_of entries.now.scanned)) texts.new }
+    requires texts { AreTexts (sections_of entries.now) (all_entries entries.now.scanned)
+        (all_units entries.now.scanned) texts.old }
+    ensures texts { AreTexts (sections_of entries.now) (all_entries entries.now.scanned) (all_units entries.now.scanned)
+        texts.new }
     ensures unit { texts.new.unit ≡ next }
 {
     if next != texts.unit {
@@ -168,10 +172,12 @@ fn first_failure(entries: &Entries<'_>) -> Result<(), Broken>
 }
 
 /// Finds the first base, index or offset of a string or address that leads nowhere: one of the faults `BadStrBase`,
-/// `StrIndex`, `StringEnd`, `BadAddrBase` and `AddrIndex` at the entry's offset. Nothing grows, so there is no want of memory.
+/// `StrIndex`, `StringEnd`, `BadAddrBase` and `AddrIndex` at the entry's offset. Nothing grows, so there is no want of
+/// memory.
 pub fn check_strings(alloc: Global, entries: &Entries<'_>) -> Result<(), Fault>
     ensures ok { OnOk result (HasNone (StringFailures (sections_of entries.now) (units_of entries.now.scanned))) }
-    ensures fault { IfErr result (IsFault (IsFirst (StringFailures (sections_of entries.now) (units_of entries.now.scanned)))) }
+    ensures fault { IfErr result
+        (IsFault (IsFirst (StringFailures (sections_of entries.now) (units_of entries.now.scanned)))) }
 {
     match first_failure(entries) {
         Ok(()) => Ok(()),

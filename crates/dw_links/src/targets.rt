@@ -2,10 +2,10 @@
 
 ghost use Rattle.std.specs.Prelude.{◌≡◌, ◌<◌, length, slice_get, IfSome, option_and_then};
 ghost use Rattle.dw_forms.specs.Value.{view};
-ghost use Rattle.dw_entries.specs.Entries.{entries_of, placed};
-ghost use Rattle.dw_entries.specs.Scanned.{units_of};
+ghost use Rattle.dw_entries.specs.Scanned.{all_entries, all_units, units_of};
 ghost use Rattle.dw_entries.specs.Lookups.{entry_head};
-ghost use Rattle.dw_links.specs.Targets.{entry_at, first_signed, reach_in_unit, type_of_unit, reach_of, target_of, HasFirstSigned};
+ghost use Rattle.dw_links.specs.Targets.{entry_at, first_signed, reach_in_unit, type_of_unit, reach_of, target_of};
+ghost use Rattle.dw_links.specs.Targets.{HasFirstSigned};
 
 use crate::signatures::type_in_header;
 use dw_entries::{Entries, EntryId};
@@ -14,7 +14,7 @@ use std::collections::BTreeMap;
 
 /// The entry that begins at an offset of .debug_info.
 fn entry_from_start(entries: &Entries<'_>, offset: u32) -> Option<EntryId>
-    ensures { result ≡ entry_at (entries_of (units_of entries.now.scanned)) offset }
+    ensures { result ≡ entry_at (all_entries entries.now.scanned) offset }
 {
     entries.find(offset)
 }
@@ -22,7 +22,7 @@ fn entry_from_start(entries: &Entries<'_>, offset: u32) -> Option<EntryId>
 /// The entry that begins so far behind the first byte of a unit's header.
 fn entry_from_header(entries: &Entries<'_>, unit: usize, offset: u64) -> Option<EntryId>
     requires { unit < length (units_of entries.now.scanned) }
-    ensures { result ≡ reach_in_unit (entries_of (units_of entries.now.scanned)) (placed (units_of entries.now.scanned)) unit offset }
+    ensures { result ≡ reach_in_unit (all_entries entries.now.scanned) (all_units entries.now.scanned) unit offset }
 {
     entries.find_in_unit(unit, offset)
 }
@@ -30,7 +30,7 @@ fn entry_from_header(entries: &Entries<'_>, unit: usize, offset: u64) -> Option<
 /// The entry at the type offset of a unit, if that is a type unit.
 fn type_in_unit(entries: &Entries<'_>, unit: usize) -> Option<EntryId>
     requires { unit < length (units_of entries.now.scanned) }
-    ensures { result ≡ type_of_unit (entries_of (units_of entries.now.scanned)) (placed (units_of entries.now.scanned)) unit }
+    ensures { result ≡ type_of_unit (all_entries entries.now.scanned) (all_units entries.now.scanned) unit }
 {
     match type_in_header(entries.unit(unit).header.kind) {
         Some((_, type_offset)) => entry_from_header(entries, unit, type_offset as u64),
@@ -44,8 +44,9 @@ fn type_by_signature(
     signatures: &BTreeMap<u64, usize>,
     signature: u64,
 ) -> Option<EntryId>
-    requires { HasFirstSigned (placed (units_of entries.now.scanned)) signatures.now }
-    ensures { result ≡ option_and_then (type_of_unit (entries_of (units_of entries.now.scanned)) (placed (units_of entries.now.scanned))) (first_signed (placed (units_of entries.now.scanned)) signature) }
+    requires { HasFirstSigned (all_units entries.now.scanned) signatures.now }
+    ensures { result ≡ option_and_then (type_of_unit (all_entries entries.now.scanned) (all_units entries.now.scanned))
+        (first_signed (all_units entries.now.scanned) signature) }
 {
     match signatures.get(&signature) {
         Some(unit) => type_in_unit(entries, *unit),
@@ -60,9 +61,11 @@ fn reach(
     id: EntryId,
     value: Value<'_>,
 ) -> Option<EntryId>
-    requires id { id < length (entries_of (units_of entries.now.scanned)) }
-    requires signatures { HasFirstSigned (placed (units_of entries.now.scanned)) signatures.now }
-    ensures { IfSome (slice_get (entries_of (units_of entries.now.scanned)) id) (λ e. result ≡ reach_of (entries_of (units_of entries.now.scanned)) (placed (units_of entries.now.scanned)) (entry_head e) (view value.entry)) }
+    requires id { id < length (all_entries entries.now.scanned) }
+    requires signatures { HasFirstSigned (all_units entries.now.scanned) signatures.now }
+    ensures { IfSome (slice_get (all_entries entries.now.scanned) id)
+        (λ e. result ≡ reach_of (all_entries entries.now.scanned) (all_units entries.now.scanned) (entry_head e)
+        (view value.entry)) }
 {
     match value {
         Value::RefInfo(offset) => entry_from_start(entries, offset),
@@ -79,10 +82,11 @@ pub(crate) fn find_target(
     id: EntryId,
     attribute: Attribute,
 ) -> Option<EntryId>
-    requires id { id < length (entries_of (units_of entries.now.scanned)) }
-    requires signatures { HasFirstSigned (placed (units_of entries.now.scanned)) signatures.now }
-    ensures exact { IfSome (slice_get (entries_of (units_of entries.now.scanned)) id) (λ e. result ≡ target_of (entries_of (units_of entries.now.scanned)) (placed (units_of entries.now.scanned)) e attribute) }
-    ensures within { IfSome result (λ t. t < length (entries_of (units_of entries.now.scanned))) }
+    requires id { id < length (all_entries entries.now.scanned) }
+    requires signatures { HasFirstSigned (all_units entries.now.scanned) signatures.now }
+    ensures exact { IfSome (slice_get (all_entries entries.now.scanned) id)
+        (λ e. result ≡ target_of (all_entries entries.now.scanned) (all_units entries.now.scanned) e attribute) }
+    ensures within { IfSome result (λ t. t < length (all_entries entries.now.scanned)) }
 {
     match entries.value(id, attribute) {
         Some(value) => reach(entries, signatures, id, value),

@@ -118,7 +118,8 @@ impl UnitTexts<'_> {
     /// The rules at an indexed address.
     pub fn ask_address(&self, index: u64) -> Option<Rule>
         requires { IsReady self.now }
-        ensures { IsLeast (AddressIndexFails self.now.sections self.now.header (base_of self.now.addresses) index) result }
+        ensures { IsLeast (AddressIndexFails self.now.sections self.now.header (base_of self.now.addresses) index)
+            result }
     {
         match self.addresses {
             Contribution::Absent => Some(Rule::BadAddrBase),

@@ -1,8 +1,7 @@
 //! What is read once of all units, so that the values of attributes can be followed.
 
 ghost use Rattle.std.specs.Prelude.{◌≡◌, ◌<◌, length, map, slice_get, IfSome, IfOk};
-ghost use Rattle.dw_entries.specs.Entries.{entries_of, placed};
-ghost use Rattle.dw_entries.specs.Scanned.{units_of};
+ghost use Rattle.dw_entries.specs.Scanned.{all_entries, all_units, units_of};
 ghost use Rattle.dw_links.specs.Targets.{target_of};
 ghost use Rattle.dw_links.specs.Tables.{bases_in, type_target, AreTables};
 
@@ -35,7 +34,8 @@ pub struct UnitTables {
 /// The bases of the unit with this number.
 fn unit_bases(entries: &Entries<'_>, number: usize) -> UnitBases
     requires { number < length (units_of entries.now.scanned) }
-    ensures { IfSome (slice_get (placed (units_of entries.now.scanned)) number) (λ p. result ≡ bases_in (entries_of (units_of entries.now.scanned)) p) }
+    ensures { IfSome (slice_get (all_units entries.now.scanned) number)
+        (λ p. result ≡ bases_in (all_entries entries.now.scanned) p) }
 {
     UnitBases {
         strings: base_in_unit(entries, number, DW_AT_str_offsets_base),
@@ -45,7 +45,8 @@ fn unit_bases(entries: &Entries<'_>, number: usize) -> UnitBases
 
 /// The bases of all units, in their order.
 pub(crate) fn read_bases(alloc: Global, entries: &Entries<'_>) -> Result<Vec<UnitBases>, AllocError>
-    ensures { IfOk result (λ bases. bases.items ≡ map (bases_in (entries_of (units_of entries.now.scanned))) (placed (units_of entries.now.scanned))) }
+    ensures { IfOk result (λ bases. bases.items
+        ≡ map (bases_in (all_entries entries.now.scanned)) (all_units entries.now.scanned)) }
 {
     let count = entries.unit_count();
     let mut bases = Vec::with_capacity(alloc, count)?;
@@ -58,10 +59,11 @@ pub(crate) fn read_bases(alloc: Global, entries: &Entries<'_>) -> Result<Vec<Uni
 impl UnitTables {
     /// The entry that an entry's type reaches.
     fn type_of(&self, entries: &Entries<'_>, id: EntryId) -> Option<EntryId>
-        requires id { id < length (entries_of (units_of entries.now.scanned)) }
+        requires id { id < length (all_entries entries.now.scanned) }
         requires tables { AreTables entries.now self.now }
-        ensures exact { IfSome (slice_get (entries_of (units_of entries.now.scanned)) id) (λ e. result ≡ type_target (entries_of (units_of entries.now.scanned)) (placed (units_of entries.now.scanned)) e) }
-        ensures within { IfSome result (λ t. t < length (entries_of (units_of entries.now.scanned))) }
+        ensures exact { IfSome (slice_get (all_entries entries.now.scanned) id)
+            (λ e. result ≡ type_target (all_entries entries.now.scanned) (all_units entries.now.scanned) e) }
+        ensures within { IfSome result (λ t. t < length (all_entries entries.now.scanned)) }
     {
         match self.types[id.number()].get() {
             Some(number) => Some(entries.id(number as usize)),
@@ -77,10 +79,11 @@ impl UnitTables {
         id: EntryId,
         attribute: Attribute,
     ) -> Option<EntryId>
-        requires id { id < length (entries_of (units_of entries.now.scanned)) }
+        requires id { id < length (all_entries entries.now.scanned) }
         requires tables { AreTables entries.now self.now }
-        ensures exact { IfSome (slice_get (entries_of (units_of entries.now.scanned)) id) (λ e. result ≡ target_of (entries_of (units_of entries.now.scanned)) (placed (units_of entries.now.scanned)) e attribute) }
-        ensures within { IfSome result (λ t. t < length (entries_of (units_of entries.now.scanned))) }
+        ensures exact { IfSome (slice_get (all_entries entries.now.scanned) id)
+            (λ e. result ≡ target_of (all_entries entries.now.scanned) (all_units entries.now.scanned) e attribute) }
+        ensures within { IfSome result (λ t. t < length (all_entries entries.now.scanned)) }
     {
         if attribute == DW_AT_type {
             return self.type_of(entries, id);
