@@ -10,7 +10,7 @@ ghost use Rattle.dw_forms.specs.ValueReading.{Gives};
 use crate::decl::AttributeSpec;
 use crate::form::Form;
 use crate::value::ValueFault;
-use crate::value_reader::skip_any;
+use crate::value_reader::skip_long;
 use std::alloc::{AllocError, Global};
 
 /// What is known of the attributes from a place on.
@@ -199,13 +199,13 @@ fn pass_run<'b>(
     )
 }
 
-/// The bytes behind one value.
+/// The bytes behind one value whose form has no one size.
 #[inline(always)]
 fn skip_one(version: u16, form: Form, address_size: u8, bytes: &[u8]) -> Result<&[u8], ValueFault>
     requires { (address_size ≡ 4) ⊎ (address_size ≡ 8) }
     ensures { Gives (λ rest. rest.now) result (rest_at version form address_size bytes.now) }
 {
-    match skip_any(version, form, address_size, bytes) {
+    match skip_long(version, form, address_size, bytes) {
         Ok(len) => Ok(&bytes[len..]),
         Err(fault) => Err(fault),
     }
