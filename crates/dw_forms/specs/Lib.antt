@@ -10,9 +10,10 @@ pub mod AbbrevReading
 pub mod TableGrammar
 pub mod Marks
 pub mod Places
-pub mod Rows
-pub mod SharedTables
-pub mod RowStores
+pub mod CodeMaps
+pub mod KeptDecls
+pub mod TableStarts
+pub mod AbbrevTables
 pub mod ValueFaults
 pub mod Value
 pub mod NumberValues
