@@ -17,7 +17,6 @@ pub mod TreeLaws
 pub mod HeaderLaws
 pub mod UnitLaws
 pub mod Scanned
-pub mod Tables
 pub mod Props
 pub mod Records
 pub mod Stopped
