@@ -30,13 +30,14 @@ rises_get low high (r ∷ rs) i zero a b p lt is_a is_b = absurd (omega arith)
 rises_get low high (r ∷ rs) zero (suc j) a b p lt is_a is_b = let e : Some r ≡ Some a = is_a in let same : r ≡ a = cc in subst (λ (x : Record). x.at < b.at) same (rises_low (suc r.at) high rs j b p.1 is_b)
 rises_get low high (r ∷ rs) (suc i) (suc j) a b p lt is_a is_b = rises_get (suc r.at) high rs i j a b p.1 (omega arith) is_a is_b
 
-pub kept_get : (us : List DebugUnit) (i : ℕ) (e : Entry) → slice_get (entries_of us) i ≡ Some e → slice_get (records_of us) i ≡ Some (record_of us e)
-kept_get us i e is = slice_get-map (record_of us) (entries_of us) i ∙ rw is refl
+pub kept_get : (numbers : ℕ → ℕ → ℕ) (us : List DebugUnit) (i : ℕ) (e : Entry) → slice_get (entries_of us) i ≡ Some e → slice_get (records_of numbers us) i ≡ Some (record_of numbers e)
+kept_get numbers us i e is = slice_get-map (record_of numbers) (entries_of us) i ∙ rw is refl
 
 pub entries_rise : (a : List ℕ) (us : List DebugUnit) → AreUnits a us → OffsetsRise (entries_of us)
 entries_rise a us are i j d e lt is_d is_e =
-    rises_get 0 (0 + length (units_bytes us)) (records_of us) i j (record_of us d) (record_of us e)
-    (subst (Rises 0 (0 + length (units_bytes us))) (sym (records_kept us)) (units_rise a 0 0 0 us are)) lt (kept_get us i d is_d) (kept_get us j e is_e)
+    let any : ℕ → ℕ → ℕ = λ unit code. 0 in
+    rises_get 0 (0 + length (units_bytes us)) (records_of any us) i j (record_of any d) (record_of any e)
+    (subst (Rises 0 (0 + length (units_bytes us))) (sym (records_kept any us)) (units_rise a any 0 0 0 us are)) lt (kept_get any us i d is_d) (kept_get any us j e is_e)
 
 -- at most one entry is at an offset
 pub one_at : (entries : List Entry) → OffsetsRise entries → (offset id other : ℕ) → IsEntryAt entries offset id → IsEntryAt entries offset other → id ≡ other

@@ -3,11 +3,11 @@ use Rattle.std.proofs.Common.{◌≡◌, ℕ, ◌*◌, ◌<◌, ◌≤◌, List,
 use Rattle.std.specs.Prelude.{slice_get}
 use Rattle.std.proofs.lemmas.Option.{slice_get_within, slice_get-get_or}
 use Rattle.std.proofs.lemmas.List.{length-map}
-use Rattle.dw_forms.specs.Abbrev.{Declaration}
+use Rattle.dw_forms.specs.KeptDecls.{Numbered}
 use Rattle.dw_entries.specs.declared.record.Record.{Record}
 use Rattle.dw_entries.specs.declared.record.UnitRecord.{UnitRecord}
 use Rattle.dw_entries.specs.Entries.{entries_of}
-use Rattle.dw_entries.specs.Scanned.{record_of, Scanned, units_of}
+use Rattle.dw_entries.specs.Scanned.{numbers_of, record_of, Scanned, units_of}
 use Rattle.dw_entries.specs.Runs.{IsEntryAt}
 use Rattle.dw_entries.specs.Hints.{IsFirstFrom, AreHints}
 use Rattle.dw_entries.proofs.NumberOrder.{three_ways}
@@ -26,9 +26,9 @@ module _ {size : ℕ} {records : List Record} {hints : List ℕ} (h : AreHints s
   pub hint_before : (offset : ℕ) → block * 64 ≤ offset → (i : ℕ) (r : Record) → i < start → slice_get records i ≡ Some r → r.at < offset
   hint_before offset le i r lt is = let b = hint.before i r lt is in omega (arith, b, le)
 
-module _ (a info : List ℕ) (tables : List (List Declaration)) (rs : List UnitRecord) (records : List Record) (s : Scanned a info tables rs records) where
+module _ (a info : List ℕ) (tables : List (List Numbered)) (rs : List UnitRecord) (records : List Record) (s : Scanned a info tables rs records) where
   pub entries_counted : length records ≡ length (entries_of (units_of s))
-  entries_counted = ap length s.1.entries ∙ length-map (entries_of (units_of s)) (record_of (units_of s))
+  entries_counted = ap length s.1.entries ∙ length-map (entries_of (units_of s)) (record_of (numbers_of tables rs))
 
   -- past the last hint no entry begins
   pub none_past : (hints : List ℕ) (block offset : ℕ) → AreHints (length info) records hints → length hints ≤ block → block * 64 ≤ offset → (id : ℕ) → IsEntryAt (entries_of (units_of s)) offset id → ⊥
@@ -39,8 +39,8 @@ module _ (a info : List ℕ) (tables : List (List Declaration)) (rs : List UnitR
       omega (arith, at, stands, all, past, le)
 
   -- the record of an entry
-  stands_at : (id : ℕ) {offset : ℕ} (found : IsEntryAt (entries_of (units_of s)) offset id) → slice_get records id ≡ Some (record_of (units_of s) found.entry)
-  stands_at id found = ap (λ (xs : List Record). slice_get xs id) s.1.entries ∙ kept_get (units_of s) id found.entry found.is_entry
+  stands_at : (id : ℕ) {offset : ℕ} (found : IsEntryAt (entries_of (units_of s)) offset id) → slice_get records id ≡ Some (record_of (numbers_of tables rs) found.entry)
+  stands_at id found = ap (λ (xs : List Record). slice_get xs id) s.1.entries ∙ kept_get (numbers_of tables rs) (units_of s) id found.entry found.is_entry
 
   module _ (number offset : ℕ) (first : IsFirstFrom records offset number) where
     -- where all records stand below the offset, no entry begins there
@@ -48,7 +48,7 @@ module _ (a info : List ℕ) (tables : List (List Declaration)) (rs : List UnitR
     none_from_end end id found =
         let at = found.begins in
         let is = stands_at id found in
-        let b = first.before id (record_of (units_of s) found.entry) (let w = slice_get_within records id (record_of (units_of s) found.entry) is in omega (arith, w, end)) is in
+        let b = first.before id (record_of (numbers_of tables rs) found.entry) (let w = slice_get_within records id (record_of (numbers_of tables rs) found.entry) is in omega (arith, w, end)) is in
         omega (arith, at, b)
 
     module _ (r : Record) (within : number < length records) (read : r ≡ get_or records number r) where
@@ -58,7 +58,7 @@ module _ (a info : List ℕ) (tables : List (List Declaration)) (rs : List UnitR
       at_is : r.at ≡ here.entry.at
       at_is =
           let stands : slice_get records number ≡ Some r = slice_get-get_or records number r within ∙ ap (λ (x : Record). Some x) (sym read) in
-          ap (λ (q : Record). q.at) (record_is here r (ap (λ (xs : List Record). slice_get xs number) (sym s.1.entries) ∙ stands))
+          ap (λ (q : Record). q.at) (record_is here r stands)
 
       pub found_first : r.at ≡ offset → IsEntryAt (entries_of (units_of s)) offset number
       found_first same = record { entry = here.entry; is_entry = here.is_entry; begins = sym at_is ∙ same }
@@ -68,11 +68,11 @@ module _ (a info : List ℕ) (tables : List (List Declaration)) (rs : List UnitR
           let at = found.begins in
           let is = stands_at id found in
           elim (three_ways id number) [
-            | inl (inl less) ↦ let b = first.before id (record_of (units_of s) found.entry) less is in omega (arith, at, b)
+            | inl (inl less) ↦ let b = first.before id (record_of (numbers_of tables rs) found.entry) less is in omega (arith, at, b)
             | inl (inr same) ↦
-                let P : ℕ → Type 0 = λ n. slice_get records n ≡ Some (record_of (units_of s) found.entry) in
+                let P : ℕ → Type 0 = λ n. slice_get records n ≡ Some (record_of (numbers_of tables rs) found.entry) in
                 let stands : slice_get records number ≡ Some r = slice_get-get_or records number r within ∙ ap (λ (x : Record). Some x) (sym read) in
-                other (ap (λ (q : Record). q.at) (one_some (slice_get records number) r (record_of (units_of s) found.entry) stands (subst P same is)) ∙ at)
+                other (ap (λ (q : Record). q.at) (one_some (slice_get records number) r (record_of (numbers_of tables rs) found.entry) stands (subst P same is)) ∙ at)
             | inr more ↦
                 let stands : slice_get records number ≡ Some r = slice_get-get_or records number r within ∙ ap (λ (x : Record). Some x) (sym read) in
                 let low = first.behind r stands in

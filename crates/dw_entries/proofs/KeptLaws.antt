@@ -1,11 +1,14 @@
 -- What is kept of an entry and of its unit, and what stands in .debug_info where they point.
-use Rattle.std.proofs.Common.{◌≡◌, ℕ, zero, suc, ◌+◌, ◌-◌, ◌<◌, Bool, true, List, [], ◌∷◌, ◌++◌, length, take, drop, get_or, Option, Some, None, Ok, Err, false, refl, sym, ap, subst, ◌∙◌, arith}
-use Rattle.std.specs.Prelude.{slice_get, IfSome, IsSomeAnd, ◌==◌}
+use Rattle.std.proofs.Common.{◌≡◌, ℕ, zero, suc, ◌-◌, ◌<◌, ◌≤◌, List, [], ◌∷◌, ◌++◌, length, take, drop, get_or, Option, Some, None, Ok, Err, false, refl, sym, ap, subst, ◌∙◌, arith}
+use Rattle.std.specs.Prelude.{slice_get, IfSome, IsSomeAnd}
 use Rattle.std.specs.List.{AllZip, flat_map}
 use Rattle.std.proofs.lemmas.Option.{slice_get_within, slice_get-get_or, get_or_from_slice_get}
 use Rattle.std.proofs.lemmas.Slice.Zip.{AllZip-right, AllZip-long}
 use Rattle.dw_forms.specs.declared.decl.Decl.{Decl}
+use Rattle.dw_forms.specs.declared.abbrev_tables.KeptDecl.{KeptDecl}
 use Rattle.dw_forms.specs.Abbrev.{Declaration, view}
+use Rattle.dw_forms.specs.KeptDecls.{Numbered, numbered_in, declarations, tables_of, number_in, decl_of}
+use Rattle.dw_forms.proofs.KeptLaws.{are_numbered, numbers_find, decl_within, decl_some, decl_read}
 use Rattle.dw_entries.specs.declared.fault.Failing.{Failing}
 use Rattle.dw_entries.specs.declared.header.HeaderKind.TheVariants.{Version4}
 use Rattle.dw_entries.specs.declared.header.UnitHeader.{UnitHeader}
@@ -13,15 +16,15 @@ use Rattle.dw_entries.specs.declared.header.UnitType.{UnitType}
 use Rattle.dw_entries.specs.declared.lookup.UnitHead.{UnitHead}
 use Rattle.dw_entries.specs.declared.record.Record.{Record}
 use Rattle.dw_entries.specs.declared.record.UnitRecord.{UnitRecord}
-use Rattle.dw_entries.specs.Grammar.{declared_in, place_in, attribute_bytes, Head}
+use Rattle.dw_entries.specs.Grammar.{declared_in, attribute_bytes, Head}
 use Rattle.dw_entries.specs.Header.{type_of}
 use Rattle.dw_entries.specs.Tree.{leaf}
 use Rattle.dw_entries.specs.Reading.{seen, code_at}
 use Rattle.dw_entries.specs.ReadingLaws.{ok_pair}
 use Rattle.dw_entries.specs.Units.{DebugUnit, head_of}
 use Rattle.dw_entries.specs.Entries.{Entry, entries_of, PlacedUnit, placed}
-use Rattle.dw_entries.specs.Scanned.{table_of, record_of, records_of, IsKept, Scanned, units_of}
-use Rattle.dw_entries.specs.Lookups.{IsDeclaredIn, unit_head}
+use Rattle.dw_entries.specs.Scanned.{table_of, numbers_of, record_of, IsKept, Scanned, units_of}
+use Rattle.dw_entries.specs.Lookups.{IsKeptIn, unit_head}
 use Rattle.dw_entries.proofs.ScanLaws.{rest_of}
 use Rattle.dw_entries.proofs.HeadLaws.{Stands, head_stands, stands_code, stands_within}
 use Rattle.dw_entries.proofs.EntryFacts.{placed_get, length-placed_from, kept_get, HasFirst, first_entry}
@@ -33,25 +36,14 @@ some_and : {A : Type 0} (o : Option A) (P : A → Type 0) → IsSomeAnd o P → 
 some_and (Some x) P p = (x, refl, p)
 some_and None P p = absurd p
 
--- the declaration of a code stands at the code's place
-found_there : (table : List Declaration) (code : ℕ) (d : Declaration) → declared_in table code ≡ Some d → slice_get table (place_in table code) ≡ Some d
-unfolding place_in declared_in
-found_there [] code d e = let no : ◌≡◌ {A = Option Declaration} None (Some d) = e in absurd cc
-found_there (x ∷ table) code d e = by_code (found_there table code d) (x.code == code) refl
-  where
-    by_code : (declared_in table code ≡ Some d → slice_get table (place_in table code) ≡ Some d) → (b : Bool) → (x.code == code) ≡ b → slice_get (x ∷ table) (place_in (x ∷ table) code) ≡ Some d
-    by_code more true q = rw q (rw q at e)
-    by_code more false q =
-        let later : 1 + place_in table code ≡ suc (place_in table code) = omega arith in
-        rw (q, later) (more (rw q at e))
-
-table_is : (us : List DebugUnit) (number : ℕ) (u : DebugUnit) → slice_get us number ≡ Some u → table_of us number ≡ u.table
-table_is [] number u is = absurd cc
-table_is (v ∷ us) zero u is = let e : Some v ≡ Some u = is in let same : v ≡ u = cc in ap (λ (x : DebugUnit). x.table) same
-table_is (v ∷ us) (suc n) u is = table_is us n u is
+-- the number of the table of a unit
+table_is : (rs : List UnitRecord) (number : ℕ) (r : UnitRecord) → slice_get rs number ≡ Some r → table_of rs number ≡ r.table
+table_is [] number r is = absurd cc
+table_is (q ∷ rs) zero r is = let e : Some q ≡ Some r = is in let same : q ≡ r = cc in ap (λ (x : UnitRecord). x.table) same
+table_is (q ∷ rs) (suc n) r is = table_is rs n r is
 
 -- the record of the unit at this place
-pub unit_kept : (tables : List (List Declaration)) (rs : List UnitRecord) (ps : List PlacedUnit) → AllZip (IsKept tables) rs ps → (k : ℕ) (p : PlacedUnit) → slice_get ps k ≡ Some p
+pub unit_kept : (tables : List (List Numbered)) (rs : List UnitRecord) (ps : List PlacedUnit) → AllZip (IsKept tables) rs ps → (k : ℕ) (p : PlacedUnit) → slice_get ps k ≡ Some p
     → (r : UnitRecord) × (slice_get rs k ≡ Some r) × IsKept tables r p
 unit_kept tables rs ps zip k p is =
     let m = AllZip-right (IsKept tables) rs ps zip k in
@@ -59,17 +51,17 @@ unit_kept tables rs ps zip k p is =
     some_and (slice_get rs k) (λ r. IsKept tables r p) at_p
 
 -- an entry of this number, with its unit and what is kept of both
-pub record KeptEntry (a info : List ℕ) (tables : List (List Declaration)) (rs : List UnitRecord) (records : List Record) (s : Scanned a info tables rs records) (id : ℕ) : Type 0 where
+pub record KeptEntry (a info : List ℕ) (tables : List (List Numbered)) (rs : List UnitRecord) (records : List Record) (s : Scanned a info tables rs records) (id : ℕ) : Type 0 where
   pub entry : Entry
   pub is_entry : slice_get (entries_of (units_of s)) id ≡ Some entry
-  pub is_record : slice_get (records_of (units_of s)) id ≡ Some (record_of (units_of s) entry)
+  pub is_record : slice_get records id ≡ Some (record_of (numbers_of tables rs) entry)
   pub stands : Stands (units_of s) info entry
   pub unit_record : UnitRecord
   pub is_unit_record : slice_get rs entry.unit ≡ Some unit_record
   pub header : unit_record.header ≡ stands.unit.header
-  pub table : slice_get tables unit_record.table ≡ Some stands.unit.table
+  pub table : declarations (numbered_in tables unit_record.table) ≡ stands.unit.table
 
-pub kept_entry : (a info : List ℕ) (tables : List (List Declaration)) (rs : List UnitRecord) (records : List Record) (s : Scanned a info tables rs records) (id : ℕ)
+pub kept_entry : (a info : List ℕ) (tables : List (List Numbered)) (rs : List UnitRecord) (records : List Record) (s : Scanned a info tables rs records) (id : ℕ)
     → id < length (entries_of (units_of s)) → KeptEntry a info tables rs records s id
 kept_entry a info tables rs records s id within = by_cases (slice_get (entries_of (units_of s)) id) refl
   where
@@ -81,12 +73,12 @@ kept_entry a info tables rs records s id within = by_cases (slice_get (entries_o
         record {
           entry = e;
           is_entry = is;
-          is_record = kept_get (units_of s) id e is;
+          is_record = ap (λ (xs : List Record). slice_get xs id) s.1.entries ∙ kept_get (numbers_of tables rs) (units_of s) id e is;
           stands = stands;
           unit_record = r;
           is_unit_record = is_r;
           header = kept.header ∙ ap (λ (u : DebugUnit). u.header) same;
-          table = kept.table ∙ ap (λ (u : DebugUnit). Some u.table) same;
+          table = kept.table ∙ ap (λ (u : DebugUnit). u.table) same;
         }
 
     by_cases : (o : Option Entry) → slice_get (entries_of (units_of s)) id ≡ o → KeptEntry a info tables rs records s id
@@ -95,26 +87,11 @@ kept_entry a info tables rs records s id within = by_cases (slice_get (entries_o
         let some = slice_get-get_or (entries_of (units_of s)) id (record { at = 0; unit = 0; parent = None; depth = 0; next = None; head = record { decl = record { code = 0; tag = 0; has_children = false; attributes = [] }; code = []; attributes = [] } }) within in
         absurd cc
 
--- an entry's declaration stands in the table of its unit
-pub declared_among : (a info : List ℕ) (tables : List (List Declaration)) (rs : List UnitRecord) (records : List Record) (s : Scanned a info tables rs records) (id : ℕ) (e : Entry)
-    → slice_get (entries_of (units_of s)) id ≡ Some e → IsDeclaredIn tables e.head.decl
-declared_among a info tables rs records s id e is =
-    let k = kept_entry a info tables rs records s id (slice_get_within (entries_of (units_of s)) id e is) in
-    let same : k.entry ≡ e = one_some (slice_get (entries_of (units_of s)) id) k.entry e k.is_entry is in
-    let P : Entry → Type 0 = λ x. IsDeclaredIn tables x.head.decl in
-    subst P same (record {
-      number = k.unit_record.table;
-      table = k.stands.unit.table;
-      is_table = k.table;
-      place = place_in k.stands.unit.table k.entry.head.decl.code;
-      is_decl = found_there k.stands.unit.table k.entry.head.decl.code k.entry.head.decl k.stands.is.decl;
-    })
-
 -- an element that was read is the one that stands there
 pub read_is : {A : Type 0} (xs : List A) (k : ℕ) (x y : A) → slice_get xs k ≡ Some x → y ≡ get_or xs k y → y ≡ x
 read_is xs k x y is read = read ∙ get_or_from_slice_get xs k x y is
 
-module _ {a info : List ℕ} {tables : List (List Declaration)} {rs : List UnitRecord} {records : List Record} {s : Scanned a info tables rs records} {id : ℕ} (k : KeptEntry a info tables rs records s id) where
+module _ {a info : List ℕ} {tables : List (List Numbered)} {rs : List UnitRecord} {records : List Record} {s : Scanned a info tables rs records} {id : ℕ} (k : KeptEntry a info tables rs records s id) where
   -- a fact of the entry of this number
   pub of_entry : (P : Entry → Type 0) → P k.entry → IfSome (slice_get (entries_of (units_of s)) id) P
   of_entry P p = rw k.is_entry p
@@ -122,9 +99,9 @@ module _ {a info : List ℕ} {tables : List (List Declaration)} {rs : List UnitR
   pub from_entry : (P : Entry → Type 0) → IfSome (slice_get (entries_of (units_of s)) id) P → P k.entry
   from_entry P p = rw k.is_entry at p
 
-  module _ (r : Record) (read : slice_get (records_of (units_of s)) id ≡ Some r) where
-    pub record_is : r ≡ record_of (units_of s) k.entry
-    record_is = one_some (slice_get (records_of (units_of s)) id) r (record_of (units_of s) k.entry) read k.is_record
+  module _ (r : Record) (read : slice_get records id ≡ Some r) where
+    pub record_is : r ≡ record_of (numbers_of tables rs) k.entry
+    record_is = one_some (slice_get records id) r (record_of (numbers_of tables rs) k.entry) read k.is_record
 
     pub unit_within : r.unit < length rs
     unit_within = let e : r.unit ≡ k.entry.unit = ap (λ (q : Record). q.unit) record_is in let w = slice_get_within rs k.entry.unit k.unit_record k.is_unit_record in omega (arith, e, w)
@@ -158,30 +135,44 @@ module _ {a info : List ℕ} {tables : List (List Declaration)} {rs : List UnitR
       pub header_is : IfSome (slice_get (entries_of (units_of s)) id) (λ e. IfSome (slice_get (units_of s) e.unit) (λ v. u.header ≡ v.header))
       header_is = of_entry (λ e. IfSome (slice_get (units_of s) e.unit) (λ v. u.header ≡ v.header)) (rw k.stands.is_unit (ap (λ (q : UnitRecord). q.header) unit_is ∙ k.header))
 
-      pub is_table : slice_get tables u.table ≡ Some k.stands.unit.table
-      is_table = ap (λ (q : UnitRecord). slice_get tables q.table) unit_is ∙ k.table
+-- the declaration of an entry is the one of its number
+module _ (decls : List KeptDecl) {a info : List ℕ} {rs : List UnitRecord} {records : List Record} {s : Scanned a info (tables_of decls) rs records} {id : ℕ} (k : KeptEntry a info (tables_of decls) rs records s id) where
+  entry_decl : decl_of decls (numbers_of (tables_of decls) rs k.entry.unit k.entry.head.decl.code) ≡ Some k.entry.head.decl
+  unfolding declared_in
+  entry_decl =
+      let table : table_of rs k.entry.unit ≡ k.unit_record.table = table_is rs k.entry.unit k.unit_record k.is_unit_record in
+      let numbered : List Numbered = numbered_in (tables_of decls) k.unit_record.table in
+      ap (λ (n : ℕ). decl_of decls (number_in (numbered_in (tables_of decls) n) k.entry.head.decl.code)) table
+      ∙ numbers_find decls numbered k.entry.head.decl.code (are_numbered decls k.unit_record.table)
+      ∙ ap (λ (t : List Declaration). declared_in t k.entry.head.decl.code) k.table ∙ k.stands.is.decl
 
-      pub table_within : u.table < length tables
-      table_within = slice_get_within tables u.table k.stands.unit.table is_table
+  module _ (r : Record) (read : slice_get records id ≡ Some r) where
+    decl_stands : decl_of decls r.decl ≡ Some k.entry.head.decl
+    decl_stands = ap (λ (q : Record). decl_of decls q.decl) (record_is k r read) ∙ entry_decl
 
-      -- its declaration stands in the table of its unit
-      module _ (t : List Declaration) (read_table : slice_get tables u.table ≡ Some t) where
-        decl_stands : slice_get t r.decl ≡ Some k.entry.head.decl
-        decl_stands =
-            let table : t ≡ table_of (units_of s) k.entry.unit = one_some (slice_get tables u.table) t k.stands.unit.table read_table is_table ∙ sym (table_is (units_of s) k.entry.unit k.stands.unit k.stands.is_unit) in
-            ap (λ (x : List Declaration). slice_get x r.decl) table ∙ ap (λ (q : Record). slice_get (table_of (units_of s) k.entry.unit) q.decl) record_is
-            ∙ found_there (table_of (units_of s) k.entry.unit) k.entry.head.decl.code k.entry.head.decl
-            (ap (λ (x : List Declaration). declared_in x k.entry.head.decl.code) (table_is (units_of s) k.entry.unit k.stands.unit k.stands.is_unit) ∙ k.stands.is.decl)
+    pub decl_numbered : 0 < r.decl
+    decl_numbered = decl_some decls r.decl k.entry.head.decl decl_stands
 
-        pub decl_within : r.decl < length t
-        decl_within = slice_get_within t r.decl k.entry.head.decl decl_stands
+    pub decl_kept : r.decl ≤ length decls
+    decl_kept = decl_within decls r.decl k.entry.head.decl decl_stands
 
-        pub decl_is : (d : Declaration) → slice_get t r.decl ≡ Some d → IfSome (slice_get (entries_of (units_of s)) id) (λ e. d ≡ e.head.decl)
-        decl_is d found = of_entry (λ e. d ≡ e.head.decl) (one_some (slice_get t r.decl) d k.entry.head.decl found decl_stands)
+    pub decl_is : (x : KeptDecl) → x ≡ get_or decls (r.decl - 1) x → IfSome (slice_get (entries_of (units_of s)) id) (λ e. view x.decl ≡ e.head.decl)
+    decl_is x found =
+        of_entry k (λ e. view x.decl ≡ e.head.decl)
+        (one_some (decl_of decls r.decl) (view x.decl) k.entry.head.decl (decl_read decls r.decl x decl_numbered decl_kept found) decl_stands)
+
+-- an entry's declaration is one of those that are kept
+pub declared_among : (a info : List ℕ) (decls : List KeptDecl) (rs : List UnitRecord) (records : List Record) (s : Scanned a info (tables_of decls) rs records) (id : ℕ) (e : Entry)
+    → slice_get (entries_of (units_of s)) id ≡ Some e → IsKeptIn decls e.head.decl
+declared_among a info decls rs records s id e is =
+    let k = kept_entry a info (tables_of decls) rs records s id (slice_get_within (entries_of (units_of s)) id e is) in
+    let same : k.entry ≡ e = one_some (slice_get (entries_of (units_of s)) id) k.entry e k.is_entry is in
+    let P : Entry → Type 0 = λ x. IsKeptIn decls x.head.decl in
+    subst P same (numbers_of (tables_of decls) rs k.entry.unit k.entry.head.decl.code, entry_decl decls k)
 
 -- ---- a unit
 
-pub record KeptUnit (a info : List ℕ) (tables : List (List Declaration)) (rs : List UnitRecord) (records : List Record) (s : Scanned a info tables rs records) (number : ℕ) : Type 0 where
+pub record KeptUnit (a info : List ℕ) (tables : List (List Numbered)) (rs : List UnitRecord) (records : List Record) (s : Scanned a info tables rs records) (number : ℕ) : Type 0 where
   pub place : PlacedUnit
   pub is_place : slice_get (placed (units_of s)) number ≡ Some place
   pub unit_record : UnitRecord
@@ -189,7 +180,7 @@ pub record KeptUnit (a info : List ℕ) (tables : List (List Declaration)) (rs :
   pub kept : IsKept tables unit_record place
   pub first : HasFirst (entries_of (units_of s)) place.first number place
 
-pub kept_unit : (a info : List ℕ) (tables : List (List Declaration)) (rs : List UnitRecord) (records : List Record) (s : Scanned a info tables rs records) (number : ℕ) → number < length (units_of s) → KeptUnit a info tables rs records s number
+pub kept_unit : (a info : List ℕ) (tables : List (List Numbered)) (rs : List UnitRecord) (records : List Record) (s : Scanned a info tables rs records) (number : ℕ) → number < length (units_of s) → KeptUnit a info tables rs records s number
 kept_unit a info tables rs records s number within = by_cases (slice_get (placed (units_of s)) number) refl
   where
     any : PlacedUnit
@@ -206,7 +197,7 @@ kept_unit a info tables rs records s number within = by_cases (slice_get (placed
 abbrev told : ℕ → UnitHeader → UnitType → ℕ → UnitHead
 told offset header unit_type first = record { offset = offset; header = header; unit_type = unit_type; first = first }
 
-module _ {a info : List ℕ} {tables : List (List Declaration)} {rs : List UnitRecord} {records : List Record} {s : Scanned a info tables rs records} {number : ℕ} (k : KeptUnit a info tables rs records s number) where
+module _ {a info : List ℕ} {tables : List (List Numbered)} {rs : List UnitRecord} {records : List Record} {s : Scanned a info tables rs records} {number : ℕ} (k : KeptUnit a info tables rs records s number) where
   pub number_within : number < length rs
   number_within = slice_get_within rs number k.unit_record k.is_unit_record
 
@@ -231,5 +222,5 @@ module _ {a info : List ℕ} {tables : List (List Declaration)} {rs : List UnitR
         rw k.is_place (λ i. told (kept_is.at i) (kept_is.header i) (type_is i) (number_is i))
 
 -- as many records as units
-pub units_counted : (a info : List ℕ) (tables : List (List Declaration)) (rs : List UnitRecord) (records : List Record) (s : Scanned a info tables rs records) → length rs ≡ length (units_of s)
+pub units_counted : (a info : List ℕ) (tables : List (List Numbered)) (rs : List UnitRecord) (records : List Record) (s : Scanned a info tables rs records) → length rs ≡ length (units_of s)
 units_counted a info tables rs records s = sym (AllZip-long (IsKept tables) rs (placed (units_of s)) s.1.kept) ∙ length-placed_from 0 0 (units_of s)

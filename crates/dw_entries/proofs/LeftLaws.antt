@@ -6,6 +6,7 @@ use Rattle.std.proofs.lemmas.Bool.{ne_eqb}
 use Rattle.std.proofs.lemmas.List.Folds.{list_any_none}
 use Rattle.dw_forms.specs.declared.decl.AttributeSpec.{AttributeSpec}
 use Rattle.dw_forms.specs.Abbrev.{Declaration}
+use Rattle.dw_forms.specs.KeptDecls.{Numbered}
 use Rattle.dw_forms.specs.Value.{Datum}
 use Rattle.dw_entries.specs.declared.header.UnitHeader.{UnitHeader}
 use Rattle.dw_entries.specs.declared.record.Record.{Record}
@@ -23,7 +24,7 @@ use Rattle.dw_entries.proofs.HeadLaws.{all_get}
 use Rattle.dw_entries.proofs.KeptLaws.{KeptEntry, of_entry, from_entry}
 use Rattle.dw_entries.proofs.ValueSteps.{value_of_none}
 
-module _ {a info : List ℕ} {tables : List (List Declaration)} {rs : List UnitRecord} {records : List Record} {s : Scanned a info tables rs records} {id : ℕ} (k : KeptEntry a info tables rs records s id)
+module _ {a info : List ℕ} {tables : List (List Numbered)} {rs : List UnitRecord} {records : List Record} {s : Scanned a info tables rs records} {id : ℕ} (k : KeptEntry a info tables rs records s id)
     (header : UnitHeader) (d : Declaration) (specs : List AttributeSpec) (bytes : List ℕ) (version : ℕ)
     (of_unit : IfSome (slice_get (entries_of (units_of s)) id) (λ e. IfSome (slice_get (units_of s) e.unit) (λ v. header ≡ v.header)))
     (of_decl : IfSome (slice_get (entries_of (units_of s)) id) (λ e. d ≡ e.head.decl))
@@ -70,7 +71,7 @@ module _ {a info : List ℕ} {tables : List (List Declaration)} {rs : List UnitR
 -- ---- the value of one attribute
 
 -- an attribute that is not declared has no value
-pub undeclared : {a info : List ℕ} {tables : List (List Declaration)} {rs : List UnitRecord} {records : List Record} {s : Scanned a info tables rs records} {id : ℕ} (k : KeptEntry a info tables rs records s id) (d : Declaration) (attribute : ℕ)
+pub undeclared : {a info : List ℕ} {tables : List (List Numbered)} {rs : List UnitRecord} {records : List Record} {s : Scanned a info tables rs records} {id : ℕ} (k : KeptEntry a info tables rs records s id) (d : Declaration) (attribute : ℕ)
     → IfSome (slice_get (entries_of (units_of s)) id) (λ e. d ≡ e.head.decl) → declares d.attributes attribute ≡ false → IfSome (slice_get (entries_of (units_of s)) id) (λ e. None ≡ value_at_entry e attribute)
 undeclared {s = s} {id = id} k d attribute of_decl none =
     let decl : d ≡ k.entry.head.decl = from_entry k (λ e. d ≡ e.head.decl) of_decl in

@@ -9,8 +9,6 @@ pub mod AlongLaws
 pub mod NullLaws
 pub mod OrderLaws
 pub mod HeaderReads
-pub mod PlaceSteps
-pub mod TableSteps
 pub mod UnitSteps
 pub mod ScanLaws
 pub mod Firsts

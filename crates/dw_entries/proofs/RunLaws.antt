@@ -1,12 +1,11 @@
 -- The entries of one unit, by their offsets.
 use Rattle.std.proofs.Common.{◌≡◌, ℕ, ◌+◌, ◌<◌, ◌≤◌, ◌^◌, List, length, get_or, Option, Some, None, refl, sym, ap, subst, ◌∙◌, arith, inl, inr}
 use Rattle.std.specs.Prelude.{slice_get, IfSome}
-use Rattle.dw_forms.specs.Abbrev.{Declaration}
+use Rattle.dw_forms.specs.KeptDecls.{Numbered}
 use Rattle.dw_entries.specs.declared.record.Record.{Record}
 use Rattle.dw_entries.specs.declared.record.UnitRecord.{UnitRecord}
-use Rattle.dw_entries.specs.Units.{DebugUnit}
 use Rattle.dw_entries.specs.Entries.{Entry, entries_of, PlacedUnit, placed}
-use Rattle.dw_entries.specs.Scanned.{record_of, records_of, IsKept, Scanned, units_of}
+use Rattle.dw_entries.specs.Scanned.{numbers_of, record_of, IsKept, Scanned, units_of}
 use Rattle.dw_entries.specs.Runs.{IsEntryAt, IsEntryIn, ReachesInUnit}
 use Rattle.dw_entries.specs.Asked.{OffsetsRise}
 use Rattle.dw_entries.proofs.NumberOrder.{three_ways}
@@ -15,7 +14,7 @@ use Rattle.dw_entries.proofs.KeptLaws.{KeptUnit, read_is}
 use Rattle.dw_entries.proofs.EntryFacts.{kept_get}
 
 -- the record of a unit that was read is the one that is kept of it
-pub record_kept : (a info : List ℕ) (tables : List (List Declaration)) (rs : List UnitRecord) (records : List Record) (s : Scanned a info tables rs records) (number : ℕ) (k : KeptUnit a info tables rs records s number) (u : UnitRecord)
+pub record_kept : (a info : List ℕ) (tables : List (List Numbered)) (rs : List UnitRecord) (records : List Record) (s : Scanned a info tables rs records) (number : ℕ) (k : KeptUnit a info tables rs records s number) (u : UnitRecord)
     → u ≡ get_or rs number u → IsKept tables u k.place
 record_kept a info tables rs records s number k u read = let P : UnitRecord → Type 0 = λ q. IsKept tables q k.place in subst P (sym (read_is rs number k.unit_record u k.is_unit_record read)) k.kept
 
@@ -67,14 +66,14 @@ never_other entries units number offset at id p e rise is sum found is_e other j
     other (ap (λ (x : Entry). x.unit) (sym one) ∙ inside.in_unit)
 
 -- where no entry begins at the offset, none of the unit does
-pub never_there : (a info : List ℕ) (tables : List (List Declaration)) (rs : List UnitRecord) (records : List Record) (s : Scanned a info tables rs records) (number offset at : ℕ) (k : KeptUnit a info tables rs records s number) (u : UnitRecord)
+pub never_there : (a info : List ℕ) (tables : List (List Numbered)) (rs : List UnitRecord) (records : List Record) (s : Scanned a info tables rs records) (number offset at : ℕ) (k : KeptUnit a info tables rs records s number) (u : UnitRecord)
     → u ≡ get_or rs number u → at ≡ offset + u.at → ((id : ℕ) → IsEntryAt (entries_of (units_of s)) at id → ⊥)
     → (j : ℕ) → ReachesInUnit (entries_of (units_of s)) (placed (units_of s)) number offset j → ⊥
 never_there a info tables rs records s number offset at k u read sum nowhere j reached =
     let place = (record_kept a info tables rs records s number k u read).at in
     nowhere j (in_is_at (entries_of (units_of s)) number at j (reached_at (entries_of (units_of s)) (placed (units_of s)) number offset at j k.place k.is_place (omega (arith, sum, place)) reached))
 
-pub never_far : (a info : List ℕ) (tables : List (List Declaration)) (rs : List UnitRecord) (records : List Record) (s : Scanned a info tables rs records) (number offset : ℕ) (k : KeptUnit a info tables rs records s number) (u : UnitRecord)
+pub never_far : (a info : List ℕ) (tables : List (List Numbered)) (rs : List UnitRecord) (records : List Record) (s : Scanned a info tables rs records) (number offset : ℕ) (k : KeptUnit a info tables rs records s number) (u : UnitRecord)
     → u ≡ get_or rs number u → length info < 2 ^ 64 → 2 ^ 64 ≤ offset + u.at → (j : ℕ) → ReachesInUnit (entries_of (units_of s)) (placed (units_of s)) number offset j → ⊥
 never_far a info tables rs records s number offset k u read few far j reached =
     let place = (record_kept a info tables rs records s number k u read).at in
@@ -84,15 +83,19 @@ never_far a info tables rs records s number offset k u read few far j reached =
     omega (arith, place, at, stands, few, far)
 
 -- an entry's unit is that of its record
-pub unit_of_record : (a info : List ℕ) (tables : List (List Declaration)) (rs : List UnitRecord) (records : List Record) (s : Scanned a info tables rs records) (id : ℕ) (r : Record) (e : Entry) → r ≡ get_or records id r → slice_get (entries_of (units_of s)) id ≡ Some e
+pub unit_of_record : (a info : List ℕ) (tables : List (List Numbered)) (rs : List UnitRecord) (records : List Record) (s : Scanned a info tables rs records) (id : ℕ) (r : Record) (e : Entry) → r ≡ get_or records id r → slice_get (entries_of (units_of s)) id ≡ Some e
     → e.unit ≡ r.unit
 unit_of_record a info tables rs records s id r e read is =
-    let kept : slice_get records id ≡ Some (record_of (units_of s) e) = ap (λ (xs : List Record). slice_get xs id) s.1.entries ∙ kept_get (units_of s) id e is in
-    ap (λ (x : Record). x.unit) (sym (read_is records id (record_of (units_of s) e) r kept read))
+    let numbers = numbers_of tables rs in
+    let kept : slice_get records id ≡ Some (record_of numbers e) = ap (λ (xs : List Record). slice_get xs id) s.1.entries ∙ kept_get numbers (units_of s) id e is in
+    ap (λ (x : Record). x.unit) (sym (read_is records id (record_of numbers e) r kept read))
 
-pub record_unit : (us : List DebugUnit) (id : ℕ) (r : Record) → slice_get (records_of us) id ≡ Some r → IfSome (slice_get (entries_of us) id) (λ e. r.unit ≡ e.unit)
-record_unit us id r is = go (slice_get (entries_of us) id) refl
+pub record_unit : (a info : List ℕ) (tables : List (List Numbered)) (rs : List UnitRecord) (records : List Record) (s : Scanned a info tables rs records) (id : ℕ) (r : Record) → slice_get records id ≡ Some r
+    → IfSome (slice_get (entries_of (units_of s)) id) (λ e. r.unit ≡ e.unit)
+record_unit a info tables rs records s id r is = go (slice_get (entries_of (units_of s)) id) refl
   where
-    go : (o : Option Entry) → slice_get (entries_of us) id ≡ o → IfSome o (λ e. r.unit ≡ e.unit)
+    go : (o : Option Entry) → slice_get (entries_of (units_of s)) id ≡ o → IfSome o (λ e. r.unit ≡ e.unit)
     go None at = tt
-    go (Some e) at = ap (λ (x : Record). x.unit) (same_some (slice_get (records_of us) id) r (record_of us e) is (kept_get us id e at))
+    go (Some e) at =
+        let numbers = numbers_of tables rs in
+        ap (λ (x : Record). x.unit) (same_some (slice_get records id) r (record_of numbers e) is (ap (λ (xs : List Record). slice_get xs id) s.1.entries ∙ kept_get numbers (units_of s) id e at))

@@ -1,15 +1,14 @@
 -- How far the scan of a section has come.
-use Rattle.std.proofs.Common.{◌≡◌, ℕ, suc, ◌+◌, ◌-◌, ◌<◌, ◌≤◌, List, [], ◌∷◌, ◌++◌, length, take, drop, None, refl, sym, ap, subst, ◌∙◌, append_assoc, append-nil, arith, length-append, length-drop, drop_at, drop-drop, drop_of_length-le, take_all, add-zero}
-use Rattle.std.proofs.lemmas.List.{length-map}
+use Rattle.std.proofs.Common.{◌≡◌, ℕ, zero, suc, ◌+◌, ◌-◌, ◌<◌, ◌≤◌, List, [], ◌∷◌, ◌++◌, length, take, drop, None, refl, sym, ap, subst, ◌∙◌, append_assoc, append-nil, arith, length-append, length-drop, drop_at, drop-drop, drop_of_length-le, take_all, add-zero}
 use Rattle.std.proofs.lemmas.List.Concat.{flat_map-append}
 use Rattle.std.specs.List.{AllZip}
-use Rattle.dw_entries.proofs.TableSteps.{slice_get-more}
-use Rattle.dw_forms.specs.Abbrev.{Declaration}
 use Rattle.dw_entries.specs.declared.record.Record.{Record}
 use Rattle.dw_entries.specs.declared.record.UnitRecord.{UnitRecord}
 use Rattle.dw_entries.specs.declared.record.Kept.{Kept}
-use Rattle.dw_forms.specs.Rows.{table_in}
-use Rattle.dw_entries.specs.Tables.{tables_of, AreTables}
+use Rattle.dw_forms.specs.AbbrevTables.{tables_in, AreTablesOf}
+use Rattle.dw_forms.specs.KeptDecls.{Numbered, declarations, numbered_in, number_in}
+use Rattle.dw_forms.specs.TableStarts.{Stay}
+use Rattle.dw_forms.proofs.StartLaws.{table_stays}
 use Rattle.dw_entries.specs.declared.fault.Broken.{Broken}
 use Rattle.dw_entries.specs.declared.fault.Break.{Break}
 use Rattle.dw_entries.specs.declared.fault.Break.TheVariants.{Memory, Broken as Breaks}
@@ -20,7 +19,7 @@ use Rattle.dw_entries.specs.HeaderLaws.{length-header}
 use Rattle.dw_entries.specs.Units.{DebugUnit, body_bytes, unit_bytes, IsUnit, AreUnits, units_bytes}
 use Rattle.dw_entries.specs.Entries.{node_count, PlacedUnit, placed_from, placed}
 use Rattle.dw_entries.specs.Records.{node_records, records_from, records_kept}
-use Rattle.dw_entries.specs.Scanned.{IsKept, Scanned}
+use Rattle.dw_entries.specs.Scanned.{table_of, numbers_of, IsKept, Scanned}
 use Rattle.dw_entries.specs.Stopped.{IfBroken, UnitTaken}
 use Rattle.dw_entries.proofs.OrderLaws.{few_entries}
 use Rattle.dw_entries.proofs.WalkLaws.{length-node_records}
@@ -32,26 +31,35 @@ pub record Upto (a info : List ℕ) (header : ℕ) (kept : Kept) : Type 0 where
   pub parts : info ≡ units_bytes units ++ drop header info
   pub at : header ≡ length (units_bytes units)
   pub count : length kept.units.items ≡ length units
-  pub unit_records : AllZip (IsKept (tables_of kept.tables)) kept.units.items (placed units)
-  pub places : kept.records.items ≡ records_from 0 0 0 units
-  pub tables : AreTables a kept.tables
-  pub few_tables : length (tables_of kept.tables) ≤ length units
+  pub unit_records : AllZip (IsKept (tables_in kept.tables)) kept.units.items (placed units)
+  pub places : kept.records.items ≡ records_from (numbers_of (tables_in kept.tables) kept.units.items) 0 0 0 units
+  pub tables : AreTablesOf a kept.tables
 
-records_from-push : (unit id at : ℕ) (us : List DebugUnit) (u : DebugUnit) → records_from unit id at (us ++ u ∷ []) ≡ records_from unit id at us ++ node_records u.table (unit + length us) None 0 None (id + length (records_from unit id at us)) ((at + length (units_bytes us)) + header_size u.header.kind) u.root
-records_from-push unit id at [] u =
-    let front : node_records u.table (unit + 0) None 0 None (id + 0) (at + 0 + header_size u.header.kind) u.root ≡ node_records u.table unit None 0 None id (at + header_size u.header.kind) u.root = simp add-zero in
-    append-nil (node_records u.table unit None 0 None id (at + header_size u.header.kind) u.root) ∙ sym front
-records_from-push unit id at (v ∷ us) u =
-    let first : List Record = node_records v.table unit None 0 None id (at + header_size v.header.kind) v.root in
-    let others : List Record = records_from (suc unit) (id + node_count v.root) (at + length (unit_bytes v)) us in
+records_from-push : (numbers : ℕ → ℕ → ℕ) (unit id at : ℕ) (us : List DebugUnit) (u : DebugUnit)
+    → records_from numbers unit id at (us ++ u ∷ [])
+    ≡ records_from numbers unit id at us ++ node_records (numbers (unit + length us)) (unit + length us) None 0 None (id + length (records_from numbers unit id at us)) ((at + length (units_bytes us)) + header_size u.header.kind) u.root
+records_from-push numbers unit id at [] u =
+    let front : node_records (numbers (unit + 0)) (unit + 0) None 0 None (id + 0) (at + 0 + header_size u.header.kind) u.root ≡ node_records (numbers unit) unit None 0 None id (at + header_size u.header.kind) u.root = simp add-zero in
+    append-nil (node_records (numbers unit) unit None 0 None id (at + header_size u.header.kind) u.root) ∙ sym front
+records_from-push numbers unit id at (v ∷ us) u =
+    let first : List Record = node_records (numbers unit) unit None 0 None id (at + header_size v.header.kind) v.root in
+    let others : List Record = records_from numbers (suc unit) (id + node_count v.root) (at + length (unit_bytes v)) us in
     let n : suc unit + length us ≡ unit + length (v ∷ us) = omega arith in
-    let k : (id + node_count v.root) + length others ≡ id + length (first ++ others) = omega (arith, length-append first others, length-node_records v.table unit None 0 None id (at + header_size v.header.kind) v.root) in
+    let k : (id + node_count v.root) + length others ≡ id + length (first ++ others) = omega (arith, length-append first others, length-node_records (numbers unit) unit None 0 None id (at + header_size v.header.kind) v.root) in
     let o : (at + length (unit_bytes v)) + length (units_bytes us) ≡ at + length (units_bytes (v ∷ us)) = omega (arith, length-append (unit_bytes v) (units_bytes us)) in
-    ap (λ (r : List Record). first ++ r) (records_from-push (suc unit) (id + node_count v.root) (at + length (unit_bytes v)) us u)
+    ap (λ (r : List Record). first ++ r) (records_from-push numbers (suc unit) (id + node_count v.root) (at + length (unit_bytes v)) us u)
     ∙ sym (append_assoc first others _)
-    ∙ ap (λ (r : List Record). (first ++ others) ++ r) (ap (λ (m : ℕ). node_records u.table m None 0 None ((id + node_count v.root) + length others) (((at + length (unit_bytes v)) + length (units_bytes us)) + header_size u.header.kind) u.root) n
-    ∙ ap (λ (m : ℕ). node_records u.table (unit + length (v ∷ us)) None 0 None m (((at + length (unit_bytes v)) + length (units_bytes us)) + header_size u.header.kind) u.root) k
-    ∙ ap (λ (m : ℕ). node_records u.table (unit + length (v ∷ us)) None 0 None (id + length (first ++ others)) (m + header_size u.header.kind) u.root) o)
+    ∙ ap (λ (r : List Record). (first ++ others) ++ r) (ap (λ (m : ℕ). node_records (numbers m) m None 0 None ((id + node_count v.root) + length others) (((at + length (unit_bytes v)) + length (units_bytes us)) + header_size u.header.kind) u.root) n
+    ∙ ap (λ (m : ℕ). node_records (numbers (unit + length (v ∷ us))) (unit + length (v ∷ us)) None 0 None m (((at + length (unit_bytes v)) + length (units_bytes us)) + header_size u.header.kind) u.root) k
+    ∙ ap (λ (m : ℕ). node_records (numbers (unit + length (v ∷ us))) (unit + length (v ∷ us)) None 0 None (id + length (first ++ others)) (m + header_size u.header.kind) u.root) o)
+
+-- the records of units depend on the numbers of these units alone
+records_same : (f g : ℕ → ℕ → ℕ) (unit id at : ℕ) (us : List DebugUnit) → ((n : ℕ) → n < unit + length us → f n ≡ g n) → records_from f unit id at us ≡ records_from g unit id at us
+records_same f g unit id at [] same = refl
+records_same f g unit id at (u ∷ us) same =
+    let rest = records_same f g (suc unit) (id + node_count u.root) (at + length (unit_bytes u)) us (λ n less. same n (omega (arith, less))) in
+    ap (λ (h : ℕ → ℕ). node_records h unit None 0 None id (at + header_size u.header.kind) u.root ++ records_from f (suc unit) (id + node_count u.root) (at + length (unit_bytes u)) us) (same unit (omega arith))
+    ∙ ap (λ (rs : List Record). node_records (g unit) unit None 0 None id (at + header_size u.header.kind) u.root ++ rs) rest
 
 AreUnits-push : (a : List ℕ) (us : List DebugUnit) (u : DebugUnit) → AreUnits a us → IsUnit a u → AreUnits a (us ++ u ∷ [])
 AreUnits-push a [] u p q = (q, tt)
@@ -60,16 +68,47 @@ AreUnits-push a (v ∷ us) u p q = (p.0, AreUnits-push a us u p.1 q)
 units_bytes-push : (us : List DebugUnit) (u : DebugUnit) → units_bytes (us ++ u ∷ []) ≡ units_bytes us ++ unit_bytes u
 units_bytes-push us u = flat_map-append unit_bytes us (u ∷ []) ∙ ap (λ (b : List ℕ). units_bytes us ++ b) (append-nil (unit_bytes u))
 
-IsKept-more : (old more : List (List Declaration)) (r : UnitRecord) (p : PlacedUnit) → IsKept old r p → IsKept (old ++ more) r p
-IsKept-more old more r p k = record { at = k.at; header = k.header; table = slice_get-more old more r.table p.unit.table k.table; first = k.first }
+IsKept-more : (old new : List (List Numbered)) (r : UnitRecord) (p : PlacedUnit) → Stay old new → IsKept old r p → IsKept new r p
+IsKept-more old new r p stay k = record {
+  at = k.at;
+  header = k.header;
+  within = omega (arith, k.within, ap length stay.1, length-append old stay.0);
+  table = ap declarations (table_stays old new r.table stay k.within) ∙ k.table;
+  first = k.first;
+}
 
-AllKept-more : (old more : List (List Declaration)) (rs : List UnitRecord) (ps : List PlacedUnit) → AllZip (IsKept old) rs ps → AllZip (IsKept (old ++ more)) rs ps
-AllKept-more old more [] [] k = tt
-AllKept-more old more [] (p ∷ ps) k = k
-AllKept-more old more (r ∷ rs) [] k = k
-AllKept-more old more (r ∷ rs) (p ∷ ps) k = (IsKept-more old more r p k.0, AllKept-more old more rs ps k.1)
+AllKept-more : (old new : List (List Numbered)) (rs : List UnitRecord) (ps : List PlacedUnit) → Stay old new → AllZip (IsKept old) rs ps → AllZip (IsKept new) rs ps
+AllKept-more old new [] [] stay k = tt
+AllKept-more old new [] (p ∷ ps) stay k = k
+AllKept-more old new (r ∷ rs) [] stay k = k
+AllKept-more old new (r ∷ rs) (p ∷ ps) stay k = (IsKept-more old new r p stay k.0, AllKept-more old new rs ps stay k.1)
 
-AllKept-push : (tables : List (List Declaration)) (rs : List UnitRecord) (ps : List PlacedUnit) (r : UnitRecord) (p : PlacedUnit) → AllZip (IsKept tables) rs ps → IsKept tables r p → AllZip (IsKept tables) (rs ++ r ∷ []) (ps ++ p ∷ [])
+-- the numbers of the units so far stay, and the next unit has those of its table
+table_within : (tables : List (List Numbered)) (rs : List UnitRecord) (ps : List PlacedUnit) (n : ℕ) → AllZip (IsKept tables) rs ps → n < length rs → table_of rs n < length tables
+table_within tables [] ps n k less = absurd (omega (arith, less))
+table_within tables (r ∷ rs) [] n k less = absurd k
+table_within tables (r ∷ rs) (p ∷ ps) zero k less = k.0.within
+table_within tables (r ∷ rs) (p ∷ ps) (suc n) k less = table_within tables rs ps n k.1 (omega (arith, less))
+
+table_of-push : (rs : List UnitRecord) (r : UnitRecord) (n : ℕ) → n < length rs → table_of (rs ++ r ∷ []) n ≡ table_of rs n
+table_of-push [] r n less = absurd (omega (arith, less))
+table_of-push (q ∷ rs) r zero less = refl
+table_of-push (q ∷ rs) r (suc n) less = table_of-push rs r n (omega (arith, less))
+
+table_of-last : (rs : List UnitRecord) (r : UnitRecord) → table_of (rs ++ r ∷ []) (length rs) ≡ r.table
+table_of-last [] r = refl
+table_of-last (q ∷ rs) r = table_of-last rs r
+
+numbers_stay : (old new : List (List Numbered)) (rs : List UnitRecord) (ps : List PlacedUnit) (r : UnitRecord) (n : ℕ) → Stay old new → AllZip (IsKept old) rs ps → n < length rs
+    → numbers_of old rs n ≡ numbers_of new (rs ++ r ∷ []) n
+numbers_stay old new rs ps r n stay k less =
+    ap number_in (sym (table_stays old new (table_of rs n) stay (table_within old rs ps n k less)))
+    ∙ ap (λ (t : ℕ). number_in (numbered_in new t)) (sym (table_of-push rs r n less))
+
+numbers_last : (tables : List (List Numbered)) (rs : List UnitRecord) (r : UnitRecord) (n : ℕ) → n ≡ length rs → number_in (numbered_in tables r.table) ≡ numbers_of tables (rs ++ r ∷ []) n
+numbers_last tables rs r n e = ap (λ (t : ℕ). number_in (numbered_in tables t)) (sym (ap (table_of (rs ++ r ∷ [])) e ∙ table_of-last rs r))
+
+AllKept-push : (tables : List (List Numbered)) (rs : List UnitRecord) (ps : List PlacedUnit) (r : UnitRecord) (p : PlacedUnit) → AllZip (IsKept tables) rs ps → IsKept tables r p → AllZip (IsKept tables) (rs ++ r ∷ []) (ps ++ p ∷ [])
 AllKept-push tables [] [] r p k one = (one, tt)
 AllKept-push tables [] (q ∷ ps) r p k one = absurd k
 AllKept-push tables (s ∷ rs) [] r p k one = absurd k
@@ -78,24 +117,25 @@ AllKept-push tables (s ∷ rs) (q ∷ ps) r p k one = (k.0, AllKept-push tables 
 abbrev placed_at : ℕ → ℕ → DebugUnit → PlacedUnit
 placed_at at first u = record { at = at; first = first; unit = u }
 
-placed_from-push : (unit at first : ℕ) (us : List DebugUnit) (u : DebugUnit) → placed_from at first (us ++ u ∷ []) ≡ placed_from at first us ++ record { at = at + length (units_bytes us); first = first + length (records_from unit first at us); unit = u } ∷ []
-placed_from-push unit at first [] u =
+placed_from-push : (numbers : ℕ → ℕ → ℕ) (unit at first : ℕ) (us : List DebugUnit) (u : DebugUnit)
+    → placed_from at first (us ++ u ∷ []) ≡ placed_from at first us ++ record { at = at + length (units_bytes us); first = first + length (records_from numbers unit first at us); unit = u } ∷ []
+placed_from-push numbers unit at first [] u =
     let o : at ≡ at + 0 = omega arith in
     let k : first ≡ first + 0 = omega arith in
     ap (λ (p : PlacedUnit). p ∷ []) (ap (λ (n : ℕ). placed_at n first u) o ∙ ap (λ (n : ℕ). placed_at (at + 0) n u) k)
-placed_from-push unit at first (v ∷ us) u =
+placed_from-push numbers unit at first (v ∷ us) u =
     let start : ℕ = at + header_size v.header.kind in
-    let front : List Record = node_records v.table unit None 0 None first start v.root in
-    let others : List Record = records_from (suc unit) (first + node_count v.root) (at + length (unit_bytes v)) us in
+    let front : List Record = node_records (numbers unit) unit None 0 None first start v.root in
+    let others : List Record = records_from numbers (suc unit) (first + node_count v.root) (at + length (unit_bytes v)) us in
     let o : (at + length (unit_bytes v)) + length (units_bytes us) ≡ at + length (units_bytes (v ∷ us)) = omega (arith, length-append (unit_bytes v) (units_bytes us)) in
-    let k : (first + node_count v.root) + length others ≡ first + length (front ++ others) = omega (arith, length-append front others, length-node_records v.table unit None 0 None first start v.root) in
+    let k : (first + node_count v.root) + length others ≡ first + length (front ++ others) = omega (arith, length-append front others, length-node_records (numbers unit) unit None 0 None first start v.root) in
     let last : placed_at ((at + length (unit_bytes v)) + length (units_bytes us)) ((first + node_count v.root) + length others) u ≡ placed_at (at + length (units_bytes (v ∷ us))) (first + length (front ++ others)) u =
     ap (λ (n : ℕ). placed_at n ((first + node_count v.root) + length others) u) o ∙ ap (λ (n : ℕ). placed_at (at + length (units_bytes (v ∷ us))) n u) k in
-    ap (λ (ps : List PlacedUnit). placed_at at first v ∷ ps) (placed_from-push (suc unit) (at + length (unit_bytes v)) (first + node_count v.root) us u
+    ap (λ (ps : List PlacedUnit). placed_at at first v ∷ ps) (placed_from-push numbers (suc unit) (at + length (unit_bytes v)) (first + node_count v.root) us u
     ∙ ap (λ (p : PlacedUnit). placed_from (at + length (unit_bytes v)) (first + node_count v.root) us ++ p ∷ []) last)
 
-pub upto_start : (a info : List ℕ) (kept : Kept) → kept.tables.kept.items ≡ [] → AreTables a kept.tables → kept.units.items ≡ [] → kept.records.items ≡ [] → Upto a info 0 kept
-upto_start a info kept t tables us e = record {
+pub upto_start : (a info : List ℕ) (kept : Kept) → AreTablesOf a kept.tables → kept.units.items ≡ [] → kept.records.items ≡ [] → Upto a info 0 kept
+upto_start a info kept tables us e = record {
   units = [];
   are = tt;
   parts = refl;
@@ -104,7 +144,6 @@ upto_start a info kept t tables us e = record {
   unit_records = rw us tt;
   places = e;
   tables = tables;
-  few_tables = omega (arith, ap length t, length-map kept.tables.kept.items (table_in kept.tables.rows.rows.items));
 }
 
 pub upto_next : (a info : List ℕ) (header : ℕ) (old new : Kept) (len : ℕ) → Upto a info header old → UnitTaken a (drop header info) header old new len → Upto a info (header + len) new
@@ -113,9 +152,14 @@ upto_next a info header old new len u t =
     let unit : ℕ = length old.units.items in
     let v : DebugUnit = t.taken in
     let size : ℕ = header_size v.header.kind in
+    let tables : List (List Numbered) = tables_in new.tables in
+    let before : ℕ → ℕ → ℕ = numbers_of (tables_in old.tables) old.units.items in
+    let numbers : ℕ → ℕ → ℕ = numbers_of tables (old.units.items ++ t.record_is ∷ []) in
     let left : drop (header + len) info ≡ t.after = sym (drop-drop _ _ info) ∙ ap (drop len) t.parts ∙ drop_at (unit_bytes v) t.after len (sym t.len_is) in
+    let same : records ≡ records_from numbers 0 0 0 u.units =
+    u.places ∙ records_same before numbers 0 0 0 u.units (λ n less. numbers_stay (tables_in old.tables) tables old.units.items (placed u.units) t.record_is n t.stay u.unit_records (omega (arith, less, u.count))) in
     let n : unit ≡ 0 + length u.units = omega (arith, u.count) in
-    let id : length records ≡ 0 + length (records_from 0 0 0 u.units) = omega (arith, ap length u.places) in
+    let id : length records ≡ 0 + length (records_from numbers 0 0 0 u.units) = omega (arith, ap length same) in
     let at : header ≡ 0 + length (units_bytes u.units) = omega (arith, u.at) in
     record {
       units = u.units ++ v ∷ [];
@@ -123,15 +167,16 @@ upto_next a info header old new len u t =
       parts = u.parts ∙ ap (λ (x : List ℕ). units_bytes u.units ++ x) (t.parts ∙ ap (λ (x : List ℕ). unit_bytes v ++ x) (sym left)) ∙ sym (append_assoc (units_bytes u.units) (unit_bytes v) _) ∙ ap (λ (x : List ℕ). x ++ drop (header + len) info) (sym (units_bytes-push u.units v));
       at = omega (arith, u.at, t.len_is, ap length (units_bytes-push u.units v), length-append (units_bytes u.units) (unit_bytes v));
       count = omega (arith, ap length t.units, length-append old.units.items (t.record_is ∷ []), u.count, length-append u.units (v ∷ []));
-      unit_records = rw (t.units, placed_from-push 0 0 0 u.units v, ← at, ← id) (AllKept-push (tables_of new.tables) old.units.items (placed u.units) t.record_is (placed_at header (length records) v) (rw t.stay.1 (AllKept-more (tables_of old.tables) t.stay.0 old.units.items (placed u.units) u.unit_records)) t.kept);
+      unit_records = rw (t.units, placed_from-push numbers 0 0 0 u.units v, ← at, ← id)
+          (AllKept-push tables old.units.items (placed u.units) t.record_is (placed_at header (length records) v) (AllKept-more (tables_in old.tables) tables old.units.items (placed u.units) t.stay u.unit_records) t.kept);
       tables = t.tables;
-      few_tables = omega (arith, ap length t.stay.1, length-append (tables_of old.tables) t.stay.0, t.stay.2, u.few_tables, length-append u.units (v ∷ []));
-      places = t.records
-          ∙ ap (λ (n : ℕ). records ++ node_records v.table n None 0 None (length records) (header + size) v.root) n
-          ∙ ap (λ (k : ℕ). records ++ node_records v.table (0 + length u.units) None 0 None k (header + size) v.root) id
-          ∙ ap (λ (o : ℕ). records ++ node_records v.table (0 + length u.units) None 0 None (0 + length (records_from 0 0 0 u.units)) (o + size) v.root) at
-          ∙ ap (λ (r : List Record). r ++ node_records v.table (0 + length u.units) None 0 None (0 + length (records_from 0 0 0 u.units)) ((0 + length (units_bytes u.units)) + size) v.root) u.places
-          ∙ sym (records_from-push 0 0 0 u.units v);
+      places = rw t.units (t.records
+          ∙ ap (λ (f : ℕ → ℕ). records ++ node_records f unit None 0 None (length records) (header + size) v.root) (numbers_last tables old.units.items t.record_is unit refl)
+          ∙ ap (λ (m : ℕ). records ++ node_records (numbers m) m None 0 None (length records) (header + size) v.root) n
+          ∙ ap (λ (k : ℕ). records ++ node_records (numbers (0 + length u.units)) (0 + length u.units) None 0 None k (header + size) v.root) id
+          ∙ ap (λ (o : ℕ). records ++ node_records (numbers (0 + length u.units)) (0 + length u.units) None 0 None (0 + length (records_from numbers 0 0 0 u.units)) (o + size) v.root) at
+          ∙ ap (λ (r : List Record). r ++ node_records (numbers (0 + length u.units)) (0 + length u.units) None 0 None (0 + length (records_from numbers 0 0 0 u.units)) ((0 + length (units_bytes u.units)) + size) v.root) same
+          ∙ sym (records_from-push numbers 0 0 0 u.units v));
     }
 
 some_size : (kind : HeaderKind) → 0 < header_size kind
@@ -147,19 +192,16 @@ few_units : (us : List DebugUnit) → length us ≤ length (units_bytes us)
 few_units [] = omega arith
 few_units (u ∷ us) = omega (arith, length-append (unit_bytes u) (units_bytes us), some_bytes u, few_units us)
 
-pub upto_few_tables : (a info : List ℕ) (header : ℕ) (kept : Kept) → Upto a info header kept → length (tables_of kept.tables) ≤ header
-upto_few_tables a info header kept u = omega (arith, u.few_tables, u.at, few_units u.units)
-
 pub upto_few_units : (a info : List ℕ) (header : ℕ) (kept : Kept) → Upto a info header kept → length kept.units.items ≤ header
 upto_few_units a info header kept u = omega (arith, u.count, u.at, few_units u.units)
 
 pub upto_few_entries : (a info : List ℕ) (header : ℕ) (kept : Kept) → Upto a info header kept → length kept.records.items ≤ header
-upto_few_entries a info header kept u = omega (arith, ap length u.places, u.at, few_entries a u.units u.are)
+upto_few_entries a info header kept u = omega (arith, ap length u.places, u.at, few_entries a (numbers_of (tables_in kept.tables) kept.units.items) u.units u.are)
 
-pub upto_end : (a info : List ℕ) (header : ℕ) (kept : Kept) → Upto a info header kept → length info ≤ header → Scanned a info (tables_of kept.tables) kept.units.items kept.records.items
+pub upto_end : (a info : List ℕ) (header : ℕ) (kept : Kept) → Upto a info header kept → length info ≤ header → Scanned a info (tables_in kept.tables) kept.units.items kept.records.items
 upto_end a info header kept u e =
     let whole : info ≡ units_bytes u.units = u.parts ∙ ap (λ (x : List ℕ). units_bytes u.units ++ x) (drop_of_length-le info e) ∙ append-nil (units_bytes u.units) in
-    (u.units, record { spells = record { are = u.are; parts = whole }; kept = u.unit_records; entries = u.places ∙ sym (records_kept u.units) })
+    (u.units, record { spells = record { are = u.are; parts = whole }; kept = u.unit_records; entries = u.places ∙ sym (records_kept (numbers_of (tables_in kept.tables) kept.units.items) u.units) })
 
 pub unit_within : (a info : List ℕ) (header : ℕ) (old new : Kept) (len : ℕ) → header ≤ length info → UnitTaken a (drop header info) header old new len → header + len ≤ length info
 unit_within a info header old new len le t = omega (arith, t.len_is, length-drop header info, ap length t.parts, length-append (unit_bytes t.taken) t.after)

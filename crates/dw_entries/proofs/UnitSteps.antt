@@ -1,12 +1,11 @@
 -- What taking a unit rests on.
-use Rattle.std.proofs.Common.{◌≡◌, ℕ, ◌+◌, ◌<◌, ◌≤◌, List, [], ◌∷◌, ◌++◌, length, Option, Some, None, Ok, refl, sym, ap, ◌∙◌, append_assoc, append-nil, arith, length-append}
+use Rattle.std.proofs.Common.{◌≡◌, ℕ, ◌+◌, ◌≤◌, List, [], ◌∷◌, ◌++◌, length, None, Ok, refl, sym, ap, ◌∙◌, append_assoc, append-nil, arith, length-append}
 use Rattle.dw_forms.specs.Abbrev.{Declaration}
-use Rattle.dw_forms.specs.AbbrevReading.{table_at}
-use Rattle.std.proofs.lemmas.Option.{slice_get_within}
-use Rattle.std.specs.Prelude.{slice_get}
 use Rattle.dw_entries.specs.declared.record.UnitRecord.{UnitRecord}
 use Rattle.dw_entries.specs.declared.record.Kept.{Kept}
-use Rattle.dw_entries.specs.Tables.{tables_of, IsTableAt, AreTables, GrowsByOne}
+use Rattle.dw_forms.specs.AbbrevTables.{tables_in, AreTablesOf}
+use Rattle.dw_forms.specs.KeptDecls.{numbered_in, table_in, number_in}
+use Rattle.dw_forms.specs.TableStarts.{IsTableIn, Stay}
 use Rattle.dw_entries.specs.declared.header.UnitHeader.{UnitHeader}
 use Rattle.dw_entries.specs.Header.{IsSize, header_size, header_bytes, header_fields, header_at}
 use Rattle.dw_entries.specs.Records.{node_records}
@@ -17,18 +16,8 @@ use Rattle.dw_entries.specs.Units.{DebugUnit, context_by, body_bytes}
 use Rattle.dw_entries.specs.Stopped.{TreeOf, UnitTaken}
 use Rattle.dw_entries.proofs.HeaderReads.{AreBytes, header_takes}
 
--- the table that is read from the tables is the one of the offset
-pub table_known : (a : List ℕ) (offset place : ℕ) (tables : List (List Declaration)) (table : List Declaration) → IsTableAt a tables offset place → slice_get tables place ≡ Some table → table_at a offset ≡ Ok table
-table_known a offset place tables table (t, got, known, few) e =
-    let same : ◌≡◌ {A = Option (List Declaration)} (Some t) (Some table) = sym got ∙ e in
-    let is : t ≡ table = cc in
-    rw is at known
-
 abbrev unit_record : ℕ → UnitHeader → ℕ → ℕ → UnitRecord
-unit_record at h place first = record { at = at; header = h; table = place; first = first }
-
-pub table_within : (a : List ℕ) (offset place : ℕ) (tables : List (List Declaration)) → IsTableAt a tables offset place → place < length tables
-table_within a offset place tables (t, got, known, few) = slice_get_within tables place t got
+unit_record at h table first = record { at = at; header = h; table = table; first = first }
 
 module _ (a rest : List ℕ) (h : UnitHeader) (body : List ℕ) (bytes : AreBytes rest) (read : header_at (length a) rest ≡ Ok (h, body)) where
   pub read_size : IsSize h.address_size
@@ -42,33 +31,36 @@ module _ (a rest : List ℕ) (h : UnitHeader) (body : List ℕ) (bytes : AreByte
       let r = header_takes (length a) rest h body bytes read in
       omega (arith, length-header h, ap length r.parts, length-append (header_bytes h) (body ++ r.after), length-append body r.after)
 
-  pub unit_taken : (at start place first unit : ℕ) (old new : Kept) (table : List Declaration)
+  pub unit_taken : (at start number first unit : ℕ) (old new : Kept)
       → start ≡ at + header_size h.kind → first ≡ length old.records.items → unit ≡ length old.units.items
-      → IsTableAt a (tables_of new.tables) h.abbrev_offset place → slice_get (tables_of new.tables) place ≡ Some table
-      → AreTables a new.tables → GrowsByOne (tables_of old.tables) (tables_of new.tables)
-      → new.units.items ≡ old.units.items ++ unit_record at h place first ∷ []
-      → TreeOf (context_by h table) h.kind body [] unit start old.records.items new.records.items
+      → IsTableIn a (tables_in new.tables) h.abbrev_offset number
+      → AreTablesOf a new.tables → Stay (tables_in old.tables) (tables_in new.tables)
+      → new.units.items ≡ old.units.items ++ unit_record at h number first ∷ []
+      → TreeOf (context_by h (table_in (tables_in new.tables) number)) (number_in (numbered_in (tables_in new.tables) number)) h.kind body [] unit start old.records.items new.records.items
       → UnitTaken a rest at old new (4 + h.unit_length)
-  unit_taken at start place first unit old new table s few number there read_there tables stay units tree =
+  unit_taken at start number first unit old new s few counted there tables stay units tree =
       let r = header_takes (length a) rest h body bytes read in
+      let table : List Declaration = table_in (tables_in new.tables) number in
+      let numbers : ℕ → ℕ = number_in (numbered_in (tables_in new.tables) number) in
       let u : DebugUnit = record { header = h; table = table; root = tree.root; nulls = tree.nulls } in
       let whole : body ≡ body_bytes u = tree.parts ∙ append-nil (body_bytes u) in
       record {
         taken = u;
-        is = record { header = r.is; table = table_known a h.abbrev_offset place (tables_of new.tables) table there read_there; root = tree.is; tag = tree.tag; nulls = tree.are_nulls; unit_length = r.unit_length ∙ ap (λ (b : List ℕ). length (header_fields h ++ b)) whole };
+        is = record { header = r.is; table = there.table; root = tree.is; tag = tree.tag; nulls = tree.are_nulls; unit_length = r.unit_length ∙ ap (λ (b : List ℕ). length (header_fields h ++ b)) whole };
         after = r.after;
         parts = r.parts ∙ ap (λ (b : List ℕ). header_bytes h ++ (b ++ r.after)) whole ∙ sym (append_assoc (header_bytes h) (body_bytes u) r.after);
         len_is = omega (arith, r.unit_length, ap length whole, length-append (header_fields h) body, length-append (header_bytes h) (body_bytes u), length-header h, length-append (little_bytes 4 h.unit_length) (header_fields h), length-bytes_low_first 0 4 h.unit_length);
-        record_is = unit_record at h place first;
+        record_is = unit_record at h number first;
         kept = record {
           at = refl;
           header = refl;
-          table = read_there;
+          within = there.within;
+          table = refl;
           first = few;
         };
         units = units;
-        records = tree.records ∙ ap (λ (k : ℕ). old.records.items ++ node_records table unit None 0 None (length old.records.items) k tree.root) s
-            ∙ ap (λ (n : ℕ). old.records.items ++ node_records table n None 0 None (length old.records.items) (at + header_size h.kind) tree.root) number;
+        records = tree.records ∙ ap (λ (k : ℕ). old.records.items ++ node_records numbers unit None 0 None (length old.records.items) k tree.root) s
+            ∙ ap (λ (n : ℕ). old.records.items ++ node_records numbers n None 0 None (length old.records.items) (at + header_size h.kind) tree.root) counted;
         tables = tables;
         stay = stay;
       }

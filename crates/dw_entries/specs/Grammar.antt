@@ -1,6 +1,6 @@
 -- Chapter: an entry and its attributes, as they are spelled (DWARF 5, 2.2 and 7.5.2).
-use Rattle.std.specs.Prelude.{◌≡◌, ◌≢◌, ℕ, ◌<◌, ◌^◌, length, AllPairs, true, false, List, [], ◌∷◌, ◌++◌, Option, Some, ◌==◌, find}
-use Rattle.std.specs.List.{flat_map, position_or_len}
+use Rattle.std.specs.Prelude.{◌≡◌, ℕ, true, false, List, [], ◌∷◌, ◌++◌, Option, Some, ◌==◌, find}
+use Rattle.std.specs.List.{flat_map}
 use Rattle.dw_forms.specs.declared.decl.AttributeSpec.{AttributeSpec}
 use Rattle.dw_forms.specs.Abbrev.{Declaration}
 use Rattle.dw_forms.specs.FormCodes.{is_allowed}
@@ -13,18 +13,9 @@ pub record Context : Type 0 where
   pub address_size : ℕ
   pub version : ℕ
 
--- a table that a section has: its codes differ, and the place of a declaration has four bytes
-pub record IsTable (table : List Declaration) : Type 0 where
-  pub distinct : AllPairs (λ c d. c.code ≢ d.code) table
-  pub few : length table < 2 ^ 32
-
 -- the declaration with this code
 unfoldable pub declared_in : List Declaration → ℕ → Option Declaration
 declared_in table code = find (λ d. d.code == code) table
-
--- the place of the declaration with this code, counted from 0
-unfoldable pub place_in : List Declaration → ℕ → ℕ
-place_in table code = position_or_len (λ d. d.code == code) table
 
 -- the declaration with this code in the unit's table
 abbrev pub declared : Context → ℕ → Option Declaration

@@ -2,7 +2,7 @@
 use Rattle.std.specs.Prelude.{ℕ, zero, suc, List, [], ◌∷◌, ◌++◌, Option, Some, None, if◌then◌else◌}
 use Rattle.std.specs.List.{flat_map, AllByRecursion}
 use Rattle.dw_forms.specs.Abbrev.{Declaration}
-use Rattle.dw_entries.specs.Grammar.{place_in, Context, Head, head_bytes, IsHead, IsNull}
+use Rattle.dw_entries.specs.Grammar.{Context, Head, head_bytes, IsHead, IsNull}
 use Rattle.dw_entries.specs.Tree.{Node, Nodes, leaf, parent, none, ◌then◌}
 
 -- an entry's head, or a null
@@ -10,10 +10,10 @@ pub data Item : Type 0 where
   entry : Head → Item
   null : List ℕ → Item
 
--- the place of an entry's declaration in the table, and the declaration; none at a null
-abbrev pub decl_of : List Declaration → Item → Option (ℕ × Declaration)
-decl_of table (entry h) = Some (place_in table h.decl.code, h.decl)
-decl_of table (null z) = None
+-- the number of an entry's declaration, by its code, and the declaration; none at a null
+abbrev pub decl_of : (ℕ → ℕ) → Item → Option (ℕ × Declaration)
+decl_of numbers (entry h) = Some (numbers h.decl.code, h.decl)
+decl_of numbers (null z) = None
 
 -- the bytes of an item
 abbrev pub item_bytes : Item → List ℕ

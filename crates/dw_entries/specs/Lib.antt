@@ -27,7 +27,6 @@ pub mod ValueLaws
 pub mod Scanned
 pub mod Records
 pub mod Walk
-pub mod Tables
 pub mod Token
 pub mod Stopped
 pub mod OptionalIds

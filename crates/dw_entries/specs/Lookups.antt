@@ -1,8 +1,10 @@
 -- Chapter: what the look-ups of entries and of units return.
-use Rattle.std.specs.Prelude.{◌≡◌, ℕ, List, length, slice_get, ◌==◌, nat_lt, if◌then◌else◌, Bool, Option, Some, None, find, option_map}
+use Rattle.std.specs.Prelude.{◌≡◌, ℕ, List, length, ◌==◌, nat_lt, if◌then◌else◌, Bool, Option, Some, None, find, option_map}
 use Rattle.std.specs.List.{list_any}
 use Rattle.dw_forms.specs.declared.decl.AttributeSpec.{AttributeSpec}
+use Rattle.dw_forms.specs.declared.abbrev_tables.KeptDecl.{KeptDecl}
 use Rattle.dw_forms.specs.Abbrev.{Declaration}
+use Rattle.dw_forms.specs.KeptDecls.{decl_of}
 use Rattle.dw_forms.specs.Value.{Datum}
 use Rattle.dw_entries.specs.declared.lookup.Head.{Head}
 use Rattle.dw_entries.specs.declared.lookup.UnitHead.{UnitHead}
@@ -11,13 +13,9 @@ use Rattle.dw_entries.specs.Units.{head_of}
 use Rattle.dw_entries.specs.Entries.{Entry, PlacedUnit}
 use Rattle.dw_entries.specs.Asked.{values_of}
 
--- the declaration stands in one of these tables
-pub record IsDeclaredIn (tables : List (List Declaration)) (decl : Declaration) : Type 0 where
-  pub number : ℕ
-  pub table : List Declaration
-  pub is_table : slice_get tables number ≡ Some table
-  pub place : ℕ
-  pub is_decl : slice_get table place ≡ Some decl
+-- the declaration is one of these
+abbrev pub IsKeptIn : List KeptDecl → Declaration → Type 0
+IsKeptIn kept decl = (number : ℕ) × (decl_of kept number ≡ Some decl)
 
 -- the number k itself, where there are more entries than k
 abbrev pub nth_of : List Entry → ℕ → Option ℕ

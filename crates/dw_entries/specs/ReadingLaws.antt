@@ -22,7 +22,7 @@ use Rattle.dw_forms.specs.Datums.{Datum-set}
 use Rattle.dw_entries.specs.declared.rule.Rule.TheVariants.{UndeclaredCode, NoUnitEntry, WrongUnitTag, FormVersion}
 use Rattle.dw_entries.specs.declared.fault.Failing.{Failing}
 use Rattle.dw_entries.specs.declared.header.HeaderKind.{HeaderKind}
-use Rattle.dw_entries.specs.Grammar.{Context, place_in, declared_in, declared, Attribute, IsAttribute, AreAttributes, attribute_bytes, Head, head_bytes, IsHead}
+use Rattle.dw_entries.specs.Grammar.{Context, declared_in, declared, Attribute, IsAttribute, AreAttributes, attribute_bytes, Head, head_bytes, IsHead}
 use Rattle.dw_entries.specs.Header.{fits_tag}
 use Rattle.dw_entries.specs.Items.{Item, entry, null, item_bytes, decl_of, IsItem}
 use Rattle.dw_entries.specs.Reading.{fails, seen, Code, as_code, code_at, as_attribute, attribute_at, attributes_at, entry_at, declared_at, item_at, first_entry, first_at}
@@ -135,7 +135,7 @@ attributes_again t (f ∷ fs) (p ∷ ps) rest h =
 abbrev some : Declaration → Option Declaration
 some d = Some d
 
-declared_code : (ds : List Declaration) (n : ℕ) (d : Declaration) → declared_in ds n ≡ Some d → d.code ≡ n
+pub declared_code : (ds : List Declaration) (n : ℕ) (d : Declaration) → declared_in ds n ≡ Some d → d.code ≡ n
 unfolding declared_in
 declared_code [] n d e = absurd (let none : ◌≡◌ {A = Option Declaration} None (Some d) = e in cc)
 declared_code (c ∷ ds) n d e = elim (chosen (eqb c.code n) (some c) (declared_in ds n) (some d) e) [
@@ -244,12 +244,12 @@ seen_err f (Err c) d e = let same : c ≡ d = cc in ap (λ (x : Failing). Err x)
 some_is : {A : Type 0} (x y : A) → Some x ≡ Some y → x ≡ y
 some_is x y e = cc
 
--- the declaration of an entry that was read, and its place
-pub seen_entry : (table : List Declaration) (r : Result (Item × List ℕ) Failing) (d : ℕ × Declaration) (rest : List ℕ) → seen (decl_of table) r ≡ Ok (Some d, rest) → (h : Head) × (r ≡ Ok (entry h, rest)) × (◌≡◌ {A = ℕ × Declaration} (place_in table h.decl.code, h.decl) d)
-seen_entry table r d rest e = let (i, was, is) = seen_ok (decl_of table) r (Some d) rest e in of_item i was is
+-- the declaration of an entry that was read, and its number
+pub seen_entry : (numbers : ℕ → ℕ) (r : Result (Item × List ℕ) Failing) (d : ℕ × Declaration) (rest : List ℕ) → seen (decl_of numbers) r ≡ Ok (Some d, rest) → (h : Head) × (r ≡ Ok (entry h, rest)) × (◌≡◌ {A = ℕ × Declaration} (numbers h.decl.code, h.decl) d)
+seen_entry numbers r d rest e = let (i, was, is) = seen_ok (decl_of numbers) r (Some d) rest e in of_item i was is
   where
-    of_item : (i : Item) → r ≡ Ok (i, rest) → decl_of table i ≡ Some d → (h : Head) × (r ≡ Ok (entry h, rest)) × (◌≡◌ {A = ℕ × Declaration} (place_in table h.decl.code, h.decl) d)
-    of_item (entry h) was is = (h, was, some_is (place_in table h.decl.code, h.decl) d is)
+    of_item : (i : Item) → r ≡ Ok (i, rest) → decl_of numbers i ≡ Some d → (h : Head) × (r ≡ Ok (entry h, rest)) × (◌≡◌ {A = ℕ × Declaration} (numbers h.decl.code, h.decl) d)
+    of_item (entry h) was is = (h, was, some_is (numbers h.decl.code, h.decl) d is)
     of_item (null z) was is = let some : ◌≡◌ {A = Option (ℕ × Declaration)} None (Some d) = is in absurd cc
 
 -- an item has a byte at least

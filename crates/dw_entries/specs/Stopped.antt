@@ -6,8 +6,10 @@ use Rattle.std.specs.Prelude.{◌≡◌, ◌≢◌, ℕ, true, false, List, ◌+
 use Rattle.dw_entries.specs.declared.record.Record.{Record}
 use Rattle.dw_entries.specs.declared.record.UnitRecord.{UnitRecord}
 use Rattle.dw_entries.specs.declared.record.Kept.{Kept}
+use Rattle.dw_forms.specs.AbbrevTables.{tables_in, AreTablesOf}
+use Rattle.dw_forms.specs.KeptDecls.{numbered_in, number_in}
+use Rattle.dw_forms.specs.TableStarts.{Stay}
 use Rattle.dw_entries.specs.Scanned.{IsKept}
-use Rattle.dw_entries.specs.Tables.{tables_of, AreTables, GrowsByOne}
 use Rattle.dw_entries.specs.declared.fault.Failing.{Failing}
 use Rattle.dw_entries.specs.declared.fault.Broken.{Broken}
 use Rattle.dw_entries.specs.declared.fault.Break.{Break}
@@ -41,14 +43,14 @@ GivesUnlessMemory view (Ok x) read = read ≡ Ok (view x)
 GivesUnlessMemory view (Err e) read = HaltsBy e read
 
 -- the body spells a tree and nulls, and then the rest; the tree's entries come after the old ones
-pub record TreeOf (x : Context) (kind : HeaderKind) (body rest : List ℕ) (unit at : ℕ) (old new : List Record) : Type 0 where
+pub record TreeOf (x : Context) (numbers : ℕ → ℕ) (kind : HeaderKind) (body rest : List ℕ) (unit at : ℕ) (old new : List Record) : Type 0 where
   pub root : Node
   pub is : IsNode x root
   pub tag : fits_tag kind (head_of root).decl.tag ≡ true
   pub nulls : List (List ℕ)
   pub are_nulls : AreNulls nulls
   pub parts : body ≡ (node_bytes root ++ nulls_bytes nulls) ++ rest
-  pub records : new ≡ old ++ node_records x.table unit None 0 None (length old) at root
+  pub records : new ≡ old ++ node_records numbers unit None 0 None (length old) at root
 
 -- the bytes are nulls
 abbrev pub AreAllNulls : List ℕ → Type 0
@@ -90,11 +92,6 @@ abbrev pub BreaksBy : Break → Result (List Declaration) BrokenTable → Type 0
 BreaksBy breaks.Memory read = Unit {0}
 BreaksBy (breaks.Broken b) read = as_broken read ≡ Err b
 
--- what a function returned, by view, is the table that is read, where memory did not run out
-abbrev pub ReadsTable : {X : Type 0} → (X → List Declaration) → Result X Break → Result (List Declaration) BrokenTable → Type 0
-ReadsTable view (Ok t) read = read ≡ Ok (view t)
-ReadsTable view (Err e) read = BreaksBy e read
-
 -- a unit begins the bytes, and what is kept of it comes after the old
 pub record UnitTaken («abbrev» rest : List ℕ) (at : ℕ) (old new : Kept) (len : ℕ) : Type 0 where
   pub taken : DebugUnit
@@ -103,8 +100,8 @@ pub record UnitTaken («abbrev» rest : List ℕ) (at : ℕ) (old new : Kept) (l
   pub parts : rest ≡ unit_bytes taken ++ after
   pub len_is : len ≡ length (unit_bytes taken)
   pub record_is : UnitRecord
-  pub kept : IsKept (tables_of new.tables) record_is (record { at = at; first = length old.records.items; unit = taken })
+  pub kept : IsKept (tables_in new.tables) record_is (record { at = at; first = length old.records.items; unit = taken })
   pub units : new.units.items ≡ old.units.items ++ record_is ∷ []
-  pub records : new.records.items ≡ old.records.items ++ node_records taken.table (length old.units.items) None 0 None (length old.records.items) (at + header_size taken.header.kind) taken.root
-  pub tables : AreTables «abbrev» new.tables
-  pub stay : GrowsByOne (tables_of old.tables) (tables_of new.tables)
+  pub records : new.records.items ≡ old.records.items ++ node_records (number_in (numbered_in (tables_in new.tables) record_is.table)) (length old.units.items) None 0 None (length old.records.items) (at + header_size taken.header.kind) taken.root
+  pub tables : AreTablesOf «abbrev» new.tables
+  pub stay : Stay (tables_in old.tables) (tables_in new.tables)

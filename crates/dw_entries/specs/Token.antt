@@ -5,11 +5,11 @@ use Rattle.dw_entries.specs.declared.reading.Token.{Token}
 use Rattle.dw_entries.specs.declared.reading.Token.TheVariants.{Null, Entry}
 use Rattle.dw_forms.specs.Abbrev.{Declaration, view}
 
--- a place in a table, and the declaration there
+-- the number of a declaration, and the declaration
 abbrev pub declared_view : Declared → ℕ × Declaration
-declared_view d = (d.place, view d.decl.now)
+declared_view d = (d.number, view d.decl.now)
 
--- the place and the declaration of an entry; none at a null
+-- the number and the declaration of an entry; none at a null
 abbrev pub token_decl : Token → Option (ℕ × Declaration)
 token_decl Null = None
 token_decl (Entry d) = Some (declared_view d)

@@ -3,7 +3,8 @@ use Rattle.std.specs.Prelude.{◌≡◌, ℕ, true, List, ◌++◌, length, Ok}
 use Rattle.std.specs.List.{flat_map, AllByRecursion}
 use Rattle.dw_forms.specs.Abbrev.{Declaration}
 use Rattle.dw_forms.specs.AbbrevReading.{table_at}
-use Rattle.dw_forms.specs.SharedTables.{declarations}
+use Rattle.dw_forms.specs.AbbrevTables.{tables_in}
+use Rattle.dw_forms.specs.KeptDecls.{numbered_in, table_in, number_in}
 use Rattle.dw_entries.specs.declared.header.UnitHeader.{UnitHeader}
 use Rattle.dw_entries.specs.declared.context.UnitContext.{UnitContext}
 use Rattle.dw_entries.specs.Grammar.{Context, Head, IsNull}
@@ -23,7 +24,11 @@ context_by h table = record { table = table; address_size = h.address_size; vers
 
 -- what a reader of items goes by
 abbrev pub context_in : UnitContext → Context
-context_in c = record { table = declarations c.table; address_size = c.address_size; version = c.version }
+context_in c = record { table = table_in (tables_in c.tables.now) c.table; address_size = c.address_size; version = c.version }
+
+-- the numbers of the declarations that it goes by, by their codes
+abbrev pub numbers_in : UnitContext → ℕ → ℕ
+numbers_in c = number_in (numbered_in (tables_in c.tables.now) c.table)
 
 -- what the bytes of a unit are read by
 abbrev pub context_of : DebugUnit → Context

@@ -3,7 +3,6 @@ use Rattle.std.specs.Prelude.{ℕ, zero, suc, ◌+◌, Bool, true, false, List, 
 use Rattle.dw_entries.specs.declared.record.Record.{Record}
 use Rattle.dw_entries.specs.declared.record.Level.{Level}
 use Rattle.dw_forms.specs.Abbrev.{Declaration}
-use Rattle.dw_entries.specs.Grammar.{place_in}
 use Rattle.dw_entries.specs.Items.{Item, entry, null, item_bytes}
 
 -- the records so far, and the open lists of children, the innermost first
@@ -31,7 +30,7 @@ abbrev pub open_list : Bool → ℕ → List Level → List Level
 open_list true id ls = record { parent = Some id; last = None } ∷ ls
 open_list false id ls = ls
 
--- an entry is taken up, with the place of its declaration and the declaration
+-- an entry is taken up, with the number of its declaration and the declaration
 abbrev pub enter : ℕ → ℕ → ℕ × Declaration → List Record → List Level → Walk
 enter unit at d rs [] = record { records = rs ++ record { at = at; unit = unit; decl = d.0; parent = None; depth = 0; next = None } ∷ []; levels = open_list d.1.has_children (length rs) [] }
 enter unit at d rs (l ∷ ls) = record {
@@ -44,12 +43,13 @@ abbrev pub leave : List Level → List Level
 leave [] = []
 leave (l ∷ ls) = ls
 
--- what an item at this offset makes of the state: an entry is taken up, a null closes a list
-abbrev pub step : List Declaration → ℕ → ℕ → Item → Walk → Walk
-step table unit at (entry h) w = enter unit at (place_in table h.decl.code, h.decl) w.records w.levels
-step table unit at (null z) w = record w { levels = leave w.levels }
+-- what an item at this offset makes of the state, with the numbers of the declarations by their codes: an entry is taken
+-- up, a null closes a list
+abbrev pub step : (ℕ → ℕ) → ℕ → ℕ → Item → Walk → Walk
+step numbers unit at (entry h) w = enter unit at (numbers h.decl.code, h.decl) w.records w.levels
+step numbers unit at (null z) w = record w { levels = leave w.levels }
 
 -- what items from this offset on make of the state, one after another
-abbrev pub walk_along : List Declaration → ℕ → ℕ → List Item → Walk → Walk
-walk_along table unit at [] w = w
-walk_along table unit at (i ∷ is) w = walk_along table unit (at + length (item_bytes i)) is (step table unit at i w)
+abbrev pub walk_along : (ℕ → ℕ) → ℕ → ℕ → List Item → Walk → Walk
+walk_along numbers unit at [] w = w
+walk_along numbers unit at (i ∷ is) w = walk_along numbers unit (at + length (item_bytes i)) is (step numbers unit at i w)

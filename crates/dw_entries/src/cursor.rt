@@ -5,35 +5,31 @@ ghost use Rattle.std.specs.Option.{ForSome};
 ghost use Rattle.std.specs.Bool.{OnFalse, OnTrue};
 ghost use Rattle.dw_entries.specs.Cursors.{IsAt, IsUnitAt};
 ghost use Rattle.dw_entries.specs.Entries.{entries_of};
-ghost use Rattle.dw_entries.specs.Scanned.{records_of, units_of};
+ghost use Rattle.dw_entries.specs.Scanned.{units_of};
 
 use crate::entries::Entries;
 use crate::entry_at::EntryAt;
 use crate::id::EntryId;
 use crate::record::{Record, UnitRecord};
-use dw_forms::SharedTable;
 
-/// A unit with its abbreviation table.
+/// A unit and its number.
 #[derive(Clone, Copy, Debug)]
-pub struct UnitAt<'e> {
+pub struct UnitAt {
     pub number: u32,
     pub record: UnitRecord,
-    pub table: SharedTable<'e>,
 }
 
 /// The unit of an entry of which this is kept.
 #[inline(always)]
-pub fn unit_at<'e>(entries: &'e Entries<'_>, id: EntryId, kept: &Record) -> UnitAt<'e>
+pub fn unit_at(entries: &Entries<'_>, id: EntryId, kept: &Record) -> UnitAt
     requires id { id < length (entries_of (units_of entries.now.scanned)) }
-    requires kept { slice_get (records_of (units_of entries.now.scanned)) id ≡ Some kept.now }
-    ensures unit { IsUnitAt entries.now.tables entries.now.units.items result }
+    requires kept { slice_get entries.now.records.items id ≡ Some kept.now }
+    ensures unit { IsUnitAt entries.now.units.items result }
     ensures number { result.number ≡ kept.now.unit }
 {
-    let unit = entries.units[kept.unit as usize];
     UnitAt {
         number: kept.unit,
-        record: unit,
-        table: entries.tables.get(unit.table),
+        record: entries.units[kept.unit as usize],
     }
 }
 
@@ -42,8 +38,8 @@ pub fn unit_at<'e>(entries: &'e Entries<'_>, id: EntryId, kept: &Record) -> Unit
 pub struct Cursor<'e, 'a> {
     /// The entries that are looked up.
     pub entries: &'e Entries<'a>,
-    unit: Option<UnitAt<'e>>,
-    ghost at_hand: { ForSome unit (IsUnitAt entries.now.tables entries.now.units.items) },
+    unit: Option<UnitAt>,
+    ghost at_hand: { ForSome unit (IsUnitAt entries.now.units.items) },
 }
 
 impl<'a> Entries<'a> {
@@ -60,7 +56,7 @@ impl<'a> Entries<'a> {
 
 /// Whether a unit is at hand and has this number.
 #[inline(always)]
-fn is_at(unit: &Option<UnitAt<'_>>, number: u32) -> bool
+fn is_at(unit: &Option<UnitAt>, number: u32) -> bool
     ensures yes { OnTrue result (IsAt unit.now number) }
     ensures otherwise { OnFalse result (IsAt unit.now number → ⊥) }
 {

@@ -1,6 +1,7 @@
 //! The entries of .debug_info.
 
 ghost use Rattle.std.specs.Prelude.{◌≡◌, ◌+◌, ◌^◌, ◌<◌, ◌≤◌, List, length, IfOk, IfErr, OnOk};
+ghost use Rattle.dw_forms.specs.KeptDecls.{tables_of};
 ghost use Rattle.dw_entries.specs.Units.{DebugUnit, Spells};
 ghost use Rattle.dw_entries.specs.Faults.{Fails};
 ghost use Rattle.dw_entries.specs.Scanned.{Scanned, units_of};
@@ -10,19 +11,19 @@ ghost use Rattle.dw_entries.specs.Hints.{AreHints};
 
 use crate::hints::{BLOCK, first_from};
 use crate::id::EntryId;
-use crate::kept_tables::KeptTables;
 use crate::record::{Record, UnitRecord};
 use dw_elf::Sections;
+use dw_forms::KeptDecl;
 
 /// The entries of sections whose .debug_info is a row of units, numbered in rising offset.
 #[derive(Drop)]
 pub struct Entries<'a> {
     pub(crate) sections: Sections<'a>,
-    pub(crate) tables: KeptTables,
+    pub(crate) decls: Vec<KeptDecl>,
     pub(crate) units: Vec<UnitRecord>,
     pub(crate) records: Vec<Record>,
     pub(crate) hints: Vec<u32>,
-    pub ghost scanned: { Scanned sections.«abbrev».now sections.info.now tables units.items records.items } by { scanned_unique sections.«abbrev».now sections.info.now tables units.items records.items },
+    pub ghost scanned: { Scanned sections.«abbrev».now sections.info.now (tables_of decls.items) units.items records.items } by { scanned_unique sections.«abbrev».now sections.info.now (tables_of decls.items) units.items records.items },
     pub ghost hinted: { AreHints (length sections.info.now) records.items hints.items },
 }
 
@@ -30,7 +31,6 @@ impl<'a> Entries<'a> {
     ghost use Rattle.std.specs.Prelude.{◌≢◌, ℕ, All, slice_get, IfSome, IfNone, Some};
     ghost use Rattle.dw_entries.specs.Entries.{entries_of};
     ghost use Rattle.dw_entries.specs.Runs.{IsEntryAt};
-    ghost use Rattle.dw_entries.specs.Scanned.{records_of};
     ghost use Rattle.dw_entries.specs.Views.{sections_of};
 
     /// The sections that were scanned.
@@ -51,7 +51,7 @@ impl<'a> Entries<'a> {
     #[inline(always)]
     pub(crate) fn record(&self, id: EntryId) -> Record
         requires { id < length (entries_of (units_of self.now.scanned)) }
-        ensures { slice_get (records_of (units_of self.now.scanned)) id ≡ Some result }
+        ensures { slice_get self.now.records.items id ≡ Some result }
     {
         self.records[id.number()]
     }

@@ -9,7 +9,7 @@ ghost use Rattle.dw_forms.specs.Value.{view};
 ghost use Rattle.dw_entries.specs.Cursors.{IsUnitAt};
 ghost use Rattle.dw_entries.specs.Grammar.{attribute_bytes};
 ghost use Rattle.dw_entries.specs.Entries.{Entry, entries_of};
-ghost use Rattle.dw_entries.specs.Scanned.{records_of, units_of};
+ghost use Rattle.dw_entries.specs.Scanned.{units_of};
 ghost use Rattle.dw_entries.specs.Asked.{values_of};
 ghost use Rattle.dw_entries.specs.ValuesLeft.{values_left};
 ghost use Rattle.dw_entries.specs.Lookups.{declares, entry_head, value_at_entry};
@@ -60,7 +60,7 @@ impl<'e, 'a> Model for EntryAt<'e, 'a> {
     ghost view = { λ it. slice_get (entries_of (units_of it.entries.now.scanned)) it.id };
 
     ghost invariant = { λ it. (it.id < length (entries_of (units_of it.entries.now.scanned)))
-        × (slice_get (records_of (units_of it.entries.now.scanned)) it.id ≡ Some it.kept)
+        × (slice_get it.entries.now.records.items it.id ≡ Some it.kept)
         × IfSome (slice_get (entries_of (units_of it.entries.now.scanned)) it.id) (λ e. decl_view it.decl.now ≡ e.head.decl)
         × IfSome (slice_get (entries_of (units_of it.entries.now.scanned)) it.id) (λ e. IfSome (slice_get (units_of it.entries.now.scanned) e.unit) (λ u. it.header ≡ u.header)) };
 }
@@ -85,11 +85,11 @@ impl<'e, 'a> EntryAt<'e, 'a> {
         entries: &'e Entries<'a>,
         id: EntryId,
         kept: &Record,
-        unit: &UnitAt<'e>,
+        unit: &UnitAt,
     ) -> EntryAt<'e, 'a>
         requires id { id < length (entries_of (units_of entries.now.scanned)) }
-        requires kept { slice_get (records_of (units_of entries.now.scanned)) id ≡ Some kept.now }
-        requires unit { IsUnitAt entries.now.tables entries.now.units.items unit.now }
+        requires kept { slice_get entries.now.records.items id ≡ Some kept.now }
+        requires unit { IsUnitAt entries.now.units.items unit.now }
         requires number { unit.now.number ≡ kept.now.unit }
         ensures { result ≡ slice_get (entries_of (units_of entries.now.scanned)) id }
     {
@@ -97,7 +97,7 @@ impl<'e, 'a> EntryAt<'e, 'a> {
             entries,
             id,
             kept: *kept,
-            decl: unit.table.decl(kept.decl as usize),
+            decl: &entries.decls[(kept.decl - 1) as usize].decl,
             header: unit.record.header,
         }
     }

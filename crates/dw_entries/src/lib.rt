@@ -10,7 +10,6 @@ mod header;
 mod header_reader;
 mod hints;
 mod id;
-mod kept_tables;
 mod laws;
 mod lookup;
 mod reading;

@@ -7,13 +7,13 @@ ghost use Rattle.dw_entries.specs.Entries.{Entry, entries_of, placed};
 ghost use Rattle.dw_entries.specs.Scanned.{units_of};
 ghost use Rattle.dw_entries.specs.Asked.{values_of};
 ghost use Rattle.dw_entries.specs.ValuesLeft.{values_left};
-ghost use Rattle.dw_entries.specs.Lookups.{IsDeclaredIn, nth_of, entry_head, unit_head, value_at_entry};
+ghost use Rattle.dw_entries.specs.Lookups.{IsKeptIn, nth_of, entry_head, unit_head, value_at_entry};
 
 use crate::entries::Entries;
 use crate::header::{UnitHeader, UnitType};
 use crate::id::EntryId;
 use crate::values::Values;
-use dw_forms::{Attribute, Decl, DeclRow, Tag, Value};
+use dw_forms::{Attribute, Decl, KeptDecl, Tag, Value};
 
 /// An entry without its attributes.
 #[derive(Clone, Copy, Debug, PartialEq, Eq)]
@@ -41,11 +41,11 @@ pub struct UnitHead {
 }
 
 impl<'a> Entries<'a> {
-    /// The declarations of the units' abbreviation tables, each once, in rows.
-    pub fn rows(&self) -> &[DeclRow]
-        ensures { (id : ℕ) (e : Entry) → slice_get (entries_of (units_of self.now.scanned)) id ≡ Some e → IsDeclaredIn result.now e.head.decl }
+    /// The declarations of the units' abbreviation tables, each once.
+    pub fn decls(&self) -> &[KeptDecl]
+        ensures { (id : ℕ) (e : Entry) → slice_get (entries_of (units_of self.now.scanned)) id ≡ Some e → IsKeptIn result.now e.head.decl }
     {
-        self.tables.rows()
+        &self.decls
     }
 
     /// The declaration of an entry.

@@ -2,12 +2,11 @@
 
 ghost use Rattle.std.specs.Prelude.{◌≡◌, Some, option_map, IfSome};
 ghost use Rattle.dw_forms.specs.Abbrev.{view};
-ghost use Rattle.dw_forms.specs.SharedTables.{declarations};
-ghost use Rattle.dw_entries.specs.Grammar.{declared_in, place_in};
+ghost use Rattle.dw_entries.specs.Grammar.{declared_in};
 ghost use Rattle.dw_entries.specs.Items.{decl_of};
 ghost use Rattle.dw_entries.specs.Reading.{Gives, seen, after, code_at, value_rule as rule_of_value, attribute_at, attributes_at, item_at, first_at};
 ghost use Rattle.dw_entries.specs.Token.{declared_view, token_decl};
-ghost use Rattle.dw_entries.specs.Units.{context_in};
+ghost use Rattle.dw_entries.specs.Units.{context_in, numbers_in};
 
 use crate::context::UnitContext;
 use crate::fault::Failing;
@@ -15,10 +14,10 @@ use crate::header::HeaderKind;
 use crate::rule::Rule;
 use dw_forms::{Attribute, AttributeSpec, Decl, NumberFault, ValueFault, read_uleb, skip_value};
 
-/// A declaration, and its place in its table.
+/// A declaration, and its number.
 #[derive(Clone, Copy)]
 pub struct Declared<'a> {
-    pub place: u32,
+    pub number: u32,
     pub decl: &'a Decl,
 }
 
@@ -137,17 +136,14 @@ fn skip_attributes<'b>(
 
 /// The declaration with this code.
 #[inline(always)]
+#[tactic(auto, unfolding(crate::specs::Grammar::declared_in))]
 fn find_decl(context: UnitContext<'_>, code: u64) -> Option<Declared<'_>>
-    ensures decl { option_map (λ d. view d.decl.now) result ≡ declared_in (declarations context.entry.table) code }
-    ensures place { IfSome result
-        (λ d. d.place ≡ place_in (declarations context.entry.table) (view d.decl.now).code) }
+    ensures decl { option_map (λ d. view d.decl.now) result ≡ declared_in (context_in context.entry).table code }
+    ensures number { IfSome result (λ d. d.number ≡ numbers_in context.entry (view d.decl.now).code) }
 {
-    match context.table.place(code) {
+    match context.tables.get(context.table, code) {
         None => None,
-        Some(place) => Some(Declared {
-            place: place as u32,
-            decl: context.table.decl(place),
-        }),
+        Some((number, decl)) => Some(Declared { number, decl }),
     }
 }
 
@@ -159,7 +155,7 @@ pub fn read_item<'a, 'b>(
     bytes: &'b [u8],
 ) -> Result<(Token<'a>, &'b [u8]), Failing>
     ensures { Gives (λ x. (token_decl x.0, x.1.now)) result
-        (seen (decl_of (declarations context.entry.table)) (item_at (context_in context.entry) bytes.now)) }
+        (seen (decl_of (numbers_in context.entry)) (item_at (context_in context.entry) bytes.now)) }
 {
     let (code, rest) = read_code(bytes)?;
     if code == 0 {
@@ -185,7 +181,7 @@ pub fn read_first<'a, 'b>(
     bytes: &'b [u8],
 ) -> Result<(Declared<'a>, &'b [u8]), Failing>
     ensures { Gives (λ x. (Some (declared_view x.0), x.1.now)) result
-        (seen (decl_of (declarations context.entry.table)) (first_at (context_in context.entry) kind bytes.now)) }
+        (seen (decl_of (numbers_in context.entry)) (first_at (context_in context.entry) kind bytes.now)) }
 {
     let missing = Failing {
         rule: Rule::NoUnitEntry,

@@ -7,7 +7,7 @@ ghost use Rattle.dw_entries.specs.Walk.{link, enter as entered, walk_of};
 use crate::header::UnitHeader;
 use crate::id::OptionalId;
 use crate::reading::Declared;
-use crate::tables::Tables;
+use dw_forms::AbbrevTables;
 use std::alloc::AllocError;
 
 /// Where a unit stands, and what its header says. Units are numbered in rising offset.
@@ -16,7 +16,7 @@ pub struct UnitRecord {
     /// The offset of its header.
     pub at: u32,
     pub header: UnitHeader,
-    /// The place of its table among those that are kept.
+    /// The number of its table.
     pub table: u32,
     /// The number of its first entry.
     pub first: u32,
@@ -29,7 +29,7 @@ pub struct Record {
     pub at: u32,
     /// The number of its unit.
     pub unit: u32,
-    /// The place of its declaration in the unit's table, from 0.
+    /// The number of its declaration.
     pub decl: u32,
     pub parent: OptionalId,
     /// How many entries are above it.
@@ -41,7 +41,7 @@ pub struct Record {
 /// What is kept of the units that were taken.
 #[derive(Debug, Drop)]
 pub struct Kept {
-    pub tables: Tables,
+    pub tables: AbbrevTables,
     pub units: Vec<UnitRecord>,
     pub records: Vec<Record>,
 }
@@ -94,7 +94,7 @@ pub fn enter(
     records.push(Record {
         at,
         unit,
-        decl: declared.place,
+        decl: declared.number,
         parent,
         depth,
         next: OptionalId::none(),

@@ -2,11 +2,11 @@
 
 ghost use Rattle.std.specs.Prelude.{◌≡◌, ◌≤◌, List, length, IfOk, IfErr};
 ghost use Rattle.dw_elf.specs.declared.TheConstants.{SECTION_LIMIT};
+ghost use Rattle.dw_forms.specs.AbbrevTables.{tables_in};
 ghost use Rattle.dw_entries.specs.Faults.{Fails};
 ghost use Rattle.dw_entries.specs.Scanned.{Scanned};
 ghost use Rattle.dw_entries.specs.Scanned.{units_of};
 ghost use Rattle.dw_entries.specs.Stopped.{IfBroken, IfFault};
-ghost use Rattle.dw_entries.specs.Tables.{tables_of, AreTables};
 ghost use Rattle.dw_entries.specs.Units.{DebugUnit, Spells};
 ghost use Rattle.dw_entries.specs.Views.{sections_of};
 
@@ -14,21 +14,24 @@ use crate::entries::Entries;
 use crate::fault::{Break, Stop};
 use crate::hints::read_hints;
 use crate::record::Kept;
-use crate::tables::Tables;
 use crate::unit::take_unit;
 use dw_elf::Sections;
+use dw_forms::AbbrevTables;
 use std::alloc::Global;
 
 /// What is kept of the units that .debug_info is.
 fn scan_units(alloc: Global, section: &[u8], info: &[u8]) -> Result<Kept, Break>
     requires abbrev_fits { length section.now ≤ SECTION_LIMIT }
     requires info_fits { length info.now ≤ SECTION_LIMIT }
-    ensures all { IfOk result (λ kept. Scanned section.now info.now (tables_of kept.tables) kept.units.items kept.records.items) }
-    ensures tables { IfOk result (λ kept. AreTables section.now kept.tables) }
+    ensures all { IfOk result (λ kept. Scanned section.now info.now (tables_in kept.tables) kept.units.items kept.records.items) }
     ensures fault { IfErr result (IfBroken (Fails section.now info.now)) }
 {
+    let tables = match AbbrevTables::new(alloc) {
+        Ok(tables) => tables,
+        Err(_) => return Err(Break::Memory),
+    };
     let mut kept = Kept {
-        tables: Tables::new(alloc)?,
+        tables,
         units: Vec::new(alloc),
         records: Vec::new(alloc),
     };
@@ -54,7 +57,7 @@ pub fn scan<'a>(alloc: Global, sections: &Sections<'a>) -> Result<Entries<'a>, S
     let hints = read_hints(alloc, &kept.records, sections.info.len())?;
     Ok(Entries {
         sections: *sections,
-        tables: kept.tables.into_kept(),
+        decls: kept.tables.into_kept(),
         units: kept.units,
         records: kept.records,
         hints,

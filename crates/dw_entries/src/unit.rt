@@ -2,15 +2,16 @@
 
 ghost use Rattle.std.specs.Prelude.{◌≡◌, ◌+◌, ◌≤◌, length, IfOk, IfErr};
 ghost use Rattle.dw_elf.specs.declared.TheConstants.{SECTION_LIMIT};
+ghost use Rattle.dw_forms.specs.AbbrevTables.{AreTablesOf};
 ghost use Rattle.dw_entries.specs.Faults.{in_header, FailsHere};
 ghost use Rattle.dw_entries.specs.Stopped.{IfBroken, UnitTaken};
-ghost use Rattle.dw_entries.specs.Tables.{tables_of, AreTables};
 
 use crate::context::UnitContext;
 use crate::fault::{Break, Broken, Section};
 use crate::header_reader::read_header;
 use crate::record::{Kept, UnitRecord};
 use crate::rule::Rule;
+use crate::tables::unit_table;
 use crate::walk::{UnitPlace, walk_unit};
 use std::alloc::Global;
 
@@ -36,8 +37,7 @@ pub fn take_unit(
 ) -> Result<usize, Break>
     requires fits { at + length rest.now ≤ SECTION_LIMIT }
     requires table_fits { length section.now ≤ SECTION_LIMIT }
-    requires tables { AreTables section.now kept.old.tables }
-    requires few_tables { length (tables_of kept.old.tables) ≤ at }
+    requires tables { AreTablesOf section.now kept.old.tables }
     requires few_entries { length kept.old.records.items ≤ at }
     requires few_units { length kept.old.units.items ≤ at }
     ensures unit { IfOk result (λ len. UnitTaken section.now rest.now at kept.old kept.new len) }
@@ -48,7 +48,7 @@ pub fn take_unit(
         Ok(found) => found,
         Err(rule) => return Err(Break::Broken(in_header(rule, at))),
     };
-    let table = kept.tables.place(alloc, section, header.abbrev_offset)?;
+    let table = unit_table(alloc, &mut kept.tables, section, header.abbrev_offset)?;
     let record = UnitRecord {
         at,
         header,
@@ -60,7 +60,7 @@ pub fn take_unit(
         header: at,
         start: at + header.kind.size() as u32,
     };
-    let context = UnitContext::new(&header, kept.tables.get(table));
+    let context = UnitContext::new(&header, &kept.tables, table);
     walk_unit(alloc, context, header.kind, place, body, &mut kept.records)?;
     kept.units.push(record)?;
     Ok(4 + header.unit_length as usize)

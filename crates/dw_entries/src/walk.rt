@@ -2,13 +2,12 @@
 
 ghost use Rattle.std.specs.Prelude.{◌≡◌, ◌+◌, ◌^◌, ◌<◌, ◌≤◌, [], length, Ok, false, IfSome, IfNone, IfOk, OnOk, IfErr};
 ghost use Rattle.dw_elf.specs.declared.TheConstants.{SECTION_LIMIT};
-ghost use Rattle.dw_forms.specs.SharedTables.{declarations};
 ghost use Rattle.dw_entries.specs.Header.{header_size};
 ghost use Rattle.dw_entries.specs.Reading.{code_at, item_at, seen, null_first};
 ghost use Rattle.dw_entries.specs.Faults.{BodyFails, in_unit};
 ghost use Rattle.dw_entries.specs.Walk.{step, walk_of};
 ghost use Rattle.dw_entries.specs.Stopped.{GivesUnlessMemory, IfBroken, TreeOf, AreAllNulls, NullsThen};
-ghost use Rattle.dw_entries.specs.Units.{context_in};
+ghost use Rattle.dw_entries.specs.Units.{context_in, numbers_in};
 
 use crate::context::UnitContext;
 use crate::fault::{Break, Broken, Failing, Section};
@@ -64,7 +63,7 @@ fn turn<'b>(
     requires few_entries { length records.old.items < 0xffffffff }
     requires few_levels { length levels.old.items < 2 ^ 32 }
     ensures { GivesUnlessMemory (λ after. (walk_of records.new.items levels.new.items, after.now)) result
-        (seen (λ i. step (declarations context.entry.table) unit at i (walk_of records.old.items levels.old.items))
+        (seen (λ i. step (numbers_in context.entry) unit at i (walk_of records.old.items levels.old.items))
         (item_at (context_in context.entry) rest.now)) }
 {
     match read_item(context, rest) {
@@ -101,7 +100,7 @@ fn walk_tree<'b>(
     requires start { place.start ≡ place.header + header_size kind }
     requires fits { place.start + length body.now ≤ SECTION_LIMIT }
     requires few_entries { length records.old.items ≤ place.header }
-    ensures tree { IfOk result (λ rest. TreeOf (context_in context.entry) kind body.now rest.now
+    ensures tree { IfOk result (λ rest. TreeOf (context_in context.entry) (numbers_in context.entry) kind body.now rest.now
         place.number place.start records.old.items records.new.items) }
     ensures fault { IfErr result (IfBroken (BodyFails (context_in context.entry) kind place.header body.now)) }
 {
@@ -164,7 +163,7 @@ pub fn walk_unit(
     requires start { place.start ≡ place.header + header_size kind }
     requires fits { place.start + length body.now ≤ SECTION_LIMIT }
     requires few_entries { length records.old.items ≤ place.header }
-    ensures tree { OnOk result (TreeOf (context_in context.entry) kind body.now []
+    ensures tree { OnOk result (TreeOf (context_in context.entry) (numbers_in context.entry) kind body.now []
         place.number place.start records.old.items records.new.items) }
     ensures fault { IfErr result (IfBroken (BodyFails (context_in context.entry) kind place.header body.now)) }
 {

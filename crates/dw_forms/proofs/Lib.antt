@@ -12,8 +12,9 @@ pub mod TableLaws
 pub mod NumberFaults
 pub mod TableFaults
 pub mod TailLaws
-pub mod RowLaws
-pub mod RowPlaces
+pub mod MapLaws
+pub mod KeptLaws
+pub mod StartLaws
 pub mod RemainderLaws
 pub mod AllowedForms
 pub mod FewAttributes

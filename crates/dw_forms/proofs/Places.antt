@@ -10,7 +10,7 @@ use Rattle.std.proofs.lemmas.List.Elements.{All-map}
 use Rattle.dw_forms.specs.declared.decl.Decl.{Decl}
 use Rattle.dw_forms.specs.Abbrev.{view, views}
 use Rattle.dw_forms.specs.AbbrevReading.{has_code}
-use Rattle.dw_forms.specs.Places.{IsIndex, IsRowIndex, IsPlace, StandsAt}
+use Rattle.dw_forms.specs.Places.{IsIndex, IsPlace, StandsAt}
 use Rattle.dw_forms.proofs.AbbrevSteps.{has_code_views, find_views}
 use Rattle.dw_forms.proofs.Keys.{Apart, Lacks, lacks_from, lacks_test, apart_push, find_at, find_none}
 
@@ -22,21 +22,6 @@ lacks_of code ds e = lacks_from code_of_decl code ds (sym (has_code_views code d
 
 pub index_pushed : (ds : List Decl) (m : BTreeMap ℕ ℕ) (d : Decl) → IsIndex ds m → Lacks code_of_decl d.code ds → (d.code ≢ length ds + 1 → get nat_cmp m d.code ≡ Some (length ds)) → IsIndex (ds ++ d ∷ []) m
 index_pushed ds m d index lacks here = record {
-  distinct = apart_push code_of_decl ds d index.distinct lacks;
-  complete = λ i e lt ne. elim (cases_lt i (length ds)) [
-    | inl low ↦
-        let p : get_or (ds ++ d ∷ []) i e ≡ get_or ds i e = get_or_append_left ds (d ∷ []) e i low in
-        rw p (index.complete i e low (rw p at ne))
-    | inr high ↦
-        let at_end : i ≡ length ds = omega (arith, length-append ds (d ∷ []), lt, high) in
-        let p : get_or (ds ++ d ∷ []) i e ≡ d = get_or_at ds d [] e i (sym at_end) in
-        rw (p, at_end) (here (rw (p, at_end) at ne))
-  ];
-}
-
--- the same in a row, where the place is how far the code is below the base
-pub row_index_pushed : (ds : List Decl) (base : ℕ) (m : BTreeMap ℕ ℕ) (d : Decl) → IsRowIndex ds base m → Lacks code_of_decl d.code ds → (d.code + length ds ≢ base → get nat_cmp m d.code ≡ Some (length ds)) → IsRowIndex (ds ++ d ∷ []) base m
-row_index_pushed ds base m d index lacks here = record {
   distinct = apart_push code_of_decl ds d index.distinct lacks;
   complete = λ i e lt ne. elim (cases_lt i (length ds)) [
     | inl low ↦

@@ -4,7 +4,7 @@ use Rattle.std.proofs.lemmas.List.{length-append, length-take, length-drop, take
 use Rattle.std.proofs.lemmas.List.Elements.{All-cons}
 use Rattle.std.proofs.lemmas.Result.{MatchResult-at_ok}
 use Rattle.dw_forms.specs.declared.abbrev_fault.DeclFault.{DeclFault}
-use Rattle.dw_forms.specs.declared.row_reader.Started.{Started}
+use Rattle.dw_forms.specs.declared.front_reader.Started.{Started}
 use Rattle.dw_forms.specs.declared.abbrev_fault.DeclError.{DeclError}
 use Rattle.dw_forms.specs.declared.abbrev_fault.DeclError.TheVariants as errors
 use Rattle.dw_forms.specs.declared.abbrev_fault.AbbrevFault.{AbbrevFault}
@@ -14,7 +14,7 @@ use Rattle.dw_forms.specs.Front.{Takes}
 use Rattle.dw_forms.specs.Abbrev.{Declaration, view, SpellsTable, IsDeclaration, AreDeclarations, DeclFails, Decls, TableFails}
 use Rattle.dw_forms.specs.AbbrevReading.{Fails, decl_at, decls_of, decls_from, table_at, TableFails as ReadingFails}
 use Rattle.dw_forms.specs.Readers.{read_is, not_both}
-use Rattle.dw_forms.specs.Rows.{NoTable, AreBehind, IfBroken}
+use Rattle.dw_forms.specs.TableStarts.{NoTable, AreBehind, IfBroken}
 use Rattle.dw_forms.proofs.Keys.{Apart, Lacks}
 use Rattle.dw_forms.proofs.AttributesLaws.{uleb_some}
 use Rattle.dw_forms.proofs.DeclLaws.{code_of_decl, NextDecl, decl_says, end_again, next_again}

@@ -30,6 +30,7 @@ pub mod Remainders
 pub mod Places
 pub mod FirstPlaces
 pub mod Planned
-pub mod Rows
-pub mod SharedTables
-pub mod RowStores
+pub mod CodeMaps
+pub mod KeptDecls
+pub mod TableStarts
+pub mod AbbrevTables

@@ -10,11 +10,6 @@ pub record IsIndex (decls : List Decl) (elsewhere : BTreeMap ℕ ℕ) : Type 0 w
   pub distinct : AllPairs (λ c d. c.code ≢ d.code) decls
   pub complete : (i : ℕ) (d : Decl) → i < length decls → (get_or decls i d).code ≢ i + 1 → get nat_cmp elsewhere (get_or decls i d).code ≡ Some i
 
--- the codes differ, and each that isn't as far below the base as its declaration stands from the first one leads to its place
-pub record IsRowIndex (decls : List Decl) (base : ℕ) (elsewhere : BTreeMap ℕ ℕ) : Type 0 where
-  pub distinct : AllPairs (λ c d. c.code ≢ d.code) decls
-  pub complete : (i : ℕ) (d : Decl) → i < length decls → (get_or decls i d).code + i ≢ base → get nat_cmp elsewhere (get_or decls i d).code ≡ Some i
-
 -- the declaration at the place has the code, or none has it
 abbrev pub IsPlace : List Decl → ℕ → Option ℕ → Type 0
 IsPlace decls code None = All (λ d. d.code ≢ code) decls

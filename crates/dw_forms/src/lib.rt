@@ -4,37 +4,34 @@
 mod abbrev;
 mod abbrev_fault;
 mod abbrev_reader;
+mod abbrev_tables;
 mod attribute_index;
 mod attributes;
+mod code_maps;
 pub mod constants;
 mod decl;
-mod decl_row;
-mod decl_rows;
 mod form;
+mod front_reader;
 mod laws;
 mod layout_reader;
 mod leb;
 mod number;
 mod plan;
-mod row_reader;
-mod shared_table;
 mod value;
 mod value_reader;
 
 pub use abbrev::AbbrevTable;
 pub use abbrev_fault::{AbbrevFault, AbbrevRule, BrokenTable};
 pub use abbrev_reader::read_table;
+pub use abbrev_tables::{AbbrevTables, KeptDecl};
 pub use attributes::Attributes;
 pub use constants::{Attribute, Language, Tag};
 pub use decl::{AttributeSpec, Decl};
-pub use decl_row::DeclRow;
-pub use decl_rows::DeclRows;
 pub use form::Form;
 pub use laws::{
     fixed_values_take_their_sum, signed_numbers_are_apart, tables_are_apart,
     tables_are_read_by_grammar, unsigned_numbers_are_apart, values_are_apart,
 };
 pub use leb::{NumberFault, read_sleb, read_uleb};
-pub use shared_table::{RowPlace, SharedTable};
 pub use value::{Value, ValueFault};
 pub use value_reader::{read_value, skip_value};

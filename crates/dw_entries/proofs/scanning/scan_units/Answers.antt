@@ -1,9 +1,6 @@
 use Rattle.std.proofs.Common.{arith}
-use Rattle.dw_entries.proofs.ScanLaws.{upto_start, upto_next, upto_end, upto_few_tables, upto_few_units, upto_few_entries, unit_within, rest_of}
+use Rattle.dw_entries.proofs.ScanLaws.{upto_start, upto_next, upto_end, upto_few_units, upto_few_entries, unit_within, rest_of}
 use Rattle.dw_entries.proofs.scanning.scan_units.Goals as goal
-
-pub take_unit-requires-clause-few_tables : goal.take_unit-requires-clause-few_tables
-take_unit-requires-clause-few_tables c = upto_few_tables c.args.section.now c.args.info.now c.loop-at.at c.loop-at.kept c.loop-at.invariant.upto
 
 pub take_unit-requires-clause-few_units : goal.take_unit-requires-clause-few_units
 take_unit-requires-clause-few_units c = upto_few_units c.args.section.now c.args.info.now c.loop-at.at c.loop-at.kept c.loop-at.invariant.upto
@@ -24,6 +21,6 @@ returns-clause-all c = upto_end c.args.section.now c.args.info.now c.loop-at.at 
 
 pub loop-at-init : goal.loop-at-init
 loop-at-init c = record {
-  upto = upto_start c.args.section.now c.args.info.now _ c.in_ok-new.ensures.none (c.in_ok-new.ensures.tables c.args.section.now) c.new-2.ensures.items c.new-3.ensures.items;
+  upto = upto_start c.args.section.now c.args.info.now _ (c.in-Ok.ensures.tables c.args.section.now) c.new-2.ensures.items c.new-3.ensures.items;
   within = omega arith;
 }

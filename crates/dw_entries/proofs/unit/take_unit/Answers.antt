@@ -1,15 +1,10 @@
 use Rattle.std.proofs.Common.{◌∙◌, arith}
-use Rattle.dw_forms.specs.SharedTables.{declarations}
-use Rattle.dw_entries.specs.Tables.{tables_of}
 use Rattle.dw_entries.proofs.HeaderReads.{slice_bytes}
-use Rattle.dw_entries.proofs.UnitSteps.{read_size, read_offset, read_start, table_within, unit_taken}
+use Rattle.dw_entries.proofs.UnitSteps.{read_size, read_offset, read_start, unit_taken}
 use Rattle.dw_entries.proofs.unit.take_unit.Goals as goal
 
-pub place-requires-clause-offset : goal.place-requires-clause-offset
-place-requires-clause-offset c = read_offset c.args.section.now c.args.rest.now c.in-Ok.found.0 c.in-Ok.found.1.now (slice_bytes c.args.rest.now c.type_inv.rest) c.in-Ok.ensures
-
-pub get-requires-clause-place : goal.get-requires-clause-place
-get-requires-clause-place c = table_within c.args.section.now c.in-Ok.found.0.abbrev_offset c.in_ok-table.table (tables_of c.place.new.self) c.in_ok-table.ensures.found
+pub unit_table-requires-clause-offset : goal.unit_table-requires-clause-offset
+unit_table-requires-clause-offset c = read_offset c.args.section.now c.args.rest.now c.in-Ok.found.0 c.in-Ok.found.1.now (slice_bytes c.args.rest.now c.type_inv.rest) c.in-Ok.ensures
 
 pub new-context-requires-clause-size : goal.new-context-requires-clause-size
 new-context-requires-clause-size c = read_size c.args.section.now c.args.rest.now c.in-Ok.found.0 c.in-Ok.found.1.now (slice_bytes c.args.rest.now c.type_inv.rest) c.in-Ok.ensures
@@ -17,8 +12,8 @@ new-context-requires-clause-size c = read_size c.args.section.now c.args.rest.no
 pub returns-clause-unit : goal.returns-clause-unit
 returns-clause-unit c =
     unit_taken c.args.section.now c.args.rest.now c.in-Ok.found.0 c.in-Ok.found.1.now (slice_bytes c.args.rest.now c.type_inv.rest) c.in-Ok.ensures c.args.at _ c.in_ok-table.table c.len.result c.len-2.result
-    c.args.kept.now (record { tables = c.place.new.self; units = c.push.new.self; records = c.walk_unit.new.records }) (declarations c.get.result)
-    (search c.size.ensures) (c.len.ensures ∙ c.args.kept.now.records.ok.0) (c.len-2.ensures ∙ c.args.kept.now.units.ok.0) c.in_ok-table.ensures.found c.get.ensures c.in_ok-table.ensures.tables c.in_ok-table.ensures.stay c.in_ok-push.ensures.items (rw c.new-context.ensures at c.in_ok-walk_unit.ensures.tree)
+    c.args.kept.now (record { tables = c.unit_table.new.tables; units = c.push.new.self; records = c.walk_unit.new.records })
+    (search c.size.ensures) (c.len.ensures ∙ c.args.kept.now.records.ok.0) (c.len-2.ensures ∙ c.args.kept.now.units.ok.0) c.in_ok-table.ensures.found c.in_ok-table.ensures.tables c.in_ok-table.ensures.stay c.in_ok-push.ensures.items (rw (c.new-context.ensures.context, c.new-context.ensures.numbers) at c.in_ok-walk_unit.ensures.tree)
 
 pub walk_unit-requires-clause-fits : goal.walk_unit-requires-clause-fits
 walk_unit-requires-clause-fits c =

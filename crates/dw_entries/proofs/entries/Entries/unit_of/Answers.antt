@@ -1,6 +1,5 @@
-use Rattle.dw_entries.specs.Scanned.{units_of}
 use Rattle.dw_entries.proofs.RunLaws.{record_unit}
 use Rattle.dw_entries.proofs.entries.Entries.unit_of.Goals as goal
 
 pub returns : goal.returns
-returns c = record_unit (units_of c.args.self.now.scanned) c.args.id c.record.result c.record.ensures
+returns c = record_unit _ _ _ _ _ c.args.self.now.scanned c.args.id c.record.result c.record.ensures

@@ -1,0 +1,30 @@
+use Rattle.std.proofs.Common.{rules, ◌≡◌, ℕ, suc, length, arith, refl, subst}
+use Rattle.dw_forms.specs.CodeMaps.{Puts}
+use Rattle.dw_forms.specs.KeptDecls.{numbered_in, tables_of}
+use Rattle.dw_forms.proofs.KeptLaws.{none_has, some_has, are_numbered, tables_long, tables_more, kept_more}
+use Rattle.dw_forms.proofs.abbrev_tables.push.Goals as goal
+
+pub returns-then-find_in-ne0-clause-added : goal.returns-then-find_in-ne0-clause-added
+returns-then-find_in-ne0-clause-added c =
+    let found = rw c.deref.ensures.value at c.find_in.ensures in
+    let some = c.if-find_in-ne0.true in
+    (some_has (numbered_in (tables_of c.args.kept.now.items) c.args.rest) c.args.decl.code (λ e. omega (arith, found, some, e)), refl)
+
+pub returns-clause-kept : goal.returns-clause-kept
+returns-clause-kept c =
+    let number : c.in_ok-number.number ≡ suc (length c.args.kept.now.items) = omega (arith, c.in_ok-number.ensures.ok, c.len.ensures) in
+    rw c.in_ok-push.ensures.items
+    (kept_more c.args.maps.now.nodes.items c.insert.new.self.nodes.items c.args.kept.now.items _ c.requires.kept c.in_ok-codes.ensures.stay
+    c.codes_of-codes.result (search rules) (rw c.deref-2.ensures.value at c.run_before-run.ensures.short)
+    (rw c.deref-2.ensures.value at c.run_before-run.ensures.run) (rw c.deref-3.ensures.value at c.codes_of-codes.ensures)
+    (subst (λ (n : ℕ). Puts c.args.maps.now.nodes.items c.insert.new.self.nodes.items c.codes_of-codes.result c.args.decl.code n c.in_ok-codes.codes) number c.in_ok-codes.ensures.puts)
+    c.in_ok-codes.ensures.nodes)
+
+pub returns-clause-added : goal.returns-clause-added
+returns-clause-added c =
+    let found = rw c.deref.ensures.value at c.find_in.ensures in
+    let none = c.if-find_in-ne0.false in
+    let number : c.in_ok-number.number ≡ length (tables_of c.args.kept.now.items) = omega (arith, c.in_ok-number.ensures.ok, c.len.ensures, tables_long c.args.kept.now.items) in
+    let table = numbered_in (tables_of c.args.kept.now.items) c.args.rest in
+    let own = are_numbered c.args.kept.now.items c.args.rest in
+    (none_has c.args.kept.now.items table c.args.decl.code own (omega (arith, found, none)), number, rw (c.in_ok-push.ensures.items, number) (tables_more c.args.kept.now.items _))

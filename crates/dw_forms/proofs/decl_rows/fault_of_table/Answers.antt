@@ -1,5 +1,0 @@
-use Rattle.dw_forms.proofs.TailLaws.{broken_by}
-use Rattle.dw_forms.proofs.decl_rows.fault_of_table.Goals as goal
-
-pub returns-clause-broken : goal.returns-clause-broken
-returns-clause-broken c = broken_by c.args.section.now c.args.offset c.in-Err.fault c.requires.offset c.in-Err.ensures.exact

@@ -1,0 +1,69 @@
+-- State: the abbreviation tables of a section, with each declaration kept once. Declarations are numbered from 1 in the order
+-- in which they are kept. A table is a declaration and the table after it, and has the number of its first
+-- declaration; the table 0 has no declarations.
+use Rattle.std.specs.Prelude.{◌≡◌, ℕ, zero, suc, ◌+◌, ◌-◌, ◌<◌, ◌≤◌, ◌^◌, List, [], ◌∷◌, ◌++◌, length, map, Option, None, Some, get_or, slice_get, option_map, ◌==◌, if◌then◌else◌}
+use Rattle.dw_forms.specs.declared.code_maps.Node.{Node}
+use Rattle.dw_forms.specs.declared.abbrev_tables.KeptDecl.{KeptDecl}
+use Rattle.dw_forms.specs.Abbrev.{Declaration, view}
+use Rattle.dw_forms.specs.CodeMaps.{AreNodes, found}
+
+-- a declaration and its number
+pub record Numbered : Type 0 where
+  pub number : ℕ
+  pub decl : Declaration
+
+-- the declarations of a table
+abbrev pub declarations : List Numbered → List Declaration
+declarations table = map (λ n. n.decl) table
+
+-- the table of this number
+abbrev pub numbered_in : List (List Numbered) → ℕ → List Numbered
+numbered_in tables number = get_or tables number []
+
+-- the declarations of the table of this number
+abbrev pub table_in : List (List Numbered) → ℕ → List Declaration
+table_in tables number = declarations (numbered_in tables number)
+
+-- these tables, and one more for each of the declarations
+unfoldable pub tables_from : List (List Numbered) → List KeptDecl → List (List Numbered)
+tables_from tables [] = tables
+tables_from tables (k ∷ kept) = tables_from (tables ++ (record { number = length tables; decl = view k.decl } ∷ numbered_in tables k.rest) ∷ []) kept
+
+-- all tables, by their numbers
+abbrev pub tables_of : List KeptDecl → List (List Numbered)
+tables_of kept = tables_from ([] ∷ []) kept
+
+-- the declaration of this number
+abbrev pub decl_of : List KeptDecl → ℕ → Option Declaration
+decl_of kept zero = None
+decl_of kept (suc k) = option_map (λ x. view x.decl) (slice_get kept k)
+
+-- the number of the table's declaration with this code, or 0
+unfoldable pub number_in : List Numbered → ℕ → ℕ
+number_in [] code = 0
+number_in (n ∷ table) code = if n.decl.code == code then n.number else number_in table code
+
+-- each declaration of the table is the one of its number
+abbrev pub AreNumbered : List KeptDecl → List Numbered → Type 0
+AreNumbered kept [] = Unit {0}
+AreNumbered kept (n ∷ table) = (decl_of kept n.number ≡ Some n.decl) × AreNumbered kept table
+
+-- the map has the numbers of the table's declarations
+abbrev pub IsMapOf : List Node → List Numbered → ℕ → Type 0
+IsMapOf nodes table codes = (codes < length nodes) × ((code : ℕ) → code < 2 ^ 64 → found nodes codes code ≡ number_in table code)
+
+-- so many codes from this one on have the numbers from this one down
+abbrev pub IsRun : List Numbered → ℕ → ℕ → ℕ → Type 0
+IsRun table run code number = (i : ℕ) → i < run → number_in table (code + i) ≡ number - i
+
+-- the declaration of this number says how codes are found in its table
+pub record IsFoundBy (nodes : List Node) (kept : List KeptDecl) (number : ℕ) (k : KeptDecl) : Type 0 where
+  pub short : k.run ≤ number
+  pub run : IsRun (numbered_in (tables_of kept) number) k.run k.decl.code number
+  pub codes : IsMapOf nodes (numbered_in (tables_of kept) number) k.codes
+
+-- codes are found in the tables of these declarations
+pub record AreKept (nodes : List Node) (kept : List KeptDecl) : Type 0 where
+  pub are_nodes : AreNodes nodes
+  pub none : IsMapOf nodes [] 0
+  pub each : (k : ℕ) (x : KeptDecl) → k < length kept → x ≡ get_or kept k x → IsFoundBy nodes kept (suc k) x

@@ -1,0 +1,236 @@
+//! The abbreviation tables of a section (DWARF 5, 7.5.3).
+
+ghost use Rattle.std.specs.Prelude.{◌≡◌, ◌==◌, ◌+◌, ◌-◌, ◌<◌, ◌≤◌, ℕ, suc, [], List, length, find, option_map, IfOk, IfErr, IfSome, OnOk};
+ghost use Rattle.dw_forms.specs.AbbrevFaults.{IfFault, IfTableFault};
+ghost use Rattle.dw_forms.specs.Abbrev.{view, AreDeclarations, TableFails};
+ghost use Rattle.dw_forms.specs.AbbrevReading.{table_at, TableFails as ReadingFails};
+ghost use Rattle.dw_forms.specs.KeptDecls.{numbered_in, table_in, tables_of, number_in, decl_of, IsMapOf, IsRun, AreKept};
+ghost use Rattle.dw_forms.specs.TableStarts.{IsTableIn, AreStarts, Stay, NoTable, AreBehind, GoesOn, Added, IsWhole};
+ghost use Rattle.dw_forms.specs.AbbrevTables.{tables_in, AreSearchable, AreTablesOf};
+
+use crate::abbrev_fault::{AbbrevFault, DeclError};
+use crate::abbrev_reader::{no_marks, read_table};
+use crate::code_maps::{CodeMaps, next_number};
+use crate::decl::Decl;
+use crate::front_reader::{Front, Started, read_front};
+use std::alloc::Global;
+use std::collections::BTreeMap;
+
+/// A declaration that is kept, and how codes are found in the table that begins with it.
+#[derive(Debug, Drop)]
+pub struct KeptDecl {
+    pub decl: Decl,
+    /// The table after it.
+    pub rest: u32,
+    /// How many codes count up from its own while their declarations' numbers count down.
+    pub run: u32,
+    /// The map from the table's codes to the numbers of their declarations.
+    pub codes: u32,
+}
+
+/// The abbreviation tables of a section, with each declaration kept once. Declarations are numbered from 1. A table has
+/// the number of its first declaration; the table 0 has none.
+#[derive(Debug, Drop)]
+pub struct AbbrevTables {
+    pub(crate) kept: Vec<KeptDecl>,
+    pub(crate) maps: CodeMaps,
+    /// The table that begins at an offset.
+    pub(crate) starts: BTreeMap<usize, u32>,
+    /// Marks for no attributes, one for each code of 16 bits.
+    pub(crate) marks: Vec<bool>,
+}
+
+/// The number of the declaration of a table that has this code, or 0.
+#[inline(always)]
+#[tactic(auto, using(crate::proofs::KeptLaws::none_number))]
+fn find_in(kept: &[KeptDecl], maps: &CodeMaps, table: u32, code: u64) -> u32
+    requires table { table ≤ length kept.now }
+    requires kept { AreKept maps.now.nodes.items kept.now }
+    ensures { result ≡ number_in (numbered_in (tables_of kept.now) table) code }
+{
+    if table == 0 {
+        return 0;
+    }
+    let first = &kept[(table - 1) as usize];
+    let base = first.decl.code;
+    if base <= code && code - base < first.run as u64 {
+        table - (code - base) as u32
+    } else {
+        maps.get(first.codes, code)
+    }
+}
+
+/// The map of the codes of a table.
+fn codes_of(kept: &[KeptDecl], maps: &CodeMaps, table: u32) -> u32
+    requires table { table ≤ length kept.now }
+    requires kept { AreKept maps.now.nodes.items kept.now }
+    ensures { IsMapOf maps.now.nodes.items (numbered_in (tables_of kept.now) table) result }
+{
+    if table == 0 {
+        return 0;
+    }
+    kept[(table - 1) as usize].codes
+}
+
+/// How many codes count up from this one while their declarations' numbers count down, for the next declaration that is kept.
+fn run_before(kept: &[KeptDecl], maps: &CodeMaps, rest: u32, code: u64) -> u32
+    requires rest { rest ≤ length kept.now }
+    requires kept { AreKept maps.now.nodes.items kept.now }
+    ensures short { result ≤ length kept.now + 1 }
+    ensures run { (i : ℕ) → i + 1 < result → number_in (numbered_in (tables_of kept.now) rest) (code + (i + 1)) ≡ length kept.now - i }
+{
+    if rest != 0 && rest as usize == kept.len() {
+        let next = &kept[(rest - 1) as usize];
+        if code < next.decl.code && next.decl.code - code == 1 && next.run < 0xffff_ffff {
+            return next.run + 1;
+        }
+    }
+    1
+}
+
+/// Keeps the declaration before a table, and returns the number of the table that begins with it. None if its code is in
+/// the table already.
+fn push(
+    kept: &mut Vec<KeptDecl>,
+    maps: &mut CodeMaps,
+    rest: u32,
+    decl: Decl,
+) -> Result<Option<u32>, AbbrevFault>
+    requires rest { rest ≤ length kept.old.items }
+    requires kept { AreKept maps.old.nodes.items kept.old.items }
+    ensures kept { OnOk result (AreKept maps.new.nodes.items kept.new.items) }
+    ensures added { IfOk result (Added (view decl) rest kept.old.items kept.new.items) }
+    ensures err { IfFault result (λ _. ⊥) }
+{
+    if find_in(kept, maps, rest, decl.code) != 0 {
+        return Ok(None);
+    }
+    let number = next_number(kept.len() + 1)?;
+    let run = run_before(kept, maps, rest, decl.code);
+    let codes = codes_of(kept, maps, rest);
+    let codes = maps.insert(codes, decl.code, number)?;
+    kept.push(KeptDecl {
+        decl,
+        rest,
+        run,
+        codes,
+    })?;
+    Ok(Some(number))
+}
+
+/// Keeps the declarations before a table, the last one first, and returns the number of the table that begins with the
+/// first. None if a code would be in a table twice. The section and the offset are what the clauses are about.
+fn keep(
+    kept: &mut Vec<KeptDecl>,
+    maps: &mut CodeMaps,
+    starts: &mut BTreeMap<usize, u32>,
+    section: &[u8],
+    offset: usize,
+    front: Front,
+) -> Result<Option<u32>, AbbrevFault>
+    requires kept { AreKept maps.old.nodes.items kept.old.items }
+    requires starts { AreStarts section.now (tables_of kept.old.items) starts.old }
+    requires front { AreBehind section.now front.decls.items offset front.end }
+    requires goes_on { GoesOn section.now starts.old front.end front.rest }
+    ensures kept { OnOk result (AreKept maps.new.nodes.items kept.new.items) }
+    ensures starts { OnOk result (AreStarts section.now (tables_of kept.new.items) starts.new) }
+    ensures stay { OnOk result (Stay (tables_of kept.old.items) (tables_of kept.new.items)) }
+    ensures whole { IfOk result (IsWhole section.now (tables_of kept.new.items) offset) }
+    ensures err { IfFault result (λ _. ⊥) }
+{
+    let mut table = front.rest;
+    let mut decls = front.decls;
+    while let Some(Started { start, decl }) = decls.pop() {
+        let Some(longer) = push(kept, maps, table, decl)? else {
+            return Ok(None);
+        };
+        starts.insert(start, longer)?;
+        table = longer;
+    }
+    Ok(Some(table))
+}
+
+/// The fault of a table that can't be read.
+fn fault_of_table(alloc: Global, section: &[u8], offset: usize) -> AbbrevFault
+    requires offset { offset ≤ length section.now }
+    requires none { NoTable section.now offset }
+    ensures broken { IfTableFault (TableFails section.now offset) result }
+    // For callers that reason by steps.
+    ensures exact { ReadingFails result (table_at section.now offset) }
+{
+    match read_table(alloc, section, offset) {
+        Ok(_) => unreachable!(),
+        Err(fault) => fault,
+    }
+}
+
+impl AbbrevTables {
+    /// No tables.
+    pub fn new(alloc: Global) -> Result<AbbrevTables, AbbrevFault>
+        ensures none { IfOk result (λ t. t.kept.items ≡ []) }
+        ensures tables { IfOk result (λ t. (section : List ℕ) → AreTablesOf section t) }
+        ensures err { IfFault result (λ _. ⊥) }
+    {
+        Ok(AbbrevTables {
+            kept: Vec::new(alloc),
+            maps: CodeMaps::new(alloc)?,
+            starts: BTreeMap::new(alloc),
+            marks: no_marks(alloc)?,
+        })
+    }
+
+    /// Reads the table that begins at an offset of .debug_abbrev, and returns its number. A declaration that is kept is
+    /// not read again.
+    pub fn read(&mut self, alloc: Global, section: &[u8], offset: usize) -> Result<u32, AbbrevFault>
+        requires offset { offset ≤ length section.now }
+        requires tables { AreTablesOf section.now self.old }
+        ensures found { IfOk result (IsTableIn section.now (tables_in self.new) offset) }
+        ensures allowed { IfOk result (λ table. AreDeclarations (table_in (tables_in self.new) table)) }
+        ensures fewer { IfOk result (λ table. length (table_in (tables_in self.new) table) < length section.now) }
+        ensures tables { OnOk result (AreTablesOf section.now self.new) }
+        ensures stay { OnOk result (Stay (tables_in self.old) (tables_in self.new)) }
+        ensures fault { IfErr result (IfTableFault (TableFails section.now offset)) }
+        // For callers that reason by steps.
+        ensures exact { IfErr result (λ e. ReadingFails e (table_at section.now offset)) }
+    {
+        let marks = self.marks.as_mut_slice();
+        let front = match read_front(alloc, &self.starts, marks, section, offset) {
+            Ok(front) => front,
+            Err(DeclError::Memory) => return Err(AbbrevFault::Memory),
+            Err(DeclError::Fault(_)) => return Err(fault_of_table(alloc, section, offset)),
+        };
+        match keep(
+            &mut self.kept,
+            &mut self.maps,
+            &mut self.starts,
+            section,
+            offset,
+            front,
+        )? {
+            Some(table) => Ok(table),
+            None => Err(fault_of_table(alloc, section, offset)),
+        }
+    }
+
+    /// The declaration of a table that has this code, and its number.
+    #[inline(always)]
+    pub fn get(&self, table: u32, code: u64) -> Option<(u32, &Decl)>
+        requires searchable { AreSearchable self.now }
+        requires table { table < length (tables_in self.now) }
+        ensures decl { option_map (λ found. view found.1.now) result ≡ find (λ d. d.code == code) (table_in (tables_in self.now) table) }
+        ensures number { IfSome result (λ found. found.0 ≡ number_in (numbered_in (tables_in self.now) table) code) }
+    {
+        let number = find_in(&self.kept, &self.maps, table, code);
+        if number == 0 {
+            return None;
+        }
+        Some((number, &self.kept[(number - 1) as usize].decl))
+    }
+
+    /// The declarations of all tables. The declaration of a number is at the place before it.
+    pub fn into_kept(self) -> Vec<KeptDecl>
+        ensures { result.items ≡ self.kept.items }
+    {
+        self.kept
+    }
+}
