@@ -243,6 +243,7 @@ pub fn declare_all(alloc: Global, image: &Image<'_>) -> Result<Listing, NoMemory
     let survey = Survey::new(alloc, image, &subjects)?;
     let levels = levels_of(alloc, image)?;
     let mut judged = judge(alloc, &survey, &named, &subjects, &levels)?;
+    drop(levels);
     sort_listed(&mut judged.listed)?;
     let mut text = Vec::new(alloc);
     put_listed(alloc, &mut text, &survey, &subjects, &judged.listed)?;

@@ -1,6 +1,6 @@
 //! The entries that are reached by spelling steps.
 
-ghost use Rattle.std.specs.Prelude.{◌≡◌, ◌++◌, ◌<◌, [], ◌∷◌, length, map, All, IfOk, OnOk};
+ghost use Rattle.std.specs.Prelude.{◌≡◌, ◌++◌, ◌^◌, ◌<◌, [], ◌∷◌, length, map, All, IfOk, OnOk};
 ghost use Rattle.dw_types.specs.Graphs.{LeadsToNodes};
 ghost use Rattle.dw_cprint.specs.Reach.{ArePlaces, FindsAll, IsReachOf, items_of};
 ghost use Rattle.dw_image.specs.Images.{entries_in};
@@ -20,7 +20,7 @@ use std::alloc::{AllocError, Global};
 #[derive(Drop)]
 pub struct Reached<'a> {
     /// The node of each entry that is found, by the entry's number.
-    pub places: Vec<usize>,
+    pub places: Vec<u32>,
     /// The entry of each node.
     pub found: Vec<usize>,
     /// The shape of each node's entry.
@@ -52,40 +52,42 @@ impl<'a> StepGraph for Reached<'a> {
 
 /// The place of an entry, the next one if it was not found before.
 fn place_of(
-    places: &mut Vec<usize>,
+    places: &mut Vec<u32>,
     found: &mut Vec<usize>,
     entry: usize,
 ) -> Result<usize, AllocError>
     requires placed { ArePlaces places.old.items found.old.items }
     requires within { entry < length places.old.items }
+    requires few { length places.old.items < 2 ^ 32 }
     ensures row { IfOk result (λ place. FindsAll (entry ∷ [])
         places.old.items places.new.items found.old.items found.new.items (place ∷ [])) }
     ensures places { length places.new.items ≡ length places.old.items }
 {
-    let place = places[entry];
+    let place = places[entry] as usize;
     if place < found.len() && found[place] == entry {
         return Ok(place);
     }
     let place = found.len();
     found.push(entry)?;
-    places[entry] = place;
+    places[entry] = place as u32;
     Ok(place)
 }
 
 /// The places of types; those that are new are found.
 fn row_of(
     alloc: Global,
-    places: &mut Vec<usize>,
+    places: &mut Vec<u32>,
     found: &mut Vec<usize>,
     types: &[TypeAt],
 ) -> Result<Vec<usize>, AllocError>
     requires placed { ArePlaces places.old.items found.old.items }
     requires within { All (λ to. to < length places.old.items) (entries_of types.now) }
+    requires few { length places.old.items < 2 ^ 32 }
     ensures row { IfOk result (λ row. FindsAll (entries_of types.now)
         places.old.items places.new.items found.old.items found.new.items row.items) }
     ensures places { length places.new.items ≡ length places.old.items }
 {
-    let mut row = Vec::new(alloc);
+    let mut row = Vec::with_capacity(alloc, types.len())?;
     for at in types {
         if let Some(entry) = *at {
             row.push(place_of(places, found, entry)?)?;
@@ -188,7 +190,8 @@ pub fn reach<'a>(
 {
     let mut places = vec![in alloc; 0; image.entries()]?;
     let mut found = Vec::new(alloc);
-    let _roots = row_of(alloc, &mut places, &mut found, types)?;
+    let roots = row_of(alloc, &mut places, &mut found, types)?;
+    drop(roots);
     let mut shapes = Vec::new(alloc);
     let mut rows = Vec::new(alloc);
     while rows.len() < found.len() {

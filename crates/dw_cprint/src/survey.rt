@@ -45,8 +45,10 @@ impl<'a> Survey<'a> {
     {
         let types = all_types(alloc, subjects)?;
         let reached = reach(alloc, image, &types)?;
+        drop(types);
         let clear = clear_nodes(alloc, &reached)?;
         let depths = longest_rows(alloc, &reached, &clear)?;
+        drop(reached.rows);
         let summaries = summarize(alloc, reached.places, &reached.shapes, &clear)?;
         Ok(Survey {
             shapes: reached.shapes,
@@ -60,7 +62,7 @@ impl<'a> Survey<'a> {
         ensures { result ≡ depth_at self.now entry }
     {
         match self.summaries.places.get(entry) {
-            Some(place) => match self.depths.get(*place) {
+            Some(place) => match self.depths.get(*place as usize) {
                 Some(depth) => *depth,
                 None => 0,
             },

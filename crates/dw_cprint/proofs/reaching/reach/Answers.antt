@@ -9,21 +9,30 @@ use Rattle.dw_cprint.specs.Regular.{IsRegular}
 use Rattle.dw_cprint.specs.Shapes.{ShapeOf, view_shape}
 use Rattle.dw_cprint.specs.Steps.{entries_of, steps_reached, types_reached}
 use Rattle.dw_cprint.specs.declared.shape.Shape.{Shape}
+use Rattle.dw_cprint.proofs.LevelLemmas.{few-entries}
 use Rattle.dw_cprint.proofs.ReachLemmas.{so_far-start, so_far-more, so_far-done, read-done, leads-so_far, room, fewer-left}
 use Rattle.dw_cprint.proofs.WithinLemmas.{shape_within}
 use Rattle.dw_cprint.proofs.reaching.reach.Goals as goal
 
 pub loop-alloc-init : goal.loop-alloc-init
 loop-alloc-init c =
-    let P : List ℕ → Type 0 = λ f. FindsAll (entries_of c.args.types.now) c.in_ok-places.places.items c.row_of.new.places.items f c.row_of.new.found.items c.in_ok-_roots._roots.items in
+    let P : List ℕ → Type 0 = λ f. FindsAll (entries_of c.args.types.now) c.in_ok-places.places.items c.row_of.new.places.items f c.row_of.new.found.items c.in_ok-roots.roots.items in
     let R : List Shape → Type 0 = λ xs. All (λ (shape : Shape). IsRegular (view_shape shape)) xs in
     let long : length c.in_ok-places.places.items ≡ c.entries.result = search rules in (
       so_far-start (shape_in c.args.image.now) (entries_of c.args.types.now) c.in_ok-places.places.items c.row_of.new.places.items c.row_of.new.found.items c.new-rows.result.items
-          (map view_shape c.new-shapes.result.items) c.in_ok-_roots._roots.items c.new-rows.ensures.items (ap (map view_shape) c.new-shapes.ensures.items)
-          (subst P c.new-found.ensures.items c.in_ok-_roots.ensures.row),
-      c.in_ok-_roots.ensures.places ∙ (long ∙ c.entries.ensures),
+          (map view_shape c.new-shapes.result.items) c.in_ok-roots.roots.items c.new-rows.ensures.items (ap (map view_shape) c.new-shapes.ensures.items)
+          (subst P c.new-found.ensures.items c.in_ok-roots.ensures.row),
+      c.in_ok-roots.ensures.places ∙ (long ∙ c.entries.ensures),
       subst R (sym c.new-shapes.ensures.items) (All-nil (λ (shape : Shape). IsRegular (view_shape shape))),
     )
+
+pub row_of-requires-clause-few : goal.row_of-requires-clause-few
+row_of-requires-clause-few c =
+    let long : length c.in_ok-places.places.items ≡ c.entries.result = search rules in
+    omega (arith, few-entries c.args.image.now, long, c.entries.ensures)
+
+pub row_of-requires-in-loop-alloc-clause-few : goal.row_of-requires-in-loop-alloc-clause-few
+row_of-requires-in-loop-alloc-clause-few c = omega (arith, few-entries c.args.image.now, c.loop-alloc.invariant.1)
 
 pub shape_at-requires : goal.shape_at-requires
 shape_at-requires c =
