@@ -118,11 +118,10 @@ fn put_parameter_types(types: &mut Vec<TypeAt>, parameters: &[Parameter]) -> Res
     Ok(())
 }
 
-/// The types that an entry leads to where it is reached.
-pub fn reached_types(alloc: Global, shape: &Shape<'_>) -> Result<Vec<TypeAt>, AllocError>
-    ensures { IfOk result (λ types. types.items ≡ types_reached (view_shape shape.now)) }
+/// Appends the types that an entry leads to where it is reached.
+fn put_reached_types(types: &mut Vec<TypeAt>, shape: &Shape<'_>) -> Result<(), AllocError>
+    ensures { OnOk result (types.new.items ≡ types.old.items ++ types_reached (view_shape shape.now)) }
 {
-    let mut types = Vec::new(alloc);
     match shape {
         Shape::Qualified(_, at) => types.push(*at)?,
         Shape::Pointer(at) => types.push(*at)?,
@@ -130,12 +129,34 @@ pub fn reached_types(alloc: Global, shape: &Shape<'_>) -> Result<Vec<TypeAt>, Al
         Shape::Function(at, None) => types.push(*at)?,
         Shape::Function(at, Some(parameters)) => {
             types.push(*at)?;
-            put_parameter_types(&mut types, parameters)?;
+            put_parameter_types(types, parameters)?;
         }
-        Shape::Body(_, _, members) => put_member_types(&mut types, members)?,
+        Shape::Body(_, _, members) => put_member_types(types, members)?,
         _ => {}
     }
+    Ok(())
+}
+
+/// The types that an entry leads to where it is reached.
+pub fn reached_types(alloc: Global, shape: &Shape<'_>) -> Result<Vec<TypeAt>, AllocError>
+    ensures { IfOk result (λ types. types.items ≡ types_reached (view_shape shape.now)) }
+{
+    let mut types = Vec::new(alloc);
+    put_reached_types(&mut types, shape)?;
     Ok(types)
+}
+
+/// Appends the types that the declared entry leads to.
+fn put_declared_types(types: &mut Vec<TypeAt>, subject: &Subject<'_>) -> Result<(), AllocError>
+    ensures { OnOk result (types.new.items ≡ types.old.items ++ types_declared (view_subject subject.now)) }
+{
+    match subject {
+        Subject::Typedef(_, at) => types.push(*at)?,
+        Subject::Variable(_, at) => types.push(*at)?,
+        Subject::Aggregate(_, _, _, members) => put_member_types(types, members)?,
+        _ => {}
+    }
+    Ok(())
 }
 
 /// The types that the declared entry leads to.
@@ -143,12 +164,7 @@ pub fn declared_types(alloc: Global, subject: &Subject<'_>) -> Result<Vec<TypeAt
     ensures { IfOk result (λ types. types.items ≡ types_declared (view_subject subject.now)) }
 {
     let mut types = Vec::new(alloc);
-    match subject {
-        Subject::Typedef(_, at) => types.push(*at)?,
-        Subject::Variable(_, at) => types.push(*at)?,
-        Subject::Aggregate(_, _, _, members) => put_member_types(&mut types, members)?,
-        _ => {}
-    }
+    put_declared_types(&mut types, subject)?;
     Ok(types)
 }
 
@@ -170,8 +186,7 @@ pub fn all_types<'a>(alloc: Global, subjects: &[Subject<'a>]) -> Result<Vec<Type
 {
     let mut types = Vec::new(alloc);
     for subject in subjects {
-        let own = declared_types(alloc, subject)?;
-        types.extend_from_slice(&own)?;
+        put_declared_types(&mut types, subject)?;
     }
     Ok(types)
 }
@@ -194,10 +209,12 @@ pub fn reach<'a>(
     drop(roots);
     let mut shapes = Vec::new(alloc);
     let mut rows = Vec::new(alloc);
+    let mut next = Vec::new(alloc);
     while rows.len() < found.len() {
         let entry = found[rows.len()];
         let shape = shape_at(alloc, image, entry)?;
-        let next = reached_types(alloc, &shape)?;
+        next.clear();
+        put_reached_types(&mut next, &shape)?;
         shapes.push(shape)?;
         rows.push(row_of(alloc, &mut places, &mut found, &next)?)?;
     }

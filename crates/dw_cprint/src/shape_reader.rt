@@ -78,7 +78,7 @@ fn counts_of(
         ≡ map (count_in image.now) (filter (is_dimension image.now) children.now)) }
     ensures fit { IfOk result (λ counts. All IsCount counts.items) }
 {
-    let mut counts = Vec::new(alloc);
+    let mut counts = Vec::with_capacity(alloc, children.len())?;
     for child in children {
         if is_dimension(image, *child) {
             counts.push(count_at(image, *child))?;
@@ -117,7 +117,7 @@ fn parameters_of(
     requires { All (λ child. child < length (entries_in image.now)) children.now }
     ensures { IfOk result (λ parameters. parameters.items ≡ parameters_of image.now children.now) }
 {
-    let mut parameters = Vec::new(alloc);
+    let mut parameters = Vec::with_capacity(alloc, children.len())?;
     for child in children {
         if is_parameter(image, *child) {
             parameters.push(parameter_at(image, *child))?;
@@ -158,7 +158,7 @@ pub fn members_of<'a>(
         ≡ map (member_at image.now) (filter (is_plain_member image.now) children.now)) }
     ensures fit { IfOk result (λ members. All HasCountedBits (map view_member members.items)) }
 {
-    let mut members = Vec::new(alloc);
+    let mut members = Vec::with_capacity(alloc, children.len())?;
     for child in children {
         if is_plain_member(image, *child) {
             members.push(member_at(image, *child))?;
@@ -198,7 +198,7 @@ pub fn enumerators_of<'a>(
         ≡ map (enumerator_at image.now) (filter (is_enumerator image.now) children.now)) }
     ensures fit { IfOk result (λ enumerators. All HasValue (map view_enumerator enumerators.items)) }
 {
-    let mut enumerators = Vec::new(alloc);
+    let mut enumerators = Vec::with_capacity(alloc, children.len())?;
     for child in children {
         if is_enumerator(image, *child) {
             enumerators.push(enumerator_at(image, *child))?;

@@ -6,7 +6,7 @@ use Rattle.dw_image.specs.Images.{entries_in}
 use Rattle.dw_cprint.specs.EntryShapes.{shape_in}
 use Rattle.dw_cprint.specs.Reach.{FindsAll}
 use Rattle.dw_cprint.specs.Regular.{IsRegular}
-use Rattle.dw_cprint.specs.Shapes.{ShapeOf, view_shape}
+use Rattle.dw_cprint.specs.Shapes.{ShapeOf, TypeAt, view_shape}
 use Rattle.dw_cprint.specs.Steps.{entries_of, steps_reached, types_reached}
 use Rattle.dw_cprint.specs.declared.shape.Shape.{Shape}
 use Rattle.dw_cprint.proofs.LevelLemmas.{few-entries}
@@ -51,8 +51,10 @@ pub row_of-requires-in-loop-alloc-clause-within : goal.row_of-requires-in-loop-a
 row_of-requires-in-loop-alloc-clause-within c =
     let shapes = shape_in c.args.image.now in
     let entry = c.index-entry.result.now in
+    let next : c.put_reached_types.new.types.items ≡ types_reached (view_shape c.in_ok-shape.shape) =
+    c.in_ok-put_reached_types.ensures ∙ ap (λ (types : List TypeAt). types ++ types_reached (view_shape c.in_ok-shape.shape)) c.clear.ensures.items in
     let steps : steps_reached shapes entry ≡ entries_of c.deref.result.now =
-    ap (λ (s : ShapeOf). entries_of (types_reached s)) (sym c.in_ok-shape.ensures.shape) ∙ ap entries_of (sym (c.deref.ensures.value ∙ c.in_ok-next.ensures)) in
+    ap (λ (s : ShapeOf). entries_of (types_reached s)) (sym c.in_ok-shape.ensures.shape) ∙ ap entries_of (sym (c.deref.ensures.value ∙ next)) in
     let P : List ℕ → ℕ → Type 0 = λ xs n. All (λ to. to < n) xs in
     subst (λ (n : ℕ). P (entries_of c.deref.result.now) n) (sym c.loop-alloc.invariant.1)
     (subst (λ (xs : List ℕ). P xs (length (entries_in c.args.image.now))) steps (shape_within c.args.image.now entry).all.all)
@@ -83,8 +85,10 @@ loop-alloc-preserved c =
     let shape : view_shape c.in_ok-shape.shape ≡ shapes (get_or found (length old) 0) = c.in_ok-shape.ensures.shape ∙ ap shapes entry in
     let seen : map view_shape c.push.new.self.items ≡ read ++ shapes (get_or found (length old) 0) ∷ [] =
     ap (map view_shape) c.in_ok-push.ensures.items ∙ map-append view_shape c.loop-alloc.shapes.items (c.in_ok-shape.shape ∷ []) ∙ ap (λ (s : ShapeOf). read ++ s ∷ []) shape in
+    let next : c.put_reached_types.new.types.items ≡ types_reached (view_shape c.in_ok-shape.shape) =
+    c.in_ok-put_reached_types.ensures ∙ ap (λ (types : List TypeAt). types ++ types_reached (view_shape c.in_ok-shape.shape)) c.clear.ensures.items in
     let steps : entries_of c.deref.result.now ≡ steps_reached shapes (get_or found (length old) 0) =
-    ap entries_of (c.deref.ensures.value ∙ c.in_ok-next.ensures) ∙ ap (λ (s : ShapeOf). entries_of (types_reached s)) shape in
+    ap entries_of (c.deref.ensures.value ∙ next) ∙ ap (λ (s : ShapeOf). entries_of (types_reached s)) shape in
     let R : List Shape → Type 0 = λ xs. All (λ (shape : Shape). IsRegular (view_shape shape)) xs in
     let r = c.in_ok-row_of.field-0 in
     let p2 = c.row_of-in-loop-alloc.new.places.items in
