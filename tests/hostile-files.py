@@ -231,17 +231,19 @@ def files():
 
 # 1 compile unit, 2 base type with a name and a size, 3 typedef with a name and a type, 4 structure with a size,
 # 5 member with a name and a type, 6 const with a type, 7 pointer with a type, 8 structure with a name and a size,
-# 9 prototyped subroutine with a type, 10 parameter with a type, 11 const
+# 9 prototyped subroutine with a type, 10 parameter with a type, 11 const, 12 compile unit with a name and a language,
+# 13 array with a type, 14 dimension with an upper bound of a byte
 NAMES = bytes.fromhex(
     "0111010000" "02240003080b0b0000" "031600030849130000" "0413010b0b0000" "050d00030849130000" "06260049130000"
-    "070f0049130000" "08130103080b0b0000" "091501271949130000" "0a050049130000" "0b26000000" "00")
+    "070f0049130000" "08130103080b0b0000" "091501271949130000" "0a050049130000" "0b26000000" "0c11010308130b0000"
+    "0d010149130000" "0e21002f0b0000" "00")
 
 
 class Types:
     """The entries of a unit with the type `int`, and the lines that `types` has to print of them."""
 
-    def __init__(self):
-        self.items, self.printed, self.refused = bytearray(b"\x01"), [], []
+    def __init__(self, first=b"\x01"):
+        self.items, self.printed, self.refused = bytearray(first), [], []
         self.int = self.add(2, "int", more=b"\x04")
 
     def next(self):
@@ -383,6 +385,12 @@ def bodies():
     for n in range(1000):
         types.typedef(f"t{n}", long, f"struct {{ {text}}} t{n}")
     yield "1,000 typedefs of a structure whose text has 55,000 bytes", types
+
+    types = Types(b"\x0c" + b"a" * (4 << 20) + b"\0\x0c")
+    for n in range(MANY):
+        at = types.add(13, to=types.int, more=b"\x0e\1\x0e\2\0")
+        types.typedef(f"t{n}", at, f"int t{n}[2][3]")
+    yield f"{MANY:,} arrays of two dimensions in a unit whose DW_AT_language comes after a name of 4 MB", types
 
     types = Types()
     last = types.int

@@ -3,7 +3,8 @@ use Rattle.std.proofs.Common.{◌≡◌, ◌≢◌, ℕ, zero, suc, ◌+◌, ◌
 use Rattle.std.proofs.lemmas.Bool.{cases_lt}
 use Rattle.std.proofs.lemmas.List.{get_or_default}
 use Rattle.std.specs.Prelude.{◌⊎◌}
-use Rattle.dw_types.specs.Graphs.{Graph, steps_of, step_at}
+use Rattle.dw_types.specs.Graphs.{Graph, LeadsToNodes, steps_of, step_at}
+use Rattle.dw_types.specs.Orders.{IsOrderOf, Ranking}
 use Rattle.dw_cprint.specs.Cycles.{AreClear, Leads, IsOnCycle, ReachesCycle}
 use Rattle.dw_cprint.specs.LongestRows.{HasRow, IsLongest, AreLongest, IsAbove}
 use Rattle.dw_cprint.proofs.ClearingLemmas.{same_or_not}
@@ -93,6 +94,29 @@ module _ (graph : Graph) (clear : List ℕ) (h : AreClear graph clear) (counts :
       let same : get_or clear k 0 ≡ node = get_or_default clear k 0 node w ∙ e in
       let P : ℕ → Type 0 = λ n. IsLongest graph n (get_or counts n 0) in
       subst P same (known k (omega arith)).0
+
+-- ---- an order
+
+-- the nodes by rank, each after those that its steps lead to
+pub ranked-clear : (graph : Graph) (order : Ranking) → LeadsToNodes graph → IsOrderOf graph order → AreClear graph order.by_rank
+ranked-clear graph order leads h = record {
+  within = λ place w. (h.ranked place w).0;
+  ordered =
+      λ place k w below.
+      (let node = get_or order.by_rank place 0 in
+      let there = h.listed (step_at graph node k) (leads node k below) in
+      (get_or order.ranks (step_at graph node k) 0, omega (arith, h.falls node k below, (h.ranked place w).1), there.1));
+  others =
+      λ node w missing.
+      (let there = h.listed node w in
+      absurd (missing (get_or order.ranks node 0, there.0, sym (get_or_default order.by_rank (get_or order.ranks node 0) 0 node there.0) ∙ there.1)));
+}
+
+-- so the longest rows of the nodes by rank are those of all nodes
+pub ranked-longest : (graph : Graph) (order : Ranking) (counts : ℕ → ℕ) → IsOrderOf graph order → AreLongest graph order.by_rank counts → (node : ℕ) → node < length graph → IsLongest graph node (counts node)
+ranked-longest graph order counts h longest node w =
+    let there = h.listed node w in
+    longest node (get_or order.ranks node 0, there.0, sym (get_or_default order.by_rank (get_or order.ranks node 0) 0 node there.0) ∙ there.1)
 
 -- ---- rows and cycles
 

@@ -87,7 +87,7 @@ pub fn clear_nodes<G: StepGraph>(alloc: Global, graph: &G) -> Result<Vec<usize>,
     let mut walk = Walk {
         marks: vec![in alloc; Mark::Fresh; nodes]?,
         next: vec![in alloc; 0; nodes]?,
-        clear: Vec::new(alloc),
+        clear: Vec::with_capacity(alloc, nodes)?,
         stack: Vec::new(alloc),
     };
     for start in 0..nodes {

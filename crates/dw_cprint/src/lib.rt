@@ -2,6 +2,7 @@
 #![tactic(auto)]
 
 mod bad_names;
+mod body_reader;
 mod clearing;
 mod declaring;
 mod fault;

@@ -14,9 +14,8 @@ ghost use Rattle.dw_cprint.specs.Steps.{roots_of};
 ghost use Rattle.dw_cprint.specs.Surveys.{BySurvey};
 ghost use Rattle.dw_cprint.specs.declared.listing.Listed.{Listed as ListedOf};
 
-use crate::clearing::clear_nodes;
 use crate::fault::PrintFault;
-use crate::longest::longest_rows;
+use crate::longest::longest_by_rank;
 use crate::look_ups::{declared_at, name_at, tag_at};
 use crate::shape::Subject;
 use crate::subject_reader::subject_of;
@@ -96,9 +95,7 @@ fn levels_of(alloc: Global, image: &Image<'_>) -> Result<Vec<usize>, AllocError>
     ensures entries { IfOk result (λ levels. length levels.items ≡ length (entries_in image.now)) }
     ensures levels { IfOk result (λ levels. AreLevels image.now (slice_index levels.items)) }
 {
-    let steps = image.by_value();
-    let clear = clear_nodes(alloc, steps)?;
-    longest_rows(alloc, steps, &clear)
+    longest_by_rank(alloc, image.by_value(), image.order())
 }
 
 /// One of the sixteen digits.
@@ -246,6 +243,7 @@ pub fn declare_all(alloc: Global, image: &Image<'_>) -> Result<Listing, NoMemory
     let survey = Survey::new(alloc, image, &subjects)?;
     let levels = levels_of(alloc, image)?;
     let mut judged = judge(alloc, &survey, &named, &subjects, &levels)?;
+    drop(levels);
     sort_listed(&mut judged.listed)?;
     let mut text = Vec::new(alloc);
     put_listed(alloc, &mut text, &survey, &subjects, &judged.listed)?;

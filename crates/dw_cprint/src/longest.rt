@@ -2,10 +2,11 @@
 
 ghost use Rattle.std.specs.Prelude.{◌≡◌, ℕ, ◌+◌, ◌^◌, ◌<◌, length, slice_index, IfOk};
 ghost use Rattle.dw_types.specs.Graphs.{step_at, steps_of};
+ghost use Rattle.dw_types.specs.Orders.{IsOrderOf};
 ghost use Rattle.dw_cprint.specs.Cycles.{AreClear};
-ghost use Rattle.dw_cprint.specs.LongestRows.{AreLongest, IsAbove};
+ghost use Rattle.dw_cprint.specs.LongestRows.{AreLongest, IsAbove, IsLongest};
 
-use dw_types::StepGraph;
+use dw_types::{Order, StepGraph};
 use std::alloc::{AllocError, Global};
 
 /// One more than the largest count at the steps of a node, and 0 if it has none.
@@ -40,6 +41,26 @@ pub fn longest_rows<G: StepGraph>(
     for node in clear {
         let most = one_above(graph, counts.as_slice(), *node);
         counts[*node] = most;
+    }
+    Ok(counts)
+}
+
+/// How many steps the longest row from each node has, where the graph has an order.
+pub fn longest_by_rank<G: StepGraph>(
+    alloc: Global,
+    graph: &G,
+    order: &Order,
+) -> Result<Vec<usize>, AllocError>
+    requires { IsOrderOf (G.graph graph.now) order.now }
+    ensures nodes { IfOk result (λ counts. length counts.items ≡ length (G.graph graph.now)) }
+    ensures longest { IfOk result (λ counts. (node : ℕ) → node < length (G.graph graph.now)
+        → IsLongest (G.graph graph.now) node (slice_index counts.items node)) }
+{
+    let mut counts = vec![in alloc; 0; graph.nodes()]?;
+    for rank in 0..order.count() {
+        let node = order.node(rank);
+        let most = one_above(graph, counts.as_slice(), node);
+        counts[node] = most;
     }
     Ok(counts)
 }

@@ -1,6 +1,6 @@
 //! The entries that are reached by spelling steps.
 
-ghost use Rattle.std.specs.Prelude.{◌≡◌, ◌++◌, ◌<◌, [], ◌∷◌, length, map, All, IfOk, OnOk};
+ghost use Rattle.std.specs.Prelude.{◌≡◌, ◌++◌, ◌^◌, ◌<◌, [], ◌∷◌, length, map, All, IfOk, OnOk};
 ghost use Rattle.dw_types.specs.Graphs.{LeadsToNodes};
 ghost use Rattle.dw_cprint.specs.Reach.{ArePlaces, FindsAll, IsReachOf, items_of};
 ghost use Rattle.dw_image.specs.Images.{entries_in};
@@ -20,7 +20,7 @@ use std::alloc::{AllocError, Global};
 #[derive(Drop)]
 pub struct Reached<'a> {
     /// The node of each entry that is found, by the entry's number.
-    pub places: Vec<usize>,
+    pub places: Vec<u32>,
     /// The entry of each node.
     pub found: Vec<usize>,
     /// The shape of each node's entry.
@@ -52,40 +52,42 @@ impl<'a> StepGraph for Reached<'a> {
 
 /// The place of an entry, the next one if it was not found before.
 fn place_of(
-    places: &mut Vec<usize>,
+    places: &mut Vec<u32>,
     found: &mut Vec<usize>,
     entry: usize,
 ) -> Result<usize, AllocError>
     requires placed { ArePlaces places.old.items found.old.items }
     requires within { entry < length places.old.items }
+    requires few { length places.old.items < 2 ^ 32 }
     ensures row { IfOk result (λ place. FindsAll (entry ∷ [])
         places.old.items places.new.items found.old.items found.new.items (place ∷ [])) }
     ensures places { length places.new.items ≡ length places.old.items }
 {
-    let place = places[entry];
+    let place = places[entry] as usize;
     if place < found.len() && found[place] == entry {
         return Ok(place);
     }
     let place = found.len();
     found.push(entry)?;
-    places[entry] = place;
+    places[entry] = place as u32;
     Ok(place)
 }
 
 /// The places of types; those that are new are found.
 fn row_of(
     alloc: Global,
-    places: &mut Vec<usize>,
+    places: &mut Vec<u32>,
     found: &mut Vec<usize>,
     types: &[TypeAt],
 ) -> Result<Vec<usize>, AllocError>
     requires placed { ArePlaces places.old.items found.old.items }
     requires within { All (λ to. to < length places.old.items) (entries_of types.now) }
+    requires few { length places.old.items < 2 ^ 32 }
     ensures row { IfOk result (λ row. FindsAll (entries_of types.now)
         places.old.items places.new.items found.old.items found.new.items row.items) }
     ensures places { length places.new.items ≡ length places.old.items }
 {
-    let mut row = Vec::new(alloc);
+    let mut row = Vec::with_capacity(alloc, types.len())?;
     for at in types {
         if let Some(entry) = *at {
             row.push(place_of(places, found, entry)?)?;
@@ -116,11 +118,10 @@ fn put_parameter_types(types: &mut Vec<TypeAt>, parameters: &[Parameter]) -> Res
     Ok(())
 }
 
-/// The types that an entry leads to where it is reached.
-pub fn reached_types(alloc: Global, shape: &Shape<'_>) -> Result<Vec<TypeAt>, AllocError>
-    ensures { IfOk result (λ types. types.items ≡ types_reached (view_shape shape.now)) }
+/// Appends the types that an entry leads to where it is reached.
+fn put_reached_types(types: &mut Vec<TypeAt>, shape: &Shape<'_>) -> Result<(), AllocError>
+    ensures { OnOk result (types.new.items ≡ types.old.items ++ types_reached (view_shape shape.now)) }
 {
-    let mut types = Vec::new(alloc);
     match shape {
         Shape::Qualified(_, at) => types.push(*at)?,
         Shape::Pointer(at) => types.push(*at)?,
@@ -128,12 +129,34 @@ pub fn reached_types(alloc: Global, shape: &Shape<'_>) -> Result<Vec<TypeAt>, Al
         Shape::Function(at, None) => types.push(*at)?,
         Shape::Function(at, Some(parameters)) => {
             types.push(*at)?;
-            put_parameter_types(&mut types, parameters)?;
+            put_parameter_types(types, parameters)?;
         }
-        Shape::Body(_, _, members) => put_member_types(&mut types, members)?,
+        Shape::Body(_, _, members) => put_member_types(types, members)?,
         _ => {}
     }
+    Ok(())
+}
+
+/// The types that an entry leads to where it is reached.
+pub fn reached_types(alloc: Global, shape: &Shape<'_>) -> Result<Vec<TypeAt>, AllocError>
+    ensures { IfOk result (λ types. types.items ≡ types_reached (view_shape shape.now)) }
+{
+    let mut types = Vec::new(alloc);
+    put_reached_types(&mut types, shape)?;
     Ok(types)
+}
+
+/// Appends the types that the declared entry leads to.
+fn put_declared_types(types: &mut Vec<TypeAt>, subject: &Subject<'_>) -> Result<(), AllocError>
+    ensures { OnOk result (types.new.items ≡ types.old.items ++ types_declared (view_subject subject.now)) }
+{
+    match subject {
+        Subject::Typedef(_, at) => types.push(*at)?,
+        Subject::Variable(_, at) => types.push(*at)?,
+        Subject::Aggregate(_, _, _, members) => put_member_types(types, members)?,
+        _ => {}
+    }
+    Ok(())
 }
 
 /// The types that the declared entry leads to.
@@ -141,12 +164,7 @@ pub fn declared_types(alloc: Global, subject: &Subject<'_>) -> Result<Vec<TypeAt
     ensures { IfOk result (λ types. types.items ≡ types_declared (view_subject subject.now)) }
 {
     let mut types = Vec::new(alloc);
-    match subject {
-        Subject::Typedef(_, at) => types.push(*at)?,
-        Subject::Variable(_, at) => types.push(*at)?,
-        Subject::Aggregate(_, _, _, members) => put_member_types(&mut types, members)?,
-        _ => {}
-    }
+    put_declared_types(&mut types, subject)?;
     Ok(types)
 }
 
@@ -168,8 +186,7 @@ pub fn all_types<'a>(alloc: Global, subjects: &[Subject<'a>]) -> Result<Vec<Type
 {
     let mut types = Vec::new(alloc);
     for subject in subjects {
-        let own = declared_types(alloc, subject)?;
-        types.extend_from_slice(&own)?;
+        put_declared_types(&mut types, subject)?;
     }
     Ok(types)
 }
@@ -188,13 +205,16 @@ pub fn reach<'a>(
 {
     let mut places = vec![in alloc; 0; image.entries()]?;
     let mut found = Vec::new(alloc);
-    let _roots = row_of(alloc, &mut places, &mut found, types)?;
+    let roots = row_of(alloc, &mut places, &mut found, types)?;
+    drop(roots);
     let mut shapes = Vec::new(alloc);
     let mut rows = Vec::new(alloc);
+    let mut next = Vec::new(alloc);
     while rows.len() < found.len() {
         let entry = found[rows.len()];
         let shape = shape_at(alloc, image, entry)?;
-        let next = reached_types(alloc, &shape)?;
+        next.clear();
+        put_reached_types(&mut next, &shape)?;
         shapes.push(shape)?;
         rows.push(row_of(alloc, &mut places, &mut found, &next)?)?;
     }

@@ -7,9 +7,9 @@ ghost use Rattle.dw_cprint.specs.Legible.{IsAggregate};
 ghost use Rattle.dw_cprint.specs.Regular.{IsRegularSubject};
 ghost use Rattle.dw_cprint.specs.Shapes.{view_subject};
 
+use crate::body_reader::{enumerator_body, member_body};
 use crate::look_ups::{declared_at, name_at, tag_at, type_at};
 use crate::shape::Subject;
-use crate::shape_reader::{enumerator_body, member_body};
 use crate::words::TagKeyword;
 use dw_entries::Tag;
 use dw_entries::constants::*;

@@ -43,7 +43,7 @@ pub const VOID: Summary = Summary {
 #[derive(Drop)]
 pub struct Summaries {
     /// The node of each entry that is found, by the entry's number.
-    pub places: Vec<usize>,
+    pub places: Vec<u32>,
     /// The summary of each node that reaches no cycle.
     pub nodes: Vec<Option<Summary>>,
 }
@@ -56,7 +56,7 @@ impl Summaries {
         match at {
             None => Some(VOID),
             Some(entry) => match self.places.get(entry) {
-                Some(place) => match self.nodes.get(*place) {
+                Some(place) => match self.nodes.get(*place as usize) {
                     Some(summary) => *summary,
                     None => None,
                 },
@@ -110,7 +110,7 @@ fn summary_of(
 /// The summaries of the nodes that reach no cycle. Each is given after those that its steps lead to.
 pub fn summarize(
     alloc: Global,
-    places: Vec<usize>,
+    places: Vec<u32>,
     shapes: &[Shape<'_>],
     clear: &[usize],
 ) -> Result<Summaries, AllocError>

@@ -1,12 +1,11 @@
 //! What some declarations need, found once for all of them: what they reach, what of that reaches a cycle, and what is
 //! known of the rest.
 
-ghost use Rattle.std.specs.Prelude.{◌≡◌, ◌↔◌, ◌<◌, length, map, All, IfOk, IfSome, IsTrue};
+ghost use Rattle.std.specs.Prelude.{◌≡◌, ◌↔◌, ◌<◌, length, map, All, IfOk, IsTrue};
 ghost use Rattle.dw_image.specs.Images.{entries_in};
 ghost use Rattle.dw_cprint.specs.EntryShapes.{shape_in};
 ghost use Rattle.dw_cprint.specs.Judgements.{IsJudgement};
-ghost use Rattle.dw_cprint.specs.Kept.{kept};
-ghost use Rattle.dw_cprint.specs.Shapes.{view_shape, view_subject};
+ghost use Rattle.dw_cprint.specs.Shapes.{view_subject};
 ghost use Rattle.dw_cprint.specs.Steps.{IsDeepFrom, ReachACycle, entries_of, first_steps, roots_of};
 ghost use Rattle.dw_cprint.specs.Surveys.{BySurvey, IsSurveyOf, depth_at};
 
@@ -46,8 +45,10 @@ impl<'a> Survey<'a> {
     {
         let types = all_types(alloc, subjects)?;
         let reached = reach(alloc, image, &types)?;
+        drop(types);
         let clear = clear_nodes(alloc, &reached)?;
         let depths = longest_rows(alloc, &reached, &clear)?;
+        drop(reached.rows);
         let summaries = summarize(alloc, reached.places, &reached.shapes, &clear)?;
         Ok(Survey {
             shapes: reached.shapes,
@@ -56,23 +57,12 @@ impl<'a> Survey<'a> {
         })
     }
 
-    /// The shape of an entry that is reached.
-    #[tactic(auto, unfolding(crate::specs::Kept::kept))]
-    pub fn shape(&self, entry: usize) -> Option<&Shape<'a>>
-        ensures { IfSome result (λ shape. view_shape shape.now ≡ kept self.now entry) }
-    {
-        match self.summaries.places.get(entry) {
-            Some(place) => self.shapes.get(*place),
-            None => None,
-        }
-    }
-
     /// How many steps the longest path from an entry has.
     fn depth(&self, entry: usize) -> usize
         ensures { result ≡ depth_at self.now entry }
     {
         match self.summaries.places.get(entry) {
-            Some(place) => match self.depths.get(*place) {
+            Some(place) => match self.depths.get(*place as usize) {
                 Some(depth) => *depth,
                 None => 0,
             },

@@ -27,7 +27,7 @@ impl<'a> Survey<'a> {
             (λ shape. view_shape shape.now ≡ kept self.now entry) }
     {
         match self.summaries.places.get(entry) {
-            Some(place) => self.shapes.get(*place),
+            Some(place) => self.shapes.get(*place as usize),
             None => None,
         }
     }

@@ -7,13 +7,15 @@ ghost use Rattle.dw_entries.specs.Stopped.{IfFaulty};
 ghost use Rattle.dw_entries.specs.Views.{sections_of};
 ghost use Rattle.dw_types.specs.FactsOf.{facts_in};
 ghost use Rattle.dw_types.specs.Graphs.{IsCycle};
+ghost use Rattle.dw_types.specs.Orders.{IsOrderOf};
 ghost use Rattle.dw_types.specs.Steps.{by_value};
+ghost use Rattle.dw_types.specs.UnitsRead.{all_unit_facts};
 ghost use Rattle.dw_image.specs.First.{offset_at, NamesCycle};
 ghost use Rattle.dw_image.specs.Measures.{AreMeasures, FailsInTypes};
 
 use dw_entries::{Entries, Fault, Rule, Section, Stop};
 use dw_links::Links;
-use dw_types::{ByValue, OrderFault, Packed, SizeTable, order, sizes};
+use dw_types::{ByValue, Order, OrderFault, Packed, SizeTable, UnitFacts, order, sizes};
 use std::alloc::{AllocError, Global};
 
 /// The offset of the entry with a number.
@@ -60,21 +62,24 @@ fn cycle_fault(alloc: Global, entries: &Entries<'_>, numbers: &[usize]) -> Resul
 }
 
 /// Follows the steps by value of entries, orders them and measures them by that order, or finds the first fault of the
-/// rules on types.
+/// rules on types. `units` is what is read of the entries' units.
 pub fn measure(
     alloc: Global,
     entries: &Entries<'_>,
     links: &Links<'_, '_>,
-) -> Result<(Packed, SizeTable), Stop>
-    requires { units_of links.now.entries.now.scanned ≡ units_of entries.now.scanned }
-    ensures sound { IfOk result (λ it. AreMeasures (facts_in (units_of entries.now.scanned)) it.0 it.1) }
+    units: &[UnitFacts],
+) -> Result<(Packed, Order, SizeTable), Stop>
+    requires links { units_of links.now.entries.now.scanned ≡ units_of entries.now.scanned }
+    requires units { units.now ≡ all_unit_facts (units_of entries.now.scanned) }
+    ensures sound { IfOk result (λ it. AreMeasures (facts_in (units_of entries.now.scanned)) it.0 it.2) }
+    ensures order { IfOk result (λ it. IsOrderOf (by_value (facts_in (units_of entries.now.scanned))) it.1) }
     ensures fault { IfErr result (IfFaulty (FailsInTypes (sections_of entries.now) (units_of entries.now.scanned))) }
 {
-    let steps = ByValue::new(alloc, entries, links)?.into_packed();
+    let steps = ByValue::new(alloc, entries, links, units)?.into_packed();
     match order(alloc, &steps) {
         Ok(order) => {
-            let sizes = sizes(alloc, entries, links, &order)?;
-            Ok((steps, sizes))
+            let sizes = sizes(alloc, entries, links, units, &order)?;
+            Ok((steps, order, sizes))
         }
         Err(OrderFault::Cycle(nodes)) => {
             Err(Stop::Fault(cycle_fault(alloc, entries, nodes.as_slice())?))

@@ -4,6 +4,7 @@ ghost use Rattle.std.specs.Prelude.{◌≡◌, ◌<◌, length, slice_get, IfSom
 ghost use Rattle.dw_types.specs.Counts.{count_at};
 ghost use Rattle.dw_types.specs.FactsOf.{facts_in};
 ghost use Rattle.dw_types.specs.Graphs.{steps_of};
+ghost use Rattle.dw_types.specs.Orders.{IsOrderOf};
 ghost use Rattle.dw_image.specs.Images.{units_in, entries_in, steps_in, size_table_in, type_in};
 ghost use Rattle.dw_image.specs.Lookups.{type_number};
 
@@ -11,7 +12,7 @@ use crate::id::TypeId;
 use crate::image::Image;
 use dw_entries::EntryId;
 use dw_entries::constants::DW_AT_type;
-use dw_types::{Packed, StepGraph, count_at};
+use dw_types::{Order, Packed, StepGraph, count_at};
 
 impl Image<'_> {
     /// The type at an entry. None if its tag is not a type's.
@@ -56,7 +57,7 @@ impl Image<'_> {
         requires { id < length (entries_in self.now) }
         ensures { result ≡ count_at (facts_in (units_in self.now)) id }
     {
-        count_at(&self.entries, id)
+        count_at(&self.entries, &self.units, id)
     }
 
     /// The steps by value of all entries. An entry is the node of its number.
@@ -65,6 +66,14 @@ impl Image<'_> {
         ensures { ⟦<Packed as StepGraph>⟧.graph result.now ≡ steps_in self.now }
     {
         &self.steps
+    }
+
+    /// The order of the steps by value: each leads to an entry of smaller rank.
+    #[tactic(auto, unfolding(crate::specs::Images::units_in, crate::specs::Images::steps_in))]
+    pub fn order(&self) -> &Order
+        ensures { IsOrderOf (steps_in self.now) result.now }
+    {
+        &self.order
     }
 
     /// The k-th entry, from 0, that an entry holds by value: its type, the types of its plain members in their order,

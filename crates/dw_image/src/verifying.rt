@@ -9,7 +9,7 @@ use crate::measuring::measure;
 use dw_elf::Sections;
 use dw_entries::{Fault, Stop, scan};
 use dw_links::{check_classes, check_strings, link};
-use dw_types::NoMemory;
+use dw_types::{NoMemory, UnitFacts};
 use std::alloc::Global;
 
 /// What sections are found to be.
@@ -30,12 +30,15 @@ fn image_of<'a>(alloc: Global, sections: Sections<'a>) -> Result<Image<'a>, Stop
     check_classes(alloc, &entries)?;
     check_strings(alloc, &entries)?;
     let links = link(alloc, &entries)?;
-    let (steps, sizes) = measure(alloc, &entries, &links)?;
+    let units = UnitFacts::read_all(alloc, &entries)?;
+    let (steps, order, sizes) = measure(alloc, &entries, &links, &units)?;
     let tables = links.into_tables();
     Ok(Image {
         entries,
         tables,
+        units,
         steps,
+        order,
         sizes,
     })
 }

@@ -4,7 +4,7 @@ mod graphs;
 mod rows;
 
 use dw_entries::{Sections, scan};
-use dw_types::count_at;
+use dw_types::{UnitFacts, count_at};
 use std::test::Fail;
 
 /// A compile unit, an array, dimensions with a count and with an upper bound, and a typedef with an upper bound.
@@ -34,9 +34,10 @@ fn counts(rt: HostRuntime) -> Result<(), Fail> {
     let Ok(entries) = scan(rt.alloc(), &sections) else {
         return Err("no entries".into());
     };
+    let units = UnitFacts::read_all(rt.alloc(), &entries)?;
     let mut found = Vec::new(rt.alloc());
     for number in 0..entries.count() {
-        found.push(count_at(&entries, entries.id(number)))?;
+        found.push(count_at(&entries, &units, entries.id(number)))?;
     }
     let want = [None, None, Some(u128::from(u64::MAX)), Some(5), None, None];
     assert_eq!(rt; found.as_slice(), want.as_slice());

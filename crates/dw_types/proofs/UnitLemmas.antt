@@ -2,7 +2,7 @@
 use Rattle.std.proofs.Common.{◌≡◌, ℕ, ◌+◌, ◌<◌, ◌≤◌, List, [], ◌∷◌, ◌++◌, length, take, get_or, Option, Some, None, IfSome, map, inl, inr, refl, sym, ap, ◌∙◌, arith}
 use Rattle.std.specs.Prelude.{slice_get, option_map}
 use Rattle.std.proofs.lemmas.List.{length-map, map_push, take_all, take_more}
-use Rattle.std.proofs.lemmas.Option.{get_or_from_slice_get, slice_get-map, slice_get_cases, slice_get_within}
+use Rattle.std.proofs.lemmas.Option.{get_or_from_slice_get, same_Some, slice_get-map, slice_get_cases, slice_get_within}
 use Rattle.dw_forms.specs.Codes.{DW_AT_language}
 use Rattle.dw_entries.specs.declared.lookup.UnitHead.{UnitHead}
 use Rattle.dw_entries.specs.Asked.{values_of}
@@ -83,6 +83,20 @@ module _ (a info : List ℕ) (us : List DebugUnit) (id : ℕ) (spells : Spells a
           let u = entry-unit a info us id e spells is in
           let at : slice_get (all_unit_facts us) number ≡ Some (unit_facts u.0) = rw known (slice_get-map unit_facts (placed us) e.unit ∙ ap (option_map unit_facts) u.1) in
           read ∙ (get_or_from_slice_get (all_unit_facts us) number (unit_facts u.0) unit at ∙ rw u.1 refl)
+
+-- what is listed for the number of a unit is read of that unit
+pub unit-of_all : (us : List DebugUnit) (number : ℕ) (unit : UnitFacts) → slice_get (all_unit_facts us) number ≡ Some unit → IfSome (slice_get (placed us) number) (λ u. unit ≡ unit_facts u)
+unit-of_all us number unit at = go (slice_get (placed us) number) refl
+  where
+    go : (o : Option PlacedUnit) → slice_get (placed us) number ≡ o → IfSome o (λ u. unit ≡ unit_facts u)
+    go None is = tt
+    go (Some u) is =
+        let listed : slice_get (all_unit_facts us) number ≡ Some (unit_facts u) = slice_get-map unit_facts (placed us) number ∙ ap (option_map unit_facts) is in
+        same_Some unit (unit_facts u) (sym at ∙ listed)
+
+-- as many are listed as there are units
+pub units-long : (us : List DebugUnit) → length (all_unit_facts us) ≡ length us
+units-long us = length-map (placed us) unit_facts ∙ length-placed_from 0 0 us
 
 -- of a unit with a number
 pub unit-is_there : (us : List DebugUnit) (number : ℕ) (unit : UnitFacts) → IfSome (slice_get (placed us) number) (λ u. unit ≡ unit_facts u) → number < length us → unit ≡ unit_facts_at (placed us) number

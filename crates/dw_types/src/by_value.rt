@@ -11,10 +11,12 @@ ghost use Rattle.dw_types.specs.Kinds.{is_declared_type, parent_role, passes_typ
 ghost use Rattle.dw_types.specs.Shapes.{ShapeFailures};
 ghost use Rattle.dw_types.specs.StepLists.{rows_of, to_of};
 ghost use Rattle.dw_types.specs.Steps.{by_value, member_step, targets_if, IsMemberOf, IsStepByValue};
+ghost use Rattle.dw_types.specs.UnitsRead.{all_unit_facts};
 ghost use Rattle.dw_entries.specs.Stopped.{IfFault};
 
 use crate::entry_facts::EntryFacts;
 use crate::entry_reader::EntryReader;
+use crate::facts_reader::UnitFacts;
 use crate::fault::fault_at_entry;
 use crate::graph::StepGraph;
 use crate::kind::Role;
@@ -115,9 +117,15 @@ pub struct ByValue {
 
 impl ByValue {
     /// The graph of the steps by value of entries, or the first fault of their shapes. The nodes are the
-    /// numbers of the entries, and the links are those of the same entries.
-    pub fn new(alloc: Global, entries: &Entries<'_>, links: &Links<'_, '_>) -> Result<Self, Stop>
-        requires { units_of links.now.entries.now.scanned ≡ units_of entries.now.scanned }
+    /// numbers of the entries; the links and what is read of units are those of the same entries.
+    pub fn new(
+        alloc: Global,
+        entries: &Entries<'_>,
+        links: &Links<'_, '_>,
+        units: &[UnitFacts],
+    ) -> Result<Self, Stop>
+        requires links { units_of links.now.entries.now.scanned ≡ units_of entries.now.scanned }
+        requires units { units.now ≡ all_unit_facts (units_of entries.now.scanned) }
         ensures graph { IfOk result (λ it. ⟦<ByValue as StepGraph>⟧.graph it
             ≡ by_value (facts_in (units_of entries.now.scanned))) }
         ensures steps { IfOk result (λ it. (from to : ℕ)
@@ -126,7 +134,7 @@ impl ByValue {
         ensures sound { OnOk result (HasNone (ShapeFailures (facts_in (units_of entries.now.scanned)))) }
         ensures fault { IfErr result (IfFault (IsFirst (ShapeFailures (facts_in (units_of entries.now.scanned))))) }
     {
-        let facts = EntryFacts::new(alloc, entries, links)?;
+        let facts = EntryFacts::new(entries, links, units);
         ByValue::of_facts(alloc, &facts)
     }
 

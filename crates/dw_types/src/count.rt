@@ -10,10 +10,11 @@ ghost use Rattle.dw_types.specs.Counts.{known_natural, lower_of, reads_bounds, u
 ghost use Rattle.dw_types.specs.Entries.{entry_at};
 ghost use Rattle.dw_types.specs.FactsOf.{facts_in};
 ghost use Rattle.dw_types.specs.Kinds.{is_dimensions, parent_role, role_in};
+ghost use Rattle.dw_types.specs.UnitsRead.{all_unit_facts};
 
 use crate::constant::Constant;
 use crate::entry_reader::EntryReader;
-use crate::facts_reader::UnitFacts;
+use crate::facts_reader::{UnitFacts, unit_at};
 use crate::kind::Role;
 use dw_entries::constants::*;
 use dw_entries::{Entries, EntryId, Head};
@@ -159,9 +160,10 @@ fn is_dimension(entries: &Entries<'_>, id: EntryId, head: &Head) -> bool
     is_subrange_tag(head.tag) && is_in_array(entries, head.parent)
 }
 
-/// The known count of a dimension, and none for any other entry.
-pub fn count_at(entries: &Entries<'_>, id: EntryId) -> Option<u128>
-    requires { id < length (entries_of (units_of entries.now.scanned)) }
+/// The known count of a dimension, and none for any other entry. `units` is what is read of the entries' units.
+pub fn count_at(entries: &Entries<'_>, units: &[UnitFacts], id: EntryId) -> Option<u128>
+    requires id { id < length (entries_of (units_of entries.now.scanned)) }
+    requires units { units.now ≡ all_unit_facts (units_of entries.now.scanned) }
     ensures { result ≡ count_at (facts_in (units_of entries.now.scanned)) id }
 {
     let head = entries.head(id);
@@ -170,7 +172,7 @@ pub fn count_at(entries: &Entries<'_>, id: EntryId) -> Option<u128>
     }
     known_natural(count_from(
         Constant::read(entries, id, DW_AT_count),
-        UnitFacts::read(entries, head.unit).language,
+        unit_at(units, head.unit).language,
         Constant::read(entries, id, DW_AT_upper_bound),
         Constant::read(entries, id, DW_AT_lower_bound),
     ))

@@ -1,6 +1,6 @@
 //! The entries, each with its facts.
 
-ghost use Rattle.std.specs.Prelude.{◌≡◌, ◌^◌, ◌<◌, length, List, IfOk, slice_get, IfSome};
+ghost use Rattle.std.specs.Prelude.{◌≡◌, ◌^◌, ◌<◌, length, List, slice_get, IfSome};
 ghost use Rattle.dw_entries.specs.Scanned.{units_of};
 ghost use Rattle.dw_types.specs.declared.facts.Facts.{Facts as FactsOf};
 ghost use Rattle.dw_types.specs.Entries.{entry_at, OffsetsRise, ParentsComeFirst, TargetsAreEntries};
@@ -11,7 +11,6 @@ use crate::entry_reader::EntryReader;
 use crate::facts_reader::UnitFacts;
 use dw_entries::{Cursor, Entries};
 use dw_links::Links;
-use std::alloc::{AllocError, Global};
 use std::marker::Model;
 
 /// The entries of .debug_info by rising offset, each with its facts, which are read when they are asked.
@@ -19,7 +18,7 @@ use std::marker::Model;
 pub(crate) struct EntryFacts<'r, 'a> {
     entries: &'r Entries<'a>,
     links: &'r Links<'r, 'a>,
-    units: Vec<UnitFacts>,
+    units: &'r [UnitFacts],
 }
 
 impl<'r, 'a> Model for EntryFacts<'r, 'a> {
@@ -27,34 +26,30 @@ impl<'r, 'a> Model for EntryFacts<'r, 'a> {
 
     ghost view = { λ it. facts_in (units_of it.entries.now.scanned) };
 
-    ghost invariant = { λ it. (it.units.items ≡ all_unit_facts (units_of it.entries.now.scanned))
+    ghost invariant = { λ it. (it.units.now ≡ all_unit_facts (units_of it.entries.now.scanned))
         × (units_of it.links.now.entries.now.scanned ≡ units_of it.entries.now.scanned) };
 }
 
 impl<'r, 'a> EntryFacts<'r, 'a> {
-    /// The facts of entries, by their links. It fails where memory runs out.
+    /// The facts of entries, by their links and by what is read of their units.
     pub(crate) fn new(
-        alloc: Global,
         entries: &'r Entries<'a>,
         links: &'r Links<'r, 'a>,
-    ) -> Result<Self, AllocError>
-        requires { units_of links.now.entries.now.scanned ≡ units_of entries.now.scanned }
-        ensures same { IfOk result (λ it. it ≡ facts_in (units_of entries.now.scanned)) }
-        ensures parents { IfOk result ParentsComeFirst }
-        ensures targets { IfOk result TargetsAreEntries }
-        ensures rising { IfOk result OffsetsRise }
-        ensures few { IfOk result (λ it. length it < 2 ^ 32) }
+        units: &'r [UnitFacts],
+    ) -> Self
+        requires links { units_of links.now.entries.now.scanned ≡ units_of entries.now.scanned }
+        requires units { units.now ≡ all_unit_facts (units_of entries.now.scanned) }
+        ensures same { result ≡ facts_in (units_of entries.now.scanned) }
+        ensures parents { ParentsComeFirst result }
+        ensures targets { TargetsAreEntries result }
+        ensures rising { OffsetsRise result }
+        ensures few { length result < 2 ^ 32 }
     {
-        let count = entries.unit_count();
-        let mut units = Vec::with_capacity(alloc, count)?;
-        for number in 0..count {
-            units.push(UnitFacts::read(entries, number))?;
-        }
-        Ok(EntryFacts {
+        EntryFacts {
             entries,
             links,
             units,
-        })
+        }
     }
 
     /// How many entries there are.
@@ -82,7 +77,7 @@ impl<'r, 'a> EntryFacts<'r, 'a> {
         FactsCursor {
             cursor: self.entries.cursor(),
             links: self.links,
-            units: self.units.as_slice(),
+            units: self.units,
         }
     }
 }

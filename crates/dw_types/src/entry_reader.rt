@@ -14,7 +14,7 @@ ghost use Rattle.dw_types.specs.FactsOf.{facts_in, is_asked};
 ghost use Rattle.dw_types.specs.UnitsRead.{all_unit_facts};
 
 use crate::constant::Constant;
-use crate::facts_reader::{UnitFacts, number_of};
+use crate::facts_reader::{UnitFacts, number_of, unit_at};
 use dw_entries::constants::*;
 use dw_entries::{Attribute, Cursor, EntryAt, EntryId, Value};
 use dw_links::Links;
@@ -63,15 +63,6 @@ fn is_true(value: Option<Value<'_>>) -> bool
         Some(Value::Flag(flag)) => flag,
         _ => false,
     }
-}
-
-/// What is read of the unit with a number.
-#[inline(always)]
-fn unit_at(units: &[UnitFacts], number: usize) -> UnitFacts
-    requires { number < length units.now }
-    ensures { slice_get units.now number ≡ Some result }
-{
-    units[number]
 }
 
 /// One entry. Its tag and its parent are at hand; each other fact is read when it is asked, and asking for one

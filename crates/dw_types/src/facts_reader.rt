@@ -1,10 +1,11 @@
 //! What stands under an attribute of an entry, and what is read of a unit once for all its entries.
 
-ghost use Rattle.std.specs.Prelude.{◌≡◌};
+ghost use Rattle.std.specs.Prelude.{◌≡◌, ◌<◌, Some, length, slice_get};
 
 use crate::constant::Constant;
 use dw_entries::constants::*;
 use dw_entries::{Attribute, Entries, EntryId, Value};
+use std::alloc::{AllocError, Global};
 
 impl Constant {
     ghost use Rattle.std.specs.Prelude.{◌≡◌, ◌<◌, length, slice_get, option_map, IfSome};
@@ -48,7 +49,7 @@ impl Constant {
 
 /// What is read of a unit, once for all its entries.
 #[derive(Clone, Copy, Debug)]
-pub(crate) struct UnitFacts {
+pub struct UnitFacts {
     /// How many bytes an address has.
     pub address_size: u8,
     /// DW_AT_language of the first entry.
@@ -56,13 +57,13 @@ pub(crate) struct UnitFacts {
 }
 
 impl UnitFacts {
-    ghost use Rattle.std.specs.Prelude.{◌≡◌, ◌<◌, length, slice_get, IfSome};
+    ghost use Rattle.std.specs.Prelude.{◌≡◌, ◌<◌, length, slice_get, IfOk, IfSome};
     ghost use Rattle.dw_entries.specs.Entries.{placed};
     ghost use Rattle.dw_entries.specs.Scanned.{units_of};
-    ghost use Rattle.dw_types.specs.UnitsRead.{unit_facts};
+    ghost use Rattle.dw_types.specs.UnitsRead.{all_unit_facts, unit_facts};
 
     /// What is read of the unit with a number.
-    pub(crate) fn read(entries: &Entries<'_>, number: usize) -> Self
+    fn read(entries: &Entries<'_>, number: usize) -> Self
         requires { number < length (units_of entries.now.scanned) }
         ensures { IfSome (slice_get (placed (units_of entries.now.scanned)) number) (λ u. result ≡ unit_facts u) }
     {
@@ -72,6 +73,27 @@ impl UnitFacts {
             language: Constant::read(entries, unit.first, DW_AT_language),
         }
     }
+
+    /// What is read of each unit, in their order.
+    pub fn read_all(alloc: Global, entries: &Entries<'_>) -> Result<Vec<UnitFacts>, AllocError>
+        ensures { IfOk result (λ units. units.items ≡ all_unit_facts (units_of entries.now.scanned)) }
+    {
+        let count = entries.unit_count();
+        let mut units = Vec::with_capacity(alloc, count)?;
+        for number in 0..count {
+            units.push(UnitFacts::read(entries, number))?;
+        }
+        Ok(units)
+    }
+}
+
+/// What is read of the unit with a number.
+#[inline(always)]
+pub(crate) fn unit_at(units: &[UnitFacts], number: usize) -> UnitFacts
+    requires { number < length units.now }
+    ensures { slice_get units.now number ≡ Some result }
+{
+    units[number]
 }
 
 /// The number of an entry that is named, if one is.

@@ -34,6 +34,7 @@ pub use constant::Constant;
 pub use count::count_at;
 pub use dw_entries::constants;
 pub use facts::Facts;
+pub use facts_reader::UnitFacts;
 pub use graph::StepGraph;
 pub use laws::container_has_its_own_size;
 pub use memory::NoMemory;

@@ -52,14 +52,14 @@ impl Order {
     }
 
     /// How many ranks there are.
-    pub(crate) fn count(&self) -> usize
+    pub fn count(&self) -> usize
         ensures { result ≡ length self.now.by_rank }
     {
         self.by_rank.len()
     }
 
     /// The node of a rank.
-    pub(crate) fn node(&self, rank: usize) -> usize
+    pub fn node(&self, rank: usize) -> usize
         requires { rank < length self.now.by_rank }
         ensures { result ≡ slice_index self.now.by_rank rank }
     {

@@ -14,9 +14,11 @@ ghost use Rattle.dw_types.specs.SizeTables.{size_at};
 ghost use Rattle.dw_types.specs.Steps.{by_value};
 ghost use Rattle.dw_entries.specs.Stopped.{IfFault};
 ghost use Rattle.dw_types.specs.TypeFailures.{IsFirstAt, PassAll};
+ghost use Rattle.dw_types.specs.UnitsRead.{all_unit_facts};
 
 use crate::element_count::element_counts;
 use crate::entry_facts::EntryFacts;
+use crate::facts_reader::UnitFacts;
 use crate::fault::fault_at_entry;
 use crate::ranking::Order;
 use crate::roles::Roles;
@@ -107,15 +109,17 @@ fn sizes_of_facts(
     }
 }
 
-/// The one table of sizes, or the first fault of sizes. The links are those of the entries, and the order
-/// is that of their graph of steps by value, or of its packed form.
+/// The one table of sizes, or the first fault of sizes. The links and what is read of units are those of the
+/// entries, and the order is that of their graph of steps by value, or of its packed form.
 pub fn sizes(
     alloc: Global,
     entries: &Entries<'_>,
     links: &Links<'_, '_>,
+    units: &[UnitFacts],
     order: &Order,
 ) -> Result<SizeTable, Stop>
     requires links { units_of links.now.entries.now.scanned ≡ units_of entries.now.scanned }
+    requires units { units.now ≡ all_unit_facts (units_of entries.now.scanned) }
     requires order { IsOrderOf (by_value (facts_in (units_of entries.now.scanned))) order.now }
     ensures long { IfOk result (λ table. length table ≡ length (entries_of (units_of entries.now.scanned))) }
     ensures only { IfOk result (λ table. IsSizeTable (facts_in (units_of entries.now.scanned)) (size_at table)) }
@@ -123,6 +127,6 @@ pub fn sizes(
         (SizeFailures (facts_in (units_of entries.now.scanned)) (size_at table))) }
     ensures fault { IfErr result (IfFault (IsFirstSizeFault (facts_in (units_of entries.now.scanned)))) }
 {
-    let facts = EntryFacts::new(alloc, entries, links)?;
+    let facts = EntryFacts::new(entries, links, units);
     sizes_of_facts(alloc, &facts, order)
 }

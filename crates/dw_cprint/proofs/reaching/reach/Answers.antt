@@ -6,24 +6,33 @@ use Rattle.dw_image.specs.Images.{entries_in}
 use Rattle.dw_cprint.specs.EntryShapes.{shape_in}
 use Rattle.dw_cprint.specs.Reach.{FindsAll}
 use Rattle.dw_cprint.specs.Regular.{IsRegular}
-use Rattle.dw_cprint.specs.Shapes.{ShapeOf, view_shape}
+use Rattle.dw_cprint.specs.Shapes.{ShapeOf, TypeAt, view_shape}
 use Rattle.dw_cprint.specs.Steps.{entries_of, steps_reached, types_reached}
 use Rattle.dw_cprint.specs.declared.shape.Shape.{Shape}
+use Rattle.dw_cprint.proofs.LevelLemmas.{few-entries}
 use Rattle.dw_cprint.proofs.ReachLemmas.{so_far-start, so_far-more, so_far-done, read-done, leads-so_far, room, fewer-left}
 use Rattle.dw_cprint.proofs.WithinLemmas.{shape_within}
 use Rattle.dw_cprint.proofs.reaching.reach.Goals as goal
 
 pub loop-alloc-init : goal.loop-alloc-init
 loop-alloc-init c =
-    let P : List ℕ → Type 0 = λ f. FindsAll (entries_of c.args.types.now) c.in_ok-places.places.items c.row_of.new.places.items f c.row_of.new.found.items c.in_ok-_roots._roots.items in
+    let P : List ℕ → Type 0 = λ f. FindsAll (entries_of c.args.types.now) c.in_ok-places.places.items c.row_of.new.places.items f c.row_of.new.found.items c.in_ok-roots.roots.items in
     let R : List Shape → Type 0 = λ xs. All (λ (shape : Shape). IsRegular (view_shape shape)) xs in
     let long : length c.in_ok-places.places.items ≡ c.entries.result = search rules in (
       so_far-start (shape_in c.args.image.now) (entries_of c.args.types.now) c.in_ok-places.places.items c.row_of.new.places.items c.row_of.new.found.items c.new-rows.result.items
-          (map view_shape c.new-shapes.result.items) c.in_ok-_roots._roots.items c.new-rows.ensures.items (ap (map view_shape) c.new-shapes.ensures.items)
-          (subst P c.new-found.ensures.items c.in_ok-_roots.ensures.row),
-      c.in_ok-_roots.ensures.places ∙ (long ∙ c.entries.ensures),
+          (map view_shape c.new-shapes.result.items) c.in_ok-roots.roots.items c.new-rows.ensures.items (ap (map view_shape) c.new-shapes.ensures.items)
+          (subst P c.new-found.ensures.items c.in_ok-roots.ensures.row),
+      c.in_ok-roots.ensures.places ∙ (long ∙ c.entries.ensures),
       subst R (sym c.new-shapes.ensures.items) (All-nil (λ (shape : Shape). IsRegular (view_shape shape))),
     )
+
+pub row_of-requires-clause-few : goal.row_of-requires-clause-few
+row_of-requires-clause-few c =
+    let long : length c.in_ok-places.places.items ≡ c.entries.result = search rules in
+    omega (arith, few-entries c.args.image.now, long, c.entries.ensures)
+
+pub row_of-requires-in-loop-alloc-clause-few : goal.row_of-requires-in-loop-alloc-clause-few
+row_of-requires-in-loop-alloc-clause-few c = omega (arith, few-entries c.args.image.now, c.loop-alloc.invariant.1)
 
 pub shape_at-requires : goal.shape_at-requires
 shape_at-requires c =
@@ -42,8 +51,10 @@ pub row_of-requires-in-loop-alloc-clause-within : goal.row_of-requires-in-loop-a
 row_of-requires-in-loop-alloc-clause-within c =
     let shapes = shape_in c.args.image.now in
     let entry = c.index-entry.result.now in
+    let next : c.put_reached_types.new.types.items ≡ types_reached (view_shape c.in_ok-shape.shape) =
+    c.in_ok-put_reached_types.ensures ∙ ap (λ (types : List TypeAt). types ++ types_reached (view_shape c.in_ok-shape.shape)) c.clear.ensures.items in
     let steps : steps_reached shapes entry ≡ entries_of c.deref.result.now =
-    ap (λ (s : ShapeOf). entries_of (types_reached s)) (sym c.in_ok-shape.ensures.shape) ∙ ap entries_of (sym (c.deref.ensures.value ∙ c.in_ok-next.ensures)) in
+    ap (λ (s : ShapeOf). entries_of (types_reached s)) (sym c.in_ok-shape.ensures.shape) ∙ ap entries_of (sym (c.deref.ensures.value ∙ next)) in
     let P : List ℕ → ℕ → Type 0 = λ xs n. All (λ to. to < n) xs in
     subst (λ (n : ℕ). P (entries_of c.deref.result.now) n) (sym c.loop-alloc.invariant.1)
     (subst (λ (xs : List ℕ). P xs (length (entries_in c.args.image.now))) steps (shape_within c.args.image.now entry).all.all)
@@ -74,8 +85,10 @@ loop-alloc-preserved c =
     let shape : view_shape c.in_ok-shape.shape ≡ shapes (get_or found (length old) 0) = c.in_ok-shape.ensures.shape ∙ ap shapes entry in
     let seen : map view_shape c.push.new.self.items ≡ read ++ shapes (get_or found (length old) 0) ∷ [] =
     ap (map view_shape) c.in_ok-push.ensures.items ∙ map-append view_shape c.loop-alloc.shapes.items (c.in_ok-shape.shape ∷ []) ∙ ap (λ (s : ShapeOf). read ++ s ∷ []) shape in
+    let next : c.put_reached_types.new.types.items ≡ types_reached (view_shape c.in_ok-shape.shape) =
+    c.in_ok-put_reached_types.ensures ∙ ap (λ (types : List TypeAt). types ++ types_reached (view_shape c.in_ok-shape.shape)) c.clear.ensures.items in
     let steps : entries_of c.deref.result.now ≡ steps_reached shapes (get_or found (length old) 0) =
-    ap entries_of (c.deref.ensures.value ∙ c.in_ok-next.ensures) ∙ ap (λ (s : ShapeOf). entries_of (types_reached s)) shape in
+    ap entries_of (c.deref.ensures.value ∙ next) ∙ ap (λ (s : ShapeOf). entries_of (types_reached s)) shape in
     let R : List Shape → Type 0 = λ xs. All (λ (shape : Shape). IsRegular (view_shape shape)) xs in
     let r = c.in_ok-row_of.field-0 in
     let p2 = c.row_of-in-loop-alloc.new.places.items in

@@ -4,7 +4,8 @@ use Rattle.dw_entries.specs.Scanned.{units_of}
 use Rattle.dw_entries.specs.Views.{sections_of}
 use Rattle.dw_entries.specs.Entries.{entries_of, placed}
 use Rattle.dw_entries.proofs.StopLaws.{faulty_weaker}
-use Rattle.dw_types.specs.Graphs.{HasNoCycle}
+use Rattle.dw_types.specs.Graphs.{Graph, HasNoCycle}
+use Rattle.dw_types.specs.Orders.{IsOrderOf}
 use Rattle.dw_types.proofs.FactsLemmas.{length-facts_of}
 use Rattle.dw_image.proofs.MeasureLemmas.{wrong_shape, contains_itself, wrong_size}
 use Rattle.dw_image.proofs.measuring.measure.Goals as goal
@@ -35,6 +36,11 @@ returns-in-Ok-clause-sound c =
       long = c.in_ok-sizes-in-Ok.ensures.long ∙ sym (length-facts_of (entries_of us) (placed us));
       sizes = record { one = c.in_ok-sizes-in-Ok.ensures.only; none = c.in_ok-sizes-in-Ok.ensures.sound };
     }
+
+pub returns-in-Ok-clause-order : goal.returns-in-Ok-clause-order
+returns-in-Ok-clause-order c =
+    let O : Graph → Type 0 = λ g. IsOrderOf g c.in-Ok.order in
+    subst O (c.into_packed-steps.ensures ∙ c.in_ok-new.ensures.graph) c.in-Ok.ensures.ok
 
 pub returns-in-Err-Cycle-clause-fault : goal.returns-in-Err-Cycle-clause-fault
 returns-in-Err-Cycle-clause-fault c =

@@ -42,5 +42,7 @@ invariant_of-result c = record {
   classes = c.in_ok-check_classes.ensures.ok;
   strings = c.in_ok-check_strings.ensures.ok;
   references = c.in_ok-links.ensures.ok;
+  units_read = c.in_ok-units.ensures;
+  ordered = c.in_ok-steps.ensures.order;
   measured = c.in_ok-steps.ensures.sound;
 }

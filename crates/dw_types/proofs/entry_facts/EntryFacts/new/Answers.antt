@@ -1,23 +1,10 @@
-use Rattle.std.proofs.Common.{arith, ◌<◌, ◌≤◌, length, ◌∙◌}
+use Rattle.std.proofs.Common.{arith}
 use Rattle.dw_entries.specs.Entries.{entries_of, placed}
 use Rattle.dw_entries.specs.Scanned.{units_of}
 use Rattle.dw_entries.proofs.FindLaws.{entries_counted}
 use Rattle.dw_entries.proofs.OrderLaws.{scanned_few}
 use Rattle.dw_types.proofs.FactsLemmas.{length-facts_of, facts-parents_first, facts-rise, facts-targets}
-use Rattle.dw_types.proofs.UnitLemmas.{units-all, units-more}
 use Rattle.dw_types.proofs.entry_facts.EntryFacts.new.Goals as goal
-
-pub loop-number-preserved : goal.loop-number-preserved
-loop-number-preserved c =
-    let us = units_of c.args.entries.now.scanned in
-    let inside : c.loop-number.number < length us = rw (← c.unit_count-count.ensures) c.loop-number-test.true in
-    rw (c.in_ok-push.ensures.items, c.loop-number.invariant) (units-more us c.loop-number.number c.read.result inside c.read.ensures)
-
-pub invariant_of-result : goal.invariant_of-result
-invariant_of-result c =
-    let us = units_of c.args.entries.now.scanned in
-    let over : length us ≤ c.loop-number.number = rw (← c.unit_count-count.ensures) c.loop-number-test.false in
-    (c.loop-number.invariant ∙ units-all us c.loop-number.number over, c.requires)
 
 pub returns-clause-parents : goal.returns-clause-parents
 returns-clause-parents c = facts-parents_first (units_of c.args.entries.now.scanned)

@@ -4,7 +4,7 @@ use Rattle.dw_cprint.specs.EntryShapes.{member_at}
 use Rattle.dw_cprint.specs.EntryShapes.{is_plain_member}
 use Rattle.dw_cprint.specs.Shapes.{view_member}
 use Rattle.dw_cprint.specs.Regular.{HasCountedBits}
-use Rattle.dw_cprint.proofs.shape_reader.members_of.Given as goal
+use Rattle.dw_cprint.proofs.body_reader.members_of.Given as goal
 
 abbrev pub invariant-loop-child : goal.invariant-loop-child
 invariant-loop-child l = record {

@@ -8,8 +8,8 @@ use Rattle.dw_cprint.specs.EntryShapes.{is_plain_member}
 use Rattle.dw_cprint.specs.Shapes.{MemberOf, view_member}
 use Rattle.dw_cprint.specs.Regular.{HasCountedBits}
 use Rattle.dw_cprint.proofs.ShapeLemmas.{taken, passed, seen}
-use Rattle.dw_cprint.proofs.shape_reader.members_of.Goals.{then-is_plain_member+in_ok-push, else-is_plain_member}
-use Rattle.dw_cprint.proofs.shape_reader.members_of.Goals as goal
+use Rattle.dw_cprint.proofs.body_reader.members_of.Goals.{then-is_plain_member+in_ok-push, else-is_plain_member}
+use Rattle.dw_cprint.proofs.body_reader.members_of.Goals as goal
 
 pub loop-child-preserved : goal.loop-child-preserved
 loop-child-preserved c =

@@ -4,7 +4,7 @@ use Rattle.dw_cprint.specs.EntryShapes.{enumerator_at}
 use Rattle.dw_cprint.specs.EntryShapes.{is_enumerator}
 use Rattle.dw_cprint.specs.Shapes.{view_enumerator}
 use Rattle.dw_cprint.specs.Regular.{HasValue}
-use Rattle.dw_cprint.proofs.shape_reader.enumerators_of.Given as goal
+use Rattle.dw_cprint.proofs.body_reader.enumerators_of.Given as goal
 
 abbrev pub invariant-loop-child : goal.invariant-loop-child
 invariant-loop-child l = record {

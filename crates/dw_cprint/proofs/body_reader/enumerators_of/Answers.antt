@@ -8,8 +8,8 @@ use Rattle.dw_cprint.specs.EntryShapes.{is_enumerator}
 use Rattle.dw_cprint.specs.Shapes.{EnumeratorOf, view_enumerator}
 use Rattle.dw_cprint.specs.Regular.{HasValue}
 use Rattle.dw_cprint.proofs.ShapeLemmas.{taken, passed, seen}
-use Rattle.dw_cprint.proofs.shape_reader.enumerators_of.Goals.{then-is_enumerator+in_ok-push, else-is_enumerator}
-use Rattle.dw_cprint.proofs.shape_reader.enumerators_of.Goals as goal
+use Rattle.dw_cprint.proofs.body_reader.enumerators_of.Goals.{then-is_enumerator+in_ok-push, else-is_enumerator}
+use Rattle.dw_cprint.proofs.body_reader.enumerators_of.Goals as goal
 
 pub loop-child-preserved : goal.loop-child-preserved
 loop-child-preserved c =

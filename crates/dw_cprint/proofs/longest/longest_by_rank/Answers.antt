@@ -1,0 +1,43 @@
+use Rattle.std.proofs.Common.{◌<◌, ◌≤◌, length, get_or, arith, ◌∙◌, length-set}
+use Rattle.dw_cprint.specs.LongestRows.{IsAbove}
+use Rattle.dw_cprint.proofs.LongestLemmas.{known-step, known-more, known-all, ranked-clear, ranked-longest}
+use Rattle.dw_cprint.proofs.longest.longest_by_rank.Goals as goal
+
+pub one_above-most-requires-clause-node : goal.one_above-most-requires-clause-node
+one_above-most-requires-clause-node g c =
+    let below : c.loop-rank.rank < length c.args.order.now.by_rank = rw (← c.count-rank-end.ensures) c.loop-rank-test.true in
+    rw c.node-node.ensures ((c.requires.ranked c.loop-rank.rank below).0)
+
+pub one_above-most-requires-clause-fits : goal.one_above-most-requires-clause-fits
+one_above-most-requires-clause-fits g c =
+    let graph = g.G.StepGraph.graph c.args.graph.now in
+    let order = c.args.order.now in
+    let clear = ranked-clear graph order (g.met.G.StepGraph.leads_to_nodes c.args.graph.now) c.requires in
+    let below : c.loop-rank.rank < length order.by_rank = rw (← c.count-rank-end.ensures) c.loop-rank-test.true in
+    rw (c.as_slice.ensures.value, c.node-node.ensures)
+    (λ k within.
+    let step = known-step graph order.by_rank clear c.loop-rank.counts.items c.loop-rank.rank c.loop-rank.invariant.1 below k within in
+    omega (arith, step.1))
+
+pub loop-rank-preserved : goal.loop-rank-preserved
+loop-rank-preserved g c =
+    let graph = g.G.StepGraph.graph c.args.graph.now in
+    let order = c.args.order.now in
+    let clear = ranked-clear graph order (g.met.G.StepGraph.leads_to_nodes c.args.graph.now) c.requires in
+    let counts = c.loop-rank.counts.items in
+    let rank = c.loop-rank.rank in
+    let count = c.one_above-most.result in
+    let below : rank < length order.by_rank = rw (← c.count-rank-end.ensures) c.loop-rank-test.true in
+    let above : IsAbove graph counts (get_or order.by_rank rank 0) count = rw (c.as_slice.ensures.value, c.node-node.ensures) at c.one_above-most.ensures in
+    rw c.node-node.ensures (
+      length-set counts (get_or order.by_rank rank 0) count ∙ c.loop-rank.invariant.0,
+      known-more graph order.by_rank clear counts rank count c.loop-rank.invariant.0 below c.loop-rank.invariant.1 above,
+    )
+
+pub returns-clause-longest : goal.returns-clause-longest
+returns-clause-longest g c =
+    let graph = g.G.StepGraph.graph c.args.graph.now in
+    let order = c.args.order.now in
+    let clear = ranked-clear graph order (g.met.G.StepGraph.leads_to_nodes c.args.graph.now) c.requires in
+    let over : length order.by_rank ≤ c.loop-rank.rank = rw (← c.count-rank-end.ensures) c.loop-rank-test.false in
+    ranked-longest graph order _ c.requires (known-all graph order.by_rank clear c.loop-rank.counts.items c.loop-rank.rank over c.loop-rank.invariant.1)

@@ -1,0 +1,164 @@
+//! The bodies of structures, unions and enumerations, read from an image.
+
+ghost use Rattle.std.specs.Prelude.{◌≡◌, ◌<◌, length, IfOk, All, map, filter};
+ghost use Rattle.std.specs.List.{list_any};
+ghost use Rattle.dw_image.specs.Images.{entries_in};
+ghost use Rattle.dw_cprint.specs.EntryShapes.{has_tag, is_plain_member, member_at, is_enumerator, enumerator_at};
+ghost use Rattle.dw_cprint.specs.EntryShapes.{members_in, enumerators_in, is_odd};
+ghost use Rattle.dw_cprint.specs.Regular.{HasCountedBits, HasValue};
+ghost use Rattle.dw_cprint.specs.Shapes.{view_member, view_enumerator};
+
+use crate::look_ups::{bits_at, children_at, declared_at, name_at, number_at, tag_at, type_at};
+use crate::shape::{Enumerator, Member};
+use dw_entries::Tag;
+use dw_entries::constants::*;
+use dw_image::{EntryId, Image};
+use std::alloc::{AllocError, Global};
+
+/// Whether one of these children has one of two tags.
+pub fn has_child(image: &Image<'_>, children: &[EntryId], one: Tag, another: Tag) -> bool
+    requires { All (λ child. child < length (entries_in image.now)) children.now }
+    ensures { result ≡ list_any (has_tag image.now one another) children.now }
+{
+    children.iter().any(|child| {
+        let tag = tag_at(image, *child);
+        tag == one || tag == another
+    })
+}
+
+/// Whether one of these children cannot be in a body of C: an inheritance or a variant part.
+fn has_odd_child(image: &Image<'_>, children: &[EntryId]) -> bool
+    requires { All (λ child. child < length (entries_in image.now)) children.now }
+    ensures { result ≡ list_any (has_tag image.now 0x1c 0x33) children.now }
+{
+    has_child(image, children, DW_TAG_inheritance, DW_TAG_variant_part)
+}
+
+/// A plain member.
+fn member_at<'a>(image: &Image<'a>, id: EntryId) -> Member<'a>
+    requires { id < length (entries_in image.now) }
+    ensures member { view_member result ≡ member_at image.now id }
+    ensures fit { HasCountedBits (view_member result) }
+{
+    Member {
+        name: name_at(image, id),
+        type_at: type_at(image, id),
+        bits: bits_at(image, id),
+    }
+}
+
+/// Whether an entry is a plain member, where it is a child of a structure or union that is not declared.
+fn is_plain_member(image: &Image<'_>, id: EntryId) -> bool
+    requires { id < length (entries_in image.now) }
+    ensures { result ≡ is_plain_member image.now id }
+{
+    tag_at(image, id) == DW_TAG_member && !declared_at(image, id)
+}
+
+/// The plain members among these children.
+fn members_of<'a>(
+    alloc: Global,
+    image: &Image<'a>,
+    children: &[EntryId],
+) -> Result<Vec<Member<'a>>, AllocError>
+    requires { All (λ child. child < length (entries_in image.now)) children.now }
+    ensures members { IfOk result (λ members. map view_member members.items
+        ≡ map (member_at image.now) (filter (is_plain_member image.now) children.now)) }
+    ensures fit { IfOk result (λ members. All HasCountedBits (map view_member members.items)) }
+{
+    let mut members = Vec::with_capacity(alloc, children.len())?;
+    for child in children {
+        if is_plain_member(image, *child) {
+            members.push(member_at(image, *child))?;
+        }
+    }
+    Ok(members)
+}
+
+/// An enumerator.
+fn enumerator_at<'a>(image: &Image<'a>, id: EntryId) -> Enumerator<'a>
+    requires { id < length (entries_in image.now) }
+    ensures enumerator { view_enumerator result ≡ enumerator_at image.now id }
+    ensures fit { HasValue (view_enumerator result) }
+{
+    Enumerator {
+        name: name_at(image, id),
+        value: number_at(image, id, DW_AT_const_value),
+    }
+}
+
+/// Whether an entry is an enumerator.
+fn is_enumerator(image: &Image<'_>, id: EntryId) -> bool
+    requires { id < length (entries_in image.now) }
+    ensures { result ≡ is_enumerator image.now id }
+{
+    tag_at(image, id) == DW_TAG_enumerator
+}
+
+/// The enumerators among these children.
+fn enumerators_of<'a>(
+    alloc: Global,
+    image: &Image<'a>,
+    children: &[EntryId],
+) -> Result<Vec<Enumerator<'a>>, AllocError>
+    requires { All (λ child. child < length (entries_in image.now)) children.now }
+    ensures enumerators { IfOk result (λ enumerators. map view_enumerator enumerators.items
+        ≡ map (enumerator_at image.now) (filter (is_enumerator image.now) children.now)) }
+    ensures fit { IfOk result (λ enumerators. All HasValue (map view_enumerator enumerators.items)) }
+{
+    let mut enumerators = Vec::with_capacity(alloc, children.len())?;
+    for child in children {
+        if is_enumerator(image, *child) {
+            enumerators.push(enumerator_at(image, *child))?;
+        }
+    }
+    Ok(enumerators)
+}
+
+/// What is in the body of a structure or union.
+#[derive(Drop)]
+pub struct MemberBody<'a> {
+    pub odd: bool,
+    pub members: Vec<Member<'a>>,
+}
+
+/// The body of a structure or union that is not declared.
+pub fn member_body<'a>(
+    alloc: Global,
+    image: &Image<'a>,
+    id: EntryId,
+) -> Result<MemberBody<'a>, AllocError>
+    requires { id < length (entries_in image.now) }
+    ensures odd { IfOk result (λ it. it.odd ≡ is_odd image.now id) }
+    ensures members { IfOk result (λ it. map view_member it.members.items ≡ members_in image.now id) }
+    ensures fit { IfOk result (λ it. All HasCountedBits (map view_member it.members.items)) }
+{
+    let children = children_at(alloc, image, id)?;
+    let odd = has_odd_child(image, &children);
+    let members = members_of(alloc, image, &children)?;
+    Ok(MemberBody { odd, members })
+}
+
+/// What is in the body of an enumeration.
+#[derive(Drop)]
+pub struct EnumeratorBody<'a> {
+    pub odd: bool,
+    pub enumerators: Vec<Enumerator<'a>>,
+}
+
+/// The body of an enumeration that is not declared.
+pub fn enumerator_body<'a>(
+    alloc: Global,
+    image: &Image<'a>,
+    id: EntryId,
+) -> Result<EnumeratorBody<'a>, AllocError>
+    requires { id < length (entries_in image.now) }
+    ensures odd { IfOk result (λ it. it.odd ≡ is_odd image.now id) }
+    ensures enumerators { IfOk result (λ it. map view_enumerator it.enumerators.items ≡ enumerators_in image.now id) }
+    ensures fit { IfOk result (λ it. All HasValue (map view_enumerator it.enumerators.items)) }
+{
+    let children = children_at(alloc, image, id)?;
+    let odd = has_odd_child(image, &children);
+    let enumerators = enumerators_of(alloc, image, &children)?;
+    Ok(EnumeratorBody { odd, enumerators })
+}
