@@ -1,7 +1,6 @@
 -- Chapter: rules on the attributes of entries, and the declarations at which none of them can fail.
 use Rattle.std.specs.Prelude.{◌≡◌, ℕ, List, Option, Some, slice_get}
 use Rattle.dw_forms.specs.Value.{Datum}
-use Rattle.dw_forms.specs.Abbrev.{Declaration}
 use Rattle.dw_forms.specs.declared.decl.AttributeSpec.{AttributeSpec}
 use Rattle.dw_entries.specs.declared.rule.Rule.{Rule}
 use Rattle.dw_entries.specs.declared.fault.Broken.{Broken}
@@ -28,11 +27,6 @@ Passes Fails spec = (x : Context) (a : Attribute) → IsAttribute x spec a → (
 -- nor at any of a declaration
 abbrev pub AllPass : Rules → List AttributeSpec → Type 0
 AllPass Fails specs = (k : ℕ) (spec : AttributeSpec) → slice_get specs k ≡ Some spec → Passes Fails spec
-
--- nor at any of these declarations
-abbrev pub EachPasses : Rules → List Declaration → Type 0
-EachPasses Fails decls = (place : ℕ) (decl : Declaration) → slice_get decls place ≡ Some decl
-    → AllPass Fails decl.attributes
 
 -- no rule fails at an entry that was looked up
 abbrev pub PassesAt : Option Entry → (Entry → Failure → Type 0) → Type 0

@@ -13,10 +13,10 @@ ghost use Rattle.dw_entries.specs.Lookups.{entry_head};
 ghost use Rattle.dw_entries.specs.Failures.{HasNone, IsFirst, IsLeast};
 ghost use Rattle.dw_entries.specs.Asked.{AtEntries};
 ghost use Rattle.dw_entries.specs.Chosen.{OthersPass};
-ghost use Rattle.dw_links.specs.Concerns.{AtHead, Passes, AllPass, EachPasses, PassesAt, FailsAt};
+ghost use Rattle.dw_links.specs.Concerns.{AtHead, Passes, AllPass, PassesAt, FailsAt};
 
 use dw_entries::{Broken, Choice, Entries, EntryAt, Fault, Head, Rule, Section};
-use dw_forms::{Attribute, AttributeSpec, DeclRow, Value};
+use dw_forms::{Attribute, AttributeSpec, Value};
 use std::alloc::Global;
 
 /// Rules that are asked of each attribute of each entry.
@@ -99,24 +99,12 @@ pub fn concerns_any<R: AttributeRules>(rules: &R, specs: &[AttributeSpec]) -> bo
     false
 }
 
-/// Whether a rule may fail at an attribute of a declaration in a row.
-fn concerns_row<R: AttributeRules>(rules: &R, row: &DeclRow) -> bool
-    ensures { OnFalse result (EachPasses (R.fails rules.now) row.now) }
-{
-    for place in 0..row.len() {
-        if concerns_any(rules, row.decl(place).attributes.as_slice()) {
-            return true;
-        }
-    }
-    false
-}
-
 /// Whether a rule may fail at an attribute of any entry, by the declarations alone.
 pub fn concerns_entries<R: AttributeRules>(rules: &R, entries: &Entries<'_>) -> bool
     ensures { OnFalse result (HasNone (AtEntries (all_entries entries.now.scanned) (AtHead (R.fails rules.now)))) }
 {
-    for row in entries.rows() {
-        if concerns_row(rules, row) {
+    for kept in entries.decls() {
+        if concerns_any(rules, kept.decl.attributes.as_slice()) {
             return true;
         }
     }

@@ -6,6 +6,6 @@ use Rattle.dw_links.proofs.rules.concerns_entries.Goals as goal
 
 pub returns : goal.returns
 returns g c =
-    let rows = c.rows-row-items.result.now in
-    none_concerned _ _ (units_of c.args.entries.now.scanned) rows (g.R.AttributeRules.fails c.args.rules.now) c.args.entries.now.scanned.1.spells c.rows-row-items.ensures
-    (λ k row is. c.loop-row.invariant k row (omega (arith, slice_get_within rows k row is, c.loop-row-test.false)) is)
+    let kept = c.decls-kept-items.result.now in
+    none_concerned _ _ (units_of c.args.entries.now.scanned) kept (g.R.AttributeRules.fails c.args.rules.now) c.args.entries.now.scanned.1.spells c.decls-kept-items.ensures
+    (λ k x is. c.loop-kept.invariant k x (omega (arith, slice_get_within kept k x is, c.loop-kept-test.false)) is)

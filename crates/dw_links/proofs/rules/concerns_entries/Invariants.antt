@@ -1,8 +1,8 @@
-use Rattle.std.proofs.Common.{ℕ, ◌≡◌, ◌<◌, List, Some}
+use Rattle.std.proofs.Common.{ℕ, ◌≡◌, ◌<◌, Some}
 use Rattle.std.specs.Prelude.{slice_get}
-use Rattle.dw_forms.specs.Abbrev.{Declaration}
-use Rattle.dw_links.specs.Concerns.{EachPasses}
+use Rattle.dw_forms.specs.declared.abbrev_tables.KeptDecl.{KeptDecl}
+use Rattle.dw_links.specs.Concerns.{AllPass}
 use Rattle.dw_links.proofs.rules.concerns_entries.Given as goal
 
-abbrev pub invariant-loop-row : goal.invariant-loop-row
-invariant-loop-row g l = (k : ℕ) (row : List Declaration) → k < l.row-index → slice_get l.row-items k ≡ Some row → EachPasses (g.R.AttributeRules.fails l.rules) row
+abbrev pub invariant-loop-kept : goal.invariant-loop-kept
+invariant-loop-kept g l = (k : ℕ) (x : KeptDecl) → k < l.kept-index → slice_get l.kept-items k ≡ Some x → AllPass (g.R.AttributeRules.fails l.rules) x.decl.attributes
