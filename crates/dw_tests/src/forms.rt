@@ -1,6 +1,6 @@
 //! Numbers, tables and values.
 
 mod numbers;
-mod rows;
+mod overlaps;
 mod tables;
 mod values;

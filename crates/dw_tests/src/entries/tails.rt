@@ -30,7 +30,7 @@ fn tails(rt: HostRuntime) -> Result<(), Fail> {
         let info = units_of(rt.alloc(), order)?;
         let entries = scanned(rt.alloc(), &ROW, &info)?;
         assert_eq!(rt; (entries.unit_count(), entries.count()), (5, 5));
-        assert_eq!(rt; entries.rows().len(), 1);
+        assert_eq!(rt; entries.decls().len(), 3);
     }
     Ok(())
 }
@@ -47,11 +47,11 @@ const MIDDLE: [u8; 69] = [
     10, 0, 0, 0, 5, 0, 1, 8, 6, 0, 0, 0, 0x82, 1,
 ];
 
-// A table that begins inside a declaration and meets the declarations after it keeps declarations of its own.
+// A table that begins inside a declaration shares the declarations after it.
 #[test]
-fn a_row_met_in_its_middle(rt: HostRuntime) -> Result<(), Fail> {
+fn a_table_inside_a_declaration(rt: HostRuntime) -> Result<(), Fail> {
     let entries = scanned(rt.alloc(), &TWO_BYTES, &MIDDLE)?;
     assert_eq!(rt; (entries.unit_count(), entries.count()), (5, 5));
-    assert_eq!(rt; entries.rows().len(), 2);
+    assert_eq!(rt; entries.decls().len(), 3);
     Ok(())
 }

@@ -14,7 +14,7 @@ fn tables_of_units(rt: HostRuntime) -> Result<(), Fail> {
     let info = joined(rt.alloc(), &[&B4, &B])?;
     let entries = scanned(rt.alloc(), &A, &info)?;
     assert_eq!(rt; (entries.unit_count(), entries.count()), (2, 4));
-    assert_eq!(rt; entries.rows().len(), 1);
+    assert_eq!(rt; entries.decls().len(), 2);
     let Some(id) = entries.find(0x25) else {
         return Err("no entry".into());
     };
@@ -28,7 +28,7 @@ fn tables_of_units(rt: HostRuntime) -> Result<(), Fail> {
     let info = joined(rt.alloc(), &[&PARTIAL, &other])?;
     let entries = scanned(rt.alloc(), &tables, &info)?;
     assert_eq!(rt; (entries.unit_count(), entries.count()), (2, 4));
-    assert_eq!(rt; entries.rows().len(), 2);
+    assert_eq!(rt; entries.decls().len(), 17);
     Ok(())
 }
 
