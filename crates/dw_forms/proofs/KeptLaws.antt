@@ -71,18 +71,6 @@ none_number kept table code none = rw (none, table_none kept) refl
 pub none_codes : (nodes : List Node) (kept : List KeptDecl) (table : ℕ) → AreKept nodes kept → table ≡ 0 → IsMapOf nodes (numbered_in (tables_of kept) table) 0
 none_codes nodes kept table are none = rw (none, table_none kept) are.none
 
--- what is known of the table of a number
-pub found_by : (nodes : List Node) (kept : List KeptDecl) (table : ℕ) (x : KeptDecl) → AreKept nodes kept → 0 < table → table ≤ length kept → x ≡ get_or kept (table - 1) x → IsFoundBy nodes kept table x
-found_by nodes kept table x are some within read =
-    let whole : suc (table - 1) ≡ table = omega (arith, some) in
-    subst (λ (n : ℕ). IsFoundBy nodes kept n x) whole (are.each (table - 1) x (omega (arith, some, within)) read)
-
--- a code of the run
-pub in_run : (table : List Numbered) (run base code number : ℕ) → IsRun table run base number → base ≤ code → code - base < run → number_in table code ≡ number - (code - base)
-in_run table run base code number is from to =
-    let sum : base + (code - base) ≡ code = omega (arith, from) in
-    subst (λ (c : ℕ). number_in table c ≡ number - (code - base)) sum (is (code - base) to)
-
 -- ---- the declaration of a code
 
 -- the declaration of the number that is found is the first with the code

@@ -69,21 +69,6 @@ maps_stay old nodes n are stay = (
 pub maps_same : (nodes : List Node) → MapsStay nodes nodes
 maps_same nodes = (omega arith, λ bits at code within. refl)
 
--- a node that leads to nodes is added
-pub are_more : (nodes : List Node) (n : Node) → AreNodes nodes → (n.even < length nodes) × (n.odd < length nodes) → AreNodes (nodes ++ n ∷ [])
-are_more nodes n are leads = (
-  let long = length-append nodes (n ∷ []) in omega (arith, long),
-  λ at within. elim (cases_eq at (length nodes)) [
-    | inl is ↦
-        let last : node_at (nodes ++ n ∷ []) at ≡ n = ap (node_at (nodes ++ n ∷ [])) is ∙ get_or-append_seam nodes n [] empty_node in
-        rw last (let l = leads.0 in omega (arith, l, length-append nodes (n ∷ [])), let l = leads.1 in omega (arith, l, length-append nodes (n ∷ [])))
-    | inr other ↦
-        let less : at < length nodes = omega (arith, other, within, length-append nodes (n ∷ [])) in
-        let same : node_at (nodes ++ n ∷ []) at ≡ node_at nodes at = get_or_append_left nodes (n ∷ []) empty_node at less in
-        rw same (let l = (are.1 at less).0 in omega (arith, l, length-append nodes (n ∷ [])), let l = (are.1 at less).1 in omega (arith, l, length-append nodes (n ∷ [])))
-  ],
-)
-
 -- what is found from the node that is added
 module _ (nodes : List Node) (n : Node) (are : AreNodes nodes) (leads : (n.even < length nodes) × (n.odd < length nodes)) where
   last_is : node_at (nodes ++ n ∷ []) (length nodes) ≡ n
