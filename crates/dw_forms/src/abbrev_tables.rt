@@ -102,7 +102,7 @@ fn push(
     ensures added { IfOk result (Added (view decl) rest kept.old.items kept.new.items) }
     ensures err { IfFault result (λ _. ⊥) }
 {
-    if find_in(kept, maps, rest, 0) != 0 {
+    if find_in(kept, maps, rest, decl.code) != 0 {
         return Ok(None);
     }
     let number = next_number(kept.len() + 1)?;
