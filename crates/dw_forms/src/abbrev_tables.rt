@@ -10,7 +10,7 @@ ghost use Rattle.dw_forms.specs.AbbrevTables.{tables_in, AreSearchable, AreTable
 
 use crate::abbrev_fault::{AbbrevFault, DeclError};
 use crate::abbrev_reader::{no_marks, read_table};
-use crate::code_maps::{CodeMaps, next_number};
+use crate::code_maps::CodeMaps;
 use crate::decl::Decl;
 use crate::front_reader::{Front, Started, read_front};
 use std::alloc::Global;
@@ -25,7 +25,7 @@ pub struct KeptDecl {
     /// How many codes count up from its own while their declarations' numbers count down.
     pub run: u32,
     /// The map from the table's codes to the numbers of their declarations.
-    pub codes: u32,
+    pub codes: usize,
 }
 
 /// The abbreviation tables of a section, with each declaration kept once. Declarations are numbered from 1. A table has
@@ -38,6 +38,19 @@ pub struct AbbrevTables {
     pub(crate) starts: BTreeMap<usize, u32>,
     /// Marks for no attributes, one for each code of 16 bits.
     pub(crate) marks: Vec<bool>,
+}
+
+/// The number of the declaration that is kept next, if four bytes can say it. They always can: each declaration begins at
+/// an offset of its own, and a section has at most 2^30 bytes.
+fn next_number(len: usize) -> Result<u32, AbbrevFault>
+    ensures ok { IfOk result (λ number. number ≡ len) }
+    ensures err { IfFault result (λ _. ⊥) }
+{
+    if len < 0xffff_ffff {
+        Ok(len as u32)
+    } else {
+        Err(AbbrevFault::Memory)
+    }
 }
 
 /// The number of the declaration of a table that has this code, or 0.
@@ -61,7 +74,7 @@ fn find_in(kept: &[KeptDecl], maps: &CodeMaps, table: u32, code: u64) -> u32
 }
 
 /// The map of the codes of a table.
-fn codes_of(kept: &[KeptDecl], maps: &CodeMaps, table: u32) -> u32
+fn codes_of(kept: &[KeptDecl], maps: &CodeMaps, table: u32) -> usize
     requires table { table ≤ length kept.now }
     requires kept { AreKept maps.now.nodes.items kept.now }
     ensures { IsMapOf maps.now.nodes.items (numbered_in (tables_of kept.now) table) result }

@@ -13,7 +13,7 @@ returns-clause-stay t c = rw c.in_ok-push.ensures.items (elim c.if-code-eq0.bran
 
 pub returns-clause-puts : goal.returns-clause-puts
 returns-clause-puts t c =
-    let new : c.in_ok-new.new ≡ length c.if-code-eq0.self.nodes.items = search rules in
+    let new : c.len-new.result ≡ length c.if-code-eq0.self.nodes.items = search rules in
     rw (c.in_ok-push.ensures.items, new) (elim c.if-code-eq0.branch [
       | then-code-eq0 w ↦
           let read = node_is c.args.self.now.nodes.items c.args.map c.args.map c.index-node.result.now refl c.index-node.ensures c.requires.map in
