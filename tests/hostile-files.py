@@ -2,9 +2,10 @@
 """Runs `dwv check` on files that are small and mean work: deep trees, long chains, one string with many names,
 declarations of many attributes whose values take no bytes.
 
-Each has to be answered with the stated line within the time limit, and no run may crash. The lines of `show` of a deep tree
-are far more bytes than the memory that it may have: it has to say so, and to write nothing. `types` has to print its whole
-text within less memory. It prints one line a run with the seconds it took, and ends with 'N passed, M failed'.
+Each has to be answered with the stated line within the time limit, and no run may crash. Tables that begin inside
+declarations have limits of their own. The lines of `show` of a deep tree are far more bytes than the memory that it may
+have: it has to say so, and to write nothing. `types` has to print its whole text within less memory. It prints one line a
+run with the seconds it took, and ends with 'N passed, M failed'.
 """
 import pathlib
 import resource
@@ -23,6 +24,11 @@ MEMORY = 1 << 30
 # Bytes of memory that a run of `types` may have.
 TYPES_MEMORY = 1 << 29
 TABLES = 40_000
+# Tables that begin inside declarations of another one, and the seconds of processor time and bytes of memory that they
+# may take.
+INSIDE = 16_000
+INSIDE_TIME = 1
+INSIDE_MEMORY = 1 << 29
 # Attributes of a declaration that has many.
 WIDE = 50_000
 SECTIONS = 65_000
@@ -211,13 +217,26 @@ def files():
     for code in codes:
         starts.append(starts[-1] + len(code) + 4)
     row = b"".join(code + b"\x11\0\0\0" for code in codes) + b"\0"
-    units = [unit(code, table=start) for code, start in zip(codes, starts)]
-    shuffled = units[::2] + units[1::2][::-1]
-    for order, some in (("rising", units), ("falling", units[::-1]), ("mixed", shuffled)):
-        yield (f"{TABLES:,} units with overlapping tables, {order}", [(".debug_abbrev", row), (".debug_info", b"".join(some))],
+    for order, some in orders([unit(code, table=start) for code, start in zip(codes, starts)]):
+        yield (f"{TABLES:,} units with overlapping tables, {order}", [(".debug_abbrev", row), (".debug_info", some)],
                f"sound: {TABLES} units, {TABLES} entries, 0 types")
 
     yield from wide_files()
+
+
+def orders(units):
+    """The units joined in three orders."""
+    shuffled = units[::2] + units[1::2][::-1]
+    return [(name, b"".join(some)) for name, some in (("rising", units), ("falling", units[::-1]), ("mixed", shuffled))]
+
+
+def inside():
+    """Units with a table that begins at the second byte of a declaration, and goes on with the declarations after it."""
+    codes = [uleb(128 + n) for n in range(INSIDE)]
+    row = b"".join(code + b"\x11\0\0\0" for code in codes) + b"\0"
+    units = [unit(code[1:], table=6 * n + 1) for n, code in enumerate(codes)]
+    for order, some in orders(units):
+        yield f"{INSIDE:,} units with tables inside declarations, {order}", [(".debug_abbrev", row), (".debug_info", some)]
 
 
 # 1 compile unit, 2 base type with a name and a size, 3 typedef with a name and a type, 4 structure with a size, 5 member
@@ -396,9 +415,21 @@ def limited_types():
     resource.setrlimit(resource.RLIMIT_AS, (TYPES_MEMORY, TYPES_MEMORY))
 
 
+def limited_inside():
+    """Limits the memory and the processor time of the process that is about to run."""
+    resource.setrlimit(resource.RLIMIT_AS, (INSIDE_MEMORY, INSIDE_MEMORY))
+    resource.setrlimit(resource.RLIMIT_CPU, (INSIDE_TIME, INSIDE_TIME))
+
+
 def checked(path):
     """What `check` of a file says."""
     ran = subprocess.run([DWV, "check", path], capture_output=True, text=True, timeout=LIMIT)
+    return f"{ran.stdout}{ran.stderr}"
+
+
+def checked_soon(path):
+    """The same within limits."""
+    ran = subprocess.run([DWV, "check", path], capture_output=True, text=True, timeout=LIMIT, preexec_fn=limited_inside)
     return f"{ran.stdout}{ran.stderr}"
 
 
@@ -418,6 +449,8 @@ def runs():
     """Each run: its name, the file, what asks it, and the beginning of what it must say."""
     for name, sections, want in files():
         yield name, elf(sections), checked, want
+    for name, sections in inside():
+        yield name, elf(sections), checked_soon, f"sound: {INSIDE} units, {INSIDE} entries, 0 types"
     for some in (chains(), bodies()):
         for name, types in some:
             yield f"types of {name}", types.file(), typed, f"{types.text()}status 0\n"
