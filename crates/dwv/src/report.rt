@@ -20,7 +20,11 @@ pub struct Answer {
 }
 
 /// What is written for a fault of the file.
-fn text_of_elf_fault(alloc: Global, request: Request, fault: ElfFault) -> Result<Vec<u8>, AllocError>
+fn text_of_elf_fault(
+    alloc: Global,
+    request: Request,
+    fault: ElfFault,
+) -> Result<Vec<u8>, AllocError>
     ensures { IfOk result (λ text. text.items ≡ elf_fault_text request fault) }
 {
     let mut text = Vec::new(alloc);

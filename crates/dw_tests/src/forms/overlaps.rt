@@ -81,10 +81,28 @@ fn tails(rt: HostRuntime) {
 #[test]
 fn inside(rt: HostRuntime) {
     let rows = [
-        (0, 1, [None, Some(2), Some(1)], [Some(4), Some(2), Some(1)], 4),
+        (
+            0,
+            1,
+            [None, Some(2), Some(1)],
+            [Some(4), Some(2), Some(1)],
+            4,
+        ),
         (0, 7, [None, Some(2), Some(1)], [Some(4), None, Some(1)], 4),
-        (1, 0, [Some(3), Some(2), Some(1)], [None, Some(2), Some(1)], 4),
-        (7, 1, [Some(2), None, Some(1)], [Some(4), Some(3), Some(1)], 4),
+        (
+            1,
+            0,
+            [Some(3), Some(2), Some(1)],
+            [None, Some(2), Some(1)],
+            4,
+        ),
+        (
+            7,
+            1,
+            [Some(2), None, Some(1)],
+            [Some(4), Some(3), Some(1)],
+            4,
+        ),
     ];
     for (first, second, one, two, count) in rows {
         assert_eq!(rt;
