@@ -24,6 +24,7 @@ MEMORY = 1 << 30
 # Bytes of memory that a run of `types` may have.
 TYPES_MEMORY = 1 << 29
 TABLES = 40_000
+DECLARATIONS = 1 << 19
 # Tables that begin inside declarations of another one, and the seconds of processor time and bytes of memory that they
 # may take.
 INSIDE = 16_000
@@ -228,6 +229,11 @@ def files():
         yield (f"{TABLES:,} units with overlapping tables, {order}",
                [(".debug_abbrev", row), (".debug_info", some)],
                f"sound: {TABLES} units, {TABLES} entries, 0 types")
+
+    row = b"".join(uleb(DECLARATIONS - n) + b"\x11\0\0\0" for n in range(DECLARATIONS)) + b"\0"
+    yield (f"{DECLARATIONS:,} declarations of one table, their codes falling",
+           [(".debug_abbrev", row), (".debug_info", unit(b"\x01"))],
+           "sound: 1 units, 1 entries, 0 types")
 
     yield from wide_files()
 
