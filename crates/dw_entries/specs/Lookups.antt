@@ -1,5 +1,6 @@
 -- Chapter: what the look-ups of entries and of units return.
-use Rattle.std.specs.Prelude.{◌≡◌, ℕ, List, length, ◌==◌, nat_lt, if◌then◌else◌, Bool, Option, Some, None, find, option_map}
+use Rattle.std.specs.Prelude.{◌≡◌, ℕ, List, length, ◌==◌, nat_lt, if◌then◌else◌, Bool, Option, Some, None, find}
+use Rattle.std.specs.Prelude.{option_map}
 use Rattle.std.specs.List.{list_any}
 use Rattle.dw_forms.specs.declared.decl.AttributeSpec.{AttributeSpec}
 use Rattle.dw_forms.specs.declared.abbrev_tables.KeptDecl.{KeptDecl}
@@ -23,11 +24,24 @@ nth_of entries k = if nat_lt k (length entries) then Some k else None
 
 -- what is told of an entry besides its attributes
 abbrev pub entry_head : Entry → Head
-entry_head e = record { offset = e.at; tag = e.head.decl.tag; unit = e.unit; parent = e.parent; depth = e.depth; next_sibling = e.next }
+entry_head e = record {
+  offset = e.at;
+  tag = e.head.decl.tag;
+  unit = e.unit;
+  parent = e.parent;
+  depth = e.depth;
+  next_sibling = e.next;
+}
 
 -- what is told of a unit; in version 4 the tag of its first entry says which type it has
 abbrev pub unit_head : PlacedUnit → UnitHead
-unit_head p = record { offset = p.at; header = p.unit.header; unit_type = type_of p.unit.header.kind (head_of p.unit.root).decl.tag; first = p.first }
+unit_head p = record {
+  offset = p.at;
+  header = p.unit.header;
+  unit_type =
+      type_of p.unit.header.kind (head_of p.unit.root).decl.tag;
+  first = p.first;
+}
 
 -- whether one of these attributes has this code
 abbrev pub declares : List AttributeSpec → ℕ → Bool

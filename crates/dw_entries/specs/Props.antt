@@ -32,7 +32,8 @@ Uleb-prop bytes n = hlevel (props, IsEnded-prop)
 IsAttribute-prop : (t : Context) (spec : AttributeSpec) (a : Attribute) → IsProp (IsAttribute t spec a)
 IsAttribute-prop t spec a = hlevel props
 
-pub AreAttributes-prop : (t : Context) (specs : List AttributeSpec) (bs : List Attribute) → IsProp (AreAttributes t specs bs)
+pub AreAttributes-prop : (t : Context) (specs : List AttributeSpec) (bs : List Attribute)
+    → IsProp (AreAttributes t specs bs)
 AreAttributes-prop t [] [] = hlevel props
 AreAttributes-prop t [] (b ∷ bs) = hlevel props
 AreAttributes-prop t (s ∷ specs) [] = hlevel props
@@ -79,15 +80,19 @@ records_set = hlevel props
 IsKept-prop : (tables : List (List Numbered)) (r : UnitRecord) (p : PlacedUnit) → IsProp (IsKept tables r p)
 IsKept-prop tables r p = hlevel props
 
-AllKept-prop : (tables : List (List Numbered)) (rs : List UnitRecord) (ps : List PlacedUnit) → IsProp (AllZip (IsKept tables) rs ps)
+AllKept-prop : (tables : List (List Numbered)) (rs : List UnitRecord) (ps : List PlacedUnit)
+    → IsProp (AllZip (IsKept tables) rs ps)
 AllKept-prop tables [] [] = hlevel props
 AllKept-prop tables [] (p ∷ ps) = hlevel props
 AllKept-prop tables (r ∷ rs) [] = hlevel props
 AllKept-prop tables (r ∷ rs) (p ∷ ps) = ×_prop (IsKept-prop tables r p) (AllKept-prop tables rs ps)
 
-Holds-prop : (a info : List ℕ) (tables : List (List Numbered)) (rs : List UnitRecord) (records : List Record) (us : List DebugUnit) → IsProp (Holds a info tables rs records us)
+Holds-prop : (a info : List ℕ) (tables : List (List Numbered)) (rs : List UnitRecord) (records : List Record)
+    (us : List DebugUnit) → IsProp (Holds a info tables rs records us)
 Holds-prop a info tables rs records us = hlevel (props, Spells-prop, AllKept-prop, records_set)
 
 -- the units of a section, with what is kept of them
-pub scanned_unique : (a info : List ℕ) (tables : List (List Numbered)) (rs : List UnitRecord) (records : List Record) → IsProp (Scanned a info tables rs records)
-scanned_unique a info tables rs records p q = Σ_prop_path (Holds-prop a info tables rs records) (one_list a info p.0 q.0 p.1.spells q.1.spells)
+pub scanned_unique : (a info : List ℕ) (tables : List (List Numbered)) (rs : List UnitRecord) (records : List Record)
+    → IsProp (Scanned a info tables rs records)
+scanned_unique a info tables rs records p q =
+    Σ_prop_path (Holds-prop a info tables rs records) (one_list a info p.0 q.0 p.1.spells q.1.spells)

@@ -19,7 +19,14 @@ numbers_of tables units unit = number_in (numbered_in tables (table_of units uni
 
 -- what is kept of an entry: where it is, and the number of its declaration
 abbrev pub record_of : (ℕ → ℕ → ℕ) → Entry → Record
-record_of numbers e = record { at = e.at; unit = e.unit; decl = numbers e.unit e.head.decl.code; parent = e.parent; depth = e.depth; next = e.next }
+record_of numbers e = record {
+  at = e.at;
+  unit = e.unit;
+  decl = numbers e.unit e.head.decl.code;
+  parent = e.parent;
+  depth = e.depth;
+  next = e.next;
+}
 
 -- what is kept of the entries of these units
 abbrev pub records_of : (ℕ → ℕ → ℕ) → List DebugUnit → List Record
@@ -34,17 +41,20 @@ pub record IsKept (tables : List (List Numbered)) (r : UnitRecord) (p : PlacedUn
   pub first : r.first ≡ p.first
 
 -- the bytes spell these units, and what is kept of them and of their entries is theirs
-pub record Holds («abbrev» info : List ℕ) (tables : List (List Numbered)) (unit_records : List UnitRecord) (records : List Record) (units : List DebugUnit) : Type 0 where
+pub record Holds («abbrev» info : List ℕ) (tables : List (List Numbered)) (unit_records : List UnitRecord)
+    (records : List Record) (units : List DebugUnit) : Type 0 where
   pub spells : Spells «abbrev» units info
   pub kept : AllZip (IsKept tables) unit_records (placed units)
   pub entries : records ≡ records_of (numbers_of tables unit_records) units
 
 -- the units of the sections, of which there is one list at most
 abbrev pub Scanned : List ℕ → List ℕ → List (List Numbered) → List UnitRecord → List Record → Type 0
-Scanned «abbrev» info tables unit_records records = (units : List DebugUnit) × Holds «abbrev» info tables unit_records records units
+Scanned «abbrev» info tables unit_records records = (units : List DebugUnit)
+    × Holds «abbrev» info tables unit_records records units
 
 -- the units that a scan found
-abbrev pub units_of : {a : List ℕ} {info : List ℕ} {tables : List (List Numbered)} {unit_records : List UnitRecord} {records : List Record} → Scanned a info tables unit_records records → List DebugUnit
+abbrev pub units_of : {a : List ℕ} {info : List ℕ} {tables : List (List Numbered)} {unit_records : List UnitRecord}
+    {records : List Record} → Scanned a info tables unit_records records → List DebugUnit
 units_of s = s.0
 
 -- the entries that a scan found, by rising offset

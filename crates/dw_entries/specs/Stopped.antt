@@ -43,7 +43,8 @@ GivesUnlessMemory view (Ok x) read = read ≡ Ok (view x)
 GivesUnlessMemory view (Err e) read = HaltsBy e read
 
 -- the body spells a tree and nulls, and then the rest; the tree's entries come after the old ones
-pub record TreeOf (x : Context) (numbers : ℕ → ℕ) (kind : HeaderKind) (body rest : List ℕ) (unit at : ℕ) (old new : List Record) : Type 0 where
+pub record TreeOf (x : Context) (numbers : ℕ → ℕ) (kind : HeaderKind) (body rest : List ℕ) (unit at : ℕ)
+    (old new : List Record) : Type 0 where
   pub root : Node
   pub is : IsNode x root
   pub tag : fits_tag kind (head_of root).decl.tag ≡ true
@@ -100,8 +101,11 @@ pub record UnitTaken («abbrev» rest : List ℕ) (at : ℕ) (old new : Kept) (l
   pub parts : rest ≡ unit_bytes taken ++ after
   pub len_is : len ≡ length (unit_bytes taken)
   pub record_is : UnitRecord
-  pub kept : IsKept (tables_in new.tables) record_is (record { at = at; first = length old.records.items; unit = taken })
+  pub kept : IsKept (tables_in new.tables) record_is
+      (record { at = at; first = length old.records.items; unit = taken })
   pub units : new.units.items ≡ old.units.items ++ record_is ∷ []
-  pub records : new.records.items ≡ old.records.items ++ node_records (number_in (numbered_in (tables_in new.tables) record_is.table)) (length old.units.items) None 0 None (length old.records.items) (at + header_size taken.header.kind) taken.root
+  pub records : new.records.items ≡ old.records.items
+      ++ node_records (number_in (numbered_in (tables_in new.tables) record_is.table))
+      (length old.units.items) None 0 None (length old.records.items) (at + header_size taken.header.kind) taken.root
   pub tables : AreTablesOf «abbrev» new.tables
   pub stay : Stay (tables_in old.tables) (tables_in new.tables)

@@ -24,7 +24,12 @@ context_by h table = record { table = table; address_size = h.address_size; vers
 
 -- what a reader of items goes by
 abbrev pub context_in : UnitContext → Context
-context_in c = record { table = table_in (tables_in c.tables.now) c.table; address_size = c.address_size; version = c.version }
+context_in c = record {
+  table = table_in (tables_in c.tables.now) c.table;
+  address_size = c.address_size;
+  version =
+      c.version;
+}
 
 -- the numbers of the declarations that it goes by, by their codes
 abbrev pub numbers_in : UnitContext → ℕ → ℕ

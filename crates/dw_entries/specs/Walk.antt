@@ -1,5 +1,6 @@
 -- State: one pass over the items of a tree: the entries so far, and the open lists of children, the innermost first.
-use Rattle.std.specs.Prelude.{ℕ, zero, suc, ◌+◌, Bool, true, false, List, [], ◌∷◌, ◌++◌, length, reverse, Option, Some, None}
+use Rattle.std.specs.Prelude.{ℕ, zero, suc, ◌+◌, Bool, true, false, List, [], ◌∷◌, ◌++◌, length, reverse, Option, Some}
+use Rattle.std.specs.Prelude.{None}
 use Rattle.dw_entries.specs.declared.record.Record.{Record}
 use Rattle.dw_entries.specs.declared.record.Level.{Level}
 use Rattle.dw_forms.specs.Abbrev.{Declaration}
@@ -32,9 +33,22 @@ open_list false id ls = ls
 
 -- an entry is taken up, with the number of its declaration and the declaration
 abbrev pub enter : ℕ → ℕ → ℕ × Declaration → List Record → List Level → Walk
-enter unit at d rs [] = record { records = rs ++ record { at = at; unit = unit; decl = d.0; parent = None; depth = 0; next = None } ∷ []; levels = open_list d.1.has_children (length rs) [] }
+enter unit at d rs [] = record {
+  records =
+      rs ++ record { at = at; unit = unit; decl = d.0; parent = None; depth = 0; next = None } ∷ [];
+  levels =
+      open_list d.1.has_children (length rs) [];
+}
 enter unit at d rs (l ∷ ls) = record {
-  records = link_last l.last (length rs) rs ++ record { at = at; unit = unit; decl = d.0; parent = l.parent; depth = suc (length ls); next = None } ∷ [];
+  records = link_last l.last (length rs) rs ++ record {
+    at = at;
+    unit = unit;
+    decl = d.0;
+    parent = l.parent;
+    depth =
+        suc (length ls);
+    next = None;
+  } ∷ [];
   levels = open_list d.1.has_children (length rs) (record { parent = l.parent; last = Some (length rs) } ∷ ls);
 }
 
@@ -43,7 +57,8 @@ abbrev pub leave : List Level → List Level
 leave [] = []
 leave (l ∷ ls) = ls
 
--- what an item at this offset makes of the state, with the numbers of the declarations by their codes: an entry is taken
+-- what an item at this offset makes of the state, with the numbers of the declarations by their codes: an entry is
+-- taken
 -- up, a null closes a list
 abbrev pub step : (ℕ → ℕ) → ℕ → ℕ → Item → Walk → Walk
 step numbers unit at (entry h) w = enter unit at (numbers h.decl.code, h.decl) w.records w.levels
@@ -52,4 +67,5 @@ step numbers unit at (null z) w = record w { levels = leave w.levels }
 -- what items from this offset on make of the state, one after another
 abbrev pub walk_along : (ℕ → ℕ) → ℕ → ℕ → List Item → Walk → Walk
 walk_along numbers unit at [] w = w
-walk_along numbers unit at (i ∷ is) w = walk_along numbers unit (at + length (item_bytes i)) is (step numbers unit at i w)
+walk_along numbers unit at (i ∷ is) w =
+    walk_along numbers unit (at + length (item_bytes i)) is (step numbers unit at i w)

@@ -33,7 +33,8 @@ pub fn unit_at(entries: &Entries<'_>, id: EntryId, kept: &Record) -> UnitAt
     }
 }
 
-/// Looks up one entry after another. The unit of the last is kept at hand, so that the entries of one unit are found sooner.
+/// Looks up one entry after another. The unit of the last is kept at hand, so that the entries of one unit are found
+/// sooner.
 #[derive(Drop)]
 pub struct Cursor<'e, 'a> {
     /// The entries that are looked up.

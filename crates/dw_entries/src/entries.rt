@@ -23,7 +23,9 @@ pub struct Entries<'a> {
     pub(crate) units: Vec<UnitRecord>,
     pub(crate) records: Vec<Record>,
     pub(crate) hints: Vec<u32>,
-    pub ghost scanned: { Scanned sections.«abbrev».now sections.info.now (tables_of decls.items) units.items records.items } by { scanned_unique sections.«abbrev».now sections.info.now (tables_of decls.items) units.items records.items },
+    pub ghost scanned: { Scanned sections.«abbrev».now sections.info.now (tables_of decls.items) units.items
+        records.items } by { scanned_unique sections.«abbrev».now sections.info.now
+            (tables_of decls.items) units.items records.items },
     pub ghost hinted: { AreHints (length sections.info.now) records.items hints.items },
 }
 
@@ -81,7 +83,8 @@ impl<'a> Entries<'a> {
     /// The entry whose first byte is at this offset of .debug_info.
     #[inline(always)]
     pub fn find(&self, offset: u32) -> Option<EntryId>
-        ensures found { IfSome result (λ id. IfSome (slice_get (entries_of (units_of self.now.scanned)) id) (λ e. e.at ≡ offset)) }
+        ensures found { IfSome result
+            (λ id. IfSome (slice_get (entries_of (units_of self.now.scanned)) id) (λ e. e.at ≡ offset)) }
         ensures within { IfSome result (λ id. id < length (entries_of (units_of self.now.scanned))) }
         ensures none { IfNone result (All (λ e. e.at ≢ offset) (entries_of (units_of self.now.scanned))) }
     {

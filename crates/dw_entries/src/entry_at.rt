@@ -1,6 +1,7 @@
 //! One entry, whose declaration and unit are looked up once.
 
-ghost use Rattle.std.specs.Prelude.{◌≡◌, ◌<◌, ◌++◌, ℕ, List, false, Some, Option, length, slice_get, IfSome, option_map};
+ghost use Rattle.std.specs.Prelude.{◌≡◌, ◌<◌, ◌++◌, ℕ, List, false, Some, Option, length, slice_get, IfSome};
+ghost use Rattle.std.specs.Prelude.{option_map};
 ghost use Rattle.std.specs.Bool.{OnFalse};
 ghost use Rattle.std.specs.List.{flat_map};
 ghost use Rattle.dw_forms.specs.Abbrev.{view as decl_view};
@@ -61,8 +62,10 @@ impl<'e, 'a> Model for EntryAt<'e, 'a> {
 
     ghost invariant = { λ it. (it.id < length (entries_of (units_of it.entries.now.scanned)))
         × (slice_get it.entries.now.records.items it.id ≡ Some it.kept)
-        × IfSome (slice_get (entries_of (units_of it.entries.now.scanned)) it.id) (λ e. decl_view it.decl.now ≡ e.head.decl)
-        × IfSome (slice_get (entries_of (units_of it.entries.now.scanned)) it.id) (λ e. IfSome (slice_get (units_of it.entries.now.scanned) e.unit) (λ u. it.header ≡ u.header)) };
+        × IfSome (slice_get (entries_of (units_of it.entries.now.scanned)) it.id)
+        (λ e. decl_view it.decl.now ≡ e.head.decl)
+        × IfSome (slice_get (entries_of (units_of it.entries.now.scanned)) it.id)
+        (λ e. IfSome (slice_get (units_of it.entries.now.scanned) e.unit) (λ u. it.header ≡ u.header)) };
 }
 
 impl<'a> Entries<'a> {
@@ -168,7 +171,8 @@ impl<'e, 'a> EntryAt<'e, 'a> {
     /// The bytes of its values, and those behind them.
     #[inline(always)]
     fn value_bytes(&self) -> &'a [u8]
-        ensures { IfSome self.now (λ e. (rest : List ℕ) × (result.now ≡ flat_map attribute_bytes e.head.attributes ++ rest)) }
+        ensures { IfSome self.now
+            (λ e. (rest : List ℕ) × (result.now ≡ flat_map attribute_bytes e.head.attributes ++ rest)) }
     {
         let entries = self.entries;
         match read_code(&entries.sections.info[self.kept.at as usize..]) {

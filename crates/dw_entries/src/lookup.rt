@@ -43,7 +43,8 @@ pub struct UnitHead {
 impl<'a> Entries<'a> {
     /// The declarations of the units' abbreviation tables, each once.
     pub fn decls(&self) -> &[KeptDecl]
-        ensures { (id : ℕ) (e : Entry) → slice_get (entries_of (units_of self.now.scanned)) id ≡ Some e → IsKeptIn result.now e.head.decl }
+        ensures { (id : ℕ) (e : Entry) → slice_get (entries_of (units_of self.now.scanned)) id ≡ Some e
+            → IsKeptIn result.now e.head.decl }
     {
         &self.decls
     }
@@ -51,7 +52,8 @@ impl<'a> Entries<'a> {
     /// The declaration of an entry.
     pub fn decl(&self, id: EntryId) -> &Decl
         requires { id < length (entries_of (units_of self.now.scanned)) }
-        ensures { IfSome (slice_get (entries_of (units_of self.now.scanned)) id) (λ e. decl_view result.now ≡ e.head.decl) }
+        ensures { IfSome (slice_get (entries_of (units_of self.now.scanned)) id)
+            (λ e. decl_view result.now ≡ e.head.decl) }
     {
         self.at(id).decl()
     }
@@ -100,7 +102,8 @@ impl<'a> Entries<'a> {
     /// The attributes of an entry in their order, each value decoded when it is asked.
     pub fn values(&self, id: EntryId) -> Values<'_, 'a>
         requires { id < length (entries_of (units_of self.now.scanned)) }
-        ensures { IfSome (slice_get (entries_of (units_of self.now.scanned)) id) (λ e. values_left result ≡ values_of e.head) }
+        ensures { IfSome (slice_get (entries_of (units_of self.now.scanned)) id)
+            (λ e. values_left result ≡ values_of e.head) }
     {
         self.at(id).values()
     }
@@ -108,7 +111,8 @@ impl<'a> Entries<'a> {
     /// The value of an entry's attribute, if it has that attribute.
     pub fn value(&self, id: EntryId, attribute: Attribute) -> Option<Value<'a>>
         requires { id < length (entries_of (units_of self.now.scanned)) }
-        ensures { IfSome (slice_get (entries_of (units_of self.now.scanned)) id) (λ e. option_map view result ≡ value_at_entry e attribute) }
+        ensures { IfSome (slice_get (entries_of (units_of self.now.scanned)) id)
+            (λ e. option_map view result ≡ value_at_entry e attribute) }
     {
         self.at(id).value(attribute)
     }

@@ -4,7 +4,8 @@ ghost use Rattle.std.specs.Prelude.{◌≡◌, Some, option_map, IfSome};
 ghost use Rattle.dw_forms.specs.Abbrev.{view};
 ghost use Rattle.dw_entries.specs.Grammar.{declared_in};
 ghost use Rattle.dw_entries.specs.Items.{decl_of};
-ghost use Rattle.dw_entries.specs.Reading.{Gives, seen, after, code_at, value_rule as rule_of_value, attribute_at, attributes_at, item_at, first_at};
+ghost use Rattle.dw_entries.specs.Reading.{Gives, seen, after, code_at, value_rule as rule_of_value, attribute_at};
+ghost use Rattle.dw_entries.specs.Reading.{attributes_at, item_at, first_at};
 ghost use Rattle.dw_entries.specs.Token.{declared_view, token_decl};
 ghost use Rattle.dw_entries.specs.Units.{context_in, numbers_in};
 

@@ -64,7 +64,8 @@ fn set_next(records: &mut Vec<Record>, at: u32, id: u32)
     }
 }
 
-/// Takes an entry up: the last one in its list is followed by it, and its own list is opened where it may have children.
+/// Takes an entry up: the last one in its list is followed by it, and its own list is opened where it may have
+/// children.
 #[inline(always)]
 pub fn enter(
     records: &mut Vec<Record>,

@@ -23,7 +23,8 @@ use std::alloc::Global;
 fn scan_units(alloc: Global, section: &[u8], info: &[u8]) -> Result<Kept, Break>
     requires abbrev_fits { length section.now ≤ SECTION_LIMIT }
     requires info_fits { length info.now ≤ SECTION_LIMIT }
-    ensures all { IfOk result (λ kept. Scanned section.now info.now (tables_in kept.tables) kept.units.items kept.records.items) }
+    ensures all { IfOk result
+        (λ kept. Scanned section.now info.now (tables_in kept.tables) kept.units.items kept.records.items) }
     ensures fault { IfErr result (IfBroken (Fails section.now info.now)) }
 {
     let tables = match AbbrevTables::new(alloc) {
@@ -45,9 +46,12 @@ fn scan_units(alloc: Global, section: &[u8], info: &[u8]) -> Result<Kept, Break>
 /// The entries of the units that .debug_info is.
 pub fn scan<'a>(alloc: Global, sections: &Sections<'a>) -> Result<Entries<'a>, Stop>
     ensures same { IfOk result (λ e. sections_of e ≡ sections.now) }
-    ensures only { IfOk result (λ e. (units : List DebugUnit) → Spells sections.now.«abbrev».now units sections.now.info.now → units ≡ units_of e.scanned) }
+    ensures only { IfOk result
+        (λ e. (units : List DebugUnit) → Spells sections.now.«abbrev».now units sections.now.info.now
+        → units ≡ units_of e.scanned) }
     ensures fault { IfErr result (IfFault (Fails sections.now.«abbrev».now sections.now.info.now)) }
-    ensures none { IfErr result (IfFault (λ _. (units : List DebugUnit) → Spells sections.now.«abbrev».now units sections.now.info.now → ⊥)) }
+    ensures none { IfErr result (IfFault
+        (λ _. (units : List DebugUnit) → Spells sections.now.«abbrev».now units sections.now.info.now → ⊥)) }
 {
     let kept = match scan_units(alloc, sections.abbrev, sections.info) {
         Ok(kept) => kept,

@@ -165,10 +165,12 @@ impl<'a> Values<'_, 'a> {
         }
     }
 
-    /// The next attribute that is asked for. Values before it are skipped, and where none is asked for, nothing is read.
+    /// The next attribute that is asked for. Values before it are skipped, and where none is asked for, nothing is
+    /// read.
     #[inline(always)]
     pub fn next_by<C: Choice>(&mut self, choice: &C) -> Option<(Attribute, Value<'a>)>
-        ensures some { IfSome result (λ found. IsNextOf (C.passes choice.now) (values_left self.old) (viewed found) (values_left self.new)) }
+        ensures some { IfSome result
+            (λ found. IsNextOf (C.passes choice.now) (values_left self.old) (viewed found) (values_left self.new)) }
         ensures none { IfNone result (ArePassed (C.passes choice.now) (values_left self.old)) }
         // What is found is asked for as it is declared, and what is passed is not.
         ensures asked { IfSome result (FindsFirst (C.passes choice.now) (C.asked choice.now) self.old self.new) }
@@ -186,7 +188,8 @@ impl<'a> Values<'_, 'a> {
     /// The next attribute that is DW_AT_type, or whose value may be a reference. Values before it are skipped.
     #[inline(always)]
     pub fn next_reference(&mut self) -> Option<(Attribute, Value<'a>)>
-        ensures some { IfSome result (λ found. IsNextOf (IsOther DW_AT_type) (values_left self.old) (viewed found) (values_left self.new)) }
+        ensures some { IfSome result
+            (λ found. IsNextOf (IsOther DW_AT_type) (values_left self.old) (viewed found) (values_left self.new)) }
         ensures none { IfNone result (ArePassed (IsOther DW_AT_type) (values_left self.old)) }
         // What is found is asked for as it is declared, and what is passed is not.
         ensures asked { IfSome result (FindsFirst (IsOther DW_AT_type) (IsAsked DW_AT_type) self.old self.new) }

@@ -100,7 +100,8 @@ fn walk_tree<'b>(
     requires start { place.start ≡ place.header + header_size kind }
     requires fits { place.start + length body.now ≤ SECTION_LIMIT }
     requires few_entries { length records.old.items ≤ place.header }
-    ensures tree { IfOk result (λ rest. TreeOf (context_in context.entry) (numbers_in context.entry) kind body.now rest.now
+    ensures tree { IfOk result
+        (λ rest. TreeOf (context_in context.entry) (numbers_in context.entry) kind body.now rest.now
         place.number place.start records.old.items records.new.items) }
     ensures fault { IfErr result (IfBroken (BodyFails (context_in context.entry) kind place.header body.now)) }
 {

@@ -1,7 +1,9 @@
--- State: the abbreviation tables of a section, with each declaration kept once. Declarations are numbered from 1 in the order
+-- State: the abbreviation tables of a section, with each declaration kept once. Declarations are numbered from 1 in
+-- the order
 -- in which they are kept. A table is a declaration and the table after it, and has the number of its first
 -- declaration; the table 0 has no declarations.
-use Rattle.std.specs.Prelude.{◌≡◌, ℕ, zero, suc, ◌+◌, ◌-◌, ◌<◌, ◌≤◌, ◌^◌, List, [], ◌∷◌, ◌++◌, length, map, Option, None, Some, get_or, slice_get, option_map, ◌==◌, if◌then◌else◌}
+use Rattle.std.specs.Prelude.{◌≡◌, ℕ, zero, suc, ◌+◌, ◌-◌, ◌<◌, ◌≤◌, ◌^◌, List, [], ◌∷◌, ◌++◌, length, map, Option}
+use Rattle.std.specs.Prelude.{None, Some, get_or, slice_get, option_map, ◌==◌, if◌then◌else◌}
 use Rattle.dw_forms.specs.declared.code_maps.Node.{Node}
 use Rattle.dw_forms.specs.declared.abbrev_tables.KeptDecl.{KeptDecl}
 use Rattle.dw_forms.specs.Abbrev.{Declaration, view}
@@ -27,7 +29,9 @@ table_in tables number = declarations (numbered_in tables number)
 -- these tables, and one more for each of the declarations
 unfoldable pub tables_from : List (List Numbered) → List KeptDecl → List (List Numbered)
 tables_from tables [] = tables
-tables_from tables (k ∷ kept) = tables_from (tables ++ (record { number = length tables; decl = view k.decl } ∷ numbered_in tables k.rest) ∷ []) kept
+tables_from tables (k ∷ kept) =
+    tables_from (tables ++ (record { number = length tables; decl = view k.decl } ∷ numbered_in tables k.rest) ∷ [])
+    kept
 
 -- all tables, by their numbers
 abbrev pub tables_of : List KeptDecl → List (List Numbered)
@@ -50,7 +54,8 @@ AreNumbered kept (n ∷ table) = (decl_of kept n.number ≡ Some n.decl) × AreN
 
 -- the map has the numbers of the table's declarations
 abbrev pub IsMapOf : List Node → List Numbered → ℕ → Type 0
-IsMapOf nodes table codes = (codes < length nodes) × ((code : ℕ) → code < 2 ^ 64 → found nodes codes code ≡ number_in table code)
+IsMapOf nodes table codes = (codes < length nodes)
+    × ((code : ℕ) → code < 2 ^ 64 → found nodes codes code ≡ number_in table code)
 
 -- so many codes from this one on have the numbers from this one down
 abbrev pub IsRun : List Numbered → ℕ → ℕ → ℕ → Type 0

@@ -8,7 +8,8 @@ use Rattle.dw_forms.specs.Abbrev.{Declaration}
 -- the codes differ, and each that isn't its declaration's place, counted from 1, leads to that place
 pub record IsIndex (decls : List Decl) (elsewhere : BTreeMap ℕ ℕ) : Type 0 where
   pub distinct : AllPairs (λ c d. c.code ≢ d.code) decls
-  pub complete : (i : ℕ) (d : Decl) → i < length decls → (get_or decls i d).code ≢ i + 1 → get nat_cmp elsewhere (get_or decls i d).code ≡ Some i
+  pub complete : (i : ℕ) (d : Decl) → i < length decls → (get_or decls i d).code ≢ i + 1
+      → get nat_cmp elsewhere (get_or decls i d).code ≡ Some i
 
 -- the declaration at the place has the code, or none has it
 abbrev pub IsPlace : List Decl → ℕ → Option ℕ → Type 0

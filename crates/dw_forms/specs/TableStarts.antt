@@ -17,7 +17,8 @@ pub record IsTableIn (section : List ℕ) (tables : List (List Numbered)) (offse
 
 -- each offset that has a number has its table there
 abbrev pub AreStarts : List ℕ → List (List Numbered) → BTreeMap ℕ ℕ → Type 0
-AreStarts section tables starts = (offset number : ℕ) → get nat_cmp starts offset ≡ Some number → IsTableIn section tables offset number
+AreStarts section tables starts = (offset number : ℕ) → get nat_cmp starts offset ≡ Some number
+    → IsTableIn section tables offset number
 
 -- the old tables keep their numbers
 abbrev pub Stay : List (List Numbered) → List (List Numbered) → Type 0
@@ -31,16 +32,20 @@ NoTable section offset = (ds : List Declaration) → table_at section offset ≡
 abbrev pub AreBehind : List ℕ → List Started → ℕ → ℕ → Type 0
 AreBehind section [] offset end = offset ≡ end
 AreBehind section (s ∷ rest) offset end =
-    (s.start ≡ offset) × (next : ℕ) × (decl_at [] (drop offset section) ≡ Ok (Some (view s.decl), drop next section)) × AreBehind section rest next end
+    (s.start ≡ offset) × (next : ℕ) × (decl_at [] (drop offset section) ≡ Ok (Some (view s.decl), drop next section))
+    × AreBehind section rest next end
 
 -- the table that begins at this offset was kept, or it has no declarations
 abbrev pub GoesOn : List ℕ → BTreeMap ℕ ℕ → ℕ → ℕ → Type 0
-GoesOn section starts offset rest = (get nat_cmp starts offset ≡ Some rest) ⊎ ((rest ≡ 0) × (table_at section offset ≡ Ok []))
+GoesOn section starts offset rest = (get nat_cmp starts offset ≡ Some rest)
+    ⊎ ((rest ≡ 0) × (table_at section offset ≡ Ok []))
 
 -- the declaration and the table of this number are a new table, unless the code is in that table
 abbrev pub Added : Declaration → ℕ → List KeptDecl → List KeptDecl → Option ℕ → Type 0
 Added d rest old new (Some number) =
-    (has_code d.code (table_in (tables_of old) rest) ≡ false) × (number ≡ length (tables_of old)) × (tables_of new ≡ tables_of old ++ (record { number = number; decl = d } ∷ numbered_in (tables_of old) rest) ∷ [])
+    (has_code d.code (table_in (tables_of old) rest) ≡ false) × (number ≡ length (tables_of old))
+    × (tables_of new ≡ tables_of old ++ (record { number = number; decl = d } ∷ numbered_in (tables_of old) rest)
+    ∷ [])
 Added d rest old new None = (has_code d.code (table_in (tables_of old) rest) ≡ true) × (new ≡ old)
 
 -- the table at the offset has the number that is returned, or there is none

@@ -1,10 +1,12 @@
 //! The abbreviation tables of a section (DWARF 5, 7.5.3).
 
-ghost use Rattle.std.specs.Prelude.{◌≡◌, ◌==◌, ◌+◌, ◌-◌, ◌<◌, ◌≤◌, ℕ, suc, [], List, length, find, option_map, IfOk, IfErr, IfSome, OnOk};
+ghost use Rattle.std.specs.Prelude.{◌≡◌, ◌==◌, ◌+◌, ◌-◌, ◌<◌, ◌≤◌, ℕ, suc, [], List, length, find, option_map, IfOk};
+ghost use Rattle.std.specs.Prelude.{IfErr, IfSome, OnOk};
 ghost use Rattle.dw_forms.specs.AbbrevFaults.{IfFault, IfTableFault};
 ghost use Rattle.dw_forms.specs.Abbrev.{view, AreDeclarations, TableFails};
 ghost use Rattle.dw_forms.specs.AbbrevReading.{table_at, TableFails as ReadingFails};
-ghost use Rattle.dw_forms.specs.KeptDecls.{numbered_in, table_in, tables_of, number_in, decl_of, IsMapOf, IsRun, AreKept};
+ghost use Rattle.dw_forms.specs.KeptDecls.{numbered_in, table_in, tables_of, number_in, decl_of, IsMapOf, IsRun};
+ghost use Rattle.dw_forms.specs.KeptDecls.{AreKept};
 ghost use Rattle.dw_forms.specs.TableStarts.{IsTableIn, AreStarts, Stay, NoTable, AreBehind, GoesOn, Added, IsWhole};
 ghost use Rattle.dw_forms.specs.AbbrevTables.{tables_in, AreSearchable, AreTablesOf};
 
@@ -40,7 +42,8 @@ pub struct AbbrevTables {
     pub(crate) marks: Vec<bool>,
 }
 
-/// The number of the declaration that is kept next, if four bytes can say it. They always can: each declaration begins at
+/// The number of the declaration that is kept next, if four bytes can say it. They always can: each declaration begins
+/// at
 /// an offset of its own, and a section has at most 2^30 bytes.
 fn next_number(len: usize) -> Result<u32, AbbrevFault>
     ensures ok { IfOk result (λ number. number ≡ len) }
@@ -85,12 +88,14 @@ fn codes_of(kept: &[KeptDecl], maps: &CodeMaps, table: u32) -> usize
     kept[(table - 1) as usize].codes
 }
 
-/// How many codes count up from this one while their declarations' numbers count down, for the next declaration that is kept.
+/// How many codes count up from this one while their declarations' numbers count down, for the next declaration that
+/// is kept.
 fn run_before(kept: &[KeptDecl], maps: &CodeMaps, rest: u32, code: u64) -> u32
     requires rest { rest ≤ length kept.now }
     requires kept { AreKept maps.now.nodes.items kept.now }
     ensures short { result ≤ length kept.now + 1 }
-    ensures run { (i : ℕ) → i + 1 < result → number_in (numbered_in (tables_of kept.now) rest) (code + (i + 1)) ≡ length kept.now - i }
+    ensures run { (i : ℕ) → i + 1 < result → number_in (numbered_in (tables_of kept.now) rest) (code + (i + 1))
+        ≡ length kept.now - i }
 {
     if rest != 0 && rest as usize == kept.len() {
         let next = &kept[(rest - 1) as usize];
@@ -101,7 +106,8 @@ fn run_before(kept: &[KeptDecl], maps: &CodeMaps, rest: u32, code: u64) -> u32
     1
 }
 
-/// Keeps the declaration before a table, and returns the number of the table that begins with it. None if its code is in
+/// Keeps the declaration before a table, and returns the number of the table that begins with it. None if its code is
+/// in
 /// the table already.
 fn push(
     kept: &mut Vec<KeptDecl>,
@@ -230,7 +236,8 @@ impl AbbrevTables {
     pub fn get(&self, table: u32, code: u64) -> Option<(u32, &Decl)>
         requires searchable { AreSearchable self.now }
         requires table { table < length (tables_in self.now) }
-        ensures decl { option_map (λ found. view found.1.now) result ≡ find (λ d. d.code == code) (table_in (tables_in self.now) table) }
+        ensures decl { option_map (λ found. view found.1.now) result ≡ find
+            (λ d. d.code == code) (table_in (tables_in self.now) table) }
         ensures number { IfSome result (λ found. found.0 ≡ number_in (numbered_in (tables_in self.now) table) code) }
     {
         let number = find_in(&self.kept, &self.maps, table, code);

@@ -41,7 +41,8 @@ fn next_at(
     requires offset { offset ≤ length section.now }
     requires marks { AreMarks [] marks.old }
     ensures unmarked { OnOk result (AreMarks [] marks.new) }
-    ensures exact { Gives (λ x. (option_map view x.0, drop x.1 section.now)) result (decl_at [] (drop offset section.now)) }
+    ensures exact { Gives (λ x. (option_map view x.0, drop x.1 section.now)) result
+        (decl_at [] (drop offset section.now)) }
     ensures behind { IfOk result (λ x. offset < x.1) }
     ensures within { IfOk result (λ x. x.1 ≤ length section.now) }
 {

@@ -78,7 +78,8 @@ fn named(
 ) -> Result<(Value<'_>, usize), ValueFault>
     requires { (address_size ≡ 4) ⊎ (address_size ≡ 8) }
     ensures within { IfOk result (λ x. x.1 ≤ length bytes.now) }
-    ensures exact { Gives (λ x. (view x.0, drop x.1 bytes.now)) result (named_at version (form_of code) address_size bytes.now) }
+    ensures exact { Gives (λ x. (view x.0, drop x.1 bytes.now)) result
+        (named_at version (form_of code) address_size bytes.now) }
 {
     match Form::from_code(code) {
         Some(form) if form.may_be_named(version) => plain(form, address_size, bytes),
@@ -93,7 +94,8 @@ fn named(
 fn indirect(version: u16, address_size: u8, bytes: &[u8]) -> Result<(Value<'_>, usize), ValueFault>
     requires { (address_size ≡ 4) ⊎ (address_size ≡ 8) }
     ensures within { IfOk result (λ x. x.1 ≤ length bytes.now) }
-    ensures exact { Gives (λ x. (view x.0, drop x.1 bytes.now)) result (value_at version Indirect address_size bytes.now) }
+    ensures exact { Gives (λ x. (view x.0, drop x.1 bytes.now)) result
+        (value_at version Indirect address_size bytes.now) }
 {
     let (code, before) = read_uleb(bytes)?;
     let (value, len) = named(version, code, address_size, &bytes[before..])?;
@@ -118,7 +120,8 @@ fn any_value(
     }
 }
 
-/// The value of any form, and how many bytes it has. Most values that are asked are offsets of strings, references within
+/// The value of any form, and how many bytes it has. Most values that are asked are offsets of strings, references
+/// within
 /// a unit and numbers of one byte, which are read in place.
 #[inline(always)]
 #[tactic(auto, unfolding(crate::specs::ValueReading::layout_at))]
