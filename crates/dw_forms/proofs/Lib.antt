@@ -20,4 +20,5 @@ pub mod AllowedForms
 pub mod FewAttributes
 pub mod ValueAnswers
 pub mod PlanSteps
+pub mod WalkLaws
 pub mod PassSteps

@@ -81,11 +81,11 @@ bind_on (Ok b) f g h = h b
 bind_on (Err x) f g h = refl
 
 -- each of these has one size
-abbrev HaveSizes : List AttributeSpec → Type 0
+abbrev pub HaveSizes : List AttributeSpec → Type 0
 HaveSizes [] = Unit {0}
 HaveSizes (spec ∷ specs) = (does_vary spec.form ≡ false) × HaveSizes specs
 
-run_ends : (version size : ℕ) (specs : List AttributeSpec) (bytes : List ℕ) → HaveSizes specs → values_end version size specs bytes ≡ cut_at (known_sum size specs) bytes
+pub run_ends : (version size : ℕ) (specs : List AttributeSpec) (bytes : List ℕ) → HaveSizes specs → values_end version size specs bytes ≡ cut_at (known_sum size specs) bytes
 unfolding values_end
 run_ends version size [] bytes e = sym (cut_long 0 bytes (omega arith))
 run_ends version size (spec ∷ specs) bytes e =

@@ -5,11 +5,13 @@ ghost use Rattle.std.specs.List.{slice_range};
 ghost use Rattle.dw_forms.specs.Plans.{values_end, is_stop, IsNext};
 ghost use Rattle.dw_forms.specs.FirstPlaces.{IsFirst, AnswersFirst};
 ghost use Rattle.dw_forms.specs.ValueReading.{Gives};
+ghost use Rattle.dw_forms.specs.Walks.{steps_of};
 
 use crate::attribute_index::{index_of, place_of};
 use crate::constants::Attribute;
 use crate::decl::AttributeSpec;
 use crate::plan::{Plan, next_stop, pass, plan_of};
+use crate::steps::{Step, steps_of};
 use crate::value::{Value, ValueFault};
 use crate::value_reader::read_any;
 use std::alloc::{AllocError, Global};
@@ -22,6 +24,8 @@ use std::marker::Model;
 pub struct Attributes {
     specs: Vec<AttributeSpec>,
     plan: Plan,
+    /// The steps of a walk over the values that may lead elsewhere.
+    steps: Vec<Step>,
     /// The place of the first attribute of each code, in a declaration of more than 16.
     places: BTreeMap<u16, u32>,
 }
@@ -35,7 +39,7 @@ impl Model for Attributes {
 
     ghost view = { λ a. a.specs.items };
 
-    ghost invariant = { λ a. IsPlanned a.specs.items a.plan a.places };
+    ghost invariant = { λ a. IsPlanned a.specs.items a.plan a.steps.items a.places };
 }
 
 impl Attributes {
@@ -45,6 +49,7 @@ impl Attributes {
         ensures { IfOk result (λ attributes. attributes ≡ specs.items) }
     {
         let plan = plan_of(alloc, &specs)?;
+        let steps = steps_of(alloc, &specs)?;
         let places = if specs.len() > 16 {
             index_of(alloc, &specs)?
         } else {
@@ -53,6 +58,7 @@ impl Attributes {
         Ok(Attributes {
             specs,
             plan,
+            steps,
             places,
         })
     }
@@ -109,6 +115,15 @@ impl Attributes {
         ensures { IsNext is_stop self.now from result }
     {
         next_stop(&self.plan, &self.specs, from)
+    }
+
+    /// The steps of a walk over the values that may lead elsewhere, up to the last of them. Each step reads a value that
+    /// takes bytes, but for that of a type or a base.
+    #[inline(always)]
+    pub fn steps(&self) -> &[Step]
+        ensures { result.now ≡ steps_of self.now }
+    {
+        &self.steps
     }
 
     /// The value of the first attribute with this code, if one is declared. The work is bounded by the bytes before it.

@@ -17,6 +17,7 @@ mod layout_reader;
 mod leb;
 mod number;
 mod plan;
+mod steps;
 mod value;
 mod value_reader;
 
@@ -33,5 +34,6 @@ pub use laws::{
     tables_are_read_by_grammar, unsigned_numbers_are_apart, values_are_apart,
 };
 pub use leb::{NumberFault, read_sleb, read_uleb};
+pub use steps::Step;
 pub use value::{Value, ValueFault};
 pub use value_reader::{read_value, skip_value};

@@ -37,7 +37,7 @@ pub struct Plan {
 
 /// The size of each value of the form, 0 where they have no one size.
 #[inline(always)]
-fn known_size(form: Form, address_size: u8) -> u32
+pub fn known_size(form: Form, address_size: u8) -> u32
     ensures same { result ≡ known_size address_size form }
     ensures small { result ≤ 0xff }
 {
@@ -49,7 +49,7 @@ fn known_size(form: Form, address_size: u8) -> u32
 
 /// Whether the values of the form have no one size.
 #[inline(always)]
-fn does_vary(form: Form) -> bool
+pub fn does_vary(form: Form) -> bool
     ensures { result ≡ does_vary form }
 {
     form.fixed_size(8).is_none()
