@@ -18,6 +18,7 @@ pub mod ValueSteps
 pub mod PassLaws
 pub mod ChosenSteps
 pub mod StopSteps
+pub mod LeadingSteps
 pub mod EntryFacts
 pub mod KeptLaws
 pub mod LeftLaws

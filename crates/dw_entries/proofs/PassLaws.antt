@@ -65,7 +65,7 @@ one_end : (x : Context) (s : AttributeSpec) (b : Attribute) (rest : List ℕ) �
 unfolding rest_at
 one_end x s b rest p = rw (value_again x s b rest p) refl
 
-passed : (x : Context) (specs : List AttributeSpec) (bs : List Attribute) (rest bytes : List ℕ) (k : ℕ) → AreAttributes x specs bs → bytes ≡ flat_map attribute_bytes bs ++ rest → k ≤ length specs → Passed x specs bs rest bytes k
+pub passed : (x : Context) (specs : List AttributeSpec) (bs : List Attribute) (rest bytes : List ℕ) (k : ℕ) → AreAttributes x specs bs → bytes ≡ flat_map attribute_bytes bs ++ rest → k ≤ length specs → Passed x specs bs rest bytes k
 unfolding values_end
 passed x specs bs rest bytes zero are spelled within = record { behind = bytes; others = bs; ends = refl; are = are; spelled = spelled; values = refl }
 passed x [] bs rest bytes (suc k) are spelled within = absurd (omega (arith, within))

@@ -38,3 +38,4 @@ pub mod Chosen
 pub mod Values
 pub mod ValuesLeft
 pub mod Referring
+pub mod Leading

@@ -1,6 +1,6 @@
 //! Look-ups of one entry after another, with the unit of the last at hand.
 
-ghost use Rattle.std.specs.Prelude.{◌≡◌, ◌<◌, Some, length, slice_get};
+ghost use Rattle.std.specs.Prelude.{◌≡◌, ◌<◌, Some, length, slice_get, IfSome};
 ghost use Rattle.std.specs.Option.{ForSome};
 ghost use Rattle.std.specs.Bool.{OnFalse, OnTrue};
 ghost use Rattle.dw_entries.specs.Cursors.{IsAt, IsUnitAt};
@@ -68,6 +68,21 @@ fn is_at(unit: &Option<UnitAt>, number: u32) -> bool
 }
 
 impl<'e, 'a> Cursor<'e, 'a> {
+    /// The entry with this number, if it is one of the unit at hand.
+    #[inline(always)]
+    pub fn beside(&self, id: EntryId) -> Option<EntryAt<'e, 'a>>
+        requires { id < length (entries_of (units_of self.now.entries.now.scanned)) }
+        ensures { IfSome result (λ entry. entry ≡ slice_get (entries_of (units_of self.now.entries.now.scanned)) id) }
+    {
+        let record = self.entries.record(id);
+        match &self.unit {
+            Some(unit) if unit.number == record.unit => {
+                Some(EntryAt::new(self.entries, id, &record, unit))
+            }
+            _ => None,
+        }
+    }
+
     /// The entry with this number, for all that is asked of it.
     #[inline(always)]
     pub fn at(&mut self, id: EntryId) -> EntryAt<'e, 'a>

@@ -13,12 +13,14 @@ ghost use Rattle.dw_entries.specs.Entries.{Entry, entries_of};
 ghost use Rattle.dw_entries.specs.Scanned.{units_of};
 ghost use Rattle.dw_entries.specs.Asked.{values_of};
 ghost use Rattle.dw_entries.specs.ValuesLeft.{values_left};
+ghost use Rattle.dw_entries.specs.Leading.{leading_left};
 ghost use Rattle.dw_entries.specs.Lookups.{declares, entry_head, value_at_entry};
 
 use crate::cursor::{UnitAt, unit_at};
 use crate::entries::Entries;
 use crate::header::UnitHeader;
 use crate::id::{EntryId, OptionalId};
+use crate::leading::Leading;
 use crate::lookup::Head;
 use crate::reading::read_code;
 use crate::record::Record;
@@ -181,10 +183,11 @@ impl<'e, 'a> EntryAt<'e, 'a> {
         }
     }
 
-    /// Its attributes in their order, each value decoded when it is asked.
+    /// All its attributes.
     #[inline(always)]
-    pub fn values(&self) -> Values<'e, 'a>
-        ensures { IfSome self.now (λ e. values_left result ≡ values_of e.head) }
+    fn all_values(&self) -> Values<'e, 'a>
+        ensures left { IfSome self.now (λ e. values_left result ≡ values_of e.head) }
+        ensures first { result.at ≡ 0 }
     {
         Values {
             attributes: &self.decl.attributes,
@@ -192,6 +195,28 @@ impl<'e, 'a> EntryAt<'e, 'a> {
             bytes: self.value_bytes(),
             version: self.header.kind.version(),
             address_size: self.header.address_size,
+        }
+    }
+
+    /// Its attributes in their order, each value decoded when it is asked.
+    #[inline(always)]
+    pub fn values(&self) -> Values<'e, 'a>
+        ensures { IfSome self.now (λ e. values_left result ≡ values_of e.head) }
+    {
+        self.all_values()
+    }
+
+    /// Its attributes whose values may lead elsewhere, in their order, each value decoded when it is asked.
+    #[inline(always)]
+    pub fn leading(&self) -> Leading<'e, 'a>
+        ensures { IfSome self.now (λ e. leading_left result ≡ values_of e.head) }
+    {
+        let values = self.all_values();
+        let steps = values.attributes.steps();
+        Leading {
+            values,
+            steps,
+            made: 0,
         }
     }
 

@@ -1,18 +1,20 @@
 //! The attributes of an entry, each value decoded when it is asked.
 
-ghost use Rattle.std.specs.Prelude.{◌≡◌, ◌≤◌, ◌-◌, length, drop, IfSome, IfNone};
+ghost use Rattle.std.specs.Prelude.{◌≡◌, ◌≤◌, ◌+◌, ◌-◌, ◌∷◌, List, length, drop, IfSome, IfNone};
 ghost use Rattle.std.specs.Bool.{OnFalse, OnTrue};
 ghost use Rattle.dw_forms.specs.Codes.{DW_AT_type};
 ghost use Rattle.dw_entries.specs.Chosen.{OthersPass, Unasked, IsNextAsked};
 ghost use Rattle.dw_entries.specs.Referring.{may_refer, is_asked};
 ghost use Rattle.dw_forms.specs.declared.decl.AttributeSpec.{AttributeSpec as SpecData};
+ghost use Rattle.dw_forms.specs.declared.steps.Step.{Step as StepData};
+ghost use Rattle.dw_forms.specs.Walks.{steps_from};
 ghost use Rattle.dw_entries.specs.Header.{IsSize};
 ghost use Rattle.dw_entries.specs.Values.{value_context, Left};
 ghost use Rattle.dw_entries.specs.Choices.{size_unique};
 ghost use Rattle.dw_entries.specs.ValueLaws.{left_unique};
 
 use dw_forms::constants::DW_AT_type;
-use dw_forms::{Attribute, AttributeSpec, Attributes, Form, Value, read_value};
+use dw_forms::{Attribute, AttributeSpec, Attributes, Form, Step, Value, read_value};
 
 /// The attributes of an entry that are left, in their order. Its values lie in .debug_info.
 #[derive(Drop)]
@@ -142,7 +144,8 @@ fn next_asked<C: Choice>(choice: &C, attributes: &Attributes, from: usize) -> Op
 }
 
 impl<'a> Values<'_, 'a> {
-    ghost use Rattle.dw_entries.specs.ValuesLeft.{viewed, values_left, FindsFirst, AsksNone};
+    ghost use Rattle.dw_entries.specs.ValuesLeft.{viewed, values_left, specs_left, FindsFirst, AsksNone};
+    ghost use Rattle.dw_entries.specs.Leading.{DoesNotLead};
     ghost use Rattle.dw_entries.specs.Chosen.{ArePassed, IsNextOf};
     ghost use Rattle.dw_entries.specs.Referring.{IsAsked, IsOther};
 
@@ -160,6 +163,31 @@ impl<'a> Values<'_, 'a> {
             Ok(bytes) => {
                 self.at = to;
                 self.bytes = bytes;
+            }
+            Err(_) => unreachable!(),
+        }
+    }
+
+    /// The attribute that a step goes to, whose form is this one. Values before it are skipped.
+    #[inline(always)]
+    pub(crate) fn step_to(&mut self, step: Step, form: Form) -> (Attribute, Value<'a>)
+        requires step { (others : List StepData) × (steps_from self.old.at (specs_left self.old) ≡ step ∷ others) }
+        requires form { step.spec.form ≡ form }
+        ensures found { IsNextOf DoesNotLead (values_left self.old) (viewed result) (values_left self.new) }
+        ensures at { self.new.at ≡ step.place + 1 }
+        ensures attributes { self.new.attributes.now ≡ self.old.attributes.now }
+    {
+        let skip = if self.address_size == 8 {
+            step.skip_with_8
+        } else {
+            step.skip_with_4
+        };
+        let bytes = &self.bytes[skip as usize..];
+        match read_value(self.version, form, self.address_size, bytes) {
+            Ok((value, len)) => {
+                self.at = step.place as usize + 1;
+                self.bytes = &bytes[len..];
+                (step.spec.attribute, value)
             }
             Err(_) => unreachable!(),
         }
