@@ -15,6 +15,7 @@ pub mod TargetLaws
 pub mod TableLaws
 pub mod SlotLaws
 pub mod TypeLaws
+pub mod SoundSteps
 pub mod LinkedTexts
 pub mod LinkedEntries
 pub mod RuleSteps

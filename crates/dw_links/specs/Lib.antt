@@ -17,3 +17,4 @@ pub mod Linkable
 pub mod Kept
 pub mod DeclaredEntries
 pub mod Tables
+pub mod Sound

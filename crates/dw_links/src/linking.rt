@@ -85,7 +85,7 @@ impl References<'_, '_> {
 
     /// The entry that an entry's type reaches, or the first failure at the entry's references. Each is decoded and
     /// searched once.
-    fn link_entry(
+    pub fn link_entry(
         &self,
         declared: &mut DeclaredEntries,
         entry: &EntryAt<'_, '_>,

@@ -23,7 +23,7 @@ use std::alloc::Global;
 #[derive(Drop)]
 pub struct Links<'r, 'a> {
     pub entries: &'r Entries<'a>,
-    tables: UnitTables,
+    pub(crate) tables: UnitTables,
     pub ghost tables_are: { AreTables entries.now tables },
     pub ghost classes: { HasNone (ClassFailures (units_of entries.now.scanned)) },
     pub ghost strings: { HasNone (StringFailures (sections_of entries.now) (units_of entries.now.scanned)) },

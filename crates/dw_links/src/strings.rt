@@ -70,6 +70,7 @@ impl AttributeRules for UnitTexts<'_> {
     #[tactic(auto, using(crate::proofs::StringLaws::stops_only))]
     fn keeps_to_stops(&self) {}
 
+    #[inline(always)]
     fn ask(&self, head: &Head, attribute: Attribute, value: &Value<'_>) -> Option<Rule> {
         match *value {
             Value::Str(offset) => ask_offset(self.sections.str, self.ends.str, offset),

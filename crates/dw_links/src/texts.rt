@@ -70,6 +70,7 @@ pub struct UnitTexts<'a> {
 
 impl UnitTexts<'_> {
     /// The rule at a base on the unit's first entry.
+    #[inline(never)]
     pub fn ask_base(&self, attribute: Attribute, base: u32) -> Option<Rule>
         requires { IsReady self.now }
         ensures { IsLeast (BaseFails self.now.sections self.now.header attribute base) result }
@@ -93,6 +94,7 @@ impl UnitTexts<'_> {
     }
 
     /// The rules at an indexed string.
+    #[inline(never)]
     pub fn ask_string(&self, index: u64) -> Option<Rule>
         requires { IsReady self.now }
         ensures { IsLeast (StringIndexFails self.now.sections (base_of self.now.strings) index) result }
@@ -116,6 +118,7 @@ impl UnitTexts<'_> {
     }
 
     /// The rules at an indexed address.
+    #[inline(never)]
     pub fn ask_address(&self, index: u64) -> Option<Rule>
         requires { IsReady self.now }
         ensures { IsLeast (AddressIndexFails self.now.sections self.now.header (base_of self.now.addresses) index)
