@@ -4,7 +4,7 @@ use dw_elf::Sections;
 use dw_entries::constants::*;
 use dw_entries::{Entries, EntryId, Value, scan};
 use dw_forms::Attribute;
-use dw_links::{Class, check_classes, check_strings, class_of_value, link};
+use dw_links::{Class, Links, check_classes, check_strings, class_of_value, link, link_sound};
 use std::alloc::Global;
 use std::test::Fail;
 
@@ -67,23 +67,35 @@ fn number_of(id: Option<EntryId>) -> Option<usize> {
     }
 }
 
-/// What an attribute of the entry with this number leads to.
-fn answer<'a>(
-    alloc: Global,
-    entries: &Entries<'a>,
-    number: usize,
-    attribute: Attribute,
-) -> Result<Answer<'a>, Fail> {
+/// The links of entries, by one group of rules after another.
+fn links_by_groups<'r, 'a>(alloc: Global, entries: &'r Entries<'a>) -> Result<Links<'r, 'a>, Fail> {
     let Ok(()) = check_classes(alloc, entries) else {
         return Err("a class".into());
     };
     let Ok(()) = check_strings(alloc, entries) else {
         return Err("a string".into());
     };
-    let Ok(links) = link(alloc, entries) else {
-        return Err("a reference".into());
-    };
-    let Some(id) = entries.nth(number) else {
+    match link(alloc, entries) {
+        Ok(links) => Ok(links),
+        Err(_) => Err("a reference".into()),
+    }
+}
+
+/// The same in one pass.
+fn links_at_once<'r, 'a>(alloc: Global, entries: &'r Entries<'a>) -> Result<Links<'r, 'a>, Fail> {
+    match link_sound(alloc, entries) {
+        Ok(Some(links)) => Ok(links),
+        _ => Err("a rule".into()),
+    }
+}
+
+/// What an attribute of the entry with this number leads to.
+fn answer<'a>(
+    links: &Links<'_, 'a>,
+    number: usize,
+    attribute: Attribute,
+) -> Result<Answer<'a>, Fail> {
+    let Some(id) = links.entries.nth(number) else {
         return Err("no entry".into());
     };
     Ok((
@@ -120,9 +132,16 @@ fn values_lead_somewhere(rt: HostRuntime) -> Result<(), Fail> {
     let Ok(entries) = scan(rt.alloc(), &sections) else {
         return Err("no entries".into());
     };
+    let links = links_by_groups(rt.alloc(), &entries)?;
+    let others = links_at_once(rt.alloc(), &entries)?;
     for (number, attribute, want) in &ROWS {
         assert_eq!(rt;
-            answer(rt.alloc(), &entries, *number, *attribute)?,
+            answer(&links, *number, *attribute)?,
+            *want,
+            "entry {number}"
+        );
+        assert_eq!(rt;
+            answer(&others, *number, *attribute)?,
             *want,
             "entry {number}"
         );
@@ -150,8 +169,9 @@ fn an_indexed_address(rt: HostRuntime) -> Result<(), Fail> {
     let Ok(entries) = scan(rt.alloc(), &sections) else {
         return Err("no entries".into());
     };
+    let links = links_at_once(rt.alloc(), &entries)?;
     assert_eq!(rt;
-        answer(rt.alloc(), &entries, 0, DW_AT_low_pc)?,
+        answer(&links, 0, DW_AT_low_pc)?,
         (None, None, Some(0x8877_6655_4433_2211))
     );
     Ok(())
@@ -162,4 +182,54 @@ fn classes_of_values(rt: HostRuntime) {
     assert_eq!(rt; class_of_value(&Value::Unsigned(1)), Class::Constant);
     assert_eq!(rt; class_of_value(&Value::Wide(&[0; 16])), Class::WideConstant);
     assert_eq!(rt; class_of_value(&Value::StrIndex(0)), Class::String);
+}
+
+/// A compile_unit, base_types with a sibling, and a typedef.
+const TREE_TABLE: [u8; 20] = [
+    1, 0x11, 1, 0, 0, // compile_unit
+    2, 0x24, 0, 0x01, 0x13, 0, 0, // base_type: sibling in form ref4
+    3, 0x16, 0, 0x49, 0x13, 0, 0, // typedef: type in form ref4
+    0,
+];
+
+const TREE: [u8; 29] = [
+    25, 0, 0, 0, 5, 0, 1, 8, 0, 0, 0, 0, // header
+    1, // compile_unit
+    2, 0x12, 0, 0, 0, // base_type, at 0x0d
+    2, 0x17, 0, 0, 0, // base_type, at 0x12
+    3, 0x0d, 0, 0, 0, // typedef, at 0x17
+    0,
+];
+
+/// Whether one pass links the entries. If it does not, a rule fails.
+fn is_linked(alloc: Global, info: &[u8]) -> Result<bool, Fail> {
+    let Ok(sections) = Sections::new(&TREE_TABLE, info, &[], &[], &[], &[]) else {
+        return Err("too large".into());
+    };
+    let Ok(entries) = scan(alloc, &sections) else {
+        return Err("no entries".into());
+    };
+    let is_linked = links_at_once(alloc, &entries).is_ok();
+    if links_by_groups(alloc, &entries).is_ok() != is_linked {
+        return Err("one pass and the groups of rules do not agree".into());
+    }
+    Ok(is_linked)
+}
+
+#[test]
+fn one_pass_sees_each_reference(rt: HostRuntime) -> Result<(), Fail> {
+    assert!(rt; is_linked(rt.alloc(), &TREE)?);
+    let mut later_sibling = TREE;
+    later_sibling[14] = 0x17;
+    assert!(rt; !is_linked(rt.alloc(), &later_sibling)?);
+    let mut itself = TREE;
+    itself[19] = 0x12;
+    assert!(rt; !is_linked(rt.alloc(), &itself)?);
+    let mut within_an_entry = TREE;
+    within_an_entry[24] = 0x0e;
+    assert!(rt; !is_linked(rt.alloc(), &within_an_entry)?);
+    let mut the_unit = TREE;
+    the_unit[24] = 0x0c;
+    assert!(rt; !is_linked(rt.alloc(), &the_unit)?);
+    Ok(())
 }
