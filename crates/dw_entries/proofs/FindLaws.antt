@@ -4,6 +4,7 @@ use Rattle.std.specs.Prelude.{slice_get}
 use Rattle.std.proofs.lemmas.Option.{slice_get_within, slice_get-get_or}
 use Rattle.std.proofs.lemmas.List.{length-map}
 use Rattle.dw_forms.specs.KeptDecls.{Numbered}
+use Rattle.dw_entries.specs.declared.hints.Hint.{Hint}
 use Rattle.dw_entries.specs.declared.record.Record.{Record}
 use Rattle.dw_entries.specs.declared.record.UnitRecord.{UnitRecord}
 use Rattle.dw_entries.specs.Entries.{entries_of}
@@ -15,23 +16,23 @@ use Rattle.dw_entries.proofs.EntryFacts.{kept_get, entries_rise}
 use Rattle.dw_entries.proofs.HeadLaws.{head_stands, stands_within}
 use Rattle.dw_entries.proofs.KeptLaws.{KeptEntry, kept_entry, record_is}
 
--- the hint of a block, which does not stand behind any offset of the block
-module _ {size : ℕ} {records : List Record} {hints : List ℕ} (h : AreHints size records hints) (block start : ℕ) (below : block < length hints) (read : start ≡ get_or hints block start) where
-  hint : IsFirstFrom records (block * 64) start
-  hint = h.each block start (slice_get-get_or hints block start below ∙ ap (λ (n : ℕ). Some n) (sym read))
+-- the hint of a block
+module _ {size : ℕ} {records : List Record} {hints : List Hint} (h : AreHints size records hints) (block : ℕ) (hint : Hint) (below : block < length hints) (read : hint ≡ get_or hints block hint) where
+  is_hint : IsFirstFrom records (block * 64) hint.first
+  is_hint = h.each block hint (slice_get-get_or hints block hint below ∙ ap (λ (n : Hint). Some n) (sym read))
 
-  pub hint_within : start ≤ length records
-  hint_within = hint.within
+  pub hint_within : hint.first ≤ length records
+  hint_within = is_hint.within
 
-  pub hint_before : (offset : ℕ) → block * 64 ≤ offset → (i : ℕ) (r : Record) → i < start → slice_get records i ≡ Some r → r.at < offset
-  hint_before offset le i r lt is = let b = hint.before i r lt is in omega (arith, b, le)
+  pub hint_before : (offset : ℕ) → block * 64 ≤ offset → (i : ℕ) (r : Record) → i < hint.first → slice_get records i ≡ Some r → r.at < offset
+  hint_before offset le i r lt is = let b = is_hint.before i r lt is in omega (arith, b, le)
 
 module _ (a info : List ℕ) (tables : List (List Numbered)) (rs : List UnitRecord) (records : List Record) (s : Scanned a info tables rs records) where
   pub entries_counted : length records ≡ length (entries_of (units_of s))
   entries_counted = ap length s.1.entries ∙ length-map (entries_of (units_of s)) (record_of (numbers_of tables rs))
 
   -- past the last hint no entry begins
-  pub none_past : (hints : List ℕ) (block offset : ℕ) → AreHints (length info) records hints → length hints ≤ block → block * 64 ≤ offset → (id : ℕ) → IsEntryAt (entries_of (units_of s)) offset id → ⊥
+  pub none_past : (hints : List Hint) (block offset : ℕ) → AreHints (length info) records hints → length hints ≤ block → block * 64 ≤ offset → (id : ℕ) → IsEntryAt (entries_of (units_of s)) offset id → ⊥
   none_past hints block offset h past le id found =
       let at = found.begins in
       let stands = stands_within (units_of s) info found.entry (head_stands a info (units_of s) id found.entry s.1.spells found.is_entry) in
@@ -41,6 +42,13 @@ module _ (a info : List ℕ) (tables : List (List Numbered)) (rs : List UnitReco
   -- the record of an entry
   stands_at : (id : ℕ) {offset : ℕ} (found : IsEntryAt (entries_of (units_of s)) offset id) → slice_get records id ≡ Some (record_of (numbers_of tables rs) found.entry)
   stands_at id found = ap (λ (xs : List Record). slice_get xs id) s.1.entries ∙ kept_get (numbers_of tables rs) (units_of s) id found.entry found.is_entry
+
+  -- an entry whose record starts at an offset starts there
+  pub found_kept : (id offset : ℕ) (r : Record) → id < length (entries_of (units_of s)) → slice_get records id ≡ Some r →
+      r.at ≡ offset → IsEntryAt (entries_of (units_of s)) offset id
+  found_kept id offset r within is same =
+      let here = kept_entry a info tables rs records s id within in
+      record { entry = here.entry; is_entry = here.is_entry; begins = sym (ap (λ (q : Record). q.at) (record_is here r is)) ∙ same }
 
   module _ (number offset : ℕ) (first : IsFirstFrom records offset number) where
     -- where all records stand below the offset, no entry begins there

@@ -9,7 +9,7 @@ ghost use Rattle.dw_entries.specs.Stopped.{IfBroken, IfFault};
 ghost use Rattle.dw_entries.specs.Props.{scanned_unique};
 ghost use Rattle.dw_entries.specs.Hints.{AreHints};
 
-use crate::hints::{BLOCK, first_from};
+use crate::hints::{BLOCK, Hint, first_from};
 use crate::id::EntryId;
 use crate::record::{Record, UnitRecord};
 use dw_elf::Sections;
@@ -22,7 +22,7 @@ pub struct Entries<'a> {
     pub(crate) decls: Vec<KeptDecl>,
     pub(crate) units: Vec<UnitRecord>,
     pub(crate) records: Vec<Record>,
-    pub(crate) hints: Vec<u32>,
+    pub(crate) hints: Vec<Hint>,
     pub ghost scanned: { Scanned sections.«abbrev».now sections.info.now (tables_of decls.items) units.items
         records.items } by { scanned_unique sections.«abbrev».now sections.info.now
             (tables_of decls.items) units.items records.items },
@@ -58,9 +58,21 @@ impl<'a> Entries<'a> {
         self.records[id.number()]
     }
 
-    /// The entry that begins at an offset of .debug_info. The search begins at the hint of the offset's block.
+    /// The entry that starts at an offset of .debug_info if one does, and some entry or none otherwise: whoever asks
+    /// tests it.
     #[inline(always)]
-    pub(crate) fn find_at(&self, offset: u64) -> Option<EntryId>
+    pub fn guess(&self, offset: u64) -> Option<EntryId>
+        ensures { IfSome result (λ id. id < length (entries_of (units_of self.now.scanned))) }
+    {
+        let block = (offset / BLOCK as u64) as usize;
+        if block >= self.hints.len() {
+            return None;
+        }
+        self.nth(self.hints[block].guess(offset) as usize)
+    }
+
+    /// The entry that starts at an offset of .debug_info. The search starts at the hint of the offset's block.
+    fn search(&self, offset: u64) -> Option<EntryId>
         ensures found { IfSome result (IsEntryAt (entries_of (units_of self.now.scanned)) offset) }
         ensures none { IfNone result ((id : ℕ) → IsEntryAt (entries_of (units_of self.now.scanned)) offset id → ⊥) }
     {
@@ -68,7 +80,7 @@ impl<'a> Entries<'a> {
         if block >= self.hints.len() {
             return None;
         }
-        let start = self.hints[block] as usize;
+        let start = self.hints[block].first as usize;
         let number = first_from(&self.records, start, offset as usize);
         if number >= self.records.len() {
             return None;
@@ -78,6 +90,20 @@ impl<'a> Entries<'a> {
         } else {
             None
         }
+    }
+
+    /// The entry that starts at an offset of .debug_info. A guess finds it at once.
+    #[inline(always)]
+    pub(crate) fn find_at(&self, offset: u64) -> Option<EntryId>
+        ensures found { IfSome result (IsEntryAt (entries_of (units_of self.now.scanned)) offset) }
+        ensures none { IfNone result ((id : ℕ) → IsEntryAt (entries_of (units_of self.now.scanned)) offset id → ⊥) }
+    {
+        if let Some(id) = self.guess(offset) {
+            if u64::from(self.record(id).at) == offset {
+                return Some(id);
+            }
+        }
+        self.search(offset)
     }
 
     /// The entry whose first byte is at this offset of .debug_info.

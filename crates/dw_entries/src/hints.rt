@@ -1,4 +1,4 @@
-//! Where the search for an entry by its offset begins.
+//! Where the search for an entry by its offset starts.
 
 ghost use Rattle.std.specs.Prelude.{◌≡◌, ◌^◌, ◌<◌, ◌≤◌, ℕ, length, Some, slice_get, IfOk};
 ghost use Rattle.dw_entries.specs.declared.record.Record.{Record as RecordData};
@@ -10,8 +10,27 @@ use std::alloc::{AllocError, Global};
 /// How many bytes of .debug_info have one hint.
 pub const BLOCK: usize = 64;
 
-/// The number of the first record that stands at an offset or behind it. The search begins at a record before
-/// which none does.
+/// Which records start in a block.
+#[derive(Clone, Copy, Debug)]
+pub struct Hint {
+    /// The number of the first record that starts in the block or after it.
+    pub first: u32,
+    /// A bit for each byte of the block: whether a record starts there. Nothing is proved of them: a search that goes
+    /// by them tests the record that it finds.
+    pub starts: u64,
+}
+
+impl Hint {
+    /// The number of the record that starts at an offset of the block, if one does, and some number otherwise.
+    #[inline(always)]
+    pub fn guess(self, offset: u64) -> u64 {
+        let before = self.starts & ((1 << (offset % BLOCK as u64)) - 1);
+        u64::from(self.first) + u64::from(before.count_ones())
+    }
+}
+
+/// The number of the first record that starts at an offset or after it. The search starts at a record before which
+/// none does.
 #[inline(always)]
 pub fn first_from(records: &[Record], start: usize, offset: usize) -> usize
     requires within { start ≤ length records.now }
@@ -25,8 +44,21 @@ pub fn first_from(records: &[Record], start: usize, offset: usize) -> usize
     number
 }
 
-/// For each block of a section of this size, the first record that stands in it or behind it.
-pub fn read_hints(alloc: Global, records: &[Record], size: usize) -> Result<Vec<u32>, AllocError>
+/// A bit for each byte of a block: whether one of the records from this one on starts there.
+fn starts_in(block: usize, records: &[Record], first: usize) -> u64 {
+    let mut starts = 0;
+    for number in first..records.len() {
+        let at = records[number].at as usize;
+        if at / BLOCK != block {
+            break;
+        }
+        starts |= 1 << (at % BLOCK);
+    }
+    starts
+}
+
+/// The hint of each block of a section of this size.
+pub fn read_hints(alloc: Global, records: &[Record], size: usize) -> Result<Vec<Hint>, AllocError>
     requires { length records.now < 2 ^ 32 }
     ensures { IfOk result (λ hints. AreHints size records.now hints.items) }
 {
@@ -35,7 +67,10 @@ pub fn read_hints(alloc: Global, records: &[Record], size: usize) -> Result<Vec<
     let mut number = 0;
     for block in 0..count {
         number = first_from(records, number, block * BLOCK);
-        hints.push(number as u32)?;
+        hints.push(Hint {
+            first: number as u32,
+            starts: starts_in(block, records, number),
+        })?;
     }
     Ok(hints)
 }

@@ -10,7 +10,6 @@ mod kinds;
 mod laws;
 mod linking;
 mod links;
-mod marks;
 mod references;
 mod rules;
 mod signatures;

@@ -23,7 +23,6 @@ use crate::class::check_classes;
 use crate::declared_entries::DeclaredEntries;
 use crate::kinds::is_reference;
 use crate::links::Links;
-use crate::marks::Marks;
 use crate::references::References;
 use crate::rules::{AttributeRules, check_entry};
 use crate::signatures::read_signatures;
@@ -80,11 +79,10 @@ fn keep_first(kept: OptionalId, attribute: Attribute, reached: OptionalId) -> Op
     }
 }
 
-/// What entries are linked with.
+/// Links the entries of which no rule fails.
 #[derive(Drop)]
 struct Linker<'r, 'd> {
     references: References<'r, 'd>,
-    marks: &'r Marks,
 }
 
 impl<'d> Linker<'_, 'd> {
@@ -112,12 +110,11 @@ impl<'d> Linker<'_, 'd> {
             head.now (ref_unit offset)) }
     {
         let at = offset.checked_add(u64::from(basis.at))?;
-        let number = if attribute == DW_AT_sibling {
-            head.next_sibling?.number()
+        let id = if attribute == DW_AT_sibling {
+            self.references.entries.nth(head.next_sibling?.number())?
         } else {
-            self.marks.number(at)
+            self.references.entries.guess(at)?
         };
-        let id = self.references.entries.nth(number)?;
         let target = cursor.beside(id)?;
         if u64::from(target.offset()) != at || target.unit() != head.unit {
             return None;
@@ -311,7 +308,6 @@ pub fn link_sound<'r, 'a>(
     };
     let signatures = read_signatures(alloc, entries)?;
     let bases = read_bases(alloc, entries)?;
-    let marks = Marks::new(alloc, entries)?;
     let references = References {
         entries,
         signatures: &signatures,
@@ -319,10 +315,7 @@ pub fn link_sound<'r, 'a>(
     let Ok(()) = references.check_headers() else {
         return Ok(None);
     };
-    let linker = Linker {
-        references,
-        marks: &marks,
-    };
+    let linker = Linker { references };
     let linked = linker.link_entries(alloc)?;
     match linked {
         Some(types) => {
