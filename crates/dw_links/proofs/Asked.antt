@@ -1,73 +1,56 @@
 -- Which rule on references has the least number of those that fail.
-use Rattle.std.proofs.Common.{◌≡◌, ℕ, ◌<◌, ◌≤◌, true, false, List, length, Option, Some, None, sym, ap, ◌∙◌, arith, subst, inl, inr}
+use Rattle.std.proofs.Common.{◌≡◌, ℕ, ◌<◌, true, false, List, Option, Some, None, refl, sym, ap, ◌∙◌, arith, subst, inl, inr}
 use Rattle.std.specs.Prelude.{slice_get}
-use Rattle.std.proofs.lemmas.Option.{slice_get_within}
 use Rattle.std.specs.Ordering.{nat_cmp}
 use Rattle.std.specs.BTreeMap.{BTreeMap, get}
-use Rattle.dw_forms.specs.Value.{Datum, address, block, unsigned, signed, wide, text, flag, str, line_str, str_index, ref_info, ref_unit, ref_sig, sec_offset, expr, addr_index, loc_index, rng_index}
+use Rattle.dw_forms.specs.Value.{Datum, ref_sig}
 use Rattle.dw_entries.specs.declared.rule.Rule.{Rule}
 use Rattle.dw_entries.specs.declared.rule.Rule.TheVariants as rule
 use Rattle.dw_entries.specs.declared.lookup.Head.{Head}
 use Rattle.dw_entries.specs.Entries.{Entry, PlacedUnit}
 use Rattle.dw_entries.specs.Rules.{number_of}
-use Rattle.dw_entries.specs.Asked.{OffsetsRise}
 use Rattle.dw_entries.proofs.Firsts.{same_some}
-use Rattle.dw_links.specs.References.{HasSignature, Reaches, permits, permits_form, IsWrongKind, IsOtherThan, NoSignatureThere, ReferenceFails}
-use Rattle.dw_links.specs.Signatures.{IsFirstSigned, AreSignatures, AreDistinct}
-use Rattle.dw_links.proofs.Reached.{one_reached}
+use Rattle.dw_links.specs.References.{permits, permits_form, NoEntryThere, IsWrongKind, IsOtherThan, NoSignatureThere, ReferenceFails}
+use Rattle.dw_links.specs.Signatures.{HasSignature, HasFirstSigned}
+use Rattle.dw_links.specs.Targets.{reach_of}
+use Rattle.dw_links.proofs.TargetLaws.{at_first_signed, none_signed, at_type}
 
 -- no signature, by the table
-pub unsigned_if : (units : List PlacedUnit) (s below : ℕ) (table : BTreeMap ℕ ℕ) → AreSignatures units below table → length units ≤ below → None ≡ get nat_cmp table s → (n : ℕ) → HasSignature units s n → ⊥
-unsigned_if units s below table so all is n has =
-    let P : Option ℕ → Type 0 = λ o. IsFirstSigned units s below o in
-    (subst P (sym is) (so s)) n (let within = slice_get_within units n has.unit has.is_unit in omega (arith, within, all)) has
+pub unsigned_if : (units : List PlacedUnit) (s : ℕ) (table : BTreeMap ℕ ℕ) → HasFirstSigned units table → None ≡ get nat_cmp table s → (n : ℕ) → HasSignature units s n → ⊥
+unsigned_if units s table so is = none_signed units s (sym (so s) ∙ sym is)
+
+pub signed_if : (units : List PlacedUnit) (s first : ℕ) (table : BTreeMap ℕ ℕ) → HasFirstSigned units table → Some first ≡ get nat_cmp table s → HasSignature units s first
+signed_if units s first table so is = (at_first_signed units s first (sym (so s) ∙ sym is)).1
 
 -- a reference that reaches an entry has its signature
-not_unsigned : (entries : List Entry) (units : List PlacedUnit) (entry : Head) (v : Datum) (id : ℕ) → Reaches entries units entry v id → NoSignatureThere units v → ⊥
-not_unsigned entries units entry (ref_sig s) id reaches none = none reaches.number reaches.has
-not_unsigned entries units entry (ref_info n) id reaches none = none
-not_unsigned entries units entry (ref_unit n) id reaches none = none
-not_unsigned entries units entry (address n) id reaches none = none
-not_unsigned entries units entry (block n) id reaches none = none
-not_unsigned entries units entry (unsigned n) id reaches none = none
-not_unsigned entries units entry (signed n) id reaches none = none
-not_unsigned entries units entry (wide n) id reaches none = none
-not_unsigned entries units entry (text n) id reaches none = none
-not_unsigned entries units entry (flag n) id reaches none = none
-not_unsigned entries units entry (str n) id reaches none = none
-not_unsigned entries units entry (line_str n) id reaches none = none
-not_unsigned entries units entry (str_index n) id reaches none = none
-not_unsigned entries units entry (addr_index n) id reaches none = none
-not_unsigned entries units entry (sec_offset n) id reaches none = none
-not_unsigned entries units entry (expr n) id reaches none = none
-not_unsigned entries units entry (loc_index n) id reaches none = none
-not_unsigned entries units entry (rng_index n) id reaches none = none
+not_unsigned : (entries : List Entry) (units : List PlacedUnit) (unit : ℕ) (v : Datum) (id : ℕ) → reach_of entries units unit v ≡ Some id → NoSignatureThere units v → ⊥
+not_unsigned entries units unit (ref_sig s) id reaches none = let found = at_type entries units s id reaches in none found.number found.has
+not_unsigned entries units unit _ id reaches none = none
 
-pub not_wrong : (entries : List Entry) (units : List PlacedUnit) (entry : Head) (a : ℕ) (v : Datum) (id : ℕ) (target : Entry) → OffsetsRise entries → AreDistinct units → slice_get entries id ≡ Some target → Reaches entries units entry v id
-    → permits_form entry a v ≡ true → permits entry a target ≡ true → IsWrongKind entries units entry a v → ⊥
-not_wrong entries units entry a v id target rise distinct is reaches form right wrong =
+pub not_wrong : (entries : List Entry) (head : Head) (a : ℕ) (v : Datum) (id : ℕ) (target : Entry) → slice_get entries id ≡ Some target → permits_form head a v ≡ true → permits head a target ≡ true → IsWrongKind entries head a v (Some id) → ⊥
+not_wrong entries head a v id target is form right wrong =
     elim wrong [
       | inl w ↦ let both : true ≡ false = sym form ∙ w in cc
       | inr w ↦
-          let same = one_reached entries units entry v w.id id rise distinct w.reaches reaches in
+          let same : id ≡ w.id = same_some (Some id) id w.id refl w.reaches in
           let P : ℕ → Type 0 = λ i. slice_get entries i ≡ Some w.target in
-          let one = same_some (slice_get entries id) w.target target (subst P same w.is_target) is in
-          let Q : Entry → Type 0 = λ e. permits entry a e ≡ false in
-          let no_right = subst Q one w.wrong in
-          let both : true ≡ false = sym right ∙ no_right in cc
+          let one = same_some (slice_get entries id) w.target target (subst P (sym same) w.is_target) is in
+          let Q : Entry → Type 0 = λ e. permits head a e ≡ false in
+          let both : true ≡ false = sym right ∙ subst Q one w.wrong in cc
     ]
 
 -- R3
-pub right_sibling : (entries : List Entry) (units : List PlacedUnit) (entry : Head) (v : Datum) (id : ℕ) → OffsetsRise entries → AreDistinct units → Reaches entries units entry v id → entry.next_sibling ≡ Some id
-    → IsOtherThan entry.next_sibling (Reaches entries units entry v) → ⊥
-right_sibling entries units entry v id rise distinct reaches next other =
-    let P : Option ℕ → Type 0 = λ o. IsOtherThan o (Reaches entries units entry v) in
-    let o = subst P next other in
-    o.2 (one_reached entries units entry v o.0 id rise distinct o.1 reaches)
+pub right_sibling : (next reached : Option ℕ) (id : ℕ) → reached ≡ Some id → next ≡ Some id → IsOtherThan next reached → ⊥
+right_sibling next reached id reaches is other =
+    let o = subst (λ (x : Option ℕ). IsOtherThan x reached) is other in
+    o.2 (same_some reached o.0 id o.1 reaches)
 
-pub other_sibling : (entries : List Entry) (units : List PlacedUnit) (entry : Head) (v : Datum) (id : ℕ) (next : Option ℕ) → Reaches entries units entry v id → (next ≡ Some id → ⊥) → IsOtherThan next (Reaches entries units entry v)
-other_sibling entries units entry v id None reaches other = tt
-other_sibling entries units entry v id (Some n) reaches other = (id, reaches, λ same. other (ap (λ (i : ℕ). Some i) (sym same)))
+pub other_sibling : (next reached : Option ℕ) (id : ℕ) → reached ≡ Some id → (next ≡ Some id → ⊥) → IsOtherThan next reached
+other_sibling None reached id reaches other = tt
+other_sibling (Some n) reached id reaches other = (id, reaches, λ same. other (ap (λ (i : ℕ). Some i) (sym same)))
+
+no_entry_not : (entries : List Entry) (units : List PlacedUnit) (unit : ℕ) (v : Datum) (id : ℕ) → reach_of entries units unit v ≡ Some id → NoEntryThere v (reach_of entries units unit v) → ⊥
+no_entry_not entries units unit v id reaches none = let both : ◌≡◌ {A = Option ℕ} None (Some id) = sym none.1 ∙ reaches in cc
 
 -- four rules are asked of references
 by_rule : (entries : List Entry) (units : List PlacedUnit) (entry : Head) (a : ℕ) (v : Datum) (P : Rule → Type 0)
@@ -118,13 +101,15 @@ by_rule entries units entry a v P p q s t rule.SizeTooGreat fails = absurd fails
 by_rule entries units entry a v P p q s t rule.MemberOutside fails = absurd fails.1
 by_rule entries units entry a v P p q s t rule.EnumSize fails = absurd fails.1
 
-pub least_other : (entries : List Entry) (units : List PlacedUnit) (entry : Head) (a : ℕ) (v : Datum) (id : ℕ) → Reaches entries units entry v id → (IsWrongKind entries units entry a v → ⊥)
-    → (r : Rule) → ReferenceFails entries units entry a v r → number_of r < 3 → ⊥
-least_other entries units entry a v id reaches right =
-    by_rule entries units entry a v (λ r. number_of r < 3 → ⊥) (λ fails less. fails.1.1 id reaches) (λ fails less. right fails.1) (λ fails less. omega (arith, less)) (λ fails less. omega (arith, less))
+pub least_other : (entries : List Entry) (units : List PlacedUnit) (head : Head) (a : ℕ) (v : Datum) (id : ℕ) → reach_of entries units head.unit v ≡ Some id → (IsWrongKind entries head a v (Some id) → ⊥)
+    → (r : Rule) → ReferenceFails entries units head a v r → number_of r < 3 → ⊥
+least_other entries units head a v id reaches right =
+    by_rule entries units head a v (λ r. number_of r < 3 → ⊥) (λ fails less. no_entry_not entries units head.unit v id reaches fails.1) (λ fails less. right (subst (IsWrongKind entries head a v) reaches fails.1)) (λ fails less. omega (arith, less))
+    (λ fails less. omega (arith, less))
 
-pub least_none : (entries : List Entry) (units : List PlacedUnit) (entry : Head) (a : ℕ) (v : Datum) (id : ℕ) → Reaches entries units entry v id → (IsWrongKind entries units entry a v → ⊥)
-    → ((a ≡ 1) × IsOtherThan entry.next_sibling (Reaches entries units entry v) → ⊥)
-    → (r : Rule) → ReferenceFails entries units entry a v r → ⊥
-least_none entries units entry a v id reaches right next =
-    by_rule entries units entry a v (λ r. ⊥) (λ fails. fails.1.1 id reaches) (λ fails. right fails.1) (λ fails. next fails.1) (λ fails. not_unsigned entries units entry v id reaches fails.1)
+pub least_none : (entries : List Entry) (units : List PlacedUnit) (head : Head) (a : ℕ) (v : Datum) (id : ℕ) → reach_of entries units head.unit v ≡ Some id → (IsWrongKind entries head a v (Some id) → ⊥)
+    → ((a ≡ 1) × IsOtherThan head.next_sibling (reach_of entries units head.unit v) → ⊥)
+    → (r : Rule) → ReferenceFails entries units head a v r → ⊥
+least_none entries units head a v id reaches right next =
+    by_rule entries units head a v (λ r. ⊥) (λ fails. no_entry_not entries units head.unit v id reaches fails.1) (λ fails. right (subst (IsWrongKind entries head a v) reaches fails.1)) (λ fails. next fails.1)
+    (λ fails. not_unsigned entries units head.unit v id reaches fails.1)

@@ -17,9 +17,9 @@ use Rattle.dw_entries.specs.Asked.{OffsetsRise, AtPlace}
 use Rattle.dw_entries.proofs.Firsts.{same_some, first_of_list, more_of_list, none_of_list}
 use Rattle.dw_entries.proofs.FirstPlaces.{header_precedes_le, first_at_place, none_at_place}
 use Rattle.dw_entries.specs.Runs.{IsEntryIn}
-use Rattle.dw_links.specs.References.{HasSignature, IsSignedBefore, HasType, TypeUnitFails, HeaderFails, AtHeader, HeaderFailures}
+use Rattle.dw_links.specs.References.{IsSignedBefore, HasType, TypeUnitFails, HeaderFails, AtHeader, HeaderFailures}
 use Rattle.dw_forms.specs.Codes.{is_type_tag}
-use Rattle.dw_links.specs.Signatures.{AreDistinct}
+use Rattle.dw_links.specs.Signatures.{AreDistinct, HasSignature}
 use Rattle.dw_entries.proofs.RunLaws.{one_at, in_is_at}
 use Rattle.dw_entries.proofs.NumberOrder.{three_ways}
 

@@ -1,7 +1,6 @@
 pub mod Names
 pub mod Signed
 pub mod Reached
-pub mod Asked
 pub mod HeaderLaws
 pub mod FormClasses
 pub mod Skips
@@ -12,6 +11,7 @@ pub mod Transfers
 pub mod ReferenceLaws
 pub mod Positions
 pub mod TargetLaws
+pub mod Asked
 pub mod TableLaws
 pub mod SlotLaws
 pub mod TypeLaws

@@ -1,13 +1,12 @@
 -- The references of an entry, one behind the other, and the entry that its type reaches.
 use Rattle.std.proofs.Common.{◌≡◌, ℕ, suc, ◌<◌, ◌||◌, Bool, true, false, List, [], ◌∷◌, ◌++◌, length, Option, Some, None, refl, sym, ap, ◌∙◌, subst, arith, append_assoc, length-append}
-use Rattle.std.specs.Prelude.{slice_get, ◌==◌, IfSome, IfNone, option_map}
+use Rattle.std.specs.Prelude.{slice_get, ◌==◌, option_map}
 use Rattle.std.specs.Option.{option_flatten, option_and_then}
-use Rattle.std.proofs.lemmas.Option.{slice_get_within}
 use Rattle.dw_forms.specs.Codes.{DW_AT_type}
 use Rattle.dw_forms.specs.Value.{Datum}
 use Rattle.dw_entries.specs.declared.lookup.Head.{Head}
 use Rattle.dw_entries.specs.declared.rule.Rule.{Rule}
-use Rattle.dw_entries.specs.Asked.{OffsetsRise, values_of}
+use Rattle.dw_entries.specs.Asked.{values_of}
 use Rattle.dw_entries.specs.Entries.{Entry, PlacedUnit}
 use Rattle.dw_entries.specs.Lookups.{entry_head, value_in}
 use Rattle.dw_entries.specs.Chosen.{IsPassed, ArePassed, IsNextOf}
@@ -18,14 +17,12 @@ use Rattle.dw_entries.specs.Failures.{HasNone, IsFirst, IsLeast}
 use Rattle.dw_entries.proofs.Firsts.{first_of_attributes, none_of_attributes}
 use Rattle.dw_links.specs.Concerns.{AtHead}
 use Rattle.dw_links.specs.Kept.{kept_after}
-use Rattle.dw_links.specs.References.{Reaches, ReferenceFails}
-use Rattle.dw_links.specs.Signatures.{AreDistinct}
+use Rattle.dw_links.specs.References.{ReferenceFails}
 use Rattle.dw_links.specs.Tables.{type_target}
 use Rattle.dw_links.specs.Targets.{reach_of, target_of}
 use Rattle.dw_links.proofs.FormClasses.{plain_form}
 use Rattle.dw_links.proofs.RuleSteps.{NoneFails, none_both, none_one, front_get, between_get}
-use Rattle.dw_links.proofs.ReferenceLaws.{others_pass, reached_entry}
-use Rattle.dw_links.proofs.TargetLaws.{reach_of_is, at_reach_of}
+use Rattle.dw_links.proofs.ReferenceLaws.{others_pass}
 
 -- ---- the rules
 
@@ -87,7 +84,7 @@ pub record Linked (entries : List Entry) (units : List PlacedUnit) (head : Head)
   pub done : List (ℕ × Datum)
   pub parts : items ≡ done ++ left
   pub none : NoneFails (ReferenceFails entries units) head done
-  pub is_kept : kept ≡ option_map (reach_of entries units head) (value_in done DW_AT_type)
+  pub is_kept : kept ≡ option_map (reach_of entries units head.unit) (value_in done DW_AT_type)
 
 pub linked_none : (entries : List Entry) (units : List PlacedUnit) (head : Head) (items left : List (ℕ × Datum)) → left ≡ items → Linked entries units head items left None
 linked_none entries units head items left same = record { done = []; parts = sym same; none = λ k item is. absurd cc; is_kept = refl }
@@ -112,13 +109,13 @@ module _ (entries : List Entry) (units : List PlacedUnit) (head : Head) (items l
   none_before j b w lt is r fails = before_none j (b, w) (front_get (l.done ++ n.passed) ((a, v) ∷ behind) j (b, w) lt (ap (λ (xs : List (ℕ × Datum)). slice_get xs j) (sym joined) ∙ is)) r fails
 
   -- one attribute more, where no rule fails
-  pub linked_more : (reached : Option ℕ) → reached ≡ reach_of entries units head v → ((r : Rule) → ReferenceFails entries units head a v r → ⊥) → Linked entries units head items behind (kept_after kept a reached)
+  pub linked_more : (reached : Option ℕ) → reached ≡ reach_of entries units head.unit v → ((r : Rule) → ReferenceFails entries units head a v r → ⊥) → Linked entries units head items behind (kept_after kept a reached)
   linked_more reached is_reached none = record {
     done = l.done ++ (n.passed ++ (a, v) ∷ []);
     parts = l.parts ∙ ap (λ (xs : List (ℕ × Datum)). l.done ++ xs) (n.parts ∙ sym (append_assoc n.passed ((a, v) ∷ []) behind)) ∙ sym (append_assoc l.done (n.passed ++ (a, v) ∷ []) behind);
     none = none_both (ReferenceFails entries units) head l.done (n.passed ++ (a, v) ∷ []) l.none
         (none_both (ReferenceFails entries units) head n.passed ((a, v) ∷ []) (passed_none entries units head DW_AT_type n.passed n.are_passed) (none_one (ReferenceFails entries units) head (a, v) none));
-    is_kept = (λ i. kept_after (l.is_kept i) a (is_reached i)) ∙ kept_next (reach_of entries units head) l.done n.passed a v n.are_passed (value_in l.done DW_AT_type) refl;
+    is_kept = (λ i. kept_after (l.is_kept i) a (is_reached i)) ∙ kept_next (reach_of entries units head.unit) l.done n.passed a v n.are_passed (value_in l.done DW_AT_type) refl;
   }
 
   pub fewer : length behind < length left
@@ -145,23 +142,8 @@ pub linked_target : (entries : List Entry) (units : List PlacedUnit) (e : Entry)
     → option_flatten kept ≡ type_target entries units e
 unfolding target_of
 linked_target entries units e left kept l passed =
-    ap option_flatten l.is_kept ∙ by_value (value_in l.done DW_AT_type) refl ∙ ap (λ (xs : List (ℕ × Datum)). option_and_then (reach_of entries units (entry_head e)) (value_in xs DW_AT_type)) (sym l.parts)
+    ap option_flatten l.is_kept ∙ by_value (value_in l.done DW_AT_type) refl ∙ ap (λ (xs : List (ℕ × Datum)). option_and_then (reach_of entries units e.unit) (value_in xs DW_AT_type)) (sym l.parts)
   where
-    by_value : (o : Option Datum) → value_in l.done DW_AT_type ≡ o → option_flatten (option_map (reach_of entries units (entry_head e)) o) ≡ option_and_then (reach_of entries units (entry_head e)) (value_in (l.done ++ left) DW_AT_type)
-    by_value (Some d) is = ap (option_and_then (reach_of entries units (entry_head e))) (sym (front_value l.done left DW_AT_type d is))
-    by_value None is = ap (option_and_then (reach_of entries units (entry_head e))) (sym (back_value l.done left DW_AT_type is ∙ passed_value DW_AT_type left passed))
-
--- ---- what is reached
-
-pub reached_is : (entries : List Entry) (units : List PlacedUnit) (head : Head) (v : Datum) (answer : Option ℕ) → OffsetsRise entries → AreDistinct units → IfSome answer (Reaches entries units head v) → IfNone answer ((id : ℕ) → Reaches entries units head v id → ⊥)
-    → answer ≡ reach_of entries units head v
-reached_is entries units head v (Some id) rise distinct some none = sym (reach_of_is entries units head v id rise distinct some)
-reached_is entries units head v None rise distinct some none = nowhere (reach_of entries units head v) refl
-  where
-    nowhere : (o : Option ℕ) → reach_of entries units head v ≡ o → None ≡ o
-    nowhere None is = refl
-    nowhere (Some id) is = absurd (none id (at_reach_of entries units head v id is))
-
-pub reached_within : (entries : List Entry) (units : List PlacedUnit) (head : Head) (v : Datum) (answer : Option ℕ) → IfSome answer (Reaches entries units head v) → IfSome answer (λ t. t < length entries)
-reached_within entries units head v (Some id) some = let (e, is) = reached_entry entries units head v id some in slice_get_within entries id e is
-reached_within entries units head v None some = tt
+    by_value : (o : Option Datum) → value_in l.done DW_AT_type ≡ o → option_flatten (option_map (reach_of entries units e.unit) o) ≡ option_and_then (reach_of entries units e.unit) (value_in (l.done ++ left) DW_AT_type)
+    by_value (Some d) is = ap (option_and_then (reach_of entries units e.unit)) (sym (front_value l.done left DW_AT_type d is))
+    by_value None is = ap (option_and_then (reach_of entries units e.unit)) (sym (back_value l.done left DW_AT_type is ∙ passed_value DW_AT_type left passed))

@@ -16,14 +16,14 @@ use Rattle.dw_entries.specs.Runs.{IsEntryIn, ReachesInUnit}
 use Rattle.dw_entries.proofs.EntryFacts.{entries_rise}
 use Rattle.dw_links.specs.declared.class.Class.TheVariants.{Reference}
 use Rattle.dw_links.specs.Classes.{class_of}
-use Rattle.dw_links.specs.References.{type_in, HasSignature, Reaches, permits, permits_form, IsOtherThan, is_reference_value, ReferenceFailsBy, TypeUnitFails, HeaderFails, ReferenceFailures}
-use Rattle.dw_links.specs.Targets.{entry_at, first_signed, reach_in_unit, reach_of, target_of}
+use Rattle.dw_links.specs.References.{permits, permits_form, IsOtherThan, is_reference_value, ReferenceFailsBy, TypeUnitFails, HeaderFails, ReferenceFailures}
+use Rattle.dw_links.specs.Signatures.{type_in, HasSignature, first_signed}
+use Rattle.dw_links.specs.Targets.{entry_at, reach_in_unit, reach_of, target_of}
 use Rattle.dw_links.specs.LinkLaws.{HaveTargets, HaveTypes}
 use Rattle.dw_links.proofs.HeaderLaws.{distinct_from, typed, not_typed}
-use Rattle.dw_links.proofs.ReferenceLaws.{reached_entry}
 use Rattle.dw_links.proofs.Reached.{in_place}
 use Rattle.dw_links.proofs.SlotLaws.{stands_at}
-use Rattle.dw_links.proofs.TargetLaws.{entry_at_is, reach_in_unit_is, at_reach_in_unit, at_first_signed, none_signed, type_of_unit_is, at_reach_of, reach_of_is}
+use Rattle.dw_links.proofs.TargetLaws.{reach_in_unit_is, at_reach_in_unit, at_first_signed, none_signed, type_of_unit_is, reached_entry}
 
 reference_value : (v : Datum) → class_of v ≡ Reference → is_reference_value v ≡ true
 reference_value (ref_info n) is = refl
@@ -100,13 +100,11 @@ type_reached us number signature type_offset p rise none is kind = go (reach_in_
 
 -- what reaches an entry
 abbrev Reached : List DebugUnit → Entry → Datum → Type 0
-Reached us e v = (id : ℕ) × (reach_of (entries_of us) (placed us) (entry_head e) v ≡ Some id)
+Reached us e v = (id : ℕ) × (reach_of (entries_of us) (placed us) e.unit v ≡ Some id)
 
-by_offset : (us : List DebugUnit) (e : Entry) (attribute : ℕ) (v : Datum) (o : Option ℕ) → reach_of (entries_of us) (placed us) (entry_head e) v ≡ o
-    → ((k : ℕ) → Reaches (entries_of us) (placed us) (entry_head e) v k → reach_of (entries_of us) (placed us) (entry_head e) v ≡ Some k)
-    → (((k : ℕ) → Reaches (entries_of us) (placed us) (entry_head e) v k → ⊥) → ⊥) → Reached us e v
-by_offset us e attribute v (Some id) is over never = (id, is)
-by_offset us e attribute v None is over never = absurd (never (λ k reaches. no_answer (reach_of (entries_of us) (placed us) (entry_head e) v) k is (over k reaches)))
+by_offset : (us : List DebugUnit) (e : Entry) (v : Datum) (o : Option ℕ) → reach_of (entries_of us) (placed us) e.unit v ≡ o → (reach_of (entries_of us) (placed us) e.unit v ≡ None → ⊥) → Reached us e v
+by_offset us e v (Some id) is never = (id, is)
+by_offset us e v None is never = absurd (never is)
 
 by_signature : (us : List DebugUnit) (e : Entry) (signature : ℕ) (o : Option ℕ) → first_signed (placed us) signature ≡ o → OffsetsRise (entries_of us) → HasNone (ReferenceFailures us)
     → (((number : ℕ) → HasSignature (placed us) signature number → ⊥) → ⊥) → Reached us e (ref_sig signature)
@@ -120,10 +118,9 @@ by_signature us e signature (Some number) is rise none never =
 reached : (us : List DebugUnit) (id : ℕ) (e : Entry) (attribute : ℕ) (v : Datum) → OffsetsRise (entries_of us) → HasNone (ReferenceFailures us) → slice_get (entries_of us) id ≡ Some e → value_at_entry e attribute ≡ Some v → class_of v ≡ Reference
     → Reached us e v
 reached us id e attribute (ref_info offset) rise none is value class =
-    by_offset us e attribute (ref_info offset) (entry_at (entries_of us) offset) refl (λ k. entry_at_is (entries_of us) offset k rise) (λ nowhere. passes_reference us id e attribute (ref_info offset) none is value refl NoEntry (refl, nowhere))
+    by_offset us e (ref_info offset) (entry_at (entries_of us) offset) refl (λ nowhere. passes_reference us id e attribute (ref_info offset) none is value refl NoEntry (refl, nowhere))
 reached us id e attribute (ref_unit offset) rise none is value class =
-    by_offset us e attribute (ref_unit offset) (reach_in_unit (entries_of us) (placed us) e.unit offset) refl (λ k. reach_in_unit_is (entries_of us) (placed us) e.unit offset k rise)
-    (λ nowhere. passes_reference us id e attribute (ref_unit offset) none is value refl NoEntry (refl, nowhere))
+    by_offset us e (ref_unit offset) (reach_in_unit (entries_of us) (placed us) e.unit offset) refl (λ nowhere. passes_reference us id e attribute (ref_unit offset) none is value refl NoEntry (refl, nowhere))
 reached us id e attribute (ref_sig signature) rise none is value class =
     by_signature us e signature (first_signed (placed us) signature) refl rise none (λ unsigned. passes_reference us id e attribute (ref_sig signature) none is value refl NoSignature unsigned)
 reached us id e attribute (address n) rise none is value class = absurd cc
@@ -147,9 +144,9 @@ true_unless true never = refl
 true_unless false never = absurd (never refl)
 
 -- a next sibling that is no other than the one that is reached
-the_next : (next : Option ℕ) (id : ℕ) (Is : ℕ → Type 0) → Is id → (IsOtherThan next Is → ⊥) → next ≡ Some id
-the_next None id Is here never = absurd (never tt)
-the_next (Some n) id Is here never =
+the_next : (next reached : Option ℕ) (id : ℕ) → reached ≡ Some id → (IsOtherThan next reached → ⊥) → next ≡ Some id
+the_next None reached id here never = absurd (never tt)
+the_next (Some n) reached id here never =
     let same : (id == n) ≡ true = true_unless (id == n) (λ other. never (id, here, λ e. let both : true ≡ false = sym (rw e (eq-eqb n n refl)) ∙ other in cc)) in
     ap Some (sym (eqb-true id n same))
 
@@ -157,23 +154,19 @@ pub have_targets : («abbrev» info : List ℕ) (us : List DebugUnit) → Spells
 unfolding target_of
 have_targets «abbrev» info us spells none id e is attribute v value class =
     let rise = entries_rise «abbrev» us spells.are in
-    let distinct = distinct_from (entries_of us) (placed us) (λ f fails. none f (inl fails)) in
     let reference = reference_value v class in
     let passes = passes_reference us id e attribute v none is value reference in
-    let (t, gives) = reached us id e attribute v rise none is value class in
-    let reaches = at_reach_of (entries_of us) (placed us) (entry_head e) v t gives in
-    let (target, is_target) = reached_entry (entries_of us) (placed us) (entry_head e) v t reaches in
+    let (t, reaches) = reached us id e attribute v rise none is value class in
+    let (target, is_target) = reached_entry (entries_of us) (placed us) e.unit v t reaches in
     record {
       id = t;
       target = target;
       is_entry = is_target;
-      is_target = rw value gives;
+      is_target = rw value reaches;
       reaches = reaches;
-      only = λ other also.
-          let two : Some other ≡ Some t = sym (reach_of_is (entries_of us) (placed us) (entry_head e) v other rise distinct also) ∙ gives in cc;
       form = true_unless (permits_form (entry_head e) attribute v) (λ wrong. passes WrongKind (inl wrong));
-      kind = true_unless (permits (entry_head e) attribute target) (λ wrong. passes WrongKind (inr (record { id = t; target = target; is_target = is_target; reaches = reaches; wrong = wrong })));
-      sibling = λ sibling. the_next e.next t (Reaches (entries_of us) (placed us) (entry_head e) v) reaches (λ other. passes NotNextSibling (sibling, other));
+      kind = true_unless (permits (entry_head e) attribute target) (λ wrong. passes WrongKind (inr (record { id = t; reaches = reaches; target = target; is_target = is_target; wrong = wrong })));
+      sibling = λ sibling. the_next e.next (reach_of (entries_of us) (placed us) e.unit v) t reaches (λ other. passes NotNextSibling (sibling, other));
     }
 
 pub have_types : («abbrev» info : List ℕ) (us : List DebugUnit) → Spells «abbrev» us info → HasNone (ReferenceFailures us) → HaveTypes us

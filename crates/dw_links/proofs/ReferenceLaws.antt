@@ -5,14 +5,13 @@ use Rattle.std.proofs.lemmas.Option.{slice_get_within, get_or_from_slice_get}
 use mathlib.Core.Logic.{∥∥₁_elim}
 use Rattle.dw_forms.specs.declared.decl.AttributeSpec.{AttributeSpec}
 use Rattle.dw_forms.specs.Value.{Datum, address, block, unsigned, signed, wide, text, flag, str, line_str, str_index, ref_info, ref_unit, ref_sig, sec_offset, expr, addr_index, loc_index, rng_index}
-use Rattle.dw_entries.specs.declared.lookup.Head.{Head}
 use Rattle.dw_entries.specs.Entries.{Entry, PlacedUnit}
 use Rattle.dw_entries.specs.Runs.{IsEntryAt}
 use Rattle.dw_links.specs.declared.class.Class.{Class}
 use Rattle.dw_links.specs.declared.class.Class.TheVariants.{Reference}
 use Rattle.dw_links.specs.Concerns.{Passes}
 use Rattle.dw_links.specs.Classes.{class_of, form_class}
-use Rattle.dw_links.specs.References.{is_reference_value, Reaches, ReferenceFails}
+use Rattle.dw_links.specs.References.{is_reference_value, ReferenceFails}
 use Rattle.dw_links.proofs.FormClasses.{class_by_form}
 use Rattle.dw_links.proofs.Skips.{there}
 
@@ -55,24 +54,3 @@ no_entry entries offset nowhere id found =
 pub found_some : (entries : List Entry) (offset : ℕ) (o : Option ℕ) → IfSome o (λ id. IfSome (slice_get entries id) (λ e. e.at ≡ offset)) → IfSome o (λ id. id < length entries) → IfSome o (IsEntryAt entries offset)
 found_some entries offset None found within = tt
 found_some entries offset (Some id) found within = found_entry entries offset id found within
-
--- what is reached is an entry
-pub reached_entry : (entries : List Entry) (units : List PlacedUnit) (head : Head) (v : Datum) (id : ℕ) → Reaches entries units head v id → (e : Entry) × (slice_get entries id ≡ Some e)
-reached_entry entries units head (address n) id reaches = absurd reaches
-reached_entry entries units head (block n) id reaches = absurd reaches
-reached_entry entries units head (unsigned n) id reaches = absurd reaches
-reached_entry entries units head (signed n) id reaches = absurd reaches
-reached_entry entries units head (wide n) id reaches = absurd reaches
-reached_entry entries units head (text n) id reaches = absurd reaches
-reached_entry entries units head (flag n) id reaches = absurd reaches
-reached_entry entries units head (str n) id reaches = absurd reaches
-reached_entry entries units head (line_str n) id reaches = absurd reaches
-reached_entry entries units head (str_index n) id reaches = absurd reaches
-reached_entry entries units head (ref_info n) id reaches = (reaches.entry, reaches.is_entry)
-reached_entry entries units head (ref_unit n) id reaches = (reaches.target.entry, reaches.target.is_entry)
-reached_entry entries units head (ref_sig n) id reaches = (reaches.target.entry, reaches.target.is_entry)
-reached_entry entries units head (sec_offset n) id reaches = absurd reaches
-reached_entry entries units head (expr n) id reaches = absurd reaches
-reached_entry entries units head (addr_index n) id reaches = absurd reaches
-reached_entry entries units head (loc_index n) id reaches = absurd reaches
-reached_entry entries units head (rng_index n) id reaches = absurd reaches

@@ -5,8 +5,7 @@ use Rattle.std.specs.Prelude.{slice_get, is_some}
 use Rattle.std.specs.Ordering.{nat_cmp, is_eq}
 use Rattle.std.specs.BTreeMap.{BTreeMap, get, is_at}
 use Rattle.dw_entries.specs.Entries.{PlacedUnit}
-use Rattle.dw_links.specs.References.{type_in, HasSignature}
-use Rattle.dw_links.specs.Signatures.{IsFirstSigned, AreSignatures}
+use Rattle.dw_links.specs.Signatures.{IsFirstSigned, AreSignatures, type_in, HasSignature}
 use Rattle.dw_entries.proofs.Firsts.{same_some}
 
 -- a unit more changes nothing where it hasn't the signature, or an earlier one has
@@ -70,6 +69,3 @@ new_signature units n k t u old new is kind unknown after before s =
     let P : ℕ → Type 0 = λ x. is_eq (nat_cmp k x) ≡ true in
     let yes_here = subst P same (own_key k) in
     let no : true ≡ false = sym yes_here ∙ not_here in cc)
-
-pub all_units : (units : List PlacedUnit) (n m : ℕ) (table : BTreeMap ℕ ℕ) → n ≡ m → AreSignatures units n table → AreSignatures units m table
-all_units units n m table same so = let P : ℕ → Type 0 = λ k. AreSignatures units k table in subst P same so

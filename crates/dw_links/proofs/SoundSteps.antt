@@ -1,6 +1,6 @@
 -- An entry at which no rule fails, value by value.
-use Rattle.std.proofs.Common.{◌≡◌, ℕ, ◌+◌, ◌<◌, ◌||◌, ◌&&◌, Bool, true, false, cond, ltb, List, length, Option, Some, None, refl, sym, ap, subst, ◌∙◌, arith, inl, inr, ◌⊎◌}
-use Rattle.std.specs.Prelude.{◌≢◌, ◌==◌, slice_get, is_some, IsSome, IfSome}
+use Rattle.std.proofs.Common.{◌≡◌, ℕ, ◌<◌, ◌||◌, Bool, true, false, cond, ltb, List, length, Option, Some, None, refl, sym, ap, subst, ◌∙◌, arith, inl, inr}
+use Rattle.std.specs.Prelude.{◌==◌, slice_get, is_some, IsSome, IfSome}
 use Rattle.std.specs.Option.{option_flatten}
 use Rattle.std.proofs.lemmas.Bool.{ne_eqb, eq-eqb, eqb-true, ltb-true}
 use Rattle.dw_elf.specs.declared.sections.Sections.{Sections}
@@ -8,29 +8,26 @@ use Rattle.dw_forms.specs.Codes.{DW_AT_type, DW_AT_sibling, DW_AT_specification,
 use Rattle.dw_forms.specs.declared.decl.AttributeSpec.{AttributeSpec}
 use Rattle.dw_forms.specs.declared.form.Form.{Form}
 use Rattle.dw_forms.specs.declared.form.Form.TheVariants as form
-use Rattle.dw_forms.specs.Value.{Datum, address, block, unsigned, signed, wide, text, flag, str, line_str, str_index, ref_info, ref_unit, ref_sig, sec_offset, expr, addr_index, loc_index, rng_index}
-use Rattle.dw_forms.specs.Walks.{may_lead, does_lead}
+use Rattle.dw_forms.specs.Value.{Datum, ref_unit}
+use Rattle.dw_forms.specs.Walks.{may_lead}
 use Rattle.dw_entries.specs.declared.lookup.Head.{Head}
-use Rattle.dw_entries.specs.declared.rule.Rule.{Rule}
-use Rattle.dw_entries.specs.Asked.{OffsetsRise, values_of}
-use Rattle.dw_entries.specs.Chosen.{IsPassed, ArePassed, IsNextOf}
+use Rattle.dw_entries.specs.Asked.{values_of}
+use Rattle.dw_entries.specs.Chosen.{ArePassed, IsNextOf}
 use Rattle.dw_entries.specs.Entries.{Entry, PlacedUnit}
 use Rattle.dw_entries.specs.Failures.{IsLeast, HasNone}
 use Rattle.dw_entries.specs.Leading.{DoesNotLead}
 use Rattle.dw_entries.specs.Lookups.{nth_of, entry_head}
 use Rattle.dw_entries.specs.Referring.{may_refer, IsOther}
-use Rattle.dw_entries.specs.Runs.{ReachesInUnit}
 use Rattle.dw_links.specs.declared.texts.UnitTexts.{UnitTexts}
 use Rattle.dw_links.specs.Classes.{form_class}
 use Rattle.dw_links.specs.Concerns.{AtHead, Passes}
 use Rattle.dw_links.specs.Kept.{kept_after}
 use Rattle.dw_links.specs.Ready.{AreTexts, FailsByTexts}
-use Rattle.dw_links.specs.References.{Reaches, permits, permits_form, is_reference_value, ReferenceFails}
-use Rattle.dw_links.specs.Signatures.{AreDistinct}
+use Rattle.dw_links.specs.References.{permits, permits_form, ReferenceFails}
 use Rattle.dw_links.specs.Sound.{IsPlain, IsLinked, IsSound, LinksNext, first_type}
 use Rattle.dw_links.specs.Strings.{StringFails, may_lead as may_lead_to_texts}
 use Rattle.dw_links.specs.Tables.{type_target}
-use Rattle.dw_links.specs.Targets.{reach_of}
+use Rattle.dw_links.specs.Targets.{reach_in_unit, reach_of}
 use Rattle.dw_links.proofs.Asked.{least_none, not_wrong, right_sibling}
 use Rattle.dw_links.proofs.LinkSteps.{Linked, linked_none, linked_more, linked_passes, linked_target}
 use Rattle.dw_links.proofs.RuleSteps.{Checked, none_checked, checked_more, checked_all, fewer}
@@ -66,12 +63,12 @@ permitted_form : (head : Head) (a : ℕ) (v : Datum) → IsPlain a → permits_f
 permitted_form head a v plain = rw (ne_eqb a DW_AT_signature plain.1) refl
 
 -- no rule fails at a plain attribute that reaches an entry
-pub none_in_unit : (entries : List Entry) (units : List PlacedUnit) (head : Head) (a offset id : ℕ) (e : Entry) → OffsetsRise entries → AreDistinct units → slice_get entries id ≡ Some e → ReachesInUnit entries units head.unit offset id → IsPlain a
+pub none_in_unit : (entries : List Entry) (units : List PlacedUnit) (head : Head) (a offset id : ℕ) (e : Entry) → slice_get entries id ≡ Some e → reach_in_unit entries units head.unit offset ≡ Some id → IsPlain a
     → (a ≡ DW_AT_type → is_type_tag e.head.decl.tag ≡ true) → (a ≡ DW_AT_sibling → head.next_sibling ≡ Some id) → IsLeast (ReferenceFails entries units head a (ref_unit offset)) None
-none_in_unit entries units head a offset id e rise distinct is reaches plain typed next =
+none_in_unit entries units head a offset id e is reaches plain typed next =
     least_none entries units head a (ref_unit offset) id reaches
-    (not_wrong entries units head a (ref_unit offset) id e rise distinct is reaches (permitted_form head a (ref_unit offset) plain) (permitted head a e plain typed))
-    (λ p. right_sibling entries units head (ref_unit offset) id rise distinct reaches (next p.0) p.1)
+    (not_wrong entries head a (ref_unit offset) id e is (permitted_form head a (ref_unit offset) plain) (permitted head a e plain typed))
+    (λ p. right_sibling head.next_sibling (reach_in_unit entries units head.unit offset) id reaches (next p.0) p.1)
 
 pub nothing_of : {A : Type 0} (o : Option A) → is_some o ≡ false → o ≡ None
 nothing_of None is = refl
@@ -79,12 +76,12 @@ nothing_of (Some x) is = absurd cc
 
 -- what is reached, if anything, is linked
 pub linked_in_unit : (texts : UnitTexts) (entries : List Entry) (units : List PlacedUnit) (head : Head) (a offset : ℕ) (v : Datum) (reached : Option (Option ℕ)) → v ≡ ref_unit offset → IsLeast (FailsByTexts texts head a v) None → IfSome reached (λ t. IsSome t)
-    → IfSome reached (λ _. IsLeast (ReferenceFails entries units head a (ref_unit offset)) None) → IfSome reached (λ t. t ≡ reach_of entries units head (ref_unit offset)) → IfSome reached (IsLinked texts entries units head a v)
+    → IfSome reached (λ _. IsLeast (ReferenceFails entries units head a (ref_unit offset)) None) → IfSome reached (λ t. t ≡ reach_of entries units head.unit (ref_unit offset)) → IfSome reached (IsLinked texts entries units head a v)
 linked_in_unit texts entries units head a offset v None is strings some none same = tt
 linked_in_unit texts entries units head a offset v (Some t) is strings some none same = record {
   strings = strings;
   references = subst (λ (d : Datum). IsLeast (ReferenceFails entries units head a d) None) (sym is) none;
-  is_reached = same ∙ ap (reach_of entries units head) (sym is);
+  is_reached = same ∙ ap (reach_of entries units head.unit) (sym is);
   typed = λ _. some;
 }
 

@@ -1,22 +1,20 @@
--- What values reach, as a function and as a relation.
+-- The entry that a value reaches.
 use Rattle.std.proofs.Common.{◌≡◌, ℕ, ◌+◌, ◌<◌, ◌==◌, ◌&&◌, Bool, true, false, List, length, Option, Some, None, IfSome, IfNone, option_and_then, refl, sym, ap, ◌∙◌, subst, arith, eq-eqb, ne_eqb}
 use Rattle.std.specs.Prelude.{slice_get}
 use Rattle.std.specs.Ordering.{nat_cmp}
 use Rattle.std.specs.BTreeMap.{BTreeMap, get}
 use Rattle.std.proofs.lemmas.Option.{slice_get_within, option_and_then_some}
 use Rattle.std.proofs.lemmas.Bool.{eqb-true}
-use Rattle.dw_forms.specs.Value.{Datum, address, block, unsigned, signed, wide, text, flag, str, line_str, str_index, ref_info, ref_unit, ref_sig, sec_offset, expr, addr_index, loc_index, rng_index}
-use Rattle.dw_entries.specs.declared.lookup.Head.{Head}
-use Rattle.dw_entries.specs.Lookups.{entry_head, value_at_entry}
+use Rattle.dw_forms.specs.Value.{Datum, ref_info, ref_unit, ref_sig}
+use Rattle.dw_entries.specs.Lookups.{value_at_entry}
 use Rattle.dw_entries.specs.Asked.{OffsetsRise}
 use Rattle.dw_entries.specs.Entries.{Entry, PlacedUnit}
 use Rattle.dw_entries.specs.Runs.{IsEntryAt, IsEntryIn, ReachesInUnit}
 use Rattle.dw_entries.proofs.Firsts.{same_some}
-use Rattle.dw_links.specs.References.{type_in, HasSignature, ReachesBySignature, Reaches}
-use Rattle.dw_links.specs.Signatures.{IsFirstSigned, AreSignatures, AreDistinct}
-use Rattle.dw_links.specs.Targets.{entry_at, entry_in, is_signature_of, first_signed, reach_in_unit, type_of_unit, reach_of, target_of, HasFirstSigned}
+use Rattle.dw_links.specs.LinkLaws.{ReachesBySignature}
+use Rattle.dw_links.specs.Signatures.{type_in, HasSignature, is_signature_of, first_signed, HasFirstSigned, IsFirstSigned, AreSignatures, AreDistinct}
+use Rattle.dw_links.specs.Targets.{entry_at, entry_in, reach_in_unit, type_of_unit, reach_of, target_of}
 use Rattle.dw_links.proofs.Positions.{IsFirstAt, position_is, place_is, none_passes, answer_is}
-use Rattle.dw_links.proofs.ReferenceLaws.{reached_entry}
 
 -- ---- entries by their offsets
 
@@ -162,7 +160,7 @@ type_of_unit_is entries units unit signature type_offset u target is kind reache
     subst P (sym is) (rw kind reached)
 
 -- at the type offset of the first type unit that has the signature
-at_type : (entries : List Entry) (units : List PlacedUnit) (signature id : ℕ) → option_and_then (type_of_unit entries units) (first_signed units signature) ≡ Some id → ReachesBySignature entries units signature id
+pub at_type : (entries : List Entry) (units : List PlacedUnit) (signature id : ℕ) → option_and_then (type_of_unit entries units) (first_signed units signature) ≡ Some id → ReachesBySignature entries units signature id
 at_type entries units signature id is =
     option_and_then_some (type_of_unit entries units) (first_signed units signature) id is
     (λ number found typed.
@@ -176,7 +174,7 @@ at_type entries units signature id is =
       target = record { entry = reached.target.entry; is_entry = reached.target.is_entry; begins = omega (arith, begins, same); in_unit = reached.target.in_unit };
     })
 
-type_is : (entries : List Entry) (units : List PlacedUnit) (signature id : ℕ) → OffsetsRise entries → AreDistinct units → ReachesBySignature entries units signature id
+pub type_is : (entries : List Entry) (units : List PlacedUnit) (signature id : ℕ) → OffsetsRise entries → AreDistinct units → ReachesBySignature entries units signature id
     → option_and_then (type_of_unit entries units) (first_signed units signature) ≡ Some id
 type_is entries units signature id rise distinct reached =
     let first : IsFirstSigned units signature (length units) (Some reached.number) = (
@@ -190,67 +188,32 @@ type_is entries units signature id rise distinct reached =
 
 -- ---- what a value reaches
 
--- the entry that the function gives is reached
-pub at_reach_of : (entries : List Entry) (units : List PlacedUnit) (head : Head) (v : Datum) (id : ℕ) → reach_of entries units head v ≡ Some id → Reaches entries units head v id
-at_reach_of entries units head (address n) id is = absurd cc
-at_reach_of entries units head (block n) id is = absurd cc
-at_reach_of entries units head (unsigned n) id is = absurd cc
-at_reach_of entries units head (signed n) id is = absurd cc
-at_reach_of entries units head (wide n) id is = absurd cc
-at_reach_of entries units head (text n) id is = absurd cc
-at_reach_of entries units head (flag n) id is = absurd cc
-at_reach_of entries units head (str n) id is = absurd cc
-at_reach_of entries units head (line_str n) id is = absurd cc
-at_reach_of entries units head (str_index n) id is = absurd cc
-at_reach_of entries units head (ref_info offset) id is = at_entry_at entries offset id is
-at_reach_of entries units head (ref_unit offset) id is = at_reach_in_unit entries units head.unit offset id is
-at_reach_of entries units head (ref_sig signature) id is = at_type entries units signature id is
-at_reach_of entries units head (sec_offset n) id is = absurd cc
-at_reach_of entries units head (expr n) id is = absurd cc
-at_reach_of entries units head (addr_index n) id is = absurd cc
-at_reach_of entries units head (loc_index n) id is = absurd cc
-at_reach_of entries units head (rng_index n) id is = absurd cc
-
--- an entry that is reached is the one that the function gives, where no two type units have one signature
-pub reach_of_is : (entries : List Entry) (units : List PlacedUnit) (head : Head) (v : Datum) (id : ℕ) → OffsetsRise entries → AreDistinct units → Reaches entries units head v id → reach_of entries units head v ≡ Some id
-reach_of_is entries units head (address n) id rise distinct reaches = absurd reaches
-reach_of_is entries units head (block n) id rise distinct reaches = absurd reaches
-reach_of_is entries units head (unsigned n) id rise distinct reaches = absurd reaches
-reach_of_is entries units head (signed n) id rise distinct reaches = absurd reaches
-reach_of_is entries units head (wide n) id rise distinct reaches = absurd reaches
-reach_of_is entries units head (text n) id rise distinct reaches = absurd reaches
-reach_of_is entries units head (flag n) id rise distinct reaches = absurd reaches
-reach_of_is entries units head (str n) id rise distinct reaches = absurd reaches
-reach_of_is entries units head (line_str n) id rise distinct reaches = absurd reaches
-reach_of_is entries units head (str_index n) id rise distinct reaches = absurd reaches
-reach_of_is entries units head (ref_info offset) id rise distinct reaches = entry_at_is entries offset id rise reaches
-reach_of_is entries units head (ref_unit offset) id rise distinct reaches = reach_in_unit_is entries units head.unit offset id rise reaches
-reach_of_is entries units head (ref_sig signature) id rise distinct reaches = type_is entries units signature id rise distinct reaches
-reach_of_is entries units head (sec_offset n) id rise distinct reaches = absurd reaches
-reach_of_is entries units head (expr n) id rise distinct reaches = absurd reaches
-reach_of_is entries units head (addr_index n) id rise distinct reaches = absurd reaches
-reach_of_is entries units head (loc_index n) id rise distinct reaches = absurd reaches
-reach_of_is entries units head (rng_index n) id rise distinct reaches = absurd reaches
+-- what is reached is an entry
+pub reached_entry : (entries : List Entry) (units : List PlacedUnit) (unit : ℕ) (v : Datum) (id : ℕ) → reach_of entries units unit v ≡ Some id → (e : Entry) × (slice_get entries id ≡ Some e)
+reached_entry entries units unit (ref_info offset) id is = let found = at_entry_at entries offset id is in (found.entry, found.is_entry)
+reached_entry entries units unit (ref_unit offset) id is = let found = at_reach_in_unit entries units unit offset id is in (found.target.entry, found.target.is_entry)
+reached_entry entries units unit (ref_sig signature) id is = let found = at_type entries units signature id is in (found.target.entry, found.target.is_entry)
+reached_entry entries units unit _ id is = absurd cc
 
 -- ---- what an attribute reaches
 
 -- what was asked of an entry's value is the target
-target_of_value : (entries : List Entry) (units : List PlacedUnit) (e : Entry) (attribute : ℕ) (v : Option Datum) (answer : Option ℕ) → v ≡ value_at_entry e attribute → answer ≡ option_and_then (reach_of entries units (entry_head e)) v
+target_of_value : (entries : List Entry) (units : List PlacedUnit) (e : Entry) (attribute : ℕ) (v : Option Datum) (answer : Option ℕ) → v ≡ value_at_entry e attribute → answer ≡ option_and_then (reach_of entries units e.unit) v
     → answer ≡ target_of entries units e attribute
 unfolding target_of
-target_of_value entries units e attribute v answer value is = is ∙ ap (option_and_then (reach_of entries units (entry_head e))) value
+target_of_value entries units e attribute v answer value is = is ∙ ap (option_and_then (reach_of entries units e.unit)) value
 
 pub target_is : (entries : List Entry) (units : List PlacedUnit) (id attribute : ℕ) (v : Option Datum) (answer : Option ℕ) → IfSome (slice_get entries id) (λ e. v ≡ value_at_entry e attribute)
-    → IfSome (slice_get entries id) (λ e. answer ≡ option_and_then (reach_of entries units (entry_head e)) v) → IfSome (slice_get entries id) (λ e. answer ≡ target_of entries units e attribute)
+    → IfSome (slice_get entries id) (λ e. answer ≡ option_and_then (reach_of entries units e.unit) v) → IfSome (slice_get entries id) (λ e. answer ≡ target_of entries units e attribute)
 target_is entries units id attribute v answer value is = go (slice_get entries id) value is
   where
-    go : (o : Option Entry) → IfSome o (λ e. v ≡ value_at_entry e attribute) → IfSome o (λ e. answer ≡ option_and_then (reach_of entries units (entry_head e)) v) → IfSome o (λ e. answer ≡ target_of entries units e attribute)
+    go : (o : Option Entry) → IfSome o (λ e. v ≡ value_at_entry e attribute) → IfSome o (λ e. answer ≡ option_and_then (reach_of entries units e.unit) v) → IfSome o (λ e. answer ≡ target_of entries units e attribute)
     go None value is = tt
     go (Some e) value is = target_of_value entries units e attribute v answer value is
 
--- what is reached is an entry
-pub reach_within : (entries : List Entry) (units : List PlacedUnit) (head : Head) (v : Datum) (answer : Option ℕ) → answer ≡ reach_of entries units head v → IfSome answer (λ t. t < length entries)
-reach_within entries units head v None is = tt
-reach_within entries units head v (Some t) is =
-    let (e, is_e) = reached_entry entries units head v t (at_reach_of entries units head v t (sym is)) in
+-- and its number is below their count
+pub reach_within : (entries : List Entry) (units : List PlacedUnit) (unit : ℕ) (v : Datum) (answer : Option ℕ) → answer ≡ reach_of entries units unit v → IfSome answer (λ t. t < length entries)
+reach_within entries units unit v None is = tt
+reach_within entries units unit v (Some t) is =
+    let (e, is_e) = reached_entry entries units unit v t (sym is) in
     slice_get_within entries t e is_e

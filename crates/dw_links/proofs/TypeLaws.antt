@@ -3,11 +3,10 @@ use Rattle.std.proofs.Common.{◌≡◌, ℕ, ◌<◌, List, length, map, get_or
 use Rattle.std.specs.Prelude.{slice_get}
 use Rattle.std.proofs.lemmas.Option.{slice_get_within, slice_get-map, get_or_from_slice_get, option_and_then_some}
 use Rattle.dw_entries.specs.Entries.{Entry, PlacedUnit}
-use Rattle.dw_entries.specs.Lookups.{entry_head, value_at_entry}
+use Rattle.dw_entries.specs.Lookups.{value_at_entry}
 use Rattle.dw_links.specs.Tables.{type_target}
 use Rattle.dw_links.specs.Targets.{reach_of, target_of}
-use Rattle.dw_links.proofs.ReferenceLaws.{reached_entry}
-use Rattle.dw_links.proofs.TargetLaws.{at_reach_of}
+use Rattle.dw_links.proofs.TargetLaws.{reached_entry}
 
 -- ---- what is kept of an entry
 
@@ -15,9 +14,9 @@ use Rattle.dw_links.proofs.TargetLaws.{at_reach_of}
 pub target_within : (entries : List Entry) (units : List PlacedUnit) (e : Entry) (attribute t : ℕ) → target_of entries units e attribute ≡ Some t → t < length entries
 unfolding target_of
 target_within entries units e attribute t is =
-    option_and_then_some (reach_of entries units (entry_head e)) (value_at_entry e attribute) t is
+    option_and_then_some (reach_of entries units e.unit) (value_at_entry e attribute) t is
     (λ v value gives.
-    let (target, stands) = reached_entry entries units (entry_head e) v t (at_reach_of entries units (entry_head e) v t gives) in
+    let (target, stands) = reached_entry entries units e.unit v t gives in
     slice_get_within entries t target stands)
 
 -- what stands at the entry's number

@@ -6,9 +6,9 @@ pub mod Bases
 pub mod Strings
 pub mod Texts
 pub mod AttributeTexts
-pub mod References
-pub mod Targets
 pub mod Signatures
+pub mod Targets
+pub mod References
 pub mod LinkLaws
 -- State.
 pub mod Ready

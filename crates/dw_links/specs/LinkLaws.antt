@@ -8,12 +8,13 @@ use Rattle.dw_entries.specs.Units.{DebugUnit}
 use Rattle.dw_entries.specs.Entries.{Entry, PlacedUnit, entries_of, placed}
 use Rattle.dw_entries.specs.Asked.{EachEntry}
 use Rattle.dw_entries.specs.Lookups.{entry_head, value_at_entry}
+use Rattle.dw_entries.specs.Runs.{IsEntryIn}
 use Rattle.dw_links.specs.declared.class.Class.{Class}
 use Rattle.dw_links.specs.declared.class.Class.TheVariants.{Address, Reference, String}
 use Rattle.dw_links.specs.Classes.{class_of}
-use Rattle.dw_links.specs.References.{type_in, Reaches, permits, permits_form, HasType}
-use Rattle.dw_links.specs.Signatures.{AreDistinct}
-use Rattle.dw_links.specs.Targets.{target_of}
+use Rattle.dw_links.specs.References.{permits, permits_form, HasType}
+use Rattle.dw_links.specs.Signatures.{type_in, HasSignature, AreDistinct}
+use Rattle.dw_links.specs.Targets.{reach_of, target_of}
 use Rattle.dw_links.specs.AttributeTexts.{text_at, address_at}
 
 -- a fact of each attribute that has a value of a class
@@ -22,17 +23,21 @@ EachValue class P entries =
     EachEntry (λ e. (attribute : ℕ) (v : Datum) → value_at_entry e attribute ≡ Some v → class_of v ≡ class
     → P e attribute v) entries
 
--- the value reaches one entry, which is the attribute's target; the attribute may have this form and reach this entry,
--- and
--- a sibling attribute reaches the next sibling
+-- a signature reaches the entry at the type offset of a unit that has it
+pub record ReachesBySignature (entries : List Entry) (units : List PlacedUnit) (signature id : ℕ) : Type 0 where
+  pub number : ℕ
+  pub has : HasSignature units signature number
+  pub target : IsEntryIn entries number (has.unit.at + has.type_offset) id
+
+-- the value reaches an entry, which is the attribute's target; the attribute may have this form and reach this entry,
+-- and a sibling attribute reaches the next sibling
 pub record HasTarget (entries : List Entry) (units : List PlacedUnit) (e : Entry) (attribute : ℕ)
     (v : Datum) : Type 0 where
   pub id : ℕ
   pub target : Entry
   pub is_entry : slice_get entries id ≡ Some target
   pub is_target : target_of entries units e attribute ≡ Some id
-  pub reaches : Reaches entries units (entry_head e) v id
-  pub only : (other : ℕ) → Reaches entries units (entry_head e) v other → other ≡ id
+  pub reaches : reach_of entries units e.unit v ≡ Some id
   pub form : permits_form (entry_head e) attribute v ≡ true
   pub kind : permits (entry_head e) attribute target ≡ true
   pub sibling : attribute ≡ DW_AT_sibling → e.next ≡ Some id

@@ -1,9 +1,7 @@
--- Chapter: which entries references refer to (DWARF 5, 2.3 and 7.5.5), and the rules on them.
+-- Chapter: the rules on references (DWARF 5, 2.3 and 7.5.5).
 use Rattle.std.specs.Prelude.{◌≡◌, ◌≢◌, ℕ, ◌+◌, ◌<◌, ◌⊎◌, Bool, true, false, not, ◌&&◌, ◌==◌, List, [], ◌∷◌, Option}
 use Rattle.std.specs.Prelude.{None, Some, slice_get, if◌then◌else◌}
 use Rattle.dw_forms.specs.Value.{Datum, flag, ref_info, ref_unit, ref_sig}
-use Rattle.dw_entries.specs.declared.header.HeaderKind.{HeaderKind}
-use Rattle.dw_entries.specs.declared.header.HeaderKind.TheVariants.{TypeUnit}
 use Rattle.dw_entries.specs.declared.rule.Rule.{Rule}
 use Rattle.dw_entries.specs.declared.rule.Rule.TheVariants.{NoEntry, WrongKind, NotNextSibling, NoSignature}
 use Rattle.dw_entries.specs.declared.rule.Rule.TheVariants.{SignatureTwice, BadTypeOffset}
@@ -11,7 +9,7 @@ use Rattle.dw_entries.specs.declared.lookup.Head.{Head}
 use Rattle.dw_entries.specs.Lookups.{value_at_entry}
 use Rattle.dw_entries.specs.Units.{DebugUnit}
 use Rattle.dw_entries.specs.Entries.{Entry, entries_of}
-use Rattle.dw_entries.specs.Runs.{IsEntryAt, IsEntryIn, ReachesInUnit}
+use Rattle.dw_entries.specs.Runs.{IsEntryIn}
 use Rattle.dw_entries.specs.Places.{at_header}
 use Rattle.dw_entries.specs.Failures.{Failure}
 use Rattle.dw_entries.specs.Asked.{AtPlace, AtEntries, InList}
@@ -21,31 +19,8 @@ use Rattle.dw_forms.specs.Codes.{DW_TAG_enumeration_type, DW_TAG_compile_unit, D
 use Rattle.dw_entries.specs.Entries.{PlacedUnit, placed}
 use Rattle.dw_links.specs.Classes.{is_one_of}
 use Rattle.dw_links.specs.Concerns.{AtHead}
-
--- the signature of a type unit, and how far behind its header's first byte its type begins
-abbrev pub type_in : HeaderKind → Option (ℕ × ℕ)
-type_in (TypeUnit signature type_offset) = Some (signature, type_offset)
-type_in _ = None
-
--- the type unit with this number has the signature
-pub record HasSignature (units : List PlacedUnit) (signature number : ℕ) : Type 0 where
-  pub unit : PlacedUnit
-  pub is_unit : slice_get units number ≡ Some unit
-  pub type_offset : ℕ
-  pub signed : type_in unit.unit.header.kind ≡ Some (signature, type_offset)
-
--- a signature reaches the entry at the type offset of a unit that has it
-pub record ReachesBySignature (entries : List Entry) (units : List PlacedUnit) (signature id : ℕ) : Type 0 where
-  pub number : ℕ
-  pub has : HasSignature units signature number
-  pub target : IsEntryIn entries number (has.unit.at + has.type_offset) id
-
--- a value of an entry's attribute reaches the entry with this number
-abbrev pub Reaches : List Entry → List PlacedUnit → Head → Datum → ℕ → Type 0
-Reaches entries units head (ref_info offset) id = IsEntryAt entries offset id
-Reaches entries units head (ref_unit offset) id = ReachesInUnit entries units head.unit offset id
-Reaches entries units head (ref_sig signature) id = ReachesBySignature entries units signature id
-Reaches entries units head _ id = ⊥
+use Rattle.dw_links.specs.Signatures.{type_in, HasSignature}
+use Rattle.dw_links.specs.Targets.{reach_of}
 
 -- a flag that is there and true
 abbrev pub is_true : Option Datum → Bool
@@ -83,27 +58,26 @@ abbrev pub permits_form : Head → ℕ → Datum → Bool
 permits_form head attribute v = if is_signed head attribute then is_signature v else true
 
 -- NoEntry: no entry is there, by an offset
-abbrev pub NoEntryThere : List Entry → List PlacedUnit → Head → Datum → Type 0
-NoEntryThere entries units head v = (is_signature v ≡ false) × ((id : ℕ) → Reaches entries units head v id → ⊥)
+abbrev pub NoEntryThere : Datum → (reached : Option ℕ) → Type 0
+NoEntryThere v reached = (is_signature v ≡ false) × (reached ≡ None)
 
 -- it reaches an entry that is not permitted
-pub record ReachesWrong (entries : List Entry) (units : List PlacedUnit) (head : Head) (attribute : ℕ)
-    (v : Datum) : Type 0 where
+pub record ReachesWrong (entries : List Entry) (head : Head) (attribute : ℕ) (reached : Option ℕ) : Type 0 where
   pub id : ℕ
+  pub reaches : reached ≡ Some id
   pub target : Entry
   pub is_target : slice_get entries id ≡ Some target
-  pub reaches : Reaches entries units head v id
   pub wrong : permits head attribute target ≡ false
 
 -- WrongKind: its form or its target is not permitted
-abbrev pub IsWrongKind : List Entry → List PlacedUnit → Head → ℕ → Datum → Type 0
-IsWrongKind entries units head attribute v = (permits_form head attribute v ≡ false)
-    ⊎ ReachesWrong entries units head attribute v
+abbrev pub IsWrongKind : List Entry → Head → ℕ → Datum → (reached : Option ℕ) → Type 0
+IsWrongKind entries head attribute v reached = (permits_form head attribute v ≡ false)
+    ⊎ ReachesWrong entries head attribute reached
 
 -- NotNextSibling: there is no next sibling, or it reaches another entry
-abbrev pub IsOtherThan : Option ℕ → (ℕ → Type 0) → Type 0
-IsOtherThan None Reached = Unit {0}
-IsOtherThan (Some next) Reached = (id : ℕ) × Reached id × (id ≢ next)
+abbrev pub IsOtherThan : (next reached : Option ℕ) → Type 0
+IsOtherThan None reached = Unit {0}
+IsOtherThan (Some next) reached = (id : ℕ) × (reached ≡ Some id) × (id ≢ next)
 
 -- NoSignature: no type unit has the signature
 abbrev pub NoSignatureThere : List PlacedUnit → Datum → Type 0
@@ -119,10 +93,11 @@ is_reference_value _ = false
 
 -- the rules at an attribute of class reference
 abbrev pub ReferenceFailsBy : List Entry → List PlacedUnit → Head → ℕ → Datum → Rule → Type 0
-ReferenceFailsBy entries units head attribute v NoEntry = NoEntryThere entries units head v
-ReferenceFailsBy entries units head attribute v WrongKind = IsWrongKind entries units head attribute v
+ReferenceFailsBy entries units head attribute v NoEntry = NoEntryThere v (reach_of entries units head.unit v)
+ReferenceFailsBy entries units head attribute v WrongKind =
+    IsWrongKind entries head attribute v (reach_of entries units head.unit v)
 ReferenceFailsBy entries units head attribute v NotNextSibling = (attribute ≡ DW_AT_sibling)
-    × IsOtherThan head.next_sibling (Reaches entries units head v)
+    × IsOtherThan head.next_sibling (reach_of entries units head.unit v)
 ReferenceFailsBy entries units head attribute v NoSignature = NoSignatureThere units v
 ReferenceFailsBy entries units head attribute v _ = ⊥
 

@@ -1,9 +1,41 @@
--- Chapter: the type units by their signatures: the first that has one, and that no two have the same.
-use Rattle.std.specs.Prelude.{◌≡◌, ℕ, ◌<◌, List, Option, None, Some}
+-- Chapter: the type units by their signatures: which have one, the first that has it, and that no two have the same.
+use Rattle.std.specs.Prelude.{◌≡◌, ℕ, ◌==◌, ◌<◌, Bool, false, List, Option, None, Some, slice_get}
+use Rattle.std.specs.List.{position_from}
 use Rattle.std.specs.Ordering.{nat_cmp}
 use Rattle.std.specs.BTreeMap.{BTreeMap, get}
+use Rattle.dw_entries.specs.declared.header.HeaderKind.{HeaderKind}
+use Rattle.dw_entries.specs.declared.header.HeaderKind.TheVariants.{TypeUnit}
 use Rattle.dw_entries.specs.Entries.{PlacedUnit}
-use Rattle.dw_links.specs.References.{HasSignature}
+
+-- the signature of a type unit, and how far behind its header's first byte its type begins
+abbrev pub type_in : HeaderKind → Option (ℕ × ℕ)
+type_in (TypeUnit signature type_offset) = Some (signature, type_offset)
+type_in _ = None
+
+-- the type unit with this number has the signature
+pub record HasSignature (units : List PlacedUnit) (signature number : ℕ) : Type 0 where
+  pub unit : PlacedUnit
+  pub is_unit : slice_get units number ≡ Some unit
+  pub type_offset : ℕ
+  pub signed : type_in unit.unit.header.kind ≡ Some (signature, type_offset)
+
+-- no two type units have one signature
+abbrev pub AreDistinct : List PlacedUnit → Type 0
+AreDistinct units = (signature i j : ℕ) → HasSignature units signature i → HasSignature units signature j → i ≡ j
+
+-- whether this is the signature, beside a type offset
+abbrev pub is_signature_of : ℕ → Option (ℕ × ℕ) → Bool
+is_signature_of signature None = false
+is_signature_of signature (Some (other, type_offset)) = other == signature
+
+-- the number of the first type unit that has the signature
+unfoldable pub first_signed : List PlacedUnit → ℕ → Option ℕ
+first_signed units signature =
+    position_from (λ (u : PlacedUnit). is_signature_of signature (type_in u.unit.header.kind)) 0 units
+
+-- the table has the first type unit of each signature
+abbrev pub HasFirstSigned : List PlacedUnit → BTreeMap ℕ ℕ → Type 0
+HasFirstSigned units table = (signature : ℕ) → get nat_cmp table signature ≡ first_signed units signature
 
 -- of the type units below a number, the first that has the signature; None where none has
 abbrev pub IsFirstSigned : List PlacedUnit → (signature below : ℕ) → Option ℕ → Type 0
@@ -15,7 +47,3 @@ IsFirstSigned units signature below (Some first) =
 -- the table has the first type unit of each signature, of those below a number
 abbrev pub AreSignatures : List PlacedUnit → ℕ → BTreeMap ℕ ℕ → Type 0
 AreSignatures units below table = (signature : ℕ) → IsFirstSigned units signature below (get nat_cmp table signature)
-
--- no two type units have one signature
-abbrev pub AreDistinct : List PlacedUnit → Type 0
-AreDistinct units = (signature i j : ℕ) → HasSignature units signature i → HasSignature units signature j → i ≡ j

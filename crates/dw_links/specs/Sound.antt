@@ -1,5 +1,5 @@
 -- State: what is found where no rule on strings, addresses and references fails.
-use Rattle.std.specs.Prelude.{◌≡◌, ◌≢◌, ◌==◌, ℕ, List, Option, None, Some, slice_get, IsSome, if◌then◌else◌}
+use Rattle.std.specs.Prelude.{◌≡◌, ◌≢◌, ◌==◌, ℕ, List, Option, None, Some, IsSome, if◌then◌else◌}
 use Rattle.dw_elf.specs.declared.sections.Sections.{Sections}
 use Rattle.dw_forms.specs.Codes.{DW_AT_type, DW_AT_specification, DW_AT_signature, DW_AT_import}
 use Rattle.dw_forms.specs.Value.{Datum}
@@ -32,7 +32,7 @@ pub record IsLinked (texts : UnitTexts) (entries : List Entry) (units : List Pla
     (attribute : ℕ) (v : Datum) (reached : Option ℕ) : Type 0 where
   pub strings : IsLeast (FailsByTexts texts head attribute v) None
   pub references : IsLeast (ReferenceFails entries units head attribute v) None
-  pub is_reached : reached ≡ reach_of entries units head v
+  pub is_reached : reached ≡ reach_of entries units head.unit v
   pub typed : attribute ≡ DW_AT_type → IsSome reached
 
 -- the next attribute of an entry is linked so, and those behind it are left

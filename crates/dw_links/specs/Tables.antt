@@ -7,7 +7,8 @@ use Rattle.dw_entries.specs.Scanned.{all_entries, all_units}
 use Rattle.dw_links.specs.declared.unit_tables.UnitBases.{UnitBases}
 use Rattle.dw_links.specs.declared.unit_tables.UnitTables.{UnitTables}
 use Rattle.dw_links.specs.Bases.{base_in}
-use Rattle.dw_links.specs.Targets.{target_of, HasFirstSigned}
+use Rattle.dw_links.specs.Signatures.{HasFirstSigned}
+use Rattle.dw_links.specs.Targets.{target_of}
 
 -- the bases that a unit's first entry gives
 abbrev pub bases_in : List Entry → PlacedUnit → UnitBases

@@ -5,8 +5,9 @@ ghost use Rattle.std.specs.Bool.{OnTrue, OnFalse};
 ghost use Rattle.dw_entries.specs.Entries.{PlacedUnit};
 ghost use Rattle.dw_entries.specs.Scanned.{all_entries, all_units, units_of};
 ghost use Rattle.dw_entries.specs.Failures.{HasNone, IsFirst, IsLeast};
-ghost use Rattle.dw_links.specs.References.{HasSignature, IsSignedBefore, HasType, TypeUnitFails, AtHeader};
+ghost use Rattle.dw_links.specs.References.{IsSignedBefore, HasType, TypeUnitFails, AtHeader};
 ghost use Rattle.dw_links.specs.References.{HeaderFailures};
+ghost use Rattle.dw_links.specs.Signatures.{HasSignature};
 ghost use Rattle.dw_links.specs.Linkable.{IsLinkable};
 
 use crate::references::References;

@@ -2,23 +2,30 @@
 
 ghost use Rattle.std.specs.Prelude.{ℕ, ◌≡◌, ◌↔◌, List, Some};
 ghost use Rattle.dw_elf.specs.declared.sections.Sections.{Sections};
-ghost use Rattle.dw_forms.specs.Value.{Datum};
-ghost use Rattle.dw_entries.specs.declared.lookup.Head.{Head};
+ghost use Rattle.dw_forms.specs.Value.{ref_info, ref_unit, ref_sig};
 ghost use Rattle.dw_entries.specs.Units.{DebugUnit, Spells};
 ghost use Rattle.dw_entries.specs.Entries.{entries_of, placed};
 ghost use Rattle.dw_entries.specs.Failures.{HasNone};
-ghost use Rattle.dw_links.specs.References.{Reaches, ReferenceFailures};
+ghost use Rattle.dw_entries.specs.Runs.{IsEntryAt, ReachesInUnit};
+ghost use Rattle.dw_links.specs.References.{ReferenceFailures};
 ghost use Rattle.dw_links.specs.Signatures.{AreDistinct};
 ghost use Rattle.dw_links.specs.Strings.{StringFailures};
 ghost use Rattle.dw_links.specs.Targets.{reach_of};
-ghost use Rattle.dw_links.specs.LinkLaws.{HaveTargets, HaveTypes, HaveTexts, HaveAddresses};
+ghost use Rattle.dw_links.specs.LinkLaws.{ReachesBySignature, HaveTargets, HaveTypes, HaveTexts, HaveAddresses};
 
-/// Where no two type units have one signature, a value reaches one entry at most, and `reach_of` gives it.
+/// The entry that a reference reaches, by its form: the one entry that begins at an offset of .debug_info; that begins
+/// at an offset from the header of the value's unit; or at the type offset of the one type unit with a signature.
 pub fn one_entry_is_reached()
-    ensures { («abbrev» info : List ℕ) (units : List DebugUnit) → Spells «abbrev» units info
-        → AreDistinct (placed units) → (head : Head) (v : Datum) (id : ℕ)
-        → Reaches (entries_of units) (placed units) head v id
-        ↔ (reach_of (entries_of units) (placed units) head v ≡ Some id) }
+    ensures info { («abbrev» info : List ℕ) (units : List DebugUnit) → Spells «abbrev» units info
+        → (unit offset id : ℕ) → (reach_of (entries_of units) (placed units) unit (ref_info offset) ≡ Some id)
+        ↔ IsEntryAt (entries_of units) offset id }
+    ensures unit { («abbrev» info : List ℕ) (units : List DebugUnit) → Spells «abbrev» units info
+        → (unit offset id : ℕ) → (reach_of (entries_of units) (placed units) unit (ref_unit offset) ≡ Some id)
+        ↔ ReachesInUnit (entries_of units) (placed units) unit offset id }
+    ensures signature { («abbrev» info : List ℕ) (units : List DebugUnit) → Spells «abbrev» units info
+        → AreDistinct (placed units) → (unit signature id : ℕ)
+        → (reach_of (entries_of units) (placed units) unit (ref_sig signature) ≡ Some id)
+        ↔ ReachesBySignature (entries_of units) (placed units) signature id }
 {}
 
 /// Where no rule on references fails, each reference has a target, and each type unit a type and a signature of its

@@ -18,6 +18,7 @@ ghost use Rattle.dw_links.specs.Kept.{kept_after};
 use crate::declared_entries::DeclaredEntries;
 use crate::references::References;
 use crate::rules::{broken_at, fault_of};
+use crate::targets::reach;
 use dw_entries::constants::*;
 use dw_entries::{Broken, Entries, EntryAt, EntryId, Head, OptionalId, Rule, Stop};
 use dw_forms::{Attribute, Value};
@@ -70,12 +71,12 @@ impl References<'_, '_> {
             head.now attribute (view value.now)) None) }
         ensures reached { IfOk result
             (λ target. target ≡ reach_of (all_entries self.now.entries.now.scanned)
-            (all_units self.now.entries.now.scanned) head.now (view value.now)) }
+            (all_units self.now.entries.now.scanned) head.now.unit (view value.now)) }
         ensures err { IfErr result
             (λ rule. IsLeast (ReferenceFails (all_entries self.now.entries.now.scanned)
             (all_units self.now.entries.now.scanned) head.now attribute (view value.now)) (Some rule)) }
     {
-        let reached = self.reach(head, value);
+        let reached = reach(self.entries, self.signatures, head.unit, value);
         let target = number_of(self.entries, &reached);
         match self.ask(declared, head, attribute, value, reached) {
             None => Ok(target),

@@ -2,8 +2,7 @@
 
 ghost use Rattle.std.specs.Prelude.{◌≡◌, length, IfOk, OnOk, ◌+◌, ◌<◌};
 ghost use Rattle.dw_entries.specs.Scanned.{all_units, units_of};
-ghost use Rattle.dw_links.specs.References.{type_in};
-ghost use Rattle.dw_links.specs.Signatures.{AreSignatures};
+ghost use Rattle.dw_links.specs.Signatures.{type_in, HasFirstSigned, AreSignatures};
 
 use dw_entries::{Entries, HeaderKind};
 use std::alloc::{AllocError, Global};
@@ -48,7 +47,7 @@ pub fn read_signatures(
     alloc: Global,
     entries: &Entries<'_>,
 ) -> Result<BTreeMap<u64, usize>, AllocError>
-    ensures { IfOk result (AreSignatures (all_units entries.now.scanned) (length (units_of entries.now.scanned))) }
+    ensures { IfOk result (HasFirstSigned (all_units entries.now.scanned)) }
 {
     let mut table: BTreeMap<u64, usize> = BTreeMap::new(alloc);
     for number in 0..entries.unit_count() {

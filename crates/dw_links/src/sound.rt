@@ -107,7 +107,7 @@ impl<'d> Linker<'_, 'd> {
             head.now attribute (ref_unit offset)) None) }
         ensures reached { IfSome result (λ reached. reached ≡ reach_of
             (all_entries self.now.references.entries.now.scanned) (all_units self.now.references.entries.now.scanned)
-            head.now (ref_unit offset)) }
+            head.now.unit (ref_unit offset)) }
     {
         let at = offset.checked_add(u64::from(basis.at))?;
         let id = if attribute == DW_AT_sibling {

@@ -1,11 +1,10 @@
-//! The entries that references reach (DWARF 5, section 7.5.5), with the table of signatures.
+//! The entry that a reference reaches (DWARF 5, section 7.5.5), and the target of an attribute.
 
 ghost use Rattle.std.specs.Prelude.{◌≡◌, ◌<◌, length, slice_get, IfSome, option_and_then};
 ghost use Rattle.dw_forms.specs.Value.{view};
 ghost use Rattle.dw_entries.specs.Scanned.{all_entries, all_units, units_of};
-ghost use Rattle.dw_entries.specs.Lookups.{entry_head};
-ghost use Rattle.dw_links.specs.Targets.{entry_at, first_signed, reach_in_unit, type_of_unit, reach_of, target_of};
-ghost use Rattle.dw_links.specs.Targets.{HasFirstSigned};
+ghost use Rattle.dw_links.specs.Signatures.{first_signed, HasFirstSigned};
+ghost use Rattle.dw_links.specs.Targets.{entry_at, reach_in_unit, type_of_unit, reach_of, target_of};
 
 use crate::signatures::type_in_header;
 use dw_entries::{Entries, EntryId};
@@ -13,6 +12,7 @@ use dw_forms::{Attribute, Value};
 use std::collections::BTreeMap;
 
 /// The entry that begins at an offset of .debug_info.
+#[inline(always)]
 fn entry_from_start(entries: &Entries<'_>, offset: u32) -> Option<EntryId>
     ensures { result ≡ entry_at (all_entries entries.now.scanned) offset }
 {
@@ -20,6 +20,7 @@ fn entry_from_start(entries: &Entries<'_>, offset: u32) -> Option<EntryId>
 }
 
 /// The entry that begins so far behind the first byte of a unit's header.
+#[inline(always)]
 fn entry_from_header(entries: &Entries<'_>, unit: usize, offset: u64) -> Option<EntryId>
     requires { unit < length (units_of entries.now.scanned) }
     ensures { result ≡ reach_in_unit (all_entries entries.now.scanned) (all_units entries.now.scanned) unit offset }
@@ -54,22 +55,22 @@ fn type_by_signature(
     }
 }
 
-/// The entry that a value of an entry's attribute reaches.
-fn reach(
+/// The entry that a value in a unit reaches.
+#[inline(always)]
+pub fn reach(
     entries: &Entries<'_>,
     signatures: &BTreeMap<u64, usize>,
-    id: EntryId,
-    value: Value<'_>,
+    unit: usize,
+    value: &Value<'_>,
 ) -> Option<EntryId>
-    requires id { id < length (all_entries entries.now.scanned) }
+    requires unit { unit < length (units_of entries.now.scanned) }
     requires signatures { HasFirstSigned (all_units entries.now.scanned) signatures.now }
-    ensures { IfSome (slice_get (all_entries entries.now.scanned) id)
-        (λ e. result ≡ reach_of (all_entries entries.now.scanned) (all_units entries.now.scanned) (entry_head e)
-        (view value.entry)) }
+    ensures { result ≡ reach_of (all_entries entries.now.scanned) (all_units entries.now.scanned) unit
+        (view value.now) }
 {
-    match value {
+    match *value {
         Value::RefInfo(offset) => entry_from_start(entries, offset),
-        Value::RefUnit(offset) => entry_from_header(entries, entries.unit_of(id), offset),
+        Value::RefUnit(offset) => entry_from_header(entries, unit, offset),
         Value::RefSig(signature) => type_by_signature(entries, signatures, signature),
         _ => None,
     }
@@ -89,7 +90,7 @@ pub(crate) fn find_target(
     ensures within { IfSome result (λ t. t < length (all_entries entries.now.scanned)) }
 {
     match entries.value(id, attribute) {
-        Some(value) => reach(entries, signatures, id, value),
+        Some(value) => reach(entries, signatures, entries.unit_of(id), &value),
         None => None,
     }
 }

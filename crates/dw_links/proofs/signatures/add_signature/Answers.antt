@@ -2,7 +2,7 @@ use Rattle.std.proofs.Common.{sym, ap, ◌∙◌}
 use Rattle.dw_entries.specs.declared.lookup.UnitHead.{UnitHead}
 use Rattle.dw_entries.specs.Entries.{placed}
 use Rattle.dw_entries.specs.Scanned.{units_of}
-use Rattle.dw_links.specs.References.{type_in}
+use Rattle.dw_links.specs.Signatures.{type_in}
 use Rattle.dw_links.proofs.ClassLaws.{unit_there}
 use Rattle.dw_links.proofs.Signed.{other_unit, known_signature, new_signature}
 use Rattle.dw_links.proofs.signatures.add_signature.Goals as goal

@@ -1,12 +1,8 @@
-use Rattle.std.proofs.Common.{sym}
 use Rattle.dw_entries.specs.Entries.{entries_of, placed}
 use Rattle.dw_entries.specs.Scanned.{units_of}
-use Rattle.dw_entries.proofs.EntryFacts.{length-placed_from}
 use Rattle.dw_entries.proofs.FirstPlaces.{none_by_both}
 use Rattle.dw_links.specs.References.{HeaderFailures, AttributeFailures}
 use Rattle.dw_links.proofs.ClassLaws.{in_units}
-use Rattle.dw_links.proofs.HeaderLaws.{distinct_from}
-use Rattle.dw_links.proofs.TargetLaws.{has_first_signed}
 use Rattle.dw_links.proofs.sound.link_sound.Goals as goal
 
 pub link_entries-requires : goal.link_entries-requires
@@ -14,7 +10,6 @@ link_entries-requires c = λ id e is.
     let us = units_of c.args.entries.now.scanned in
     record {
       linkable = c.in_ok-signatures.ensures;
-      distinct = distinct_from (entries_of us) (placed us) c.in-Ok-check_headers.ensures.ok;
       in_unit = in_units _ _ us id e c.args.entries.now.scanned.1.spells is;
     }
 
@@ -23,7 +18,7 @@ invariant_of-result c =
     let us = units_of c.args.entries.now.scanned in
     record {
       tables_are = record {
-        signatures = has_first_signed (placed us) _ c.in_ok-signatures.signatures (sym (length-placed_from 0 0 us)) c.in_ok-signatures.ensures;
+        signatures = c.in_ok-signatures.ensures;
         bases = c.in_ok-bases.ensures;
         types = rw c.in-Some.is at c.in_ok-linked.ensures.types;
       };

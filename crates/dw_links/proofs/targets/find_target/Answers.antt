@@ -1,22 +1,30 @@
-use Rattle.std.proofs.Common.{Some, None, refl}
+use Rattle.std.proofs.Common.{◌≡◌, Some, None, refl, arith}
 use Rattle.dw_forms.specs.Value.{view}
 use Rattle.dw_entries.specs.Entries.{entries_of, placed}
-use Rattle.dw_entries.specs.Lookups.{entry_head}
 use Rattle.dw_entries.specs.Scanned.{units_of}
+use Rattle.dw_links.proofs.ClassLaws.{in_units}
 use Rattle.dw_links.proofs.Skips.{there}
 use Rattle.dw_links.proofs.TargetLaws.{target_is, reach_within}
 use Rattle.dw_links.proofs.targets.find_target.Goals as goal
 
+pub reach-requires-clause-unit : goal.reach-requires-clause-unit
+reach-requires-clause-unit c =
+    let us = units_of c.args.entries.now.scanned in
+    let (e, is) = there (entries_of us) c.args.id c.requires.id in
+    let unit : c.unit_of.result ≡ e.unit = rw is at c.unit_of.ensures in
+    omega (arith, unit, in_units _ _ us c.args.id e c.args.entries.now.scanned.1.spells is)
+
 pub returns-in-Some-clause-exact : goal.returns-in-Some-clause-exact
 returns-in-Some-clause-exact c =
     let us = units_of c.args.entries.now.scanned in
-    target_is (entries_of us) (placed us) c.args.id c.args.attribute (Some (view c.in-Some.value)) c.reach.result c.in-Some.ensures c.reach.ensures
+    let (e, is) = there (entries_of us) c.args.id c.requires.id in
+    let unit : c.unit_of.result ≡ e.unit = rw is at c.unit_of.ensures in
+    target_is (entries_of us) (placed us) c.args.id c.args.attribute (Some (view c.in-Some.value)) c.reach.result c.in-Some.ensures (rw (is, ← unit) c.reach.ensures)
 
 pub returns-in-Some-clause-within : goal.returns-in-Some-clause-within
 returns-in-Some-clause-within c =
     let us = units_of c.args.entries.now.scanned in
-    let (e, is) = there (entries_of us) c.args.id c.requires.id in
-    reach_within (entries_of us) (placed us) (entry_head e) (view c.in-Some.value) c.reach.result (rw is at c.reach.ensures)
+    reach_within (entries_of us) (placed us) c.unit_of.result (view c.in-Some.value) c.reach.result c.reach.ensures
 
 pub returns-in-None-clause-exact : goal.returns-in-None-clause-exact
 returns-in-None-clause-exact c =

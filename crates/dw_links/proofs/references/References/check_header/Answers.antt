@@ -3,7 +3,7 @@ use Rattle.dw_entries.specs.declared.lookup.UnitHead.{UnitHead}
 use Rattle.dw_entries.specs.Entries.{entries_of, placed}
 use Rattle.dw_entries.specs.Scanned.{units_of}
 use Rattle.dw_entries.specs.Lookups.{unit_head}
-use Rattle.dw_links.specs.References.{type_in}
+use Rattle.dw_links.specs.Signatures.{type_in}
 use Rattle.dw_links.proofs.ClassLaws.{unit_there}
 use Rattle.dw_links.proofs.HeaderLaws.{header_fails, header_passes}
 use Rattle.dw_links.proofs.references.References.check_header.Goals as goal

@@ -9,7 +9,6 @@ use Rattle.dw_entries.specs.Stopped.{IfFault}
 use Rattle.dw_entries.proofs.FirstPlaces.{first_by_right, none_by_both}
 use Rattle.dw_links.specs.References.{HeaderFailures, AttributeFailures}
 use Rattle.dw_links.proofs.ClassLaws.{in_units}
-use Rattle.dw_links.proofs.HeaderLaws.{distinct_from}
 use Rattle.dw_links.proofs.references.References.link.Goals as goal
 
 pub link_entries-requires : goal.link_entries-requires
@@ -17,7 +16,6 @@ link_entries-requires c = λ id e is.
     let us = units_of c.args.self.now.entries.now.scanned in
     record {
       linkable = c.requires;
-      distinct = distinct_from (entries_of us) (placed us) c.in-Ok.ensures.ok;
       in_unit = in_units _ _ us id e c.args.self.now.entries.now.scanned.1.spells is;
     }
 

@@ -48,7 +48,7 @@ loop-item-preserved c =
           let P : Head → Type 0 = λ h. IsLeast (ReferenceFails (entries_of us) (placed us) h c.in-Some.item.0 (view c.in-Some.item.1)) None in
           rw c.keep-kept.ensures
           (linked_more (entries_of us) (placed us) (entry_head e) (values_of e.head) (values_left c.loop-item.values) (values_left c.next_reference.new.self) c.loop-item.kept c.in-Some.item.0 (view c.in-Some.item.1) (c.loop-item.invariant.linked e is) c.in-Some.ensures.some
-          c.in-Ok.target (c.in-Ok.ensures.reached ∙ ap (λ (h : Head). reach_of (entries_of us) (placed us) h (view c.in-Some.item.1)) head) (subst P head c.in-Ok.ensures.ok));
+          c.in-Ok.target (c.in-Ok.ensures.reached ∙ ap (λ (h : Head). reach_of (entries_of us) (placed us) h.unit (view c.in-Some.item.1)) head) (subst P head c.in-Ok.ensures.ok));
       kept = c.in-Ok.ensures.kept;
     }
 

@@ -1,11 +1,10 @@
-use Rattle.std.proofs.Common.{◌≡◌, Some, subst, ◌∙◌}
+use Rattle.std.proofs.Common.{◌≡◌, subst}
 use Rattle.dw_entries.specs.declared.lookup.Head.{Head}
 use Rattle.dw_entries.specs.Entries.{entries_of, placed}
 use Rattle.dw_entries.specs.Scanned.{units_of}
 use Rattle.dw_entries.specs.Leading.{leading_left}
 use Rattle.dw_entries.specs.Lookups.{entry_head}
 use Rattle.dw_links.specs.Sound.{LinksNext}
-use Rattle.dw_links.proofs.Skips.{found}
 use Rattle.dw_links.proofs.SoundSteps.{none_so_far, more_so_far, fewer_left, sound_at_end}
 use Rattle.dw_links.proofs.sound.Linker.link_at_once.Goals as goal
 use Rattle.dw_links.proofs.sound.Linker.link_at_once.Goals.{in-Strp+in_ok-link_next-in-Strp, in-Ref4+in_ok-link_next-in-Ref4, in_default-form+in_ok-attribute-in_default-form}

@@ -1,13 +1,12 @@
-use Rattle.std.proofs.Common.{◌≡◌, ℕ, Option, Some, refl, sym, subst, ◌∙◌, arith}
+use Rattle.std.proofs.Common.{◌≡◌, ℕ, Some, refl, sym, subst, ◌∙◌, arith}
 use Rattle.std.specs.Prelude.{slice_get, IfSome}
-use Rattle.dw_entries.specs.Entries.{Entry, entries_of, placed}
+use Rattle.dw_entries.specs.Entries.{entries_of, placed}
 use Rattle.dw_entries.specs.Scanned.{units_of}
 use Rattle.dw_entries.specs.Failures.{HasNone}
 use Rattle.dw_entries.proofs.Firsts.{none_of_entries}
 use Rattle.dw_links.specs.Concerns.{AtHead}
-use Rattle.dw_links.specs.DeclaredEntries.{KeepsDeclared}
 use Rattle.dw_links.specs.References.{ReferenceFails}
-use Rattle.dw_links.specs.Sound.{IsBasis, IsSound}
+use Rattle.dw_links.specs.Sound.{IsSound}
 use Rattle.dw_links.specs.Strings.{StringFails}
 use Rattle.dw_links.specs.Tables.{type_target}
 use Rattle.dw_links.proofs.ClassLaws.{in_units}

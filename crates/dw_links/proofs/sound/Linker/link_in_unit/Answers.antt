@@ -1,6 +1,5 @@
-use Rattle.std.proofs.Common.{◌≡◌, ◌+◌, ◌<◌, length, true, Some, sym, ap, ◌∙◌, arith, rules}
+use Rattle.std.proofs.Common.{◌≡◌, ◌+◌, true, Some, sym, ap, ◌∙◌, arith}
 use Rattle.dw_forms.specs.Codes.{DW_AT_type, DW_AT_sibling, is_type_tag}
-use Rattle.dw_forms.specs.Value.{ref_unit}
 use Rattle.dw_entries.specs.Entries.{entries_of, placed}
 use Rattle.dw_entries.specs.Scanned.{units_of}
 use Rattle.dw_entries.proofs.EntryFacts.{entries_rise, length-placed_from}
@@ -9,7 +8,7 @@ use Rattle.dw_entries.proofs.OrderLaws.{scanned_few}
 use Rattle.dw_links.proofs.Reached.{in_unit}
 use Rattle.dw_links.proofs.Skips.{there}
 use Rattle.dw_links.proofs.SoundSteps.{nth_within, nth_is, none_in_unit, other_code}
-use Rattle.dw_links.proofs.TargetLaws.{reach_of_is}
+use Rattle.dw_links.proofs.TargetLaws.{reach_in_unit_is}
 use Rattle.dw_links.proofs.sound.Linker.link_in_unit.Goals as goal
 use Rattle.dw_links.proofs.sound.Linker.link_in_unit.Goals.{then-eq+in_ok-head+in_ok-id, else-eq+in_ok-id-2, else-eq-2-via-then-eq-2+else-not-is_type, else-eq-2-via-else-eq-2}
 
@@ -50,8 +49,8 @@ returns-clause-rule c =
     let at : c.in_ok-at.at ≡ c.args.offset + p.at = omega (arith, c.in_ok-at.ensures, c.from.ensures, c.requires.basis p is_p) in
     let offset : c.offset.result ≡ e.at = rw found at c.offset.ensures in
     let unit : c.unit.result ≡ e.unit = rw found at c.unit.ensures in
-    let reaches = in_unit es (placed us) c.args.head.now.unit c.args.offset c.in_ok-at.at c.if-eq.id p is_p at
-    (record { entry = e; is_entry = is; begins = omega (arith, offset, c.from-2.ensures, c.if-from-at.false); in_unit = omega (arith, unit, c.if-unit-head.false) }) in
+    let reaches = reach_in_unit_is es (placed us) c.args.head.now.unit c.args.offset c.if-eq.id (entries_rise _ us entries.scanned.1.spells.are) (in_unit es (placed us) c.args.head.now.unit c.args.offset c.in_ok-at.at c.if-eq.id p is_p at
+    (record { entry = e; is_entry = is; begins = omega (arith, offset, c.from-2.ensures, c.if-from-at.false); in_unit = omega (arith, unit, c.if-unit-head.false) })) in
     let typed : c.args.attribute ≡ DW_AT_type → is_type_tag e.head.decl.tag ≡ true = λ same. elim c.else-eq-2.branch [
       | else-eq-2-via-then-eq-2+else-not-is_type w ↦ let type : w.is_type.result ≡ is_type_tag e.head.decl.tag = rw found at w.is_type.ensures in let yes = w.if-not-is_type.false in cc
       | else-eq-2-via-else-eq-2 w ↦ absurd (other_code c.args.attribute DW_AT_type (sym w.if-eq-2.ensures) same)
@@ -60,7 +59,7 @@ returns-clause-rule c =
       | then-eq+in_ok-head+in_ok-id w ↦ w.in_ok-head.was ∙ ap (λ n. Some n) (sym w.number.ensures ∙ nth_is es w.number.result w.in_ok-id.id (sym w.nth.ensures ∙ w.in_ok-id.was) ∙ sym w.id-is)
       | else-eq+in_ok-id-2 w ↦ absurd (other_code c.args.attribute DW_AT_sibling (sym w.if-eq.ensures) same)
     ] in
-    none_in_unit es (placed us) c.args.head.now c.args.attribute c.args.offset c.if-eq.id e (entries_rise _ us entries.scanned.1.spells.are) c.requires.may.distinct is reaches c.requires.plain typed next
+    none_in_unit es (placed us) c.args.head.now c.args.attribute c.args.offset c.if-eq.id e is reaches c.requires.plain typed next
 
 pub returns-clause-reached : goal.returns-clause-reached
 returns-clause-reached c =
@@ -77,6 +76,6 @@ returns-clause-reached c =
     let at : c.in_ok-at.at ≡ c.args.offset + p.at = omega (arith, c.in_ok-at.ensures, c.from.ensures, c.requires.basis p is_p) in
     let offset : c.offset.result ≡ e.at = rw found at c.offset.ensures in
     let unit : c.unit.result ≡ e.unit = rw found at c.unit.ensures in
-    let reaches = in_unit es (placed us) c.args.head.now.unit c.args.offset c.in_ok-at.at c.if-eq.id p is_p at
-    (record { entry = e; is_entry = is; begins = omega (arith, offset, c.from-2.ensures, c.if-from-at.false); in_unit = omega (arith, unit, c.if-unit-head.false) }) in
-    c.some.ensures ∙ ap (λ n. Some n) c.number-2.ensures ∙ sym (reach_of_is es (placed us) c.args.head.now (ref_unit c.args.offset) c.if-eq.id (entries_rise _ us entries.scanned.1.spells.are) c.requires.may.distinct reaches)
+    let reaches = reach_in_unit_is es (placed us) c.args.head.now.unit c.args.offset c.if-eq.id (entries_rise _ us entries.scanned.1.spells.are) (in_unit es (placed us) c.args.head.now.unit c.args.offset c.in_ok-at.at c.if-eq.id p is_p at
+    (record { entry = e; is_entry = is; begins = omega (arith, offset, c.from-2.ensures, c.if-from-at.false); in_unit = omega (arith, unit, c.if-unit-head.false) })) in
+    c.some.ensures ∙ ap (λ n. Some n) c.number-2.ensures ∙ sym reaches
