@@ -48,6 +48,12 @@ fuzz: all
 	cd crates/slow_check && rt run
 	tests/fuzz.py $(SECONDS)
 
+# Compares the answers of two programs on compiled, hostile and changed files: `make same-answers OLD=/tmp/dwv.old`.
+NEW = crates/dwv/out/dwv
+.PHONY: same-answers
+same-answers:
+	tests/same-answers.py $(OLD) $(NEW)
+
 # Installs the program that `make` built, its manual page and its completion in bash: `make install PREFIX=$HOME/.local`
 # chooses the folder. It builds and proves nothing. DESTDIR is put before all paths, as packages need it.
 PREFIX = /usr/local

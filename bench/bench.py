@@ -1,72 +1,106 @@
 #!/usr/bin/env python3
-"""Measures `dwv check` beside the peers that are installed, and `dwv types` beside pahole, on generated programs.
+"""Measures `dwv check` and `dwv types` beside the peers that are installed, on programs that it generates.
 
-usage: bench.py [MEGABYTES ..]      sizes of .debug_info, 1, 3 and 10 if none is given
+usage: bench.py [WORD ..]      only the programs whose names have one of the words, as "Rust" or "1 MB"
 
-All of them are measured in one run. Each program is run several times and the least processor time counts. The table is
-Markdown, as docs/PERFORMANCE.md has it. gnuplot draws the same numbers into docs/performance.svg, if it is installed.
-The walk with gimli is built by cargo from Debian's librust-gimli-dev; DEBIAN_CARGO is the folder of such packages, if
-it is another.
+All tools are measured in one run. Each is run several times on a program, and the least processor time counts. The
+tables are Markdown, as docs/PERFORMANCE.md has them. gnuplot draws the first into docs/performance.svg, if it is
+installed. The walks with gimli are built by cargo from Debian's librust-gimli-dev and librust-object-dev; DEBIAN_CARGO
+is the folder of such packages, if it is another.
 """
 import datetime
 import os
 import pathlib
 import re
+import resource
 import shutil
+import signal
 import subprocess
 import sys
-import time
+
+sys.dont_write_bytecode = True
+import generate
 
 HERE = pathlib.Path(__file__).resolve().parent
 DWV = HERE.parent / "crates/dwv/out/dwv"
-# The other tool that each command is measured beside, where it is installed.
-BESIDE = (("dwv check", "llvm-dwarfdump --verify"), ("dwv types", "pahole"))
 OUT = HERE / "out"
 PICTURE = HERE.parent / "docs/performance.svg"
-ROUNDS = 5
+# How often a tool is run on a program: once only, if the run takes so many seconds of processor time.
+ROUNDS, LONG = 5, 10
+# The seconds of processor time after which a run is stopped.
+LIMIT = 60
 
-# What is measured beside `dwv check`, if it is installed.
-PEERS = (("llvm-dwarfdump", "--verify"), ("dwarfdump", "-ka"), ("pahole", "--sizes"))
+# The programs by name: the language, the megabytes of .debug_info, and the words that compile it.
+GCC, CLANG = ["gcc", "-gdwarf-5", "-O0", "-w"], ["clang", "-gdwarf-5", "-O0", "-w"]
+PROGRAMS = {
+    "C, gcc, 1 MB": ("c", 1, GCC),
+    "C, gcc, 10 MB": ("c", 10, GCC),
+    "C, gcc, 50 MB": ("c", 50, GCC),
+    "C, clang, 10 MB": ("c", 10, CLANG),
+    "C++, g++, 10 MB": ("cpp", 10, ["g++", "-std=c++17", "-gdwarf-5", "-O0", "-w"]),
+    "Rust, rustc, 10 MB": ("rs", 10, ["rustc", "-C", "debuginfo=2", "-C", "dwarf-version=5", "-A", "warnings"]),
+}
+SMALL, MIDDLE, LARGE = list(PROGRAMS)[:3]
+
+CHECK, TYPES = "dwv check", "dwv types"
+WALK, RESOLVE = "gimli, plain walk", "gimli, resolving walk"
+VERIFY, DWARFDUMP, PAHOLE = "llvm-dwarfdump --verify", "dwarfdump -ka", "pahole"
+# The tools in the order of the table, the words of the peers, and what is compared with what in the second table.
+TOOLS = (CHECK, WALK, RESOLVE, VERIFY, DWARFDUMP, TYPES, PAHOLE)
+RATIOS = ((CHECK, WALK), (CHECK, RESOLVE), (CHECK, VERIFY), (TYPES, PAHOLE))
 
 # Debian's packages of Rust's libraries, among them librust-gimli-dev.
 LIBRARIES = pathlib.Path(os.environ.get("DEBIAN_CARGO", "/usr/share/cargo/registry"))
 
-# What draws the picture, before the points of each tool and the command that plots them.
-AXES = """set terminal svg size 800,480 background rgb "white"
+# What draws the picture, before the times of each tool and the command that plots them.
+AXES = """set terminal svg size 1000,520 background rgb "white"
 set output "{picture}"
 set title "{title}" noenhanced
-set xlabel "size of .debug_info, MB" noenhanced
-set ylabel "processor time, s"
-set logscale xy
-set grid
-set key left top noenhanced
+set ylabel "processor time, ns an entry"
+set style data histogram
+set style histogram cluster gap 2
+set style fill solid
+set boxwidth 0.9
+set logscale y
+set grid ytics
+set datafile missing "-"
+set key outside top center horizontal noenhanced
+$times << END
 """
 
 
-def build(megabytes):
-    """The program with about so many megabytes of .debug_info, compiled once and kept."""
-    folder = OUT / f"{megabytes:g}"
+def build(name):
+    """The program of this name, compiled once and kept, or None if its compiler is not installed."""
+    language, megabytes, compiler = PROGRAMS[name]
+    folder = OUT / re.sub(r"[^\w+]+", "-", name)
     program = folder / "program"
+    if not shutil.which(compiler[0]):
+        return None
     if not program.exists():
-        subprocess.run([sys.executable, HERE / "generate.py", str(megabytes), folder], check=True)
-        sources = sorted(folder.glob("*.c"))
-        jobs = []
-        for source in sources:
-            words = ["gcc", "-gdwarf-5", "-O0", "-w", "-c", "-o", source.with_suffix(".o"), source]
-            jobs.append(subprocess.Popen(words))
-            if len(jobs) >= (os.cpu_count() or 1):
+        folder.mkdir(parents=True, exist_ok=True)
+        paths, jobs = [], []
+        for file, text in generate.sources(language, megabytes).items():
+            paths.append(folder / file)
+            paths[-1].write_text(text)
+        if language == "rs":
+            subprocess.run([*compiler, "-o", program, *paths], check=True)
+            return program
+        for path in paths:
+            if len(jobs) >= len(os.sched_getaffinity(0)):
                 jobs.pop(0).wait()
+            jobs.append(subprocess.Popen([*compiler, "-c", "-o", path.with_suffix(".o"), path]))
         for job in jobs:
             job.wait()
-        subprocess.run(["gcc", "-o", program, *[s.with_suffix(".o") for s in sources]], check=True)
-        for source in sources:
-            source.with_suffix(".o").unlink()
+        objects = [path.with_suffix(".o") for path in paths]
+        subprocess.run([compiler[0], "-o", program, *objects], check=True)
+        for path in objects:
+            path.unlink()
     return program
 
 
 def walk():
-    """The program that reads all entries with gimli, or None if gimli or cargo is not installed."""
-    if not shutil.which("cargo") or not list(LIBRARIES.glob("gimli-0.27.*")):
+    """The program that walks over all entries with gimli, or None if gimli or cargo is not installed."""
+    if not shutil.which("cargo") or not all(list(LIBRARIES.glob(name)) for name in ("gimli-0.27.*", "object-0.30.*")):
         return None
     folder = OUT / "gimli"
     shutil.copytree(HERE / "gimli", folder, dirs_exist_ok=True)
@@ -76,108 +110,149 @@ def walk():
     return folder / "target/release/walk"
 
 
-def sections(program):
-    """Files with the bytes of .debug_info and .debug_abbrev."""
-    paths = [program.with_name(name) for name in ("info", "abbrev")]
-    words = [f"--dump-section=.debug_{path.name}={path}" for path in paths]
-    subprocess.run(["objcopy", *words, program, "/dev/null"], check=True)
-    return paths
+def installed():
+    """The words of each tool that is installed, to which the program's path is added."""
+    found = {CHECK: [DWV, "check"], TYPES: [DWV, "types"]}
+    if gimli := walk():
+        found |= {WALK: [gimli], RESOLVE: [gimli, "--resolve"]}
+    for tool in (VERIFY, DWARFDUMP, PAHOLE):
+        if shutil.which(tool.split()[0]):
+            found[tool] = tool.split()
+    return found
 
 
-def info_size(program):
-    """The bytes of .debug_info."""
+def info(program):
+    """Where .debug_info begins in the file, and its size."""
     words = ["readelf", "--wide", "--section-headers", program]
     said = subprocess.run(words, capture_output=True, text=True, check=True)
-    row = re.search(r"\.debug_info\s+\S+\s+\S+\s+\S+\s+([0-9a-f]+)", said.stdout)
-    return int(row.group(1), 16)
+    row = re.search(r"\.debug_info\s+\S+\s+\S+\s+(\S+)\s+([0-9a-f]+)", said.stdout)
+    return int(row[1], 16), int(row[2], 16)
+
+
+def entries(program):
+    """The entries of a sound program."""
+    said = subprocess.run([DWV, "check", program], capture_output=True, text=True).stdout
+    if not said.startswith("sound"):
+        sys.exit(f"bench: {program}: {said}")
+    return int(re.search(r"(\d+) entries", said)[1])
 
 
 def run(words):
-    """Processor seconds, wall seconds, peak kilobytes and what was printed; the best of several rounds."""
+    """Processor seconds and peak megabytes of the best of several rounds, or None if one is stopped at the limit."""
     best = None
     for _ in range(ROUNDS):
-        before = time.monotonic()
-        child = subprocess.Popen(words, stdout=subprocess.PIPE, stderr=subprocess.DEVNULL)
-        text = child.stdout.read().decode(errors="replace")
-        _, _, used = os.wait4(child.pid, 0)
-        wall = time.monotonic() - before
-        row = (used.ru_utime + used.ru_stime, wall, used.ru_maxrss, text)
-        if best is None or row[0] < best[0]:
-            best = row
+        child = subprocess.Popen(words, stdout=subprocess.DEVNULL, stderr=subprocess.DEVNULL)
+        resource.prlimit(child.pid, resource.RLIMIT_CPU, (LIMIT, LIMIT + 1))
+        _, status, used = os.wait4(child.pid, 0)
+        if os.WIFSIGNALED(status):
+            if os.WTERMSIG(status) != signal.SIGXCPU:
+                print(f"bench: {' '.join(map(str, words))} crashed", file=sys.stderr)
+            return None
+        row = (used.ru_utime + used.ru_stime, used.ru_maxrss / 1024)
+        best = min(best or row, row)
+        if row[0] > LONG:
+            break
     return best
 
 
 def machine():
-    """One line on the processor and the tools."""
-    model = "unknown processor"
-    for row in pathlib.Path("/proc/cpuinfo").read_text().splitlines():
-        if row.startswith("model name"):
-            model = row.split(":", 1)[1].strip()
-            break
-    gcc = subprocess.run(["gcc", "-dumpfullversion"], capture_output=True, text=True).stdout.strip()
-    return f"{model}, {os.cpu_count()} processors, gcc {gcc}"
+    """One line on the processor and the compilers."""
+    model = re.search(r"model name\s*: (.*)", pathlib.Path("/proc/cpuinfo").read_text())
+    text = f"{model[1] if model else 'unknown processor'}, {os.cpu_count()} processors"
+    for compiler in ("gcc", "clang", "rustc"):
+        if shutil.which(compiler):
+            said = subprocess.run([compiler, "--version"], capture_output=True, text=True).stdout
+            text += f", {compiler} {re.search(r'[0-9]+[.][0-9.]*[0-9]', said)[0]}"
+    return text
 
 
-def draw(points, title):
-    """Draws the processor time of each tool over the size of .debug_info: pairs of numbers by the tool's name."""
+def draw(times, counts, title):
+    """Draws the processor time of each tool for an entry of each program."""
+    tools = [tool for tool in TOOLS if any((name, tool) in times for name in counts)]
     text = AXES.format(picture=PICTURE, title=title)
-    for number, pairs in enumerate(points.values()):
-        text += f"$tool{number} << END\n" + "".join(f"{size} {seconds}\n" for size, seconds in pairs) + "END\n"
-    lines = [f'$tool{number} with linespoints lw 2 title "{name}"' for number, name in enumerate(points)]
-    subprocess.run(["gnuplot"], input=f"{text}plot {', '.join(lines)}\n", text=True, check=True)
+    for name, count in counts.items():
+        bests = [times.get((name, tool)) for tool in tools]
+        text += f'"{name}"' + "".join(f" {best[0] / count * 1e9:.0f}" if best else " -" for best in bests) + "\n"
+    lines = [f'$times using {k + 2}:xtic(1) title "{tool}"' for k, tool in enumerate(tools)]
+    subprocess.run(["gnuplot"], input=f"{text}END\nplot {', '.join(lines)}\n", text=True, check=True)
+
+
+def ratio(times, name, tool, other):
+    """The time of a tool on a program to that of another one, as a cell of the table."""
+    one, two = times.get((name, tool)), times.get((name, other))
+    return f"{one[0] / two[0]:.2f}" if one and two else ""
+
+
+def faults(program):
+    """Copies of a program of gcc, each with one wrong byte near the end: the first rules see one, and sizes the other.
+
+    In the first, the last entry has a code that is not declared. In the second, the last structure with members and a
+    name has the size 1: its declaration has the name, an offset of 4 bytes, and then the size.
+    """
+    child = subprocess.Popen([DWV, "show", program], stdout=subprocess.PIPE, text=True)
+    for line in child.stdout:
+        last = int(line[:10], 16)
+        if (row := re.search(r' 0x0013 ".*" size (\d+)$', line)) and 16 < int(row[1]) < 256:
+            structure, size = last, int(row[1])
+    child.wait()
+    start, _ = info(program)
+    for at, old, new in ((last, None, 0x7f), (structure + 5, size, 1)):
+        file = bytearray(program.read_bytes())
+        assert old in (None, file[start + at])
+        file[start + at] = new
+        copy = program.with_name("broken")
+        copy.write_bytes(file)
+        yield copy
 
 
 def main():
-    sizes = [float(word) for word in sys.argv[1:]] or [1.0, 3.0, 10.0]
+    words = sys.argv[1:] or [""]
     if not DWV.exists():
         sys.exit(f"bench: {DWV} is not there: run `make` first")
+    tools = installed()
+    programs = {name: build(name) for name in PROGRAMS if any(word in name for word in words)}
     title = f"{machine()}, {datetime.date.today()}"
-    print(title)
-    print()
-    print("| .debug_info, MB | entries | tool | processor s | ns an entry | peak MB | bytes an entry over the file |")
+    print(f"{title}\n")
+    print("| program | .debug_info, MB | entries | tool | processor s | ns an entry | peak MB |")
     print("|---|---|---|---|---|---|---|")
-    times, points, gimli = {}, {}, walk()
-    for size in sizes:
-        program = build(size)
-        bytes_of_file = program.stat().st_size
-        tools = [("dwv check", [DWV, "check", program])]
-        if gimli:
-            tools.append(("a walk with gimli", [gimli, *sections(program)]))
-        tools += [(" ".join(words), [*words, program]) for words in PEERS if shutil.which(words[0])]
-        tools.append(("dwv types", [DWV, "types", program]))
-        if shutil.which("pahole"):
-            tools.append(("pahole", ["pahole", program]))
-        entries = 0
-        for name, words in tools:
-            seconds, _, peak, text = run(words)
-            said = re.search(r"(\d+) entries", text)
-            if name == "dwv check":
-                if not said:
-                    sys.exit(f"bench: {text}")
-                entries = int(said.group(1))
-            over = (peak * 1024 - bytes_of_file) / entries
-            times[size, name] = seconds
-            if name not in ("dwv types", "pahole"):
-                points.setdefault(name, []).append((info_size(program) / 1e6, seconds))
-            print(f"| {info_size(program) / 1e6:.1f} | {entries} | {name} | {seconds:.3f} "
-                  f"| {seconds / entries * 1e9:.0f} | {peak / 1024:.0f} | {over:.0f} |")
+    times, counts, over = {}, {}, {}
+    for name, program in programs.items():
+        if program is None:
+            continue
+        counts[name] = count = entries(program)
+        for tool in TOOLS:
+            if tool not in tools:
+                continue
+            times[name, tool] = best = run([*tools[tool], program])
+            row = f"{best[0]:.3f} | {best[0] / count * 1e9:.0f} | {best[1]:.0f}" if best else f"over {LIMIT} | |"
+            print(f"| {name.rsplit(',', 1)[0]} | {info(program)[1] / 1e6:.1f} | {count} | {tool} | {row} |", flush=True)
+        over[name] = (times[name, CHECK][1] * 2**20 - program.stat().st_size) / count
+    print("\nThe ratios of times, and the memory of `dwv check` over the size of the file:\n")
+    print(f"| program | {' | '.join(f'{tool} to {other}' for tool, other in RATIOS)} | bytes an entry |")
+    print("|---" * (len(RATIOS) + 2) + "|")
+    for name in counts:
+        cells = [ratio(times, name, tool, other) for tool, other in RATIOS]
+        print(f"| {name} | {' | '.join(cells)} | {over[name]:.0f} |")
     print()
-    absent = [words[0] for words in PEERS if not shutil.which(words[0])] + ([] if gimli else ["gimli or cargo"])
+    if SMALL in counts and LARGE in counts:
+        more = counts[LARGE] / counts[SMALL]
+        longer = [times[LARGE, tool][0] / times[SMALL, tool][0] for tool in (CHECK, TYPES)]
+        print(f"{LARGE}, to {SMALL}: {more:.1f} times the entries; `dwv check` takes {longer[0]:.1f} times as long, "
+              f"`dwv types` {longer[1]:.1f} times.")
+    if MIDDLE in counts:
+        for copy in faults(programs[MIDDLE]):
+            said = subprocess.run([DWV, "check", copy], capture_output=True, text=True).stdout
+            part = run([DWV, "check", copy])[0] / times[MIDDLE, CHECK][0]
+            print(f"{MIDDLE}, with `{said.strip()}`: `dwv check` takes {part:.2f} of the time of the sound file.")
+            copy.unlink()
+    absent = [tool for tool in TOOLS if tool not in tools]
+    absent += [PROGRAMS[name][2][0] for name, program in programs.items() if program is None]
     if absent:
         print(f"Not installed: {', '.join(absent)}.")
     if shutil.which("gnuplot"):
-        draw(points, title)
+        draw(times, counts, title)
     else:
         print(f"gnuplot is not installed: {PICTURE.name} is as it was.")
-    for size in sizes:
-        for name, other in BESIDE:
-            if (size, other) in times:
-                part = times[size, name] / times[size, other]
-                print(f"At {size:g} MB {name} takes {part:.3f} of the time of {other}.")
-    if len(sizes) > 1:
-        first, last = sizes[0], sizes[-1]
-        growth = times[last, "dwv check"] / times[first, "dwv check"]
-        print(f"From {first:g} to {last:g} MB the time of dwv check grows by {growth:.1f}.")
 
 
 main()

@@ -13,6 +13,7 @@ It prints how often each rule was found, and ends with 'N files agreed, M did no
 in the folder of temporary files, with its name printed.
 """
 import collections
+import itertools
 import pathlib
 import random
 import re
@@ -27,6 +28,8 @@ ROOT = pathlib.Path(__file__).resolve().parent.parent
 DWV = ROOT / "crates/dwv/out/dwv"
 SLOW = ROOT / "crates/slow_check/out/slow_check"
 PROGRAMS = ROOT / "tests/programs"
+# The sources of each program.
+SOURCES = (["library.c"], ["shapes.c"], ["shapes.c", "calls.c"])
 SECTIONS = {".debug_abbrev", ".debug_info", ".debug_str", ".debug_line_str", ".debug_str_offsets", ".debug_addr"}
 # Seconds that a run of dwv may take at most, far above what it takes.
 LIMIT = 20
@@ -41,21 +44,20 @@ FAULT = re.compile(
 READ = ("E", "A", "U", "G")
 
 
-def built(folder):
-    """Programs of the compilers that are installed, as bytes."""
+def built(folder, levels=("-O0",)):
+    """Programs of the compilers that are installed, as bytes, compiled at these levels."""
     programs = []
     for compiler in ("gcc", "clang"):
         if not shutil.which(compiler):
             print(f"skipped: {compiler} is not installed")
             continue
-        for version in (5, 4):
-            for more in ([], ["-fdebug-types-section"]):
-                for source in ("library.c", "shapes.c"):
-                    out = folder / "program"
-                    flags = [f"-gdwarf-{version}", "-O0", "-w", "-fPIC", "-shared", *more]
-                    done = subprocess.run([compiler, *flags, "-o", out, PROGRAMS / source], capture_output=True)
-                    if done.returncode == 0:
-                        programs.append(out.read_bytes())
+        choices = itertools.product((5, 4), levels, ([], ["-fdebug-types-section"]), SOURCES)
+        for version, level, more, sources in choices:
+            out = folder / "program"
+            words = [compiler, f"-gdwarf-{version}", level, "-w", "-fPIC", "-shared", *more, "-o", out]
+            done = subprocess.run([*words, *(PROGRAMS / source for source in sources)], capture_output=True)
+            if done.returncode == 0:
+                programs.append(out.read_bytes())
     return programs
 
 
@@ -103,10 +105,10 @@ def changed(program, chance):
     return bytes(file)
 
 
-def ran(words, file):
+def ran(words, file, program=DWV):
     """The exit status and the text of a run of dwv, or the reason why there is none."""
     try:
-        run = subprocess.run([DWV, *words, file], capture_output=True, timeout=LIMIT, text=True)
+        run = subprocess.run([program, *words, file], capture_output=True, timeout=LIMIT, text=True)
     except subprocess.TimeoutExpired:
         return None, f"no answer within {LIMIT} s"
     return run.returncode, run.stdout if not run.stderr else run.stderr
@@ -127,9 +129,9 @@ def judged(file):
 
 
 def rule_of(text):
-    """The rule of a line, or `sound`."""
+    """The rule of a line, `sound`, or `no line` of docs/REPORTS.md."""
     fault = FAULT.fullmatch(text)
-    return fault.group(1) if fault else "sound"
+    return fault.group(1) if fault else "sound" if SOUND.fullmatch(text) else "no line"
 
 
 def agreed(files):
@@ -187,4 +189,5 @@ def kept(file):
     return copy
 
 
-sys.exit(main())
+if __name__ == "__main__":
+    sys.exit(main())

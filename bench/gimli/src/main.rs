@@ -1,18 +1,35 @@
-//! Reads each entry and each attribute with gimli, and checks nothing: `walk INFO ABBREV`, two files with the bytes of
-//! .debug_info and .debug_abbrev.
+//! Reads each entry and each attribute of a program with gimli, and checks nothing: `walk [--resolve] FILE`.
+//!
+//! With --resolve it also reads each string, and the tag of the entry that each reference names.
 
-use gimli::{DebugAbbrev, DebugInfo, LittleEndian};
+use std::collections::HashMap;
+use std::error::Error;
 
-fn main() -> Result<(), Box<dyn std::error::Error>> {
-    let mut paths = std::env::args().skip(1);
-    let info = std::fs::read(paths.next().ok_or("no .debug_info")?)?;
-    let abbrev = std::fs::read(paths.next().ok_or("no .debug_abbrev")?)?;
-    let (info, abbrev) = (DebugInfo::new(&info, LittleEndian), DebugAbbrev::new(&abbrev, LittleEndian));
+use gimli::{AttributeValue, DebugTypeSignature, EndianSlice, LittleEndian, UnitOffset, UnitSectionOffset, UnitType};
+use object::{Object, ObjectSection};
+
+type Bytes<'a> = EndianSlice<'a, LittleEndian>;
+type Dwarf<'a> = gimli::Dwarf<Bytes<'a>>;
+type Unit<'a> = gimli::Unit<Bytes<'a>>;
+
+fn main() -> Result<(), Box<dyn Error>> {
+    let mut words: Vec<String> = std::env::args().skip(1).collect();
+    let file = std::fs::read(words.pop().ok_or("no file")?)?;
+    let file = object::File::parse(&*file)?;
+    let dwarf = gimli::Dwarf::load(|id| {
+        let section = file.section_by_name(id.name()).and_then(|section| section.data().ok());
+        Ok::<_, gimli::Error>(EndianSlice::new(section.unwrap_or(&[]), LittleEndian))
+    })?;
+    if words.is_empty() { walk(&dwarf) } else { resolve(&dwarf) }
+}
+
+/// Reads all attributes.
+fn walk(dwarf: &Dwarf) -> Result<(), Box<dyn Error>> {
     let (mut entries, mut attributes) = (0u64, 0u64);
-    let mut units = info.units();
-    while let Some(unit) = units.next()? {
-        let table = unit.abbreviations(&abbrev)?;
-        let mut cursor = unit.entries(&table);
+    let mut headers = dwarf.units();
+    while let Some(header) = headers.next()? {
+        let table = dwarf.abbreviations(&header)?;
+        let mut cursor = header.entries(&table);
         while let Some((_, entry)) = cursor.next_dfs()? {
             entries += 1;
             let mut rest = entry.attrs();
@@ -23,4 +40,59 @@ fn main() -> Result<(), Box<dyn std::error::Error>> {
     }
     println!("{entries} entries, {attributes} attributes");
     Ok(())
+}
+
+/// Units by their offsets in .debug_info, and the unit and the offset in it of each type with a signature.
+struct Units<'a> {
+    units: Vec<Unit<'a>>,
+    starts: Vec<usize>,
+    types: HashMap<DebugTypeSignature, (usize, UnitOffset)>,
+}
+
+/// Reads all attributes, the strings, and the tags of the entries that references name.
+fn resolve(dwarf: &Dwarf) -> Result<(), Box<dyn Error>> {
+    let mut all = Units { units: Vec::new(), starts: Vec::new(), types: HashMap::new() };
+    let mut headers = dwarf.units();
+    while let Some(header) = headers.next()? {
+        if let UnitType::Type { type_signature, type_offset } = header.type_() {
+            all.types.insert(type_signature, (all.units.len(), type_offset));
+        }
+        if let UnitSectionOffset::DebugInfoOffset(start) = header.offset() {
+            all.starts.push(start.0);
+        }
+        all.units.push(dwarf.unit(header)?);
+    }
+    let (mut entries, mut length, mut types) = (0u64, 0, 0u64);
+    for (number, unit) in all.units.iter().enumerate() {
+        let mut cursor = unit.entries();
+        while let Some((_, entry)) = cursor.next_dfs()? {
+            entries += 1;
+            let mut rest = entry.attrs();
+            while let Some(attribute) = rest.next()? {
+                if let Some((unit, offset)) = target(&all, number, attribute.value())? {
+                    let target = all.units[unit].entry(offset)?;
+                    types += u64::from(target.tag() == gimli::DW_TAG_base_type);
+                } else if let Ok(text) = dwarf.attr_string(unit, attribute.value()) {
+                    length += text.len();
+                }
+            }
+        }
+    }
+    println!("{entries} entries, {length} bytes of strings, {types} references to base types");
+    Ok(())
+}
+
+/// The unit of the entry that a value of a unit refers to, and the offset in it, if the value is a reference.
+fn target(all: &Units, unit: usize, value: AttributeValue<Bytes>) -> Result<Option<(usize, UnitOffset)>, gimli::Error> {
+    Ok(match value {
+        AttributeValue::UnitRef(offset) => Some((unit, offset)),
+        AttributeValue::DebugInfoRef(offset) => {
+            let unit = all.starts.partition_point(|start| *start <= offset.0) - 1;
+            Some((unit, UnitOffset(offset.0 - all.starts[unit])))
+        }
+        AttributeValue::DebugTypesRef(signature) => {
+            Some(*all.types.get(&signature).ok_or(gimli::Error::NoEntryAtGivenOffset)?)
+        }
+        _ => None,
+    })
 }
