@@ -25,8 +25,8 @@ HERE = pathlib.Path(__file__).resolve().parent
 DWV = HERE.parent / "crates/dwv/out/dwv"
 OUT = HERE / "out"
 PICTURE = HERE.parent / "docs/performance.svg"
-# How often a tool is run on a program: once only, if the run takes so many seconds of processor time.
-ROUNDS, LONG = 5, 10
+# How often a tool is run on a program; no further run starts when these took so many seconds of processor time.
+ROUNDS, ENOUGH = 5, 20
 # The seconds of processor time after which a run is stopped.
 LIMIT = 60
 
@@ -63,6 +63,8 @@ set style fill solid
 set boxwidth 0.9
 set logscale y
 set grid ytics
+set xrange [-0.5:*]
+set bmargin 4
 set datafile missing "-"
 set key outside top center horizontal noenhanced
 $times << END
@@ -139,7 +141,7 @@ def entries(program):
 
 def run(words):
     """Processor seconds and peak megabytes of the best of several rounds, or None if one is stopped at the limit."""
-    best = None
+    best, spent = None, 0
     for _ in range(ROUNDS):
         child = subprocess.Popen(words, stdout=subprocess.DEVNULL, stderr=subprocess.DEVNULL)
         resource.prlimit(child.pid, resource.RLIMIT_CPU, (LIMIT, LIMIT + 1))
@@ -149,8 +151,8 @@ def run(words):
                 print(f"bench: {' '.join(map(str, words))} crashed", file=sys.stderr)
             return None
         row = (used.ru_utime + used.ru_stime, used.ru_maxrss / 1024)
-        best = min(best or row, row)
-        if row[0] > LONG:
+        best, spent = min(best or row, row), spent + row[0]
+        if spent > ENOUGH:
             break
     return best
 
@@ -172,7 +174,8 @@ def draw(times, counts, title):
     text = AXES.format(picture=PICTURE, title=title)
     for name, count in counts.items():
         bests = [times.get((name, tool)) for tool in tools]
-        text += f'"{name}"' + "".join(f" {best[0] / count * 1e9:.0f}" if best else " -" for best in bests) + "\n"
+        label = name.replace(", ", r"\n", 1)
+        text += f'"{label}"' + "".join(f" {best[0] / count * 1e9:.0f}" if best else " -" for best in bests) + "\n"
     lines = [f'$times using {k + 2}:xtic(1) title "{tool}"' for k, tool in enumerate(tools)]
     subprocess.run(["gnuplot"], input=f"{text}END\nplot {', '.join(lines)}\n", text=True, check=True)
 
