@@ -101,7 +101,7 @@ mod {name} {{
             keys: vec![Key::Low(m)], rest: None, last: (Key::Low(n), std::array::from_fn(|_| Key::Low(m))),
         }}));
         names.insert(Key::High {{ word: 1, text: format!("{{rows:?}}") }}, Err(Key::Both([1; {k % 7 + 1}], None)));
-        rows.values().map(Vec::len).sum::<usize>() + names.len()
+        rows.values().map(|row| row.len()).sum::<usize>() + names.len()
     }}
 }}
 """
