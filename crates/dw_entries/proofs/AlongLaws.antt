@@ -11,7 +11,7 @@ use Rattle.dw_entries.specs.Header.{fits_tag, header_size}
 use Rattle.dw_entries.specs.declared.fault.Failing.{Failing}
 use Rattle.dw_entries.specs.Grammar.{Context, Head, head_bytes}
 use Rattle.dw_entries.specs.Tree.{Node, node_bytes, leaf, parent}
-use Rattle.dw_entries.specs.Items.{Item, entry, null, AreItems, decl_of, item_bytes, items_bytes, node_items, depth_along, root_depth, tree_depth}
+use Rattle.dw_entries.specs.Items.{Item, entry, null, AreItems, numbered_decl, item_bytes, items_bytes, node_items, depth_along, root_depth, tree_depth}
 use Rattle.dw_entries.specs.Reading.{seen, item_at, first_at}
 use Rattle.dw_entries.specs.Units.{nulls_bytes, head_of}
 use Rattle.dw_entries.specs.Faults.{Front, in_unit, BodyFails}
@@ -129,7 +129,7 @@ first_fault t kind header start body f fault s read e = record {
 reverse_some : (ls : List Level) → ls ≢ [] → reverse ls ≢ []
 reverse_some ls more e = more (nil_from_length ls (omega (arith, ap length e, length-reverse ls)))
 
-pub first_turn : (t : Context) (numbers : ℕ → ℕ) (kind : HeaderKind) (unit at : ℕ) (body : List ℕ) (old records : List Record) (none levels : List Level) (d : ℕ × Declaration) (rest : List ℕ) → seen (decl_of numbers) (first_at t kind body) ≡ Ok (Some d, rest) → none ≡ [] → walk_of records levels ≡ enter unit at d old (reverse none) → Along t numbers kind unit at body old rest (walk_of records levels)
+pub first_turn : (t : Context) (numbers : ℕ → ℕ) (kind : HeaderKind) (unit at : ℕ) (body : List ℕ) (old records : List Record) (none levels : List Level) (d : ℕ × Declaration) (rest : List ℕ) → seen (numbered_decl numbers) (first_at t kind body) ≡ Ok (Some d, rest) → none ≡ [] → walk_of records levels ≡ enter unit at d old (reverse none) → Along t numbers kind unit at body old rest (walk_of records levels)
 first_turn t numbers kind unit at body old records none levels d rest read empty e =
     let (h, was, is) = seen_entry numbers (first_at t kind body) d rest read in
     let entered : enter unit at (numbers h.decl.code, h.decl) old [] ≡ walk_of records levels = ap (λ (x : ℕ × Declaration). enter unit at x old []) is ∙ ap (λ (ls : List Level). enter unit at d old (reverse ls)) (sym empty) ∙ sym e in

@@ -1,8 +1,9 @@
 -- Chapter: failures of rules over entries, their order, and the first of them.
-use Rattle.std.specs.Prelude.{◌≡◌, ℕ, ◌<◌, ◌⊎◌, Option, None, Some}
+use Rattle.std.specs.Prelude.{◌≡◌, ℕ, ◌<◌, ◌⊎◌, [], Option, None, Some}
 use Rattle.dw_entries.specs.declared.rule.Rule.{Rule}
 use Rattle.dw_entries.specs.declared.fault.Section.TheVariants.{Info}
 use Rattle.dw_entries.specs.declared.fault.Broken.{Broken}
+use Rattle.dw_entries.specs.declared.fault.Fault.{Fault}
 use Rattle.dw_entries.specs.Rules.{number_of}
 use Rattle.dw_entries.specs.Places.{Place, offset_of, IsBefore}
 
@@ -38,3 +39,12 @@ pub record IsFirst (Fails : Failure → Type 0) (broken : Broken) : Type 0 where
 abbrev pub IsLeast : (Rule → Type 0) → Option Rule → Type 0
 IsLeast Fails None = (rule : Rule) → Fails rule → ⊥
 IsLeast Fails (Some least) = Fails least × ((rule : Rule) → Fails rule → number_of rule < number_of least → ⊥)
+
+-- a fault without its cycle
+abbrev pub broken_of : Fault → Broken
+broken_of f = record { rule = f.rule; section = f.section; at = f.at; attribute = f.attribute }
+
+-- a fault that has no cycle, of bytes and not of types, and this holds of it
+pub record IsPlainFault (P : Broken → Type 0) (f : Fault) : Type 0 where
+  pub holds : P (broken_of f)
+  pub cycle : f.cycle.items ≡ []

@@ -11,9 +11,9 @@ pub data Item : Type 0 where
   null : List ℕ → Item
 
 -- the number of an entry's declaration, by its code, and the declaration; none at a null
-abbrev pub decl_of : (ℕ → ℕ) → Item → Option (ℕ × Declaration)
-decl_of numbers (entry h) = Some (numbers h.decl.code, h.decl)
-decl_of numbers (null z) = None
+abbrev pub numbered_decl : (ℕ → ℕ) → Item → Option (ℕ × Declaration)
+numbered_decl numbers (entry h) = Some (numbers h.decl.code, h.decl)
+numbered_decl numbers (null z) = None
 
 -- the bytes of an item
 abbrev pub item_bytes : Item → List ℕ

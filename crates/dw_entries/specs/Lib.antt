@@ -14,6 +14,7 @@ pub mod Places
 pub mod Failures
 pub mod Asked
 pub mod Lookups
+pub mod Views
 -- Laws.
 pub mod Choices
 pub mod Joined
@@ -31,7 +32,6 @@ pub mod Token
 pub mod Stopped
 pub mod OptionalIds
 pub mod Hints
-pub mod Views
 pub mod Cursors
 pub mod UnitsLeft
 pub mod Chosen

@@ -70,8 +70,8 @@ attributes_at x (spec ∷ specs) bytes = attribute_at x spec bytes >>= λ a. att
     λ more. Ok (a.0 ∷ more.0, more.1)
 
 -- the entry of this declaration and spelling of its code, whose values come next
-unfoldable pub entry_at : Context → Declaration → List ℕ → List ℕ → Result (Item × List ℕ) Failing
-entry_at x d code bytes =
+unfoldable pub entry_by : Context → Declaration → List ℕ → List ℕ → Result (Item × List ℕ) Failing
+entry_by x d code bytes =
     attributes_at x d.attributes bytes >>= λ more. Ok (
       entry (record { decl = d; code = code; attributes = more.0 }),
       more.1,
@@ -80,7 +80,7 @@ entry_at x d code bytes =
 -- an entry by its declaration, if there is one
 abbrev pub declared_at : Context → Option Declaration → List ℕ → List ℕ → Result (Item × List ℕ) Failing
 declared_at x None code bytes = fails UndeclaredCode 0
-declared_at x (Some d) code bytes = entry_at x d code bytes
+declared_at x (Some d) code bytes = entry_by x d code bytes
 
 -- an item: a null, or an entry
 unfoldable pub item_at : Context → List ℕ → Result (Item × List ℕ) Failing
@@ -90,7 +90,7 @@ item_at x bytes = code_at bytes >>= λ c. if c.0.number == 0 then Ok (null c.0.b
 -- the first entry by its declaration, if there is one
 abbrev pub first_entry : Context → HeaderKind → Option Declaration → List ℕ → List ℕ → Result (Item × List ℕ) Failing
 first_entry x kind None code bytes = fails UndeclaredCode 0
-first_entry x kind (Some d) code bytes = if fits_tag kind d.tag then entry_at x d code bytes else fails WrongUnitTag 0
+first_entry x kind (Some d) code bytes = if fits_tag kind d.tag then entry_by x d code bytes else fails WrongUnitTag 0
 
 -- the first item of a tree: an entry, whose tag is asked before its values
 unfoldable pub first_at : Context → HeaderKind → List ℕ → Result (Item × List ℕ) Failing
@@ -120,8 +120,3 @@ seen f (Err e) = Err e
 abbrev pub after : {A : Type 0} → Result (A × List ℕ) Failing → Result (List ℕ) Failing
 after (Ok x) = Ok x.1
 after (Err e) = Err e
-
--- what a function returned, by view, is what reading gives
-abbrev pub Gives : {X Y E : Type 0} → (X → Y) → Result X E → Result Y E → Type 0
-Gives view (Ok x) read = read ≡ Ok (view x)
-Gives view (Err e) read = read ≡ Err e

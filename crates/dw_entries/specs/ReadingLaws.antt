@@ -27,9 +27,9 @@ use Rattle.dw_entries.specs.declared.header.HeaderKind.{HeaderKind}
 use Rattle.dw_entries.specs.Grammar.{Context, declared_in, declared, Attribute, IsAttribute, AreAttributes}
 use Rattle.dw_entries.specs.Grammar.{attribute_bytes, Head, head_bytes, IsHead}
 use Rattle.dw_entries.specs.Header.{fits_tag}
-use Rattle.dw_entries.specs.Items.{Item, entry, null, item_bytes, decl_of, IsItem}
+use Rattle.dw_entries.specs.Items.{Item, entry, null, item_bytes, numbered_decl, IsItem}
 use Rattle.dw_entries.specs.Reading.{fails, seen, Code, as_code, code_at, as_attribute, attribute_at, attributes_at}
-use Rattle.dw_entries.specs.Reading.{entry_at, declared_at, item_at, first_entry, first_at}
+use Rattle.dw_entries.specs.Reading.{entry_by, declared_at, item_at, first_entry, first_at}
 
 -- the value of a step that did not fail
 pub bind_ok : {A B E : Type 0} (r : Result A E) (f : A → Result B E) (y : B) → (r >>= f) ≡ Ok y → (x : A) × (r ≡ Ok x)
@@ -197,9 +197,9 @@ abbrev head : Declaration → List ℕ → List Attribute → Head
 head d code bs = record { decl = d; code = code; attributes = bs }
 
 entry_takes : (t : Context) (n : ℕ) (d : Declaration) (code bytes : List ℕ) (i : Item) (rest : List ℕ) → Uleb code n
-    → eqb n 0 ≡ false → declared t n ≡ Some d → entry_at t d code bytes ≡ Ok (i, rest) → (h : Head) × (entry h ≡ i)
+    → eqb n 0 ≡ false → declared t n ≡ Some d → entry_by t d code bytes ≡ Ok (i, rest) → (h : Head) × (entry h ≡ i)
     × (h.decl ≡ d) × (code ++ bytes ≡ head_bytes h ++ rest) × IsHead t h
-unfolding entry_at
+unfolding entry_by
 entry_takes t n d code bytes i rest p some known e =
     let x = bind_ok (attributes_at t d.attributes bytes) (λ ps. Ok (entry (head d code ps.0), ps.1)) (i, rest) e in
     let q = ok_pair (entry (head d code x.0.0)) i x.0.1 rest x.2 in
@@ -216,8 +216,8 @@ entry_takes t n d code bytes i rest p some known e =
     )
 
 entry_again : (t : Context) (h : Head) (rest : List ℕ) → IsHead t h
-    → entry_at t h.decl h.code (flat_map attribute_bytes h.attributes ++ rest) ≡ Ok (entry h, rest)
-unfolding entry_at
+    → entry_by t h.decl h.code (flat_map attribute_bytes h.attributes ++ rest) ≡ Ok (entry h, rest)
+unfolding entry_by
 entry_again t h rest p = rw (attributes_again t h.decl.attributes h.attributes rest p.attributes) refl
 
 declared_takes : (t : Context) (n : ℕ) (o : Option Declaration) (code bytes : List ℕ) (i : Item) (rest : List ℕ)
@@ -307,7 +307,7 @@ first_declared : (t : Context) (kind : HeaderKind) (n : ℕ) (o : Option Declara
 first_declared t kind n None code bytes h rest p some known e =
     absurd (let undeclared : fails UndeclaredCode 0 ≡ read (entry h) rest = e in cc)
 first_declared t kind n (Some d) code bytes h rest p some known e =
-    elim (chosen (fits_tag kind d.tag) (entry_at t d code bytes) (fails WrongUnitTag 0) (read (entry h) rest) e) [
+    elim (chosen (fits_tag kind d.tag) (entry_by t d code bytes) (fails WrongUnitTag 0) (read (entry h) rest) e) [
       | inl right ↦
           let x = entry_takes t n d code bytes (entry h) rest p some known right.1 in
           let was : entry x.0 ≡ entry h = x.1 in
@@ -356,11 +356,11 @@ some_is x y e = cc
 
 -- the declaration of an entry that was read, and its number
 pub seen_entry : (numbers : ℕ → ℕ) (r : Result (Item × List ℕ) Failing) (d : ℕ × Declaration) (rest : List ℕ)
-    → seen (decl_of numbers) r ≡ Ok (Some d, rest) → (h : Head) × (r ≡ Ok (entry h, rest))
+    → seen (numbered_decl numbers) r ≡ Ok (Some d, rest) → (h : Head) × (r ≡ Ok (entry h, rest))
     × (◌≡◌ {A = ℕ × Declaration} (numbers h.decl.code, h.decl) d)
-seen_entry numbers r d rest e = let (i, was, is) = seen_ok (decl_of numbers) r (Some d) rest e in of_item i was is
+seen_entry numbers r d rest e = let (i, was, is) = seen_ok (numbered_decl numbers) r (Some d) rest e in of_item i was is
   where
-    of_item : (i : Item) → r ≡ Ok (i, rest) → decl_of numbers i ≡ Some d → (h : Head) × (r ≡ Ok (entry h, rest))
+    of_item : (i : Item) → r ≡ Ok (i, rest) → numbered_decl numbers i ≡ Some d → (h : Head) × (r ≡ Ok (entry h, rest))
         × (◌≡◌ {A = ℕ × Declaration} (numbers h.decl.code, h.decl) d)
     of_item (entry h) was is = (h, was, some_is (numbers h.decl.code, h.decl) d is)
     of_item (null z) was is = let some : ◌≡◌ {A = Option (ℕ × Declaration)} None (Some d) = is in absurd cc

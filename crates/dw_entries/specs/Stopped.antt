@@ -10,6 +10,7 @@ use Rattle.dw_forms.specs.AbbrevTables.{tables_in, AreTablesOf}
 use Rattle.dw_forms.specs.KeptDecls.{numbered_in, number_in}
 use Rattle.dw_forms.specs.TableStarts.{Stay}
 use Rattle.dw_entries.specs.Scanned.{IsKept}
+use Rattle.dw_entries.specs.Failures.{IsPlainFault}
 use Rattle.dw_entries.specs.declared.fault.Failing.{Failing}
 use Rattle.dw_entries.specs.declared.fault.Broken.{Broken}
 use Rattle.dw_entries.specs.declared.fault.Break.{Break}
@@ -65,15 +66,6 @@ pub record NullsThen (bytes left : List ℕ) : Type 0 where
   pub more : left ≢ []
   pub other : null_first (code_at left) ≡ false
 
--- a fault without its cycle
-abbrev pub broken_of : Fault → Broken
-broken_of f = record { rule = f.rule; section = f.section; at = f.at; attribute = f.attribute }
-
--- a fault of bytes and not of types has no cycle
-pub record IsFault (P : Broken → Type 0) (f : Fault) : Type 0 where
-  pub holds : P (broken_of f)
-  pub cycle : f.cycle.items ≡ []
-
 -- this holds of the fault, unless memory ran out
 abbrev pub IfFaulty : (Fault → Type 0) → Stop → Type 0
 IfFaulty P stops.Memory = Unit {0}
@@ -81,7 +73,7 @@ IfFaulty P (stops.Fault fault) = P fault
 
 -- the same of a fault without a cycle
 abbrev pub IfFault : (Broken → Type 0) → Stop → Type 0
-IfFault P = IfFaulty (IsFault P)
+IfFault P = IfFaulty (IsPlainFault P)
 
 -- what a table's fault is, in the words of all rules
 abbrev pub as_broken : Result (List Declaration) BrokenTable → Result (List Declaration) Broken

@@ -1,4 +1,4 @@
--- State: the sections of a scan.
+-- Chapter: the sections of a scan.
 use Rattle.dw_elf.specs.declared.sections.Sections.{Sections}
 use Rattle.dw_entries.specs.declared.entries.Entries.{Entries}
 

@@ -2,7 +2,7 @@
 
 ghost use Rattle.std.specs.Prelude.{◌≡◌};
 ghost use Rattle.dw_entries.specs.declared.fault.Stop.TheVariants.{Memory, Fault as Faulty};
-ghost use Rattle.dw_entries.specs.Stopped.{IsFault};
+ghost use Rattle.dw_entries.specs.Failures.{IsPlainFault};
 
 use crate::rule::Rule;
 use std::alloc::{AllocError, AllocFailed, Global};
@@ -68,7 +68,7 @@ pub struct Broken {
 impl Broken {
     /// The fault that names this rule. It has no cycle.
     pub fn into_fault(self, alloc: Global) -> Fault
-        ensures { IsFault (λ broken. broken ≡ self) result }
+        ensures { IsPlainFault (λ broken. broken ≡ self) result }
     {
         Fault {
             rule: self.rule,

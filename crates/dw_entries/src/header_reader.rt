@@ -3,7 +3,7 @@
 ghost use Rattle.std.specs.Prelude.{◌≡◌, ◌≤◌, ◌⊎◌, ◌<◌, length, IfOk};
 ghost use Rattle.dw_entries.specs.Header.{IsSize, field_at, address_size_at, abbrev_offset_at, version4_at, kind_at};
 ghost use Rattle.dw_entries.specs.Header.{version5_at, fields_at, unit_at, header_at};
-ghost use Rattle.dw_entries.specs.Reading.{Gives};
+ghost use Rattle.dw_forms.specs.ValueReading.{Gives};
 
 use crate::header::{HeaderKind, UnitHeader};
 use crate::rule::Rule;

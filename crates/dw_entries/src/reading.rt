@@ -3,8 +3,9 @@
 ghost use Rattle.std.specs.Prelude.{◌≡◌, Some, option_map, IfSome};
 ghost use Rattle.dw_forms.specs.Abbrev.{view};
 ghost use Rattle.dw_entries.specs.Grammar.{declared_in};
-ghost use Rattle.dw_entries.specs.Items.{decl_of};
-ghost use Rattle.dw_entries.specs.Reading.{Gives, seen, after, code_at, value_rule as rule_of_value, attribute_at};
+ghost use Rattle.dw_entries.specs.Items.{numbered_decl};
+ghost use Rattle.dw_entries.specs.Reading.{seen, after, code_at, value_rule as rule_of_value, attribute_at};
+ghost use Rattle.dw_forms.specs.ValueReading.{Gives};
 ghost use Rattle.dw_entries.specs.Reading.{attributes_at, item_at, first_at};
 ghost use Rattle.dw_entries.specs.Token.{declared_view, token_decl};
 ghost use Rattle.dw_entries.specs.Units.{context_in, numbers_in};
@@ -150,13 +151,13 @@ fn find_decl(context: UnitContext<'_>, code: u64) -> Option<Declared<'_>>
 
 /// The item at the front, and the bytes behind it.
 #[inline(always)]
-#[tactic(auto, unfolding(crate::specs::Reading::item_at, crate::specs::Reading::entry_at))]
+#[tactic(auto, unfolding(crate::specs::Reading::item_at, crate::specs::Reading::entry_by))]
 pub fn read_item<'a, 'b>(
     context: UnitContext<'a>,
     bytes: &'b [u8],
 ) -> Result<(Token<'a>, &'b [u8]), Failing>
     ensures { Gives (λ x. (token_decl x.0, x.1.now)) result
-        (seen (decl_of (numbers_in context.entry)) (item_at (context_in context.entry) bytes.now)) }
+        (seen (numbered_decl (numbers_in context.entry)) (item_at (context_in context.entry) bytes.now)) }
 {
     let (code, rest) = read_code(bytes)?;
     if code == 0 {
@@ -175,14 +176,14 @@ pub fn read_item<'a, 'b>(
 }
 
 /// The first entry of a unit, and the bytes behind it.
-#[tactic(auto, unfolding(crate::specs::Reading::first_at, crate::specs::Reading::entry_at))]
+#[tactic(auto, unfolding(crate::specs::Reading::first_at, crate::specs::Reading::entry_by))]
 pub fn read_first<'a, 'b>(
     context: UnitContext<'a>,
     kind: HeaderKind,
     bytes: &'b [u8],
 ) -> Result<(Declared<'a>, &'b [u8]), Failing>
     ensures { Gives (λ x. (Some (declared_view x.0), x.1.now)) result
-        (seen (decl_of (numbers_in context.entry)) (first_at (context_in context.entry) kind bytes.now)) }
+        (seen (numbered_decl (numbers_in context.entry)) (first_at (context_in context.entry) kind bytes.now)) }
 {
     let missing = Failing {
         rule: Rule::NoUnitEntry,

@@ -9,7 +9,7 @@ use Rattle.dw_forms.specs.declared.abbrev_fault.DeclError.{DeclError}
 use Rattle.dw_forms.specs.declared.abbrev_fault.DeclError.TheVariants as errors
 use Rattle.dw_forms.specs.Steps.{◌>>=◌}
 use Rattle.dw_forms.specs.Abbrev.{Declaration, view, views}
-use Rattle.dw_forms.specs.AbbrevReading.{Fails, pair_at, attributes_from, has_code, decl_at, decls_from, placed, TableFails}
+use Rattle.dw_forms.specs.AbbrevReading.{FailsOrMemory, pair_at, attributes_from, has_code, decl_at, decls_from, placed, TableFails}
 use Rattle.dw_forms.specs.declared.abbrev_fault.BrokenTable.{BrokenTable}
 use Rattle.dw_forms.specs.declared.abbrev_fault.AbbrevFault.{AbbrevFault}
 use Rattle.dw_forms.specs.declared.abbrev_fault.AbbrevFault.TheVariants as table
@@ -44,7 +44,7 @@ attributes_more earlier rest after spec total (zero, lt, same) e shorter = absur
 attributes_more earlier rest after spec total (suc bound, lt, same) e shorter = (bound, omega arith, sym (rw e refl) ∙ same)
 
 pub attributes_fail : (error : DeclError) (earlier : List AttributeSpec) (rest : List ℕ) (total : Result (List AttributeSpec × List ℕ) DeclFault)
-    → AttributesGoOn earlier rest total → Fails error (pair_at earlier rest) → Fails error total
+    → AttributesGoOn earlier rest total → FailsOrMemory error (pair_at earlier rest) → FailsOrMemory error total
 unfolding attributes_from
 attributes_fail errors.Memory earlier rest total go h = tt
 attributes_fail (errors.Fault f) earlier rest total (zero, lt, same) h = absurd (omega arith)

@@ -16,7 +16,7 @@ use Rattle.dw_forms.specs.Leb.{Uleb, Sleb, UlebFails, SlebFails}
 use Rattle.dw_forms.specs.LebReading.{uleb_at, sleb_at}
 use Rattle.dw_forms.specs.AbbrevFaults.{fault_of}
 use Rattle.dw_forms.specs.Abbrev.{SpellsPair, SpellsConstant, SpellsAttribute, IsCode16, broken, NumberFails, ConstantFails, IsBadPair, PairFails, attribute_number, form_number, bad_pair, unknown_form, attribute_twice, constant_number}
-use Rattle.dw_forms.specs.AbbrevReading.{on_option, with_rest, number_at, signed_at, form_at, has_attribute, new_form_of, pair_at}
+use Rattle.dw_forms.specs.AbbrevReading.{on_option, with_rest, unsigned_at, signed_at, form_at, has_attribute, new_form_of, pair_at}
 use Rattle.dw_forms.specs.Says.{bind_says, cond_says}
 use Rattle.dw_forms.specs.Readers.{IsReader}
 use Rattle.dw_forms.proofs.Keys.{Lacks, lacks_from, lacks_test, any_from}
@@ -31,7 +31,7 @@ with_rest_says : {V : Type 0} (Spells : List ℕ → V → Type 0) (Fails : List
 with_rest_says Spells Fails bytes (Ok r) h = record { text = take r.1 bytes; parts = sym (take-append-drop r.1 bytes); spelled = h.spelled }
 with_rest_says Spells Fails bytes (Err g) h = (g, h, refl)
 
-pub number_reader : IsReader number_at Uleb NumberFails
+pub number_reader : IsReader unsigned_at Uleb NumberFails
 number_reader = record {
   says = λ bytes. with_rest_says Uleb UlebFails bytes (uleb_at bytes) (uleb_says bytes);
   again = λ text rest n u. rw (uleb_again (text ++ rest) text rest n refl u, drop_at text rest (length text) refl) refl;
@@ -171,9 +171,9 @@ module _ (earlier : List AttributeSpec) (bytes : List ℕ) (a c : ℕ) (rest : L
 pub pair_says : (earlier : List AttributeSpec) (bytes : List ℕ) → MatchResult (pair_at earlier bytes) (λ (x : Option AttributeSpec × List ℕ). Takes (NextAttribute earlier) bytes x.0 x.1) (PairFails earlier bytes)
 unfolding pair_at Next
 pair_says earlier bytes =
-    bind_says (number_at bytes) (λ a. number_at a.1 >>= λ c. after_numbers earlier a.0 c.0 c.1) (λ (x : ℕ × List ℕ). Takes Uleb bytes x.0 x.1) (NumberFails bytes) (λ (x : Option AttributeSpec × List ℕ). Takes (NextAttribute earlier) bytes x.0 x.1) (PairFails earlier bytes)
+    bind_says (unsigned_at bytes) (λ a. unsigned_at a.1 >>= λ c. after_numbers earlier a.0 c.0 c.1) (λ (x : ℕ × List ℕ). Takes Uleb bytes x.0 x.1) (NumberFails bytes) (λ (x : Option AttributeSpec × List ℕ). Takes (NextAttribute earlier) bytes x.0 x.1) (PairFails earlier bytes)
     (number_reader.says bytes)
-    (λ a t. bind_says (number_at a.1) (λ c. after_numbers earlier a.0 c.0 c.1) (λ (x : ℕ × List ℕ). Takes Uleb a.1 x.0 x.1) (NumberFails a.1) (λ (x : Option AttributeSpec × List ℕ). Takes (NextAttribute earlier) bytes x.0 x.1) (PairFails earlier bytes)
+    (λ a t. bind_says (unsigned_at a.1) (λ c. after_numbers earlier a.0 c.0 c.1) (λ (x : ℕ × List ℕ). Takes Uleb a.1 x.0 x.1) (NumberFails a.1) (λ (x : Option AttributeSpec × List ℕ). Takes (NextAttribute earlier) bytes x.0 x.1) (PairFails earlier bytes)
     (number_reader.says a.1)
     (λ c u. after_numbers_says earlier bytes a.0 c.0 c.1 (pair_takes bytes a.0 c.0 a.1 c.1 t u))
     (λ fault h. form_number a.0 a.1 t h))
@@ -187,8 +187,8 @@ module _ (earlier : List AttributeSpec) (rest : List ℕ) where
   unfolding pair_at
   numbers_again text after a c p =
       let parts : text ++ after ≡ p.first ++ (p.second ++ after) = ap (λ (t : List ℕ). t ++ after) p.parts ∙ append_assoc p.first p.second after in
-      let first : number_at (text ++ after) ≡ Ok (a, p.second ++ after) = ap number_at parts ∙ number_reader.again p.first (p.second ++ after) a p.is_first in
-      let second : number_at (p.second ++ after) ≡ Ok (c, after) = number_reader.again p.second after c p.is_second in
+      let first : unsigned_at (text ++ after) ≡ Ok (a, p.second ++ after) = ap unsigned_at parts ∙ number_reader.again p.first (p.second ++ after) a p.is_first in
+      let second : unsigned_at (p.second ++ after) ≡ Ok (c, after) = number_reader.again p.second after c p.is_second in
       rw (first, second) refl
 
   pub end_again : (text : List ℕ) → SpellsPair text (0, 0) → pair_at earlier (text ++ rest) ≡ Ok (None, rest)

@@ -9,7 +9,7 @@ use Rattle.dw_forms.specs.Steps.{◌>>=◌}
 use Rattle.dw_forms.specs.Front.{Takes}
 use Rattle.dw_forms.specs.Leb.{Uleb}
 use Rattle.dw_forms.specs.Abbrev.{Declaration, SpellsPair, SpellsDecl, children_byte, IsCode16, IsDeclaration, IsNewCode, broken, NumberFails, AttributesFail, DeclFails, code_number, code_twice, tag_number, bad_tag, children_cut, bad_children, attributes_fail}
-use Rattle.dw_forms.specs.AbbrevReading.{number_at, children_at, attributes_of, has_code, decl_at}
+use Rattle.dw_forms.specs.AbbrevReading.{unsigned_at, children_at, attributes_of, has_code, decl_at}
 use Rattle.dw_forms.specs.Says.{bind_says, cond_says}
 use Rattle.dw_forms.proofs.Keys.{Lacks, lacks_from, lacks_test, any_from}
 use Rattle.dw_forms.proofs.AttributeLaws.{number_reader, pair_takes}
@@ -67,7 +67,7 @@ after_tag code tag bytes =
 
 abbrev after_code : List Declaration → ℕ → List ℕ → Result (Option Declaration × List ℕ) DeclFault
 after_code earlier code bytes =
-    cond (eqb code 0) (Ok (None, bytes)) (cond (has_code code earlier) (Err (broken CodeTwice 0)) (number_at bytes >>= λ tag. after_tag code tag.0 tag.1))
+    cond (eqb code 0) (Ok (None, bytes)) (cond (has_code code earlier) (Err (broken CodeTwice 0)) (unsigned_at bytes >>= λ tag. after_tag code tag.0 tag.1))
 
 module _ (earlier : List Declaration) (bytes : List ℕ) (code tag : ℕ) (behind : List ℕ) (t : Takes SpellsPair bytes (code, tag) behind) (new : IsNewCode earlier code) where
   decl_takes : IsCode16 tag → (children : Bool) (others : List ℕ) → behind ≡ children_byte children ∷ others → (attributes : List AttributeSpec) (rest : List ℕ) → Takes SpellsAll others attributes rest
@@ -109,7 +109,7 @@ after_code_says earlier bytes code rest t =
     cond_says (has_code code earlier) _ _ (Next earlier bytes) (DeclFails earlier bytes)
     (λ twice. code_twice code rest t (omega arith) (any_from code_of_decl code earlier twice) refl)
     (λ once. let new : IsNewCode earlier code = record { some = omega arith; new = lacks_from code_of_decl code earlier once } in
-    bind_says (number_at rest) (λ tag. after_tag code tag.0 tag.1) (λ (x : ℕ × List ℕ). Takes Uleb rest x.0 x.1) (NumberFails rest) (Next earlier bytes) (DeclFails earlier bytes)
+    bind_says (unsigned_at rest) (λ tag. after_tag code tag.0 tag.1) (λ (x : ℕ × List ℕ). Takes Uleb rest x.0 x.1) (NumberFails rest) (Next earlier bytes) (DeclFails earlier bytes)
     (number_reader.says rest)
     (λ tag u. after_tag_says earlier bytes code tag.0 tag.1 (pair_takes bytes code tag.0 rest tag.1 t u) new)
     (λ fault h. tag_number code rest t new h)))
@@ -117,7 +117,7 @@ after_code_says earlier bytes code rest t =
 pub decl_says : (earlier : List Declaration) (bytes : List ℕ) → MatchResult (decl_at earlier bytes) (λ (x : Option Declaration × List ℕ). Takes (NextDecl earlier) bytes x.0 x.1) (DeclFails earlier bytes)
 unfolding decl_at
 decl_says earlier bytes =
-    bind_says (number_at bytes) (λ code. after_code earlier code.0 code.1) (λ (x : ℕ × List ℕ). Takes Uleb bytes x.0 x.1) (NumberFails bytes) (Next earlier bytes) (DeclFails earlier bytes)
+    bind_says (unsigned_at bytes) (λ code. after_code earlier code.0 code.1) (λ (x : ℕ × List ℕ). Takes Uleb bytes x.0 x.1) (NumberFails bytes) (Next earlier bytes) (DeclFails earlier bytes)
     (number_reader.says bytes) (λ code t. after_code_says earlier bytes code.0 code.1 t) (λ fault h. code_number h)
 
 -- ---- what is spelled is read
@@ -133,8 +133,8 @@ module _ (earlier : List Declaration) (rest : List ℕ) where
       let behind = children_byte d.has_children ∷ (p.attributes ++ rest) in
       let parts : text ++ rest ≡ p.is_pair.first ++ (p.is_pair.second ++ behind) =
       ap (λ (t : List ℕ). t ++ rest) p.parts ∙ append_assoc p.pair (children_byte d.has_children ∷ p.attributes) rest ∙ ap (λ (t : List ℕ). t ++ behind) p.is_pair.parts ∙ append_assoc p.is_pair.first p.is_pair.second behind in
-      let first : number_at (text ++ rest) ≡ Ok (d.code, p.is_pair.second ++ behind) = ap number_at parts ∙ number_reader.again p.is_pair.first (p.is_pair.second ++ behind) d.code p.is_pair.is_first in
-      let second : number_at (p.is_pair.second ++ behind) ≡ Ok (d.tag, behind) = number_reader.again p.is_pair.second behind d.tag p.is_pair.is_second in
+      let first : unsigned_at (text ++ rest) ≡ Ok (d.code, p.is_pair.second ++ behind) = ap unsigned_at parts ∙ number_reader.again p.is_pair.first (p.is_pair.second ++ behind) d.code p.is_pair.is_first in
+      let second : unsigned_at (p.is_pair.second ++ behind) ≡ Ok (d.tag, behind) = number_reader.again p.is_pair.second behind d.tag p.is_pair.is_second in
       let code_some : eqb d.code 0 ≡ false = ne_eqb d.code 0 (λ same. let h = good.code in absurd (omega arith)) in
       let tag_some : eqb d.tag 0 ≡ false = ne_eqb d.tag 0 (λ same. let h = good.tag.some in absurd (omega arith)) in
       let tag_small : ltb 65535 d.tag ≡ false = le-ltb 65535 d.tag good.tag.small in

@@ -14,7 +14,7 @@ use Rattle.dw_forms.specs.FormCodes.{code_of, form_of}
 use Rattle.dw_forms.specs.Leb.{Uleb, unsigned_value, signed_value, IsI64, UlebFails, SlebFails, IsCut, IsUnending, HasValueOutside}
 use Rattle.dw_forms.specs.LebReading.{spelling_from, spelling_at, uleb_at, sleb_at, fits_i64}
 use Rattle.dw_forms.specs.Value.{Layout, layout_of, fixed, leb, signed_leb, counted, leb_counted, ended, exactly, nothing, named, may_be_named, MayBeNamed, Fixed, IsTooShort, LebFails, SignedFails, PlainFails, NamedFails, FailsIn, ValFails}
-use Rattle.dw_forms.specs.ValueReading.{fixed_at, uleb_then, sleb_then, block_at, counted_at, leb_counted_at, text_at, layout_at, named_at, value_at}
+use Rattle.dw_forms.specs.ValueReading.{fixed_at, uleb_then, sleb_then, block_at, counted_at, leb_counted_at, ended_at, layout_at, named_at, value_at}
 use Rattle.dw_forms.specs.Readers.{IsReader}
 use Rattle.dw_forms.specs.SpellingLaws.{whole_of, whole_again}
 use Rattle.dw_forms.specs.LebLaws.{fits_is}
@@ -100,8 +100,8 @@ unfolding leb_counted_at
 leb_counted_refuses bytes f (inl h) = rw (leb_refuses bytes f h) refl
 leb_counted_refuses bytes f (inr h) = rw (reads_on uleb_then Uleb LebFails uleb_reader bytes h.0 h.1 h.2) (block_refuses h.0 h.1 f h.3)
 
-text_refuses : (bytes : List ℕ) → All (λ byte. 0 < byte) bytes → text_at bytes ≡ Err Cut
-unfolding text_at
+text_refuses : (bytes : List ℕ) → All (λ byte. 0 < byte) bytes → ended_at bytes ≡ Err Cut
+unfolding ended_at
 text_refuses [] h = refl
 text_refuses (zero ∷ bytes) h = absurd (omega (arith, All-head (λ b. 0 < b) zero bytes h))
 text_refuses (suc b ∷ bytes) h = rw (text_refuses bytes (All-tail (λ b. 0 < b) (suc b) bytes h)) refl

@@ -16,7 +16,7 @@ use Rattle.dw_forms.specs.AbbrevFaults.{fault_at}
 use Rattle.dw_forms.specs.FormCodes.{code_of, form_of}
 use Rattle.dw_forms.specs.Leb.{Uleb}
 use Rattle.dw_forms.specs.Abbrev.{Declaration, SpellsPair, SpellsFront, SpellsDecls, IsCode16, IsNewCode, AreAttributes, AreDeclarations, broken, NumberFails, ConstantFails, IsBadPair, PairFails, attribute_number, form_number, bad_pair, unknown_form, attribute_twice, constant_number, AttributesFail, Decls, DeclFails, code_number, code_twice, tag_number, bad_tag, children_cut, bad_children, attributes_fail, TableFails}
-use Rattle.dw_forms.specs.AbbrevReading.{number_at, signed_at, children_at, new_form_of, pair_at, attributes_from, attributes_of, has_code, decl_at, decls_from, decls_of, table_at}
+use Rattle.dw_forms.specs.AbbrevReading.{unsigned_at, signed_at, children_at, new_form_of, pair_at, attributes_from, attributes_of, has_code, decl_at, decls_from, decls_of, table_at}
 use Rattle.dw_forms.specs.TableGrammar.{IsTableAt, IsReadByGrammar}
 use Rattle.dw_forms.proofs.Keys.{lacks_test, apart_lacks}
 use Rattle.dw_forms.specs.FormLaws.{FormIs, form_of_says, form_of-code_of, code_some}
@@ -28,14 +28,14 @@ use Rattle.dw_forms.proofs.TableLaws.{decl_some, one_of as one_decl, decls_again
 
 -- ---- numbers
 
-number_refuses : (bytes : List ℕ) (fault : DeclFault) → NumberFails bytes fault → number_at bytes ≡ Err fault
+number_refuses : (bytes : List ℕ) (fault : DeclFault) → NumberFails bytes fault → unsigned_at bytes ≡ Err fault
 number_refuses bytes fault h = rw (uleb_refuses bytes h.0 h.1, h.2) refl
 
 constant_refuses : (bytes : List ℕ) (fault : DeclFault) → ConstantFails bytes fault → signed_at bytes ≡ Err fault
 constant_refuses bytes fault h = rw (sleb_refuses bytes h.0 h.1, h.2) refl
 
-reads : (bytes : List ℕ) (n : ℕ) (rest : List ℕ) → Takes Uleb bytes n rest → number_at bytes ≡ Ok (n, rest)
-reads bytes n rest t = reads_on number_at Uleb NumberFails number_reader bytes n rest t
+reads : (bytes : List ℕ) (n : ℕ) (rest : List ℕ) → Takes Uleb bytes n rest → unsigned_at bytes ≡ Ok (n, rest)
+reads bytes n rest t = reads_on unsigned_at Uleb NumberFails number_reader bytes n rest t
 
 -- ---- a pair
 
@@ -146,8 +146,8 @@ module _ (earlier : List Declaration) (bytes : List ℕ) where
   decl_on code tag behind t new =
       let p = t.spelled in
       let parts : bytes ≡ p.first ++ (p.second ++ behind) = t.parts ∙ ap (λ (x : List ℕ). x ++ behind) p.parts ∙ append_assoc p.first p.second behind in
-      let first : number_at bytes ≡ Ok (code, p.second ++ behind) = ap number_at parts ∙ number_reader.again p.first (p.second ++ behind) code p.is_first in
-      let second : number_at (p.second ++ behind) ≡ Ok (tag, behind) = number_reader.again p.second behind tag p.is_second in
+      let first : unsigned_at bytes ≡ Ok (code, p.second ++ behind) = ap unsigned_at parts ∙ number_reader.again p.first (p.second ++ behind) code p.is_first in
+      let second : unsigned_at (p.second ++ behind) ≡ Ok (tag, behind) = number_reader.again p.second behind tag p.is_second in
       rw (first, code_ne code new.some, new_test code new, second) refl
 
   decl_refuses : (fault : DeclFault) → DeclFails earlier bytes fault → decl_at earlier bytes ≡ Err fault

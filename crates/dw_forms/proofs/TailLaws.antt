@@ -12,7 +12,7 @@ use Rattle.dw_forms.specs.declared.abbrev_fault.AbbrevFault.TheVariants as table
 use Rattle.dw_forms.specs.AbbrevFaults.{fault_at, IfTableFault}
 use Rattle.dw_forms.specs.Front.{Takes}
 use Rattle.dw_forms.specs.Abbrev.{Declaration, view, SpellsTable, IsDeclaration, AreDeclarations, DeclFails, Decls, TableFails}
-use Rattle.dw_forms.specs.AbbrevReading.{Fails, decl_at, decls_of, decls_from, table_at, TableFails as ReadingFails}
+use Rattle.dw_forms.specs.AbbrevReading.{FailsOrMemory, decl_at, decls_of, decls_from, table_at, TableFails as ReadingFails}
 use Rattle.dw_forms.specs.Readers.{read_is, not_both}
 use Rattle.dw_forms.specs.TableStarts.{NoTable, AreBehind, IfBroken}
 use Rattle.dw_forms.proofs.Keys.{Apart, Lacks}
@@ -161,7 +161,7 @@ module _ (section : List ℕ) where
   none_behind [] offset end here none = subst (NoTable section) (sym here) none
   none_behind (x ∷ xs) offset end p none = none_before offset p.1 (view x.decl) p.2 (none_behind xs p.1 end p.3 none)
 
-  pub front_fails : (error : DeclError) (xs : List Started) (offset end : ℕ) → AreBehind section xs offset end → Fails error (decl_at [] (drop end section))
+  pub front_fails : (error : DeclError) (xs : List Started) (offset end : ℕ) → AreBehind section xs offset end → FailsOrMemory error (decl_at [] (drop end section))
       → IfBroken (NoTable section offset) error
   front_fails errors.Memory xs offset end behind e = tt
   front_fails (errors.Fault fault) xs offset end behind e = none_behind xs offset end behind (table_broken end fault e)

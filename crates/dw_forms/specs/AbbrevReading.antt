@@ -21,14 +21,14 @@ use Rattle.dw_forms.specs.LebReading.{uleb_at, sleb_at}
 use Rattle.dw_forms.specs.AbbrevFaults.{fault_of, fault_at}
 
 -- what a function failed with is the fault that reading gives, unless memory ran out
-abbrev pub Fails : {Y : Type 0} → DeclError → Result Y DeclFault → Type 0
-Fails errors.Memory read = Unit {0}
-Fails (errors.Fault f) read = read ≡ Err f
+abbrev pub FailsOrMemory : {Y : Type 0} → DeclError → Result Y DeclFault → Type 0
+FailsOrMemory errors.Memory read = Unit {0}
+FailsOrMemory (errors.Fault f) read = read ≡ Err f
 
 -- what a function returned, seen by view, is what reading gives, unless memory ran out
-abbrev pub Gives : {X Y : Type 0} → (X → Y) → Result X DeclError → Result Y DeclFault → Type 0
-Gives view (Ok x) read = read ≡ Ok (view x)
-Gives view (Err e) read = Fails e read
+abbrev pub GivesOrMemory : {X Y : Type 0} → (X → Y) → Result X DeclError → Result Y DeclFault → Type 0
+GivesOrMemory view (Ok x) read = read ≡ Ok (view x)
+GivesOrMemory view (Err e) read = FailsOrMemory e read
 
 -- a number and the bytes after it
 abbrev pub with_rest : {V : Type 0} → List ℕ → Result (V × ℕ) NumberFault → Result (V × List ℕ) DeclFault
@@ -36,8 +36,8 @@ with_rest bytes (Ok r) = Ok (r.0, drop r.1 bytes)
 with_rest bytes (Err f) = Err (fault_of f)
 
 -- an unsigned number
-abbrev pub number_at : List ℕ → Result (ℕ × List ℕ) DeclFault
-number_at bytes = with_rest bytes (uleb_at bytes)
+abbrev pub unsigned_at : List ℕ → Result (ℕ × List ℕ) DeclFault
+unsigned_at bytes = with_rest bytes (uleb_at bytes)
 
 -- a signed number
 abbrev pub signed_at : List ℕ → Result (ℤ × List ℕ) DeclFault
@@ -68,8 +68,8 @@ new_form_of earlier attribute code =
 -- the next pair after the earlier ones of its declaration, or none at the pair 0, 0
 unfoldable pub pair_at : List AttributeSpec → List ℕ → Result (Option AttributeSpec × List ℕ) DeclFault
 pair_at earlier bytes = do
-  a ← number_at bytes
-  f ← number_at a.1
+  a ← unsigned_at bytes
+  f ← unsigned_at a.1
   if a.0 == 0 && f.0 == 0 then Ok (None, f.1) else (
       if a.0 == 0 || f.0 == 0 || nat_lt 65535 a.0 then Err (record { rule = BadPair; attribute = 0 }) else (
       new_form_of earlier a.0 f.0 >>= λ form.
@@ -101,10 +101,10 @@ has_code code decls = list_any (λ d. d.code == code) decls
 -- the next declaration after the earlier ones of its table, or none at the code 0
 unfoldable pub decl_at : List Declaration → List ℕ → Result (Option Declaration × List ℕ) DeclFault
 decl_at earlier bytes = do
-  code ← number_at bytes
+  code ← unsigned_at bytes
   if code.0 == 0 then Ok (None, code.1) else (
       if has_code code.0 earlier then Err (record { rule = CodeTwice; attribute = 0 }) else (
-      number_at code.1 >>= λ tag.
+      unsigned_at code.1 >>= λ tag.
       if tag.0 == 0 || nat_lt 65535 tag.0 then Err (record { rule = BadTag; attribute = 0 }) else (
       children_at tag.1 >>= λ children.
       attributes_of children.1 >>= λ attributes.

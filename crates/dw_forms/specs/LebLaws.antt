@@ -20,9 +20,9 @@ use Rattle.dw_forms.specs.SpellingLaws.{IsWhole, WholeFails, whole_of, whole_say
 -- ---- what the readers share
 
 -- why there is no number
-abbrev Fails : (List ℕ → Type 0) → List ℕ → NumberFault → Type 0
-Fails Fits bytes Cut = IsCut bytes
-Fails Fits bytes BadNumber = IsUnending bytes ⊎ HasValueOutside Fits bytes
+abbrev NoValue : (List ℕ → Type 0) → List ℕ → NumberFault → Type 0
+NoValue Fits bytes Cut = IsCut bytes
+NoValue Fits bytes BadNumber = IsUnending bytes ⊎ HasValueOutside Fits bytes
 
 -- the number if it fits, or else the fault of one that does not
 abbrev chosen : {A : Type 0} → Bool → A → Result A NumberFault
@@ -30,7 +30,7 @@ chosen b x = cond b (Ok x) (Err BadNumber)
 
 -- what a reader's answer says
 abbrev Says : {V : Type 0} → (List ℕ → V → Type 0) → (List ℕ → Type 0) → List ℕ → Result (V × ℕ) NumberFault → Type 0
-Says {V} Spells Fits bytes r = MatchResult r (λ (x : V × ℕ). BeginsWith Spells bytes x.0 x.1) (Fails Fits bytes)
+Says {V} Spells Fits bytes r = MatchResult r (λ (x : V × ℕ). BeginsWith Spells bytes x.0 x.1) (NoValue Fits bytes)
 
 -- the number that a value and a test make of what was read
 abbrev number_of : {V : Type 0} → (Spelling → V) → (Spelling → Bool) → Result Spelling NumberFault
@@ -85,7 +85,7 @@ module _ {V : Type 0} (Spells : List ℕ → V → Type 0) (value : Spelling →
             outside w.text (ap fits (sym w.is) ∙ e);
       })
 
-  from_fault : (bytes : List ℕ) (f : NumberFault) → WholeFails bytes f → Fails Fits bytes f
+  from_fault : (bytes : List ℕ) (f : NumberFault) → WholeFails bytes f → NoValue Fits bytes f
   from_fault bytes Cut h = h
   from_fault bytes BadNumber h = inl h
 
@@ -115,7 +115,7 @@ uleb_parts text n u = (u.ended, u.short, lt-ltb _ _ (rw (← u.value) u.fits), s
 uleb_outside : (text : List ℕ) → ltb (sum_from 0 text) (2 ^ 64) ≡ false → sum_from 0 text < 2 ^ 64 → ⊥
 uleb_outside text e lt = let ge = ltb-false (sum_from 0 text) (2 ^ 64) e in omega arith
 
-uleb_fails : (bytes : List ℕ) (f : NumberFault) → Fails (λ text. unsigned_value text < 2 ^ 64) bytes f
+uleb_fails : (bytes : List ℕ) (f : NumberFault) → NoValue (λ text. unsigned_value text < 2 ^ 64) bytes f
     → UlebFails bytes f
 uleb_fails bytes Cut h = h
 uleb_fails bytes BadNumber h = h
@@ -163,7 +163,8 @@ sleb_parts text n u = (u.ended, u.short, is_fits (signed_value text) (subst IsI6
 sleb_outside : (text : List ℕ) → fits_i64 (signed_value text) ≡ false → IsI64 (signed_value text) → ⊥
 sleb_outside text e i = let t = is_fits (signed_value text) i in false≢true (sym e ∙ t)
 
-sleb_fails : (bytes : List ℕ) (f : NumberFault) → Fails (λ text. IsI64 (signed_value text)) bytes f → SlebFails bytes f
+sleb_fails : (bytes : List ℕ) (f : NumberFault) → NoValue (λ text. IsI64 (signed_value text)) bytes f
+    → SlebFails bytes f
 sleb_fails bytes Cut h = h
 sleb_fails bytes BadNumber h = h
 

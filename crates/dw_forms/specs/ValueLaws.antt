@@ -24,7 +24,7 @@ use Rattle.dw_forms.specs.Value.{nothing, named, may_be_named, Fixed, Makes, Cou
 use Rattle.dw_forms.specs.Value.{SpellsPlain, Val, MayBeNamed, IsTooShort, LebFails, SignedFails, PlainFails, FailsIn}
 use Rattle.dw_forms.specs.Value.{ValFails}
 use Rattle.dw_forms.specs.ValueReading.{fixed_at, with_rest, uleb_then, sleb_then, block_at, counted_at, leb_counted_at}
-use Rattle.dw_forms.specs.ValueReading.{text_at, layout_at, plain_at, named_at, value_at}
+use Rattle.dw_forms.specs.ValueReading.{ended_at, layout_at, plain_at, named_at, value_at}
 use Rattle.dw_forms.specs.Readers.{IsReader, reader_fails, reader_none, reader_begins}
 use Rattle.dw_forms.specs.Says.{bind_says, cond_says}
 use Rattle.dw_forms.specs.FormLaws.{bare, form_of-code_of, FormIs, form_of_says}
@@ -167,29 +167,29 @@ TextFails : List ℕ → ValueFault → Type 0
 TextFails bytes f = All (λ byte. 0 < byte) bytes × (f ≡ Cut)
 
 text_says : (bytes : List ℕ)
-    → MatchResult (text_at bytes) (λ (x : List ℕ × List ℕ). Takes Ended bytes x.0 x.1) (TextFails bytes)
-unfolding text_at TextFails
+    → MatchResult (ended_at bytes) (λ (x : List ℕ × List ℕ). Takes Ended bytes x.0 x.1) (TextFails bytes)
+unfolding ended_at TextFails
 text_says [] = (All-nil (λ b. 0 < b), refl)
 text_says (zero ∷ bytes) =
     record { text = 0 ∷ []; parts = refl; spelled = record { parts = refl; none_before = All-nil (λ b. 0 < b) } }
 text_says (suc b ∷ bytes) =
-    bind_says (text_at bytes) (λ t. Ok (suc b ∷ t.0, t.1))
+    bind_says (ended_at bytes) (λ t. Ok (suc b ∷ t.0, t.1))
     (λ (x : List ℕ × List ℕ). Takes Ended bytes x.0 x.1) (TextFails bytes)
     (λ (x : List ℕ × List ℕ). Takes Ended (suc b ∷ bytes) x.0 x.1) (TextFails (suc b ∷ bytes))
     (text_says bytes) (λ t h. text_takes b bytes t.0 t.1 h)
     (λ f h. (All-cons (λ c. 0 < c) (suc b) bytes (omega arith) h.0, h.1))
 
-ended_again : (content rest : List ℕ) → All (λ b. 0 < b) content → text_at (content ++ (0 ∷ rest)) ≡ Ok (content, rest)
-unfolding text_at
+ended_again : (content rest : List ℕ) → All (λ b. 0 < b) content → ended_at (content ++ (0 ∷ rest)) ≡ Ok (content, rest)
+unfolding ended_at
 ended_again [] rest h = refl
 ended_again (zero ∷ content) rest h = absurd (omega (arith, All-head (λ b. 0 < b) zero content h))
 ended_again (suc b ∷ content) rest h = rw (ended_again content rest (All-tail (λ b. 0 < b) (suc b) content h)) refl
 
-text_reader : IsReader text_at Ended TextFails
+text_reader : IsReader ended_at Ended TextFails
 text_reader = record {
   says = text_says;
-  again = λ text rest content e. ap (λ (t : List ℕ). text_at (t ++ rest)) e.parts
-      ∙ ap text_at (append_assoc content (0 ∷ []) rest) ∙ ended_again content rest e.none_before;
+  again = λ text rest content e. ap (λ (t : List ℕ). ended_at (t ++ rest)) e.parts
+      ∙ ap ended_at (append_assoc content (0 ∷ []) rest) ∙ ended_again content rest e.none_before;
 }
 
 -- ---- a value of what was read
@@ -217,7 +217,7 @@ plain_reader (counted size of) = made_reader (Counted (Fixed size)) (CountFails 
 plain_reader (leb_counted of) =
     made_reader (Counted Uleb) (CountFails Uleb LebFails)
     (λ bytes. uleb_then bytes >>= λ n. block_at n.0 n.1) of (counted_reader Uleb LebFails uleb_then uleb_reader)
-plain_reader (ended of) = made_reader Ended TextFails text_at of text_reader
+plain_reader (ended of) = made_reader Ended TextFails ended_at of text_reader
 plain_reader (exactly size of) = made_reader (Exactly size) (IsTooShort size) (block_at size) of (block_reader size)
 plain_reader (nothing datum) = record {
   says = λ bytes. record { text = []; parts = refl; spelled = (refl, refl) };

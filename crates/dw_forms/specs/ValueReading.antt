@@ -16,7 +16,7 @@ use Rattle.dw_forms.specs.Value.{exactly, nothing, named, may_be_named}
 use Rattle.dw_forms.specs.ValueFaults.{fault_of}
 
 -- what a function returned, seen by view, is what reading gives
-abbrev pub Gives : {X Y : Type 0} → (X → Y) → Result X ValueFault → Result Y ValueFault → Type 0
+abbrev pub Gives : {X Y E : Type 0} → (X → Y) → Result X E → Result Y E → Type 0
 Gives view (Ok x) read = read ≡ Ok (view x)
 Gives view (Err e) read = read ≡ Err e
 
@@ -55,11 +55,11 @@ leb_counted_at bytes = do
   block_at n.0 n.1
 
 -- the bytes before a zero byte, behind those that are read
-unfoldable pub text_at : List ℕ → Result (List ℕ × List ℕ) ValueFault
-text_at [] = Err Cut
-text_at (zero ∷ bytes) = Ok ([], bytes)
-text_at (suc byte ∷ bytes) = do
-  t ← text_at bytes
+unfoldable pub ended_at : List ℕ → Result (List ℕ × List ℕ) ValueFault
+ended_at [] = Err Cut
+ended_at (zero ∷ bytes) = Ok ([], bytes)
+ended_at (suc byte ∷ bytes) = do
+  t ← ended_at bytes
   Ok (suc byte ∷ t.0, t.1)
 
 -- the value in a layout, and the bytes after it
@@ -80,7 +80,7 @@ layout_at (leb_counted of) bytes = do
   b ← leb_counted_at bytes
   Ok (of b.0, b.1)
 layout_at (ended of) bytes = do
-  t ← text_at bytes
+  t ← ended_at bytes
   Ok (of t.0, t.1)
 layout_at (exactly size of) bytes = do
   b ← block_at size bytes

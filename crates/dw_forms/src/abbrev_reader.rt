@@ -6,7 +6,8 @@ ghost use Rattle.dw_forms.specs.Front.{BeginsWith, BeginsWithNone};
 ghost use Rattle.dw_forms.specs.AbbrevFaults.{IfFault};
 ghost use Rattle.dw_forms.specs.Abbrev.{view, Decls, TableFails};
 ghost use Rattle.dw_forms.specs.Marks.{AreMarks};
-ghost use Rattle.dw_forms.specs.AbbrevReading.{Gives, has_attribute, has_code, number_at, signed_at, new_form_of};
+ghost use Rattle.dw_forms.specs.AbbrevReading.{GivesOrMemory, has_attribute, has_code, unsigned_at, signed_at};
+ghost use Rattle.dw_forms.specs.AbbrevReading.{new_form_of};
 ghost use Rattle.dw_forms.specs.AbbrevReading.{form_at, pair_at, attributes_of, children_at, decl_at, TableGives};
 ghost use Rattle.dw_forms.specs.AbbrevReading.{placed, table_at};
 
@@ -20,7 +21,7 @@ use std::alloc::Global;
 
 /// An unsigned number, and the bytes after it.
 fn unsigned(bytes: &[u8]) -> Result<(u64, &[u8]), DeclError>
-    ensures exact { Gives (λ x. (x.0, x.1.now)) result (number_at bytes.now) }
+    ensures exact { GivesOrMemory (λ x. (x.0, x.1.now)) result (unsigned_at bytes.now) }
     ensures shorter { IfOk result (λ x. length x.1.now < length bytes.now) }
 {
     let (number, len) = read_uleb(bytes)?;
@@ -29,7 +30,7 @@ fn unsigned(bytes: &[u8]) -> Result<(u64, &[u8]), DeclError>
 
 /// A signed number, and the bytes after it.
 fn signed(bytes: &[u8]) -> Result<(i64, &[u8]), DeclError>
-    ensures exact { Gives (λ x. (x.0, x.1.now)) result (signed_at bytes.now) }
+    ensures exact { GivesOrMemory (λ x. (x.0, x.1.now)) result (signed_at bytes.now) }
     ensures shorter { IfOk result (λ x. length x.1.now < length bytes.now) }
 {
     let (number, len) = read_sleb(bytes)?;
@@ -44,7 +45,7 @@ fn fault(rule: AbbrevRule, attribute: u16) -> DeclError
 
 /// The form, with the number that stands after an implicit constant.
 fn form_with_number(form: Form, bytes: &[u8]) -> Result<(Form, &[u8]), DeclError>
-    ensures exact { Gives (λ x. (x.0, x.1.now)) result (form_at form bytes.now) }
+    ensures exact { GivesOrMemory (λ x. (x.0, x.1.now)) result (form_at form bytes.now) }
     ensures within { IfOk result (λ x. length x.1.now ≤ length bytes.now) }
 {
     match form {
@@ -101,7 +102,7 @@ fn new_form(
     code: u64,
 ) -> Result<Form, DeclError>
     requires { AreMarks earlier.now marks.now }
-    ensures { Gives (λ form. form) result (new_form_of earlier.now attribute code) }
+    ensures { GivesOrMemory (λ form. form) result (new_form_of earlier.now attribute code) }
 {
     let Some(form) = Form::from_code(code) else {
         return Err(fault(AbbrevRule::UnknownForm, attribute));
@@ -120,7 +121,7 @@ fn next_attribute<'a>(
     bytes: &'a [u8],
 ) -> Result<(Option<AttributeSpec>, &'a [u8]), DeclError>
     requires { AreMarks earlier.now marks.now }
-    ensures exact { Gives (λ x. (x.0, x.1.now)) result (pair_at earlier.now bytes.now) }
+    ensures exact { GivesOrMemory (λ x. (x.0, x.1.now)) result (pair_at earlier.now bytes.now) }
     ensures shorter { IfOk result (λ x. length x.1.now < length bytes.now) }
 {
     let (attribute, rest) = unsigned(bytes)?;
@@ -149,7 +150,7 @@ fn read_attributes<'a>(
 ) -> Result<(Vec<AttributeSpec>, &'a [u8]), DeclError>
     requires { AreMarks [] marks.old }
     ensures unmarked { OnOk result (AreMarks [] marks.new) }
-    ensures exact { Gives (λ x. (x.0.items, x.1.now)) result (attributes_of bytes.now) }
+    ensures exact { GivesOrMemory (λ x. (x.0.items, x.1.now)) result (attributes_of bytes.now) }
     ensures few { IfOk result (λ x. length x.0.items ≤ 0x10000) }
     ensures shorter { IfOk result (λ x. length x.1.now < length bytes.now) }
 {
@@ -172,7 +173,7 @@ fn read_attributes<'a>(
 
 /// The byte that says whether entries have children, and the bytes after it.
 fn read_children(bytes: &[u8]) -> Result<(bool, &[u8]), DeclError>
-    ensures exact { Gives (λ x. (x.0, x.1.now)) result (children_at bytes.now) }
+    ensures exact { GivesOrMemory (λ x. (x.0, x.1.now)) result (children_at bytes.now) }
     ensures shorter { IfOk result (λ x. length x.1.now < length bytes.now) }
 {
     match bytes {
@@ -193,7 +194,7 @@ pub(crate) fn next_decl<'a>(
 ) -> Result<(Option<Decl>, &'a [u8]), DeclError>
     requires { AreMarks [] marks.old }
     ensures unmarked { OnOk result (AreMarks [] marks.new) }
-    ensures exact { Gives (λ x. (option_map view x.0, x.1.now)) result (decl_at earlier.now bytes.now) }
+    ensures exact { GivesOrMemory (λ x. (option_map view x.0, x.1.now)) result (decl_at earlier.now bytes.now) }
     ensures new { IfOk result (λ x. IfSome x.0 (λ d. has_code d.code earlier.now ≡ false)) }
     ensures shorter { IfOk result (λ x. length x.1.now < length bytes.now) }
 {

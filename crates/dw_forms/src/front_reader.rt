@@ -5,7 +5,7 @@ ghost use Rattle.std.specs.Ordering.{nat_cmp};
 ghost use Rattle.std.specs.BTreeMap.{get};
 ghost use Rattle.dw_forms.specs.Abbrev.{view};
 ghost use Rattle.dw_forms.specs.Marks.{AreMarks};
-ghost use Rattle.dw_forms.specs.AbbrevReading.{Gives, decl_at};
+ghost use Rattle.dw_forms.specs.AbbrevReading.{GivesOrMemory, decl_at};
 ghost use Rattle.dw_forms.specs.TableStarts.{NoTable, AreBehind, GoesOn, IfBroken};
 
 use crate::abbrev::AbbrevTable;
@@ -41,7 +41,7 @@ fn next_at(
     requires offset { offset ≤ length section.now }
     requires marks { AreMarks [] marks.old }
     ensures unmarked { OnOk result (AreMarks [] marks.new) }
-    ensures exact { Gives (λ x. (option_map view x.0, drop x.1 section.now)) result
+    ensures exact { GivesOrMemory (λ x. (option_map view x.0, drop x.1 section.now)) result
         (decl_at [] (drop offset section.now)) }
     ensures behind { IfOk result (λ x. offset < x.1) }
     ensures within { IfOk result (λ x. x.1 ≤ length section.now) }

@@ -5,7 +5,7 @@ ghost use Rattle.dw_forms.specs.Value.{fixed as number_layout, leb, signed_leb, 
 ghost use Rattle.dw_forms.specs.Value.{leb_counted as leb_counted_layout, ended, exactly, address as address_datum};
 ghost use Rattle.dw_forms.specs.Value.{block as block_datum, signed, wide, text as text_datum, expr};
 ghost use Rattle.dw_forms.specs.NumberValues.{number_datum, offset_datum};
-ghost use Rattle.dw_forms.specs.ValueReading.{Gives, GivesIn, fixed_at, block_at, counted_at, leb_counted_at, text_at};
+ghost use Rattle.dw_forms.specs.ValueReading.{Gives, GivesIn, fixed_at, block_at, counted_at, leb_counted_at, ended_at};
 
 use crate::leb::{read_sleb, read_uleb};
 use crate::number::{Number, SectionOffset};
@@ -70,10 +70,10 @@ fn block(bytes: &[u8], len: u64) -> Result<&[u8], ValueFault>
 }
 
 /// The bytes before the first zero byte.
-#[tactic(auto, unfolding(crate::specs::ValueReading::text_at))]
+#[tactic(auto, unfolding(crate::specs::ValueReading::ended_at))]
 pub(crate) fn text(bytes: &[u8]) -> Result<&[u8], ValueFault>
     ensures within { IfOk result (λ text. length text.now + 1 ≤ length bytes.now) }
-    ensures exact { Gives (λ text. (text.now, drop (length text.now + 1) bytes.now)) result (text_at bytes.now) }
+    ensures exact { Gives (λ text. (text.now, drop (length text.now + 1) bytes.now)) result (ended_at bytes.now) }
 {
     let Some(end) = memchr(0, bytes) else {
         return Err(ValueFault::Cut);

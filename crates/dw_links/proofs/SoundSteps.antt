@@ -24,7 +24,7 @@ use Rattle.dw_links.specs.Concerns.{AtHead, Passes}
 use Rattle.dw_links.specs.Kept.{kept_after}
 use Rattle.dw_links.specs.Ready.{AreTexts, FailsByTexts}
 use Rattle.dw_links.specs.References.{permits, permits_form, ReferenceFails}
-use Rattle.dw_links.specs.Sound.{IsPlain, IsLinked, IsSound, LinksNext, first_type}
+use Rattle.dw_links.specs.Sound.{IsPlain, IsSoundValue, IsSound, LinksNext, first_type}
 use Rattle.dw_links.specs.Strings.{StringFails, may_lead as may_lead_to_texts}
 use Rattle.dw_links.specs.Tables.{type_target}
 use Rattle.dw_links.specs.Targets.{reach_in_unit, reach_of}
@@ -76,7 +76,7 @@ nothing_of (Some x) is = absurd cc
 
 -- what is reached, if anything, is linked
 pub linked_in_unit : (texts : UnitTexts) (entries : List Entry) (units : List PlacedUnit) (head : Head) (a offset : ℕ) (v : Datum) (reached : Option (Option ℕ)) → v ≡ ref_unit offset → IsLeast (FailsByTexts texts head a v) None → IfSome reached (λ t. IsSome t)
-    → IfSome reached (λ _. IsLeast (ReferenceFails entries units head a (ref_unit offset)) None) → IfSome reached (λ t. t ≡ reach_of entries units head.unit (ref_unit offset)) → IfSome reached (IsLinked texts entries units head a v)
+    → IfSome reached (λ _. IsLeast (ReferenceFails entries units head a (ref_unit offset)) None) → IfSome reached (λ t. t ≡ reach_of entries units head.unit (ref_unit offset)) → IfSome reached (IsSoundValue texts entries units head a v)
 linked_in_unit texts entries units head a offset v None is strings some none same = tt
 linked_in_unit texts entries units head a offset v (Some t) is strings some none same = record {
   strings = strings;

@@ -28,7 +28,7 @@ abbrev pub IsPlain : ℕ → Type 0
 IsPlain attribute = (attribute ≢ DW_AT_specification) × (attribute ≢ DW_AT_signature) × (attribute ≢ DW_AT_import)
 
 -- no rule fails at a value of an attribute, and it reaches this entry, if any; a type reaches one
-pub record IsLinked (texts : UnitTexts) (entries : List Entry) (units : List PlacedUnit) (head : Head)
+pub record IsSoundValue (texts : UnitTexts) (entries : List Entry) (units : List PlacedUnit) (head : Head)
     (attribute : ℕ) (v : Datum) (reached : Option ℕ) : Type 0 where
   pub strings : IsLeast (FailsByTexts texts head attribute v) None
   pub references : IsLeast (ReferenceFails entries units head attribute v) None
@@ -40,7 +40,7 @@ pub record LinksNext (texts : UnitTexts) (entries : List Entry) (units : List Pl
     (left behind : List (ℕ × Datum)) (linked : ℕ × Option ℕ) : Type 0 where
   pub value : Datum
   pub next : IsNextOf DoesNotLead left (linked.0, value) behind
-  pub is : IsLinked texts entries units head linked.0 value linked.1
+  pub is : IsSoundValue texts entries units head linked.0 value linked.1
 
 -- no rule fails at an entry, and its type reaches this target
 pub record IsSound (sections : Sections) (entries : List Entry) (units : List PlacedUnit) (e : Entry)

@@ -3,8 +3,7 @@
 ghost use Rattle.std.specs.Prelude.{◌≡◌, ◌<◌, length, OnOk, IfErr};
 ghost use Rattle.dw_forms.specs.Value.{view};
 ghost use Rattle.dw_entries.specs.Scanned.{all_units, units_of};
-ghost use Rattle.dw_entries.specs.Stopped.{IsFault};
-ghost use Rattle.dw_entries.specs.Failures.{HasNone, IsFirst};
+ghost use Rattle.dw_entries.specs.Failures.{HasNone, IsFirst, IsPlainFault};
 ghost use Rattle.dw_links.specs.Classes.{class_of, form_class, allows, allows_in, ClassFailures};
 
 use crate::rules::{AttributeRules, check_entries, concerns_entries, fault_of};
@@ -179,7 +178,7 @@ impl AttributeRules for Classes<'_, '_> {
 /// Nothing grows, so there is no want of memory.
 pub fn check_classes(alloc: Global, entries: &Entries<'_>) -> Result<(), Fault>
     ensures ok { OnOk result (HasNone (ClassFailures (units_of entries.now.scanned))) }
-    ensures fault { IfErr result (IsFault (IsFirst (ClassFailures (units_of entries.now.scanned)))) }
+    ensures fault { IfErr result (IsPlainFault (IsFirst (ClassFailures (units_of entries.now.scanned)))) }
 {
     let rules = Classes { entries };
     if !concerns_entries(&rules, entries) {

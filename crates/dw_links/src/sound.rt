@@ -14,7 +14,7 @@ ghost use Rattle.dw_links.specs.DeclaredEntries.{KeepsDeclared};
 ghost use Rattle.dw_links.specs.Linkable.{IsLinkable, MayAsk};
 ghost use Rattle.dw_links.specs.Ready.{AreEnds, IsReady};
 ghost use Rattle.dw_links.specs.References.{ReferenceFails, AttributeFailures};
-ghost use Rattle.dw_links.specs.Sound.{IsBasis, IsPlain, IsLinked, LinksNext, IsSound, first_type};
+ghost use Rattle.dw_links.specs.Sound.{IsBasis, IsPlain, IsSoundValue, LinksNext, IsSound, first_type};
 ghost use Rattle.dw_links.specs.Strings.{StringFailures};
 ghost use Rattle.dw_links.specs.Tables.{type_target};
 ghost use Rattle.dw_links.specs.Targets.{reach_of};
@@ -140,7 +140,7 @@ impl<'d> Linker<'_, 'd> {
         requires ready { IsReady basis.now.texts }
         requires basis { (p : PlacedUnit) → slice_get (all_units self.now.references.entries.now.scanned)
             head.now.unit ≡ Some p → basis.now.at ≡ p.at }
-        ensures { IfSome result (IsLinked basis.now.texts (all_entries self.now.references.entries.now.scanned)
+        ensures { IfSome result (IsSoundValue basis.now.texts (all_entries self.now.references.entries.now.scanned)
             (all_units self.now.references.entries.now.scanned) head.now attribute (view value.now)) }
     {
         if basis.texts.ask(head, attribute, value).is_some() {

@@ -6,8 +6,7 @@ ghost use Rattle.dw_forms.specs.Codes.{DW_AT_str_offsets_base, DW_AT_addr_base};
 ghost use Rattle.dw_entries.specs.Entries.{PlacedUnit};
 ghost use Rattle.dw_entries.specs.Scanned.{all_entries, all_units, units_of};
 ghost use Rattle.dw_entries.specs.Views.{sections_of};
-ghost use Rattle.dw_entries.specs.Stopped.{IsFault};
-ghost use Rattle.dw_entries.specs.Failures.{HasNone, IsFirst};
+ghost use Rattle.dw_entries.specs.Failures.{HasNone, IsFirst, IsPlainFault};
 ghost use Rattle.dw_links.specs.Bases.{base_in};
 ghost use Rattle.dw_links.specs.Ready.{AreEnds, AreTexts};
 ghost use Rattle.dw_links.specs.Strings.{may_lead, StringFailures};
@@ -178,7 +177,7 @@ fn first_failure(entries: &Entries<'_>) -> Result<(), Broken>
 pub fn check_strings(alloc: Global, entries: &Entries<'_>) -> Result<(), Fault>
     ensures ok { OnOk result (HasNone (StringFailures (sections_of entries.now) (units_of entries.now.scanned))) }
     ensures fault { IfErr result
-        (IsFault (IsFirst (StringFailures (sections_of entries.now) (units_of entries.now.scanned)))) }
+        (IsPlainFault (IsFirst (StringFailures (sections_of entries.now) (units_of entries.now.scanned)))) }
 {
     match first_failure(entries) {
         Ok(()) => Ok(()),

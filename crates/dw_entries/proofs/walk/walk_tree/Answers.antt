@@ -3,14 +3,14 @@ use Rattle.dw_entries.specs.Units.{context_in, numbers_in}
 use Rattle.dw_entries.specs.Reading.{first_at}
 use Rattle.dw_entries.specs.Token.{declared_view}
 use Rattle.dw_entries.specs.Walk.{step, walk_of}
-use Rattle.dw_entries.specs.Items.{decl_of}
+use Rattle.dw_entries.specs.Items.{numbered_decl}
 use Rattle.dw_entries.specs.ReadingLaws.{seen_err}
 use Rattle.dw_entries.proofs.AlongLaws.{along_few, along_end, first_fault, first_turn, next_turn, turn_shorter, some_from, none_from}
 use Rattle.dw_entries.proofs.walk.walk_tree.Goals as goal
 
 pub returns-in-Err-clause-fault : goal.returns-in-Err-clause-fault
 returns-in-Err-clause-fault c =
-    first_fault (context_in c.args.context) c.args.kind c.args.place.header c.args.place.start c.args.body.now c.in-Err.failing c.broken_at.result c.requires.start (seen_err (decl_of (numbers_in c.args.context)) (first_at (context_in c.args.context) c.args.kind c.args.body.now) c.in-Err.failing c.in-Err.ensures) c.broken_at.ensures
+    first_fault (context_in c.args.context) c.args.kind c.args.place.header c.args.place.start c.args.body.now c.in-Err.failing c.broken_at.result c.requires.start (seen_err (numbered_decl (numbers_in c.args.context)) (first_at (context_in c.args.context) c.args.kind c.args.body.now) c.in-Err.failing c.in-Err.ensures) c.broken_at.ensures
 
 pub loop-place-init : goal.loop-place-init
 loop-place-init c =
