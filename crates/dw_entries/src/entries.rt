@@ -4,7 +4,7 @@ ghost use Rattle.std.specs.Prelude.{◌≡◌, ◌+◌, ◌^◌, ◌<◌, ◌≤
 ghost use Rattle.dw_forms.specs.KeptDecls.{tables_of};
 ghost use Rattle.dw_entries.specs.Units.{DebugUnit, Spells};
 ghost use Rattle.dw_entries.specs.Faults.{Fails};
-ghost use Rattle.dw_entries.specs.Scanned.{Scanned, units_of};
+ghost use Rattle.dw_entries.specs.Scanned.{all_entries, Scanned};
 ghost use Rattle.dw_entries.specs.Stopped.{IfBroken, IfFault};
 ghost use Rattle.dw_entries.specs.Props.{scanned_unique};
 ghost use Rattle.dw_entries.specs.Hints.{AreHints};
@@ -31,7 +31,6 @@ pub struct Entries<'a> {
 
 impl<'a> Entries<'a> {
     ghost use Rattle.std.specs.Prelude.{◌≢◌, ℕ, All, slice_get, IfSome, IfNone, Some};
-    ghost use Rattle.dw_entries.specs.Entries.{entries_of};
     ghost use Rattle.dw_entries.specs.Runs.{IsEntryAt};
     ghost use Rattle.dw_entries.specs.Views.{sections_of};
 
@@ -44,7 +43,7 @@ impl<'a> Entries<'a> {
 
     /// How many entries there are.
     pub fn count(&self) -> usize
-        ensures { result ≡ length (entries_of (units_of self.now.scanned)) }
+        ensures { result ≡ length (all_entries self.now.scanned) }
     {
         self.records.len()
     }
@@ -52,7 +51,7 @@ impl<'a> Entries<'a> {
     /// What is kept of an entry.
     #[inline(always)]
     pub(crate) fn record(&self, id: EntryId) -> Record
-        requires { id < length (entries_of (units_of self.now.scanned)) }
+        requires { id < length (all_entries self.now.scanned) }
         ensures { slice_get self.now.records.items id ≡ Some result }
     {
         self.records[id.number()]
@@ -62,7 +61,7 @@ impl<'a> Entries<'a> {
     /// tests it.
     #[inline(always)]
     pub fn guess(&self, offset: u64) -> Option<EntryId>
-        ensures { IfSome result (λ id. id < length (entries_of (units_of self.now.scanned))) }
+        ensures { IfSome result (λ id. id < length (all_entries self.now.scanned)) }
     {
         let block = (offset / BLOCK as u64) as usize;
         if block >= self.hints.len() {
@@ -73,8 +72,8 @@ impl<'a> Entries<'a> {
 
     /// The entry that starts at an offset of .debug_info. The search starts at the hint of the offset's block.
     fn search(&self, offset: u64) -> Option<EntryId>
-        ensures found { IfSome result (IsEntryAt (entries_of (units_of self.now.scanned)) offset) }
-        ensures none { IfNone result ((id : ℕ) → IsEntryAt (entries_of (units_of self.now.scanned)) offset id → ⊥) }
+        ensures found { IfSome result (IsEntryAt (all_entries self.now.scanned) offset) }
+        ensures none { IfNone result ((id : ℕ) → IsEntryAt (all_entries self.now.scanned) offset id → ⊥) }
     {
         let block = (offset / BLOCK as u64) as usize;
         if block >= self.hints.len() {
@@ -95,8 +94,8 @@ impl<'a> Entries<'a> {
     /// The entry that starts at an offset of .debug_info. A guess finds it at once.
     #[inline(always)]
     pub(crate) fn find_at(&self, offset: u64) -> Option<EntryId>
-        ensures found { IfSome result (IsEntryAt (entries_of (units_of self.now.scanned)) offset) }
-        ensures none { IfNone result ((id : ℕ) → IsEntryAt (entries_of (units_of self.now.scanned)) offset id → ⊥) }
+        ensures found { IfSome result (IsEntryAt (all_entries self.now.scanned) offset) }
+        ensures none { IfNone result ((id : ℕ) → IsEntryAt (all_entries self.now.scanned) offset id → ⊥) }
     {
         if let Some(id) = self.guess(offset) {
             if u64::from(self.record(id).at) == offset {
@@ -110,9 +109,9 @@ impl<'a> Entries<'a> {
     #[inline(always)]
     pub fn find(&self, offset: u32) -> Option<EntryId>
         ensures found { IfSome result
-            (λ id. IfSome (slice_get (entries_of (units_of self.now.scanned)) id) (λ e. e.at ≡ offset)) }
-        ensures within { IfSome result (λ id. id < length (entries_of (units_of self.now.scanned))) }
-        ensures none { IfNone result (All (λ e. e.at ≢ offset) (entries_of (units_of self.now.scanned))) }
+            (λ id. IfSome (slice_get (all_entries self.now.scanned) id) (λ e. e.at ≡ offset)) }
+        ensures within { IfSome result (λ id. id < length (all_entries self.now.scanned)) }
+        ensures none { IfNone result (All (λ e. e.at ≢ offset) (all_entries self.now.scanned)) }
     {
         self.find_at(offset as u64)
     }

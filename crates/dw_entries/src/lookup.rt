@@ -3,8 +3,8 @@
 ghost use Rattle.std.specs.Prelude.{◌≡◌, ◌<◌, ℕ, Some, length, slice_get, IfSome, option_map};
 ghost use Rattle.dw_forms.specs.Abbrev.{view as decl_view};
 ghost use Rattle.dw_forms.specs.Value.{view};
-ghost use Rattle.dw_entries.specs.Entries.{Entry, entries_of, placed};
-ghost use Rattle.dw_entries.specs.Scanned.{units_of};
+ghost use Rattle.dw_entries.specs.Entries.{Entry};
+ghost use Rattle.dw_entries.specs.Scanned.{all_entries, all_units, units_of};
 ghost use Rattle.dw_entries.specs.Asked.{values_of};
 ghost use Rattle.dw_entries.specs.ValuesLeft.{values_left};
 ghost use Rattle.dw_entries.specs.Lookups.{IsKeptIn, nth_of, entry_head, unit_head, value_at_entry};
@@ -43,7 +43,7 @@ pub struct UnitHead {
 impl<'a> Entries<'a> {
     /// The declarations of the units' abbreviation tables, each once.
     pub fn decls(&self) -> &[KeptDecl]
-        ensures { (id : ℕ) (e : Entry) → slice_get (entries_of (units_of self.now.scanned)) id ≡ Some e
+        ensures { (id : ℕ) (e : Entry) → slice_get (all_entries self.now.scanned) id ≡ Some e
             → IsKeptIn result.now e.head.decl }
     {
         &self.decls
@@ -51,8 +51,8 @@ impl<'a> Entries<'a> {
 
     /// The declaration of an entry.
     pub fn decl(&self, id: EntryId) -> &Decl
-        requires { id < length (entries_of (units_of self.now.scanned)) }
-        ensures { IfSome (slice_get (entries_of (units_of self.now.scanned)) id)
+        requires { id < length (all_entries self.now.scanned) }
+        ensures { IfSome (slice_get (all_entries self.now.scanned) id)
             (λ e. decl_view result.now ≡ e.head.decl) }
     {
         self.at(id).decl()
@@ -60,15 +60,15 @@ impl<'a> Entries<'a> {
 
     /// What is told of an entry besides its attributes.
     pub fn head(&self, id: EntryId) -> Head
-        requires { id < length (entries_of (units_of self.now.scanned)) }
-        ensures { IfSome (slice_get (entries_of (units_of self.now.scanned)) id) (λ e. result ≡ entry_head e) }
+        requires { id < length (all_entries self.now.scanned) }
+        ensures { IfSome (slice_get (all_entries self.now.scanned) id) (λ e. result ≡ entry_head e) }
     {
         self.at(id).head()
     }
 
     /// The entry with this number. Entries are numbered from 0 in rising offset.
     pub fn nth(&self, k: usize) -> Option<EntryId>
-        ensures { result ≡ nth_of (entries_of (units_of self.now.scanned)) k }
+        ensures { result ≡ nth_of (all_entries self.now.scanned) k }
     {
         if k < self.count() {
             Some(EntryId::new(k as u32))
@@ -87,7 +87,7 @@ impl<'a> Entries<'a> {
     /// The unit with this number. Units are numbered in rising offset, from 0.
     pub fn unit(&self, number: usize) -> UnitHead
         requires { number < length (units_of self.now.scanned) }
-        ensures { IfSome (slice_get (placed (units_of self.now.scanned)) number) (λ p. result ≡ unit_head p) }
+        ensures { IfSome (slice_get (all_units self.now.scanned) number) (λ p. result ≡ unit_head p) }
     {
         let unit = self.units[number];
         let first = EntryId::new(unit.first);
@@ -101,8 +101,8 @@ impl<'a> Entries<'a> {
 
     /// The attributes of an entry in their order, each value decoded when it is asked.
     pub fn values(&self, id: EntryId) -> Values<'_, 'a>
-        requires { id < length (entries_of (units_of self.now.scanned)) }
-        ensures { IfSome (slice_get (entries_of (units_of self.now.scanned)) id)
+        requires { id < length (all_entries self.now.scanned) }
+        ensures { IfSome (slice_get (all_entries self.now.scanned) id)
             (λ e. values_left result ≡ values_of e.head) }
     {
         self.at(id).values()
@@ -110,8 +110,8 @@ impl<'a> Entries<'a> {
 
     /// The value of an entry's attribute, if it has that attribute.
     pub fn value(&self, id: EntryId, attribute: Attribute) -> Option<Value<'a>>
-        requires { id < length (entries_of (units_of self.now.scanned)) }
-        ensures { IfSome (slice_get (entries_of (units_of self.now.scanned)) id)
+        requires { id < length (all_entries self.now.scanned) }
+        ensures { IfSome (slice_get (all_entries self.now.scanned) id)
             (λ e. option_map view result ≡ value_at_entry e attribute) }
     {
         self.at(id).value(attribute)
