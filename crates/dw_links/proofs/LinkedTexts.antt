@@ -13,7 +13,7 @@ use Rattle.dw_links.specs.declared.class.Class.TheVariants.{Address, String}
 use Rattle.dw_links.specs.Classes.{class_of}
 use Rattle.dw_links.specs.Bases.{base_in}
 use Rattle.dw_links.specs.Strings.{StringIndexFails, AddressIndexFails, StringFailures}
-use Rattle.dw_links.specs.Texts.{text_of, address_of}
+use Rattle.dw_links.specs.ValueTexts.{text_of, address_of}
 use Rattle.dw_links.specs.AttributeTexts.{text_at, address_at}
 use Rattle.dw_links.specs.LinkLaws.{HaveTexts, HaveAddresses}
 use Rattle.dw_links.proofs.TableLaws.{unit_of_entry}

@@ -18,7 +18,7 @@ use Rattle.dw_entries.specs.Failures.{IsLeast, HasNone}
 use Rattle.dw_entries.specs.Leading.{DoesNotLead}
 use Rattle.dw_entries.specs.Lookups.{nth_of, entry_head}
 use Rattle.dw_entries.specs.Referring.{may_refer, IsOther}
-use Rattle.dw_links.specs.declared.texts.UnitTexts.{UnitTexts}
+use Rattle.dw_links.specs.declared.string_rules.UnitTexts.{UnitTexts}
 use Rattle.dw_links.specs.Classes.{form_class}
 use Rattle.dw_links.specs.Concerns.{AtHead, Passes}
 use Rattle.dw_links.specs.Kept.{kept_after}

@@ -14,7 +14,7 @@ use Rattle.dw_entries.specs.Failures.{IsLeast}
 use Rattle.dw_entries.specs.Chosen.{OthersPass}
 use Rattle.dw_links.specs.declared.class.Class.{Class}
 use Rattle.dw_links.specs.declared.class.Class.TheVariants.{Address, Block, Constant, WideConstant, Exprloc, Flag, ListIndex, Reference, SectionOffset, String}
-use Rattle.dw_links.specs.declared.texts.UnitTexts.{UnitTexts}
+use Rattle.dw_links.specs.declared.string_rules.UnitTexts.{UnitTexts}
 use Rattle.dw_links.specs.Concerns.{Passes}
 use Rattle.dw_links.specs.Classes.{class_of, form_class}
 use Rattle.dw_links.specs.Ready.{FailsByTexts}

@@ -10,7 +10,7 @@ use Rattle.dw_entries.specs.Entries.{Entry, PlacedUnit}
 use Rattle.dw_entries.specs.Failures.{Failure, HasNone, IsFirst}
 use Rattle.dw_entries.specs.Lookups.{entry_head}
 use Rattle.dw_entries.proofs.Firsts.{same_some}
-use Rattle.dw_links.specs.declared.texts.UnitTexts.{UnitTexts}
+use Rattle.dw_links.specs.declared.string_rules.UnitTexts.{UnitTexts}
 use Rattle.dw_links.specs.Concerns.{Rules, AtHead}
 use Rattle.dw_links.specs.Bases.{base_in}
 use Rattle.dw_links.specs.Strings.{StringFails, StringFailsIn}

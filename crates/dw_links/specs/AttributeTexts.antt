@@ -5,7 +5,7 @@ use Rattle.dw_forms.specs.Codes.{DW_AT_str_offsets_base, DW_AT_addr_base}
 use Rattle.dw_entries.specs.Lookups.{value_at_entry}
 use Rattle.dw_entries.specs.Entries.{Entry, PlacedUnit}
 use Rattle.dw_links.specs.Bases.{base_in}
-use Rattle.dw_links.specs.Texts.{text_of, address_of}
+use Rattle.dw_links.specs.ValueTexts.{text_of, address_of}
 
 -- the text of an attribute of an entry; None where the attribute is absent or no string
 unfoldable pub text_at : Sections → List Entry → List PlacedUnit → Entry → (attribute : ℕ) → Option (List ℕ)

@@ -4,7 +4,7 @@ pub mod Classes
 pub mod Contributions
 pub mod Bases
 pub mod Strings
-pub mod Texts
+pub mod ValueTexts
 pub mod AttributeTexts
 pub mod Signatures
 pub mod Targets

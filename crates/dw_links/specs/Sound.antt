@@ -9,7 +9,7 @@ use Rattle.dw_entries.specs.Entries.{Entry, PlacedUnit}
 use Rattle.dw_entries.specs.Failures.{HasNone, IsLeast}
 use Rattle.dw_entries.specs.Leading.{DoesNotLead}
 use Rattle.dw_links.specs.declared.sound.UnitBasis.{UnitBasis}
-use Rattle.dw_links.specs.declared.texts.UnitTexts.{UnitTexts}
+use Rattle.dw_links.specs.declared.string_rules.UnitTexts.{UnitTexts}
 use Rattle.dw_links.specs.Concerns.{AtHead}
 use Rattle.dw_links.specs.Ready.{FailsByTexts, AreTexts}
 use Rattle.dw_links.specs.References.{ReferenceFails}

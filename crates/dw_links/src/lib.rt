@@ -1,7 +1,6 @@
 //! What the values of attributes lead to: strings, addresses and other entries.
 #![tactic(auto)]
 
-mod attribute_texts;
 mod class;
 mod contribution;
 mod declared_entries;
@@ -15,14 +14,15 @@ mod rules;
 mod signatures;
 mod slots;
 mod sound;
-mod strings;
+mod string_checks;
+mod string_rules;
 mod targets;
-mod texts;
+mod text_lookups;
 mod unit_tables;
 
 pub use class::{Class, check_classes, class_of_value};
 pub use laws::{one_entry_is_reached, references_have_targets, strings_have_texts};
 pub use links::{Links, link};
 pub use sound::link_sound;
-pub use strings::check_strings;
+pub use string_checks::check_strings;
 pub use unit_tables::UnitTables;

@@ -1,14 +1,27 @@
-//! The slots of contributions to .debug_str_offsets and .debug_addr (DWARF 5, sections 7.26 and 7.27).
+//! Strings at offsets, and the slots of contributions to .debug_str_offsets and .debug_addr (DWARF 5, sections 7.26 and
+//! 7.27).
 
 ghost use Rattle.std.specs.Prelude.{◌≡◌, ◌≤◌, ◌+◌, ◌*◌, length, IfSome, option_copied};
-ghost use Rattle.dw_links.specs.Contributions.{slot_at};
+ghost use Rattle.dw_links.specs.Contributions.{slot_at, string_at};
 ghost use Rattle.dw_links.specs.Slots.{IsTextSlot, IsAddressSlot};
-ghost use Rattle.dw_links.specs.Texts.{indexed_text, indexed_address};
+ghost use Rattle.dw_links.specs.ValueTexts.{indexed_text, indexed_address};
 
 use crate::contribution::number;
-use crate::texts::string_from;
 use dw_elf::Sections;
 use dw_entries::UnitHeader;
+use memchr::memchr;
+
+/// The bytes before the first zero byte from an offset on.
+pub fn string_from(section: &[u8], offset: usize) -> &[u8]
+    requires { offset ≤ length section.now }
+    ensures { result.now ≡ string_at section.now offset }
+{
+    let (_, rest) = section.split_at(offset);
+    match memchr(0, rest) {
+        Some(len) => &rest[..len],
+        None => rest,
+    }
+}
 
 /// The number in the slot of an index, where slots of so many bytes begin at a base.
 fn slot(section: &[u8], size: u8, base: u32, index: u64) -> u64

@@ -5,7 +5,7 @@ ghost use Rattle.dw_entries.specs.Scanned.{all_entries, all_units, units_of};
 ghost use Rattle.dw_links.specs.Targets.{target_of};
 ghost use Rattle.dw_links.specs.Tables.{bases_in, type_target, AreTables};
 
-use crate::strings::base_in_unit;
+use crate::string_checks::base_in_unit;
 use crate::targets::find_target;
 use dw_entries::constants::*;
 use dw_entries::{Entries, EntryId, OptionalId};

@@ -1,7 +1,6 @@
-//! What is read once of a unit's strings and addresses, and the rules on them.
+//! The rules on a unit's strings and addresses, by what is read of the unit once.
 
-ghost use Rattle.std.specs.Prelude.{◌≡◌, ◌≤◌, length};
-ghost use Rattle.dw_links.specs.Contributions.{IsEndOfStrings, string_at, base_of};
+ghost use Rattle.dw_links.specs.Contributions.{IsEndOfStrings, base_of};
 ghost use Rattle.dw_links.specs.Strings.{OffsetFails, BaseFails, StringIndexFails, AddressIndexFails};
 ghost use Rattle.dw_links.specs.Ready.{AreEnds, IsReady};
 ghost use Rattle.dw_entries.specs.Failures.{IsLeast};
@@ -10,19 +9,6 @@ use crate::contribution::{Contribution, end_of_strings, number, read_contributio
 use dw_elf::Sections;
 use dw_entries::constants::*;
 use dw_entries::{Attribute, Rule, UnitHeader};
-use memchr::memchr;
-
-/// The bytes before the first zero byte from an offset on.
-pub fn string_from(section: &[u8], offset: usize) -> &[u8]
-    requires { offset ≤ length section.now }
-    ensures { result.now ≡ string_at section.now offset }
-{
-    let (_, rest) = section.split_at(offset);
-    match memchr(0, rest) {
-        Some(len) => &rest[..len],
-        None => rest,
-    }
-}
 
 /// Where the strings of the two sections end.
 #[derive(Clone, Copy)]

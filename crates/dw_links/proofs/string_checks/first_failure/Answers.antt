@@ -12,7 +12,7 @@ use Rattle.dw_links.specs.Ready.{FailsByTexts}
 use Rattle.dw_links.proofs.Skips.{there}
 use Rattle.dw_links.proofs.ClassLaws.{in_units}
 use Rattle.dw_links.proofs.Transfers.{first_carried, none_carried, texts_over, texts_back}
-use Rattle.dw_links.proofs.strings.first_failure.Goals as goal
+use Rattle.dw_links.proofs.string_checks.first_failure.Goals as goal
 
 pub at-entry-requires : goal.at-entry-requires
 at-entry-requires c = rw c.loop-number.invariant.cursor (omega (arith, c.id.ensures, c.loop-number-test.true, c.count-number-end.ensures))

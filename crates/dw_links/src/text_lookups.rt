@@ -7,12 +7,11 @@ ghost use Rattle.dw_entries.specs.Views.{sections_of};
 ghost use Rattle.dw_entries.specs.Failures.{HasNone};
 ghost use Rattle.dw_links.specs.Strings.{StringFailures};
 ghost use Rattle.dw_links.specs.Tables.{bases_in, AreTables};
-ghost use Rattle.dw_links.specs.Texts.{text_of, address_of};
+ghost use Rattle.dw_links.specs.ValueTexts.{text_of, address_of};
 ghost use Rattle.dw_links.specs.Slots.{TextLies, AddressLies};
 ghost use Rattle.dw_links.specs.AttributeTexts.{text_at, address_at};
 
-use crate::slots::{address_in_slot, text_in_slot};
-use crate::texts::string_from;
+use crate::slots::{address_in_slot, string_from, text_in_slot};
 use crate::unit_tables::{UnitBases, UnitTables};
 use dw_elf::Sections;
 use dw_entries::{Entries, EntryId, UnitHeader};

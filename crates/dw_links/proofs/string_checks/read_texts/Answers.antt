@@ -6,7 +6,7 @@ use Rattle.dw_entries.specs.Scanned.{units_of}
 use Rattle.dw_links.specs.Contributions.{IsEndOfStrings}
 use Rattle.dw_links.proofs.ClassLaws.{unit_there}
 use Rattle.dw_links.proofs.UnitLaws.{sized, size_above}
-use Rattle.dw_links.proofs.strings.read_texts.Goals as goal
+use Rattle.dw_links.proofs.string_checks.read_texts.Goals as goal
 
 pub named_contribution-requires-2 : goal.named_contribution-requires-2
 named_contribution-requires-2 c =

@@ -1,4 +1,5 @@
-//! The rules on strings and addresses (DWARF 5, sections 7.26 and 7.27), unit by unit.
+//! The search for the first failure of the rules on strings and addresses (DWARF 5, sections 7.26 and 7.27), unit by
+//! unit.
 
 ghost use Rattle.std.specs.Prelude.{ℕ, ◌≡◌, ◌⊎◌, ◌<◌, length, Some, slice_get, OnOk, IfErr};
 ghost use Rattle.std.specs.Bool.{OnFalse};
@@ -13,7 +14,7 @@ ghost use Rattle.dw_links.specs.Strings.{may_lead, StringFailures};
 
 use crate::contribution::named_contribution;
 use crate::rules::{AttributeRules, check_entry, fault_of};
-use crate::texts::{StringEnds, UnitTexts, ask_offset, string_ends};
+use crate::string_rules::{StringEnds, UnitTexts, ask_offset, string_ends};
 use dw_entries::constants::*;
 use dw_entries::{Broken, Entries, Fault, Head, Rule};
 use dw_forms::{Attribute, AttributeSpec, Form, Value};

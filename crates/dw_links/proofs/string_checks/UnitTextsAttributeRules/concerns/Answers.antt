@@ -4,7 +4,7 @@ use Rattle.dw_links.specs.Concerns.{Passes}
 use Rattle.dw_links.specs.Ready.{FailsByTexts}
 use Rattle.dw_links.specs.Strings.{may_lead}
 use Rattle.dw_links.proofs.StringLaws.{form_passes, no_base_passes, false_map, where_false}
-use Rattle.dw_links.proofs.strings.UnitTextsAttributeRules.concerns.Goals as goal
+use Rattle.dw_links.proofs.string_checks.UnitTextsAttributeRules.concerns.Goals as goal
 
 pub returns-in-SecOffset : goal.returns-in-SecOffset
 returns-in-SecOffset c =

@@ -3,7 +3,7 @@ use Rattle.std.specs.Prelude.{◌≢◌}
 use Rattle.dw_entries.specs.Header.{version_of}
 use Rattle.dw_links.specs.Strings.{BaseFails}
 use Rattle.dw_links.proofs.StringLaws.{least_under, none_of}
-use Rattle.dw_links.proofs.strings.UnitTextsAttributeRules.ask.Goals as goal
+use Rattle.dw_links.proofs.string_checks.UnitTextsAttributeRules.ask.Goals as goal
 
 pub returns-in-SecOffset : goal.returns-in-SecOffset
 returns-in-SecOffset c =
