@@ -9,7 +9,7 @@ use Rattle.dw_links.specs.Signatures.{HasFirstSigned}
 abbrev pub IsLinkable : References → Type 0
 IsLinkable references = HasFirstSigned (all_units references.entries.now.scanned) references.signatures.now
 
--- nor is anything else needed, if the entry is in one of the units
+-- the same, and the entry is in one of the units
 pub record MayAsk (references : References) (head : Head) : Type 0 where
   pub linkable : IsLinkable references
   pub in_unit : head.unit < length (units_of references.entries.now.scanned)
