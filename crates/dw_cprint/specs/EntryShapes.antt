@@ -13,7 +13,7 @@ use Rattle.dw_forms.specs.Codes.{DW_TAG_volatile_type, is_type_tag}
 use Rattle.dw_forms.specs.Value.{Datum, unsigned, signed}
 use Rattle.dw_image.specs.declared.image.Image.{Image}
 use Rattle.dw_cprint.specs.LookUps.{tag_at, value_at, name_at, type_at, children_at, count_in, has_at, flag_at}
-use Rattle.dw_cprint.specs.LookUps.{declared_at, number_at}
+use Rattle.dw_cprint.specs.LookUps.{declared_at, integer_at}
 use Rattle.dw_cprint.specs.Shapes.{Const, Volatile, Restrict, Atomic, TagKeyword, Struct, Union, Enum, Bits, Absent}
 use Rattle.dw_cprint.specs.Shapes.{Number, Wrong, Parameter, Typed, More, Name, MemberOf, EnumeratorOf, ShapeOf, base}
 use Rattle.dw_cprint.specs.Shapes.{typedef, qualified, pointer, array, function, tagged, nameless, body, enumeration}
@@ -114,7 +114,7 @@ is_enumerator image id = tag_at image id == DW_TAG_enumerator
 
 -- an enumerator: its name, and its value if that is a number
 abbrev pub enumerator_at : Image → ℕ → EnumeratorOf
-enumerator_at image id = record { name = name_at image id; value = number_at image id DW_AT_const_value }
+enumerator_at image id = record { name = name_at image id; value = integer_at image id DW_AT_const_value }
 
 -- the enumerators of an enumeration, in rising offset
 abbrev pub enumerators_in : Image → ℕ → List EnumeratorOf

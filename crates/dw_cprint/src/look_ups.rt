@@ -4,7 +4,7 @@ ghost use Rattle.std.specs.Prelude.{◌≡◌, ◌<◌, length, slice_get, IfSom
 ghost use Rattle.dw_forms.specs.Value.{view};
 ghost use Rattle.dw_image.specs.Images.{entries_in};
 ghost use Rattle.dw_cprint.specs.LookUps.{tag_at, value_at, name_at, type_at, children_at, count_in, has_at, flag_at};
-ghost use Rattle.dw_cprint.specs.LookUps.{declared_at, number_at};
+ghost use Rattle.dw_cprint.specs.LookUps.{declared_at, integer_at};
 ghost use Rattle.dw_cprint.specs.EntryShapes.{bits_in};
 ghost use Rattle.dw_cprint.specs.Declarations.{bits_of};
 ghost use Rattle.dw_cprint.specs.Legible.{IsCount, IsValue};
@@ -106,9 +106,9 @@ pub fn declared_at(image: &Image<'_>, id: EntryId) -> bool
 }
 
 /// The number under an attribute of an entry. This project's choice: the form data16 gives none.
-pub fn number_at(image: &Image<'_>, id: EntryId, attribute: Attribute) -> Option<i128>
+pub fn integer_at(image: &Image<'_>, id: EntryId, attribute: Attribute) -> Option<i128>
     requires { id < length (entries_in image.now) }
-    ensures number { result ≡ number_at image.now id attribute }
+    ensures number { result ≡ integer_at image.now id attribute }
     ensures fit { IfSome result IsValue }
 {
     match value_at(image, id, attribute) {

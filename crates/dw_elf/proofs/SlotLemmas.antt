@@ -9,7 +9,7 @@ use Rattle.dw_elf.specs.declared.found.Found.{Found}
 use Rattle.dw_elf.specs.Limits.{section_limit}
 use Rattle.dw_elf.specs.Elf.{section_name, section_bytes, section_count}
 use Rattle.dw_elf.specs.Names.{name_of, IsWanted}
-use Rattle.dw_elf.specs.Checks.{HasNone, IsNamedBefore, NotElf64, NotLinked, SectionTable, SectionName, Zdebug, SectionTwice, NoBits, Compressed, SectionRange, TooLarge, NoInfo, Passes, ChecksPass}
+use Rattle.dw_elf.specs.Checks.{HasNoSection, IsNamedBefore, NotElf64, NotLinked, SectionTable, SectionName, Zdebug, SectionTwice, NoBits, Compressed, SectionRange, TooLarge, NoInfo, Passes, ChecksPass}
 use Rattle.dw_elf.specs.Sections.{IsSection}
 use Rattle.dw_elf.specs.Reading.{slot, IsSlot, SlotsUpTo}
 
@@ -118,18 +118,18 @@ section_is_one file name a b (inr x) (inl y) = absurd (x.0 y.0 y.1.header y.1.na
 section_is_one file name a b (inr x) (inr y) = x.1 ∙ sym y.1
 
 -- whether something was found for .debug_info says whether a header has the name
-slot_none : (file name : List ℕ) (o : Option (List ℕ)) → IsSlot file (section_count file) name o → is_some o ≡ false → HasNone file name
+slot_none : (file name : List ℕ) (o : Option (List ℕ)) → IsSlot file (section_count file) name o → is_some o ≡ false → HasNoSection file name
 slot_none file name None h e = λ j header is. h j header.0 header.1 is
 slot_none file name (Some bytes) h e = absurd cc
 
-slot_some : (file name : List ℕ) (o : Option (List ℕ)) → IsSlot file (section_count file) name o → is_some o ≡ true → ¬ HasNone file name
+slot_some : (file name : List ℕ) (o : Option (List ℕ)) → IsSlot file (section_count file) name o → is_some o ≡ true → ¬ HasNoSection file name
 slot_some file name None h e = absurd cc
 slot_some file name (Some bytes) h e = λ none. none h.0 h.1 h.2
 
-pub no_info : (file : List ℕ) (f : Found) → SlotsUpTo file (section_count file) f → is_some f.info ≡ false → HasNone file (name_of Info)
+pub no_info : (file : List ℕ) (f : Found) → SlotsUpTo file (section_count file) f → is_some f.info ≡ false → HasNoSection file (name_of Info)
 no_info file f slots e = slot_none file (name_of Info) (slot f Info) (slots Info) (is_some-copied f.info ∙ e)
 
-pub has_info : (file : List ℕ) (f : Found) → SlotsUpTo file (section_count file) f → is_some f.info ≡ true → ¬ HasNone file (name_of Info)
+pub has_info : (file : List ℕ) (f : Found) → SlotsUpTo file (section_count file) f → is_some f.info ≡ true → ¬ HasNoSection file (name_of Info)
 has_info file f slots e = slot_some file (name_of Info) (slot f Info) (slots Info) (is_some-copied f.info ∙ e)
 
 -- where the checks of the places below k and of k pass, they pass below the next
@@ -137,7 +137,7 @@ pub passes_below : (file : List ℕ) (k : ℕ) → ((j : ℕ) → j < k → Pass
 passes_below file k below here j lt = ⊎_elim (λ e. subst (Passes file) (sym e) here) (λ other. below j (omega arith)) (cases_eq j k)
 
 -- all checks pass where those of the file, of each header and of .debug_info do
-pub all_pass : (file : List ℕ) → 0 < section_count file → ((j : ℕ) → j < section_count file → Passes file j) → ¬ HasNone file (name_of Info) → ChecksPass file
+pub all_pass : (file : List ℕ) → 0 < section_count file → ((j : ℕ) → j < section_count file → Passes file j) → ¬ HasNoSection file (name_of Info) → ChecksPass file
 all_pass file some passed info k NotElf64 f = passed k (omega (arith, f.0)) NotElf64 f
 all_pass file some passed info k NotLinked f = passed k (omega (arith, f.0)) NotLinked f
 all_pass file some passed info k SectionTable f = passed k (omega (arith, f.0)) SectionTable f

@@ -53,8 +53,8 @@ abbrev pub IsTooLarge : List ℕ → ℕ → Type 0
 IsTooLarge file k = section_limit < section_size file k
 
 -- no header has this name
-abbrev pub HasNone : List ℕ → List ℕ → Type 0
-HasNone file name = (j : ℕ) → IsHeader file j → section_name file j ≢ name
+abbrev pub HasNoSection : List ℕ → List ℕ → Type 0
+HasNoSection file name = (j : ℕ) → IsHeader file j → section_name file j ≢ name
 
 -- the checks, each by what it finds wrong
 pub data Check : Type 0 where
@@ -86,22 +86,22 @@ turn NoInfo = 10
 
 -- a check fails at place k: the first three look at the file, the next two at every header, the five that
 -- follow at the headers of the six sections, and the last at all headers together
-abbrev pub Fails : List ℕ → Check → ℕ → Type 0
-Fails file NotElf64 k = (k ≡ 0) × ¬ IsElf64 file
-Fails file NotLinked k = (k ≡ 0) × ¬ IsLinked file
-Fails file SectionTable k = (k ≡ 0) × ¬ HasSectionTable file
-Fails file SectionName k = IsHeader file k × ¬ IsNamed file k
-Fails file Zdebug k = IsHeader file k × IsZdebug (section_name file k)
-Fails file SectionTwice k = IsHeader file k × IsWanted (section_name file k) × IsNamedBefore file k
-Fails file NoBits k = IsHeader file k × IsWanted (section_name file k) × HasNoBits file k
-Fails file Compressed k = IsHeader file k × IsWanted (section_name file k) × IsCompressed file k
-Fails file SectionRange k = IsHeader file k × IsWanted (section_name file k) × ¬ IsInFile file k
-Fails file TooLarge k = IsHeader file k × IsWanted (section_name file k) × IsTooLarge file k
-Fails file NoInfo k = (k ≡ section_count file) × HasNone file (name_of Info)
+abbrev pub CheckFails : List ℕ → Check → ℕ → Type 0
+CheckFails file NotElf64 k = (k ≡ 0) × ¬ IsElf64 file
+CheckFails file NotLinked k = (k ≡ 0) × ¬ IsLinked file
+CheckFails file SectionTable k = (k ≡ 0) × ¬ HasSectionTable file
+CheckFails file SectionName k = IsHeader file k × ¬ IsNamed file k
+CheckFails file Zdebug k = IsHeader file k × IsZdebug (section_name file k)
+CheckFails file SectionTwice k = IsHeader file k × IsWanted (section_name file k) × IsNamedBefore file k
+CheckFails file NoBits k = IsHeader file k × IsWanted (section_name file k) × HasNoBits file k
+CheckFails file Compressed k = IsHeader file k × IsWanted (section_name file k) × IsCompressed file k
+CheckFails file SectionRange k = IsHeader file k × IsWanted (section_name file k) × ¬ IsInFile file k
+CheckFails file TooLarge k = IsHeader file k × IsWanted (section_name file k) × IsTooLarge file k
+CheckFails file NoInfo k = (k ≡ section_count file) × HasNoSection file (name_of Info)
 
 -- no check fails at place k
 abbrev pub Passes : List ℕ → ℕ → Type 0
-Passes file k = (c : Check) → ¬ Fails file c k
+Passes file k = (c : Check) → ¬ CheckFails file c k
 
 -- no check fails
 abbrev pub ChecksPass : List ℕ → Type 0

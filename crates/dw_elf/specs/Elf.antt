@@ -10,8 +10,8 @@ unfoldable pub number_at : ℕ → List ℕ → ℕ → ℕ
 number_at n file offset = little_number n (drop offset file)
 
 -- the text at an offset of some bytes: the bytes from there on, before the first zero byte
-unfoldable pub text_at : List ℕ → ℕ → List ℕ
-text_at bytes offset = before_first (λ b. b == 0) (drop offset bytes)
+unfoldable pub string_at : List ℕ → ℕ → List ℕ
+string_at bytes offset = before_first (λ b. b == 0) (drop offset bytes)
 
 -- a text starts at an offset inside these bytes, and a zero byte ends it inside them
 abbrev pub HasText : List ℕ → ℕ → Type 0
@@ -115,4 +115,4 @@ name_table file = section_bytes file (names_index file)
 
 -- the name of section k
 abbrev pub section_name : List ℕ → ℕ → List ℕ
-section_name file k = text_at (name_table file) (name_offset file k)
+section_name file k = string_at (name_table file) (name_offset file k)

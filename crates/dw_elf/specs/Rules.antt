@@ -4,7 +4,7 @@ use Rattle.dw_elf.specs.declared.fault.ElfRule.{ElfRule}
 use Rattle.dw_elf.specs.declared.fault.ElfRule.TheVariants as rules
 use Rattle.dw_elf.specs.declared.fault.ElfFault.{ElfFault}
 use Rattle.dw_elf.specs.Checks.{Check, NotElf64, NotLinked, SectionTable, SectionName, Zdebug, SectionTwice, NoBits}
-use Rattle.dw_elf.specs.Checks.{Compressed, SectionRange, TooLarge, NoInfo, turn, Fails, Passes}
+use Rattle.dw_elf.specs.Checks.{Compressed, SectionRange, TooLarge, NoInfo, turn, CheckFails, Passes}
 
 -- the rule of a check; the two checks that find compressed bytes have one rule
 abbrev pub rule_of : Check → ElfRule
@@ -34,8 +34,8 @@ pub record FailsAt (file : List ℕ) (k : ℕ) (rule : ElfRule) (section : ℕ) 
   pub check : Check
   pub rule_is : rule ≡ rule_of check
   pub section_is : section ≡ section_of check k
-  pub fails : Fails file check k
-  pub before : (c : Check) → turn c < turn check → ¬ Fails file c k
+  pub fails : CheckFails file check k
+  pub before : (c : Check) → turn c < turn check → ¬ CheckFails file c k
 
 -- the fault of the file: the first check that fails at some place, if all checks pass at every lower place
 pub record IsFault (file : List ℕ) (fault : ElfFault) : Type 0 where

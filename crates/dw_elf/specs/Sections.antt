@@ -4,7 +4,7 @@ use Rattle.dw_elf.specs.declared.sections.Sections.{Sections}
 use Rattle.dw_elf.specs.declared.names.DebugSection.TheVariants.{Abbrev, Info, Str, LineStr, StrOffsets, Addr}
 use Rattle.dw_elf.specs.Elf.{IsHeader, section_name, section_bytes}
 use Rattle.dw_elf.specs.Names.{name_of}
-use Rattle.dw_elf.specs.Checks.{HasNone}
+use Rattle.dw_elf.specs.Checks.{HasNoSection}
 
 -- header k has this name, and no other header has it
 pub record HasOne (file name : List ℕ) (k : ℕ) : Type 0 where
@@ -16,7 +16,7 @@ pub record HasOne (file name : List ℕ) (k : ℕ) : Type 0 where
 abbrev pub IsSection : List ℕ → List ℕ → List ℕ → Type 0
 IsSection file name bytes =
     ((k : ℕ) × HasOne file name k × (bytes ≡ section_bytes file k))
-    ⊎ (HasNone file name × (bytes ≡ []))
+    ⊎ (HasNoSection file name × (bytes ≡ []))
 
 -- each of the six has the bytes of the section of its name
 pub record AreSections (file : List ℕ) (s : Sections) : Type 0 where

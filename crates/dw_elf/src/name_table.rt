@@ -1,7 +1,7 @@
 //! The name table: where names can start in it, and as much of a name as is compared.
 
 ghost use Rattle.std.specs.Prelude.{◌≡◌, IfSome, IfNone, OnSome};
-ghost use Rattle.dw_elf.specs.Elf.{text_at, HasText};
+ghost use Rattle.dw_elf.specs.Elf.{string_at, HasText};
 ghost use Rattle.dw_elf.specs.Reading.{IsAfterLastZero, StandsFor};
 
 use memchr::{memchr, memrchr};
@@ -37,7 +37,7 @@ impl<'a> NameTable<'a> {
 
     /// A prefix of the name at an offset, if a zero byte ends the name in the table.
     pub(crate) fn front_at(&self, offset: u32) -> Option<&'a [u8]>
-        ensures front { IfSome result (λ front. StandsFor front.now (text_at self.now.bytes.now offset)) }
+        ensures front { IfSome result (λ front. StandsFor front.now (string_at self.now.bytes.now offset)) }
         ensures ended { OnSome result (HasText self.now.bytes.now offset) }
         ensures none { IfNone result (¬ HasText self.now.bytes.now offset) }
     {

@@ -1,5 +1,5 @@
 -- Chapter: one item of a unit, read from left to right: the first part that is missing is the fault.
-use Rattle.std.specs.Prelude.{◌≡◌, ℕ, ◌-◌, List, [], ◌∷◌, length, take, drop, Option, Some, None, Result, Ok, Err, Bool}
+use Rattle.std.specs.Prelude.{ℕ, ◌-◌, List, [], ◌∷◌, length, take, drop, Option, Some, None, Result, Ok, Err, Bool}
 use Rattle.std.specs.Prelude.{false, ◌==◌, if◌then◌else◌}
 use Rattle.dw_forms.specs.declared.decl.AttributeSpec.{AttributeSpec}
 use Rattle.dw_forms.specs.declared.leb.NumberFault.{NumberFault}

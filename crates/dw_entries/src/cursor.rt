@@ -4,8 +4,7 @@ ghost use Rattle.std.specs.Prelude.{◌≡◌, ◌<◌, Some, length, slice_get,
 ghost use Rattle.std.specs.Option.{ForSome};
 ghost use Rattle.std.specs.Bool.{OnFalse, OnTrue};
 ghost use Rattle.dw_entries.specs.Cursors.{IsAt, IsUnitAt};
-ghost use Rattle.dw_entries.specs.Entries.{entries_of};
-ghost use Rattle.dw_entries.specs.Scanned.{units_of};
+ghost use Rattle.dw_entries.specs.Scanned.{all_entries};
 
 use crate::entries::Entries;
 use crate::entry_at::EntryAt;
@@ -22,7 +21,7 @@ pub struct UnitAt {
 /// The unit of an entry of which this is kept.
 #[inline(always)]
 pub fn unit_at(entries: &Entries<'_>, id: EntryId, kept: &Record) -> UnitAt
-    requires id { id < length (entries_of (units_of entries.now.scanned)) }
+    requires id { id < length (all_entries entries.now.scanned) }
     requires kept { slice_get entries.now.records.items id ≡ Some kept.now }
     ensures unit { IsUnitAt entries.now.units.items result }
     ensures number { result.number ≡ kept.now.unit }
@@ -71,8 +70,8 @@ impl<'e, 'a> Cursor<'e, 'a> {
     /// The entry with this number, if it is one of the unit at hand.
     #[inline(always)]
     pub fn beside(&self, id: EntryId) -> Option<EntryAt<'e, 'a>>
-        requires { id < length (entries_of (units_of self.now.entries.now.scanned)) }
-        ensures { IfSome result (λ entry. entry ≡ slice_get (entries_of (units_of self.now.entries.now.scanned)) id) }
+        requires { id < length (all_entries self.now.entries.now.scanned) }
+        ensures { IfSome result (λ entry. entry ≡ slice_get (all_entries self.now.entries.now.scanned) id) }
     {
         let record = self.entries.record(id);
         match &self.unit {
@@ -86,9 +85,9 @@ impl<'e, 'a> Cursor<'e, 'a> {
     /// The entry with this number, for all that is asked of it.
     #[inline(always)]
     pub fn at(&mut self, id: EntryId) -> EntryAt<'e, 'a>
-        requires { id < length (entries_of (units_of self.old.entries.now.scanned)) }
+        requires { id < length (all_entries self.old.entries.now.scanned) }
         ensures same { self.new.entries.now ≡ self.old.entries.now }
-        ensures found { result ≡ slice_get (entries_of (units_of self.old.entries.now.scanned)) id }
+        ensures found { result ≡ slice_get (all_entries self.old.entries.now.scanned) id }
     {
         let kept = self.entries.record(id);
         if !is_at(&self.unit, kept.unit) {

@@ -9,8 +9,8 @@ ghost use Rattle.dw_forms.specs.Codes.{is_type_tag};
 ghost use Rattle.dw_forms.specs.Value.{view};
 ghost use Rattle.dw_entries.specs.Cursors.{IsUnitAt};
 ghost use Rattle.dw_entries.specs.Grammar.{attribute_bytes};
-ghost use Rattle.dw_entries.specs.Entries.{Entry, entries_of};
-ghost use Rattle.dw_entries.specs.Scanned.{units_of};
+ghost use Rattle.dw_entries.specs.Entries.{Entry};
+ghost use Rattle.dw_entries.specs.Scanned.{all_entries, units_of};
 ghost use Rattle.dw_entries.specs.Asked.{values_of};
 ghost use Rattle.dw_entries.specs.ValuesLeft.{values_left};
 ghost use Rattle.dw_entries.specs.Leading.{leading_left};
@@ -60,13 +60,13 @@ pub struct EntryAt<'e, 'a> {
 impl<'e, 'a> Model for EntryAt<'e, 'a> {
     ghost Value = { Option Entry };
 
-    ghost view = { λ it. slice_get (entries_of (units_of it.entries.now.scanned)) it.id };
+    ghost view = { λ it. slice_get (all_entries it.entries.now.scanned) it.id };
 
-    ghost invariant = { λ it. (it.id < length (entries_of (units_of it.entries.now.scanned)))
+    ghost invariant = { λ it. (it.id < length (all_entries it.entries.now.scanned))
         × (slice_get it.entries.now.records.items it.id ≡ Some it.kept)
-        × IfSome (slice_get (entries_of (units_of it.entries.now.scanned)) it.id)
+        × IfSome (slice_get (all_entries it.entries.now.scanned) it.id)
         (λ e. decl_view it.decl.now ≡ e.head.decl)
-        × IfSome (slice_get (entries_of (units_of it.entries.now.scanned)) it.id)
+        × IfSome (slice_get (all_entries it.entries.now.scanned) it.id)
         (λ e. IfSome (slice_get (units_of it.entries.now.scanned) e.unit) (λ u. it.header ≡ u.header)) };
 }
 
@@ -74,8 +74,8 @@ impl<'a> Entries<'a> {
     /// The entry with this number, for all that is asked of it.
     #[inline(always)]
     pub fn at(&self, id: EntryId) -> EntryAt<'_, 'a>
-        requires { id < length (entries_of (units_of self.now.scanned)) }
-        ensures { result ≡ slice_get (entries_of (units_of self.now.scanned)) id }
+        requires { id < length (all_entries self.now.scanned) }
+        ensures { result ≡ slice_get (all_entries self.now.scanned) id }
     {
         let kept = self.record(id);
         let unit = unit_at(self, id, &kept);
@@ -92,11 +92,11 @@ impl<'e, 'a> EntryAt<'e, 'a> {
         kept: &Record,
         unit: &UnitAt,
     ) -> EntryAt<'e, 'a>
-        requires id { id < length (entries_of (units_of entries.now.scanned)) }
+        requires id { id < length (all_entries entries.now.scanned) }
         requires kept { slice_get entries.now.records.items id ≡ Some kept.now }
         requires unit { IsUnitAt entries.now.units.items unit.now }
         requires number { unit.now.number ≡ kept.now.unit }
-        ensures { result ≡ slice_get (entries_of (units_of entries.now.scanned)) id }
+        ensures { result ≡ slice_get (all_entries entries.now.scanned) id }
     {
         EntryAt {
             entries,

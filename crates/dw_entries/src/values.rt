@@ -27,7 +27,8 @@ pub struct Values<'e, 'a> {
     pub(crate) address_size: u8,
     pub ghost within: { at ≤ length attributes.now },
     pub ghost sized: { IsSize address_size } by { size_unique address_size },
-    pub ghost left: { Left (value_context version address_size) (drop at attributes.now) bytes.now } by { left_unique (value_context version address_size) (drop at attributes.now) bytes.now },
+    pub ghost left: { Left (value_context version address_size) (drop at attributes.now)
+        bytes.now } by { left_unique (value_context version address_size) (drop at attributes.now) bytes.now },
 }
 
 /// Whether values of the form may be references: those of class reference, and those that name another form.

@@ -117,8 +117,8 @@ impl Attributes {
         next_stop(&self.plan, &self.specs, from)
     }
 
-    /// The steps of a walk over the values that may lead elsewhere, up to the last of them. Each step reads a value that
-    /// takes bytes, but for that of a type or a base.
+    /// The steps of a walk over the values that may lead elsewhere, up to the last of them. Each step reads a value
+    /// that takes bytes, but for that of a type or a base.
     #[inline(always)]
     pub fn steps(&self) -> &[Step]
         ensures { result.now ≡ steps_of self.now }

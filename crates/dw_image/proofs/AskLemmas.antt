@@ -3,9 +3,8 @@ use Rattle.std.proofs.Common.{◌≡◌, subst, arith, inl, inr}
 use Rattle.dw_elf.specs.declared.sections.Sections.{Sections}
 use Rattle.dw_entries.specs.declared.fault.Fault.{Fault}
 use Rattle.dw_entries.specs.declared.entries.Entries.{Entries}
-use Rattle.dw_entries.specs.Failures.{HasNone, IsFirst}
+use Rattle.dw_entries.specs.Failures.{HasNone, IsFirst, IsPlainFault}
 use Rattle.dw_entries.specs.Scanned.{units_of}
-use Rattle.dw_entries.specs.Stopped.{IsFault}
 use Rattle.dw_entries.specs.Views.{sections_of}
 use Rattle.dw_links.specs.Classes.{ClassFailures}
 use Rattle.dw_links.specs.Strings.{StringFailures}
@@ -25,7 +24,7 @@ faulty s entries group fault same before first =
     fault_of s fault (subst (λ t. IsFirstFault t fault) same
     (in_group group (record { units = entries.scanned.0; spelled = entries.scanned.1.spells; before = before; first = first })))
 
-pub wrong_class : (s : Sections) (entries : Entries) (fault : Fault) → entries.sections ≡ s → IsFault (IsFirst (ClassFailures (units_of entries.scanned))) fault → IsFaultOf s fault
+pub wrong_class : (s : Sections) (entries : Entries) (fault : Fault) → entries.sections ≡ s → IsPlainFault (IsFirst (ClassFailures (units_of entries.scanned))) fault → IsFaultOf s fault
 wrong_class s entries fault same first = faulty s entries classes fault same (none_before (sections_of entries) (units_of entries.scanned)) first
 
 -- classes hold
@@ -46,11 +45,11 @@ before_types : (entries : Entries) → ClassesHold entries → StringsHold entri
 before_types entries none nor neither = one_more (sections_of entries) (units_of entries.scanned) references (before_references entries none nor) neither
 
 pub wrong_string : (s : Sections) (entries : Entries) (fault : Fault) → entries.sections ≡ s → ClassesHold entries
-    → IsFault (IsFirst (StringFailures (sections_of entries) (units_of entries.scanned))) fault → IsFaultOf s fault
+    → IsPlainFault (IsFirst (StringFailures (sections_of entries) (units_of entries.scanned))) fault → IsFaultOf s fault
 wrong_string s entries fault same none first = faulty s entries strings fault same (before_strings entries none) first
 
 pub wrong_reference : (s : Sections) (entries : Entries) (fault : Fault) → entries.sections ≡ s → ClassesHold entries → StringsHold entries
-    → IsFault (IsFirst (ReferenceFailures (units_of entries.scanned))) fault → IsFaultOf s fault
+    → IsPlainFault (IsFirst (ReferenceFailures (units_of entries.scanned))) fault → IsFaultOf s fault
 wrong_reference s entries fault same none nor first = faulty s entries references fault same (before_references entries none nor) first
 
 pub wrong_type : (s : Sections) (entries : Entries) (fault : Fault) → entries.sections ≡ s → ClassesHold entries → StringsHold entries → HasNone (ReferenceFailures (units_of entries.scanned))

@@ -9,7 +9,7 @@ use Rattle.dw_entries.specs.Header.{header_size}
 use Rattle.dw_entries.specs.Tree.{Node, Nodes, leaf, parent, none, ◌then◌, node_bytes}
 use Rattle.dw_entries.specs.Units.{DebugUnit, unit_bytes}
 use Rattle.dw_entries.specs.Entries.{Entry, node_count, nodes_count, first_id, node_entries, nodes_entries, entries_from, entries_of}
-use Rattle.dw_image.specs.Lookups.{is_number, children_from, siblings_from, IsLinked}
+use Rattle.dw_image.specs.Lookups.{is_number, children_from, siblings_from, IsChild}
 
 -- ---- children among joined entries
 
@@ -238,7 +238,7 @@ chained_get k (x ∷ es) zero e chained is =
 chained_get k (x ∷ es) (suc i) e chained is =
     subst (λ n. Link n e (drop (suc i) es)) (let z : suc k + i ≡ k + suc i = omega arith in z) (chained_get (suc k) es i e chained.1 is)
 
-pub linked_there : (es : List Entry) (p m : ℕ) (e : Entry) → slice_get es m ≡ Some e → e.parent ≡ Some p → IsLinked es p (Some m)
+pub linked_there : (es : List Entry) (p m : ℕ) (e : Entry) → slice_get es m ≡ Some e → e.parent ≡ Some p → IsChild es p (Some m)
 linked_there es p m e there is = λ x found.
     let same : m ≡ x = cc in
     subst (λ n. option_map (λ (y : Entry). y.parent) (slice_get es n) ≡ Some (Some p)) same (ap (option_map (λ (y : Entry). y.parent)) there ∙ ap Some is)
@@ -246,7 +246,7 @@ linked_there es p m e there is = λ x found.
 -- what is left from a child's next sibling on
 record Goes (es : List Entry) (p m : ℕ) (next : Option ℕ) : Type 0 where
   pub left : children_from (drop (suc m) es) p (suc m) ≡ siblings_from es p next
-  pub linked : IsLinked es p next
+  pub linked : IsChild es p next
 
 goes_on : (es : List Entry) (p m : ℕ) (next : Option ℕ) → After (suc m) (drop (suc m) es) (Some p) next → Goes es p m next
 goes_on es p m None after = record { left = after; linked = λ x found. absurd cc }
@@ -260,7 +260,7 @@ goes_on es p m (Some n) after =
 -- a child, and its siblings from its next one on
 pub record Steps (es : List Entry) (p m : ℕ) (next : Option ℕ) : Type 0 where
   pub left : siblings_from es p (Some m) ≡ m ∷ siblings_from es p next
-  pub linked : IsLinked es p next
+  pub linked : IsChild es p next
 
 step_of : (es : List Entry) (p m : ℕ) (e : Entry) → Chained 0 es → slice_get es m ≡ Some e → e.parent ≡ Some p → Steps es p m e.next
 step_of es p m e chained there is =

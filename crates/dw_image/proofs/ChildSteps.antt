@@ -7,7 +7,7 @@ use Rattle.dw_entries.specs.Lookups.{nth_of, entry_head}
 use Rattle.dw_entries.specs.Tree.{◌then◌}
 use Rattle.dw_entries.specs.Units.{DebugUnit}
 use Rattle.dw_entries.specs.Entries.{Entry, entries_of}
-use Rattle.dw_image.specs.Lookups.{is_number, children_from, children_of, siblings_from, IsLinked}
+use Rattle.dw_image.specs.Lookups.{is_number, children_from, children_of, siblings_from, IsChild}
 use Rattle.dw_image.proofs.ChildLemmas.{linked_there, next_of_child, no_first, none_behind, first_behind, Steps}
 
 pub slice_get_none : (es : List Entry) (i : ℕ) → slice_get es i ≡ None → length es ≤ i
@@ -16,12 +16,12 @@ slice_get_none (e ∷ es) zero is = absurd cc
 slice_get_none (e ∷ es) (suc i) is = let more = slice_get_none es i is in omega (arith, more)
 
 -- the parent of the entry with this number
-linked_parent : (es : List Entry) (p m : ℕ) (e : Entry) → IsLinked es p (Some m) → slice_get es m ≡ Some e → e.parent ≡ Some p
+linked_parent : (es : List Entry) (p m : ℕ) (e : Entry) → IsChild es p (Some m) → slice_get es m ≡ Some e → e.parent ≡ Some p
 linked_parent es p m e linked there =
     let known : Some e.parent ≡ Some (Some p) = ap (option_map (λ (y : Entry). y.parent)) (sym there) ∙ linked m refl in
     cc
 
-pub linked_within : (es : List Entry) (p m : ℕ) → IsLinked es p (Some m) → m < length es
+pub linked_within : (es : List Entry) (p m : ℕ) → IsChild es p (Some m) → m < length es
 linked_within es p m linked = go (slice_get es m) refl
   where
     go : (found : Option Entry) → slice_get es m ≡ found → m < length es
@@ -29,7 +29,7 @@ linked_within es p m linked = go (slice_get es m) refl
     go (Some e) some = slice_get_within es m e some
 
 -- a child and its next sibling, as the head tells it
-pub next_of_head : (us : List DebugUnit) (p m : ℕ) (head : Head) → IsLinked (entries_of us) p (Some m) → IfSome (slice_get (entries_of us) m) (λ e. head ≡ entry_head e) → Steps (entries_of us) p m head.next_sibling
+pub next_of_head : (us : List DebugUnit) (p m : ℕ) (head : Head) → IsChild (entries_of us) p (Some m) → IfSome (slice_get (entries_of us) m) (λ e. head ≡ entry_head e) → Steps (entries_of us) p m head.next_sibling
 next_of_head us p m head linked says = go (slice_get (entries_of us) m) refl says
   where
     go : (found : Option Entry) → slice_get (entries_of us) m ≡ found → IfSome found (λ e. head ≡ entry_head e) → Steps (entries_of us) p m head.next_sibling
@@ -45,10 +45,10 @@ number_is : (p : ℕ) (above : Option ℕ) → is_number p above ≡ true → ab
 number_is p None is = absurd cc
 number_is p (Some q) is = ap Some (eqb-true q p is)
 
-pub linked_of_behind : (us : List DebugUnit) (id k : ℕ) → k < length (entries_of us) → IfSome (slice_get (entries_of us) k) (λ e. true ≡ is_number id e.parent) → IsLinked (entries_of us) id (Some k)
+pub linked_of_behind : (us : List DebugUnit) (id k : ℕ) → k < length (entries_of us) → IfSome (slice_get (entries_of us) k) (λ e. true ≡ is_number id e.parent) → IsChild (entries_of us) id (Some k)
 linked_of_behind us id k lt says = go (slice_get (entries_of us) k) refl says
   where
-    go : (found : Option Entry) → slice_get (entries_of us) k ≡ found → IfSome found (λ e. true ≡ is_number id e.parent) → IsLinked (entries_of us) id (Some k)
+    go : (found : Option Entry) → slice_get (entries_of us) k ≡ found → IfSome found (λ e. true ≡ is_number id e.parent) → IsChild (entries_of us) id (Some k)
     go None gone says = absurd (omega (arith, lt, slice_get_none (entries_of us) k gone))
     go (Some e) some says = linked_there (entries_of us) id k e some (number_is id e.parent (sym says))
 

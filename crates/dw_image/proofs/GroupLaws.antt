@@ -14,10 +14,11 @@ use Rattle.dw_entries.specs.Rules.{group_of}
 use Rattle.dw_entries.specs.Failures.{Failure, HasNone}
 use Rattle.dw_entries.proofs.EntryFacts.{entries_rise}
 use Rattle.dw_links.specs.Strings.{OffsetFails, StringIndexFails, AddressIndexFails, BaseFails, StringFailsIn}
-use Rattle.dw_links.specs.References.{ReferenceFailsBy, HeaderFails, type_in}
+use Rattle.dw_links.specs.References.{ReferenceFailsBy, HeaderFails}
+use Rattle.dw_links.specs.Signatures.{type_in}
 use Rattle.dw_types.specs.declared.facts.Facts.{Facts}
 use Rattle.dw_types.specs.declared.kind.Role.{Role}
-use Rattle.dw_types.specs.Entries.{entry_at}
+use Rattle.dw_types.specs.Entries.{entry_of}
 use Rattle.dw_types.specs.FactsOf.{facts_in}
 use Rattle.dw_types.specs.Kinds.{parent_role}
 use Rattle.dw_types.specs.Shapes.{breaks_shape}
@@ -102,12 +103,12 @@ has_group s us references f fails =
       | inl p ↦ header_group (entries_of us) (placed us) p.number p.item.at (type_in p.item.unit.header.kind) f.rule p.fails.fails
       | inr p ↦ reference_group (entries_of us) (placed us) (entry_head p.item) f.attribute p.fails.value f.rule p.fails.fails.1
     ]
-has_group s us shapes f fails = shape_group (parent_role (facts_in us) fails.number) (entry_at (facts_in us) fails.number) f.rule fails.fails.fails
+has_group s us shapes f fails = shape_group (parent_role (facts_in us) fails.number) (entry_of (facts_in us) fails.number) f.rule fails.fails.fails
 has_group s us cycles f fails = ap group_of fails.rule
 has_group s us sizes f fails =
     let p = fails.fails in
     let facts = facts_in us in
-    size_group (parent_role facts p.number) (entry_at facts p.number) (fails.table p.number) (size_to fails.table (entry_at facts p.number).parent) (size_to fails.table (entry_at facts p.number).type_target)
+    size_group (parent_role facts p.number) (entry_of facts p.number) (fails.table p.number) (size_to fails.table (entry_of facts p.number).parent) (size_to fails.table (entry_of facts p.number).type_target)
     f.rule p.fails.fails
 
 behind_first : (group : Group) → turn_of group ≡ 1 → ⊥

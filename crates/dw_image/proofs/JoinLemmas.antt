@@ -6,8 +6,7 @@ use Rattle.dw_entries.specs.declared.fault.Broken.{Broken}
 use Rattle.dw_entries.specs.Units.{DebugUnit}
 use Rattle.dw_entries.specs.Entries.{entries_of}
 use Rattle.dw_entries.specs.Asked.{EachEntry}
-use Rattle.dw_entries.specs.Failures.{Failure, HasNone, IsFirst}
-use Rattle.dw_entries.specs.Stopped.{broken_of, IsFault}
+use Rattle.dw_entries.specs.Failures.{Failure, HasNone, IsFirst, broken_of, IsPlainFault}
 use Rattle.dw_entries.specs.UnitLaws.{one_list}
 use Rattle.dw_entries.proofs.FaultLaws.{no_list, one_fault}
 use Rattle.dw_entries.proofs.HeadLaws.{head_stands}
@@ -41,7 +40,7 @@ holds_of s units valid cycles = no_cycle_holds (facts_in units) valid.contained
 holds_of s units valid sizes = none_by_size (facts_in units) (facts-parents_first units) (facts-targets units) valid.sizes.0 valid.sizes.1.one valid.sizes.1.none
 
 -- a group where no rule fails has no first failure
-none_first : (Fails : Failure → Type 0) (fault : Fault) → HasNone Fails → IsFault (IsFirst Fails) fault → ⊥
+none_first : (Fails : Failure → Type 0) (fault : Fault) → HasNone Fails → IsPlainFault (IsFirst Fails) fault → ⊥
 none_first Fails fault none first = none first.holds.failure first.holds.fails
 
 none_named : (s : Sections) (units : List DebugUnit) (group : Group) (fault : Fault) → HasNone (failures_of s units group) → IsFirstIn s units group fault → ⊥
@@ -66,7 +65,7 @@ no_earlier s group later fault other p q less =
     none_named s q.units group fault (q.before group less) (subst (λ units. IsFirstIn s units group fault) same p.first)
 
 one_of_group : (s : Sections) (units : List DebugUnit) (group : Group) (fault other : Fault) → SpellsInfo s units
-    → IsFault (IsFirst (failures_of s units group)) fault → IsFault (IsFirst (failures_of s units group)) other → IsOneFault fault other
+    → IsPlainFault (IsFirst (failures_of s units group)) fault → IsPlainFault (IsFirst (failures_of s units group)) other → IsOneFault fault other
 one_of_group s units group fault other spelled p q =
     inl (record {
       broken = one_first (failures_of s units group) (broken_of fault) (broken_of other) (one_at_place s units spelled.are group) p.holds q.holds;

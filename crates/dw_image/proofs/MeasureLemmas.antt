@@ -2,8 +2,7 @@
 use Rattle.std.proofs.Common.{◌<◌, List, arith}
 use Rattle.dw_elf.specs.declared.sections.Sections.{Sections}
 use Rattle.dw_entries.specs.declared.fault.Fault.{Fault}
-use Rattle.dw_entries.specs.Failures.{HasNone, IsFirst}
-use Rattle.dw_entries.specs.Stopped.{IsFault}
+use Rattle.dw_entries.specs.Failures.{HasNone, IsFirst, IsPlainFault}
 use Rattle.dw_entries.specs.Units.{DebugUnit}
 use Rattle.dw_types.specs.FactsOf.{facts_in}
 use Rattle.dw_types.specs.Graphs.{HasNoCycle}
@@ -35,13 +34,13 @@ cycles_late s us none nor shapes late less = none
 cycles_late s us none nor cycles late less = no_cycle_holds (facts_in us) nor
 cycles_late s us none nor sizes late less = absurd (omega (arith, less))
 
-pub wrong_shape : (s : Sections) (us : List DebugUnit) (fault : Fault) → IsFault (IsFirst (ShapeFailures (facts_in us))) fault → FailsInTypes s us fault
+pub wrong_shape : (s : Sections) (us : List DebugUnit) (fault : Fault) → IsPlainFault (IsFirst (ShapeFailures (facts_in us))) fault → FailsInTypes s us fault
 wrong_shape s us fault first = record { group = shapes; late = omega arith; before = none_late s us; first = first }
 
 pub contains_itself : (s : Sections) (us : List DebugUnit) (fault : Fault) → HasNone (ShapeFailures (facts_in us)) → NamesCycle (facts_in us) fault → FailsInTypes s us fault
 contains_itself s us fault none names = record { group = cycles; late = omega arith; before = shapes_late s us none; first = names }
 
-pub wrong_size : (s : Sections) (us : List DebugUnit) (fault : Fault) → HasNone (ShapeFailures (facts_in us)) → HasNoCycle (by_value (facts_in us)) → IsFault (IsFirstSizeFault (facts_in us)) fault → FailsInTypes s us fault
+pub wrong_size : (s : Sections) (us : List DebugUnit) (fault : Fault) → HasNone (ShapeFailures (facts_in us)) → HasNoCycle (by_value (facts_in us)) → IsPlainFault (IsFirstSizeFault (facts_in us)) fault → FailsInTypes s us fault
 wrong_size s us fault none nor first = record {
   group = sizes;
   late = omega arith;

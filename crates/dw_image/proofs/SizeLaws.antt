@@ -5,7 +5,7 @@ use Rattle.dw_entries.specs.declared.rule.Rule.{Rule}
 use Rattle.dw_entries.specs.declared.fault.Broken.{Broken}
 use Rattle.dw_entries.specs.Failures.{Failure, HasNone, IsFirst}
 use Rattle.dw_types.specs.declared.facts.Facts.{Facts}
-use Rattle.dw_types.specs.Entries.{entry_at, ParentsComeFirst, TargetsAreEntries}
+use Rattle.dw_types.specs.Entries.{entry_of, ParentsComeFirst, TargetsAreEntries}
 use Rattle.dw_types.specs.SizeTables.{Size}
 use Rattle.dw_types.specs.Sizes.{IsSizeTable, size_to}
 use Rattle.dw_types.specs.SizeFaults.{fails_size, SizeFailures, IsFirstSizeFault}
@@ -25,8 +25,8 @@ module _ (facts : List Facts) (parents : ParentsComeFirst facts) (targets : Targ
       → fails_size facts other node rule ≡ fails_size facts table node rule
   same_fails table other one two node below rule =
       let here = same_at table other one two node below in
-      let above = same_to table other one two (entry_at facts node).parent (λ to is. let p = parents node to is in omega (arith, p, below)) in
-      let under = same_to table other one two (entry_at facts node).type_target (λ to is. (targets node to).0 is) in
+      let above = same_to table other one two (entry_of facts node).parent (λ to is. let p = parents node to is in omega (arith, p, below)) in
+      let under = same_to table other one two (entry_of facts node).type_target (λ to is. (targets node to).0 is) in
       cc
 
   -- what fails by one fails by the other

@@ -5,17 +5,16 @@ use Rattle.dw_elf.specs.declared.sections.Sections.{Sections}
 use Rattle.dw_entries.specs.declared.fault.Fault.{Fault}
 use Rattle.dw_entries.specs.declared.fault.Broken.{Broken}
 use Rattle.dw_entries.specs.declared.rule.Rule.TheVariants.{ContainsItself}
-use Rattle.dw_entries.specs.Failures.{Failure, HasNone, IsFirst}
+use Rattle.dw_entries.specs.Failures.{Failure, HasNone, IsFirst, broken_of, IsPlainFault}
 use Rattle.dw_entries.specs.Faults.{Fails}
 use Rattle.dw_entries.specs.declared.fault.Section.TheVariants.{Info}
 use Rattle.dw_entries.specs.Places.{at_entry}
-use Rattle.dw_entries.specs.Stopped.{broken_of, IsFault}
 use Rattle.dw_entries.specs.Units.{DebugUnit}
 use Rattle.dw_links.specs.Classes.{ClassFailures}
 use Rattle.dw_links.specs.Strings.{StringFailures}
 use Rattle.dw_links.specs.References.{ReferenceFailures}
 use Rattle.dw_types.specs.declared.facts.Facts.{Facts}
-use Rattle.dw_types.specs.Entries.{entry_at}
+use Rattle.dw_types.specs.Entries.{entry_of}
 use Rattle.dw_types.specs.FactsOf.{facts_in}
 use Rattle.dw_types.specs.Graphs.{IsCycle}
 use Rattle.dw_types.specs.Shapes.{ShapeFailures}
@@ -51,7 +50,7 @@ turn_of sizes = 7
 
 -- the offset of an entry, by its number
 abbrev pub offset_at : List Facts → ℕ → ℕ
-offset_at facts node = (entry_at facts node).offset
+offset_at facts node = (entry_of facts node).offset
 
 -- an entry contains itself: a cycle of steps by value starts there, and it is the least entry of the cycle
 pub record ContainsItselfAt (facts : List Facts) (f : Failure) : Type 0 where
@@ -86,12 +85,12 @@ pub record NamesCycle (facts : List Facts) (fault : Fault) : Type 0 where
 
 -- a fault names the first failure of a group; of several cycles it names one
 abbrev pub IsFirstIn : Sections → List DebugUnit → Group → Fault → Type 0
-IsFirstIn s units classes = IsFault (IsFirst (failures_of s units classes))
-IsFirstIn s units strings = IsFault (IsFirst (failures_of s units strings))
-IsFirstIn s units references = IsFault (IsFirst (failures_of s units references))
-IsFirstIn s units shapes = IsFault (IsFirst (failures_of s units shapes))
+IsFirstIn s units classes = IsPlainFault (IsFirst (failures_of s units classes))
+IsFirstIn s units strings = IsPlainFault (IsFirst (failures_of s units strings))
+IsFirstIn s units references = IsPlainFault (IsFirst (failures_of s units references))
+IsFirstIn s units shapes = IsPlainFault (IsFirst (failures_of s units shapes))
 IsFirstIn s units cycles = NamesCycle (facts_in units)
-IsFirstIn s units sizes = IsFault (IsFirst (failures_of s units sizes))
+IsFirstIn s units sizes = IsPlainFault (IsFirst (failures_of s units sizes))
 
 -- units spell the sections, no rule of an earlier group fails, and the fault names the first failure of this group
 pub record FailsInGroup (s : Sections) (group : Group) (fault : Fault) : Type 0 where

@@ -41,5 +41,5 @@ siblings_from entries p None = []
 siblings_from entries p (Some m) = children_from (drop m entries) p m
 
 -- an entry has this number, if there is one, and this is its parent
-abbrev pub IsLinked : List Entry → ℕ → Option ℕ → Type 0
-IsLinked entries p next = ForSome next (λ m. option_map (λ (e : Entry). e.parent) (slice_get entries m) ≡ Some (Some p))
+abbrev pub IsChild : List Entry → ℕ → Option ℕ → Type 0
+IsChild entries p next = ForSome next (λ m. option_map (λ (e : Entry). e.parent) (slice_get entries m) ≡ Some (Some p))

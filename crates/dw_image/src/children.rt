@@ -1,9 +1,8 @@
 //! The children of an entry, one by one.
 
 ghost use Rattle.std.specs.Prelude.{◌≡◌, ◌<◌, length, slice_get, IfSome};
-ghost use Rattle.dw_entries.specs.Entries.{entries_of};
-ghost use Rattle.dw_entries.specs.Scanned.{units_of};
-ghost use Rattle.dw_image.specs.Lookups.{is_number, children_of, siblings_from, IsLinked};
+ghost use Rattle.dw_entries.specs.Scanned.{all_entries};
+ghost use Rattle.dw_image.specs.Lookups.{is_number, children_of, siblings_from, IsChild};
 
 use crate::image::Image;
 use dw_entries::{Entries, EntryId};
@@ -14,7 +13,7 @@ pub struct Children<'i, 'a> {
     entries: &'i Entries<'a>,
     parent: EntryId,
     next: Option<EntryId>,
-    ghost linked: { IsLinked (entries_of (units_of entries.now.scanned)) parent next },
+    ghost linked: { IsChild (all_entries entries.now.scanned) parent next },
 }
 
 impl<'i, 'a> Iterator for Children<'i, 'a> {
@@ -36,8 +35,8 @@ impl<'i, 'a> Iterator for Children<'i, 'a> {
 
 /// Whether an entry is a child of another.
 fn is_child(entries: &Entries<'_>, id: EntryId, parent: EntryId) -> bool
-    requires { id < length (entries_of (units_of entries.now.scanned)) }
-    ensures { IfSome (slice_get (entries_of (units_of entries.now.scanned)) id)
+    requires { id < length (all_entries entries.now.scanned) }
+    ensures { IfSome (slice_get (all_entries entries.now.scanned) id)
         (λ e. result ≡ is_number parent e.parent) }
 {
     match entries.head(id).parent {
@@ -48,10 +47,10 @@ fn is_child(entries: &Entries<'_>, id: EntryId, parent: EntryId) -> bool
 
 /// The first child of an entry: the entry after it, if that is a child.
 fn first_child(entries: &Entries<'_>, id: EntryId) -> Option<EntryId>
-    requires { id < length (entries_of (units_of entries.now.scanned)) }
-    ensures children { siblings_from (entries_of (units_of entries.now.scanned)) id result
-        ≡ children_of (entries_of (units_of entries.now.scanned)) id }
-    ensures linked { IsLinked (entries_of (units_of entries.now.scanned)) id result }
+    requires { id < length (all_entries entries.now.scanned) }
+    ensures children { siblings_from (all_entries entries.now.scanned) id result
+        ≡ children_of (all_entries entries.now.scanned) id }
+    ensures linked { IsChild (all_entries entries.now.scanned) id result }
 {
     match entries.nth(id.number() + 1) {
         Some(behind) => {

@@ -1,8 +1,7 @@
 //! The groups of rules on types: shapes, containment, sizes.
 
 ghost use Rattle.std.specs.Prelude.{◌≡◌, ◌<◌, length, map, IfOk, IfErr};
-ghost use Rattle.dw_entries.specs.Entries.{entries_of};
-ghost use Rattle.dw_entries.specs.Scanned.{units_of};
+ghost use Rattle.dw_entries.specs.Scanned.{all_entries, units_of};
 ghost use Rattle.dw_entries.specs.Stopped.{IfFaulty};
 ghost use Rattle.dw_entries.specs.Views.{sections_of};
 ghost use Rattle.dw_types.specs.FactsOf.{facts_in};
@@ -20,7 +19,7 @@ use std::alloc::{AllocError, Global};
 
 /// The offset of the entry with a number.
 fn offset_of(entries: &Entries<'_>, number: usize) -> u32
-    requires { number < length (entries_of (units_of entries.now.scanned)) }
+    requires { number < length (all_entries entries.now.scanned) }
     ensures { result ≡ offset_at (facts_in (units_of entries.now.scanned)) number }
 {
     entries.head(entries.id(number)).offset

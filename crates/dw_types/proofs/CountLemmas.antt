@@ -17,7 +17,7 @@ use Rattle.dw_types.specs.declared.facts.Facts.{Facts}
 use Rattle.dw_types.specs.declared.facts_reader.UnitFacts.{UnitFacts}
 use Rattle.dw_types.specs.declared.kind.Role.TheVariants.{Members, Dimensions, Other}
 use Rattle.dw_types.specs.Counts.{count_at, count_from, is_array_tag, is_dimension, is_subrange_tag, known_natural}
-use Rattle.dw_types.specs.Entries.{entry_at}
+use Rattle.dw_types.specs.Entries.{entry_of}
 use Rattle.dw_types.specs.FactsOf.{constant_at, facts_in, is_asked}
 use Rattle.dw_types.specs.Kinds.{has_members, is_array, is_dimensions, parent_role, role_in, role_of}
 use Rattle.dw_types.specs.UnitsRead.{unit_facts, unit_facts_at}
@@ -41,7 +41,7 @@ dimensions-role entry = dimensions-by (has_members entry) (is_array entry) (not-
 pub in-array : (us : List DebugUnit) (parent : Option ℕ) (id : ℕ) (head : Head) → parent ≡ Some id → id < length (facts_in us) → IfSome (slice_get (entries_of us) id) (λ e. head ≡ entry_head e)
     → is_array_tag head.tag ≡ is_dimensions (role_in (facts_in us) parent)
 in-array us parent id head named below is =
-    rw named (ap is_array_tag (tag-known us (facts_in us) refl head id id refl below is) ∙ sym (dimensions-role (entry_at (facts_in us) id)))
+    rw named (ap is_array_tag (tag-known us (facts_in us) refl head id id refl below is) ∙ sym (dimensions-role (entry_of (facts_in us) id)))
 
 -- the parent of an entry is an entry
 pub parent-entry : (us : List DebugUnit) (id : ℕ) (head : Head) → id < length (entries_of us) → IfSome (slice_get (entries_of us) id) (λ e. head ≡ entry_head e) → IfSome head.parent (λ node. node < length (entries_of us))
@@ -55,7 +55,7 @@ parent-entry us id head below is = elim (slice_get_cases (entries_of us) id).1 [
 
 -- a dimension by the head of an entry
 pub dimension-known : (us : List DebugUnit) (id : ℕ) (head : Head) → id < length (facts_in us) → IfSome (slice_get (entries_of us) id) (λ e. head ≡ entry_head e)
-    → (is_subrange_tag head.tag && is_dimensions (role_in (facts_in us) head.parent)) ≡ is_dimension (parent_role (facts_in us) id) (entry_at (facts_in us) id)
+    → (is_subrange_tag head.tag && is_dimensions (role_in (facts_in us) head.parent)) ≡ is_dimension (parent_role (facts_in us) id) (entry_of (facts_in us) id)
 dimension-known us id head below is =
     let tag = tag-known us (facts_in us) refl head id id refl below is in
     let parent = parent-known us (facts_in us) refl head id id refl below is in
@@ -82,13 +82,13 @@ module _ (a info : List ℕ) (us : List DebugUnit) (spells : Spells a us info) (
       IfSome_then (slice_get (entries_of us) id) is_head (λ e h. at_unit ∙ ap (λ (x : Head). unit_facts_at (placed us) x.unit) h)
 
   -- the count of an entry that is a dimension
-  pub count-known : is_dimension (parent_role (facts_in us) id) (entry_at (facts_in us) id) ≡ true
+  pub count-known : is_dimension (parent_role (facts_in us) id) (entry_of (facts_in us) id) ≡ true
       → (count upper lower : Constant) (unit : UnitFacts) → IfSome (slice_get (entries_of us) id) (λ e. count ≡ constant_at e DW_AT_count)
       → IfSome (slice_get (entries_of us) id) (λ e. upper ≡ constant_at e DW_AT_upper_bound) → IfSome (slice_get (entries_of us) id) (λ e. lower ≡ constant_at e DW_AT_lower_bound)
       → IfSome (slice_get (placed us) head.unit) (λ u. unit ≡ unit_facts u)
       → known_natural (count_from count unit.language upper lower) ≡ count_at (facts_in us) id
   count-known dimension count upper lower unit is_count is_upper is_lower is_unit =
-      let facts = entry_at (facts_in us) id in
+      let facts = entry_of (facts_in us) id in
       let tag : head.tag ≡ facts.tag = tag-known us (facts_in us) refl head id id refl (let long = length-facts_of (entries_of us) (placed us) in omega arith) is_head in
       let subrange = (and_parts (is_subrange_tag facts.tag) _ dimension).0 in
       let asked : is_asked head.tag ≡ true = subrange-asked head.tag (rw (← tag) at subrange) in

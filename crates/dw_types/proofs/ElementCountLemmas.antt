@@ -10,7 +10,7 @@ use Rattle.dw_types.specs.declared.facts.Facts.{Facts}
 use Rattle.dw_types.specs.declared.element_count.ElementCount.{ElementCount}
 use Rattle.dw_types.specs.declared.element_count.ElementCount.TheVariants.{NoDimension, Known, Unknown}
 use Rattle.dw_types.specs.ElementCounts.{element_count_by, element_count_from, grown, is_index, with_child, children_before}
-use Rattle.dw_types.specs.Entries.{entry_at, is_parent, is_child, children}
+use Rattle.dw_types.specs.Entries.{entry_of, is_parent, is_child, children}
 use Rattle.dw_types.specs.Orders.{Ranking}
 use Rattle.dw_types.specs.SizeTables.{Size, cap_size, size_at}
 use Rattle.dw_types.specs.StoredSizes.{count_at_size}
@@ -126,13 +126,13 @@ parent-is parent node place is same = rw is (eq-eqb place node same)
 parent-other : (parent : Option ℕ) (node place : ℕ) → parent ≡ Some place → node ≢ place → is_parent parent node ≡ false
 parent-other parent node place is other = rw is (false_from_ne_true (eqb place node) (λ same. other (sym (eqb-true place node same))))
 
-pub counts-plain : (entries : List Facts) (factors : List ElementCount) (count : ℕ) → HasElementCounts entries factors count → (entry_at entries count).parent ≡ None → HasElementCounts entries factors (count + 1)
+pub counts-plain : (entries : List Facts) (factors : List ElementCount) (count : ℕ) → HasElementCounts entries factors count → (entry_of entries count).parent ≡ None → HasElementCounts entries factors (count + 1)
 counts-plain entries factors count h none = record {
   long = h.long;
-  each = λ node below. h.each node below ∙ ap (element_count_by entries) (sym (child-none entries node count (parent-none (entry_at entries count).parent node none)));
+  each = λ node below. h.each node below ∙ ap (element_count_by entries) (sym (child-none entries node count (parent-none (entry_of entries count).parent node none)));
 }
 
-pub counts-child : (entries : List Facts) (factors : List ElementCount) (count parent : ℕ) → HasElementCounts entries factors count → (entry_at entries count).parent ≡ Some parent → parent < length entries
+pub counts-child : (entries : List Facts) (factors : List ElementCount) (count parent : ℕ) → HasElementCounts entries factors count → (entry_of entries count).parent ≡ Some parent → parent < length entries
     → HasElementCounts entries (set factors parent (with_child entries (get_or factors parent NoDimension) count)) (count + 1)
 counts-child entries factors count parent h is inside =
     let long = h.long in
@@ -144,9 +144,9 @@ counts-child entries factors count parent h is inside =
                 p.1
                 ∙ (ap (λ (f : ElementCount). with_child entries f count) (h.each parent inside)
                 ∙ (sym (element_count_by-push entries (children_before entries parent count) count)
-                ∙ (ap (element_count_by entries) (sym (child-more entries parent count (parent-is (entry_at entries count).parent parent parent is refl)))
+                ∙ (ap (element_count_by entries) (sym (child-more entries parent count (parent-is (entry_of entries count).parent parent parent is refl)))
                 ∙ ap (λ (n : ℕ). element_count_by entries (children_before entries n (count + 1))) (sym p.0))))
-            | inr p ↦ p.1 ∙ (h.each node below ∙ ap (element_count_by entries) (sym (child-none entries node count (parent-other (entry_at entries count).parent node parent is p.0))))
+            | inr p ↦ p.1 ∙ (h.each node below ∙ ap (element_count_by entries) (sym (child-none entries node count (parent-other (entry_of entries count).parent node parent is p.0))))
           ];
     }
 
@@ -156,10 +156,10 @@ or-none : (a b : Bool) → (a || b) ≡ false → (a ≡ false) × (b ≡ false)
 or-none true b is = absurd cc
 or-none false b is = (refl, is)
 
-with_child-none : (entries : List Facts) (child : ℕ) (elements : ElementCount) → is_index (entry_at entries child) ≡ false → with_child entries elements child ≡ elements
+with_child-none : (entries : List Facts) (child : ℕ) (elements : ElementCount) → is_index (entry_of entries child) ≡ false → with_child entries elements child ≡ elements
 with_child-none entries child elements is = let none = or-none (is_subrange entries child) (is_other_index entries child) is in rw (none.0, none.1) refl
 
-pub counts-none : (entries : List Facts) (factors : List ElementCount) (count : ℕ) → HasElementCounts entries factors count → is_index (entry_at entries count) ≡ false → HasElementCounts entries factors (count + 1)
+pub counts-none : (entries : List Facts) (factors : List ElementCount) (count : ℕ) → HasElementCounts entries factors count → is_index (entry_of entries count) ≡ false → HasElementCounts entries factors (count + 1)
 counts-none entries factors count h none = record {
   long = h.long;
   each = λ node below. h.each node below ∙ same node (is_child entries node count) refl;
@@ -175,11 +175,11 @@ pub counted-parent : (test : Bool) (parent : Option ℕ) (node : ℕ) → (if te
 counted-parent true parent node is = is
 counted-parent false parent node is = absurd cc
 
-pub counts-uncounted : (entries : List Facts) (factors : List ElementCount) (count : ℕ) → HasElementCounts entries factors count → (if is_index (entry_at entries count) then (entry_at entries count).parent else None) ≡ None
+pub counts-uncounted : (entries : List Facts) (factors : List ElementCount) (count : ℕ) → HasElementCounts entries factors count → (if is_index (entry_of entries count) then (entry_of entries count).parent else None) ≡ None
     → HasElementCounts entries factors (count + 1)
-counts-uncounted entries factors count h none = by (is_index (entry_at entries count)) refl none
+counts-uncounted entries factors count h none = by (is_index (entry_of entries count)) refl none
   where
-    by : (test : Bool) → is_index (entry_at entries count) ≡ test → (if test then (entry_at entries count).parent else None) ≡ None → HasElementCounts entries factors (count + 1)
+    by : (test : Bool) → is_index (entry_of entries count) ≡ test → (if test then (entry_of entries count).parent else None) ≡ None → HasElementCounts entries factors (count + 1)
     by true is missing = counts-plain entries factors count h missing
     by false is missing = counts-none entries factors count h is
 

@@ -9,7 +9,7 @@ use Rattle.dw_entries.specs.Lookups.{entry_head}
 use Rattle.dw_entries.specs.Units.{AreUnits, DebugUnit}
 use Rattle.dw_entries.proofs.EntryFacts.{entries_rise}
 use Rattle.dw_types.specs.declared.facts.Facts.{Facts}
-use Rattle.dw_types.specs.Entries.{entry_at, no_entry, OffsetsRise, ParentsComeFirst, TargetsAreEntries}
+use Rattle.dw_types.specs.Entries.{entry_of, no_entry, OffsetsRise, ParentsComeFirst, TargetsAreEntries}
 use Rattle.dw_types.specs.FactsOf.{facts_at, facts_in, facts_of, facts_read, facts_unread, is_asked}
 use Rattle.dw_types.proofs.ParentLemmas.{parent-before}
 use Rattle.dw_types.proofs.TargetLemmas.{target-below}
@@ -20,7 +20,7 @@ unfolding facts_of
 length-facts_of entries units = length-map entries (facts_at entries units)
 
 -- the facts of the entry with a number
-pub facts-get : (entries : List Entry) (units : List PlacedUnit) (id : ℕ) (e : Entry) → slice_get entries id ≡ Some e → entry_at (facts_of entries units) id ≡ facts_at entries units e
+pub facts-get : (entries : List Entry) (units : List PlacedUnit) (id : ℕ) (e : Entry) → slice_get entries id ≡ Some e → entry_of (facts_of entries units) id ≡ facts_at entries units e
 unfolding facts_of
 facts-get entries units id e is =
     get_or_from_slice_get (map (facts_at entries units) entries) id (facts_at entries units e) no_entry (slice_get-map (facts_at entries units) entries id ∙ ap (option_map (facts_at entries units)) is)
@@ -82,12 +82,12 @@ module _ (entries : List Entry) (units : List PlacedUnit) (e : Entry) where
   pub facts-within : IsWithin (facts_at entries units e)
   facts-within = by_tag IsWithin read-within unread-within
 
-facts-past : (entries : List Entry) (units : List PlacedUnit) (id : ℕ) → length entries ≤ id → entry_at (facts_of entries units) id ≡ no_entry
+facts-past : (entries : List Entry) (units : List PlacedUnit) (id : ℕ) → length entries ≤ id → entry_of (facts_of entries units) id ≡ no_entry
 facts-past entries units id over = get_or_past (facts_of entries units) id no_entry (let long = length-facts_of entries units in omega arith)
 
 -- what holds of the facts of each entry, and where there is no entry, holds at each number
 by_number : (entries : List Entry) (units : List PlacedUnit) (P : ℕ → Facts → Type 0) → ((id : ℕ) (e : Entry) → slice_get entries id ≡ Some e → P id (facts_at entries units e)) → ((id : ℕ) → P id no_entry)
-    → (id : ℕ) → P id (entry_at (facts_of entries units) id)
+    → (id : ℕ) → P id (entry_of (facts_of entries units) id)
 by_number entries units P inside past id = elim (slice_get_cases entries id).1 [
   | inl here ↦ rw (facts-get entries units id here.0 here.2) (inside id here.0 here.2)
   | inr over ↦ rw (facts-past entries units id over.0) (past id)
@@ -129,7 +129,7 @@ module _ (us : List DebugUnit) (facts : List Facts) (same : facts_in us ≡ fact
   facts-below node below = let count = facts-count in omega arith
 
   -- what a clause says of the entry with a number
-  known : (P : Facts → Type 0) (id node : ℕ) → id ≡ node → node < length facts → IfSome (slice_get (entries_of us) id) (λ e. P (facts_at (entries_of us) (placed us) e)) → P (entry_at facts node)
+  known : (P : Facts → Type 0) (id node : ℕ) → id ≡ node → node < length facts → IfSome (slice_get (entries_of us) id) (λ e. P (facts_at (entries_of us) (placed us) e)) → P (entry_of facts node)
   known P id node here below is = elim (slice_get_cases (entries_of us) id).1 [
     | inr over ↦ absurd (let inside = facts-below node below in omega (arith, over.0))
     | inl there ↦
@@ -137,10 +137,10 @@ module _ (us : List DebugUnit) (facts : List Facts) (same : facts_in us ≡ fact
         rw (← same, ← here, facts-get (entries_of us) (placed us) id there.0 there.2) at
   ]
 
-  pub tag-known : (head : Head) (id node : ℕ) → id ≡ node → node < length facts → IfSome (slice_get (entries_of us) id) (λ e. head ≡ entry_head e) → head.tag ≡ (entry_at facts node).tag
+  pub tag-known : (head : Head) (id node : ℕ) → id ≡ node → node < length facts → IfSome (slice_get (entries_of us) id) (λ e. head ≡ entry_head e) → head.tag ≡ (entry_of facts node).tag
   tag-known head id node here below is =
       known (λ x. head.tag ≡ x.tag) id node here below (IfSome_then (slice_get (entries_of us) id) is (λ e h. ap (λ (x : Head). x.tag) h ∙ sym (facts-tag (entries_of us) (placed us) e)))
 
-  pub parent-known : (head : Head) (id node : ℕ) → id ≡ node → node < length facts → IfSome (slice_get (entries_of us) id) (λ e. head ≡ entry_head e) → head.parent ≡ (entry_at facts node).parent
+  pub parent-known : (head : Head) (id node : ℕ) → id ≡ node → node < length facts → IfSome (slice_get (entries_of us) id) (λ e. head ≡ entry_head e) → head.parent ≡ (entry_of facts node).parent
   parent-known head id node here below is =
       known (λ x. head.parent ≡ x.parent) id node here below (IfSome_then (slice_get (entries_of us) id) is (λ e h. ap (λ (x : Head). x.parent) h ∙ sym (facts-parent (entries_of us) (placed us) e)))

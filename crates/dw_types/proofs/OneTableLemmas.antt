@@ -4,7 +4,7 @@ use Rattle.std.proofs.lemmas.Bool.{false_from_ne_true}
 use Rattle.dw_types.specs.declared.facts.Facts.{Facts}
 use Rattle.dw_entries.specs.declared.rule.Rule.TheVariants.{SizeTooGreat}
 use Rattle.dw_types.specs.CappedSizes.{ObeysCappedLines}
-use Rattle.dw_types.specs.Entries.{entry_at, ParentsComeFirst, TargetsAreEntries, OffsetsRise}
+use Rattle.dw_types.specs.Entries.{entry_of, ParentsComeFirst, TargetsAreEntries, OffsetsRise}
 use Rattle.dw_types.specs.Graphs.{LeadsToNodes}
 use Rattle.dw_types.specs.Orders.{Ranking, IsOrderOf}
 use Rattle.dw_types.specs.SizeFaults.{IsFirstSizeFault, is_too_great, fails_size}
@@ -66,7 +66,7 @@ module _ (entries : List Facts) (targets : TargetsAreEntries entries) (order : R
 
   -- the first entry that breaks a rule by the capped table has the first failure
   pub first-is_first : ParentsComeFirst entries → OffsetsRise entries → (found : ℕ → Size) → ObeysCappedLines entries found → (node : ℕ) (rule : Rule)
-      → IsFirstAt entries (fails_size entries found) node rule → IsFirstSizeFault entries (broken_at rule (entry_at entries node).offset)
+      → IsFirstAt entries (fails_size entries found) node rule → IsFirstSizeFault entries (broken_at rule (entry_of entries node).offset)
   first-is_first parents rise found capped node rule first = record {
     table = sizes_by_rank;
     is_table = is-size_table sizes_by_rank exact-lines;

@@ -10,7 +10,7 @@ use Rattle.dw_entries.specs.Units.{DebugUnit}
 use Rattle.dw_links.specs.References.{is_declared}
 use Rattle.dw_types.specs.declared.constant.Constant.TheVariants.{Absent}
 use Rattle.dw_types.specs.declared.facts.Facts.{Facts}
-use Rattle.dw_types.specs.Entries.{entry_at}
+use Rattle.dw_types.specs.Entries.{entry_of}
 use Rattle.dw_types.specs.FactsAsked.{IsConstantAt, IsPresenceOf, IsTargetOf}
 use Rattle.dw_types.specs.FactsOf.{facts_at, facts_in, facts_read, facts_unread, is_asked}
 use Rattle.dw_types.specs.UnitsRead.{unit_facts_at}
@@ -89,7 +89,7 @@ declared-is entries units e = by-asked (λ (facts : Facts). facts.declared) (is_
 -- what is read of the entry with a number is its fact
 module _ (us : List DebugUnit) (id : ℕ) (head : Head) (below : id < length (entries_of us)) (is_head : IfSome (slice_get (entries_of us) id) (λ e. head ≡ entry_head e)) where
   -- what holds of the facts of the entry that stands there
-  pub of-entry : (P : Facts → Type 0) → ((e : Entry) → slice_get (entries_of us) id ≡ Some e → head ≡ entry_head e → P (facts_at (entries_of us) (placed us) e)) → P (entry_at (facts_in us) id)
+  pub of-entry : (P : Facts → Type 0) → ((e : Entry) → slice_get (entries_of us) id ≡ Some e → head ≡ entry_head e → P (facts_at (entries_of us) (placed us) e)) → P (entry_of (facts_in us) id)
   of-entry P holds = elim (slice_get_cases (entries_of us) id).1 [
     | inr over ↦ absurd (omega (arith, over.0))
     | inl here ↦
@@ -99,7 +99,7 @@ module _ (us : List DebugUnit) (id : ℕ) (head : Head) (below : id < length (en
 
   module _ {X : Type 0} (fact : Facts → X) (read : Entry → X) (none : X)
       (is : (e : Entry) → fact (facts_at (entries_of us) (placed us) e) ≡ (if is_asked e.head.decl.tag then read e else none)) where
-    pub fact-asked : (found : X) → is_asked head.tag ≡ true → IfSome (slice_get (entries_of us) id) (λ e. found ≡ read e) → found ≡ fact (entry_at (facts_in us) id)
+    pub fact-asked : (found : X) → is_asked head.tag ≡ true → IfSome (slice_get (entries_of us) id) (λ e. found ≡ read e) → found ≡ fact (entry_of (facts_in us) id)
     fact-asked found asked known = of-entry (λ facts. found ≡ fact facts) (λ e at same.
         let tag : is_asked e.head.decl.tag ≡ true = ap (λ (h : Head). is_asked h.tag) (sym same) ∙ asked in
         let here : found ≡ read e = rw at at known in
@@ -107,7 +107,7 @@ module _ (us : List DebugUnit) (id : ℕ) (head : Head) (below : id < length (en
 
 -- what a clause says of the entry with a number is its fact
 pub fact-here : {X : Type 0} (us : List DebugUnit) (id : ℕ) (o : Option Entry) → id < length (entries_of us) → o ≡ slice_get (entries_of us) id → (fact : Facts → X) (read : Entry → X)
-    → ((e : Entry) → fact (facts_at (entries_of us) (placed us) e) ≡ read e) → (found : X) → IfSome o (λ e. found ≡ read e) → found ≡ fact (entry_at (facts_in us) id)
+    → ((e : Entry) → fact (facts_at (entries_of us) (placed us) e) ≡ read e) → (found : X) → IfSome o (λ e. found ≡ read e) → found ≡ fact (entry_of (facts_in us) id)
 fact-here us id o below there fact read is found known = elim (slice_get_cases (entries_of us) id).1 [
   | inr over ↦ absurd (omega (arith, over.0))
   | inl here ↦

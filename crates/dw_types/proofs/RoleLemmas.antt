@@ -3,7 +3,7 @@ use Rattle.std.proofs.Common.{◌≡◌, ℕ, ◌+◌, ◌<◌, ◌≤◌, List,
 use Rattle.std.proofs.lemmas.List.{get_or-map, get_or-take, length-map, length-take-le, map_push, take_more}
 use Rattle.dw_types.specs.declared.facts.Facts.{Facts}
 use Rattle.dw_types.specs.declared.kind.Role.TheVariants.{Other}
-use Rattle.dw_types.specs.Entries.{entry_at, no_entry}
+use Rattle.dw_types.specs.Entries.{entry_of, no_entry}
 use Rattle.dw_types.specs.Kinds.{role_in, role_of}
 use Rattle.dw_types.specs.Roles.{role_listed, roles_of_first}
 
@@ -11,8 +11,8 @@ pub roles-length : (entries : List Facts) (count : ℕ) → count ≤ length ent
 roles-length entries count within = length-map (take count entries) role_of ∙ length-take-le count entries within
 
 -- one more role
-pub roles-more : (entries : List Facts) (count : ℕ) → count < length entries → roles_of_first entries count ++ role_of (entry_at entries count) ∷ [] ≡ roles_of_first entries (count + 1)
-roles-more entries count below = sym (map_push role_of (take count entries) (entry_at entries count)) ∙ ap (map role_of) (sym (take_more entries count no_entry below))
+pub roles-more : (entries : List Facts) (count : ℕ) → count < length entries → roles_of_first entries count ++ role_of (entry_of entries count) ∷ [] ≡ roles_of_first entries (count + 1)
+roles-more entries count below = sym (map_push role_of (take count entries) (entry_of entries count)) ∙ ap (map role_of) (sym (take_more entries count no_entry below))
 
 -- a parent that was passed has its role in the list
 pub role-listed : (entries : List Facts) (count : ℕ) (parent : Option ℕ) → count ≤ length entries → ((p : ℕ) → parent ≡ Some p → p < count) → role_listed (roles_of_first entries count) parent ≡ role_in entries parent

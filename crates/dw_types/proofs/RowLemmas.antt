@@ -11,9 +11,10 @@ use Rattle.std.specs.Prelude.{All}
 use Rattle.std.specs.Option.{option_to_list}
 use Rattle.dw_types.specs.declared.facts.Facts.{Facts}
 use Rattle.dw_forms.specs.Codes.{DW_TAG_member}
-use Rattle.dw_types.specs.Entries.{entry_at, is_parent, ParentsComeFirst, TargetsAreEntries}
+use Rattle.dw_types.specs.Entries.{entry_of, is_parent, ParentsComeFirst, TargetsAreEntries}
 use Rattle.dw_types.specs.Graphs.{step_at, LeadsToNodes}
-use Rattle.dw_types.specs.Kinds.{has_members, is_declared_type, passes_type_on, is_one_of, container_tags, declarable_tags}
+use Rattle.dw_types.specs.Kinds.{has_members, is_declared_type, passes_type_on, container_tags, declarable_tags}
+use Rattle.dw_links.specs.Classes.{is_one_of}
 use Rattle.dw_types.specs.declared.step_list.Step.{Step}
 use Rattle.dw_types.specs.StepLists.{row_of, rows_of, steps_to, to_of}
 use Rattle.dw_types.specs.Steps.{is_plain_member, IsStepByValue, by_type, by_member, by_signature, targets_if, member_step, member_steps, own_steps, row_so_far, steps_by_value, by_value, IsMemberOf}
@@ -53,8 +54,8 @@ not-true false e = refl
 -- an entry has no plain members before it
 no-member_before : (entries : List Facts) (node child : ℕ) → ParentsComeFirst entries → child ≤ node → member_step entries node child ≡ []
 no-member_before entries node child first before =
-    let other = is_parent-false (entry_at entries child).parent node child (first child) before in
-    let plain : is_plain_member entries node child ≡ false = and_right (has_members (entry_at entries node)) _ (and_right (eqb (entry_at entries child).tag DW_TAG_member) _ (and_right (not (entry_at entries child).declared) _ other)) in
+    let other = is_parent-false (entry_of entries child).parent node child (first child) before in
+    let plain : is_plain_member entries node child ≡ false = and_right (has_members (entry_of entries node)) _ (and_right (eqb (entry_of entries child).tag DW_TAG_member) _ (and_right (not (entry_of entries child).declared) _ other)) in
     rw plain refl
 
 -- a structure with members has no step by signature
@@ -89,8 +90,8 @@ leads-step from bound None below = λ k step inside. absurd (omega arith)
 leads-step from bound (Some to) below = λ k step inside. let first : k ≡ 0 = omega arith in rw first (below to refl)
 
 module _ (entries : List Facts) (steps : List Step) (count : ℕ) (first : ParentsComeFirst entries) (h : HasSteps entries steps count)
-    (type signature : Option ℕ) (type_is : option_to_list type ≡ targets_if (passes_type_on (entry_at entries count)) (entry_at entries count).type_target)
-    (signature_is : option_to_list signature ≡ targets_if (is_declared_type (entry_at entries count)) (entry_at entries count).signature_target)
+    (type signature : Option ℕ) (type_is : option_to_list type ≡ targets_if (passes_type_on (entry_of entries count)) (entry_of entries count).type_target)
+    (signature_is : option_to_list signature ≡ targets_if (is_declared_type (entry_of entries count)) (entry_of entries count).signature_target)
     (type_in : (to : ℕ) → type ≡ Some to → to < length entries) (signature_in : (to : ℕ) → signature ≡ Some to → to < length entries) where
   abbrev pub with_own : List Step
   with_own = (steps ++ steps_to count type) ++ steps_to count signature
@@ -100,7 +101,7 @@ module _ (entries : List Facts) (steps : List Step) (count : ℕ) (first : Paren
 
   -- the new entry has its own steps, and all others keep theirs
 
-  row-here : row_of with_own count ≡ own_steps (entry_at entries count)
+  row-here : row_of with_own count ≡ own_steps (entry_of entries count)
   row-here = own-row count ∙ rw (h.no_later count (omega arith), row-step count type, row-step count signature, type_is, signature_is) refl
 
   row-kept : (node : ℕ) → count ≢ node → row_of with_own node ≡ row_of steps node
@@ -114,8 +115,8 @@ module _ (entries : List Facts) (steps : List Step) (count : ℕ) (first : Paren
       (All-append (λ step. to_of step < length entries) steps (steps_to count type) h.leads (leads-step count (length entries) type type_in)) (leads-step count (length entries) signature signature_in)
 
   -- a new row has the entry's own steps
-  new-row : own_steps (entry_at entries count) ≡ row_so_far entries count (count + 1)
-  new-row = rw (member_steps-before entries count (count + 1) first (omega arith), append-nil (targets_if (passes_type_on (entry_at entries count)) (entry_at entries count).type_target)) refl
+  new-row : own_steps (entry_of entries count) ≡ row_so_far entries count (count + 1)
+  new-row = rw (member_steps-before entries count (count + 1) first (omega arith), append-nil (targets_if (passes_type_on (entry_of entries count)) (entry_of entries count).type_target)) refl
 
   -- a row to which no step comes
   old-row : (node : ℕ) → member_step entries node count ≡ [] → row_so_far entries node count ≡ row_so_far entries node (count + 1)
@@ -137,7 +138,7 @@ module _ (entries : List Facts) (steps : List Step) (count : ℕ) (first : Paren
   pub steps-member : (parent to : ℕ) → IsMemberOf entries count parent to → to < length entries → HasSteps entries (with_own ++ steps_to parent (Some to)) (count + 1)
   steps-member parent to m inside =
       let before = m.before in
-      let entry = entry_at entries parent in
+      let entry = entry_of entries parent in
       let own = targets_if (passes_type_on entry) entry.type_target in
       let so_far = member_steps entries parent count in
       let unsigned : targets_if (is_declared_type entry) entry.signature_target ≡ [] = no-signature_step entry entry.signature_target m.parent_has in
@@ -161,9 +162,9 @@ module _ (entries : List Facts) (steps : List Step) (count : ℕ) (first : Paren
 
 -- the type of a plain member is an entry
 pub member-target : (entries : List Facts) → TargetsAreEntries entries → (child parent to : ℕ) → IsMemberOf entries child parent to → to < length entries
-member-target entries targets child parent to m = go (is_plain_member entries parent child) (entry_at entries child).type_target refl m.step
+member-target entries targets child parent to m = go (is_plain_member entries parent child) (entry_of entries child).type_target refl m.step
   where
-    go : (b : Bool) (target : Option ℕ) → (entry_at entries child).type_target ≡ target → targets_if b target ≡ to ∷ [] → to < length entries
+    go : (b : Bool) (target : Option ℕ) → (entry_of entries child).type_target ≡ target → targets_if b target ≡ to ∷ [] → to < length entries
     go true (Some t) at is = let same : t ≡ to = cc in let below = (targets child t).0 at in omega arith
     go true None at is = absurd cc
     go false target at is = absurd cc

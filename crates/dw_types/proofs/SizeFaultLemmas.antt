@@ -10,11 +10,12 @@ use Rattle.dw_types.specs.declared.kind.Kind.{Kind}
 use Rattle.dw_types.specs.declared.kind.Role.{Role}
 use Rattle.dw_types.specs.declared.kind.Kind.TheVariants.{Declared, OwnSized, Pointer, Alias, Enumeration, Array, Subroutine, NoType}
 use Rattle.dw_types.specs.Constants.{is_negative, is_present, natural_of}
-use Rattle.dw_types.specs.Entries.{entry_at, ParentsComeFirst, TargetsAreEntries}
+use Rattle.dw_types.specs.Entries.{entry_of, ParentsComeFirst, TargetsAreEntries}
 use Rattle.dw_types.specs.Extents.{bytes_end_past, end_past, is_number, is_outside, start_of, ends_past_container}
 use Rattle.dw_entries.specs.Rules.{number_of}
 use Rattle.dw_forms.specs.Codes.{DW_TAG_array_type, DW_TAG_base_type, DW_TAG_enumeration_type, DW_TAG_pointer_type}
-use Rattle.dw_types.specs.Kinds.{container_tags, has_members, is_one_of, is_array, is_declared_type, is_enumeration, kind_of, parent_role}
+use Rattle.dw_types.specs.Kinds.{container_tags, has_members, is_array, is_declared_type, is_enumeration, kind_of, parent_role}
+use Rattle.dw_links.specs.Classes.{is_one_of}
 use Rattle.dw_types.specs.Shapes.{is_plain, stands_alone}
 use Rattle.dw_types.specs.SizeFaults.{breaks_size, differ, fails_size, has_no_size, has_wrong_size, is_too_great, reads_own, wants_own}
 use Rattle.dw_types.specs.SizeTables.{Size, cap_size}
@@ -94,10 +95,10 @@ module _ (entries : List Facts) (parents : ParentsComeFirst entries) (targets : 
   parent-small node none (Some p) before = none p (before p refl)
 
   outside-same : (node : ℕ) → node < length entries → NoneGreatBefore node
-      → is_outside (parent_role entries node) (entry_at entries node) (size_to found (entry_at entries node).parent) (size_to found (entry_at entries node).type_target)
-      ≡ is_outside (parent_role entries node) (entry_at entries node) (size_to exact (entry_at entries node).parent) (size_to exact (entry_at entries node).type_target)
+      → is_outside (parent_role entries node) (entry_of entries node) (size_to found (entry_of entries node).parent) (size_to found (entry_of entries node).type_target)
+      ≡ is_outside (parent_role entries node) (entry_of entries node) (size_to exact (entry_of entries node).parent) (size_to exact (entry_of entries node).type_target)
   outside-same node below none =
-      let member = entry_at entries node in
+      let member = entry_of entries node in
       let small = parent-small node none member.parent (parents node) in
       let container : size_to found member.parent ≡ size_to exact member.parent =
       to-found member.parent (λ p is. let before = parents node p is in omega arith) ∙ cap-small (size_to exact member.parent) small in
@@ -105,9 +106,9 @@ module _ (entries : List Facts) (parents : ParentsComeFirst entries) (targets : 
       rw (container, type) (ap (λ (b : Bool). is_plain (parent_role entries node) member && b) (ends-same (size_to exact member.parent) member (size_to exact member.type_target) small))
 
   wrong-same : (node : ℕ) → node < length entries → is_too_great (exact node) ≡ false
-      → has_wrong_size (entry_at entries node) (size_to found (entry_at entries node).type_target) ≡ has_wrong_size (entry_at entries node) (size_to exact (entry_at entries node).type_target)
+      → has_wrong_size (entry_of entries node) (size_to found (entry_of entries node).type_target) ≡ has_wrong_size (entry_of entries node) (size_to exact (entry_of entries node).type_target)
   wrong-same node below small =
-      let entry = entry_at entries node in
+      let entry = entry_of entries node in
       and-same (is_enumeration entry) _ _ (λ is.
       let line : exact node ≡ constant_or entry.byte_size (size_to exact entry.type_target) = obeys node below ∙ ap (λ (kind : Kind). size_of_kind kind entries exact node) (enumeration-kind entry is) in
       let own = constant-small entry.byte_size (size_to exact entry.type_target) (rw line at small) in
@@ -132,7 +133,7 @@ module _ (entries : List Facts) (parents : ParentsComeFirst entries) (targets : 
       record {
         inside = h.inside;
         breaks = sym (fails-same node inside none rule (λ is. not-great node inside (λ great. h.least SizeTooGreat great (rw is (omega arith))))) ∙ h.breaks;
-        least = λ other fails lower. h.least other (fails-same node inside none other (λ is. absurd (let few = number-few (parent_role entries node) (entry_at entries node) (found node) (size_to found (entry_at entries node).parent) (size_to found (entry_at entries node).type_target) rule h.breaks in let more : 4 < number_of rule = rw is at lower in omega arith)) ∙ fails) lower;
+        least = λ other fails lower. h.least other (fails-same node inside none other (λ is. absurd (let few = number-few (parent_role entries node) (entry_of entries node) (found node) (size_to found (entry_of entries node).parent) (size_to found (entry_of entries node).type_target) rule h.breaks in let more : 4 < number_of rule = rw is at lower in omega arith)) ∙ fails) lower;
         before = λ earlier lt other fails. h.before earlier lt other (fails-same earlier (omega arith) (λ k before. none k (omega arith)) other (λ is. none earlier lt) ∙ fails);
       }
 
@@ -229,22 +230,22 @@ own-part entry other n is wants = elim (own-or entry.byte_size other n is) [
   | inr own ↦ present-own (reads_own (kind_of entry)) (is_present entry.byte_size) (is_negative entry.byte_size) (wants_own entry) own.0 own.1
 ]
 
-sized-kind : (entries : List Facts) (table : ℕ → Size) (node : ℕ) (kind : Kind) → kind_of (entry_at entries node) ≡ kind → (n : ℕ) → size_of_kind kind entries table node ≡ Some n
-    → has_no_size (entry_at entries node) ≡ false
+sized-kind : (entries : List Facts) (table : ℕ → Size) (node : ℕ) (kind : Kind) → kind_of (entry_of entries node) ≡ kind → (n : ℕ) → size_of_kind kind entries table node ≡ Some n
+    → has_no_size (entry_of entries node) ≡ false
 sized-kind entries table node Declared is n sized =
-    let entry = entry_at entries node in
+    let entry = entry_of entries node in
     unread-own (reads_own (kind_of entry)) (is_present entry.byte_size) (is_negative entry.byte_size) (wants_own entry) (ap reads_own is) (declared-wants entry (declared-is entry is))
 sized-kind entries table node OwnSized is n sized =
-    let entry = entry_at entries node in
+    let entry = entry_of entries node in
     let own = natural-own entry.byte_size n sized in
     present-own (reads_own (kind_of entry)) (is_present entry.byte_size) (is_negative entry.byte_size) (wants_own entry) own.0 own.1
-sized-kind entries table node Pointer is n sized = own-part (entry_at entries node) _ n sized (λ _. pointer-wants (entry_at entries node) is)
+sized-kind entries table node Pointer is n sized = own-part (entry_of entries node) _ n sized (λ _. pointer-wants (entry_of entries node) is)
 sized-kind entries table node Alias is n sized =
-    let entry = entry_at entries node in
+    let entry = entry_of entries node in
     unread-own (reads_own (kind_of entry)) (is_present entry.byte_size) (is_negative entry.byte_size) (wants_own entry) (ap reads_own is) (alias-wants entry is)
-sized-kind entries table node Enumeration is n sized = own-part (entry_at entries node) _ n sized (λ _. enumeration-wants (entry_at entries node) is)
+sized-kind entries table node Enumeration is n sized = own-part (entry_of entries node) _ n sized (λ _. enumeration-wants (entry_of entries node) is)
 sized-kind entries table node Array is n sized =
-    let entry = entry_at entries node in
+    let entry = entry_of entries node in
     own-part entry (array_size entries table node) n sized (λ other.
     let product = if-some (is_regular entries node) _ n other in
     let storage = times-some (constant_or entry.byte_stride (size_to table entry.type_target)) _ n product in
@@ -257,5 +258,5 @@ cap-some None found is holds = rw is tt
 cap-some (Some n) found is holds = rw is (holds n refl)
 
 -- so a table that obeys the capped lines tells at which entries the byte size is not to be asked again
-pub sized-own : (entries : List Facts) (table : ℕ → Size) (node : ℕ) → table node ≡ cap_size (2 ^ 63) (size_line entries table node) → IfSome (table node) (λ _. has_no_size (entry_at entries node) ≡ false)
-sized-own entries table node obeys = cap-some (size_line entries table node) (table node) obeys (λ n is. sized-kind entries table node (kind_of (entry_at entries node)) refl n is)
+pub sized-own : (entries : List Facts) (table : ℕ → Size) (node : ℕ) → table node ≡ cap_size (2 ^ 63) (size_line entries table node) → IfSome (table node) (λ _. has_no_size (entry_of entries node) ≡ false)
+sized-own entries table node obeys = cap-some (size_line entries table node) (table node) obeys (λ n is. sized-kind entries table node (kind_of (entry_of entries node)) refl n is)

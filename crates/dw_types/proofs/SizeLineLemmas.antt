@@ -8,11 +8,12 @@ use Rattle.dw_types.specs.declared.kind.Kind.{Kind}
 use Rattle.dw_types.specs.declared.kind.Kind.TheVariants.{Declared, OwnSized, Pointer, Alias, Enumeration, Array, Subroutine, NoType}
 use Rattle.dw_types.specs.Constants.{is_present}
 use Rattle.dw_types.specs.ElementCounts.{element_count_by, size_from}
-use Rattle.dw_types.specs.Entries.{entry_at, TargetsAreEntries, children}
+use Rattle.dw_types.specs.Entries.{entry_of, TargetsAreEntries, children}
 use Rattle.dw_types.specs.Graphs.{IsStep}
 use Rattle.std.proofs.lemmas.Bool.{and_parts}
 use Rattle.dw_forms.specs.Codes.{DW_TAG_structure_type, DW_TAG_union_type}
-use Rattle.dw_types.specs.Kinds.{container_tags, has_members, is_one_of, passes_type_on, is_declared_type, kind_of}
+use Rattle.dw_types.specs.Kinds.{container_tags, has_members, passes_type_on, is_declared_type, kind_of}
+use Rattle.dw_links.specs.Classes.{is_one_of}
 use Rattle.dw_types.specs.Orders.{Ranking, IsOrderOf}
 use Rattle.dw_types.specs.SizeTables.{Size, cap_size}
 use Rattle.dw_types.specs.Sizes.{has_elements, is_other_index, has_stride, size_of_kind, size_line, size_to, constant_or, times, array_size, is_regular, product_of, factor_of, dimensions}
@@ -57,26 +58,26 @@ module _ (entries : List Facts) where
   at-step : (table other : ℕ → Size) (node to : ℕ) → SameAtSteps (by_value entries) table other node → IsStep (by_value entries) node to → table to ≡ other to
   at-step table other node to same (k, below, is) = rw is at (same k below)
 
-  by-kind : (table other : ℕ → Size) (node : ℕ) (kind : Kind) → kind_of (entry_at entries node) ≡ kind → SameAtSteps (by_value entries) table other node
+  by-kind : (table other : ℕ → Size) (node : ℕ) (kind : Kind) → kind_of (entry_of entries node) ≡ kind → SameAtSteps (by_value entries) table other node
       → size_of_kind kind entries table node ≡ size_of_kind kind entries other node
   by-kind table other node Declared is same =
-      to-same table other (entry_at entries node).signature_target (λ to target. at-step table other node to same (step-from_by_value entries node to (by_signature (declared-is (entry_at entries node) is) target)))
+      to-same table other (entry_of entries node).signature_target (λ to target. at-step table other node to same (step-from_by_value entries node to (by_signature (declared-is (entry_of entries node) is) target)))
   by-kind table other node OwnSized is same = refl
   by-kind table other node Pointer is same = refl
   by-kind table other node Alias is same =
-      to-same table other (entry_at entries node).type_target (λ to target. at-step table other node to same (step-from_by_value entries node to (by_type (alias-passes (entry_at entries node) is) target)))
+      to-same table other (entry_of entries node).type_target (λ to target. at-step table other node to same (step-from_by_value entries node to (by_type (alias-passes (entry_of entries node) is) target)))
   by-kind table other node Enumeration is same =
-      ap (constant_or (entry_at entries node).byte_size)
-      (to-same table other (entry_at entries node).type_target (λ to target. at-step table other node to same (step-from_by_value entries node to (by_type (enumeration-passes (entry_at entries node) is) target))))
+      ap (constant_or (entry_of entries node).byte_size)
+      (to-same table other (entry_of entries node).type_target (λ to target. at-step table other node to same (step-from_by_value entries node to (by_type (enumeration-passes (entry_of entries node) is) target))))
   by-kind table other node Array is same =
-      let e = to-same table other (entry_at entries node).type_target (λ to target. at-step table other node to same (step-from_by_value entries node to (by_type (array-passes (entry_at entries node) is) target))) in
-      ap (λ (size : Size). constant_or (entry_at entries node).byte_size (if is_regular entries node then times (constant_or (entry_at entries node).byte_stride size) (product_of (map (factor_of entries) (dimensions entries node))) else None)) e
+      let e = to-same table other (entry_of entries node).type_target (λ to target. at-step table other node to same (step-from_by_value entries node to (by_type (array-passes (entry_of entries node) is) target))) in
+      ap (λ (size : Size). constant_or (entry_of entries node).byte_size (if is_regular entries node then times (constant_or (entry_of entries node).byte_stride size) (product_of (map (factor_of entries) (dimensions entries node))) else None)) e
   by-kind table other node Subroutine is same = refl
   by-kind table other node NoType is same = refl
 
   -- the size lines read a table at steps by value alone
   pub size_line-local : IsLocal (by_value entries) (size_line entries)
-  size_line-local table other node in_graph same = by-kind table other node (kind_of (entry_at entries node)) refl same
+  size_line-local table other node in_graph same = by-kind table other node (kind_of (entry_of entries node)) refl same
 
 -- capped sizes
 
@@ -110,29 +111,29 @@ cap-if limit false a b same = refl
 
 cap-kind : (limit : ℕ) (entries : List Facts) (table : ℕ → Size) (node : ℕ) (kind : Kind)
     → cap_size limit (size_of_kind kind entries table node) ≡ cap_size limit (size_of_kind kind entries (λ n. cap_size limit (table n)) node)
-cap-kind limit entries table node Declared = cap-to limit table (entry_at entries node).signature_target
+cap-kind limit entries table node Declared = cap-to limit table (entry_of entries node).signature_target
 cap-kind limit entries table node OwnSized = refl
 cap-kind limit entries table node Pointer = refl
-cap-kind limit entries table node Alias = cap-to limit table (entry_at entries node).type_target
-cap-kind limit entries table node Enumeration = cap-constant limit (entry_at entries node).byte_size _ _ (cap-to limit table (entry_at entries node).type_target)
+cap-kind limit entries table node Alias = cap-to limit table (entry_of entries node).type_target
+cap-kind limit entries table node Enumeration = cap-constant limit (entry_of entries node).byte_size _ _ (cap-to limit table (entry_of entries node).type_target)
 cap-kind limit entries table node Array =
-    cap-constant limit (entry_at entries node).byte_size _ _
+    cap-constant limit (entry_of entries node).byte_size _ _
     (cap-if limit (is_regular entries node) _ _
     (cap-times limit _ _ (product_of (map (factor_of entries) (dimensions entries node)))
-    (cap-constant limit (entry_at entries node).byte_stride _ _ (cap-to limit table (entry_at entries node).type_target))))
+    (cap-constant limit (entry_of entries node).byte_stride _ _ (cap-to limit table (entry_of entries node).type_target))))
 cap-kind limit entries table node Subroutine = refl
 cap-kind limit entries table node NoType = refl
 
 -- a capped line may take capped sizes
 pub size_line-caps : (limit : ℕ) (entries : List Facts) (table : ℕ → Size) (node : ℕ)
     → cap_size limit (size_line entries table node) ≡ cap_size limit (size_line entries (λ n. cap_size limit (table n)) node)
-size_line-caps limit entries table node = cap-kind limit entries table node (kind_of (entry_at entries node))
+size_line-caps limit entries table node = cap-kind limit entries table node (kind_of (entry_of entries node))
 
 -- a target is a place of a table of all entries
-pub type-in : (entries : List Facts) (sizes : List Size) (node : ℕ) → TargetsAreEntries entries → length sizes ≡ length entries → (to : ℕ) → (entry_at entries node).type_target ≡ Some to → to < length sizes
+pub type-in : (entries : List Facts) (sizes : List Size) (node : ℕ) → TargetsAreEntries entries → length sizes ≡ length entries → (to : ℕ) → (entry_of entries node).type_target ≡ Some to → to < length sizes
 type-in entries sizes node targets long to is = let below = (targets node to).0 is in omega arith
 
-pub signature-in : (entries : List Facts) (sizes : List Size) (node : ℕ) → TargetsAreEntries entries → length sizes ≡ length entries → (to : ℕ) → (entry_at entries node).signature_target ≡ Some to → to < length sizes
+pub signature-in : (entries : List Facts) (sizes : List Size) (node : ℕ) → TargetsAreEntries entries → length sizes ≡ length entries → (to : ℕ) → (entry_of entries node).signature_target ≡ Some to → to < length sizes
 signature-in entries sizes node targets long to is = let below = (targets node to).1 is in omega arith
 
 -- the size of an array by the factor of its children
@@ -152,12 +153,12 @@ by-factor (Some a) p false false false = refl
 by-factor (Some a) None true false false = refl
 by-factor (Some a) (Some q) true false false = let left = cap-product (2 ^ 63) q a in ap Some (omega (arith, left, mul_comm q a, mul_comm (min (2 ^ 63) q) a))
 
-pub array-by_element_count : (entries : List Facts) (table : ℕ → Size) (node : ℕ) → is_present (entry_at entries node).bit_stride ≡ false
-    → cap_size (2 ^ 63) (times (constant_or (entry_at entries node).byte_stride (size_to table (entry_at entries node).type_target)) (size_from (element_count_by entries (children entries node))))
+pub array-by_element_count : (entries : List Facts) (table : ℕ → Size) (node : ℕ) → is_present (entry_of entries node).bit_stride ≡ false
+    → cap_size (2 ^ 63) (times (constant_or (entry_of entries node).byte_stride (size_to table (entry_of entries node).type_target)) (size_from (element_count_by entries (children entries node))))
     ≡ cap_size (2 ^ 63) (array_size entries table node)
 array-by_element_count entries table node plain =
     rw plain
-    (by-factor (constant_or (entry_at entries node).byte_stride (size_to table (entry_at entries node).type_target)) (product_of (map (factor_of entries) (dimensions entries node)))
+    (by-factor (constant_or (entry_of entries node).byte_stride (size_to table (entry_of entries node).type_target)) (product_of (map (factor_of entries) (dimensions entries node)))
     (has_elements (dimensions entries node)) (list_any (is_other_index entries) (children entries node)) (list_any (has_stride entries) (dimensions entries node)))
 
 -- the capped lines

@@ -5,7 +5,7 @@ use Rattle.std.proofs.lemmas.Bool.{cases_lt}
 use Rattle.std.proofs.lemmas.List.{length-map, get_or-map, get_or_past, get_or_default}
 use Rattle.std.proofs.lemmas.List.Elements.{Contains-append_left, Contains-append_right, Contains-append_cases}
 use Rattle.std.proofs.lemmas.List.FromFn.{length-range_with_len, get_or-range_with_len}
-use Rattle.dw_types.specs.Entries.{no_entry, entry_at, entry_numbers}
+use Rattle.dw_types.specs.Entries.{no_entry, entry_of, entry_numbers}
 use Rattle.dw_types.specs.Graphs.{steps_of, IsStep}
 use Rattle.dw_types.specs.Kinds.{passes_type_on, is_declared_type}
 use Rattle.dw_types.specs.Steps.{is_plain_member, IsStepByValue, by_type, by_member, by_signature, targets_if, member_step, steps_by_value, by_value}
@@ -59,36 +59,36 @@ length-by_value entries = length-map (entry_numbers entries) (steps_by_value ent
 -- a step of an entry is one of the three parts of its list
 steps-from : (entries : List Facts) (from to : ℕ) → Contains (steps_by_value entries from) to → IsStepByValue entries from to
 steps-from entries from to has =
-    let own = targets_if (passes_type_on (entry_at entries from)) (entry_at entries from).type_target in
+    let own = targets_if (passes_type_on (entry_of entries from)) (entry_of entries from).type_target in
     let members = flat_map (member_step entries from) (entry_numbers entries) in
-    let last = targets_if (is_declared_type (entry_at entries from)) (entry_at entries from).signature_target in
+    let last = targets_if (is_declared_type (entry_of entries from)) (entry_of entries from).signature_target in
     elim (Contains-append_cases (own ++ members) last to has) [
       | inl first ↦ elim (Contains-append_cases own members to first) [
-        | inl type ↦ let p = from-targets (passes_type_on (entry_at entries from)) (entry_at entries from).type_target to type in by_type p.0 p.1
+        | inl type ↦ let p = from-targets (passes_type_on (entry_of entries from)) (entry_of entries from).type_target to type in by_type p.0 p.1
         | inr member ↦
             let p = from-flat_map (member_step entries from) (entry_numbers entries) to member in
             let at = number-at entries p.0 p.1 in
             let here : Contains (member_step entries from p.0) to = rw at.1 at p.2 in
-            let q = from-targets (is_plain_member entries from p.0) (entry_at entries p.0).type_target to here in
+            let q = from-targets (is_plain_member entries from p.0) (entry_of entries p.0).type_target to here in
             by_member p.0 at.0 q.0 q.1
       ]
-      | inr signature ↦ let p = from-targets (is_declared_type (entry_at entries from)) (entry_at entries from).signature_target to signature in by_signature p.0 p.1
+      | inr signature ↦ let p = from-targets (is_declared_type (entry_of entries from)) (entry_of entries from).signature_target to signature in by_signature p.0 p.1
     ]
 
 steps-to : (entries : List Facts) (from to : ℕ) → IsStepByValue entries from to → Contains (steps_by_value entries from) to
 steps-to entries from to (by_type passes is) =
-    Contains-append_left _ (targets_if (is_declared_type (entry_at entries from)) (entry_at entries from).signature_target) to
+    Contains-append_left _ (targets_if (is_declared_type (entry_of entries from)) (entry_of entries from).signature_target) to
     (Contains-append_left _ (flat_map (member_step entries from) (entry_numbers entries)) to (in-targets _ _ to passes is))
 steps-to entries from to (by_member member below plain is) =
     let long = length-range_with_len 0 (length entries) in
     let at = number-at entries member (omega arith) in
-    let own = targets_if (passes_type_on (entry_at entries from)) (entry_at entries from).type_target in
+    let own = targets_if (passes_type_on (entry_of entries from)) (entry_of entries from).type_target in
     let here : Contains (member_step entries from member) to = in-targets _ _ to plain is in
-    Contains-append_left _ (targets_if (is_declared_type (entry_at entries from)) (entry_at entries from).signature_target) to
+    Contains-append_left _ (targets_if (is_declared_type (entry_of entries from)) (entry_of entries from).signature_target) to
     (Contains-append_right own (flat_map (member_step entries from) (entry_numbers entries)) to
     (in-flat_map (member_step entries from) (entry_numbers entries) member to (omega arith) (rw at.1 here)))
 steps-to entries from to (by_signature declared is) =
-    let own = targets_if (passes_type_on (entry_at entries from)) (entry_at entries from).type_target in
+    let own = targets_if (passes_type_on (entry_of entries from)) (entry_of entries from).type_target in
     Contains-append_right (own ++ flat_map (member_step entries from) (entry_numbers entries)) _ to (in-targets _ _ to declared is)
 
 -- only an entry has a step by value

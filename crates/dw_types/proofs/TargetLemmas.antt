@@ -5,11 +5,10 @@ use Rattle.std.specs.Option.{option_and_then}
 use Rattle.std.specs.List.{position_from}
 use Rattle.std.proofs.lemmas.Option.{option_and_then_some}
 use Rattle.dw_forms.specs.Value.{Datum, ref_info, ref_unit, ref_sig}
-use Rattle.dw_entries.specs.declared.lookup.Head.{Head}
 use Rattle.dw_entries.specs.Entries.{Entry, PlacedUnit}
-use Rattle.dw_entries.specs.Lookups.{entry_head, value_at_entry}
-use Rattle.dw_links.specs.References.{type_in}
-use Rattle.dw_links.specs.Targets.{entry_at, entry_in, first_signed, reach_in_unit, reach_of, target_of, type_of_unit}
+use Rattle.dw_entries.specs.Lookups.{value_at_entry}
+use Rattle.dw_links.specs.Signatures.{type_in, first_signed}
+use Rattle.dw_links.specs.Targets.{entry_at, entry_in, reach_in_unit, reach_of, target_of, type_of_unit}
 
 -- a position is one of a list's
 position-below : {X : Type 0} (test : X → Bool) (from : ℕ) (xs : List X) (k : ℕ) → position_from test from xs ≡ Some k → k < from + length xs
@@ -37,15 +36,15 @@ type_of_unit-below entries units unit k is =
     option_and_then_some (λ (u : PlacedUnit). option_and_then (λ (type : ℕ × ℕ). reach_in_unit entries units unit type.1) (type_in u.unit.header.kind)) (slice_get units unit) k is
     (λ u has at. option_and_then_some (λ (type : ℕ × ℕ). reach_in_unit entries units unit type.1) (type_in u.unit.header.kind) k at (λ type told there. reach_in_unit-below entries units unit type.1 k there))
 
-reach-below : (entries : List Entry) (units : List PlacedUnit) (head : Head) (v : Datum) (k : ℕ) → reach_of entries units head v ≡ Some k → k < length entries
-reach-below entries units head (ref_info offset) k is = entry_at-below entries offset k is
-reach-below entries units head (ref_unit offset) k is = reach_in_unit-below entries units head.unit offset k is
-reach-below entries units head (ref_sig signature) k is =
-    option_and_then_some (type_of_unit entries units) (first_signed units signature) k is (λ unit has at. type_of_unit-below entries units unit k at)
-reach-below entries units head _ k is = absurd cc
+reach-below : (entries : List Entry) (units : List PlacedUnit) (unit : ℕ) (v : Datum) (k : ℕ) → reach_of entries units unit v ≡ Some k → k < length entries
+reach-below entries units unit (ref_info offset) k is = entry_at-below entries offset k is
+reach-below entries units unit (ref_unit offset) k is = reach_in_unit-below entries units unit offset k is
+reach-below entries units unit (ref_sig signature) k is =
+    option_and_then_some (type_of_unit entries units) (first_signed units signature) k is (λ number has at. type_of_unit-below entries units number k at)
+reach-below entries units unit _ k is = absurd cc
 
 -- the number of the entry that is reached is below the count of entries
 pub target-below : (entries : List Entry) (units : List PlacedUnit) (e : Entry) (attribute k : ℕ) → target_of entries units e attribute ≡ Some k → k < length entries
 unfolding target_of
 target-below entries units e attribute k is =
-    option_and_then_some (reach_of entries units (entry_head e)) (value_at_entry e attribute) k is (λ v has at. reach-below entries units (entry_head e) v k at)
+    option_and_then_some (reach_of entries units e.unit) (value_at_entry e attribute) k is (λ v has at. reach-below entries units e.unit v k at)

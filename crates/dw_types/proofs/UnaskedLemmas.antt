@@ -11,9 +11,10 @@ use Rattle.dw_types.specs.declared.kind.Role.{Role}
 use Rattle.dw_types.specs.declared.kind.Role.TheVariants.{Other}
 use Rattle.dw_types.specs.declared.step_list.Step.{Step}
 use Rattle.dw_types.specs.Constants.{is_negative, is_present}
-use Rattle.dw_types.specs.Entries.{entry_at, ParentsComeFirst}
+use Rattle.dw_types.specs.Entries.{entry_of, ParentsComeFirst}
 use Rattle.dw_types.specs.FactsOf.{is_asked}
-use Rattle.dw_types.specs.Kinds.{alias_tags, container_tags, declarable_tags, has_members, is_declared_type, is_one_of, kind_of, own_sized_tags, parent_role, passes_type_on, role_of}
+use Rattle.dw_types.specs.Kinds.{alias_tags, container_tags, declarable_tags, has_members, is_declared_type, kind_of, own_sized_tags, parent_role, passes_type_on, role_of}
+use Rattle.dw_links.specs.Classes.{is_one_of}
 use Rattle.dw_types.specs.Shapes.{breaks_shape}
 use Rattle.dw_types.specs.SizeFaults.{breaks_size, fails_size, has_no_size, reads_own, wants_own}
 use Rattle.dw_types.specs.SizeTables.{Size, cap_size}
@@ -82,10 +83,10 @@ module _ (entry : Facts) (unasked : is_asked entry.tag ≡ false) where
   unasked-sized parent container type_size _ breaks = false≢true breaks
 
 -- it has no size in a table that obeys the capped lines, and so breaks no rule on sizes
-pub unasked-size : (entries : List Facts) (table : ℕ → Size) (node : ℕ) → table node ≡ cap_size (2 ^ 63) (size_line entries table node) → is_asked (entry_at entries node).tag ≡ false → (rule : Rule) → fails_size entries table node rule ≡ true → ⊥
+pub unasked-size : (entries : List Facts) (table : ℕ → Size) (node : ℕ) → table node ≡ cap_size (2 ^ 63) (size_line entries table node) → is_asked (entry_of entries node).tag ≡ false → (rule : Rule) → fails_size entries table node rule ≡ true → ⊥
 unasked-size entries table node obeys unasked rule breaks =
-    let none : table node ≡ None = obeys ∙ ap (λ (kind : Kind). cap_size (2 ^ 63) (size_of_kind kind entries table node)) (unasked-kind (entry_at entries node) unasked) in
-    let entry = entry_at entries node in
+    let none : table node ≡ None = obeys ∙ ap (λ (kind : Kind). cap_size (2 ^ 63) (size_of_kind kind entries table node)) (unasked-kind (entry_of entries node) unasked) in
+    let entry = entry_of entries node in
     let parent = parent_role entries node in
     let P : Size → Type 0 = λ size. breaks_size parent entry size (size_to table entry.parent) (size_to table entry.type_target) rule ≡ true in
     unasked-sized entry unasked parent (size_to table entry.parent) (size_to table entry.type_target) rule (subst P none breaks)
@@ -95,13 +96,13 @@ and-false true = refl
 and-false false = refl
 
 -- it is no member of any entry
-pub unasked-member : (entries : List Facts) (node child : ℕ) → is_asked (entry_at entries child).tag ≡ false → member_step entries node child ≡ []
-unasked-member entries node child unasked = let member = not-tag (entry_at entries child) unasked DW_TAG_member refl in rw (member, and-false (has_members (entry_at entries node))) refl
+pub unasked-member : (entries : List Facts) (node child : ℕ) → is_asked (entry_of entries child).tag ≡ false → member_step entries node child ≡ []
+unasked-member entries node child unasked = let member = not-tag (entry_of entries child) unasked DW_TAG_member refl in rw (member, and-false (has_members (entry_of entries node))) refl
 
 -- no step is added for it
-pub unasked-steps : (entries : List Facts) (steps : List Step) (count : ℕ) → ParentsComeFirst entries → HasSteps entries steps count → is_asked (entry_at entries count).tag ≡ false → HasSteps entries steps (count + 1)
+pub unasked-steps : (entries : List Facts) (steps : List Step) (count : ℕ) → ParentsComeFirst entries → HasSteps entries steps count → is_asked (entry_of entries count).tag ≡ false → HasSteps entries steps (count + 1)
 unasked-steps entries steps count first h unasked =
-    let entry = entry_at entries count in
+    let entry = entry_of entries count in
     let type : [] ≡ targets_if (passes_type_on entry) entry.type_target = ap (λ (b : Bool). targets_if b entry.type_target) (sym (unasked-passes entry unasked)) in
     let signature : [] ≡ targets_if (is_declared_type entry) entry.signature_target = ap (λ (b : Bool). targets_if b entry.signature_target) (sym (unasked-declared entry unasked)) in
     let own = steps-plain entries steps count first h None None type signature (λ to is. absurd cc) (λ to is. absurd cc) (λ node. unasked-member entries node count unasked) in

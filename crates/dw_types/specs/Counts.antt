@@ -8,8 +8,9 @@ use Rattle.dw_types.specs.declared.kind.Role.{Role}
 use Rattle.dw_forms.specs.Codes.{DW_TAG_array_type, DW_TAG_subrange_type, DW_LANG_C89, DW_LANG_C, DW_LANG_C_plus_plus}
 use Rattle.dw_forms.specs.Codes.{DW_LANG_C99, DW_LANG_C_plus_plus_11, DW_LANG_Rust, DW_LANG_C11, DW_LANG_C_plus_plus_14}
 use Rattle.dw_types.specs.Constants.{is_present, natural, natural_of, number_in}
-use Rattle.dw_types.specs.Entries.{entry_at}
-use Rattle.dw_types.specs.Kinds.{is_dimensions, is_one_of, parent_role}
+use Rattle.dw_types.specs.Entries.{entry_of}
+use Rattle.dw_types.specs.Kinds.{is_dimensions, parent_role}
+use Rattle.dw_links.specs.Classes.{is_one_of}
 use Rattle.dw_types.specs.SizeTables.{Size}
 
 -- the tag of arrays
@@ -78,5 +79,5 @@ known_natural (Some n) = natural n
 -- the known count of a dimension, and none for any other entry
 abbrev pub count_at : List Facts → ℕ → Option ℕ
 count_at entries node =
-    if is_dimension (parent_role entries node) (entry_at entries node)
-    then known_natural (count_of (entry_at entries node)) else None
+    if is_dimension (parent_role entries node) (entry_of entries node)
+    then known_natural (count_of (entry_of entries node)) else None

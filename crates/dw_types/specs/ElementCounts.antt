@@ -6,7 +6,7 @@ use Rattle.dw_types.specs.declared.element_count.ElementCount.{ElementCount}
 use Rattle.dw_types.specs.declared.element_count.ElementCount.TheVariants.{NoDimension, Known, Unknown}
 use Rattle.dw_forms.specs.Codes.{DW_TAG_enumeration_type, DW_TAG_generic_subrange, DW_TAG_subrange_type}
 use Rattle.dw_types.specs.Entries.{is_child}
-use Rattle.dw_types.specs.Kinds.{is_one_of}
+use Rattle.dw_links.specs.Classes.{is_one_of}
 use Rattle.dw_types.specs.SizeTables.{Size, cap_size}
 use Rattle.dw_types.specs.Sizes.{is_subrange, is_other_index, has_stride, factor_of, product_of, has_elements}
 

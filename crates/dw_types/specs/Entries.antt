@@ -30,8 +30,8 @@ no_entry = record {
 }
 
 -- the entry of a number
-abbrev pub entry_at : List Facts → ℕ → Facts
-entry_at entries node = slice_index_or entries node no_entry
+abbrev pub entry_of : List Facts → ℕ → Facts
+entry_of entries node = slice_index_or entries node no_entry
 
 -- the numbers of all entries
 abbrev pub entry_numbers : List Facts → List ℕ
@@ -44,7 +44,7 @@ is_parent (Some parent) node = nat_eq parent node
 
 -- the one entry is a child of the other
 abbrev pub is_child : List Facts → ℕ → ℕ → Bool
-is_child entries node child = is_parent (entry_at entries child).parent node
+is_child entries node child = is_parent (entry_of entries child).parent node
 
 -- the children of an entry, in order
 abbrev pub children : List Facts → ℕ → List ℕ
@@ -52,17 +52,17 @@ children entries node = filter (is_child entries node) (entry_numbers entries)
 
 -- each parent comes before its child
 abbrev pub ParentsComeFirst : List Facts → Type 0
-ParentsComeFirst entries = (child parent : ℕ) → (entry_at entries child).parent ≡ Some parent → parent < child
+ParentsComeFirst entries = (child parent : ℕ) → (entry_of entries child).parent ≡ Some parent → parent < child
 
 -- each target is an entry
 abbrev pub TargetsAreEntries : List Facts → Type 0
 TargetsAreEntries entries =
     (node to : ℕ)
-    → ((entry_at entries node).type_target ≡ Some to → to < length entries)
-    × ((entry_at entries node).signature_target ≡ Some to → to < length entries)
+    → ((entry_of entries node).type_target ≡ Some to → to < length entries)
+    × ((entry_of entries node).signature_target ≡ Some to → to < length entries)
 
 -- entries are in rising offset
 abbrev pub OffsetsRise : List Facts → Type 0
 OffsetsRise entries =
     (earlier later : ℕ) → earlier < later → later < length entries
-    → (entry_at entries earlier).offset < (entry_at entries later).offset
+    → (entry_of entries earlier).offset < (entry_of entries later).offset

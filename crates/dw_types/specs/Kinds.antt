@@ -1,6 +1,5 @@
 -- Chapter: the kinds of entries that the rules on types, counts and sizes distinguish (DWARF 5, chapter 5).
 use Rattle.std.specs.Prelude.{ℕ, Bool, true, false, ◌&&◌, not, List, [], ◌∷◌, Option, None, Some, if◌then◌else◌, nat_eq}
-use Rattle.std.specs.List.{list_any}
 use Rattle.dw_types.specs.declared.facts.Facts.{Facts}
 use Rattle.dw_types.specs.declared.kind.Kind.{Kind}
 use Rattle.dw_types.specs.declared.kind.Kind.TheVariants.{Declared, OwnSized, Pointer, Alias, Enumeration, Array}
@@ -15,11 +14,8 @@ use Rattle.dw_forms.specs.Codes.{DW_TAG_file_type, DW_TAG_packed_type, DW_TAG_vo
 use Rattle.dw_forms.specs.Codes.{DW_TAG_interface_type, DW_TAG_unspecified_type, DW_TAG_shared_type}
 use Rattle.dw_forms.specs.Codes.{DW_TAG_rvalue_reference_type, DW_TAG_template_alias, DW_TAG_coarray_type}
 use Rattle.dw_forms.specs.Codes.{DW_TAG_dynamic_type, DW_TAG_atomic_type, DW_TAG_immutable_type}
-use Rattle.dw_types.specs.Entries.{entry_at}
-
--- the tag, or another number, is one of these
-abbrev pub is_one_of : List ℕ → ℕ → Bool
-is_one_of tags tag = list_any (nat_eq tag) tags
+use Rattle.dw_links.specs.Classes.{is_one_of}
+use Rattle.dw_types.specs.Entries.{entry_of}
 
 -- typedefs, const, volatile, restrict and atomic types: they have the size of their type
 abbrev pub alias_tags : List ℕ
@@ -83,11 +79,11 @@ role_of entry = if has_members entry then Members else if is_array entry then Di
 -- what the parent, if there is one, is to its children
 abbrev pub role_in : List Facts → Option ℕ → Role
 role_in entries None = Other
-role_in entries (Some parent) = role_of (entry_at entries parent)
+role_in entries (Some parent) = role_of (entry_of entries parent)
 
 -- what the parent of an entry is to it
 abbrev pub parent_role : List Facts → ℕ → Role
-parent_role entries node = role_in entries (entry_at entries node).parent
+parent_role entries node = role_in entries (entry_of entries node).parent
 
 -- its children with tag member are plain members
 abbrev pub is_members : Role → Bool

@@ -8,7 +8,7 @@ use Rattle.dw_entries.specs.declared.rule.Rule.TheVariants.{MissingType, BadCoun
 use Rattle.dw_forms.specs.Codes.{DW_TAG_member}
 use Rattle.dw_types.specs.Constants.{is_below_zero}
 use Rattle.dw_types.specs.Counts.{count_of, is_dimension}
-use Rattle.dw_types.specs.Entries.{entry_at}
+use Rattle.dw_types.specs.Entries.{entry_of}
 use Rattle.dw_entries.specs.Failures.{Failure}
 use Rattle.dw_types.specs.Kinds.{is_array, is_members, parent_role}
 use Rattle.dw_types.specs.TypeFailures.{EntryFailures}
@@ -43,7 +43,7 @@ breaks_shape parent entry _ = false
 
 -- the entry of a number violates a rule on shapes
 abbrev pub fails_shape : List Facts → ℕ → Rule → Bool
-fails_shape entries node rule = breaks_shape (parent_role entries node) (entry_at entries node) rule
+fails_shape entries node rule = breaks_shape (parent_role entries node) (entry_of entries node) rule
 
 -- the failures of the rules on shapes
 abbrev pub ShapeFailures : List Facts → Failure → Type 0

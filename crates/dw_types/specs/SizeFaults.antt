@@ -10,7 +10,7 @@ use Rattle.dw_entries.specs.declared.rule.Rule.{Rule}
 use Rattle.dw_entries.specs.declared.rule.Rule.TheVariants.{NoSize, SizeTooGreat, MemberOutside, EnumSize}
 use Rattle.dw_forms.specs.Codes.{DW_TAG_base_type}
 use Rattle.dw_types.specs.Constants.{is_present, is_negative, natural_of}
-use Rattle.dw_types.specs.Entries.{entry_at}
+use Rattle.dw_types.specs.Entries.{entry_of}
 use Rattle.dw_types.specs.Extents.{is_outside}
 use Rattle.dw_entries.specs.Failures.{Failure, IsFirst}
 use Rattle.dw_types.specs.Kinds.{has_members, is_array, is_enumeration, kind_of, parent_role}
@@ -71,8 +71,8 @@ breaks_size parent entry size container type_size _ = false
 -- the entry of a number violates a rule on sizes, by a table of sizes
 abbrev pub fails_size : List Facts → (ℕ → Size) → ℕ → Rule → Bool
 fails_size entries table node rule =
-    breaks_size (parent_role entries node) (entry_at entries node) (table node)
-    (size_to table (entry_at entries node).parent) (size_to table (entry_at entries node).type_target) rule
+    breaks_size (parent_role entries node) (entry_of entries node) (table node)
+    (size_to table (entry_of entries node).parent) (size_to table (entry_of entries node).type_target) rule
 
 -- the failures of the rules on sizes, by a table of sizes
 abbrev pub SizeFailures : List Facts → (ℕ → Size) → Failure → Type 0

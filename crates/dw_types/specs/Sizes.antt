@@ -11,13 +11,14 @@ use Rattle.dw_types.specs.declared.kind.Kind.TheVariants.{Subroutine, NoType}
 use Rattle.dw_forms.specs.Codes.{DW_TAG_enumeration_type, DW_TAG_generic_subrange, DW_TAG_subrange_type}
 use Rattle.dw_types.specs.Constants.{is_present, natural, natural_of}
 use Rattle.dw_types.specs.Counts.{count_of, known_natural}
-use Rattle.dw_types.specs.Entries.{entry_at, children}
-use Rattle.dw_types.specs.Kinds.{is_one_of, kind_of}
+use Rattle.dw_types.specs.Entries.{entry_of, children}
+use Rattle.dw_types.specs.Kinds.{kind_of}
+use Rattle.dw_links.specs.Classes.{is_one_of}
 use Rattle.dw_types.specs.SizeTables.{Size}
 
 -- a subrange
 abbrev pub is_subrange : List Facts → ℕ → Bool
-is_subrange entries node = nat_eq (entry_at entries node).tag DW_TAG_subrange_type
+is_subrange entries node = nat_eq (entry_of entries node).tag DW_TAG_subrange_type
 
 -- the dimensions of an array: its children that are subranges
 abbrev pub dimensions : List Facts → ℕ → List ℕ
@@ -36,17 +37,17 @@ product_of (n ∷ rest) = times n (product_of rest)
 
 -- the count of a dimension, if it is known
 abbrev pub factor_of : List Facts → ℕ → Size
-factor_of entries dimension = known_natural (count_of (entry_at entries dimension))
+factor_of entries dimension = known_natural (count_of (entry_of entries dimension))
 
 -- a stride of bits or of bytes
 abbrev pub has_stride : List Facts → ℕ → Bool
 has_stride entries node =
-    is_present (entry_at entries node).bit_stride || is_present (entry_at entries node).byte_stride
+    is_present (entry_of entries node).bit_stride || is_present (entry_of entries node).byte_stride
 
 -- an enumeration or a generic subrange, which counts an array in another way
 abbrev pub is_other_index : List Facts → ℕ → Bool
 is_other_index entries node =
-    is_one_of (DW_TAG_enumeration_type ∷ DW_TAG_generic_subrange ∷ []) (entry_at entries node).tag
+    is_one_of (DW_TAG_enumeration_type ∷ DW_TAG_generic_subrange ∷ []) (entry_of entries node).tag
 
 -- the list is not empty
 abbrev pub has_elements : {A : Type 0} → List A → Bool
@@ -57,7 +58,7 @@ has_elements (x ∷ xs) = true
 abbrev pub is_regular : List Facts → ℕ → Bool
 is_regular entries array =
     (has_elements (dimensions entries array) && not (list_any (is_other_index entries) (children entries array)))
-    && (not (is_present (entry_at entries array).bit_stride)
+    && (not (is_present (entry_of entries array).bit_stride)
     && not (list_any (has_stride entries) (dimensions entries array)))
 
 -- the size at a target, none if there is no target
@@ -77,26 +78,26 @@ abbrev pub array_size : List Facts → (ℕ → Size) → ℕ → Size
 array_size entries table array =
     if is_regular entries array
     then times
-    (constant_or (entry_at entries array).byte_stride (size_to table (entry_at entries array).type_target))
+    (constant_or (entry_of entries array).byte_stride (size_to table (entry_of entries array).type_target))
     (product_of (map (factor_of entries) (dimensions entries array)))
     else None
 
 -- the size of an entry of a kind, by those of others: one equation for each row
 abbrev pub size_of_kind : Kind → List Facts → (ℕ → Size) → ℕ → Size
-size_of_kind Declared entries table node = size_to table (entry_at entries node).signature_target
-size_of_kind OwnSized entries table node = natural_of (entry_at entries node).byte_size
+size_of_kind Declared entries table node = size_to table (entry_of entries node).signature_target
+size_of_kind OwnSized entries table node = natural_of (entry_of entries node).byte_size
 size_of_kind Pointer entries table node =
-    constant_or (entry_at entries node).byte_size (Some (entry_at entries node).address_size)
-size_of_kind Alias entries table node = size_to table (entry_at entries node).type_target
+    constant_or (entry_of entries node).byte_size (Some (entry_of entries node).address_size)
+size_of_kind Alias entries table node = size_to table (entry_of entries node).type_target
 size_of_kind Enumeration entries table node =
-    constant_or (entry_at entries node).byte_size (size_to table (entry_at entries node).type_target)
-size_of_kind Array entries table node = constant_or (entry_at entries node).byte_size (array_size entries table node)
+    constant_or (entry_of entries node).byte_size (size_to table (entry_of entries node).type_target)
+size_of_kind Array entries table node = constant_or (entry_of entries node).byte_size (array_size entries table node)
 size_of_kind Subroutine entries table node = None
 size_of_kind NoType entries table node = None
 
 -- the size of an entry, by those of others
 abbrev pub size_line : List Facts → (ℕ → Size) → ℕ → Size
-size_line entries table node = size_of_kind (kind_of (entry_at entries node)) entries table node
+size_line entries table node = size_of_kind (kind_of (entry_of entries node)) entries table node
 
 -- at each entry the table has the size that its line says, and none at an entry that is no type
 abbrev pub ObeysSizeLines : List Facts → (ℕ → Size) → Type 0

@@ -5,24 +5,24 @@ use Rattle.std.specs.List.{flat_map, range_with_len}
 use Rattle.std.specs.Option.{option_to_list}
 use Rattle.dw_types.specs.declared.facts.Facts.{Facts}
 use Rattle.dw_forms.specs.Codes.{DW_TAG_member}
-use Rattle.dw_types.specs.Entries.{entry_at, entry_numbers, is_parent}
+use Rattle.dw_types.specs.Entries.{entry_of, entry_numbers, is_parent}
 use Rattle.dw_types.specs.Graphs.{Graph}
 use Rattle.dw_types.specs.Kinds.{has_members, is_declared_type, passes_type_on}
 
 -- a child with tag member of a structure or union, neither of the two declared
 abbrev pub is_plain_member : List Facts → ℕ → ℕ → Bool
 is_plain_member entries node child =
-    has_members (entry_at entries node)
-    && (nat_eq (entry_at entries child).tag DW_TAG_member
-    && (not (entry_at entries child).declared && is_parent (entry_at entries child).parent node))
+    has_members (entry_of entries node)
+    && (nat_eq (entry_of entries child).tag DW_TAG_member
+    && (not (entry_of entries child).declared && is_parent (entry_of entries child).parent node))
 
 -- one entry holds another by value: as its type, as the type of a plain member, or by its signature
 pub data IsStepByValue (entries : List Facts) (from to : ℕ) : Type 0 where
-  by_type : passes_type_on (entry_at entries from) ≡ true → (entry_at entries from).type_target ≡ Some to
+  by_type : passes_type_on (entry_of entries from) ≡ true → (entry_of entries from).type_target ≡ Some to
       → IsStepByValue entries from to
   by_member : (member : ℕ) → member < length entries → is_plain_member entries from member ≡ true
-      → (entry_at entries member).type_target ≡ Some to → IsStepByValue entries from to
-  by_signature : is_declared_type (entry_at entries from) ≡ true → (entry_at entries from).signature_target ≡ Some to
+      → (entry_of entries member).type_target ≡ Some to → IsStepByValue entries from to
+  by_signature : is_declared_type (entry_of entries from) ≡ true → (entry_of entries from).signature_target ≡ Some to
       → IsStepByValue entries from to
 
 -- the target, if the test passes
@@ -31,7 +31,7 @@ targets_if test target = if test then option_to_list target else []
 
 -- the step of an entry through one of its plain members
 abbrev pub member_step : List Facts → ℕ → ℕ → List ℕ
-member_step entries node child = targets_if (is_plain_member entries node child) (entry_at entries child).type_target
+member_step entries node child = targets_if (is_plain_member entries node child) (entry_of entries child).type_target
 
 -- the steps that an entry makes by itself: to its type, and by its signature
 abbrev pub own_steps : Facts → List ℕ
@@ -41,9 +41,9 @@ own_steps entry =
 -- the steps of an entry in their order: its type, the types of its plain members, its signature
 abbrev pub steps_by_value : List Facts → ℕ → List ℕ
 steps_by_value entries node =
-    targets_if (passes_type_on (entry_at entries node)) (entry_at entries node).type_target
+    targets_if (passes_type_on (entry_of entries node)) (entry_of entries node).type_target
     ++ flat_map (member_step entries node) (entry_numbers entries)
-    ++ targets_if (is_declared_type (entry_at entries node)) (entry_at entries node).signature_target
+    ++ targets_if (is_declared_type (entry_of entries node)) (entry_of entries node).signature_target
 
 -- the graph of steps by value, with the entries as nodes
 abbrev pub by_value : List Facts → Graph
@@ -56,13 +56,13 @@ member_steps entries node count = flat_map (member_step entries node) (range_wit
 -- the steps of an entry, with only those members that are among the first entries
 abbrev pub row_so_far : List Facts → ℕ → ℕ → List ℕ
 row_so_far entries node count =
-    targets_if (passes_type_on (entry_at entries node)) (entry_at entries node).type_target
+    targets_if (passes_type_on (entry_of entries node)) (entry_of entries node).type_target
     ++ member_steps entries node count
-    ++ targets_if (is_declared_type (entry_at entries node)) (entry_at entries node).signature_target
+    ++ targets_if (is_declared_type (entry_of entries node)) (entry_of entries node).signature_target
 
 -- the child is a plain member of the parent alone, and its type is the target
 pub record IsMemberOf (entries : List Facts) (child parent to : ℕ) : Type 0 where
   pub before : parent < child
-  pub parent_has : has_members (entry_at entries parent) ≡ true
+  pub parent_has : has_members (entry_of entries parent) ≡ true
   pub step : member_step entries parent child ≡ to ∷ []
   pub others : (node : ℕ) → node ≢ parent → member_step entries node child ≡ []

@@ -3,7 +3,7 @@
 ghost use Rattle.std.specs.Prelude.{◌≡◌, ℕ, ◌^◌, ◌<◌, ◌↔◌, [], Some, length, All, IfNone, IfSome, IfOk, IfErr, OnOk};
 ghost use Rattle.std.specs.Option.{option_to_list};
 ghost use Rattle.dw_entries.specs.Scanned.{units_of};
-ghost use Rattle.dw_types.specs.Entries.{entry_at, ParentsComeFirst, TargetsAreEntries, OffsetsRise};
+ghost use Rattle.dw_types.specs.Entries.{entry_of, ParentsComeFirst, TargetsAreEntries, OffsetsRise};
 ghost use Rattle.dw_entries.specs.Failures.{HasNone, IsFirst};
 ghost use Rattle.dw_types.specs.FactsOf.{facts_in};
 ghost use Rattle.dw_types.specs.Graphs.{IsStep};
@@ -63,7 +63,7 @@ fn member_of(
     entry: &EntryReader<'_, '_, '_>,
     parent: Role,
 ) -> Option<(usize, usize)>
-    requires entry { entry.now ≡ entry_at entries.now child }
+    requires entry { entry.now ≡ entry_of entries.now child }
     requires parent { parent ≡ parent_role entries.now child }
     requires parents { ParentsComeFirst entries.now }
     ensures none { IfNone result ((node : ℕ) → member_step entries.now node child ≡ []) }

@@ -1,13 +1,12 @@
 //! The count of a dimension (DWARF 5, 5.13).
 
 ghost use Rattle.std.specs.Prelude.{◌≡◌, ◌<◌, length, slice_get, IfSome};
-ghost use Rattle.dw_entries.specs.Entries.{entries_of};
 ghost use Rattle.dw_entries.specs.Lookups.{entry_head};
-ghost use Rattle.dw_entries.specs.Scanned.{units_of};
+ghost use Rattle.dw_entries.specs.Scanned.{all_entries, units_of};
 ghost use Rattle.dw_types.specs.Constants.{IsOf64Bits};
 ghost use Rattle.dw_types.specs.Counts.{count_at, count_from, count_of, is_array_tag, is_dimension, is_subrange_tag};
 ghost use Rattle.dw_types.specs.Counts.{known_natural, lower_of, reads_bounds, upper_of};
-ghost use Rattle.dw_types.specs.Entries.{entry_at};
+ghost use Rattle.dw_types.specs.Entries.{entry_of};
 ghost use Rattle.dw_types.specs.FactsOf.{facts_in};
 ghost use Rattle.dw_types.specs.Kinds.{is_dimensions, parent_role, role_in};
 ghost use Rattle.dw_types.specs.UnitsRead.{all_unit_facts};
@@ -140,7 +139,7 @@ fn is_subrange_tag(tag: Tag) -> bool
 
 /// Whether the parent of an entry, if it has one, is an array.
 fn is_in_array(entries: &Entries<'_>, parent: Option<EntryId>) -> bool
-    requires { IfSome parent (λ node. node < length (entries_of (units_of entries.now.scanned))) }
+    requires { IfSome parent (λ node. node < length (all_entries entries.now.scanned)) }
     ensures { result ≡ is_dimensions (role_in (facts_in (units_of entries.now.scanned)) parent) }
 {
     match parent {
@@ -152,17 +151,17 @@ fn is_in_array(entries: &Entries<'_>, parent: Option<EntryId>) -> bool
 /// Whether an entry, of which this is told, is a dimension: a subrange that is a child of an array.
 #[inline(always)]
 fn is_dimension(entries: &Entries<'_>, id: EntryId, head: &Head) -> bool
-    requires id { id < length (entries_of (units_of entries.now.scanned)) }
-    requires head { IfSome (slice_get (entries_of (units_of entries.now.scanned)) id) (λ e. head.now ≡ entry_head e) }
+    requires id { id < length (all_entries entries.now.scanned) }
+    requires head { IfSome (slice_get (all_entries entries.now.scanned) id) (λ e. head.now ≡ entry_head e) }
     ensures { result ≡ is_dimension (parent_role (facts_in (units_of entries.now.scanned)) id)
-        (entry_at (facts_in (units_of entries.now.scanned)) id) }
+        (entry_of (facts_in (units_of entries.now.scanned)) id) }
 {
     is_subrange_tag(head.tag) && is_in_array(entries, head.parent)
 }
 
 /// The known count of a dimension, and none for any other entry. `units` is what is read of the entries' units.
 pub fn count_at(entries: &Entries<'_>, units: &[UnitFacts], id: EntryId) -> Option<u128>
-    requires id { id < length (entries_of (units_of entries.now.scanned)) }
+    requires id { id < length (all_entries entries.now.scanned) }
     requires units { units.now ≡ all_unit_facts (units_of entries.now.scanned) }
     ensures { result ≡ count_at (facts_in (units_of entries.now.scanned)) id }
 {

@@ -5,7 +5,7 @@ ghost use Rattle.std.specs.Prelude.{if◌then◌else◌};
 ghost use Rattle.dw_types.specs.Counts.{known_natural};
 ghost use Rattle.dw_types.specs.declared.element_count.ElementCount.TheVariants.{NoDimension};
 ghost use Rattle.dw_types.specs.ElementCounts.{element_count_by, grown, is_index, with_child, size_from};
-ghost use Rattle.dw_types.specs.Entries.{children, entry_at, ParentsComeFirst};
+ghost use Rattle.dw_types.specs.Entries.{children, entry_of, ParentsComeFirst};
 ghost use Rattle.dw_types.specs.SizeTables.{size_at};
 ghost use Rattle.dw_types.specs.StoredSizes.{count_at_size, count_in, IsStorable};
 
@@ -68,7 +68,7 @@ impl ElementCount {
         child: usize,
         entry: &EntryReader<'_, '_, '_>,
     ) -> ElementCount
-        requires entry { entry.now ≡ entry_at entries.now child }
+        requires entry { entry.now ≡ entry_of entries.now child }
         requires storable { IsStorable self }
         ensures grown { result ≡ with_child entries.now self child }
         ensures storable { IsStorable result }

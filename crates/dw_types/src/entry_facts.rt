@@ -3,7 +3,7 @@
 ghost use Rattle.std.specs.Prelude.{◌≡◌, ◌^◌, ◌<◌, length, List, slice_get, IfSome};
 ghost use Rattle.dw_entries.specs.Scanned.{units_of};
 ghost use Rattle.dw_types.specs.declared.facts.Facts.{Facts as FactsOf};
-ghost use Rattle.dw_types.specs.Entries.{entry_at, OffsetsRise, ParentsComeFirst, TargetsAreEntries};
+ghost use Rattle.dw_types.specs.Entries.{entry_of, OffsetsRise, ParentsComeFirst, TargetsAreEntries};
 ghost use Rattle.dw_types.specs.FactsOf.{facts_in};
 ghost use Rattle.dw_types.specs.UnitsRead.{all_unit_facts};
 
@@ -64,7 +64,7 @@ impl<'r, 'a> EntryFacts<'r, 'a> {
     #[inline(always)]
     pub(crate) fn at(&self, node: usize) -> EntryReader<'_, 'r, 'a>
         requires { node < length self.now }
-        ensures { result ≡ entry_at self.now node }
+        ensures { result ≡ entry_of self.now node }
     {
         let mut cursor = self.cursor();
         cursor.at(node)
@@ -105,7 +105,7 @@ impl<'e, 'r, 'a> FactsCursor<'e, 'r, 'a> {
     pub(crate) fn at(&mut self, node: usize) -> EntryReader<'e, 'r, 'a>
         requires { node < length self.old }
         ensures same { self.new ≡ self.old }
-        ensures found { result ≡ entry_at self.old node }
+        ensures found { result ≡ entry_of self.old node }
     {
         let id = self.cursor.entries.id(node);
         EntryReader::new(&mut self.cursor, self.links, self.units, id)

@@ -3,12 +3,11 @@
 ghost use Rattle.std.specs.Prelude.{◌≡◌, ◌<◌, ℕ, Bool, Option, None, Some, length, slice_get, option_map, IfSome};
 ghost use Rattle.std.specs.Prelude.{if◌then◌else◌};
 ghost use Rattle.dw_forms.specs.Value.{view};
-ghost use Rattle.dw_entries.specs.Entries.{entries_of};
-ghost use Rattle.dw_entries.specs.Scanned.{units_of};
+ghost use Rattle.dw_entries.specs.Scanned.{all_entries, units_of};
 ghost use Rattle.dw_links.specs.References.{is_true};
 ghost use Rattle.dw_types.specs.declared.constant.Constant.{Constant as ConstantOf};
 ghost use Rattle.dw_types.specs.declared.facts.Facts.{Facts as FactsOf};
-ghost use Rattle.dw_types.specs.Entries.{entry_at};
+ghost use Rattle.dw_types.specs.Entries.{entry_of};
 ghost use Rattle.dw_types.specs.FactsAsked.{IsConstantAt, IsPresenceOf, IsTargetOf, asked_value};
 ghost use Rattle.dw_types.specs.FactsOf.{facts_in, is_asked};
 ghost use Rattle.dw_types.specs.UnitsRead.{all_unit_facts};
@@ -78,10 +77,10 @@ pub(crate) struct EntryReader<'e, 'r, 'a> {
 impl<'e, 'r, 'a> Model for EntryReader<'e, 'r, 'a> {
     ghost Value = { FactsOf };
 
-    ghost view = { λ it. entry_at (facts_in (units_of it.links.now.entries.now.scanned)) it.id };
+    ghost view = { λ it. entry_of (facts_in (units_of it.links.now.entries.now.scanned)) it.id };
 
-    ghost invariant = { λ it. (it.id < length (entries_of (units_of it.links.now.entries.now.scanned)))
-        × (it.entry ≡ slice_get (entries_of (units_of it.links.now.entries.now.scanned)) it.id)
+    ghost invariant = { λ it. (it.id < length (all_entries it.links.now.entries.now.scanned))
+        × (it.entry ≡ slice_get (all_entries it.links.now.entries.now.scanned) it.id)
         × (it.units.now ≡ all_unit_facts (units_of it.links.now.entries.now.scanned)) };
 }
 
@@ -94,11 +93,11 @@ impl<'e, 'r, 'a> EntryReader<'e, 'r, 'a> {
         units: &'e [UnitFacts],
         id: EntryId,
     ) -> Self
-        requires id { id < length (entries_of (units_of cursor.old.entries.now.scanned)) }
+        requires id { id < length (all_entries cursor.old.entries.now.scanned) }
         requires units { units.now ≡ all_unit_facts (units_of cursor.old.entries.now.scanned) }
         requires links { units_of links.now.entries.now.scanned ≡ units_of cursor.old.entries.now.scanned }
         ensures same { cursor.new.entries.now ≡ cursor.old.entries.now }
-        ensures found { result ≡ entry_at (facts_in (units_of cursor.old.entries.now.scanned)) id }
+        ensures found { result ≡ entry_of (facts_in (units_of cursor.old.entries.now.scanned)) id }
     {
         EntryReader {
             entry: cursor.at(id),

@@ -9,8 +9,7 @@ use std::alloc::{AllocError, Global};
 
 impl Constant {
     ghost use Rattle.std.specs.Prelude.{◌≡◌, ◌<◌, length, slice_get, option_map, IfSome};
-    ghost use Rattle.dw_entries.specs.Entries.{entries_of};
-    ghost use Rattle.dw_entries.specs.Scanned.{units_of};
+    ghost use Rattle.dw_entries.specs.Scanned.{all_entries};
     ghost use Rattle.dw_forms.specs.Value.{view};
     ghost use Rattle.dw_types.specs.FactsOf.{constant_at, constant_in, constant_of};
 
@@ -39,8 +38,8 @@ impl Constant {
 
     /// What stands under an attribute of an entry.
     pub(crate) fn read(entries: &Entries<'_>, id: EntryId, attribute: Attribute) -> Constant
-        requires { id < length (entries_of (units_of entries.now.scanned)) }
-        ensures { IfSome (slice_get (entries_of (units_of entries.now.scanned)) id)
+        requires { id < length (all_entries entries.now.scanned) }
+        ensures { IfSome (slice_get (all_entries entries.now.scanned) id)
             (λ e. result ≡ constant_at e attribute) }
     {
         Constant::of_value(entries.value(id, attribute))
@@ -58,14 +57,13 @@ pub struct UnitFacts {
 
 impl UnitFacts {
     ghost use Rattle.std.specs.Prelude.{◌≡◌, ◌<◌, length, slice_get, IfOk, IfSome};
-    ghost use Rattle.dw_entries.specs.Entries.{placed};
-    ghost use Rattle.dw_entries.specs.Scanned.{units_of};
+    ghost use Rattle.dw_entries.specs.Scanned.{all_units, units_of};
     ghost use Rattle.dw_types.specs.UnitsRead.{all_unit_facts, unit_facts};
 
     /// What is read of the unit with a number.
     fn read(entries: &Entries<'_>, number: usize) -> Self
         requires { number < length (units_of entries.now.scanned) }
-        ensures { IfSome (slice_get (placed (units_of entries.now.scanned)) number) (λ u. result ≡ unit_facts u) }
+        ensures { IfSome (slice_get (all_units entries.now.scanned) number) (λ u. result ≡ unit_facts u) }
     {
         let unit = entries.unit(number);
         UnitFacts {

@@ -3,7 +3,7 @@
 ghost use Rattle.std.specs.Prelude.{◌≡◌, ℕ, ◌<◌, true, List, length};
 ghost use Rattle.dw_types.specs.declared.facts.Facts.{Facts as FactsOf};
 ghost use Rattle.dw_types.specs.Constants.{natural_of};
-ghost use Rattle.dw_types.specs.Entries.{entry_at};
+ghost use Rattle.dw_types.specs.Entries.{entry_of};
 ghost use Rattle.dw_types.specs.Kinds.{has_members};
 ghost use Rattle.dw_types.specs.Sizes.{ObeysSizeLines};
 ghost use Rattle.dw_types.specs.SizeTables.{Size};
@@ -13,5 +13,5 @@ ghost use Rattle.dw_types.specs.SizeTables.{Size};
 pub fn container_has_its_own_size()
     ensures { (entries : List FactsOf) (table : ℕ → Size) (node : ℕ)
         → ObeysSizeLines entries table → node < length entries
-        → has_members (entry_at entries node) ≡ true → table node ≡ natural_of (entry_at entries node).byte_size }
+        → has_members (entry_of entries node) ≡ true → table node ≡ natural_of (entry_of entries node).byte_size }
 {}

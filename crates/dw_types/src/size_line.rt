@@ -2,7 +2,7 @@
 
 ghost use Rattle.std.specs.Prelude.{◌≡◌, ◌<◌, ◌≤◌, ◌^◌, length, IfSome};
 ghost use Rattle.dw_types.specs.ElementCounts.{element_count_by, size_from};
-ghost use Rattle.dw_types.specs.Entries.{children, entry_at, TargetsAreEntries};
+ghost use Rattle.dw_types.specs.Entries.{children, entry_of, TargetsAreEntries};
 ghost use Rattle.dw_types.specs.Sizes.{array_size, constant_or, size_line, times};
 ghost use Rattle.dw_types.specs.SizeTables.{cap_size, size_at};
 
@@ -55,7 +55,7 @@ fn capped_array(
     node: usize,
     entry: &EntryReader<'_, '_, '_>,
 ) -> Option<u64>
-    requires entry { entry.now ≡ entry_at entries.now node }
+    requires entry { entry.now ≡ entry_of entries.now node }
     requires targets { TargetsAreEntries entries.now }
     requires sizes_in { length sizes.now ≡ length entries.now }
     requires elements { elements ≡ element_count_by entries.now (children entries.now node) }
@@ -80,7 +80,7 @@ pub(crate) fn capped_size(
     node: usize,
     entry: &EntryReader<'_, '_, '_>,
 ) -> Option<u64>
-    requires entry { entry.now ≡ entry_at entries.now node }
+    requires entry { entry.now ≡ entry_of entries.now node }
     requires node_in { node < length entries.now }
     requires targets { TargetsAreEntries entries.now }
     requires sizes_in { length sizes.now ≡ length entries.now }

@@ -1,8 +1,7 @@
 //! The one table of sizes, filled in the order of the ranks.
 
 ghost use Rattle.std.specs.Prelude.{◌≡◌, ℕ, ◌<◌, length, IfOk, IfErr, MatchOption};
-ghost use Rattle.dw_entries.specs.Entries.{entries_of};
-ghost use Rattle.dw_entries.specs.Scanned.{units_of};
+ghost use Rattle.dw_entries.specs.Scanned.{all_entries, units_of};
 ghost use Rattle.dw_types.specs.CappedSizes.{ObeysCappedLines};
 ghost use Rattle.dw_types.specs.Entries.{OffsetsRise, ParentsComeFirst, TargetsAreEntries};
 ghost use Rattle.dw_entries.specs.Failures.{HasNone};
@@ -121,7 +120,7 @@ pub fn sizes(
     requires links { units_of links.now.entries.now.scanned ≡ units_of entries.now.scanned }
     requires units { units.now ≡ all_unit_facts (units_of entries.now.scanned) }
     requires order { IsOrderOf (by_value (facts_in (units_of entries.now.scanned))) order.now }
-    ensures long { IfOk result (λ table. length table ≡ length (entries_of (units_of entries.now.scanned))) }
+    ensures long { IfOk result (λ table. length table ≡ length (all_entries entries.now.scanned)) }
     ensures only { IfOk result (λ table. IsSizeTable (facts_in (units_of entries.now.scanned)) (size_at table)) }
     ensures sound { IfOk result (λ table. HasNone
         (SizeFailures (facts_in (units_of entries.now.scanned)) (size_at table))) }

@@ -1,6 +1,6 @@
 use Rattle.std.proofs.Common.{◌≡◌, ℕ, ◌+◌, ◌<◌, ◌≤◌, [], ◌∷◌, ◌++◌, Some, length, arith, sym, ap, ◌∙◌}
 use Rattle.dw_types.specs.declared.kind.Role.{Role}
-use Rattle.dw_types.specs.Entries.{entry_at}
+use Rattle.dw_types.specs.Entries.{entry_of}
 use Rattle.dw_types.specs.Kinds.{parent_role}
 use Rattle.dw_types.specs.Roles.{roles_of_first}
 use Rattle.dw_types.specs.Shapes.{fails_shape}
@@ -19,7 +19,7 @@ of_parent-parent-requires c =
     let entries = c.args.entries.now in
     let child = c.loop-child.child in
     let inside : child < length entries = rw (← c.count-child-end.ensures) c.loop-child-test.true in
-    rw (c.loop-child.invariant.1, c.parent.ensures, c.at-entry.ensures.found, c.loop-child.invariant.3) (parent-listed entries child (entry_at entries child).parent (omega arith) (c.requires.parents child))
+    rw (c.loop-child.invariant.1, c.parent.ensures, c.at-entry.ensures.found, c.loop-child.invariant.3) (parent-listed entries child (entry_of entries child).parent (omega arith) (c.requires.parents child))
 
 pub add-requires-clause-to : goal.add-requires-clause-to
 add-requires-clause-to c = λ node is.
@@ -73,8 +73,8 @@ loop-child-preserved-then-not-is_asked c =
     let inside : child < length entries = rw (← c.count-child-end.ensures) c.loop-child-test.true in
     let unasked = rw (c.at-entry.ensures.found, c.loop-child.invariant.3) at (sym c.is_asked.ensures ∙ c.if-not-is_asked.true) in (
       unasked-steps entries c.loop-child.steps.items child c.requires.parents c.loop-child.invariant.0 unasked,
-      rw (c.in_ok-push_other.ensures, c.loop-child.invariant.1) (ap (λ (role : Role). roles_of_first entries child ++ role ∷ []) (sym (unasked-role (entry_at entries child) unasked)) ∙ roles-more entries child inside),
-      passes-more (fails_shape entries) child c.loop-child.invariant.2 (unasked-shape (entry_at entries child) unasked (parent_role entries child)),
+      rw (c.in_ok-push_other.ensures, c.loop-child.invariant.1) (ap (λ (role : Role). roles_of_first entries child ++ role ∷ []) (sym (unasked-role (entry_of entries child) unasked)) ∙ roles-more entries child inside),
+      passes-more (fails_shape entries) child c.loop-child.invariant.2 (unasked-shape (entry_of entries child) unasked (parent_role entries child)),
       c.at-entry.ensures.same ∙ c.loop-child.invariant.3,
     )
 

@@ -3,7 +3,7 @@ use Rattle.dw_types.specs.declared.facts.Facts.{Facts}
 use Rattle.dw_types.specs.declared.element_count.ElementCount.{ElementCount}
 use Rattle.dw_types.specs.declared.element_count.ElementCount.TheVariants.{NoDimension}
 use Rattle.dw_types.specs.ElementCounts.{element_count_by}
-use Rattle.dw_types.specs.Entries.{children, entry_at}
+use Rattle.dw_types.specs.Entries.{children, entry_of}
 use Rattle.dw_types.proofs.ElementCountLemmas.{HasElementCounts, counted-parent, counts-child, counts-uncounted}
 use Rattle.dw_types.proofs.element_count.element_counts.Goals as goal
 use Rattle.dw_types.proofs.element_count.element_counts.Goals.{in-Some+in_ok-set-in-Some, in-None}
@@ -11,7 +11,7 @@ use Rattle.dw_types.proofs.element_count.element_counts.Goals.{in-Some+in_ok-set
 pub get-requires : goal.get-requires
 get-requires c =
     let entries = c.args.entries.now in
-    let is = counted-parent _ (entry_at entries c.loop-child.child).parent c.in-Some.parent (rw (c.counted_parent.ensures, c.at-entry.ensures.found, c.loop-child.invariant.1) at c.in-Some.is) in
+    let is = counted-parent _ (entry_of entries c.loop-child.child).parent c.in-Some.parent (rw (c.counted_parent.ensures, c.at-entry.ensures.found, c.loop-child.invariant.1) at c.in-Some.is) in
     let first = c.requires c.loop-child.child c.in-Some.parent is in
     let end = c.count-child-end.ensures in
     let below = c.loop-child-test.true in
@@ -21,7 +21,7 @@ get-requires c =
 pub set-requires-clause-node : goal.set-requires-clause-node
 set-requires-clause-node c =
     let entries = c.args.entries.now in
-    let is = counted-parent _ (entry_at entries c.loop-child.child).parent c.in-Some.parent (rw (c.counted_parent.ensures, c.at-entry.ensures.found, c.loop-child.invariant.1) at c.in-Some.is) in
+    let is = counted-parent _ (entry_of entries c.loop-child.child).parent c.in-Some.parent (rw (c.counted_parent.ensures, c.at-entry.ensures.found, c.loop-child.invariant.1) at c.in-Some.is) in
     let first = c.requires c.loop-child.child c.in-Some.parent is in
     let end = c.count-child-end.ensures in
     let below = c.loop-child-test.true in
@@ -35,7 +35,7 @@ loop-child-preserved c =
       | in-Some+in_ok-set-in-Some w ↦
           let old = c.loop-child.counts in
           let parent = w.in-Some.parent in
-          let is = counted-parent _ (entry_at entries c.loop-child.child).parent parent (rw (c.counted_parent.ensures, c.at-entry.ensures.found, c.loop-child.invariant.1) at w.in-Some.is) in
+          let is = counted-parent _ (entry_of entries c.loop-child.child).parent parent (rw (c.counted_parent.ensures, c.at-entry.ensures.found, c.loop-child.invariant.1) at w.in-Some.is) in
           let first = c.requires c.loop-child.child parent is in
           let end = c.count-child-end.ensures in
           let below = c.loop-child-test.true in

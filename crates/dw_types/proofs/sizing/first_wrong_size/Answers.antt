@@ -1,6 +1,6 @@
 use Rattle.std.proofs.Common.{◌≡◌, ◌<◌, [], ◌∷◌, ◌++◌, length, arith, sym, ap, ◌∙◌}
 use Rattle.dw_types.specs.declared.kind.Role.{Role}
-use Rattle.dw_types.specs.Entries.{entry_at}
+use Rattle.dw_types.specs.Entries.{entry_of}
 use Rattle.dw_types.specs.Kinds.{parent_role}
 use Rattle.dw_types.specs.Roles.{roles_of_first}
 use Rattle.dw_types.specs.SizeFaults.{fails_size}
@@ -54,7 +54,7 @@ loop-node-preserved-then-not-is_asked c =
     let node = c.loop-node.node in
     let inside : node < length entries = rw (← c.count-node-end.ensures) c.loop-node-test.true in
     let unasked = rw (c.at-entry.ensures.found, c.loop-node.invariant.2) at (sym c.is_asked.ensures ∙ c.if-not-is_asked.true) in (
-      rw (c.in_ok-push_other.ensures, c.loop-node.invariant.0) (ap (λ (role : Role). roles_of_first entries node ++ role ∷ []) (sym (unasked-role (entry_at entries node) unasked)) ∙ roles-more entries node inside),
+      rw (c.in_ok-push_other.ensures, c.loop-node.invariant.0) (ap (λ (role : Role). roles_of_first entries node ++ role ∷ []) (sym (unasked-role (entry_of entries node) unasked)) ∙ roles-more entries node inside),
       passes-more (fails_size entries (size_at c.args.sizes.now)) node c.loop-node.invariant.1 (unasked-size entries (size_at c.args.sizes.now) node (c.requires.obeys node inside) unasked),
       c.at-entry.ensures.same ∙ c.loop-node.invariant.2,
     )

@@ -1,4 +1,4 @@
-use Rattle.std.proofs.Common.{◌≡◌, ℕ, drop, sym, ap, ◌∙◌}
+use Rattle.std.proofs.Common.{ℕ, drop, sym, ap, ◌∙◌}
 use Rattle.dw_forms.specs.Walks.{steps_from}
 use Rattle.dw_entries.proofs.entry_at.EntryAt.leading.Goals as goal
 

@@ -1,4 +1,4 @@
-use Rattle.std.proofs.Common.{◌+◌, get_or, drop, sym, ap, ◌∙◌, arith}
+use Rattle.std.proofs.Common.{◌+◌, get_or, drop, ap, ◌∙◌, arith}
 use Rattle.dw_forms.specs.Walks.{steps_from}
 use Rattle.dw_entries.proofs.LeadingSteps.{step_there, others_behind}
 use Rattle.dw_entries.proofs.leading.Leading.next_in.Goals as goal

@@ -1,4 +1,4 @@
-use Rattle.std.proofs.Common.{◌≡◌, ◌-◌, List, ℕ, take, drop, length, inl, inr, sym, ◌∙◌, arith}
+use Rattle.std.proofs.Common.{◌≡◌, ◌-◌, take, drop, length, inl, inr, arith}
 use Rattle.dw_forms.specs.Value.{view}
 use Rattle.dw_entries.proofs.ScanLaws.{rest_of}
 use Rattle.dw_entries.proofs.LeadingSteps.{passes, read_here, fails_here, skip_within, place_within, allowed, never, left_behind, found}
