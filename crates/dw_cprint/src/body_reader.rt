@@ -8,7 +8,7 @@ ghost use Rattle.dw_cprint.specs.EntryShapes.{members_in, enumerators_in, is_odd
 ghost use Rattle.dw_cprint.specs.Regular.{HasCountedBits, HasValue};
 ghost use Rattle.dw_cprint.specs.Shapes.{view_member, view_enumerator};
 
-use crate::look_ups::{bits_at, children_at, declared_at, name_at, integer_at, tag_at, type_at};
+use crate::look_ups::{bits_at, children_at, declared_at, integer_at, name_at, tag_at, type_at};
 use crate::shape::{Enumerator, Member};
 use dw_entries::Tag;
 use dw_entries::constants::*;
