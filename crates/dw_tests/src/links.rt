@@ -201,6 +201,17 @@ const TREE: [u8; 29] = [
     0,
 ];
 
+/// Whether no rule of the three groups fails.
+fn is_sound(alloc: Global, entries: &Entries<'_>) -> bool {
+    let Ok(()) = check_classes(alloc, entries) else {
+        return false;
+    };
+    let Ok(()) = check_strings(alloc, entries) else {
+        return false;
+    };
+    link(alloc, entries).is_ok()
+}
+
 /// Whether one pass links the entries. If it does not, a rule fails.
 fn is_linked(alloc: Global, info: &[u8]) -> Result<bool, Fail> {
     let Ok(sections) = Sections::new(&TREE_TABLE, info, &[], &[], &[], &[]) else {
@@ -209,11 +220,13 @@ fn is_linked(alloc: Global, info: &[u8]) -> Result<bool, Fail> {
     let Ok(entries) = scan(alloc, &sections) else {
         return Err("no entries".into());
     };
-    let is_linked = links_at_once(alloc, &entries).is_ok();
-    if links_by_groups(alloc, &entries).is_ok() != is_linked {
+    let Ok(links) = link_sound(alloc, &entries) else {
+        return Err("no memory".into());
+    };
+    if links.is_some() != is_sound(alloc, &entries) {
         return Err("one pass and the groups of rules do not agree".into());
     }
-    Ok(is_linked)
+    Ok(links.is_some())
 }
 
 #[test]

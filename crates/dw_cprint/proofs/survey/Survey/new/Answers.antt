@@ -1,8 +1,10 @@
-use Rattle.std.proofs.Common.{ℕ, List, map, get_or, ap, sym, ◌∙◌, subst}
+use Rattle.std.proofs.Common.{◌≡◌, ℕ, ◌<◌, List, length, map, get_or, Some, ap, sym, ◌∙◌, subst, arith}
+use Rattle.std.proofs.lemmas.List.{length-map}
+use Rattle.std.proofs.lemmas.Option.{slice_get-get_or, same_Some}
 use Rattle.dw_cprint.specs.EntryShapes.{shape_in}
 use Rattle.dw_cprint.specs.LongestRows.{AreLongest}
 use Rattle.dw_cprint.specs.Reach.{IsReachOf, items_of}
-use Rattle.dw_cprint.specs.Shapes.{view_subject}
+use Rattle.dw_cprint.specs.Shapes.{view_shape, view_subject}
 use Rattle.dw_cprint.specs.Steps.{entries_of, roots_of}
 use Rattle.dw_cprint.specs.Summaries.{AreNodes, AreRight}
 use Rattle.dw_cprint.specs.Surveys.{HaveSummaries}
@@ -10,6 +12,24 @@ use Rattle.dw_cprint.specs.declared.shape.Shape.{Shape}
 use Rattle.dw_cprint.specs.declared.survey.Survey.{Survey}
 use Rattle.dw_cprint.proofs.SurveyLemmas.{survey-done, nodes-of}
 use Rattle.dw_cprint.proofs.survey.Survey.new.Goals as goal
+
+-- a number of a list does not depend on what stands for none
+any_default : (xs : List ℕ) (k d e : ℕ) → k < length xs → get_or xs k d ≡ get_or xs k e
+any_default xs k d e below =
+    same_Some (get_or xs k d) (get_or xs k e) (sym (slice_get-get_or xs k d below) ∙ slice_get-get_or xs k e below)
+pub summarize-requires : goal.summarize-requires
+summarize-requires c =
+    let r = c.in_ok-reached.reached in
+    let clear = c.in_ok-clear.clear.items in
+    let shapes = shape_in c.args.image.now in
+    let P : List ℕ → Type 0 = λ xs. (k d : ℕ) → k < length xs → get_or xs k d < length c.deref-3.result.now in
+    subst P (sym c.deref-4.ensures.value) (λ k d below.
+      let within = c.in_ok-clear.ensures.within k below in
+      let same = any_default clear k d 0 below in
+      let nodes = c.in_ok-reached.ensures.reach.nodes in
+      let long = ap length c.in_ok-reached.ensures.shapes in
+      let kept = ap length c.deref-3.ensures.value in
+      omega (arith, within, same, nodes, long, kept, length-map r.shapes.items view_shape, length-map r.found.items shapes))
 
 pub returns : goal.returns
 returns c =
