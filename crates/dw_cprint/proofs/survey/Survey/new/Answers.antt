@@ -17,6 +17,7 @@ use Rattle.dw_cprint.proofs.survey.Survey.new.Goals as goal
 any_default : (xs : List ℕ) (k d e : ℕ) → k < length xs → get_or xs k d ≡ get_or xs k e
 any_default xs k d e below =
     same_Some (get_or xs k d) (get_or xs k e) (sym (slice_get-get_or xs k d below) ∙ slice_get-get_or xs k e below)
+
 pub summarize-requires : goal.summarize-requires
 summarize-requires c =
     let r = c.in_ok-reached.reached in
@@ -24,12 +25,12 @@ summarize-requires c =
     let shapes = shape_in c.args.image.now in
     let P : List ℕ → Type 0 = λ xs. (k d : ℕ) → k < length xs → get_or xs k d < length c.deref-3.result.now in
     subst P (sym c.deref-4.ensures.value) (λ k d below.
-      let within = c.in_ok-clear.ensures.within k below in
-      let same = any_default clear k d 0 below in
-      let nodes = c.in_ok-reached.ensures.reach.nodes in
-      let long = ap length c.in_ok-reached.ensures.shapes in
-      let kept = ap length c.deref-3.ensures.value in
-      omega (arith, within, same, nodes, long, kept, length-map r.shapes.items view_shape, length-map r.found.items shapes))
+    let within = c.in_ok-clear.ensures.within k below in
+    let same = any_default clear k d 0 below in
+    let nodes = c.in_ok-reached.ensures.reach.nodes in
+    let long = ap length c.in_ok-reached.ensures.shapes in
+    let kept = ap length c.deref-3.ensures.value in
+    omega (arith, within, same, nodes, long, kept, length-map r.shapes.items view_shape, length-map r.found.items shapes))
 
 pub returns : goal.returns
 returns c =
