@@ -22,6 +22,7 @@ use crate::subject_reader::subject_of;
 use crate::survey::Survey;
 use dw_entries::constants::*;
 use dw_image::{EntryId, Image, NoMemory};
+use dw_types::{OrderFault, order};
 use indexmap::IndexSet;
 use std::alloc::{AllocError, Global};
 
@@ -91,11 +92,19 @@ fn subjects_of<'a>(
 }
 
 /// The level of each entry: how many steps by value the longest path from it has.
-fn levels_of(alloc: Global, image: &Image<'_>) -> Result<Vec<usize>, AllocError>
+fn levels_of(alloc: Global, image: &Image<'_>) -> Result<Vec<usize>, NoMemory>
     ensures entries { IfOk result (λ levels. length levels.items ≡ length (entries_in image.now)) }
     ensures levels { IfOk result (λ levels. AreLevels image.now (slice_index levels.items)) }
 {
-    longest_by_rank(alloc, image.by_value(), image.order())
+    let steps = image.by_value(alloc)?;
+    match order(alloc, &steps) {
+        Ok(order) => {
+            let levels = longest_by_rank(alloc, &steps, &order)?;
+            Ok(levels)
+        }
+        Err(OrderFault::Cycle(_)) => unreachable!(),
+        Err(OrderFault::Memory) => Err(NoMemory),
+    }
 }
 
 /// One of the sixteen digits.

@@ -7,7 +7,7 @@ use Rattle.std.proofs.lemmas.List.Sums.{count_by_more_yes, count_by_more_no}
 use Rattle.std.proofs.lemmas.Option.{slice_get_cases}
 use Rattle.dw_entries.specs.Entries.{Entry}
 use Rattle.dw_image.specs.Lookups.{is_type_entry}
-use Rattle.dw_image.proofs.ChildSteps.{slice_get_none}
+use Rattle.dw_types.proofs.ChildSteps.{slice_get_none}
 
 get_there : (es : List Entry) (k : ℕ) (e : Entry) → slice_get es k ≡ Some e → get_or es k e ≡ e
 get_there es k e there = elim (slice_get_cases es k).1 [

@@ -10,7 +10,5 @@ pub mod RuleLaws
 pub mod GroupLaws
 pub mod OneFirst
 pub mod JoinLemmas
-pub mod ChildLemmas
-pub mod ChildSteps
 pub mod LookupLemmas
 pub mod CountLemmas

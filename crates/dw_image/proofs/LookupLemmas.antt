@@ -6,7 +6,7 @@ use Rattle.std.proofs.lemmas.List.Elements.{All-head, All-tail}
 use Rattle.dw_entries.specs.Asked.{OffsetsRise}
 use Rattle.dw_entries.specs.Entries.{Entry}
 use Rattle.dw_image.specs.Lookups.{entry_at}
-use Rattle.dw_image.proofs.ChildSteps.{slice_get_none}
+pub use Rattle.dw_types.proofs.ChildSteps.{slice_get_none}
 
 found_from : (es : List Entry) (offset k i : ℕ) (e : Entry) → slice_get es i ≡ Some e → e.at ≡ offset → ((j : ℕ) (d : Entry) → j < i → slice_get es j ≡ Some d → (d.at == offset) ≡ false)
     → position_from (λ d. d.at == offset) k es ≡ Some (k + i)

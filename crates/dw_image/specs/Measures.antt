@@ -1,27 +1,20 @@
--- State: the steps by value and the sizes of the entries, and the first fault of the groups that find them.
+-- State: the sizes of the entries of which no rule on types fails, and the first fault of the groups on types.
 use Rattle.std.specs.Prelude.{◌≡◌, ◌<◌, List, length}
 use Rattle.dw_elf.specs.declared.sections.Sections.{Sections}
 use Rattle.dw_entries.specs.declared.fault.Fault.{Fault}
 use Rattle.dw_entries.specs.Failures.{HasNone}
 use Rattle.dw_entries.specs.Units.{DebugUnit}
 use Rattle.dw_types.specs.declared.facts.Facts.{Facts}
-use Rattle.dw_types.specs.declared.packed.Packed.{Packed}
-use Rattle.dw_types.specs.Graphs.{Graph, HasNoCycle}
-use Rattle.dw_types.specs.Packing.{cut}
+use Rattle.dw_types.specs.Graphs.{HasNoCycle}
 use Rattle.dw_types.specs.Shapes.{ShapeFailures}
 use Rattle.dw_types.specs.Steps.{by_value}
 use Rattle.dw_types.specs.SizeTables.{Size, size_at}
 use Rattle.dw_image.specs.First.{Group, turn_of, failures_of, IsFirstIn}
 use Rattle.dw_image.specs.Valid.{HasSizes}
 
--- the graph that is packed in two vectors
-abbrev pub graph_of : Packed → Graph
-graph_of packed = cut packed.steps 0 packed.ends
-
--- no rule on types fails, and these are the steps by value and the sizes
-pub record AreMeasures (facts : List Facts) (steps : Packed) (table : List Size) : Type 0 where
+-- no rule on types fails, and these are the sizes
+pub record AreMeasures (facts : List Facts) (table : List Size) : Type 0 where
   pub shapes : HasNone (ShapeFailures facts)
-  pub graph : graph_of steps ≡ by_value facts
   pub contained : HasNoCycle (by_value facts)
   pub long : length table ≡ length facts
   pub sizes : HasSizes facts (size_at table)

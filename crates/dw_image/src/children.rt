@@ -1,11 +1,12 @@
 //! The children of an entry, one by one.
 
-ghost use Rattle.std.specs.Prelude.{◌≡◌, ◌<◌, length, slice_get, IfSome};
+ghost use Rattle.std.specs.Prelude.{◌≡◌, ◌<◌, length};
 ghost use Rattle.dw_entries.specs.Scanned.{all_entries};
-ghost use Rattle.dw_image.specs.Lookups.{is_number, children_of, siblings_from, IsChild};
+ghost use Rattle.dw_types.specs.Children.{children_of, IsChild};
 
 use crate::image::Image;
 use dw_entries::{Entries, EntryId};
+use dw_types::first_child;
 
 /// The children of an entry that are left, in rising offset.
 #[derive(Drop)]
@@ -30,37 +31,6 @@ impl<'i, 'a> Iterator for Children<'i, 'a> {
         let id = self.next?;
         self.next = self.entries.head(id).next_sibling;
         Some(id)
-    }
-}
-
-/// Whether an entry is a child of another.
-fn is_child(entries: &Entries<'_>, id: EntryId, parent: EntryId) -> bool
-    requires { id < length (all_entries entries.now.scanned) }
-    ensures { IfSome (slice_get (all_entries entries.now.scanned) id)
-        (λ e. result ≡ is_number parent e.parent) }
-{
-    match entries.head(id).parent {
-        Some(above) => above == parent,
-        None => false,
-    }
-}
-
-/// The first child of an entry: the entry after it, if that is a child.
-fn first_child(entries: &Entries<'_>, id: EntryId) -> Option<EntryId>
-    requires { id < length (all_entries entries.now.scanned) }
-    ensures children { siblings_from (all_entries entries.now.scanned) id result
-        ≡ children_of (all_entries entries.now.scanned) id }
-    ensures linked { IsChild (all_entries entries.now.scanned) id result }
-{
-    match entries.nth(id.number() + 1) {
-        Some(behind) => {
-            if is_child(entries, behind, id) {
-                Some(behind)
-            } else {
-                None
-            }
-        }
-        None => None,
     }
 }
 

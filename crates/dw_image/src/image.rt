@@ -9,14 +9,12 @@ ghost use Rattle.dw_links.specs.Strings.{StringFailures};
 ghost use Rattle.dw_links.specs.References.{ReferenceFailures};
 ghost use Rattle.dw_links.specs.Tables.{AreTables};
 ghost use Rattle.dw_types.specs.FactsOf.{facts_in};
-ghost use Rattle.dw_types.specs.Orders.{IsOrderOf};
-ghost use Rattle.dw_types.specs.Steps.{by_value};
 ghost use Rattle.dw_types.specs.UnitsRead.{all_unit_facts};
 ghost use Rattle.dw_image.specs.Measures.{AreMeasures};
 
 use dw_entries::Entries;
 use dw_links::UnitTables;
-use dw_types::{Order, Packed, SizeTable, UnitFacts};
+use dw_types::{SizeTable, UnitFacts};
 
 /// The image of valid sections. Only `verify` makes one.
 #[derive(Drop)]
@@ -25,17 +23,13 @@ pub struct Image<'a> {
     pub(crate) tables: UnitTables,
     /// What is read of each unit.
     pub(crate) units: Vec<UnitFacts>,
-    pub(crate) steps: Packed,
-    /// The order of the steps.
-    pub(crate) order: Order,
     pub(crate) sizes: SizeTable,
     ghost linked: { AreTables entries tables },
     ghost classes: { HasNone (ClassFailures (units_of entries.scanned)) },
     ghost strings: { HasNone (StringFailures (sections_of entries) (units_of entries.scanned)) },
     ghost references: { HasNone (ReferenceFailures (units_of entries.scanned)) },
     ghost units_read: { units.items ≡ all_unit_facts (units_of entries.scanned) },
-    ghost ordered: { IsOrderOf (by_value (facts_in (units_of entries.scanned))) order },
-    ghost measured: { AreMeasures (facts_in (units_of entries.scanned)) steps sizes },
+    ghost measured: { AreMeasures (facts_in (units_of entries.scanned)) sizes },
 }
 
 impl<'a> Image<'a> {

@@ -4,17 +4,17 @@ ghost use Rattle.std.specs.Prelude.{◌≡◌, ◌<◌, length, map, IfOk, IfErr
 ghost use Rattle.dw_entries.specs.Scanned.{all_entries, units_of};
 ghost use Rattle.dw_entries.specs.Stopped.{IfFaulty};
 ghost use Rattle.dw_entries.specs.Views.{sections_of};
+ghost use Rattle.dw_links.specs.Tables.{AreTables};
 ghost use Rattle.dw_types.specs.FactsOf.{facts_in};
 ghost use Rattle.dw_types.specs.Graphs.{IsCycle};
-ghost use Rattle.dw_types.specs.Orders.{IsOrderOf};
 ghost use Rattle.dw_types.specs.Steps.{by_value};
 ghost use Rattle.dw_types.specs.UnitsRead.{all_unit_facts};
 ghost use Rattle.dw_image.specs.First.{offset_at, NamesCycle};
 ghost use Rattle.dw_image.specs.Measures.{AreMeasures, FailsInTypes};
 
 use dw_entries::{Entries, Fault, Rule, Section, Stop};
-use dw_links::Links;
-use dw_types::{ByValue, Order, OrderFault, Packed, SizeTable, UnitFacts, order, sizes};
+use dw_links::UnitTables;
+use dw_types::{ByValue, OrderFault, SizeTable, UnitFacts, order, sizes, sizes_if_sound};
 use std::alloc::{AllocError, Global};
 
 /// The offset of the entry with a number.
@@ -60,29 +60,48 @@ fn cycle_fault(alloc: Global, entries: &Entries<'_>, numbers: &[usize]) -> Resul
     })
 }
 
-/// Follows the steps by value of entries, orders them and measures them by that order, or finds the first fault of the
-/// rules on types. `units` is what is read of the entries' units.
-pub fn measure(
+/// Follows the steps by value of entries, orders them and measures the entries by that order, or finds the first fault
+/// of the rules on types.
+fn measure_in_order(
     alloc: Global,
     entries: &Entries<'_>,
-    links: &Links<'_, '_>,
+    tables: &UnitTables,
     units: &[UnitFacts],
-) -> Result<(Packed, Order, SizeTable), Stop>
-    requires links { units_of links.now.entries.now.scanned ≡ units_of entries.now.scanned }
+) -> Result<SizeTable, Stop>
+    requires tables { AreTables entries.now tables.now }
     requires units { units.now ≡ all_unit_facts (units_of entries.now.scanned) }
-    ensures sound { IfOk result (λ it. AreMeasures (facts_in (units_of entries.now.scanned)) it.0 it.2) }
-    ensures order { IfOk result (λ it. IsOrderOf (by_value (facts_in (units_of entries.now.scanned))) it.1) }
+    ensures sound { IfOk result (AreMeasures (facts_in (units_of entries.now.scanned))) }
     ensures fault { IfErr result (IfFaulty (FailsInTypes (sections_of entries.now) (units_of entries.now.scanned))) }
 {
-    let steps = ByValue::new(alloc, entries, links, units)?.into_packed();
+    let steps = ByValue::new(alloc, entries, tables, units)?;
     match order(alloc, &steps) {
         Ok(order) => {
-            let sizes = sizes(alloc, entries, links, units, &order)?;
-            Ok((steps, order, sizes))
+            let sizes = sizes(alloc, entries, tables, units, &order)?;
+            Ok(sizes)
         }
         Err(OrderFault::Cycle(nodes)) => {
             Err(Stop::Fault(cycle_fault(alloc, entries, nodes.as_slice())?))
         }
         Err(OrderFault::Memory) => Err(Stop::Memory),
     }
+}
+
+/// The sizes of entries, or the first fault of the rules on types. One walk measures sound entries; what it does not
+/// measure is measured in order, which finds the fault. `units` is what is read of the entries' units.
+pub fn measure(
+    alloc: Global,
+    entries: &Entries<'_>,
+    tables: &UnitTables,
+    units: &[UnitFacts],
+) -> Result<SizeTable, Stop>
+    requires tables { AreTables entries.now tables.now }
+    requires units { units.now ≡ all_unit_facts (units_of entries.now.scanned) }
+    ensures sound { IfOk result (AreMeasures (facts_in (units_of entries.now.scanned))) }
+    ensures fault { IfErr result (IfFaulty (FailsInTypes (sections_of entries.now) (units_of entries.now.scanned))) }
+{
+    let found = sizes_if_sound(alloc, entries, tables, units)?;
+    if let Some(sizes) = found {
+        return Ok(sizes);
+    }
+    measure_in_order(alloc, entries, tables, units)
 }

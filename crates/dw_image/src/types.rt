@@ -1,10 +1,9 @@
 //! Look-ups of types in an image: what holds which by value, how large they are, how many elements a dimension has.
 
-ghost use Rattle.std.specs.Prelude.{◌≡◌, ◌<◌, length, slice_get, IfSome};
+ghost use Rattle.std.specs.Prelude.{◌≡◌, ◌<◌, length, slice_get, IfOk, IfSome};
 ghost use Rattle.dw_types.specs.Counts.{count_at};
 ghost use Rattle.dw_types.specs.FactsOf.{facts_in};
 ghost use Rattle.dw_types.specs.Graphs.{steps_of};
-ghost use Rattle.dw_types.specs.Orders.{IsOrderOf};
 ghost use Rattle.dw_image.specs.Images.{units_in, entries_in, steps_in, size_table_in, type_in};
 ghost use Rattle.dw_image.specs.Lookups.{type_number};
 
@@ -12,7 +11,8 @@ use crate::id::TypeId;
 use crate::image::Image;
 use dw_entries::EntryId;
 use dw_entries::constants::DW_AT_type;
-use dw_types::{Order, Packed, StepGraph, count_at};
+use dw_types::{Packed, StepGraph, count_at, pack_by_value, step_by_value};
+use std::alloc::{AllocError, Global};
 
 impl Image<'_> {
     /// The type at an entry. None if its tag is not a type's.
@@ -60,35 +60,23 @@ impl Image<'_> {
         count_at(&self.entries, &self.units, id)
     }
 
-    /// The steps by value of all entries. An entry is the node of its number.
+    /// The steps by value of all entries, which are found at each call. An entry is the node of its number. The error
+    /// is that an allocation failed.
     #[tactic(auto, unfolding(crate::specs::Images::units_in, crate::specs::Images::steps_in))]
-    pub fn by_value(&self) -> &Packed
-        ensures { ⟦<Packed as StepGraph>⟧.graph result.now ≡ steps_in self.now }
+    pub fn by_value(&self, alloc: Global) -> Result<Packed, AllocError>
+        ensures { IfOk result (λ steps. ⟦<Packed as StepGraph>⟧.graph steps ≡ steps_in self.now) }
     {
-        &self.steps
-    }
-
-    /// The order of the steps by value: each leads to an entry of smaller rank.
-    #[tactic(auto, unfolding(crate::specs::Images::units_in, crate::specs::Images::steps_in))]
-    pub fn order(&self) -> &Order
-        ensures { IsOrderOf (steps_in self.now) result.now }
-    {
-        &self.order
+        pack_by_value(alloc, &self.entries, &self.tables, &self.units)
     }
 
     /// The k-th entry, from 0, that an entry holds by value: its type, the types of its plain members in their order,
-    /// what its signature names. None past the last.
+    /// what its signature names. None past the last. Each call goes over the entry's children, up to that step.
     #[tactic(auto, unfolding(crate::specs::Images::units_in, crate::specs::Images::steps_in))]
     pub fn step(&self, id: EntryId, k: usize) -> Option<EntryId>
         requires { id < length (entries_in self.now) }
         ensures exact { result ≡ slice_get (steps_of (steps_in self.now) id) k }
         ensures within { IfSome result (λ to. to < length (entries_in self.now)) }
     {
-        let node = id.number();
-        if k < self.steps.steps(node) {
-            Some(self.entries.id(self.steps.step(node, k)))
-        } else {
-            None
-        }
+        step_by_value(&self.entries, &self.tables, &self.units, id, k)
     }
 }

@@ -43,14 +43,12 @@ fn image_of<'a>(alloc: Global, sections: Sections<'a>) -> Result<Image<'a>, Stop
     let entries = scan(alloc, &sections)?;
     let links = links_of(alloc, &entries)?;
     let units = UnitFacts::read_all(alloc, &entries)?;
-    let (steps, order, sizes) = measure(alloc, &entries, &links, &units)?;
     let tables = links.into_tables();
+    let sizes = measure(alloc, &entries, &tables, &units)?;
     Ok(Image {
         entries,
         tables,
         units,
-        steps,
-        order,
         sizes,
     })
 }

@@ -1,6 +1,7 @@
-//! The order of graphs, and the counts of dimensions.
+//! The order of graphs, the counts of dimensions, and the sizes that one walk finds.
 
 mod graphs;
+mod one_walk;
 mod rows;
 
 use dw_entries::{Sections, scan};

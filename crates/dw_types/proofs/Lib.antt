@@ -1,7 +1,12 @@
 pub mod ListLemmas
 pub mod ParentLemmas
+pub mod ChildLemmas
+pub mod ChildSteps
 pub mod TargetLemmas
 pub mod FactsLemmas
+pub mod ChildFacts
+pub mod PassedLemmas
+pub mod MeasurableLemmas
 pub mod UnitLemmas
 pub mod ReaderLemmas
 pub mod CountLemmas
@@ -25,4 +30,7 @@ pub mod ElementCountLemmas
 pub mod TableLemmas
 pub mod SizeLineLemmas
 pub mod SizeFaultLemmas
+pub mod MeasuredLemmas
 pub mod OneTableLemmas
+pub mod SoundLemmas
+pub mod PartStepLemmas

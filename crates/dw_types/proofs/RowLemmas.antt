@@ -36,7 +36,7 @@ member_steps-more entries node count =
     ∙ (flat_map-append step (range_with_len 0 count) ((0 + count) ∷ [])
     ∙ ap (λ (last : List ℕ). flat_map step (range_with_len 0 count) ++ last) (append-nil (step (0 + count)) ∙ ap step here)))
 
-flat_map-none : (f : ℕ → List ℕ) (xs : List ℕ) → ((k : ℕ) → k < length xs → f (get_or xs k 0) ≡ []) → flat_map f xs ≡ []
+pub flat_map-none : (f : ℕ → List ℕ) (xs : List ℕ) → ((k : ℕ) → k < length xs → f (get_or xs k 0) ≡ []) → flat_map f xs ≡ []
 flat_map-none f [] none = refl
 flat_map-none f (x ∷ xs) none = rw (none 0 (omega arith), flat_map-none f xs (λ k below. none (suc k) (omega arith))) refl
 
@@ -59,7 +59,7 @@ no-member_before entries node child first before =
     rw plain refl
 
 -- a structure with members has no step by signature
-no-signature_step : (entry : Facts) (target : Option ℕ) → has_members entry ≡ true → targets_if (is_declared_type entry) target ≡ []
+pub no-signature_step : (entry : Facts) (target : Option ℕ) → has_members entry ≡ true → targets_if (is_declared_type entry) target ≡ []
 no-signature_step entry target has =
     let kept = and_parts (is_one_of container_tags entry.tag) (not entry.declared) has in
     let plain : is_declared_type entry ≡ false = and_right (is_one_of declarable_tags entry.tag) entry.declared (not-true entry.declared kept.1) in
@@ -175,7 +175,7 @@ steps-all entries steps h =
     fill_by_all (steps_by_value entries) (rows_of steps (length entries)) (length entries) [] (length-rows_of steps (length entries)) (λ node below. get_or-rows_of steps (length entries) node below ∙ h.rows_so_far node below)
 
 -- a step by value leads to an entry
-step-to_entry : (entries : List Facts) → TargetsAreEntries entries → (from to : ℕ) → IsStepByValue entries from to → to < length entries
+pub step-to_entry : (entries : List Facts) → TargetsAreEntries entries → (from to : ℕ) → IsStepByValue entries from to → to < length entries
 step-to_entry entries targets from to (by_type passes is) = (targets from to).0 is
 step-to_entry entries targets from to (by_member member below plain is) = (targets member to).0 is
 step-to_entry entries targets from to (by_signature declared is) = (targets from to).1 is

@@ -65,7 +65,7 @@ constant-small NotNumber other small = refl
 constant-small (Unsigned n) other small = small
 constant-small (Signed n) other small = small
 
-and-same : (test : Bool) (a b : Bool) → (test ≡ true → a ≡ b) → (test && a) ≡ (test && b)
+pub and-same : (test : Bool) (a b : Bool) → (test ≡ true → a ≡ b) → (test && a) ≡ (test && b)
 and-same true a b same = same refl
 and-same false a b same = refl
 
@@ -257,6 +257,10 @@ cap-some : {P : Type 0} (line found : Size) → found ≡ cap_size (2 ^ 63) line
 cap-some None found is holds = rw is tt
 cap-some (Some n) found is holds = rw is (holds n refl)
 
--- so a table that obeys the capped lines tells at which entries the byte size is not to be asked again
+-- so the capped size of an entry tells whether its byte size is not to be asked again
+pub sized-line : (entries : List Facts) (table : ℕ → Size) (node : ℕ) (size : Size) → size ≡ cap_size (2 ^ 63) (size_line entries table node) → IfSome size (λ _. has_no_size (entry_of entries node) ≡ false)
+sized-line entries table node size is = cap-some (size_line entries table node) size is (λ n sized. sized-kind entries table node (kind_of (entry_of entries node)) refl n sized)
+
+-- and so does a table that obeys the capped lines
 pub sized-own : (entries : List Facts) (table : ℕ → Size) (node : ℕ) → table node ≡ cap_size (2 ^ 63) (size_line entries table node) → IfSome (table node) (λ _. has_no_size (entry_of entries node) ≡ false)
-sized-own entries table node obeys = cap-some (size_line entries table node) (table node) obeys (λ n is. sized-kind entries table node (kind_of (entry_of entries node)) refl n is)
+sized-own entries table node obeys = sized-line entries table node (table node) obeys

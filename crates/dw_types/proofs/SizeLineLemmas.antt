@@ -50,7 +50,7 @@ pub declared-is : (entry : Facts) → kind_of entry ≡ Declared → is_declared
 declared-is entry is = declared-by entry (is_declared_type entry) refl is
 
 -- the sizes at a target are the same, where a target that there is is a step
-to-same : (table other : ℕ → Size) (target : Option ℕ) → ((to : ℕ) → target ≡ Some to → table to ≡ other to) → size_to table target ≡ size_to other target
+pub to-same : (table other : ℕ → Size) (target : Option ℕ) → ((to : ℕ) → target ≡ Some to → table to ≡ other to) → size_to table target ≡ size_to other target
 to-same table other None same = refl
 to-same table other (Some to) same = same to refl
 

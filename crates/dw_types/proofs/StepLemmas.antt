@@ -38,7 +38,7 @@ from-flat_map f (x ∷ xs) y has = elim (Contains-append_cases (f x) (flat_map f
 
 -- the steps of a node in the graph
 
-by_value-at : (entries : List Facts) (node : ℕ) → node < length entries → steps_of (by_value entries) node ≡ steps_by_value entries node
+pub by_value-at : (entries : List Facts) (node : ℕ) → node < length entries → steps_of (by_value entries) node ≡ steps_by_value entries node
 by_value-at entries node below =
     let long = length-range_with_len 0 (length entries) in
     let at = get_or-range_with_len 0 (length entries) node 0 below in
@@ -57,7 +57,7 @@ pub length-by_value : (entries : List Facts) → length (by_value entries) ≡ l
 length-by_value entries = length-map (entry_numbers entries) (steps_by_value entries) ∙ length-range_with_len 0 (length entries)
 
 -- a step of an entry is one of the three parts of its list
-steps-from : (entries : List Facts) (from to : ℕ) → Contains (steps_by_value entries from) to → IsStepByValue entries from to
+pub steps-from : (entries : List Facts) (from to : ℕ) → Contains (steps_by_value entries from) to → IsStepByValue entries from to
 steps-from entries from to has =
     let own = targets_if (passes_type_on (entry_of entries from)) (entry_of entries from).type_target in
     let members = flat_map (member_step entries from) (entry_numbers entries) in

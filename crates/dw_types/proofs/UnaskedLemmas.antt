@@ -1,7 +1,8 @@
--- An entry that the rules on types don't look at makes no step, has no role and breaks no rule.
+-- An entry that is no type has no kind, no role and no size of its own; one that the rules on types don't look at makes no step
+-- and breaks no rule.
 use Rattle.std.proofs.Common.{◌≡◌, ℕ, Bool, true, false, ◌&&◌, ◌||◌, not, List, [], ◌∷◌, ◌++◌, ◌+◌, ◌^◌, None, nat_eq, refl, sym, ap, subst, ◌∙◌, append-nil}
-use Rattle.std.proofs.lemmas.Bool.{eqb-true, false_from_ne_true, false≢true, true≢false}
-use Rattle.dw_forms.specs.Codes.{DW_TAG_array_type, DW_TAG_atomic_type, DW_TAG_base_type, DW_TAG_const_type, DW_TAG_enumeration_type, DW_TAG_member, DW_TAG_pointer_type, DW_TAG_restrict_type, DW_TAG_subrange_type, DW_TAG_subroutine_type, DW_TAG_typedef, DW_TAG_volatile_type}
+use Rattle.std.proofs.lemmas.Bool.{eqb-true, false_from_ne_true, false≢true, or_parts, true≢false}
+use Rattle.dw_forms.specs.Codes.{DW_TAG_array_type, DW_TAG_atomic_type, DW_TAG_base_type, DW_TAG_const_type, DW_TAG_enumeration_type, DW_TAG_member, DW_TAG_pointer_type, DW_TAG_restrict_type, DW_TAG_subrange_type, DW_TAG_subroutine_type, DW_TAG_typedef, DW_TAG_volatile_type, is_type_tag}
 use Rattle.dw_entries.specs.declared.rule.Rule.{Rule}
 use Rattle.dw_entries.specs.declared.rule.Rule.TheVariants.{MissingType, BadCount, NoSize, SizeTooGreat, MemberOutside, EnumSize}
 use Rattle.dw_types.specs.declared.facts.Facts.{Facts}
@@ -13,7 +14,7 @@ use Rattle.dw_types.specs.declared.step_list.Step.{Step}
 use Rattle.dw_types.specs.Constants.{is_negative, is_present}
 use Rattle.dw_types.specs.Entries.{entry_of, ParentsComeFirst}
 use Rattle.dw_types.specs.FactsOf.{is_asked}
-use Rattle.dw_types.specs.Kinds.{alias_tags, container_tags, declarable_tags, has_members, is_declared_type, kind_of, own_sized_tags, parent_role, passes_type_on, role_of}
+use Rattle.dw_types.specs.Kinds.{alias_tags, container_tags, declarable_tags, has_members, is_array, is_declared_type, kind_of, own_sized_tags, parent_role, passes_type_on, role_of}
 use Rattle.dw_links.specs.Classes.{is_one_of}
 use Rattle.dw_types.specs.Shapes.{breaks_shape}
 use Rattle.dw_types.specs.SizeFaults.{breaks_size, fails_size, has_no_size, reads_own, wants_own}
@@ -28,35 +29,42 @@ neither-or false b c true not_a not_d either = true≢false not_d
 neither-or false b true false not_a not_d either = false≢true either
 neither-or false b false false not_a not_d either = false≢true either
 
--- whose tag is none of those that are asked
-module _ (entry : Facts) (unasked : is_asked entry.tag ≡ false) where
-  not-tag : (asked : ℕ) → is_asked asked ≡ true → nat_eq entry.tag asked ≡ false
-  not-tag asked is = false_from_ne_true (nat_eq entry.tag asked) (λ same. let e : entry.tag ≡ asked = eqb-true entry.tag asked same in true≢false (sym (ap is_asked e ∙ is) ∙ unasked))
+-- an entry that is no type
+module _ (entry : Facts) (untyped : is_type_tag entry.tag ≡ false) where
+  not-tag : (type : ℕ) → is_type_tag type ≡ true → nat_eq entry.tag type ≡ false
+  not-tag type is = false_from_ne_true (nat_eq entry.tag type) (λ same. let e : entry.tag ≡ type = eqb-true entry.tag type same in true≢false (sym (ap is_type_tag e ∙ is) ∙ untyped))
 
-  abbrev AreAsked : List ℕ → Type 0
-  AreAsked [] = Unit {0}
-  AreAsked (x ∷ xs) = (is_asked x ≡ true) × AreAsked xs
+  abbrev AreTypes : List ℕ → Type 0
+  AreTypes [] = Unit {0}
+  AreTypes (x ∷ xs) = (is_type_tag x ≡ true) × AreTypes xs
 
-  not-one : (tags : List ℕ) → AreAsked tags → is_one_of tags entry.tag ≡ false
+  not-one : (tags : List ℕ) → AreTypes tags → is_one_of tags entry.tag ≡ false
   not-one [] are = refl
   not-one (x ∷ xs) are = rw (not-tag x are.0) (not-one xs are.1)
 
-  pub unasked-passes : passes_type_on entry ≡ false
-  unasked-passes = not-one (DW_TAG_typedef ∷ DW_TAG_const_type ∷ DW_TAG_volatile_type ∷ DW_TAG_restrict_type ∷ DW_TAG_atomic_type ∷ DW_TAG_array_type ∷ DW_TAG_enumeration_type ∷ []) (refl, (refl, (refl, (refl, (refl, (refl, (refl, tt)))))))
+  pub untyped-passes : passes_type_on entry ≡ false
+  untyped-passes = not-one (DW_TAG_typedef ∷ DW_TAG_const_type ∷ DW_TAG_volatile_type ∷ DW_TAG_restrict_type ∷ DW_TAG_atomic_type ∷ DW_TAG_array_type ∷ DW_TAG_enumeration_type ∷ []) (refl, (refl, (refl, (refl, (refl, (refl, (refl, tt)))))))
 
-  pub unasked-declared : is_declared_type entry ≡ false
-  unasked-declared = rw (not-one declarable_tags (refl, (refl, (refl, tt)))) refl
+  pub untyped-members : has_members entry ≡ false
+  untyped-members = rw (not-one container_tags (refl, (refl, tt))) refl
 
-  pub unasked-role : role_of entry ≡ Other
-  unasked-role = rw (not-one container_tags (refl, (refl, tt)), not-tag DW_TAG_array_type refl) refl
+  pub untyped-array : is_array entry ≡ false
+  untyped-array = not-tag DW_TAG_array_type refl
 
-  pub unasked-shape : (parent : Role) (rule : Rule) → breaks_shape parent entry rule ≡ true → ⊥
-  unasked-shape parent MissingType breaks = let array = not-tag DW_TAG_array_type refl in let member = not-tag DW_TAG_member refl in false≢true (rw (array, member) at breaks)
-  unasked-shape parent BadCount breaks = let subrange = not-tag DW_TAG_subrange_type refl in false≢true (rw subrange at breaks)
-  unasked-shape parent _ breaks = false≢true breaks
+  pub untyped-subrange : nat_eq entry.tag DW_TAG_subrange_type ≡ false
+  untyped-subrange = not-tag DW_TAG_subrange_type refl
 
-  unasked-kind : kind_of entry ≡ NoType
-  unasked-kind =
+  pub untyped-enumeration : nat_eq entry.tag DW_TAG_enumeration_type ≡ false
+  untyped-enumeration = not-tag DW_TAG_enumeration_type refl
+
+  pub untyped-declared : is_declared_type entry ≡ false
+  untyped-declared = rw (not-one declarable_tags (refl, (refl, (refl, tt)))) refl
+
+  pub untyped-role : role_of entry ≡ Other
+  untyped-role = rw (not-one container_tags (refl, (refl, tt)), not-tag DW_TAG_array_type refl) refl
+
+  pub untyped-kind : kind_of entry ≡ NoType
+  untyped-kind =
       let own = not-one own_sized_tags (refl, (refl, (refl, (refl, (refl, (refl, (refl, (refl, (refl, (refl, (refl, (refl, (refl, (refl, (refl, (refl, (refl, (refl, (refl, tt))))))))))))))))))) in
       rw (
         not-one declarable_tags (refl, (refl, (refl, tt))),
@@ -68,24 +76,46 @@ module _ (entry : Facts) (unasked : is_asked entry.tag ≡ false) where
         own,
       ) refl
 
-  unasked-wants : wants_own entry ≡ false
-  unasked-wants = rw (not-tag DW_TAG_base_type refl, not-one container_tags (refl, (refl, tt)), not-tag DW_TAG_array_type refl) refl
+  untyped-wants : wants_own entry ≡ false
+  untyped-wants = rw (not-tag DW_TAG_base_type refl, not-one container_tags (refl, (refl, tt)), not-tag DW_TAG_array_type refl) refl
 
-  unasked-size_none : has_no_size entry ≡ true → ⊥
-  unasked-size_none breaks = neither-or (reads_own (kind_of entry)) (is_negative entry.byte_size) (not (is_present entry.byte_size)) (wants_own entry) (ap reads_own unasked-kind) unasked-wants breaks
+  pub untyped-size_none : has_no_size entry ≡ true → ⊥
+  untyped-size_none breaks = neither-or (reads_own (kind_of entry)) (is_negative entry.byte_size) (not (is_present entry.byte_size)) (wants_own entry) (ap reads_own untyped-kind) untyped-wants breaks
+
+-- whose tag is none of those that are asked
+module _ (entry : Facts) (unasked : is_asked entry.tag ≡ false) where
+  no-type : is_type_tag entry.tag ≡ false
+  no-type = (or_parts (is_type_tag entry.tag) _ unasked).0
+
+  no-member : nat_eq entry.tag DW_TAG_member ≡ false
+  no-member = (or_parts (is_type_tag entry.tag) _ unasked).1
+
+  pub unasked-passes : passes_type_on entry ≡ false
+  unasked-passes = untyped-passes entry no-type
+
+  pub unasked-declared : is_declared_type entry ≡ false
+  unasked-declared = untyped-declared entry no-type
+
+  pub unasked-role : role_of entry ≡ Other
+  unasked-role = untyped-role entry no-type
+
+  pub unasked-shape : (parent : Role) (rule : Rule) → breaks_shape parent entry rule ≡ true → ⊥
+  unasked-shape parent MissingType breaks = let array = untyped-array entry no-type in let member = no-member in false≢true (rw (array, member) at breaks)
+  unasked-shape parent BadCount breaks = let subrange = untyped-subrange entry no-type in false≢true (rw subrange at breaks)
+  unasked-shape parent _ breaks = false≢true breaks
 
   -- where it has no size, no rule on sizes is broken
   pub unasked-sized : (parent : Role) (container type_size : Size) (rule : Rule) → breaks_size parent entry None container type_size rule ≡ true → ⊥
-  unasked-sized parent container type_size NoSize breaks = unasked-size_none breaks
+  unasked-sized parent container type_size NoSize breaks = untyped-size_none entry no-type breaks
   unasked-sized parent container type_size SizeTooGreat breaks = false≢true breaks
-  unasked-sized parent container type_size MemberOutside breaks = let member = not-tag DW_TAG_member refl in false≢true (rw member at breaks)
-  unasked-sized parent container type_size EnumSize breaks = let enumeration = not-tag DW_TAG_enumeration_type refl in false≢true (rw enumeration at breaks)
+  unasked-sized parent container type_size MemberOutside breaks = let member = no-member in false≢true (rw member at breaks)
+  unasked-sized parent container type_size EnumSize breaks = let enumeration = untyped-enumeration entry no-type in false≢true (rw enumeration at breaks)
   unasked-sized parent container type_size _ breaks = false≢true breaks
 
 -- it has no size in a table that obeys the capped lines, and so breaks no rule on sizes
 pub unasked-size : (entries : List Facts) (table : ℕ → Size) (node : ℕ) → table node ≡ cap_size (2 ^ 63) (size_line entries table node) → is_asked (entry_of entries node).tag ≡ false → (rule : Rule) → fails_size entries table node rule ≡ true → ⊥
 unasked-size entries table node obeys unasked rule breaks =
-    let none : table node ≡ None = obeys ∙ ap (λ (kind : Kind). cap_size (2 ^ 63) (size_of_kind kind entries table node)) (unasked-kind (entry_of entries node) unasked) in
+    let none : table node ≡ None = obeys ∙ ap (λ (kind : Kind). cap_size (2 ^ 63) (size_of_kind kind entries table node)) (untyped-kind (entry_of entries node) (no-type (entry_of entries node) unasked)) in
     let entry = entry_of entries node in
     let parent = parent_role entries node in
     let P : Size → Type 0 = λ size. breaks_size parent entry size (size_to table entry.parent) (size_to table entry.type_target) rule ≡ true in
@@ -97,7 +127,7 @@ and-false false = refl
 
 -- it is no member of any entry
 pub unasked-member : (entries : List Facts) (node child : ℕ) → is_asked (entry_of entries child).tag ≡ false → member_step entries node child ≡ []
-unasked-member entries node child unasked = let member = not-tag (entry_of entries child) unasked DW_TAG_member refl in rw (member, and-false (has_members (entry_of entries node))) refl
+unasked-member entries node child unasked = let member = no-member (entry_of entries child) unasked in rw (member, and-false (has_members (entry_of entries node))) refl
 
 -- no step is added for it
 pub unasked-steps : (entries : List Facts) (steps : List Step) (count : ℕ) → ParentsComeFirst entries → HasSteps entries steps count → is_asked (entry_of entries count).tag ≡ false → HasSteps entries steps (count + 1)

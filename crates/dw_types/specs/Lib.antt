@@ -1,6 +1,7 @@
 -- Chapters, in reading order.
 pub mod Constants
 pub mod Entries
+pub mod Children
 pub mod FactsOf
 pub mod Kinds
 pub mod SizeTables
@@ -28,3 +29,4 @@ pub mod RanksListed
 pub mod ElementCounts
 pub mod CappedSizes
 pub mod StoredSizes
+pub mod Measuring

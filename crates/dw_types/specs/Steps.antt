@@ -4,10 +4,12 @@ use Rattle.std.specs.Prelude.{if◌then◌else◌, nat_eq, length}
 use Rattle.std.specs.List.{flat_map, range_with_len}
 use Rattle.std.specs.Option.{option_to_list}
 use Rattle.dw_types.specs.declared.facts.Facts.{Facts}
+use Rattle.dw_types.specs.declared.kind.Role.TheVariants.{Members}
 use Rattle.dw_forms.specs.Codes.{DW_TAG_member}
 use Rattle.dw_types.specs.Entries.{entry_of, entry_numbers, is_parent}
 use Rattle.dw_types.specs.Graphs.{Graph}
 use Rattle.dw_types.specs.Kinds.{has_members, is_declared_type, passes_type_on}
+use Rattle.dw_types.specs.Shapes.{is_plain}
 
 -- a child with tag member of a structure or union, neither of the two declared
 abbrev pub is_plain_member : List Facts → ℕ → ℕ → Bool
@@ -66,3 +68,7 @@ pub record IsMemberOf (entries : List Facts) (child parent to : ℕ) : Type 0 wh
   pub parent_has : has_members (entry_of entries parent) ≡ true
   pub step : member_step entries parent child ≡ to ∷ []
   pub others : (node : ℕ) → node ≢ parent → member_step entries node child ≡ []
+
+-- the step through a child, were its parent a structure
+abbrev pub part_step : List Facts → ℕ → List ℕ
+part_step entries child = targets_if (is_plain Members (entry_of entries child)) (entry_of entries child).type_target

@@ -3,6 +3,7 @@
 ghost use Rattle.std.specs.Prelude.{◌≡◌, ℕ, ◌^◌, ◌<◌, ◌↔◌, [], Some, length, All, IfNone, IfSome, IfOk, IfErr, OnOk};
 ghost use Rattle.std.specs.Option.{option_to_list};
 ghost use Rattle.dw_entries.specs.Scanned.{units_of};
+ghost use Rattle.dw_links.specs.Tables.{AreTables};
 ghost use Rattle.dw_types.specs.Entries.{entry_of, ParentsComeFirst, TargetsAreEntries, OffsetsRise};
 ghost use Rattle.dw_entries.specs.Failures.{HasNone, IsFirst};
 ghost use Rattle.dw_types.specs.FactsOf.{facts_in};
@@ -24,13 +25,13 @@ use crate::packed::Packed;
 use crate::roles::Roles;
 use crate::step_list::Step;
 use dw_entries::{Entries, Stop};
-use dw_links::Links;
+use dw_links::UnitTables;
 use std::alloc::Global;
 
-impl EntryReader<'_, '_, '_> {
+impl EntryReader<'_, '_> {
     /// The step that the entry makes to its type.
     #[inline(always)]
-    fn type_step(&self) -> Option<usize>
+    pub(crate) fn type_step(&self) -> Option<usize>
         ensures step { option_to_list result ≡ targets_if (passes_type_on self.now) self.now.type_target }
         ensures named { (to : ℕ) → result ≡ Some to → self.now.type_target ≡ Some to }
     {
@@ -43,7 +44,7 @@ impl EntryReader<'_, '_, '_> {
 
     /// The step that the entry makes by its signature.
     #[inline(always)]
-    fn signature_step(&self) -> Option<usize>
+    pub(crate) fn signature_step(&self) -> Option<usize>
         ensures step { option_to_list result ≡ targets_if (is_declared_type self.now) self.now.signature_target }
         ensures named { (to : ℕ) → result ≡ Some to → self.now.signature_target ≡ Some to }
     {
@@ -60,7 +61,7 @@ impl EntryReader<'_, '_, '_> {
 fn member_of(
     entries: &EntryFacts<'_, '_>,
     child: usize,
-    entry: &EntryReader<'_, '_, '_>,
+    entry: &EntryReader<'_, '_>,
     parent: Role,
 ) -> Option<(usize, usize)>
     requires entry { entry.now ≡ entry_of entries.now child }
@@ -117,14 +118,14 @@ pub struct ByValue {
 
 impl ByValue {
     /// The graph of the steps by value of entries, or the first fault of their shapes. The nodes are the
-    /// numbers of the entries; the links and what is read of units are those of the same entries.
+    /// numbers of the entries; the tables and what is read of units are those of the same entries.
     pub fn new(
         alloc: Global,
         entries: &Entries<'_>,
-        links: &Links<'_, '_>,
+        tables: &UnitTables,
         units: &[UnitFacts],
     ) -> Result<Self, Stop>
-        requires links { units_of links.now.entries.now.scanned ≡ units_of entries.now.scanned }
+        requires tables { AreTables entries.now tables.now }
         requires units { units.now ≡ all_unit_facts (units_of entries.now.scanned) }
         ensures graph { IfOk result (λ it. ⟦<ByValue as StepGraph>⟧.graph it
             ≡ by_value (facts_in (units_of entries.now.scanned))) }
@@ -134,7 +135,7 @@ impl ByValue {
         ensures sound { OnOk result (HasNone (ShapeFailures (facts_in (units_of entries.now.scanned)))) }
         ensures fault { IfErr result (IfFault (IsFirst (ShapeFailures (facts_in (units_of entries.now.scanned))))) }
     {
-        let facts = EntryFacts::new(entries, links, units);
+        let facts = EntryFacts::new(entries, tables, units);
         ByValue::of_facts(alloc, &facts)
     }
 
@@ -153,13 +154,6 @@ impl ByValue {
         let steps = steps_of(alloc, entries)?;
         let packed = Packed::of_steps(alloc, entries.count(), steps.as_slice())?;
         Ok(ByValue { packed })
-    }
-
-    /// The same graph in two vectors, as it is kept.
-    pub fn into_packed(self) -> Packed
-        ensures { ⟦<Packed as StepGraph>⟧.graph result ≡ ⟦<ByValue as StepGraph>⟧.graph self }
-    {
-        self.packed
     }
 }
 

@@ -85,7 +85,7 @@ fn count_from(count: Constant, language: Constant, upper: Constant, lower: Const
 }
 
 /// A count, if it is known and 0 or more.
-fn known_natural(count: Option<i128>) -> Option<u128>
+pub(crate) fn known_natural(count: Option<i128>) -> Option<u128>
     ensures { result ≡ known_natural count }
 {
     match count {
@@ -94,7 +94,7 @@ fn known_natural(count: Option<i128>) -> Option<u128>
     }
 }
 
-impl EntryReader<'_, '_, '_> {
+impl EntryReader<'_, '_> {
     /// Whether the entry, whose parent is this to it, is a dimension of an array.
     #[inline(always)]
     pub(crate) fn is_dimension(&self, parent: Role) -> bool

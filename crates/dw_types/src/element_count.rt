@@ -26,7 +26,7 @@ pub enum ElementCount {
     Unknown,
 }
 
-impl EntryReader<'_, '_, '_> {
+impl EntryReader<'_, '_> {
     /// Its parent, where it bears on how many elements that has, were it an array.
     #[inline(always)]
     fn counted_parent(&self) -> Option<usize>
@@ -43,7 +43,7 @@ impl EntryReader<'_, '_, '_> {
 
 impl ElementCount {
     /// With one more count.
-    fn grown(self, count: Option<u128>) -> ElementCount
+    pub(crate) fn grown(self, count: Option<u128>) -> ElementCount
         ensures grown { result ≡ grown self count }
         ensures storable { IsStorable result }
     {
@@ -66,7 +66,7 @@ impl ElementCount {
         self,
         entries: &EntryFacts<'_, '_>,
         child: usize,
-        entry: &EntryReader<'_, '_, '_>,
+        entry: &EntryReader<'_, '_>,
     ) -> ElementCount
         requires entry { entry.now ≡ entry_of entries.now child }
         requires storable { IsStorable self }

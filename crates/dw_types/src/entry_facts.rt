@@ -2,6 +2,7 @@
 
 ghost use Rattle.std.specs.Prelude.{◌≡◌, ◌^◌, ◌<◌, length, List, slice_get, IfSome};
 ghost use Rattle.dw_entries.specs.Scanned.{units_of};
+ghost use Rattle.dw_links.specs.Tables.{AreTables};
 ghost use Rattle.dw_types.specs.declared.facts.Facts.{Facts as FactsOf};
 ghost use Rattle.dw_types.specs.Entries.{entry_of, OffsetsRise, ParentsComeFirst, TargetsAreEntries};
 ghost use Rattle.dw_types.specs.FactsOf.{facts_in};
@@ -10,14 +11,14 @@ ghost use Rattle.dw_types.specs.UnitsRead.{all_unit_facts};
 use crate::entry_reader::EntryReader;
 use crate::facts_reader::UnitFacts;
 use dw_entries::{Cursor, Entries};
-use dw_links::Links;
+use dw_links::UnitTables;
 use std::marker::Model;
 
 /// The entries of .debug_info by rising offset, each with its facts, which are read when they are asked.
 #[derive(Drop)]
 pub(crate) struct EntryFacts<'r, 'a> {
     entries: &'r Entries<'a>,
-    links: &'r Links<'r, 'a>,
+    tables: &'r UnitTables,
     units: &'r [UnitFacts],
 }
 
@@ -27,17 +28,17 @@ impl<'r, 'a> Model for EntryFacts<'r, 'a> {
     ghost view = { λ it. facts_in (units_of it.entries.now.scanned) };
 
     ghost invariant = { λ it. (it.units.now ≡ all_unit_facts (units_of it.entries.now.scanned))
-        × (units_of it.links.now.entries.now.scanned ≡ units_of it.entries.now.scanned) };
+        × AreTables it.entries.now it.tables.now };
 }
 
 impl<'r, 'a> EntryFacts<'r, 'a> {
-    /// The facts of entries, by their links and by what is read of their units.
+    /// The facts of entries, by their tables and by what is read of their units.
     pub(crate) fn new(
         entries: &'r Entries<'a>,
-        links: &'r Links<'r, 'a>,
+        tables: &'r UnitTables,
         units: &'r [UnitFacts],
     ) -> Self
-        requires links { units_of links.now.entries.now.scanned ≡ units_of entries.now.scanned }
+        requires tables { AreTables entries.now tables.now }
         requires units { units.now ≡ all_unit_facts (units_of entries.now.scanned) }
         ensures same { result ≡ facts_in (units_of entries.now.scanned) }
         ensures parents { ParentsComeFirst result }
@@ -47,7 +48,7 @@ impl<'r, 'a> EntryFacts<'r, 'a> {
     {
         EntryFacts {
             entries,
-            links,
+            tables,
             units,
         }
     }
@@ -62,7 +63,7 @@ impl<'r, 'a> EntryFacts<'r, 'a> {
 
     /// The entry with a number.
     #[inline(always)]
-    pub(crate) fn at(&self, node: usize) -> EntryReader<'_, 'r, 'a>
+    pub(crate) fn at(&self, node: usize) -> EntryReader<'_, 'a>
         requires { node < length self.now }
         ensures { result ≡ entry_of self.now node }
     {
@@ -71,12 +72,12 @@ impl<'r, 'a> EntryFacts<'r, 'a> {
     }
 
     /// Looks up one entry after another, sooner than `at` where they are of one unit.
-    pub(crate) fn cursor(&self) -> FactsCursor<'_, 'r, 'a>
+    pub(crate) fn cursor(&self) -> FactsCursor<'_, 'a>
         ensures { result ≡ self.now }
     {
         FactsCursor {
             cursor: self.entries.cursor(),
-            links: self.links,
+            tables: self.tables,
             units: self.units,
         }
     }
@@ -84,30 +85,38 @@ impl<'r, 'a> EntryFacts<'r, 'a> {
 
 /// The entries, each with its facts, looked up one after another.
 #[derive(Drop)]
-pub(crate) struct FactsCursor<'e, 'r, 'a> {
+pub(crate) struct FactsCursor<'e, 'a> {
     cursor: Cursor<'e, 'a>,
-    links: &'e Links<'r, 'a>,
+    tables: &'e UnitTables,
     units: &'e [UnitFacts],
 }
 
-impl<'e, 'r, 'a> Model for FactsCursor<'e, 'r, 'a> {
+impl<'e, 'a> Model for FactsCursor<'e, 'a> {
     ghost Value = { List FactsOf };
 
     ghost view = { λ it. facts_in (units_of it.cursor.entries.now.scanned) };
 
     ghost invariant = { λ it. (it.units.now ≡ all_unit_facts (units_of it.cursor.entries.now.scanned))
-        × (units_of it.links.now.entries.now.scanned ≡ units_of it.cursor.entries.now.scanned) };
+        × AreTables it.cursor.entries.now it.tables.now };
 }
 
-impl<'e, 'r, 'a> FactsCursor<'e, 'r, 'a> {
+impl<'e, 'a> FactsCursor<'e, 'a> {
     /// The entry with a number.
     #[inline(always)]
-    pub(crate) fn at(&mut self, node: usize) -> EntryReader<'e, 'r, 'a>
+    pub(crate) fn at(&mut self, node: usize) -> EntryReader<'e, 'a>
         requires { node < length self.old }
         ensures same { self.new ≡ self.old }
         ensures found { result ≡ entry_of self.old node }
     {
         let id = self.cursor.entries.id(node);
-        EntryReader::new(&mut self.cursor, self.links, self.units, id)
+        EntryReader::new(&mut self.cursor, self.tables, self.units, id)
+    }
+
+    /// The entries without their facts.
+    #[inline(always)]
+    pub(crate) fn entries(&self) -> &'e Entries<'a>
+        ensures { facts_in (units_of result.now.scanned) ≡ self.now }
+    {
+        self.cursor.entries
     }
 }

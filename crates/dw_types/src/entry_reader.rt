@@ -2,9 +2,11 @@
 
 ghost use Rattle.std.specs.Prelude.{◌≡◌, ◌<◌, ℕ, Bool, Option, None, Some, length, slice_get, option_map, IfSome};
 ghost use Rattle.std.specs.Prelude.{if◌then◌else◌};
+ghost use Rattle.dw_forms.specs.Codes.{is_type_tag};
 ghost use Rattle.dw_forms.specs.Value.{view};
 ghost use Rattle.dw_entries.specs.Scanned.{all_entries, units_of};
 ghost use Rattle.dw_links.specs.References.{is_true};
+ghost use Rattle.dw_links.specs.Tables.{AreTables};
 ghost use Rattle.dw_types.specs.declared.constant.Constant.{Constant as ConstantOf};
 ghost use Rattle.dw_types.specs.declared.facts.Facts.{Facts as FactsOf};
 ghost use Rattle.dw_types.specs.Entries.{entry_of};
@@ -15,8 +17,8 @@ ghost use Rattle.dw_types.specs.UnitsRead.{all_unit_facts};
 use crate::constant::Constant;
 use crate::facts_reader::{UnitFacts, number_of, unit_at};
 use dw_entries::constants::*;
-use dw_entries::{Attribute, Cursor, EntryAt, EntryId, Value};
-use dw_links::Links;
+use dw_entries::{Attribute, Cursor, Entries, EntryAt, EntryId, Value};
+use dw_links::UnitTables;
 use std::marker::Model;
 
 /// Whether the rules on types look at an entry: a type or a member.
@@ -67,41 +69,45 @@ fn is_true(value: Option<Value<'_>>) -> bool
 /// One entry. Its tag and its parent are at hand; each other fact is read when it is asked, and asking for one
 /// decodes no value under another attribute.
 #[derive(Drop)]
-pub(crate) struct EntryReader<'e, 'r, 'a> {
+pub(crate) struct EntryReader<'e, 'a> {
     entry: EntryAt<'e, 'a>,
-    links: &'e Links<'r, 'a>,
+    entries: &'e Entries<'a>,
+    tables: &'e UnitTables,
     units: &'e [UnitFacts],
     id: EntryId,
 }
 
-impl<'e, 'r, 'a> Model for EntryReader<'e, 'r, 'a> {
+impl<'e, 'a> Model for EntryReader<'e, 'a> {
     ghost Value = { FactsOf };
 
-    ghost view = { λ it. entry_of (facts_in (units_of it.links.now.entries.now.scanned)) it.id };
+    ghost view = { λ it. entry_of (facts_in (units_of it.entries.now.scanned)) it.id };
 
-    ghost invariant = { λ it. (it.id < length (all_entries it.links.now.entries.now.scanned))
-        × (it.entry ≡ slice_get (all_entries it.links.now.entries.now.scanned) it.id)
-        × (it.units.now ≡ all_unit_facts (units_of it.links.now.entries.now.scanned)) };
+    ghost invariant = { λ it. (it.id < length (all_entries it.entries.now.scanned))
+        × (it.entry ≡ slice_get (all_entries it.entries.now.scanned) it.id)
+        × (it.units.now ≡ all_unit_facts (units_of it.entries.now.scanned))
+        × AreTables it.entries.now it.tables.now };
 }
 
-impl<'e, 'r, 'a> EntryReader<'e, 'r, 'a> {
-    /// The entry with this number. The links and what is read of units are those of the cursor's entries.
+impl<'e, 'a> EntryReader<'e, 'a> {
+    /// The entry with this number. The tables and what is read of units are those of the cursor's entries.
     #[inline(always)]
     pub(crate) fn new(
         cursor: &mut Cursor<'e, 'a>,
-        links: &'e Links<'r, 'a>,
+        tables: &'e UnitTables,
         units: &'e [UnitFacts],
         id: EntryId,
     ) -> Self
         requires id { id < length (all_entries cursor.old.entries.now.scanned) }
         requires units { units.now ≡ all_unit_facts (units_of cursor.old.entries.now.scanned) }
-        requires links { units_of links.now.entries.now.scanned ≡ units_of cursor.old.entries.now.scanned }
+        requires tables { AreTables cursor.old.entries.now tables.now }
         ensures same { cursor.new.entries.now ≡ cursor.old.entries.now }
         ensures found { result ≡ entry_of (facts_in (units_of cursor.old.entries.now.scanned)) id }
     {
+        let entries = cursor.entries;
         EntryReader {
             entry: cursor.at(id),
-            links,
+            entries,
+            tables,
             units,
             id,
         }
@@ -120,6 +126,14 @@ impl<'e, 'r, 'a> EntryReader<'e, 'r, 'a> {
         ensures { result ≡ self.now.tag }
     {
         self.entry.tag()
+    }
+
+    /// Whether the entry is a type.
+    #[inline(always)]
+    pub(crate) fn is_type(&self) -> bool
+        ensures { result ≡ is_type_tag self.now.tag }
+    {
+        self.entry.is_type()
     }
 
     /// Whether the rules on types look at the entry.
@@ -159,7 +173,10 @@ impl<'e, 'r, 'a> EntryReader<'e, 'r, 'a> {
     fn target(&self, attribute: Attribute) -> Option<usize>
         ensures { (fact : FactsOf → Option ℕ) → IsTargetOf attribute fact → result ≡ fact self.now }
     {
-        asked_target(&self.entry, self.links.target(self.id, attribute))
+        asked_target(
+            &self.entry,
+            self.tables.target(self.entries, self.id, attribute),
+        )
     }
 
     /// What is read of its unit, and nothing at an entry that is no type and no member.

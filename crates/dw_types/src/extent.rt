@@ -31,7 +31,7 @@ fn end_past(bytes: u64, start: i128, size: u64) -> bool
     u128::from(bytes) * 8 < start as u128 + u128::from(size) * 8
 }
 
-impl EntryReader<'_, '_, '_> {
+impl EntryReader<'_, '_> {
     /// The bit at which a member starts, if it is known.
     #[inline(always)]
     fn start(&self) -> Option<i128>
@@ -52,7 +52,7 @@ impl EntryReader<'_, '_, '_> {
 
     /// Whether a member, whose type has a size, ends past the bytes of its container.
     #[inline(always)]
-    fn ends_past(&self, bytes: u64, size: Option<u64>) -> bool
+    pub(crate) fn ends_past(&self, bytes: u64, size: Option<u64>) -> bool
         ensures { result ≡ ends_past bytes self.now size }
     {
         let bit_size = self.bit_size();

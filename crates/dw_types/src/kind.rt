@@ -52,7 +52,7 @@ impl Role {
     }
 }
 
-impl EntryReader<'_, '_, '_> {
+impl EntryReader<'_, '_> {
     /// The kind of the entry.
     #[inline(always)]
     pub(crate) fn kind(&self) -> Kind

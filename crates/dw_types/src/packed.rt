@@ -98,6 +98,15 @@ impl Packed {
         Ok(Packed { steps, ends })
     }
 
+    /// The graph of these steps, one node after another, where those of each node end here.
+    pub(crate) fn from_rows(steps: Numbers, ends: Numbers) -> Self
+        requires in_order { CutsInOrder steps ends }
+        requires leads { LeadsBelow steps (length ends) }
+        ensures { ⟦<Packed as StepGraph>⟧.graph result ≡ cut steps 0 ends }
+    {
+        Packed { steps, ends }
+    }
+
     /// The graph of so many nodes with these steps, in any order. Those of one node keep theirs.
     pub(crate) fn of_steps(alloc: Global, nodes: usize, steps: &[Step]) -> Result<Self, AllocError>
         requires { All (λ step. to_of step < nodes) steps.now }

@@ -38,7 +38,7 @@ impl Roles {
 
     /// Adds the next entry's.
     #[inline(always)]
-    pub(crate) fn push(&mut self, entry: &EntryReader<'_, '_, '_>) -> Result<(), AllocError>
+    pub(crate) fn push(&mut self, entry: &EntryReader<'_, '_>) -> Result<(), AllocError>
         ensures { OnOk result (self.new ≡ self.old ++ role_of entry.now ∷ []) }
     {
         self.roles.push(entry.role())?;

@@ -9,7 +9,7 @@ use crate::kind::Role;
 use dw_entries::Rule;
 use dw_entries::constants::*;
 
-impl EntryReader<'_, '_, '_> {
+impl EntryReader<'_, '_> {
     /// Whether the entry, whose parent is this to it, is a plain member.
     #[inline(always)]
     pub(crate) fn is_plain(&self, parent: Role) -> bool

@@ -46,7 +46,7 @@ fn differ(a: Option<u64>, b: Option<u64>) -> bool
     }
 }
 
-impl EntryReader<'_, '_, '_> {
+impl EntryReader<'_, '_> {
     /// Whether something stands wrong where the byte size is absent.
     #[inline(always)]
     fn wants_own(&self) -> bool

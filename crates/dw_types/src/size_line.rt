@@ -3,6 +3,8 @@
 ghost use Rattle.std.specs.Prelude.{◌≡◌, ◌<◌, ◌≤◌, ◌^◌, length, IfSome};
 ghost use Rattle.dw_types.specs.ElementCounts.{element_count_by, size_from};
 ghost use Rattle.dw_types.specs.Entries.{children, entry_of, TargetsAreEntries};
+ghost use Rattle.dw_types.specs.Kinds.{kind_of};
+ghost use Rattle.dw_types.specs.declared.kind.Kind.TheVariants.{Array};
 ghost use Rattle.dw_types.specs.Sizes.{array_size, constant_or, size_line, times};
 ghost use Rattle.dw_types.specs.SizeTables.{cap_size, size_at};
 
@@ -53,7 +55,7 @@ fn capped_array(
     elements: ElementCount,
     sizes: &SizeTable,
     node: usize,
-    entry: &EntryReader<'_, '_, '_>,
+    entry: &EntryReader<'_, '_>,
 ) -> Option<u64>
     requires entry { entry.now ≡ entry_of entries.now node }
     requires targets { TargetsAreEntries entries.now }
@@ -78,13 +80,14 @@ pub(crate) fn capped_size(
     elements: ElementCount,
     sizes: &SizeTable,
     node: usize,
-    entry: &EntryReader<'_, '_, '_>,
+    entry: &EntryReader<'_, '_>,
 ) -> Option<u64>
     requires entry { entry.now ≡ entry_of entries.now node }
     requires node_in { node < length entries.now }
     requires targets { TargetsAreEntries entries.now }
     requires sizes_in { length sizes.now ≡ length entries.now }
-    requires elements { elements ≡ element_count_by entries.now (children entries.now node) }
+    requires elements { kind_of (entry_of entries.now node) ≡ Array
+        → elements ≡ element_count_by entries.now (children entries.now node) }
     ensures value { result ≡ cap_size (2 ^ 63) (size_line entries.now (size_at sizes.now) node) }
     ensures small { IfSome result (λ n. n ≤ 2 ^ 63) }
 {

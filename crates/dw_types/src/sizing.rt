@@ -2,6 +2,7 @@
 
 ghost use Rattle.std.specs.Prelude.{◌≡◌, ℕ, ◌<◌, length, IfOk, IfErr, MatchOption};
 ghost use Rattle.dw_entries.specs.Scanned.{all_entries, units_of};
+ghost use Rattle.dw_links.specs.Tables.{AreTables};
 ghost use Rattle.dw_types.specs.CappedSizes.{ObeysCappedLines};
 ghost use Rattle.dw_types.specs.Entries.{OffsetsRise, ParentsComeFirst, TargetsAreEntries};
 ghost use Rattle.dw_entries.specs.Failures.{HasNone};
@@ -24,7 +25,7 @@ use crate::roles::Roles;
 use crate::size_line::capped_size;
 use crate::size_table::SizeTable;
 use dw_entries::{Entries, Rule, Stop};
-use dw_links::Links;
+use dw_links::UnitTables;
 use std::alloc::{AllocError, Global};
 
 /// Fills the table of capped sizes by rising rank.
@@ -108,16 +109,16 @@ fn sizes_of_facts(
     }
 }
 
-/// The one table of sizes, or the first fault of sizes. The links and what is read of units are those of the
+/// The one table of sizes, or the first fault of sizes. The tables and what is read of units are those of the
 /// entries, and the order is that of their graph of steps by value, or of its packed form.
 pub fn sizes(
     alloc: Global,
     entries: &Entries<'_>,
-    links: &Links<'_, '_>,
+    tables: &UnitTables,
     units: &[UnitFacts],
     order: &Order,
 ) -> Result<SizeTable, Stop>
-    requires links { units_of links.now.entries.now.scanned ≡ units_of entries.now.scanned }
+    requires tables { AreTables entries.now tables.now }
     requires units { units.now ≡ all_unit_facts (units_of entries.now.scanned) }
     requires order { IsOrderOf (by_value (facts_in (units_of entries.now.scanned))) order.now }
     ensures long { IfOk result (λ table. length table ≡ length (all_entries entries.now.scanned)) }
@@ -126,6 +127,6 @@ pub fn sizes(
         (SizeFailures (facts_in (units_of entries.now.scanned)) (size_at table))) }
     ensures fault { IfErr result (IfFault (IsFirstSizeFault (facts_in (units_of entries.now.scanned)))) }
 {
-    let facts = EntryFacts::new(entries, links, units);
+    let facts = EntryFacts::new(entries, tables, units);
     sizes_of_facts(alloc, &facts, order)
 }

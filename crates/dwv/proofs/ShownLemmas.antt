@@ -7,7 +7,7 @@ use Rattle.dw_entries.specs.Entries.{Entry}
 use Rattle.dw_entries.specs.Lookups.{entry_head}
 use Rattle.dw_image.specs.declared.image.Image.{Image}
 use Rattle.dw_image.specs.Images.{name_in}
-use Rattle.dw_image.proofs.ChildSteps.{slice_get_none}
+use Rattle.dw_image.proofs.LookupLemmas.{slice_get_none}
 use Rattle.dwv.specs.Shown.{shown_line, shown_size, entry_line}
 
 -- what the look-ups of an entry tell makes its line

@@ -1,23 +1,22 @@
-use Rattle.std.proofs.Common.{◌<◌, ℕ, length, get_or, ap, sym, subst, ◌∙◌, arith}
-use Rattle.std.proofs.lemmas.Result.{IfOk-weaker}
-use Rattle.dw_types.specs.Graphs.{Graph}
-use Rattle.dw_types.specs.Orders.{IsOrderOf}
+use Rattle.std.proofs.Common.{◌<◌, ℕ, length, get_or, ap, subst, ◌∙◌, arith}
+use Rattle.dw_types.specs.Graphs.{Graph, IsCycle}
 use Rattle.dw_cprint.specs.LongestRows.{IsLongest}
-use Rattle.dw_cprint.proofs.LevelLemmas.{steps-long}
+use Rattle.dw_cprint.proofs.LevelLemmas.{no-cycle, steps-long}
 use Rattle.dw_cprint.proofs.listing.levels_of.Goals as goal
 
-pub longest_by_rank-requires : goal.longest_by_rank-requires
-longest_by_rank-requires c = let O : Graph → Type 0 = λ g. IsOrderOf g c.order.result.now in subst O (sym c.by_value.ensures) c.order.ensures
+pub returns-in-Ok-clause-entries : goal.returns-in-Ok-clause-entries
+returns-in-Ok-clause-entries c = c.in_ok-levels-in-Ok.ensures.nodes ∙ (ap length c.in_ok-steps.ensures ∙ steps-long c.args.image.now)
 
-pub returns-clause-entries : goal.returns-clause-entries
-returns-clause-entries c = IfOk-weaker c.longest_by_rank.result _ _ (λ counts long. long ∙ (ap length c.by_value.ensures ∙ steps-long c.args.image.now)) c.longest_by_rank.ensures.nodes
-
-pub returns-clause-levels : goal.returns-clause-levels
-returns-clause-levels c =
-    IfOk-weaker c.longest_by_rank.result _ _
-    (λ counts longest.
+pub returns-in-Ok-clause-levels : goal.returns-in-Ok-clause-levels
+returns-in-Ok-clause-levels c =
+    let counts = c.in_ok-levels-in-Ok.levels in
     let L : Graph → Type 0 = λ g. (entry : ℕ) → entry < length g → IsLongest g entry (get_or counts.items entry 0) in
-    let known = subst L c.by_value.ensures longest in
+    let known = subst L c.in_ok-steps.ensures c.in_ok-levels-in-Ok.ensures.longest in
     let long = steps-long c.args.image.now in
-    λ entry w. known entry (omega arith))
-    c.longest_by_rank.ensures.longest
+    λ entry w. known entry (omega arith)
+
+pub unreachable-requires : goal.unreachable-requires
+unreachable-requires c =
+    let P : Graph → Type 0 = λ g. IsCycle g c.in-Err-Cycle.field-0-0.items in
+    no-cycle c.args.image.now c.in-Err-Cycle.field-0-0.items
+    (subst P c.in_ok-steps.ensures (rw c.in-Err-Cycle.field-0-is at c.in-Err-Cycle.ensures.err))

@@ -13,14 +13,14 @@ returns-in_err-links-clause-fault c =
     (λ fault. subst (λ s. IsFaultOf s fault) c.in_ok-entries.ensures.same)
     c.in_err-links.ensures.fault)
 
-pub returns-in_err-steps-clause-fault : goal.returns-in_err-steps-clause-fault
-returns-in_err-steps-clause-fault c =
-    let p = err_from_is_err_and c.from_residual-in_err-steps.result c.from_residual-in_err-steps.ensures.1 in
+pub returns-in_err-sizes-clause-fault : goal.returns-in_err-sizes-clause-fault
+returns-in_err-sizes-clause-fault c =
+    let p = err_from_is_err_and c.from_residual-in_err-sizes.result c.from_residual-in_err-sizes.ensures.1 in
     let entries = c.in_ok-entries in
     let links = c.in_ok-links in
-    rw (p.1, p.2) (faulty_weaker c.in_err-steps.field-0.0
+    rw (p.1, p.2) (faulty_weaker c.in_err-sizes.field-0.0
     (λ fault. wrong_type c.args.sections entries.entries fault entries.ensures.same (rw links.ensures.entries at links.links.classes) (rw links.ensures.entries at links.links.strings) (rw links.ensures.entries at links.links.references))
-    c.in_err-steps.ensures.fault)
+    c.in_err-sizes.ensures.fault)
 
 pub returns-clause-sound : goal.returns-clause-sound
 returns-clause-sound c = image_of c.args.sections _ c.in_ok-entries.ensures.same
@@ -34,6 +34,5 @@ invariant_of-result c =
       strings = rw links.ensures.entries at links.links.strings;
       references = rw links.ensures.entries at links.links.references;
       units_read = c.in_ok-units.ensures;
-      ordered = c.in_ok-steps.ensures.order;
-      measured = c.in_ok-steps.ensures.sound;
+      measured = c.in_ok-sizes.ensures.sound;
     }

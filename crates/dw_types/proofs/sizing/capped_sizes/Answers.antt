@@ -35,7 +35,7 @@ capped_size-size-requires-clause-node_in c =
     ranked-in c.args.entries.now c.args.order.now c.requires.order c.loop-rank.rank c.node-node.result below c.node-node.ensures
 
 pub capped_size-size-requires-clause-elements : goal.capped_size-size-requires-clause-elements
-capped_size-size-requires-clause-elements c =
+capped_size-size-requires-clause-elements c = λ kind.
     let below : c.loop-rank.rank < length c.args.order.now.by_rank = rw (← c.count-rank-end.ensures) c.loop-rank-test.true in
     let node = c.node-node.result in
     let here : node < length c.args.entries.now = ranked-in c.args.entries.now c.args.order.now c.requires.order c.loop-rank.rank node below c.node-node.ensures in

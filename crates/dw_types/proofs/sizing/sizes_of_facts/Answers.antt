@@ -8,7 +8,7 @@ use Rattle.dw_types.proofs.sizing.sizes_of_facts.Goals as goal
 pub returns-in-None-clause-only : goal.returns-in-None-clause-only
 returns-in-None-clause-only c =
     let pass : PassAll c.args.entries.now (fails_size c.args.entries.now (size_at c.in_ok-sizes.sizes)) = rw c.in-None.is at c.in_ok-first_wrong_size.ensures in
-    found-is_table c.args.entries.now c.requires.targets c.args.order.now c.requires.order (size_at c.in_ok-sizes.sizes) c.in_ok-sizes.ensures.obeys pass
+    found-is_table c.args.entries.now c.requires.targets c.args.order.now.ranks c.requires.order.falls (size_at c.in_ok-sizes.sizes) c.in_ok-sizes.ensures.obeys pass
 
 pub returns-in-None-clause-sound : goal.returns-in-None-clause-sound
 returns-in-None-clause-sound c =
@@ -20,5 +20,5 @@ returns-in-Some-clause-fault c =
     let entries = c.args.entries.now in
     let found = size_at c.in_ok-sizes.sizes in
     let first : IsFirstAt entries (fails_size entries found) c.in-Some.node c.in-Some.rule = rw c.in-Some.is at c.in_ok-first_wrong_size.ensures in
-    let whole = first-is_first entries c.requires.targets c.args.order.now c.requires.order c.requires.parents c.requires.rising found c.in_ok-sizes.ensures.obeys c.in-Some.node c.in-Some.rule first in
+    let whole = first-is_first entries c.requires.targets c.args.order.now.ranks c.requires.order.falls c.requires.parents c.requires.rising found c.in_ok-sizes.ensures.obeys c.in-Some.node c.in-Some.rule first in
     record { holds = rw (c.fault_at_entry.ensures.holds, c.offset.ensures, c.at.ensures) whole; cycle = c.fault_at_entry.ensures.cycle }

@@ -1,8 +1,8 @@
 use Rattle.std.proofs.Common.{subst, ap, ◌∙◌}
 use Rattle.dw_entries.specs.Entries.{entries_of}
 use Rattle.dw_entries.specs.Scanned.{units_of}
-use Rattle.dw_image.specs.Lookups.{siblings_from, IsChild}
-use Rattle.dw_image.proofs.ChildSteps.{linked_within, next_of_head, fewer_left}
+use Rattle.dw_types.specs.Children.{siblings_from, IsChild}
+use Rattle.dw_types.proofs.ChildSteps.{linked_within, next_of_head, fewer_left}
 use Rattle.dw_image.proofs.children.ChildrenIterator.next.Goals as goal
 
 pub head-requires : goal.head-requires

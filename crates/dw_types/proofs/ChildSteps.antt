@@ -7,8 +7,8 @@ use Rattle.dw_entries.specs.Lookups.{nth_of, entry_head}
 use Rattle.dw_entries.specs.Tree.{◌then◌}
 use Rattle.dw_entries.specs.Units.{DebugUnit}
 use Rattle.dw_entries.specs.Entries.{Entry, entries_of}
-use Rattle.dw_image.specs.Lookups.{is_number, children_from, children_of, siblings_from, IsChild}
-use Rattle.dw_image.proofs.ChildLemmas.{linked_there, next_of_child, no_first, none_behind, first_behind, Steps}
+use Rattle.dw_types.specs.Children.{is_number, children_from, children_of, siblings_from, IsChild}
+use Rattle.dw_types.proofs.ChildLemmas.{linked_there, next_of_child, no_first, none_behind, first_behind, Steps}
 
 pub slice_get_none : (es : List Entry) (i : ℕ) → slice_get es i ≡ None → length es ≤ i
 slice_get_none [] i is = omega arith
@@ -16,7 +16,7 @@ slice_get_none (e ∷ es) zero is = absurd cc
 slice_get_none (e ∷ es) (suc i) is = let more = slice_get_none es i is in omega (arith, more)
 
 -- the parent of the entry with this number
-linked_parent : (es : List Entry) (p m : ℕ) (e : Entry) → IsChild es p (Some m) → slice_get es m ≡ Some e → e.parent ≡ Some p
+pub linked_parent : (es : List Entry) (p m : ℕ) (e : Entry) → IsChild es p (Some m) → slice_get es m ≡ Some e → e.parent ≡ Some p
 linked_parent es p m e linked there =
     let known : Some e.parent ≡ Some (Some p) = ap (option_map (λ (y : Entry). y.parent)) (sym there) ∙ linked m refl in
     cc

@@ -9,7 +9,7 @@ use Rattle.dw_entries.specs.Header.{header_size}
 use Rattle.dw_entries.specs.Tree.{Node, Nodes, leaf, parent, none, ◌then◌, node_bytes}
 use Rattle.dw_entries.specs.Units.{DebugUnit, unit_bytes}
 use Rattle.dw_entries.specs.Entries.{Entry, node_count, nodes_count, first_id, node_entries, nodes_entries, entries_from, entries_of}
-use Rattle.dw_image.specs.Lookups.{is_number, children_from, siblings_from, IsChild}
+use Rattle.dw_types.specs.Children.{is_number, children_from, siblings_from, IsChild}
 
 -- ---- children among joined entries
 

@@ -1,8 +1,8 @@
 use Rattle.std.proofs.Common.{◌+◌, sym, arith}
 use Rattle.dw_entries.specs.Entries.{entries_of}
 use Rattle.dw_entries.specs.Scanned.{units_of}
-use Rattle.dw_image.proofs.ChildSteps.{nth_is, nth_gone, first_of_behind, linked_of_behind, none_of_behind, none_past}
-use Rattle.dw_image.proofs.children.first_child.Goals as goal
+use Rattle.dw_types.proofs.ChildSteps.{nth_is, nth_gone, first_of_behind, linked_of_behind, none_of_behind, none_past}
+use Rattle.dw_types.proofs.children.first_child.Goals as goal
 
 pub returns-then-is_child-clause-children : goal.returns-then-is_child-clause-children
 returns-then-is_child-clause-children c =

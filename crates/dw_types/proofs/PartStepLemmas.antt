@@ -1,0 +1,158 @@
+-- The steps of an entry through its children, one after another.
+use Rattle.std.proofs.Common.{◌≡◌, ℕ, suc, ◌+◌, ◌-◌, ◌<◌, Bool, true, false, ◌&&◌, not, List, [], ◌∷◌, ◌++◌, Option, Some, None, length, get_or, inl, inr, refl, sym, ap, ◌∙◌, arith, append-nil, append_assoc, nat_eq, length-append}
+use Rattle.std.specs.List.{filter, flat_map}
+use Rattle.std.specs.Prelude.{slice_get}
+use Rattle.std.specs.Option.{option_to_list}
+use Rattle.std.proofs.lemmas.Bool.{and_right, cases_lt}
+use Rattle.std.proofs.lemmas.List.{get_or_append_left}
+use Rattle.std.proofs.lemmas.Option.{get_or_from_slice_get, slice_get-get_or, slice_get_past, slice_get_within}
+use Rattle.std.proofs.Math.Seq.{get_or-append_right, get_or-append_seam}
+use Rattle.std.proofs.lemmas.List.Concat.{flat_map-append}
+use Rattle.std.proofs.lemmas.List.Elements.{Contains-get_or}
+use Rattle.dw_forms.specs.Codes.{DW_TAG_member, is_type_tag}
+use Rattle.dw_types.specs.declared.facts.Facts.{Facts}
+use Rattle.dw_types.specs.declared.kind.Role.TheVariants.{Members}
+use Rattle.dw_types.specs.Entries.{entry_of, entry_numbers, is_child, children, TargetsAreEntries}
+use Rattle.dw_types.specs.Kinds.{has_members, is_declared_type, passes_type_on}
+use Rattle.dw_types.specs.Packing.{LeadsBelow}
+use Rattle.dw_types.specs.Shapes.{is_plain}
+use Rattle.dw_types.specs.Graphs.{steps_of}
+use Rattle.dw_types.specs.Steps.{by_value, is_plain_member, member_step, part_step, steps_by_value, targets_if}
+use Rattle.dw_types.proofs.RowLemmas.{flat_map-none, no-signature_step, step-to_entry}
+use Rattle.dw_types.proofs.StepLemmas.{by_value-at, steps-from}
+use Rattle.dw_types.proofs.UnaskedLemmas.{untyped-declared, untyped-members, untyped-passes}
+
+pub part-some : (entries : List Facts) (child : ℕ) (to : Option ℕ) → is_plain Members (entry_of entries child) ≡ true → to ≡ (entry_of entries child).type_target → option_to_list to ≡ part_step entries child
+part-some entries child to plain is = rw plain (ap option_to_list is)
+
+pub part-none : (entries : List Facts) (child : ℕ) (steps : List ℕ) → is_plain Members (entry_of entries child) ≡ false → steps ≡ steps ++ part_step entries child
+part-none entries child steps plain = rw plain (sym (append-nil steps))
+
+pub parts-push : (entries : List Facts) (child : ℕ) (visited steps first : List ℕ) → steps ≡ first ++ flat_map (part_step entries) visited
+    → steps ++ part_step entries child ≡ first ++ flat_map (part_step entries) (visited ++ child ∷ [])
+parts-push entries child visited steps first is =
+    let part = part_step entries child in
+    let more : flat_map (part_step entries) (visited ++ child ∷ []) ≡ flat_map (part_step entries) visited ++ part =
+    flat_map-append (part_step entries) visited (child ∷ []) ∙ ap (λ (last : List ℕ). flat_map (part_step entries) visited ++ last) (append-nil part) in
+    ap (λ (xs : List ℕ). xs ++ part) is ∙ (append_assoc first (flat_map (part_step entries) visited) part ∙ ap (λ (xs : List ℕ). first ++ xs) (sym more))
+
+-- the k-th step through the children, of which some are passed and so many of the steps are left
+
+pub kth-init : (entries : List Facts) (k : ℕ) → length (flat_map (part_step entries) []) + k ≡ k
+kth-init entries k = omega arith
+
+pub kth-here : (entries : List Facts) (visited rest all : List ℕ) (child k to left : ℕ) → visited ++ child ∷ rest ≡ all → option_to_list (Some to) ≡ part_step entries child → left ≡ 0
+    → length (flat_map (part_step entries) visited) + left ≡ k → Some to ≡ slice_get (flat_map (part_step entries) all) k
+kth-here entries visited rest all child k to left whole is none at =
+    let f = part_step entries in
+    let before = flat_map f visited in
+    let here : flat_map f (visited ++ child ∷ rest) ≡ before ++ to ∷ flat_map f rest =
+    flat_map-append f visited (child ∷ rest) ∙ ap (λ (part : List ℕ). before ++ (part ++ flat_map f rest)) (sym is) in
+    let same : flat_map f all ≡ before ++ to ∷ flat_map f rest = ap (flat_map f) (sym whole) ∙ here in
+    let place : k ≡ length before = omega arith in
+    let value : get_or (flat_map f all) k 0 ≡ to = rw (same, place) (get_or-append_seam before to (flat_map f rest) 0) in
+    let long : length (before ++ to ∷ flat_map f rest) ≡ length before + suc (length (flat_map f rest)) = length-append before (to ∷ flat_map f rest) in
+    let inside : k < length (flat_map f all) = rw same (omega arith) in
+    sym (slice_get-get_or (flat_map f all) k 0 inside ∙ ap Some value)
+
+length-more : (entries : List Facts) (visited : List ℕ) (child : ℕ) → length (flat_map (part_step entries) (visited ++ child ∷ [])) ≡ length (flat_map (part_step entries) visited) + length (part_step entries child)
+length-more entries visited child =
+    let f = part_step entries in
+    ap (λ (xs : List ℕ). length xs) (flat_map-append f visited (child ∷ []) ∙ ap (λ (last : List ℕ). flat_map f visited ++ last) (append-nil (f child)))
+    ∙ length-append (flat_map f visited) (f child)
+
+pub kth-after : (entries : List Facts) (child k left more : ℕ) (step : Option ℕ) → option_to_list step ≡ part_step entries child → more + length (option_to_list step) ≡ left → (visited : List ℕ)
+    → length (flat_map (part_step entries) visited) + left ≡ k → length (flat_map (part_step entries) (visited ++ child ∷ [])) + more ≡ k
+kth-after entries child k left more step is fewer visited at =
+    let long = length-more entries visited child in
+    let same : length (option_to_list step) ≡ length (part_step entries child) = ap (λ (xs : List ℕ). length xs) is in
+    omega arith
+
+pub kth-past : (entries : List Facts) (visited all : List ℕ) (k left : ℕ) → visited ++ [] ≡ all → length (flat_map (part_step entries) visited) + left ≡ k → None ≡ slice_get (flat_map (part_step entries) all) k
+kth-past entries visited all k left whole at =
+    let f = part_step entries in
+    let same : flat_map f visited ≡ flat_map f all = ap (flat_map f) (sym (append-nil visited) ∙ whole) in
+    sym (slice_get_past (flat_map f all) k (rw (← same) (omega arith)))
+
+-- pieces that come from the elements that pass a test
+
+by-test : (f g : ℕ → List ℕ) (p : ℕ → Bool) (x : ℕ) (xs : List ℕ) (b : Bool) → p x ≡ b → (p x ≡ true → f x ≡ g x) → (p x ≡ false → f x ≡ []) → flat_map f xs ≡ flat_map g (filter p xs)
+    → flat_map f (x ∷ xs) ≡ flat_map g (filter p (x ∷ xs))
+by-test f g p x xs true is same none rest = rw (is, same is) (ap (λ (ys : List ℕ). g x ++ ys) rest)
+by-test f g p x xs false is same none rest = rw (is, none is) rest
+
+flat_map-filter : (f g : ℕ → List ℕ) (p : ℕ → Bool) (xs : List ℕ) → ((x : ℕ) → p x ≡ true → f x ≡ g x) → ((x : ℕ) → p x ≡ false → f x ≡ []) → flat_map f xs ≡ flat_map g (filter p xs)
+flat_map-filter f g p [] same none = refl
+flat_map-filter f g p (x ∷ xs) same none = by-test f g p x xs (p x) refl (same x) (none x) (flat_map-filter f g p xs same none)
+
+module _ (entries : List Facts) (node : ℕ) where
+  child-step : has_members (entry_of entries node) ≡ true → (child : ℕ) → is_child entries node child ≡ true → member_step entries node child ≡ part_step entries child
+  child-step members child is =
+      let entry = entry_of entries child in
+      let same : is_plain_member entries node child ≡ is_plain Members entry = rw (members, is) (tests (nat_eq entry.tag DW_TAG_member) (not entry.declared)) in
+      ap (λ (b : Bool). targets_if b entry.type_target) same
+    where
+      tests : (a b : Bool) → (true && (a && (b && true))) ≡ ((a && b) && true)
+      tests true true = refl
+      tests true false = refl
+      tests false b = refl
+
+  other-step : (child : ℕ) → is_child entries node child ≡ false → member_step entries node child ≡ []
+  other-step child isnt =
+      let entry = entry_of entries child in
+      let plain : is_plain_member entries node child ≡ false =
+      and_right (has_members (entry_of entries node)) _ (and_right (nat_eq entry.tag DW_TAG_member) _ (and_right (not entry.declared) _ isnt)) in
+      rw plain refl
+
+  no-step : has_members (entry_of entries node) ≡ false → (child : ℕ) → member_step entries node child ≡ []
+  no-step none child = rw none refl
+
+  no-passes : (entry : Facts) → has_members entry ≡ true → passes_type_on entry ≡ false
+  no-passes entry is = grind arith
+
+  -- the row of a structure
+  pub members-row : has_members (entry_of entries node) ≡ true → flat_map (part_step entries) (children entries node) ≡ steps_by_value entries node
+  members-row members =
+      let entry = entry_of entries node in
+      let whole = flat_map-filter (member_step entries node) (part_step entries) (is_child entries node) (entry_numbers entries) (child-step members) other-step in
+      let signature = no-signature_step entry entry.signature_target members in
+      rw (no-passes entry members, signature, append-nil (flat_map (member_step entries node) (entry_numbers entries))) (sym whole)
+
+  -- the row of any other entry
+  pub own-row : has_members (entry_of entries node) ≡ false
+      → targets_if (passes_type_on (entry_of entries node)) (entry_of entries node).type_target ++ targets_if (is_declared_type (entry_of entries node)) (entry_of entries node).signature_target
+      ≡ steps_by_value entries node
+  own-row none =
+      let entry = entry_of entries node in
+      let members = flat_map-none (member_step entries node) (entry_numbers entries) (λ k below. no-step none (get_or (entry_numbers entries) k 0)) in
+      rw (members, append-nil (targets_if (passes_type_on entry) entry.type_target)) refl
+
+  -- the row of an entry that is no type
+  pub untyped-row : is_type_tag (entry_of entries node).tag ≡ false → [] ≡ steps_by_value entries node
+  untyped-row untyped = let entry = entry_of entries node in rw (← own-row (untyped-members entry untyped), untyped-passes entry untyped, untyped-declared entry untyped) refl
+
+-- one more row leads to entries
+pub leads-row : (entries : List Facts) → TargetsAreEntries entries → (node : ℕ) (steps : List ℕ) → LeadsBelow steps (length entries) → LeadsBelow (steps ++ steps_by_value entries node) (length entries)
+leads-row entries targets node steps leads k within =
+    let row = steps_by_value entries node in
+    let long = length-append steps row in
+    elim (cases_lt k (length steps)) [
+      | inl below ↦ rw (get_or_append_left steps row 0 k below) (leads k below)
+      | inr above ↦
+          let inside : k - length steps < length row = omega arith in
+          let there = get_or-append_right steps row k 0 above in
+          rw there (step-to_entry entries targets node (get_or row (k - length steps) 0) (steps-from entries node (get_or row (k - length steps) 0) (Contains-get_or row (k - length steps) 0 inside)))
+    ]
+
+-- the k-th step of an entry, in the graph
+
+pub kth-is : (entries : List Facts) (node id k : ℕ) (found : Option ℕ) → node ≡ id → id < length entries → found ≡ slice_get (steps_by_value entries node) k → found ≡ slice_get (steps_of (by_value entries) id) k
+kth-is entries node id k found same below is =
+    is ∙ (ap (λ (n : ℕ). slice_get (steps_by_value entries n) k) same ∙ ap (λ (row : List ℕ). slice_get row k) (sym (by_value-at entries id below)))
+
+pub kth-within : (entries : List Facts) → TargetsAreEntries entries → (node k to : ℕ) → Some to ≡ slice_get (steps_by_value entries node) k → to < length entries
+kth-within entries targets node k to is =
+    let row = steps_by_value entries node in
+    let inside = slice_get_within row k to (sym is) in
+    let value : get_or row k 0 ≡ to = get_or_from_slice_get row k to 0 (sym is) in
+    step-to_entry entries targets node to (steps-from entries node to (rw value at (Contains-get_or row k 0 inside)))
