@@ -18,6 +18,7 @@ pub mod LongestLemmas
 pub mod LevelLemmas
 pub mod SurveyLemmas
 pub mod ListingLemmas
+pub mod HeldLemmas
 pub mod KeptLemmas
 pub mod ListingTextLemmas
 pub mod OrderLemmas

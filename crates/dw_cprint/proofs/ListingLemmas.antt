@@ -14,10 +14,7 @@ use Rattle.dw_entries.specs.Entries.{Entry}
 use Rattle.dw_entries.specs.Lookups.{entry_head, nth_of}
 use Rattle.dw_entries.specs.declared.lookup.Head.{Head}
 use Rattle.dw_image.specs.declared.image.Image.{Image}
-use Rattle.dw_image.specs.Images.{entries_in, steps_in}
-use Rattle.dw_types.specs.Graphs.{Graph}
-use Rattle.dw_cprint.specs.Cycles.{Leads, HoldsByValue}
-use Rattle.dw_cprint.specs.LongestRows.{HasRow}
+use Rattle.dw_image.specs.Images.{entries_in}
 use Rattle.dw_cprint.proofs.ClearingLemmas.{same_or_not}
 use Rattle.dw_cprint.specs.EntryShapes.{shape_in, subject_in}
 use Rattle.dw_cprint.specs.Judgements.{AreJudged, StandsNoLater, subject_at}
@@ -454,31 +451,3 @@ module _ (image : Image) (named : List ℕ) (subjects : List SubjectOf) (levels 
           let G : ℕ → Type 0 = λ y. StandsBefore (λ entry. get_or levels entry 0) a.entry y in
           subst F (sym (get-mapped (λ (one : Listed). one.entry) sorted i d none low)) (subst G (sym (get-mapped (λ (one : Listed). one.entry) sorted j d none high))
           (stands-before levels a b (in_order i j none before high) (level-of a (Contains-get_or sorted i none low)) (level-of b (Contains-get_or sorted j none high)) differ))
-
--- ---- what a type holds
-
--- the row from a node, behind steps that lead to it
-row-through : (graph : Graph) (k from to n : ℕ) → Leads graph k from to → HasRow graph to n → HasRow graph from (k + n)
-row-through graph zero from to n same row =
-    let P : ℕ → Type 0 = λ x. HasRow graph x n in
-    let Q : ℕ → Type 0 = λ m. HasRow graph from m in
-    let e : n ≡ 0 + n = omega arith in
-    subst Q e (subst P (sym same) row)
-row-through graph (suc k) from to n (next, step, led) row =
-    let Q : ℕ → Type 0 = λ m. HasRow graph from m in
-    let e : suc (k + n) ≡ suc k + n = omega arith in
-    subst Q e (next, step, row-through graph k next to n led row)
-
--- no listed type holds one that is listed after it
-pub held-first : (image : Image) (order : List ℕ) (refused : List (ℕ × PrintFault)) → IsListing image order refused → AllPairs (λ a b. HoldsByValue (steps_in image) a b → ⊥) order
-held-first image order refused h i j d before within (k, led) =
-    let a = get_or order i d in
-    let b = get_or order j d in
-    let here = ((h.printed a).0 (Contains-get_or order i d (omega arith))).0.0 in
-    let there = ((h.printed b).0 (Contains-get_or order j d within)).0.0 in
-    let row = row-through (steps_in image) (suc k) a b (h.level b) led (h.levels b there).has_row in
-    let bound = (h.levels a here).none_longer (suc k + h.level b) row in
-    elim (h.by_level i j d before within) [
-      | inl less ↦ omega (arith, less, bound)
-      | inr (same, offset) ↦ omega (arith, same, bound)
-    ]

@@ -315,8 +315,8 @@ first_declared t kind n (Some d) code bytes h rest p some known e =
           let tag : fits_tag kind h.decl.tag ≡ true =
           ap (λ (k : Head). fits_tag kind k.decl.tag) (sym same) ∙ ap (λ (c : Declaration). fits_tag kind c.tag) x.2
           ∙ right.0 in
-          subst (λ (k : Head). (code ++ bytes ≡ head_bytes k ++ rest) × IsHead t k × (fits_tag kind h.decl.tag ≡ true)) same
-          (x.3, x.4, tag)
+          subst (λ (k : Head). (code ++ bytes ≡ head_bytes k ++ rest) × IsHead t k × (fits_tag kind h.decl.tag ≡ true))
+          same (x.3, x.4, tag)
       | inr wrong ↦ absurd (let apart : fails WrongUnitTag 0 ≡ read (entry h) rest = wrong.1 in cc)
     ]
 
