@@ -13,14 +13,14 @@ ghost use Rattle.dw_types.specs.UnitsRead.{all_unit_facts};
 ghost use Rattle.dw_image.specs.Measures.{AreMeasures};
 
 use dw_entries::Entries;
-use dw_links::UnitTables;
+use dw_links::LinkTables;
 use dw_types::{SizeTable, UnitFacts};
 
 /// The image of valid sections. Only `verify` makes one.
 #[derive(Drop)]
 pub struct Image<'a> {
     pub(crate) entries: Entries<'a>,
-    pub(crate) tables: UnitTables,
+    pub(crate) tables: LinkTables,
     /// What is read of each unit.
     pub(crate) units: Vec<UnitFacts>,
     pub(crate) sizes: SizeTable,

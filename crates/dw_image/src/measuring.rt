@@ -13,7 +13,7 @@ ghost use Rattle.dw_image.specs.First.{offset_at, NamesCycle};
 ghost use Rattle.dw_image.specs.Measures.{AreMeasures, FailsInTypes};
 
 use dw_entries::{Entries, Fault, Rule, Section, Stop};
-use dw_links::UnitTables;
+use dw_links::LinkTables;
 use dw_types::{ByValue, OrderFault, SizeTable, UnitFacts, order, sizes, sizes_if_sound};
 use std::alloc::{AllocError, Global};
 
@@ -65,7 +65,7 @@ fn cycle_fault(alloc: Global, entries: &Entries<'_>, numbers: &[usize]) -> Resul
 fn measure_in_order(
     alloc: Global,
     entries: &Entries<'_>,
-    tables: &UnitTables,
+    tables: &LinkTables,
     units: &[UnitFacts],
 ) -> Result<SizeTable, Stop>
     requires tables { AreTables entries.now tables.now }
@@ -91,7 +91,7 @@ fn measure_in_order(
 pub fn measure(
     alloc: Global,
     entries: &Entries<'_>,
-    tables: &UnitTables,
+    tables: &LinkTables,
     units: &[UnitFacts],
 ) -> Result<SizeTable, Stop>
     requires tables { AreTables entries.now tables.now }

@@ -6,7 +6,7 @@ use Rattle.std.proofs.lemmas.Option.{slice_get_within, slice_get-map, get_or_fro
 use Rattle.dw_entries.specs.Units.{DebugUnit, Spells}
 use Rattle.dw_entries.specs.Entries.{Entry, PlacedUnit, entries_of, placed}
 use Rattle.dw_entries.proofs.EntryFacts.{length-placed_from}
-use Rattle.dw_links.specs.declared.unit_tables.UnitBases.{UnitBases}
+use Rattle.dw_links.specs.declared.link_tables.UnitBases.{UnitBases}
 use Rattle.dw_links.specs.Tables.{bases_in}
 use Rattle.dw_links.proofs.Skips.{there}
 use Rattle.dw_links.proofs.ClassLaws.{in_units}

@@ -4,8 +4,8 @@ use Rattle.dw_forms.specs.Codes.{DW_AT_str_offsets_base, DW_AT_addr_base, DW_AT_
 use Rattle.dw_entries.specs.declared.entries.Entries.{Entries}
 use Rattle.dw_entries.specs.Entries.{Entry, PlacedUnit}
 use Rattle.dw_entries.specs.Scanned.{all_entries, all_units}
-use Rattle.dw_links.specs.declared.unit_tables.UnitBases.{UnitBases}
-use Rattle.dw_links.specs.declared.unit_tables.UnitTables.{UnitTables}
+use Rattle.dw_links.specs.declared.link_tables.UnitBases.{UnitBases}
+use Rattle.dw_links.specs.declared.link_tables.LinkTables.{LinkTables}
 use Rattle.dw_links.specs.Bases.{base_in}
 use Rattle.dw_links.specs.Signatures.{HasFirstSigned}
 use Rattle.dw_links.specs.Targets.{target_of}
@@ -24,7 +24,7 @@ type_target entries units e = target_of entries units e DW_AT_type
 
 -- the tables of these entries: the first type unit of each signature, the bases of each unit, and the target of each
 -- entry's type
-pub record AreTables (entries : Entries) (tables : UnitTables) : Type 0 where
+pub record AreTables (entries : Entries) (tables : LinkTables) : Type 0 where
   pub signatures : HasFirstSigned (all_units entries.scanned) tables.signatures
   pub bases : tables.bases.items ≡ map (bases_in (all_entries entries.scanned)) (all_units entries.scanned)
   pub types : tables.types.items ≡ map (type_target (all_entries entries.scanned) (all_units entries.scanned))

@@ -12,9 +12,9 @@ ghost use Rattle.dw_links.specs.Tables.{AreTables};
 ghost use Rattle.dw_links.specs.Targets.{target_of};
 ghost use Rattle.dw_links.specs.AttributeTexts.{text_at, address_at};
 
+use crate::link_tables::{LinkTables, read_bases};
 use crate::references::References;
 use crate::signatures::read_signatures;
-use crate::unit_tables::{UnitTables, read_bases};
 use dw_entries::{Entries, EntryId, Stop};
 use dw_forms::Attribute;
 use std::alloc::Global;
@@ -23,7 +23,7 @@ use std::alloc::Global;
 #[derive(Drop)]
 pub struct Links<'r, 'a> {
     pub entries: &'r Entries<'a>,
-    pub(crate) tables: UnitTables,
+    pub(crate) tables: LinkTables,
     pub ghost tables_are: { AreTables entries.now tables },
     pub ghost classes: { HasNone (ClassFailures (units_of entries.now.scanned)) },
     pub ghost strings: { HasNone (StringFailures (sections_of entries.now) (units_of entries.now.scanned)) },
@@ -48,7 +48,7 @@ pub fn link<'r, 'a>(alloc: Global, entries: &'r Entries<'a>) -> Result<Links<'r,
     };
     match references.link(alloc) {
         Ok(types) => {
-            let tables = UnitTables {
+            let tables = LinkTables {
                 signatures,
                 bases,
                 types,
@@ -94,7 +94,7 @@ impl<'a> Links<'_, 'a> {
     }
 
     /// The tables alone, for a caller who keeps them beside the entries.
-    pub fn into_tables(self) -> UnitTables
+    pub fn into_tables(self) -> LinkTables
         ensures { AreTables self.entry.entries.now result }
     {
         self.tables

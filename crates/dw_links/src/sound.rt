@@ -22,13 +22,13 @@ ghost use Rattle.dw_links.specs.Targets.{reach_of};
 use crate::class::check_classes;
 use crate::declared_entries::DeclaredEntries;
 use crate::kinds::is_reference;
+use crate::link_tables::{LinkTables, read_bases};
 use crate::links::Links;
 use crate::references::References;
 use crate::rules::{AttributeRules, check_entry};
 use crate::signatures::read_signatures;
 use crate::string_checks::read_texts;
 use crate::string_rules::{StringEnds, UnitTexts, string_ends};
-use crate::unit_tables::{UnitTables, read_bases};
 use dw_entries::constants::*;
 use dw_entries::{Cursor, Entries, EntryAt, EntryId, Head, Leading, OptionalId};
 use dw_forms::{Attribute, Form, Value};
@@ -319,7 +319,7 @@ pub fn link_sound<'r, 'a>(
     let linked = linker.link_entries(alloc)?;
     match linked {
         Some(types) => {
-            let tables = UnitTables {
+            let tables = LinkTables {
                 signatures,
                 bases,
                 types,

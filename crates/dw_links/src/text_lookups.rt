@@ -11,8 +11,8 @@ ghost use Rattle.dw_links.specs.ValueTexts.{text_of, address_of};
 ghost use Rattle.dw_links.specs.Slots.{TextLies, AddressLies};
 ghost use Rattle.dw_links.specs.AttributeTexts.{text_at, address_at};
 
+use crate::link_tables::{LinkTables, UnitBases};
 use crate::slots::{address_in_slot, string_from, text_in_slot};
-use crate::unit_tables::{UnitBases, UnitTables};
 use dw_elf::Sections;
 use dw_entries::{Entries, EntryId, UnitHeader};
 use dw_forms::{Attribute, Value};
@@ -52,7 +52,7 @@ fn address_of_value(
     }
 }
 
-impl UnitTables {
+impl LinkTables {
     /// The bases of an entry's unit.
     fn bases_of(&self, entries: &Entries<'_>, id: EntryId) -> UnitBases
         requires id { id < length (all_entries entries.now.scanned) }

@@ -14,7 +14,7 @@ use Rattle.dw_forms.specs.Codes.{DW_AT_count, DW_AT_lower_bound, DW_AT_upper_bou
 use Rattle.dw_types.specs.declared.constant.Constant.{Constant}
 use Rattle.dw_types.specs.declared.constant.Constant.TheVariants.{Absent}
 use Rattle.dw_types.specs.declared.facts.Facts.{Facts}
-use Rattle.dw_types.specs.declared.facts_reader.UnitFacts.{UnitFacts}
+use Rattle.dw_types.specs.declared.unit_facts.UnitFacts.{UnitFacts}
 use Rattle.dw_types.specs.declared.kind.Role.TheVariants.{Members, Dimensions, Other}
 use Rattle.dw_types.specs.Counts.{count_at, count_from, is_array_tag, is_dimension, is_subrange_tag, known_natural}
 use Rattle.dw_types.specs.Entries.{entry_of}

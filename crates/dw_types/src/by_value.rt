@@ -15,20 +15,20 @@ ghost use Rattle.dw_types.specs.Steps.{by_value, member_step, targets_if, IsMemb
 ghost use Rattle.dw_types.specs.UnitsRead.{all_unit_facts};
 ghost use Rattle.dw_entries.specs.Stopped.{IfFault};
 
-use crate::entry_facts::EntryFacts;
-use crate::entry_reader::EntryReader;
-use crate::facts_reader::UnitFacts;
+use crate::facts_at::FactsAt;
+use crate::facts_list::FactsList;
 use crate::fault::fault_at_entry;
 use crate::graph::StepGraph;
 use crate::kind::Role;
 use crate::packed::Packed;
 use crate::roles::Roles;
 use crate::step_list::Step;
+use crate::unit_facts::UnitFacts;
 use dw_entries::{Entries, Stop};
-use dw_links::UnitTables;
+use dw_links::LinkTables;
 use std::alloc::Global;
 
-impl EntryReader<'_, '_> {
+impl FactsAt<'_, '_> {
     /// The step that the entry makes to its type.
     #[inline(always)]
     pub(crate) fn type_step(&self) -> Option<usize>
@@ -59,9 +59,9 @@ impl EntryReader<'_, '_> {
 /// The structure or union of which an entry is a plain member, and the entry's type.
 #[inline(always)]
 fn member_of(
-    entries: &EntryFacts<'_, '_>,
+    entries: &FactsList<'_, '_>,
     child: usize,
-    entry: &EntryReader<'_, '_>,
+    entry: &FactsAt<'_, '_>,
     parent: Role,
 ) -> Option<(usize, usize)>
     requires entry { entry.now ≡ entry_of entries.now child }
@@ -77,7 +77,7 @@ fn member_of(
 }
 
 /// The steps by value of all entries, by the members that make them, or the first fault of their shapes.
-fn steps_of(alloc: Global, entries: &EntryFacts<'_, '_>) -> Result<Vec<Step>, Stop>
+fn steps_of(alloc: Global, entries: &FactsList<'_, '_>) -> Result<Vec<Step>, Stop>
     requires parents { ParentsComeFirst entries.now }
     requires targets { TargetsAreEntries entries.now }
     requires rising { OffsetsRise entries.now }
@@ -122,7 +122,7 @@ impl ByValue {
     pub fn new(
         alloc: Global,
         entries: &Entries<'_>,
-        tables: &UnitTables,
+        tables: &LinkTables,
         units: &[UnitFacts],
     ) -> Result<Self, Stop>
         requires tables { AreTables entries.now tables.now }
@@ -135,12 +135,12 @@ impl ByValue {
         ensures sound { OnOk result (HasNone (ShapeFailures (facts_in (units_of entries.now.scanned)))) }
         ensures fault { IfErr result (IfFault (IsFirst (ShapeFailures (facts_in (units_of entries.now.scanned))))) }
     {
-        let facts = EntryFacts::new(entries, tables, units);
+        let facts = FactsList::new(entries, tables, units);
         ByValue::of_facts(alloc, &facts)
     }
 
     /// The graph of the steps by value of entries with these facts, or the first fault of their shapes.
-    fn of_facts(alloc: Global, entries: &EntryFacts<'_, '_>) -> Result<Self, Stop>
+    fn of_facts(alloc: Global, entries: &FactsList<'_, '_>) -> Result<Self, Stop>
         requires parents { ParentsComeFirst entries.now }
         requires targets { TargetsAreEntries entries.now }
         requires rising { OffsetsRise entries.now }

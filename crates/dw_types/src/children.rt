@@ -5,8 +5,8 @@ ghost use Rattle.dw_entries.specs.Scanned.{all_entries};
 ghost use Rattle.dw_types.specs.Children.{children_of, is_number, rest_of_children, siblings_from, IsChildOf, IsChild};
 ghost use Rattle.dw_types.specs.Entries.{children, entry_of};
 
-use crate::entry_facts::FactsCursor;
-use crate::facts_reader::number_of;
+use crate::facts_list::FactsCursor;
+use crate::unit_facts::number_of;
 use dw_entries::{Entries, EntryId};
 
 /// Whether an entry is a child of another.

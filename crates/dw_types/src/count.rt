@@ -12,9 +12,9 @@ ghost use Rattle.dw_types.specs.Kinds.{is_dimensions, parent_role, role_in};
 ghost use Rattle.dw_types.specs.UnitsRead.{all_unit_facts};
 
 use crate::constant::Constant;
-use crate::entry_reader::EntryReader;
-use crate::facts_reader::{UnitFacts, unit_at};
+use crate::facts_at::FactsAt;
 use crate::kind::Role;
+use crate::unit_facts::{UnitFacts, unit_at};
 use dw_entries::constants::*;
 use dw_entries::{Entries, EntryId, Head};
 
@@ -94,7 +94,7 @@ pub(crate) fn known_natural(count: Option<i128>) -> Option<u128>
     }
 }
 
-impl EntryReader<'_, '_> {
+impl FactsAt<'_, '_> {
     /// Whether the entry, whose parent is this to it, is a dimension of an array.
     #[inline(always)]
     pub(crate) fn is_dimension(&self, parent: Role) -> bool

@@ -9,8 +9,8 @@ ghost use Rattle.dw_types.specs.Entries.{children, entry_of, ParentsComeFirst};
 ghost use Rattle.dw_types.specs.SizeTables.{size_at};
 ghost use Rattle.dw_types.specs.StoredSizes.{count_at_size, count_in, IsStorable};
 
-use crate::entry_facts::EntryFacts;
-use crate::entry_reader::EntryReader;
+use crate::facts_at::FactsAt;
+use crate::facts_list::FactsList;
 use crate::numbers::Numbers;
 use crate::size_table::SizeTable;
 use dw_entries::constants::*;
@@ -26,7 +26,7 @@ pub enum ElementCount {
     Unknown,
 }
 
-impl EntryReader<'_, '_> {
+impl FactsAt<'_, '_> {
     /// Its parent, where it bears on how many elements that has, were it an array.
     #[inline(always)]
     fn counted_parent(&self) -> Option<usize>
@@ -64,9 +64,9 @@ impl ElementCount {
     #[inline(always)]
     fn with_child(
         self,
-        entries: &EntryFacts<'_, '_>,
+        entries: &FactsList<'_, '_>,
         child: usize,
-        entry: &EntryReader<'_, '_>,
+        entry: &FactsAt<'_, '_>,
     ) -> ElementCount
         requires entry { entry.now ≡ entry_of entries.now child }
         requires storable { IsStorable self }
@@ -185,7 +185,7 @@ impl SizeTable {
 /// The number of elements of each entry, by its children.
 pub(crate) fn element_counts(
     alloc: Global,
-    entries: &EntryFacts<'_, '_>,
+    entries: &FactsList<'_, '_>,
 ) -> Result<ElementCounts, AllocError>
     requires { ParentsComeFirst entries.now }
     ensures long { IfOk result (λ found. length found ≡ length entries.now) }

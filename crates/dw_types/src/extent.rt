@@ -5,7 +5,7 @@ ghost use Rattle.dw_types.specs.Extents.{bits_end_past, end_past, ends_past, is_
 ghost use Rattle.dw_types.specs.Sizes.{size_to};
 ghost use Rattle.dw_types.specs.SizeTables.{size_at};
 
-use crate::entry_reader::EntryReader;
+use crate::facts_at::FactsAt;
 use crate::kind::Role;
 use crate::size_table::SizeTable;
 use dw_entries::constants::*;
@@ -31,7 +31,7 @@ fn end_past(bytes: u64, start: i128, size: u64) -> bool
     u128::from(bytes) * 8 < start as u128 + u128::from(size) * 8
 }
 
-impl EntryReader<'_, '_> {
+impl FactsAt<'_, '_> {
     /// The bit at which a member starts, if it is known.
     #[inline(always)]
     fn start(&self) -> Option<i128>

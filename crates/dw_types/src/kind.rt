@@ -4,7 +4,7 @@ ghost use Rattle.std.specs.Prelude.{◌≡◌};
 ghost use Rattle.dw_types.specs.Kinds.{has_members, is_array, is_declared_type, is_dimensions, is_enumeration};
 ghost use Rattle.dw_types.specs.Kinds.{is_members, kind_of, passes_type_on, role_of};
 
-use crate::entry_reader::EntryReader;
+use crate::facts_at::FactsAt;
 use dw_entries::constants::*;
 
 /// The kinds of type entries that the size table tells apart.
@@ -52,7 +52,7 @@ impl Role {
     }
 }
 
-impl EntryReader<'_, '_> {
+impl FactsAt<'_, '_> {
     /// The kind of the entry.
     #[inline(always)]
     pub(crate) fn kind(&self) -> Kind

@@ -13,14 +13,14 @@ ghost use Rattle.dw_types.specs.Shapes.{is_plain};
 ghost use Rattle.dw_types.specs.Steps.{by_value, part_step, steps_by_value, targets_if};
 ghost use Rattle.dw_types.specs.UnitsRead.{all_unit_facts};
 
-use crate::entry_facts::{EntryFacts, FactsCursor};
-use crate::entry_reader::EntryReader;
-use crate::facts_reader::UnitFacts;
+use crate::facts_at::FactsAt;
+use crate::facts_list::{FactsCursor, FactsList};
 use crate::kind::Role;
+use crate::unit_facts::UnitFacts;
 use dw_entries::{Entries, EntryId};
-use dw_links::UnitTables;
+use dw_links::LinkTables;
 
-impl EntryReader<'_, '_> {
+impl FactsAt<'_, '_> {
     /// The step through the entry, were its parent a structure.
     #[inline(always)]
     pub(crate) fn part_step(&self) -> Option<usize>
@@ -87,7 +87,7 @@ fn kth_step(cursor: &mut FactsCursor<'_, '_>, node: usize, k: usize) -> Option<u
 /// tables and what is read of units are those of the same entries.
 pub fn step_by_value(
     entries: &Entries<'_>,
-    tables: &UnitTables,
+    tables: &LinkTables,
     units: &[UnitFacts],
     id: EntryId,
     k: usize,
@@ -98,7 +98,7 @@ pub fn step_by_value(
     ensures exact { result ≡ slice_get (steps_of (by_value (facts_in (units_of entries.now.scanned))) id) k }
     ensures within { IfSome result (λ to. to < length (all_entries entries.now.scanned)) }
 {
-    let facts = EntryFacts::new(entries, tables, units);
+    let facts = FactsList::new(entries, tables, units);
     let mut cursor = facts.cursor();
     match kth_step(&mut cursor, id.number(), k) {
         Some(to) => Some(entries.id(to)),

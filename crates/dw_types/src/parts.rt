@@ -16,8 +16,8 @@ ghost use Rattle.dw_types.specs.Sizes.{size_to};
 
 use crate::count::known_natural;
 use crate::element_count::ElementCount;
-use crate::entry_facts::FactsCursor;
-use crate::entry_reader::EntryReader;
+use crate::facts_at::FactsAt;
+use crate::facts_list::FactsCursor;
 use crate::kind::Role;
 use crate::measured::MeasuredSizes;
 use crate::size_table::SizeTable;
@@ -25,11 +25,7 @@ use dw_entries::constants::*;
 
 /// Whether an entry of this size passes the rules that do not depend on what its parent is.
 #[inline(always)]
-pub(crate) fn passes_alone(
-    entry: &EntryReader<'_, '_>,
-    size: Option<u64>,
-    sizes: &SizeTable,
-) -> bool
+pub(crate) fn passes_alone(entry: &FactsAt<'_, '_>, size: Option<u64>, sizes: &SizeTable) -> bool
     requires own { IfSome size (λ _. has_no_size entry.now ≡ false) }
     requires container_in { (node : ℕ) → entry.now.parent ≡ Some node → node < length sizes.now }
     requires type_in { (node : ℕ) → entry.now.type_target ≡ Some node → node < length sizes.now }
@@ -48,7 +44,7 @@ pub(crate) fn passes_alone(
 impl ElementCount {
     /// With one more child of an array, unless that is a dimension with a count below 0.
     #[inline(always)]
-    fn with_part(self, entry: &EntryReader<'_, '_>) -> Option<ElementCount>
+    fn with_part(self, entry: &FactsAt<'_, '_>) -> Option<ElementCount>
         ensures counted { (entries : List FactsOf) (child : ℕ) → entry.now ≡ entry_of entries child
             → IfSome result (λ elements. elements ≡ with_child entries self child) }
         ensures passes { IfSome result (λ _. has_bad_count Dimensions entry.now ≡ false) }
@@ -103,7 +99,7 @@ fn count_parts(cursor: &mut FactsCursor<'_, '_>, node: usize) -> Option<ElementC
 pub(crate) fn elements_of(
     cursor: &mut FactsCursor<'_, '_>,
     node: usize,
-    entry: &EntryReader<'_, '_>,
+    entry: &FactsAt<'_, '_>,
 ) -> Option<ElementCount>
     requires node { node < length cursor.old }
     requires entry { entry.now ≡ entry_of cursor.old node }
@@ -122,7 +118,7 @@ pub(crate) fn elements_of(
 
 /// Whether a child of a structure of this size passes, and its type is measured, if it is a plain member.
 #[inline(always)]
-fn member_fits(entry: &EntryReader<'_, '_>, done: &MeasuredSizes, size: Option<u64>) -> bool
+fn member_fits(entry: &FactsAt<'_, '_>, done: &MeasuredSizes, size: Option<u64>) -> bool
     requires stages { (to : ℕ) → entry.now.type_target ≡ Some to → to < length done.now.stages.items }
     requires sizes { (to : ℕ) → entry.now.type_target ≡ Some to → to < length done.now.sizes }
     ensures passes { OnTrue result (PassesAsPart Members entry.now size
@@ -175,7 +171,7 @@ pub(crate) fn members_fit(
     cursor: &mut FactsCursor<'_, '_>,
     done: &MeasuredSizes,
     node: usize,
-    entry: &EntryReader<'_, '_>,
+    entry: &FactsAt<'_, '_>,
     size: Option<u64>,
 ) -> bool
     requires node { node < length cursor.old }

@@ -5,7 +5,7 @@ ghost use Rattle.dw_types.specs.declared.kind.Role.TheVariants.{Other};
 ghost use Rattle.dw_types.specs.Kinds.{role_of};
 ghost use Rattle.dw_types.specs.Roles.{role_listed};
 
-use crate::entry_reader::EntryReader;
+use crate::facts_at::FactsAt;
 use crate::kind::Role;
 use std::alloc::{AllocError, Global};
 use std::marker::Model;
@@ -38,7 +38,7 @@ impl Roles {
 
     /// Adds the next entry's.
     #[inline(always)]
-    pub(crate) fn push(&mut self, entry: &EntryReader<'_, '_>) -> Result<(), AllocError>
+    pub(crate) fn push(&mut self, entry: &FactsAt<'_, '_>) -> Result<(), AllocError>
         ensures { OnOk result (self.new ≡ self.old ++ role_of entry.now ∷ []) }
     {
         self.roles.push(entry.role())?;

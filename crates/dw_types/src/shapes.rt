@@ -4,12 +4,12 @@ ghost use Rattle.std.specs.Prelude.{◌≡◌, true};
 ghost use Rattle.dw_entries.specs.Failures.{IsLeast};
 ghost use Rattle.dw_types.specs.Shapes.{breaks_shape, has_bad_count, is_plain, misses_type, stands_alone};
 
-use crate::entry_reader::EntryReader;
+use crate::facts_at::FactsAt;
 use crate::kind::Role;
 use dw_entries::Rule;
 use dw_entries::constants::*;
 
-impl EntryReader<'_, '_> {
+impl FactsAt<'_, '_> {
     /// Whether the entry, whose parent is this to it, is a plain member.
     #[inline(always)]
     pub(crate) fn is_plain(&self, parent: Role) -> bool

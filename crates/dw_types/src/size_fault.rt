@@ -7,7 +7,7 @@ ghost use Rattle.dw_types.specs.SizeFaults.{wants_own};
 ghost use Rattle.dw_types.specs.Sizes.{size_to};
 ghost use Rattle.dw_types.specs.SizeTables.{size_at};
 
-use crate::entry_reader::EntryReader;
+use crate::facts_at::FactsAt;
 use crate::kind::{Kind, Role};
 use crate::size_table::SizeTable;
 use dw_entries::Rule;
@@ -46,7 +46,7 @@ fn differ(a: Option<u64>, b: Option<u64>) -> bool
     }
 }
 
-impl EntryReader<'_, '_> {
+impl FactsAt<'_, '_> {
     /// Whether something stands wrong where the byte size is absent.
     #[inline(always)]
     fn wants_own(&self) -> bool

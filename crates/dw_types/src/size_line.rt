@@ -10,8 +10,8 @@ ghost use Rattle.dw_types.specs.SizeTables.{cap_size, size_at};
 
 use crate::constant::Constant;
 use crate::element_count::ElementCount;
-use crate::entry_facts::EntryFacts;
-use crate::entry_reader::EntryReader;
+use crate::facts_at::FactsAt;
+use crate::facts_list::FactsList;
 use crate::kind::Kind;
 use crate::size_table::SizeTable;
 
@@ -51,11 +51,11 @@ impl Constant {
 /// The capped size of an array without a byte size of its own: element storage times all counts.
 #[inline(always)]
 fn capped_array(
-    entries: &EntryFacts<'_, '_>,
+    entries: &FactsList<'_, '_>,
     elements: ElementCount,
     sizes: &SizeTable,
     node: usize,
-    entry: &EntryReader<'_, '_>,
+    entry: &FactsAt<'_, '_>,
 ) -> Option<u64>
     requires entry { entry.now ≡ entry_of entries.now node }
     requires targets { TargetsAreEntries entries.now }
@@ -76,11 +76,11 @@ fn capped_array(
 /// The capped size of an entry, by those of others.
 #[inline(always)]
 pub(crate) fn capped_size(
-    entries: &EntryFacts<'_, '_>,
+    entries: &FactsList<'_, '_>,
     elements: ElementCount,
     sizes: &SizeTable,
     node: usize,
-    entry: &EntryReader<'_, '_>,
+    entry: &FactsAt<'_, '_>,
 ) -> Option<u64>
     requires entry { entry.now ≡ entry_of entries.now node }
     requires node_in { node < length entries.now }

@@ -17,21 +17,21 @@ ghost use Rattle.dw_types.specs.TypeFailures.{IsFirstAt, PassAll};
 ghost use Rattle.dw_types.specs.UnitsRead.{all_unit_facts};
 
 use crate::element_count::element_counts;
-use crate::entry_facts::EntryFacts;
-use crate::facts_reader::UnitFacts;
+use crate::facts_list::FactsList;
 use crate::fault::fault_at_entry;
 use crate::ranking::Order;
 use crate::roles::Roles;
 use crate::size_line::capped_size;
 use crate::size_table::SizeTable;
+use crate::unit_facts::UnitFacts;
 use dw_entries::{Entries, Rule, Stop};
-use dw_links::UnitTables;
+use dw_links::LinkTables;
 use std::alloc::{AllocError, Global};
 
 /// Fills the table of capped sizes by rising rank.
 fn capped_sizes(
     alloc: Global,
-    entries: &EntryFacts<'_, '_>,
+    entries: &FactsList<'_, '_>,
     order: &Order,
 ) -> Result<SizeTable, AllocError>
     requires parents { ParentsComeFirst entries.now }
@@ -55,7 +55,7 @@ fn capped_sizes(
 /// The first entry that breaks a rule on sizes, and the rule.
 fn first_wrong_size(
     alloc: Global,
-    entries: &EntryFacts<'_, '_>,
+    entries: &FactsList<'_, '_>,
     sizes: &SizeTable,
 ) -> Result<Option<(usize, Rule)>, AllocError>
     requires parents { ParentsComeFirst entries.now }
@@ -86,7 +86,7 @@ fn first_wrong_size(
 /// The one table of sizes of entries with these facts, or the first fault of sizes.
 fn sizes_of_facts(
     alloc: Global,
-    entries: &EntryFacts<'_, '_>,
+    entries: &FactsList<'_, '_>,
     order: &Order,
 ) -> Result<SizeTable, Stop>
     requires parents { ParentsComeFirst entries.now }
@@ -114,7 +114,7 @@ fn sizes_of_facts(
 pub fn sizes(
     alloc: Global,
     entries: &Entries<'_>,
-    tables: &UnitTables,
+    tables: &LinkTables,
     units: &[UnitFacts],
     order: &Order,
 ) -> Result<SizeTable, Stop>
@@ -127,6 +127,6 @@ pub fn sizes(
         (SizeFailures (facts_in (units_of entries.now.scanned)) (size_at table))) }
     ensures fault { IfErr result (IfFault (IsFirstSizeFault (facts_in (units_of entries.now.scanned)))) }
 {
-    let facts = EntryFacts::new(entries, tables, units);
+    let facts = FactsList::new(entries, tables, units);
     sizes_of_facts(alloc, &facts, order)
 }

@@ -16,16 +16,16 @@ ghost use Rattle.dw_types.specs.SizeTables.{size_at};
 ghost use Rattle.dw_types.specs.Steps.{by_value};
 ghost use Rattle.dw_types.specs.UnitsRead.{all_unit_facts};
 
-use crate::entry_facts::{EntryFacts, FactsCursor};
-use crate::entry_reader::EntryReader;
-use crate::facts_reader::UnitFacts;
+use crate::facts_at::FactsAt;
+use crate::facts_list::{FactsCursor, FactsList};
 use crate::kind::Role;
 use crate::measured::MeasuredSizes;
 use crate::parts::{elements_of, members_fit, passes_alone};
 use crate::size_line::capped_size;
 use crate::size_table::SizeTable;
+use crate::unit_facts::UnitFacts;
 use dw_entries::Entries;
-use dw_links::UnitTables;
+use dw_links::LinkTables;
 use std::alloc::{AllocError, Global};
 
 /// The size of an entry, or none.
@@ -36,11 +36,11 @@ struct FoundSize {
 
 /// Measures an entry, if all that it holds by value is measured and no rule fails at it.
 fn measure(
-    entries: &EntryFacts<'_, '_>,
+    entries: &FactsList<'_, '_>,
     cursor: &mut FactsCursor<'_, '_>,
     done: &MeasuredSizes,
     node: usize,
-    entry: &EntryReader<'_, '_>,
+    entry: &FactsAt<'_, '_>,
 ) -> Option<FoundSize>
     requires node { node < length cursor.old }
     requires entries { entries.now ≡ cursor.old }
@@ -70,7 +70,7 @@ fn measure(
 
 /// The same, by the number of the entry.
 fn measure_at(
-    entries: &EntryFacts<'_, '_>,
+    entries: &FactsList<'_, '_>,
     cursor: &mut FactsCursor<'_, '_>,
     done: &MeasuredSizes,
     node: usize,
@@ -92,7 +92,7 @@ fn measure_at(
 
 /// Whether a child of a structure is a plain member whose type is not measured.
 #[inline(always)]
-fn is_waited_for(entry: &EntryReader<'_, '_>, done: &MeasuredSizes) -> bool
+fn is_waited_for(entry: &FactsAt<'_, '_>, done: &MeasuredSizes) -> bool
     requires { (to : ℕ) → entry.now.type_target ≡ Some to → to < length done.now.stages.items }
 {
     entry.is_plain(Role::Members) && !done.has(entry.type_target())
@@ -176,7 +176,7 @@ fn push_step(
 /// Measures an entry and all that it holds by value, within a budget of turns.
 fn measure_below(
     alloc: Global,
-    entries: &EntryFacts<'_, '_>,
+    entries: &FactsList<'_, '_>,
     cursor: &mut FactsCursor<'_, '_>,
     done: &mut MeasuredSizes,
     budget: &mut usize,
@@ -220,7 +220,7 @@ fn measure_below(
 #[inline(always)]
 fn measure_type(
     alloc: Global,
-    entries: &EntryFacts<'_, '_>,
+    entries: &FactsList<'_, '_>,
     cursor: &mut FactsCursor<'_, '_>,
     done: &mut MeasuredSizes,
     budget: &mut usize,
@@ -255,7 +255,7 @@ fn measure_type(
 }
 
 /// Measures all types.
-fn measure_all(alloc: Global, entries: &EntryFacts<'_, '_>) -> Result<Option<SizeTable>, AllocError>
+fn measure_all(alloc: Global, entries: &FactsList<'_, '_>) -> Result<Option<SizeTable>, AllocError>
     requires parents { ParentsComeFirst entries.now }
     requires targets { TargetsAreEntries entries.now }
     requires few { length entries.now < 2 ^ 32 }
@@ -282,7 +282,7 @@ fn measure_all(alloc: Global, entries: &EntryFacts<'_, '_>) -> Result<Option<Siz
 pub fn sizes_if_sound(
     alloc: Global,
     entries: &Entries<'_>,
-    tables: &UnitTables,
+    tables: &LinkTables,
     units: &[UnitFacts],
 ) -> Result<Option<SizeTable>, AllocError>
     requires tables { AreTables entries.now tables.now }
@@ -298,6 +298,6 @@ pub fn sizes_if_sound(
     ensures sizes { IfOk result (λ found. IfSome found
         (λ table. HasNone (SizeFailures (facts_in (units_of entries.now.scanned)) (size_at table)))) }
 {
-    let facts = EntryFacts::new(entries, tables, units);
+    let facts = FactsList::new(entries, tables, units);
     measure_all(alloc, &facts)
 }

@@ -10,14 +10,14 @@ ghost use Rattle.dw_types.specs.FactsOf.{facts_in};
 ghost use Rattle.dw_types.specs.Steps.{by_value, part_step, steps_by_value};
 ghost use Rattle.dw_types.specs.UnitsRead.{all_unit_facts};
 
-use crate::entry_facts::{EntryFacts, FactsCursor};
-use crate::facts_reader::UnitFacts;
+use crate::facts_list::{FactsCursor, FactsList};
 use crate::graph::StepGraph;
 use crate::kind::Role;
 use crate::numbers::Numbers;
 use crate::packed::Packed;
+use crate::unit_facts::UnitFacts;
 use dw_entries::Entries;
-use dw_links::UnitTables;
+use dw_links::LinkTables;
 use std::alloc::{AllocError, Global};
 
 /// Adds the step to an entry, if one is named.
@@ -77,7 +77,7 @@ fn push_row(
 }
 
 /// The steps by value of entries with these facts.
-fn pack_rows(alloc: Global, entries: &EntryFacts<'_, '_>) -> Result<Packed, AllocError>
+fn pack_rows(alloc: Global, entries: &FactsList<'_, '_>) -> Result<Packed, AllocError>
     requires { TargetsAreEntries entries.now }
     ensures { IfOk result (λ packed. ⟦<Packed as StepGraph>⟧.graph packed ≡ by_value entries.now) }
 {
@@ -97,7 +97,7 @@ fn pack_rows(alloc: Global, entries: &EntryFacts<'_, '_>) -> Result<Packed, Allo
 pub fn pack_by_value(
     alloc: Global,
     entries: &Entries<'_>,
-    tables: &UnitTables,
+    tables: &LinkTables,
     units: &[UnitFacts],
 ) -> Result<Packed, AllocError>
     requires tables { AreTables entries.now tables.now }
@@ -105,6 +105,6 @@ pub fn pack_by_value(
     ensures { IfOk result (λ packed. ⟦<Packed as StepGraph>⟧.graph packed
         ≡ by_value (facts_in (units_of entries.now.scanned))) }
 {
-    let facts = EntryFacts::new(entries, tables, units);
+    let facts = FactsList::new(entries, tables, units);
     pack_rows(alloc, &facts)
 }
