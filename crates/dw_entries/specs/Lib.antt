@@ -31,7 +31,6 @@ pub mod Walk
 pub mod Token
 pub mod Stopped
 pub mod OptionalIds
-pub mod Hints
 pub mod Cursors
 pub mod UnitsLeft
 pub mod Chosen

@@ -1,15 +1,14 @@
 //! The entries of .debug_info.
 
 ghost use Rattle.std.specs.Prelude.{◌≡◌, ◌+◌, ◌^◌, ◌<◌, ◌≤◌, List, length, IfOk, IfErr, OnOk};
+ghost use Rattle.std.specs.List.Sorted.{IsNonDecreasingBy, IsPartitionPoint};
 ghost use Rattle.dw_forms.specs.KeptDecls.{tables_of};
 ghost use Rattle.dw_entries.specs.Units.{DebugUnit, Spells};
 ghost use Rattle.dw_entries.specs.Faults.{Fails};
 ghost use Rattle.dw_entries.specs.Scanned.{all_entries, Scanned};
 ghost use Rattle.dw_entries.specs.Stopped.{IfBroken, IfFault};
 ghost use Rattle.dw_entries.specs.Props.{scanned_unique};
-ghost use Rattle.dw_entries.specs.Hints.{AreHints};
 
-use crate::hints::{BLOCK, Hint, first_from};
 use crate::id::EntryId;
 use crate::record::{Record, UnitRecord};
 use dw_elf::Sections;
@@ -22,11 +21,18 @@ pub struct Entries<'a> {
     pub(crate) decls: Vec<KeptDecl>,
     pub(crate) units: Vec<UnitRecord>,
     pub(crate) records: Vec<Record>,
-    pub(crate) hints: Vec<Hint>,
     pub ghost scanned: { Scanned sections.«abbrev».now sections.info.now (tables_of decls.items) units.items
         records.items } by { scanned_unique sections.«abbrev».now sections.info.now
             (tables_of decls.items) units.items records.items },
-    pub ghost hinted: { AreHints (length sections.info.now) records.items hints.items },
+}
+
+/// The number of the first record that starts at an offset or after it.
+fn first_from(records: &[Record], offset: u64) -> usize
+    requires { IsNonDecreasingBy (λ r. r.at) records.now }
+    ensures within { result ≤ length records.now }
+    ensures first { IsPartitionPoint (λ r. r.at < offset) (λ r. offset ≤ r.at) records.now result }
+{
+    records.partition_point(|record| u64::from(record.at) < offset)
 }
 
 impl<'a> Entries<'a> {
@@ -57,56 +63,23 @@ impl<'a> Entries<'a> {
         self.records[id.number()]
     }
 
-    /// The entry that starts at an offset of .debug_info if one does, and some entry or none otherwise: whoever asks
-    /// tests it.
-    #[inline(always)]
-    pub fn guess(&self, offset: u64) -> Option<EntryId>
-        ensures { IfSome result (λ id. id < length (all_entries self.now.scanned)) }
-    {
-        let block = (offset / BLOCK as u64) as usize;
-        if block >= self.hints.len() {
-            return None;
-        }
-        self.nth(self.hints[block].guess(offset) as usize)
-    }
-
-    /// The entry that starts at an offset of .debug_info. The search starts at the hint of the offset's block.
-    fn search(&self, offset: u64) -> Option<EntryId>
+    /// The entry that starts at an offset of .debug_info.
+    pub(crate) fn find_at(&self, offset: u64) -> Option<EntryId>
         ensures found { IfSome result (IsEntryAt (all_entries self.now.scanned) offset) }
         ensures none { IfNone result ((id : ℕ) → IsEntryAt (all_entries self.now.scanned) offset id → ⊥) }
     {
-        let block = (offset / BLOCK as u64) as usize;
-        if block >= self.hints.len() {
-            return None;
-        }
-        let start = self.hints[block].first as usize;
-        let number = first_from(&self.records, start, offset as usize);
+        let number = first_from(&self.records, offset);
         if number >= self.records.len() {
             return None;
         }
-        if self.records[number].at as u64 == offset {
+        if u64::from(self.records[number].at) == offset {
             Some(EntryId::new(number as u32))
         } else {
             None
         }
     }
 
-    /// The entry that starts at an offset of .debug_info. A guess finds it at once.
-    #[inline(always)]
-    pub(crate) fn find_at(&self, offset: u64) -> Option<EntryId>
-        ensures found { IfSome result (IsEntryAt (all_entries self.now.scanned) offset) }
-        ensures none { IfNone result ((id : ℕ) → IsEntryAt (all_entries self.now.scanned) offset id → ⊥) }
-    {
-        if let Some(id) = self.guess(offset) {
-            if u64::from(self.record(id).at) == offset {
-                return Some(id);
-            }
-        }
-        self.search(offset)
-    }
-
     /// The entry whose first byte is at this offset of .debug_info.
-    #[inline(always)]
     pub fn find(&self, offset: u32) -> Option<EntryId>
         ensures found { IfSome result
             (λ id. IfSome (slice_get (all_entries self.now.scanned) id) (λ e. e.at ≡ offset)) }

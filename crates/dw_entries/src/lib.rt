@@ -31,6 +31,7 @@ pub use entries::Entries;
 pub use entry_at::EntryAt;
 pub use fault::{Broken, Fault, Section, Stop};
 pub use header::{HeaderKind, UnitHeader, UnitType};
+pub use hints::Hints;
 pub use id::{EntryId, OptionalId};
 pub use laws::{no_list, offsets_rise, one_fault, one_list};
 pub use leading::Leading;

@@ -12,7 +12,6 @@ ghost use Rattle.dw_entries.specs.Views.{sections_of};
 
 use crate::entries::Entries;
 use crate::fault::{Break, Stop};
-use crate::hints::read_hints;
 use crate::record::Kept;
 use crate::unit::take_unit;
 use dw_elf::Sections;
@@ -58,12 +57,10 @@ pub fn scan<'a>(alloc: Global, sections: &Sections<'a>) -> Result<Entries<'a>, S
         Err(Break::Memory) => return Err(Stop::Memory),
         Err(Break::Broken(broken)) => return Err(Stop::Fault(broken.into_fault(alloc))),
     };
-    let hints = read_hints(alloc, &kept.records, sections.info.len())?;
     Ok(Entries {
         sections: *sections,
         decls: kept.tables.into_kept(),
         units: kept.units,
         records: kept.records,
-        hints,
     })
 }

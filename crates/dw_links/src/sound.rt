@@ -30,7 +30,7 @@ use crate::signatures::read_signatures;
 use crate::string_checks::read_texts;
 use crate::string_rules::{StringEnds, UnitTexts, string_ends};
 use dw_entries::constants::*;
-use dw_entries::{Cursor, Entries, EntryAt, EntryId, Head, Leading, OptionalId};
+use dw_entries::{Cursor, Entries, EntryAt, EntryId, Head, Hints, Leading, OptionalId};
 use dw_forms::{Attribute, Form, Value};
 use std::alloc::{AllocError, Global};
 
@@ -83,6 +83,7 @@ fn keep_first(kept: OptionalId, attribute: Attribute, reached: OptionalId) -> Op
 #[derive(Drop)]
 struct Linker<'r, 'd> {
     references: References<'r, 'd>,
+    hints: &'r Hints,
 }
 
 impl<'d> Linker<'_, 'd> {
@@ -110,11 +111,12 @@ impl<'d> Linker<'_, 'd> {
             head.now.unit (ref_unit offset)) }
     {
         let at = offset.checked_add(u64::from(basis.at))?;
-        let id = if attribute == DW_AT_sibling {
-            self.references.entries.nth(head.next_sibling?.number())?
+        let number = if attribute == DW_AT_sibling {
+            head.next_sibling?.number()
         } else {
-            self.references.entries.guess(at)?
+            self.hints.guess(at)?
         };
+        let id = self.references.entries.nth(number)?;
         let target = cursor.beside(id)?;
         if u64::from(target.offset()) != at || target.unit() != head.unit {
             return None;
@@ -315,7 +317,11 @@ pub fn link_sound<'r, 'a>(
     let Ok(()) = references.check_headers() else {
         return Ok(None);
     };
-    let linker = Linker { references };
+    let hints = entries.hints(alloc)?;
+    let linker = Linker {
+        references,
+        hints: &hints,
+    };
     let linked = linker.link_entries(alloc)?;
     match linked {
         Some(types) => {
