@@ -107,8 +107,7 @@ fn run_before(kept: &[KeptDecl], maps: &CodeMaps, rest: u32, code: u64) -> u32
 }
 
 /// Keeps the declaration before a table, and returns the number of the table that begins with it. None if its code is
-/// in
-/// the table already.
+/// in the table already.
 fn push(
     kept: &mut Vec<KeptDecl>,
     maps: &mut CodeMaps,
