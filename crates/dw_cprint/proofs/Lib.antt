@@ -2,15 +2,19 @@ pub mod ClearingLemmas
 pub mod CheckedLemmas
 pub mod DeclaratorLemmas
 pub mod DeclaredLemmas
+pub mod HasTermLemmas
+pub mod LegibleLemmas
 pub mod OptionLemmas
 pub mod NameLemmas
 pub mod SameLemmas
 pub mod WriterLemmas
+pub mod ItemWriterLemmas
 pub mod LookUpLemmas
 pub mod ShapeLemmas
 pub mod LexingLemmas
 pub mod PlaceLemmas
 pub mod ReadingLemmas
+pub mod DeclaratorReadingLemmas
 pub mod TextLaws
 pub mod WithinLemmas
 pub mod ReachLemmas
@@ -18,6 +22,8 @@ pub mod LongestLemmas
 pub mod LevelLemmas
 pub mod SurveyLemmas
 pub mod ListingLemmas
+pub mod NamedTypeLemmas
+pub mod JudgingLemmas
 pub mod HeldLemmas
 pub mod KeptLemmas
 pub mod ListingTextLemmas
@@ -25,6 +31,7 @@ pub mod OrderLemmas
 pub mod RefusalLemmas
 pub mod KindLemmas
 pub mod FaultLemmas
+pub mod ReachedFaultLemmas
 pub mod LengthLemmas
 pub mod TermLemmas
 pub mod SummaryLemmas

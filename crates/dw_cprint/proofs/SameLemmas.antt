@@ -8,7 +8,7 @@ use Rattle.dw_cprint.specs.Shapes.{Qualifier, Struct, Union, Enum, Parameter, Ty
 use Rattle.dw_cprint.specs.Steps.{entries_of, parameter_types, member_types, types_reached, types_declared, steps_reached, first_steps, IsReachedFrom, root, further, IsReached, Leads}
 use Rattle.dw_cprint.specs.Terms.{Term, Qualified, Pointer, Function, Unprototyped, Body, Typedef, Variable, Aggregate}
 use Rattle.dw_cprint.specs.Wrong.{shape_of, StandsUnder, nothing, itself, below, LacksMemberName, HasBadName, HasBadNameItself, typedef_name, variable_name, aggregate_name, member_name, enumeration_name, enumerator_name, tag_name, is_unnamed_aggregate, is_whole, is_foreign, is_function, is_array, is_restrictable, begins_open, IsWrongBits, IsWrongMember, void_member, function_member, bit_member, IsWrongArray, odd_child_or_stride, count, void_element, function_element, open_element, IsWrongFunction, array_result, function_result, void_parameter, misplaced, IsWrongRow, over_array, over_function, restrict, IsVoidLike, IsUnspeakable, IsUnspeakableItself}
-use Rattle.dw_cprint.proofs.DeclaredLemmas.{any_here, any_there, head_of, rest_of}
+use Rattle.dw_cprint.proofs.HasTermLemmas.{any_here, any_there, head_of, rest_of}
 
 -- some entries, each the same in both, with those that its steps lead to
 pub record AreSame (shapes others : ℕ → ShapeOf) (Good : ℕ → Type 0) : Type 0 where

@@ -13,7 +13,7 @@ use Rattle.dw_cprint.specs.declared.shape.Shape.{Shape}
 use Rattle.dw_cprint.specs.declared.shape.Shape.TheVariants as shape
 use Rattle.dw_cprint.specs.declared.summary.TheConstants.{VOID}
 use Rattle.dw_cprint.proofs.ClearingLemmas.{same_or_not}
-use Rattle.dw_cprint.proofs.FaultLemmas.{faults-none}
+use Rattle.dw_cprint.proofs.ReachedFaultLemmas.{faults-none}
 use Rattle.dw_cprint.proofs.LengthLemmas.{void_length}
 
 -- ---- void

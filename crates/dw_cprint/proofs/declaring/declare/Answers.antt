@@ -1,4 +1,5 @@
-use Rattle.std.proofs.Common.{◌≡◌, ◌<◌, ◌∷◌, ◌++◌, [], ℕ, List, Option, Some, map, length, get_or, arith, sym, ap, ◌∙◌, subst}
+use Rattle.std.proofs.Common.{◌≡◌, ◌<◌, ◌∷◌, ◌++◌, [], ℕ, List, Option, Some, map, length, get_or, arith, sym, ap, ◌∙◌}
+use Rattle.std.proofs.Common.{subst}
 use Rattle.std.specs.Prelude.{All}
 use Rattle.dw_image.specs.Images.{entries_in}
 use Rattle.dw_cprint.specs.Declarations.{declaration_of}
@@ -13,7 +14,7 @@ use Rattle.dw_cprint.specs.Surveys.{AreAmong}
 use Rattle.dw_cprint.specs.Writing.{written}
 use Rattle.dw_cprint.specs.declared.shape.Subject.{Subject}
 use Rattle.dw_cprint.proofs.KeptLemmas.{declaration-kept, printed-declared, printed-one, some-there, survey-regular}
-use Rattle.dw_cprint.proofs.ListingLemmas.{steps-among}
+use Rattle.dw_cprint.proofs.JudgingLemmas.{steps-among}
 use Rattle.dw_cprint.proofs.WithinLemmas.{roots_within}
 use Rattle.dw_cprint.proofs.declaring.declare.Goals as goal
 

@@ -2,7 +2,7 @@ use Rattle.std.proofs.Common.{List, subst, ◌∙◌}
 use Rattle.std.specs.Prelude.{All}
 use Rattle.dw_cprint.specs.Shapes.{TypeAt, view_shape}
 use Rattle.dw_cprint.specs.Summaries.{Knows, AreFaults}
-use Rattle.dw_cprint.proofs.FaultLemmas.{faults-shape}
+use Rattle.dw_cprint.proofs.ReachedFaultLemmas.{faults-shape}
 use Rattle.dw_cprint.proofs.faults.faults_of.Goals as goal
 
 pub returns : goal.returns

@@ -2,7 +2,7 @@ use Rattle.std.proofs.Common.{List, [], ◌∷◌, None, refl, sym, subst, get_o
 use Rattle.std.proofs.lemmas.List.{take_more}
 use Rattle.dw_cprint.specs.Shapes.{TypeAt}
 use Rattle.dw_cprint.specs.Summaries.{AreFaults}
-use Rattle.dw_cprint.proofs.FaultLemmas.{faults-none, faults-join, same-summary}
+use Rattle.dw_cprint.proofs.ReachedFaultLemmas.{faults-none, faults-join, same-summary}
 use Rattle.dw_cprint.proofs.faults.faults_under.Goals as goal
 
 pub loop-at-init : goal.loop-at-init

@@ -2,7 +2,7 @@ use Rattle.std.proofs.Common.{List, subst}
 use Rattle.std.specs.Prelude.{All}
 use Rattle.dw_cprint.specs.Shapes.{TypeAt, view_subject}
 use Rattle.dw_cprint.specs.Summaries.{Knows, AreFaults}
-use Rattle.dw_cprint.proofs.FaultLemmas.{faults-subject}
+use Rattle.dw_cprint.proofs.ReachedFaultLemmas.{faults-subject}
 use Rattle.dw_cprint.proofs.faults.subject_faults.Goals as goal
 
 pub returns : goal.returns

@@ -4,7 +4,7 @@ use Rattle.dw_cprint.specs.Judgements.{AreJudged, IsJudgement, subject_at}
 use Rattle.dw_cprint.specs.Refusals.{PrintFault, IsPrinted, Refuses}
 use Rattle.dw_cprint.specs.Shapes.{SubjectOf, view_subject}
 use Rattle.dw_cprint.specs.declared.listing.Listed.{Listed}
-use Rattle.dw_cprint.proofs.ListingLemmas.{judged-none, judged-printed, judged-refused, viewed-at, steps-among}
+use Rattle.dw_cprint.proofs.JudgingLemmas.{judged-none, judged-printed, judged-refused, viewed-at, steps-among}
 use Rattle.dw_cprint.proofs.listing.judge.Goals as goal
 use Rattle.dw_cprint.proofs.listing.judge.Goals.{in-None+in_ok-push-in-None, in-Some+in_ok-push-in-Some}
 

@@ -3,9 +3,10 @@ use Rattle.std.specs.Global.{Global}
 use Rattle.dw_image.specs.Images.{entries_in}
 use Rattle.dw_cprint.specs.EntryShapes.{subject_in}
 use Rattle.dw_cprint.specs.Listings.{is_named_type}
-use Rattle.dw_cprint.proofs.ListingLemmas.{AreNamedBelow, nth-number, nth-past, named-more, named-passed, named-done}
+use Rattle.dw_cprint.proofs.NamedTypeLemmas.{AreNamedBelow, nth-number, nth-past, named-more, named-passed, named-done}
 use Rattle.dw_cprint.proofs.listing.named_types.Goals as goal
-use Rattle.dw_cprint.proofs.listing.named_types.Goals.{in-Some+then-is_named_type+in_ok-push, in-Some+else-is_named_type, in_default}
+use Rattle.dw_cprint.proofs.listing.named_types.Goals.{in-Some+then-is_named_type+in_ok-push}
+use Rattle.dw_cprint.proofs.listing.named_types.Goals.{in-Some+else-is_named_type, in_default}
 
 pub loop-k-preserved : goal.loop-k-preserved
 loop-k-preserved c =

@@ -1,4 +1,4 @@
-use Rattle.dw_cprint.proofs.ListingLemmas.{AreNamedBelow}
+use Rattle.dw_cprint.proofs.NamedTypeLemmas.{AreNamedBelow}
 use Rattle.dw_cprint.proofs.listing.named_types.Given as goal
 
 abbrev pub invariant-loop-k : goal.invariant-loop-k

@@ -3,7 +3,7 @@ use Rattle.std.specs.Prelude.{flat_map}
 use Rattle.dw_image.specs.Images.{entries_in}
 use Rattle.dw_cprint.specs.Refusals.{PrintFault}
 use Rattle.dw_cprint.specs.Listings.{refused_line, refused_line_in}
-use Rattle.dw_cprint.proofs.ListingLemmas.{lines-more, offset-told}
+use Rattle.dw_cprint.proofs.ListingTextLemmas.{lines-more, offset-told}
 use Rattle.dw_cprint.proofs.listing.put_all_refused.Goals as goal
 
 pub loop-entry-preserved : goal.loop-entry-preserved

@@ -9,7 +9,8 @@ use Rattle.dw_cprint.specs.Terms.{Declaration}
 use Rattle.dw_cprint.specs.Writing.{written}
 use Rattle.dw_cprint.specs.declared.listing.Listed.{Listed}
 use Rattle.dw_cprint.proofs.KeptLemmas.{some-there}
-use Rattle.dw_cprint.proofs.ListingLemmas.{lines-more, viewed-at}
+use Rattle.dw_cprint.proofs.ListingTextLemmas.{lines-more}
+use Rattle.dw_cprint.proofs.JudgingLemmas.{viewed-at}
 use Rattle.dw_cprint.proofs.listing.put_listed.Goals as goal
 
 pub loop-one-preserved : goal.loop-one-preserved

@@ -1,7 +1,7 @@
 use Rattle.std.proofs.Common.{◌++◌, ◌∷◌, [], List, ℕ, ap, ◌∙◌}
 use Rattle.std.specs.Prelude.{codes}
 use Rattle.dw_cprint.specs.Listings.{hex_digits, code_text, name_text}
-use Rattle.dw_cprint.proofs.ListingLemmas.{seven-parts}
+use Rattle.dw_cprint.proofs.ListingTextLemmas.{seven-parts}
 use Rattle.dw_cprint.proofs.listing.put_refused.Goals as goal
 
 pub returns : goal.returns

@@ -4,7 +4,7 @@ use Rattle.dw_cprint.specs.Kept.{WritesEnumerators}
 use Rattle.dw_cprint.specs.Shapes.{EnumeratorOf, view_enumerator}
 use Rattle.dw_cprint.specs.declared.shape.Enumerator.{Enumerator}
 use Rattle.dw_cprint.proofs.OptionLemmas.{ok_when}
-use Rattle.dw_cprint.proofs.WriterLemmas.{next-of, EnumeratorsLeft, enumerators_next, enumerators_done}
+use Rattle.dw_cprint.proofs.ItemWriterLemmas.{next-of, EnumeratorsLeft, enumerators_next, enumerators_done}
 use Rattle.dw_cprint.proofs.pieces.put_enumerators.Goals as goal
 
 pub loop-enumerator-preserved : goal.loop-enumerator-preserved

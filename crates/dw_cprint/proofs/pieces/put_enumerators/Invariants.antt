@@ -1,6 +1,6 @@
 use Rattle.std.proofs.Common.{map, drop}
 use Rattle.dw_cprint.specs.Shapes.{view_enumerator}
-use Rattle.dw_cprint.proofs.WriterLemmas.{EnumeratorsLeft}
+use Rattle.dw_cprint.proofs.ItemWriterLemmas.{EnumeratorsLeft}
 use Rattle.dw_cprint.proofs.pieces.put_enumerators.Given as goal
 
 abbrev pub invariant-loop-enumerator : goal.invariant-loop-enumerator

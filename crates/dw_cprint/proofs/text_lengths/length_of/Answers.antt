@@ -13,7 +13,8 @@ use Rattle.dw_cprint.specs.Writing.{count_tokens}
 use Rattle.dw_cprint.proofs.TermLemmas.{base_length, array_inverted, function_length, known_lengths}
 use Rattle.dw_cprint.proofs.LengthLemmas.{arrays_length, body_term, enumeration_term}
 use Rattle.dw_cprint.proofs.OptionLemmas.{map_inverted}
-use Rattle.dw_cprint.proofs.FaultLemmas.{same-summary, of-result}
+use Rattle.dw_cprint.proofs.ReachedFaultLemmas.{same-summary}
+use Rattle.dw_cprint.proofs.FaultLemmas.{of-result}
 use Rattle.dw_cprint.specs.declared.shape.Shape.TheVariants as shape
 use Rattle.std.specs.Prelude.{flat_map}
 use Rattle.dw_cprint.proofs.text_lengths.length_of.Goals as goal

@@ -1,4 +1,5 @@
-use Rattle.dw_cprint.proofs.FaultLemmas.{same-summary, void-like}
+use Rattle.dw_cprint.proofs.ReachedFaultLemmas.{same-summary}
+use Rattle.dw_cprint.proofs.FaultLemmas.{void-like}
 use Rattle.dw_cprint.proofs.unspeakable.is_void_like.Goals as goal
 
 pub returns : goal.returns

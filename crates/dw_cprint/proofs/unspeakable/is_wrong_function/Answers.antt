@@ -5,7 +5,9 @@ use Rattle.dw_cprint.specs.Steps.{parameter_types, types_reached}
 use Rattle.dw_cprint.specs.Summaries.{Knows}
 use Rattle.dw_cprint.specs.Wrong.{IsVoidLike, IsWrongFunction}
 use Rattle.dw_cprint.specs.Declarations.{is_misplaced}
-use Rattle.dw_cprint.proofs.FaultLemmas.{same-summary, of-result, of-parameters, wrong-unprototyped, wrong-prototyped, wrong-result, or-here}
+use Rattle.dw_cprint.proofs.ReachedFaultLemmas.{same-summary}
+use Rattle.dw_cprint.proofs.FaultLemmas.{of-result, of-parameters, wrong-unprototyped, wrong-prototyped, wrong-result}
+use Rattle.dw_cprint.proofs.FaultLemmas.{or-here}
 use Rattle.std.proofs.Common.{◌⊎◌}
 use Rattle.dw_cprint.proofs.unspeakable.is_wrong_function.Goals as goal
 

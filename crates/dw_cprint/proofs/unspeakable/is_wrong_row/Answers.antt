@@ -1,6 +1,7 @@
 use Rattle.std.proofs.Common.{refl}
 use Rattle.std.specs.Prelude.{not}
-use Rattle.dw_cprint.proofs.FaultLemmas.{same-summary, wrong-row}
+use Rattle.dw_cprint.proofs.ReachedFaultLemmas.{same-summary}
+use Rattle.dw_cprint.proofs.FaultLemmas.{wrong-row}
 use Rattle.dw_cprint.proofs.unspeakable.is_wrong_row.Goals as goal
 
 pub returns-then-bracketed : goal.returns-then-bracketed

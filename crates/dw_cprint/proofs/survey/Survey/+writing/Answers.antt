@@ -1,17 +1,24 @@
-use Rattle.std.proofs.Common.{◌≡◌, ◌+◌, ◌++◌, [], ◌∷◌, ℕ, Bool, List, Option, Some, None, true, refl, ap, sym, ◌∙◌, subst, get_or, drop, map}
+use Rattle.std.proofs.Common.{◌≡◌, ◌+◌, ◌++◌, [], ◌∷◌, ℕ, Bool, List, Option, Some, None, true, refl, ap, sym, ◌∙◌}
+use Rattle.std.proofs.Common.{subst, get_or, drop, map}
 use Rattle.std.specs.Global.{Global}
 use Rattle.std.specs.Prelude.{Vec, flat_map, is_some, option_copied}
 use Rattle.std.proofs.lemmas.List.{drop_more, drop_all}
 use Rattle.dw_cprint.specs.Declarations.{term_at}
 use Rattle.dw_cprint.specs.Declarators.{before, gap, pointer_row}
-use Rattle.dw_cprint.specs.Kept.{kept, Writes, WritesBefore, WritesAfter, WritesNamed, WritesCore, WritesMembers, WritesParameters}
-use Rattle.dw_cprint.specs.Shapes.{Qualifier, Absent, Parameter, Typed, MemberOf, ShapeOf, pointer, array, function, view_shape, view_member, parameter_items}
+use Rattle.dw_cprint.specs.Kept.{kept, Writes, WritesBefore, WritesAfter, WritesNamed, WritesCore, WritesMembers}
+use Rattle.dw_cprint.specs.Kept.{WritesParameters}
+use Rattle.dw_cprint.specs.Shapes.{Qualifier, Absent, Parameter, Typed, MemberOf, ShapeOf, pointer, array, function}
+use Rattle.dw_cprint.specs.Shapes.{view_shape, view_member, parameter_items}
 use Rattle.dw_cprint.specs.Terms.{Term}
 use Rattle.dw_cprint.specs.declared.shape.Member.{Member}
 use Rattle.dw_cprint.specs.Tokens.{VoidWord, TagWord, spelling}
 use Rattle.dw_cprint.specs.Writing.{count_tokens, qualifying, name_tokens}
 use Rattle.dw_cprint.proofs.OptionLemmas.{ok_then}
-use Rattle.dw_cprint.proofs.WriterLemmas.{both, as_tokens, step-at, void-at, pointer_before, array_before, specifier_before, array_after, prototype_after, named_written, base_core, body_core, specifier-shape, some-mapped, next-of, MembersLeft, members_next, ParametersLeft, parameters_next, parameters_done, item-of}
+use Rattle.dw_cprint.proofs.WriterLemmas.{both, as_tokens, step-at, void-at, pointer_before, array_before}
+use Rattle.dw_cprint.proofs.WriterLemmas.{specifier_before, array_after, prototype_after, named_written, base_core}
+use Rattle.dw_cprint.proofs.WriterLemmas.{body_core, specifier-shape, some-mapped}
+use Rattle.dw_cprint.proofs.ItemWriterLemmas.{next-of, MembersLeft, members_next, ParametersLeft, parameters_next}
+use Rattle.dw_cprint.proofs.ItemWriterLemmas.{parameters_done, item-of}
 use Rattle.dw_cprint.proofs.survey.Survey.+writing.Goals as goal
 
 pub put_after-returns-in_ok-put_counts-in-Array : goal.put_after-returns-in_ok-put_counts-in-Array

@@ -2,7 +2,7 @@ use Rattle.std.proofs.Common.{◌+◌, ◌*◌, map, drop}
 use Rattle.dw_cprint.specs.Declarations.{term_at}
 use Rattle.dw_cprint.specs.Kept.{kept}
 use Rattle.dw_cprint.specs.Shapes.{view_member}
-use Rattle.dw_cprint.proofs.WriterLemmas.{MembersLeft, ParametersLeft}
+use Rattle.dw_cprint.proofs.ItemWriterLemmas.{MembersLeft, ParametersLeft}
 use Rattle.dw_cprint.proofs.survey.Survey.+writing.Given as goal
 
 -- calls fall in depth, or stay there and go on to what needs less

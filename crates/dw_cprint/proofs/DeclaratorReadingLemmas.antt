@@ -1,0 +1,209 @@
+-- The tokens of declarators and qualifiers are read as what they were written from.
+use Rattle.std.proofs.Common.{◌≡◌, ℕ, Bool, true, false, List, [], ◌∷◌, ◌++◌, Option, Some, None, refl, sym, ◌∙◌, ap}
+use Rattle.std.proofs.Common.{append_assoc, append-nil}
+use Rattle.dw_cprint.specs.Terms.{Qualifier, TypeWord, Term, Basic, Qualified, Pointer, Array, Function, Signature}
+use Rattle.dw_cprint.specs.Tokens.{Token, Blank, Star, Open, Close, LeftBracket, RightBracket, Semicolon, Colon, Comma}
+use Rattle.dw_cprint.specs.Tokens.{Identifier, Number}
+use Rattle.dw_cprint.specs.Writing.{spaced, qualifying, joined, basic, enclosed, count_tokens, name_tokens}
+use Rattle.dw_cprint.specs.Writing.{signature_tokens}
+use Rattle.dw_cprint.specs.Legible.{IsIdentifier, IsName, IsCount, IsQualifiable}
+use Rattle.dw_cprint.specs.Reading.{Shape, same, Place, OfFirst, After, Grouped, Before, Inside, Behind, AtCount, End}
+use Rattle.dw_cprint.specs.Reading.{AtClose, AtComma, AtSemicolon, AtColon, ended, finished, behind}
+use Rattle.dw_cprint.proofs.CheckedLemmas.{checked, checked-name, checked-number}
+
+-- the tokens at which a declarator ends
+abbrev pub end_tokens : End → List Token
+end_tokens AtClose = Close ∷ []
+end_tokens AtComma = Comma ∷ []
+end_tokens AtSemicolon = Semicolon ∷ []
+end_tokens AtColon = Blank ∷ Colon ∷ []
+
+-- a type under qualifiers, the first outermost
+abbrev pub qualified : List Qualifier → Shape
+qualified [] t = t
+qualified (q ∷ qs) t = Qualified q (qualified qs t)
+
+-- DECLARATORS
+
+-- The declarator d reads as this name and shape, where it ends,
+abbrev pub Ends : List Token → Option (List ℕ) → Shape → Type 0
+Ends d name shape = (q p : Shape) (place : Place) (end : End) (r : List Token)
+    → checked false (Inside q p place) (d ++ (end_tokens end ++ r)) ≡ checked false (finished end name (λ t. shape (q (p t))) place) r
+
+-- where an array or a function goes on,
+abbrev pub bracket : Bool → Token
+bracket true = LeftBracket
+bracket false = Open
+
+abbrev pub GoesOn : List Token → Option (List ℕ) → Shape → Type 0
+GoesOn d name shape = (q p : Shape) (place : Place) (square : Bool) (r : List Token)
+    → checked false (Inside q p place) (d ++ bracket square ∷ r) ≡ checked false (behind name (λ t. q (p t)) shape place (bracket square)) r
+
+-- and wherever it stands.
+abbrev pub Closed : List Token → Option (List ℕ) → Shape → Type 0
+Closed d name shape = (q p : Shape) (place : Place) (r : List Token)
+    → checked false (Inside q p place) (d ++ r) ≡ checked false (Behind name (λ t. q (p t)) shape place) r
+
+closed_end : (name : Option (List ℕ)) (p s : Shape) (place : Place) (end : End) (r : List Token)
+    → checked false (Behind name p s place) (end_tokens end ++ r) ≡ checked false (finished end name (λ t. s (p t)) place) r
+closed_end name p s place AtClose r = refl
+closed_end name p s place AtComma r = refl
+closed_end name p s place AtSemicolon r = refl
+closed_end name p s place AtColon r = refl
+
+ends_closed : (d : List Token) (name : Option (List ℕ)) (shape : Shape) → Closed d name shape → Ends d name shape
+ends_closed d name shape h q p place end r =
+    h q p place (end_tokens end ++ r) ∙ closed_end name (λ t. q (p t)) shape place end r
+
+goes_on_closed : (d : List Token) (name : Option (List ℕ)) (shape : Shape) → Closed d name shape → GoesOn d name shape
+goes_on_closed d name shape h q p place true r = h q p place (LeftBracket ∷ r)
+goes_on_closed d name shape h q p place false r = h q p place (Open ∷ r)
+
+ends_nothing : Ends [] None same
+ends_nothing q p place AtClose r = refl
+ends_nothing q p place AtComma r = refl
+ends_nothing q p place AtSemicolon r = refl
+ends_nothing q p place AtColon r = refl
+
+goes_on_nothing : GoesOn [] None same
+goes_on_nothing q p place true r = refl
+goes_on_nothing q p place false r = refl
+
+named_end : (name : List ℕ) (q p : Shape) (place : Place) (end : End) (r : List Token)
+    → checked true (Behind (Some name) (λ t. q (p t)) same place) (end_tokens end ++ r) ≡ checked false (finished end (Some name) (λ t. q (p t)) place) r
+named_end name q p place AtClose r = refl
+named_end name q p place AtComma r = refl
+named_end name q p place AtSemicolon r = refl
+named_end name q p place AtColon r = refl
+
+ends_name : (name : List ℕ) → IsIdentifier name → Ends (Identifier name ∷ []) (Some name) same
+ends_name name h q p place end r =
+    checked-name name h (Inside q p place) (end_tokens end ++ r) ∙ named_end name q p place end r
+
+goes_on_name : (name : List ℕ) → IsIdentifier name → GoesOn (Identifier name ∷ []) (Some name) same
+goes_on_name name h q p place true r = checked-name name h (Inside q p place) (LeftBracket ∷ r)
+goes_on_name name h q p place false r = checked-name name h (Inside q p place) (Open ∷ r)
+
+-- The declarator d may stand in the text of t.
+abbrev pub Stands : Term → List Token → Option (List ℕ) → Shape → Type 0
+Stands (Array n t) d name shape = GoesOn d name shape
+Stands (Function t signature) d name shape = GoesOn d name shape
+Stands _ d name shape = Ends d name shape
+
+pub stands_closed : (t : Term) (d : List Token) (name : Option (List ℕ)) (shape : Shape) → Closed d name shape → Stands t d name shape
+stands_closed (Array n t) d name shape h = goes_on_closed d name shape h
+stands_closed (Function t signature) d name shape h = goes_on_closed d name shape h
+stands_closed _ d name shape h = ends_closed d name shape h
+
+stands_both : (t : Term) (d : List Token) (name : Option (List ℕ)) (shape : Shape) → Ends d name shape → GoesOn d name shape → Stands t d name shape
+stands_both (Array n t) d name shape h g = g
+stands_both (Function t signature) d name shape h g = g
+stands_both _ d name shape h g = h
+
+pub stands_nothing : (t : Term) → Stands t [] None same
+stands_nothing t = stands_both t [] None same ends_nothing goes_on_nothing
+
+pub stands_name : (t : Term) (name : Option (List ℕ)) → IsName name → Stands t (name_tokens name) name same
+stands_name t None h = stands_nothing t
+stands_name t (Some name) h = stands_both t (Identifier name ∷ []) (Some name) same (ends_name name h) (goes_on_name name h)
+
+-- what is qualified is no array and no function
+pub stands_qualifiable : (t : Term) (d : List Token) (name : Option (List ℕ)) (shape : Shape) → IsQualifiable t → Ends d name shape → Stands t d name shape
+stands_qualifiable (Array n t) d name shape h e = absurd h
+stands_qualifiable (Function t signature) d name shape h e = absurd h
+stands_qualifiable _ d name shape h e = e
+
+closed_group : (d : List Token) (name : Option (List ℕ)) (shape : Shape) → Ends (Star ∷ d) name shape
+    → Closed (Open ∷ (Star ∷ d ++ Close ∷ [])) name shape
+closed_group d name shape h q p place r =
+    let inner : Place = Grouped (λ t. q (p t)) place in
+    ap (λ (ts : List Token). checked false (Inside same (λ t. Pointer t) inner) ts) (append_assoc d (Close ∷ []) r)
+    ∙ h same same inner AtClose r
+
+pub closed_count : (n : Option ℕ) (d : List Token) (name : Option (List ℕ)) (shape : Shape) → IsCount n → GoesOn d name shape
+    → Closed (d ++ count_tokens n) name (λ t. shape (Array n t))
+closed_count None d name shape c h q p place r =
+    ap (λ (ts : List Token). checked false (Inside q p place) ts) (append_assoc d (count_tokens None) r)
+    ∙ h q p place true (RightBracket ∷ r)
+closed_count (Some n) d name shape c h q p place r =
+    ap (λ (ts : List Token). checked false (Inside q p place) ts) (append_assoc d (count_tokens (Some n)) r)
+    ∙ h q p place true (Number n ∷ RightBracket ∷ r)
+    ∙ checked-number n c (AtCount name (λ t. q (p t)) shape place) (RightBracket ∷ r)
+
+-- The signature's tokens read as the signature.
+abbrev pub ReadsSignature : Signature → Type 0
+ReadsSignature signature = (name : Option (List ℕ)) (p s : Shape) (place : Place) (r : List Token)
+    → checked false (Before same (OfFirst name p s place)) (signature_tokens signature ++ Close ∷ r)
+    ≡ checked false (Behind name p (λ t. s (Function t signature)) place) r
+
+pub closed_signature : (signature : Signature) (d : List Token) (name : Option (List ℕ)) (shape : Shape) → ReadsSignature signature → GoesOn d name shape
+    → Closed (d ++ Open ∷ (signature_tokens signature ++ Close ∷ [])) name (λ t. shape (Function t signature))
+closed_signature signature d name shape reads h q p place r =
+    ap (λ (ts : List Token). checked false (Inside q p place) ts) (append_assoc d (Open ∷ (signature_tokens signature ++ Close ∷ [])) r)
+    ∙ h q p place false ((signature_tokens signature ++ Close ∷ []) ++ r)
+    ∙ ap (λ (ts : List Token). checked false (Before same (OfFirst name (λ t. q (p t)) shape place)) ts) (append_assoc (signature_tokens signature) (Close ∷ []) r)
+    ∙ reads name (λ t. q (p t)) shape place r
+
+-- SPACES AND QUALIFIERS
+
+-- a space before a declarator changes nothing
+spaced_end : (d : List Token) (touching : Bool) (q p : Shape) (place : Place) (end : End) (r : List Token)
+    → checked touching (Inside q p place) (spaced d ++ (end_tokens end ++ r)) ≡ checked false (Inside q p place) (d ++ (end_tokens end ++ r))
+spaced_end [] touching q p place AtClose r = refl
+spaced_end [] touching q p place AtComma r = refl
+spaced_end [] touching q p place AtSemicolon r = refl
+spaced_end [] touching q p place AtColon r = refl
+spaced_end (t ∷ ts) touching q p place end r = refl
+
+-- after the type that a declarator stands around
+pub core_end : (d : List Token) (name : Option (List ℕ)) (shape : Shape) → Ends d name shape
+    → (touching : Bool) (q : Shape) (t : Term) (place : Place) (end : End) (r : List Token)
+    → checked touching (Inside same same (After q t place)) (spaced d ++ (end_tokens end ++ r)) ≡ checked false (ended end name (shape (q t)) place) r
+core_end d name shape h touching q t place end r =
+    spaced_end d touching same same (After q t place) end r ∙ h same same (After q t place) end r
+
+joined_end : (qs : List Qualifier) (d : List Token) (name : Option (List ℕ)) (shape : Shape) → Ends d name shape
+    → (q p : Shape) (place : Place) (end : End) (r : List Token)
+    → checked false (Inside q p place) (joined qs d ++ (end_tokens end ++ r)) ≡ checked false (finished end name (λ t. shape (q (qualified qs (p t)))) place) r
+joined_end [] d name shape h q p place end r = h q p place end r
+joined_end (x ∷ qs) d name shape h q p place end r =
+    spaced_end (joined qs d) true (λ t. q (Qualified x t)) p place end r
+    ∙ joined_end qs d name shape h (λ t. q (Qualified x t)) p place end r
+
+pub ends_pointer : (qs : List Qualifier) (d : List Token) (name : Option (List ℕ)) (shape : Shape) → Ends d name shape
+    → Ends (Star ∷ joined qs d) name (λ t. shape (qualified qs (Pointer t)))
+ends_pointer qs d name shape h q p place end r = joined_end qs d name shape h same (λ t. Pointer (q (p t))) place end r
+
+pub stands_enclosed : (t : Term) (d : List Token) (name : Option (List ℕ)) (shape : Shape) → Ends (Star ∷ d) name shape
+    → Stands t (enclosed t (Star ∷ d)) name shape
+stands_enclosed (Array n t) d name shape h = goes_on_closed (Open ∷ (Star ∷ d ++ Close ∷ [])) name shape (closed_group d name shape h)
+stands_enclosed (Function t signature) d name shape h = goes_on_closed (Open ∷ (Star ∷ d ++ Close ∷ [])) name shape (closed_group d name shape h)
+stands_enclosed _ d name shape h = h
+
+qualifying_read : (qs : List Qualifier) (q : Shape) (place : Place) (r : List Token)
+    → checked false (Before q place) (qualifying qs ++ r) ≡ checked false (Before (λ t. q (qualified qs t)) place) r
+qualifying_read [] q place r = refl
+qualifying_read (x ∷ qs) q place r = qualifying_read qs (λ t. q (Qualified x t)) place r
+
+-- the qualifiers before the tokens ts of a type
+pub after_qualifiers : (qs : List Qualifier) (place : Place) (ts r : List Token)
+    → checked false (Before same place) ((qualifying qs ++ ts) ++ r) ≡ checked false (Before (qualified qs) place) (ts ++ r)
+after_qualifiers qs place ts r =
+    ap (λ (us : List Token). checked false (Before same place) us) (append_assoc (qualifying qs) ts r)
+    ∙ qualifying_read qs same place (ts ++ r)
+
+pub qualified-snoc : (qs : List Qualifier) (x : Qualifier) (t : Term) → qualified (qs ++ x ∷ []) t ≡ qualified qs (Qualified x t)
+qualified-snoc [] x t = refl
+qualified-snoc (q ∷ qs) x t = ap (Qualified q) (qualified-snoc qs x t)
+
+-- further words of a basic type
+pub words_read : (words : List TypeWord) (before : List TypeWord) (q : Shape) (place : Place) (d : List Token) (name : Option (List ℕ)) (shape : Shape)
+    → Ends d name shape → (end : End) (r : List Token)
+    → checked true (Inside same same (After q (Basic before) place)) (spaced (basic words) ++ (spaced d ++ (end_tokens end ++ r)))
+    ≡ checked false (ended end name (shape (q (Basic (before ++ words)))) place) r
+words_read [] before q place d name shape h end r =
+    core_end d name shape h true q (Basic before) place end r
+    ∙ ap (λ (ws : List TypeWord). checked false (ended end name (shape (q (Basic ws))) place) r) (sym (append-nil before))
+words_read (w ∷ words) before q place d name shape h end r =
+    words_read words (before ++ w ∷ []) q place d name shape h end r
+    ∙ ap (λ (ws : List TypeWord). checked false (ended end name (shape (q (Basic ws))) place) r) (append_assoc before (w ∷ []) words)

@@ -1,0 +1,167 @@
+-- An entry that is not wrong has a term.
+use Rattle.std.proofs.Common.{◌≡◌, ℕ, zero, suc, ℤ, ◌<◌, Bool, true, false, List, [], ◌∷◌, Option, Some, None, refl}
+use Rattle.std.proofs.Common.{subst, inr, length, arith}
+use Rattle.std.specs.Prelude.{IsSome, is_some, ◌==◌, not, ◌||◌, option_map, option_and_then, Any, All, Contains}
+use Rattle.std.specs.Prelude.{if◌then◌else◌}
+use Rattle.std.specs.List.{list_any}
+use Rattle.std.proofs.lemmas.List.Splits.{length-slice_split}
+use Rattle.dw_cprint.specs.Declarations.{words_of, parts_of, is_miscounted, is_misplaced, base_term, arrays, bits_of}
+use Rattle.dw_cprint.specs.Declarations.{constants_of, has_more, parameters_by, members_by, term_by, term_at}
+use Rattle.dw_cprint.specs.Legible.{is_identifier, IsIdentifier, IsQualifiable, IsPresent, IsLegible}
+use Rattle.dw_cprint.specs.Shapes.{Parameter, Typed, More, Name, TypeAt, MemberOf, EnumeratorOf, ShapeOf, base, typedef}
+use Rattle.dw_cprint.specs.Shapes.{qualified, pointer, array, function, tagged, nameless, body, enumeration, foreign}
+use Rattle.dw_cprint.specs.Shapes.{other}
+use Rattle.dw_cprint.specs.Steps.{entries_of, parameter_types, member_types, types_reached, steps_reached, Leads}
+use Rattle.dw_cprint.specs.Terms.{TypeWord, Constant, Valued, Term, Named, Basic, Body, Enumeration, Qualified, Pointer}
+use Rattle.dw_cprint.specs.Terms.{Function, Unprototyped, Prototyped, Parameters, Parameter as ParameterTerm}
+use Rattle.dw_cprint.specs.Terms.{Member as MemberTerm}
+use Rattle.dw_cprint.specs.Wrong.{LacksName, LacksBaseName, is_base_name, HasWrongEnumeratorName, HasBadName}
+use Rattle.dw_cprint.specs.Wrong.{is_foreign, count, misplaced, lacks_value, IsUnspeakable}
+use Rattle.dw_cprint.proofs.NameLemmas.{words-length}
+use Rattle.dw_cprint.proofs.OptionLemmas.{map_some, then_some, unless_some, not_false, or_left, or_right}
+
+-- ---- lists
+
+pub any_here : {X : Type 0} (P : X → Type 0) (x : X) (xs : List X) → P x → Any P (x ∷ xs)
+any_here P x xs p = (0, x, omega arith, refl, p)
+
+pub any_there : {X : Type 0} (P : X → Type 0) (x : X) (xs : List X) → Any P xs → Any P (x ∷ xs)
+any_there P x xs (k, y, w, e, p) = (suc k, y, omega arith, e, p)
+
+pub all_here : {X : Type 0} (P : X → Type 0) (x : X) (xs : List X) → All P (x ∷ xs) → P x
+all_here P x xs h = h 0 x (omega arith)
+
+pub all_there : {X : Type 0} (P : X → Type 0) (x : X) (xs : List X) → All P (x ∷ xs) → All P xs
+all_there P x xs h = λ k d w. h (suc k) d (omega arith)
+
+pub among_here : (n : ℕ) (ns : List ℕ) → Contains (n ∷ ns) n
+among_here n ns = (0, omega arith, refl)
+
+pub among_there : (m n : ℕ) (ns : List ℕ) → Contains ns n → Contains (m ∷ ns) n
+among_there m n ns (k, w, e) = (suc k, omega arith, e)
+
+-- ---- what holds of each entry among types, and of void
+
+module _ (P : TypeAt → Type 0) (void : P None) where
+  pub head_of : (at : TypeAt) (ats : List TypeAt) → ((n : ℕ) → Contains (entries_of (at ∷ ats)) n → P (Some n)) → P at
+  head_of None ats h = void
+  head_of (Some n) ats h = h n (among_here n (entries_of ats))
+
+  pub rest_of : (at : TypeAt) (ats : List TypeAt) → ((n : ℕ) → Contains (entries_of (at ∷ ats)) n → P (Some n)) → (n : ℕ) → Contains (entries_of ats) n → P (Some n)
+  rest_of None ats h = h
+  rest_of (Some m) ats h = λ n c. h n (among_there m n (entries_of ats) c)
+
+-- ---- names
+
+pub name_there : (name : Name) → (LacksName name → ⊥) → (n : List ℕ) × (name ≡ Some n) × IsIdentifier n
+name_there None h = absurd (h tt)
+name_there (Some n) h = (n, refl, not_false (is_identifier n) h)
+
+name_some : (name : Name) → (LacksName name → ⊥) → IsSome name
+name_some None h = absurd (h tt)
+name_some (Some n) h = refl
+
+-- what a base type's name makes
+pub record IsBaseTerm (t : Term) : Type 0 where
+  pub legible : IsLegible t
+  pub present : IsPresent t
+  pub qualifiable : IsQualifiable t
+
+base_some : (name : Name) (term : TypeAt → Option Term) → (LacksBaseName name → ⊥) → IsSome (term_by term (base name))
+base_some None term h = absurd (h tt)
+base_some (Some n) term h = by_name (is_identifier n) (words_of 4 (parts_of n)) (not_false (is_base_name n) h)
+  where
+    by_name : (b : Bool) (o : Option (List TypeWord)) → (b || is_some o) ≡ true → IsSome (if b then Some (Named n) else option_map Basic o)
+    by_name true o h = refl
+    by_name false None h = absurd (cc)
+    by_name false (Some ws) h = refl
+
+pub base_is : (n : List ℕ) (t : Term) → base_term n ≡ Some t → IsBaseTerm t
+base_is n t e = by_name (is_identifier n) refl (words_of 4 (parts_of n)) refl e
+  where
+    by_name : (b : Bool) → is_identifier n ≡ b → (o : Option (List TypeWord)) → words_of 4 (parts_of n) ≡ o → (if b then Some (Named n) else option_map Basic o) ≡ Some t → IsBaseTerm t
+    by_name true i o w e =
+        let same : Named n ≡ t = cc in
+        subst IsBaseTerm same (record { legible = i; present = tt; qualifiable = tt })
+    by_name false i None w e = absurd (cc)
+    by_name false i (Some ws) w e =
+        let same : Basic ws ≡ t = cc in
+        let long = words-length 4 (parts_of n) ws w in
+        let some : 0 < length ws = omega (arith, length-slice_split (λ (b : ℕ). b == 32) n) in
+        subst IsBaseTerm same (record { legible = some; present = tt; qualifiable = tt })
+
+-- ---- an entry that is not wrong has a term
+
+-- nothing is wrong with an entry by the second, third and fourth refusal
+pub record IsFine (shapes : ℕ → ShapeOf) (s : ShapeOf) : Type 0 where
+  pub named : HasBadName shapes s → ⊥
+  pub ours : is_foreign s ≡ true → ⊥
+  pub speakable : IsUnspeakable shapes s → ⊥
+
+value_some : (e : EnumeratorOf) → (lacks_value e ≡ true → ⊥) → IsSome e.value
+value_some e h = by_value e.value h
+  where
+    by_value : (o : Option ℤ) → (not (is_some o) ≡ true → ⊥) → IsSome o
+    by_value None h = absurd (h refl)
+    by_value (Some v) h = refl
+
+pub constants_some : (es : List EnumeratorOf) → (HasWrongEnumeratorName es → ⊥) → (list_any lacks_value es ≡ true → ⊥) → IsSome (constants_of es)
+constants_some [] named valued = refl
+constants_some (e ∷ es) named valued =
+    let rest = constants_some es
+    (λ w. named (any_there (λ (e : EnumeratorOf). LacksName e.name) e es w))
+    (λ w. valued (or_right (lacks_value e) (list_any lacks_value es) w)) in
+    then_some (λ (name : List ℕ). option_and_then (λ (value : ℤ). option_map (λ (cs : List Constant). Valued name value ∷ cs) (constants_of es)) e.value) e.name
+    (name_some e.name (λ w. named (any_here (λ (e : EnumeratorOf). LacksName e.name) e es w)))
+    (λ name. then_some (λ (value : ℤ). option_map (λ (cs : List Constant). Valued name value ∷ cs) (constants_of es)) e.value
+    (value_some e (λ w. valued (or_left (lacks_value e) (list_any lacks_value es) w)))
+    (λ value. map_some (λ (cs : List Constant). Valued name value ∷ cs) (constants_of es) rest))
+
+module _ (term : TypeAt → Option Term) (void : IsSome (term None)) where
+  abbrev pub HasTerm : TypeAt → Type 0
+  HasTerm at = IsSome (term at)
+
+  parameters_some : (ps : List Parameter) → ((n : ℕ) → Contains (entries_of (parameter_types ps)) n → HasTerm (Some n)) → IsSome (parameters_by term ps)
+  parameters_some [] h = refl
+  parameters_some (Typed at ∷ ps) h =
+      then_some (λ (t : Term). option_map (ParameterTerm t) (parameters_by term ps)) (term at) (head_of HasTerm void at (parameter_types ps) h)
+      (λ t. map_some (ParameterTerm t) (parameters_by term ps) (parameters_some ps (rest_of HasTerm void at (parameter_types ps) h)))
+  parameters_some (More ∷ ps) h = parameters_some ps h
+
+  pub members_some : (ms : List MemberOf) → ((n : ℕ) → Contains (entries_of (member_types ms)) n → HasTerm (Some n)) → IsSome (members_by term ms)
+  members_some [] h = refl
+  members_some (m ∷ ms) h =
+      then_some (λ (t : Term). option_map (MemberTerm m.name t (bits_of m.bits)) (members_by term ms)) (term m.type_at) (head_of HasTerm void m.type_at (member_types ms) h)
+      (λ t. map_some (MemberTerm m.name t (bits_of m.bits)) (members_by term ms) (members_some ms (rest_of HasTerm void m.type_at (member_types ms) h)))
+
+  shape_some : (shapes : ℕ → ShapeOf) (s : ShapeOf) → IsFine shapes s → ((n : ℕ) → Contains (entries_of (types_reached s)) n → HasTerm (Some n)) → IsSome (term_by term s)
+  shape_some shapes (base name) fine h = base_some name term fine.named
+  shape_some shapes (typedef None) fine h = absurd (fine.named tt)
+  shape_some shapes (typedef (Some n)) fine h = refl
+  shape_some shapes (qualified q at) fine h = map_some (Qualified q) (term at) (head_of HasTerm void at [] h)
+  shape_some shapes (pointer at) fine h = map_some Pointer (term at) (head_of HasTerm void at [] h)
+  shape_some shapes (array counts strange at) fine h =
+      unless_some (is_miscounted counts) (option_map (arrays counts) (term at)) (λ w. fine.speakable (count w)) (map_some (arrays counts) (term at) (head_of HasTerm void at [] h))
+  shape_some shapes (function at None) fine h = map_some (λ (t : Term). Function t Unprototyped) (term at) (head_of HasTerm void at [] h)
+  shape_some shapes (function at (Some ps)) fine h =
+      let called : Term → Option Term = λ (t : Term). option_map (λ (us : Parameters). Function t (Prototyped us (has_more ps))) (parameters_by term ps) in
+      unless_some (is_misplaced ps) (option_and_then called (term at)) (λ w. fine.speakable (misplaced w))
+      (then_some called (term at) (head_of HasTerm void at (parameter_types ps) h)
+      (λ t. map_some (λ (us : Parameters). Function t (Prototyped us (has_more ps))) (parameters_by term ps) (parameters_some ps (rest_of HasTerm void at (parameter_types ps) h))))
+  shape_some shapes (tagged word name) fine h = refl
+  shape_some shapes (nameless word) fine h = absurd (fine.named tt)
+  shape_some shapes (body word odd ms) fine h = map_some (Body word) (members_by term ms) (members_some ms h)
+  shape_some shapes (enumeration odd es) fine h = map_some Enumeration (constants_of es) (constants_some es fine.named (λ w. fine.speakable (inr w)))
+  shape_some shapes foreign fine h = absurd (fine.ours refl)
+  shape_some shapes other fine h = absurd (fine.ours refl)
+
+-- some entries, each with those that its steps lead to
+pub record AreKept (shapes : ℕ → ShapeOf) (Good : ℕ → Type 0) : Type 0 where
+  pub fine : (entry : ℕ) → Good entry → IsFine shapes (shapes entry)
+  pub on : (from to : ℕ) → Good from → Contains (steps_reached shapes from) to → Good to
+
+pub entry_some : (shapes : ℕ → ShapeOf) (Good : ℕ → Type 0) → AreKept shapes Good → (k n : ℕ) → Good n → ((to : ℕ) → Leads shapes k n to → ⊥) → IsSome (term_at (suc k) shapes (Some n))
+entry_some shapes Good kept zero n good none = absurd (none n refl)
+entry_some shapes Good kept (suc k) n good none =
+    shape_some (term_at (suc k) shapes) refl shapes (shapes n) (kept.fine n good)
+    (λ m leads. entry_some shapes Good kept k m (kept.on n m good leads) (λ to path. none to (m, leads, path)))

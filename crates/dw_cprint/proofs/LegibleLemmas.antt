@@ -1,0 +1,221 @@
+-- The term of an entry that is not wrong can be read back from its text.
+use Rattle.std.proofs.Common.{◌≡◌, ℕ, zero, suc, ℤ, true, false, List, [], ◌∷◌, Option, Some, None, refl, sym, ◌∙◌, ap}
+use Rattle.std.proofs.Common.{subst}
+use Rattle.std.specs.Prelude.{option_map, option_and_then, Any, All, IfSome, Contains}
+use Rattle.dw_cprint.specs.Declarations.{is_miscounted, is_misplaced, arrays, bits_of, constants_of, has_more}
+use Rattle.dw_cprint.specs.Declarations.{parameters_by, members_by, term_by, term_at}
+use Rattle.dw_cprint.specs.Legible.{is_identifier, IsIdentifier, IsName, IsCount, IsValue, AreConstants, IsQualifiable}
+use Rattle.dw_cprint.specs.Legible.{IsPresent, IsLegible, IsSignature, AreParameters, AreMembers}
+use Rattle.dw_cprint.specs.Regular.{HasCountedBits, HasValue, IsRegular}
+use Rattle.dw_cprint.specs.Shapes.{Parameter, Typed, More, Name, TypeAt, MemberOf, EnumeratorOf, ShapeOf, base, typedef}
+use Rattle.dw_cprint.specs.Shapes.{qualified, pointer, array, function, tagged, nameless, body, enumeration, foreign}
+use Rattle.dw_cprint.specs.Shapes.{other}
+use Rattle.dw_cprint.specs.Steps.{entries_of, parameter_types, member_types, types_reached}
+use Rattle.dw_cprint.specs.Terms.{Constant, Valued, Term, Void, Named, Tagged, Body, Enumeration, Qualified, Pointer}
+use Rattle.dw_cprint.specs.Terms.{Function, Unprototyped, Prototyped, Parameters, NoParameter}
+use Rattle.dw_cprint.specs.Terms.{Parameter as ParameterTerm, Members, NoMember, Member as MemberTerm}
+use Rattle.dw_cprint.specs.Wrong.{LacksName, LacksMemberName, HasWrongMemberName, HasWrongEnumeratorName, IsVoidLike}
+use Rattle.dw_cprint.specs.Wrong.{StandsUnder, nothing, itself, is_array, is_function, shape_of, count, void_parameter}
+use Rattle.dw_cprint.specs.Wrong.{over_array, over_function}
+use Rattle.dw_cprint.proofs.OptionLemmas.{map_inverted, then_inverted, unless_inverted, not_false}
+use Rattle.dw_cprint.proofs.HasTermLemmas.{AreKept, IsBaseTerm, IsFine, all_here, all_there, among_here, among_there}
+use Rattle.dw_cprint.proofs.HasTermLemmas.{any_here, any_there, base_is, head_of, name_there, rest_of}
+
+-- ---- an entry that is not wrong is legible
+
+member_legible : (shapes : ℕ → ShapeOf) (m : MemberOf) → (LacksMemberName shapes m m.name → ⊥) → IsName m.name
+member_legible shapes m h = by_name m.name h
+  where
+    by_name : (o : Name) → (LacksMemberName shapes m o → ⊥) → IsName o
+    by_name None h = tt
+    by_name (Some n) h = not_false (is_identifier n) h
+
+pub constants_legible : (es : List EnumeratorOf) → (HasWrongEnumeratorName es → ⊥) → All HasValue es → (cs : List Constant) → constants_of es ≡ Some cs → AreConstants cs
+constants_legible [] named fit cs e = let same : [] ≡ cs = cc in subst AreConstants same tt
+constants_legible (x ∷ es) named fit cs e =
+    let rest = constants_of es in
+    let name = then_inverted (λ (name : List ℕ). option_and_then (λ (value : ℤ). option_map (λ (cs : List Constant). Valued name value ∷ cs) rest) x.value) x.name cs e in
+    let value = then_inverted (λ (value : ℤ). option_map (λ (cs : List Constant). Valued name.0 value ∷ cs) rest) x.value cs name.2 in
+    let others = map_inverted (λ (cs : List Constant). Valued name.0 value.0 ∷ cs) rest cs value.2 in
+    let there = name_there x.name (λ w. named (any_here (λ (e : EnumeratorOf). LacksName e.name) x es w)) in
+    let same : there.0 ≡ name.0 = cc in
+    let P : Option ℤ → Type 0 = λ o. IfSome o IsValue in
+    subst AreConstants others.2 (
+      subst IsIdentifier same there.2,
+      subst P value.1 (all_here HasValue x es fit),
+      constants_legible es (λ w. named (any_there (λ (e : EnumeratorOf). LacksName e.name) x es w)) (all_there HasValue x es fit) others.0 others.1,
+    )
+
+module _ (term : TypeAt → Option Term) where
+  -- the term of a type is legible, where it has one
+  abbrev pub ReadsAt : TypeAt → Type 0
+  ReadsAt at = (t : Term) → term at ≡ Some t → IsLegible t
+
+  module _ (void : ReadsAt None) where
+    parameters_legible : (ps : List Parameter) → ((n : ℕ) → Contains (entries_of (parameter_types ps)) n → ReadsAt (Some n)) → (us : Parameters) → parameters_by term ps ≡ Some us → AreParameters us
+    parameters_legible [] h us e = let same : NoParameter ≡ us = cc in subst AreParameters same tt
+    parameters_legible (Typed at ∷ ps) h us e =
+        let first = then_inverted (λ (t : Term). option_map (ParameterTerm t) (parameters_by term ps)) (term at) us e in
+        let others = map_inverted (ParameterTerm first.0) (parameters_by term ps) us first.2 in
+        subst AreParameters others.2
+        (head_of ReadsAt void at (parameter_types ps) h first.0 first.1, parameters_legible ps (rest_of ReadsAt void at (parameter_types ps) h) others.0 others.1)
+    parameters_legible (More ∷ ps) h us e = parameters_legible ps h us e
+
+    signature_legible : (shapes : ℕ → ShapeOf) (ps : List Parameter) → (Any (IsVoidLike shapes) (parameter_types ps) → ⊥) → is_misplaced ps ≡ false
+        → ((n : ℕ) → Contains (entries_of (parameter_types ps)) n → (t : Term) → term (Some n) ≡ Some t → IsPresent t)
+        → ((n : ℕ) → Contains (entries_of (parameter_types ps)) n → ReadsAt (Some n)) → (us : Parameters) → parameters_by term ps ≡ Some us → IsSignature (Prototyped us (has_more ps))
+    signature_legible shapes [] voids placed there h us e =
+        let same : NoParameter ≡ us = cc in
+        let P : Parameters → Type 0 = λ ps. IsSignature (Prototyped ps false) in subst P same refl
+    signature_legible shapes (More ∷ ps) voids placed there h us e = absurd (cc)
+    signature_legible shapes (Typed None ∷ ps) voids placed there h us e = absurd (voids (any_here (IsVoidLike shapes) None (parameter_types ps) nothing))
+    signature_legible shapes (Typed (Some n) ∷ ps) voids placed there h us e =
+        let first = then_inverted (λ (t : Term). option_map (ParameterTerm t) (parameters_by term ps)) (term (Some n)) us e in
+        let others = map_inverted (ParameterTerm first.0) (parameters_by term ps) us first.2 in
+        let P : Parameters → Type 0 = λ vs. IsSignature (Prototyped vs (has_more ps)) in
+        let here = among_here n (entries_of (parameter_types ps)) in
+        subst P others.2 (
+          there n here first.0 first.1,
+          h n here first.0 first.1,
+          parameters_legible ps (rest_of ReadsAt void (Some n) (parameter_types ps) h) others.0 others.1,
+        )
+
+    pub members_legible : (shapes : ℕ → ShapeOf) (ms : List MemberOf) → (HasWrongMemberName shapes ms → ⊥) → All HasCountedBits ms
+        → ((n : ℕ) → Contains (entries_of (member_types ms)) n → ReadsAt (Some n)) → (us : Members) → members_by term ms ≡ Some us → AreMembers us
+    members_legible shapes [] named fit h us e = let same : NoMember ≡ us = cc in subst AreMembers same tt
+    members_legible shapes (m ∷ ms) named fit h us e =
+        let first = then_inverted (λ (t : Term). option_map (MemberTerm m.name t (bits_of m.bits)) (members_by term ms)) (term m.type_at) us e in
+        let others = map_inverted (MemberTerm m.name first.0 (bits_of m.bits)) (members_by term ms) us first.2 in
+        let P : MemberOf → Type 0 = λ m. LacksMemberName shapes m m.name in
+        subst AreMembers others.2 (
+          member_legible shapes m (λ w. named (any_here P m ms w)),
+          head_of ReadsAt void m.type_at (member_types ms) h first.0 first.1,
+          all_here HasCountedBits m ms fit,
+          members_legible shapes ms (λ w. named (any_there P m ms w)) (all_there HasCountedBits m ms fit) (rest_of ReadsAt void m.type_at (member_types ms) h) others.0 others.1,
+        )
+
+arrays_legible : (counts : List (Option ℕ)) (t : Term) → All IsCount counts → IsLegible t → IsLegible (arrays counts t)
+arrays_legible [] t fit h = h
+arrays_legible (c ∷ cs) t fit h = (all_here IsCount c cs fit, arrays_legible cs t (all_there IsCount c cs fit) h)
+
+-- a type of an entry is no void
+shape_present : (shapes : ℕ → ShapeOf) (term : TypeAt → Option Term) (s : ShapeOf) → IsFine shapes s → (t : Term) → term_by term s ≡ Some t → IsPresent t
+shape_present shapes term (base None) fine t e = absurd (cc)
+shape_present shapes term (base (Some n)) fine t e = IsBaseTerm.present (base_is n t e)
+shape_present shapes term (typedef None) fine t e = absurd (cc)
+shape_present shapes term (typedef (Some n)) fine t e = let same : Named n ≡ t = cc in subst IsPresent same tt
+shape_present shapes term (qualified q at) fine t e = let f = map_inverted (Qualified q) (term at) t e in subst IsPresent f.2 tt
+shape_present shapes term (pointer at) fine t e = let f = map_inverted Pointer (term at) t e in subst IsPresent f.2 tt
+shape_present shapes term (array [] strange at) fine t e = absurd (fine.speakable (count refl))
+shape_present shapes term (array (c ∷ cs) strange at) fine t e =
+    let u = unless_inverted (is_miscounted (c ∷ cs)) (option_map (arrays (c ∷ cs)) (term at)) t e in
+    let f = map_inverted (arrays (c ∷ cs)) (term at) t u.1 in subst IsPresent f.2 tt
+shape_present shapes term (function at None) fine t e = let f = map_inverted (λ (t : Term). Function t Unprototyped) (term at) t e in subst IsPresent f.2 tt
+shape_present shapes term (function at (Some ps)) fine t e =
+    let called : Term → Option Term = λ (t : Term). option_map (λ (us : Parameters). Function t (Prototyped us (has_more ps))) (parameters_by term ps) in
+    let u = unless_inverted (is_misplaced ps) (option_and_then called (term at)) t e in
+    let r = then_inverted called (term at) t u.1 in
+    let f = map_inverted (λ (us : Parameters). Function r.0 (Prototyped us (has_more ps))) (parameters_by term ps) t r.2 in
+    subst IsPresent f.2 tt
+shape_present shapes term (tagged word name) fine t e = let same : Tagged word name ≡ t = cc in subst IsPresent same tt
+shape_present shapes term (nameless word) fine t e = absurd (cc)
+shape_present shapes term (body word odd ms) fine t e = let f = map_inverted (Body word) (members_by term ms) t e in subst IsPresent f.2 tt
+shape_present shapes term (enumeration odd es) fine t e = let f = map_inverted Enumeration (constants_of es) t e in subst IsPresent f.2 tt
+shape_present shapes term foreign fine t e = absurd (cc)
+shape_present shapes term other fine t e = absurd (cc)
+
+-- what a qualifier stands over is no array and no function
+module _ (shapes : ℕ → ShapeOf) where
+  abbrev IsNotBracketed : TypeAt → Type 0
+  IsNotBracketed at = (under : TypeAt) → StandsUnder shapes at under → ((is_array (shape_of shapes under) ≡ true → ⊥) × (is_function (shape_of shapes under) ≡ true → ⊥))
+
+  qualifiable : (k : ℕ) (at : TypeAt) → IsNotBracketed at → (t : Term) → term_at k shapes at ≡ Some t → IsQualifiable t
+  qualifiable zero at free t e = absurd (cc)
+  qualifiable (suc k) None free t e = let same : Void ≡ t = cc in subst IsQualifiable same tt
+  qualifiable (suc k) (Some n) free t e = by_shape (shapes n) refl e
+    where
+      term : TypeAt → Option Term
+      term = term_at k shapes
+
+      by_shape : (s : ShapeOf) → shapes n ≡ s → term_by (term_at k shapes) s ≡ Some t → IsQualifiable t
+      by_shape (base None) is e = absurd (cc)
+      by_shape (base (Some name)) is e = IsBaseTerm.qualifiable (base_is name t e)
+      by_shape (typedef None) is e = absurd (cc)
+      by_shape (typedef (Some name)) is e = let same : Named name ≡ t = cc in subst IsQualifiable same tt
+      by_shape (qualified q at) is e = let f = map_inverted (Qualified q) (term_at k shapes at) t e in subst IsQualifiable f.2 tt
+      by_shape (pointer at) is e = let f = map_inverted Pointer (term_at k shapes at) t e in subst IsQualifiable f.2 tt
+      by_shape (array counts strange at) is e =
+          absurd ((free (Some n) (itself (λ q to same. let clash : array counts strange at ≡ qualified q to = sym is ∙ same in absurd (cc)))).0 (ap (λ (s : ShapeOf). is_array (Some s)) is))
+      by_shape (function at ps) is e =
+          absurd ((free (Some n) (itself (λ q to same. let clash : function at ps ≡ qualified q to = sym is ∙ same in absurd (cc)))).1 (ap (λ (s : ShapeOf). is_function (Some s)) is))
+      by_shape (tagged word name) is e = let same : Tagged word name ≡ t = cc in subst IsQualifiable same tt
+      by_shape (nameless word) is e = absurd (cc)
+      by_shape (body word odd ms) is e = let f = map_inverted (Body word) (members_by (term_at k shapes) ms) t e in subst IsQualifiable f.2 tt
+      by_shape (enumeration odd es) is e = let f = map_inverted Enumeration (constants_of es) t e in subst IsQualifiable f.2 tt
+      by_shape foreign is e = absurd (cc)
+      by_shape other is e = absurd (cc)
+
+pub void_legible : (k : ℕ) (shapes : ℕ → ShapeOf) (t : Term) → term_at k shapes None ≡ Some t → IsLegible t
+void_legible zero shapes t e = absurd (cc)
+void_legible (suc k) shapes t e = let same : Void ≡ t = cc in subst IsLegible same tt
+
+module _ (shapes : ℕ → ShapeOf) (k : ℕ) where
+  shape_legible : (s : ShapeOf) → IsFine shapes s → IsRegular s
+      → ((n : ℕ) → Contains (entries_of (types_reached s)) n → (t : Term) → term_at k shapes (Some n) ≡ Some t → IsPresent t)
+      → ((n : ℕ) → Contains (entries_of (types_reached s)) n → ReadsAt (term_at k shapes) (Some n)) → (t : Term) → term_by (term_at k shapes) s ≡ Some t → IsLegible t
+  shape_legible (base None) fine fit there h t e = absurd (cc)
+  shape_legible (base (Some n)) fine fit there h t e = IsBaseTerm.legible (base_is n t e)
+  shape_legible (typedef None) fine fit there h t e = absurd (cc)
+  shape_legible (typedef (Some n)) fine fit there h t e = let same : Named n ≡ t = cc in subst IsLegible same (not_false (is_identifier n) fine.named)
+  shape_legible (qualified q at) fine fit there h t e =
+      let f = map_inverted (Qualified q) (term_at k shapes at) t e in
+      subst IsLegible f.2 (
+        qualifiable shapes k at (λ under stands. (λ w. fine.speakable (over_array under stands w), λ w. fine.speakable (over_function under stands w))) f.0 f.1,
+        head_of (ReadsAt (term_at k shapes)) (void_legible k shapes) at [] h f.0 f.1,
+      )
+  shape_legible (pointer at) fine fit there h t e =
+      let f = map_inverted Pointer (term_at k shapes at) t e in subst IsLegible f.2 (head_of (ReadsAt (term_at k shapes)) (void_legible k shapes) at [] h f.0 f.1)
+  shape_legible (array counts strange at) fine fit there h t e =
+      let u = unless_inverted (is_miscounted counts) (option_map (arrays counts) (term_at k shapes at)) t e in
+      let f = map_inverted (arrays counts) (term_at k shapes at) t u.1 in
+      subst IsLegible f.2 (arrays_legible counts f.0 fit (head_of (ReadsAt (term_at k shapes)) (void_legible k shapes) at [] h f.0 f.1))
+  shape_legible (function at None) fine fit there h t e =
+      let f = map_inverted (λ (t : Term). Function t Unprototyped) (term_at k shapes at) t e in
+      subst IsLegible f.2 (head_of (ReadsAt (term_at k shapes)) (void_legible k shapes) at [] h f.0 f.1, tt)
+  shape_legible (function at (Some ps)) fine fit there h t e =
+      let term = term_at k shapes in
+      let called : Term → Option Term = λ (t : Term). option_map (λ (us : Parameters). Function t (Prototyped us (has_more ps))) (parameters_by term ps) in
+      let u = unless_inverted (is_misplaced ps) (option_and_then called (term at)) t e in
+      let r = then_inverted called (term at) t u.1 in
+      let f = map_inverted (λ (us : Parameters). Function r.0 (Prototyped us (has_more ps))) (parameters_by term ps) t r.2 in
+      subst IsLegible f.2 (
+        head_of (ReadsAt term) (void_legible k shapes) at (parameter_types ps) h r.0 r.1,
+        signature_legible term (void_legible k shapes) shapes ps (λ w. fine.speakable (void_parameter w)) u.0
+            (λ n among. there n (further_in at (parameter_types ps) n among))
+            (rest_of (ReadsAt term) (void_legible k shapes) at (parameter_types ps) h) f.0 f.1,
+      )
+    where
+      further_in : (at : TypeAt) (ats : List TypeAt) (n : ℕ) → Contains (entries_of ats) n → Contains (entries_of (at ∷ ats)) n
+      further_in None ats n c = c
+      further_in (Some m) ats n c = among_there m n (entries_of ats) c
+  shape_legible (tagged word name) fine fit there h t e = let same : Tagged word name ≡ t = cc in subst IsLegible same (not_false (is_identifier name) fine.named)
+  shape_legible (nameless word) fine fit there h t e = absurd (cc)
+  shape_legible (body word odd ms) fine fit there h t e =
+      let f = map_inverted (Body word) (members_by (term_at k shapes) ms) t e in
+      subst IsLegible f.2 (fit.0, members_legible (term_at k shapes) (void_legible k shapes) shapes ms fine.named fit.1 h f.0 f.1)
+  shape_legible (enumeration odd es) fine fit there h t e =
+      let f = map_inverted Enumeration (constants_of es) t e in subst IsLegible f.2 (constants_legible es fine.named fit f.0 f.1)
+  shape_legible foreign fine fit there h t e = absurd (cc)
+  shape_legible other fine fit there h t e = absurd (cc)
+
+entry_present : (shapes : ℕ → ShapeOf) (Good : ℕ → Type 0) → AreKept shapes Good → (k n : ℕ) → Good n → (t : Term) → term_at k shapes (Some n) ≡ Some t → IsPresent t
+entry_present shapes Good kept zero n good t e = absurd (cc)
+entry_present shapes Good kept (suc k) n good t e = shape_present shapes (term_at k shapes) (shapes n) (kept.fine n good) t e
+
+pub entry_legible : (shapes : ℕ → ShapeOf) (Good : ℕ → Type 0) → AreKept shapes Good → ((entry : ℕ) → Good entry → IsRegular (shapes entry))
+    → (k n : ℕ) → Good n → (t : Term) → term_at k shapes (Some n) ≡ Some t → IsLegible t
+entry_legible shapes Good kept fit zero n good t e = absurd (cc)
+entry_legible shapes Good kept fit (suc k) n good t e =
+    shape_legible shapes k (shapes n) (kept.fine n good) (fit n good)
+    (λ m leads. entry_present shapes Good kept k m (kept.on n m good leads))
+    (λ m leads. entry_legible shapes Good kept fit k m (kept.on n m good leads)) t e
