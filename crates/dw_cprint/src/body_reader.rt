@@ -4,11 +4,10 @@ ghost use Rattle.std.specs.Prelude.{◌≡◌, ◌<◌, length, IfOk, All, map, 
 ghost use Rattle.std.specs.List.{list_any};
 ghost use Rattle.dw_image.specs.Images.{entries_in};
 ghost use Rattle.dw_cprint.specs.EntryShapes.{has_tag, is_plain_member, member_at, is_enumerator, enumerator_at};
-ghost use Rattle.dw_cprint.specs.EntryShapes.{members_in, enumerators_in, is_odd};
 ghost use Rattle.dw_cprint.specs.Regular.{HasCountedBits, HasValue};
 ghost use Rattle.dw_cprint.specs.Shapes.{view_member, view_enumerator};
 
-use crate::look_ups::{bits_at, children_at, declared_at, integer_at, name_at, tag_at, type_at};
+use crate::look_ups::{bits_at, declared_at, integer_at, name_at, tag_at, type_at};
 use crate::shape::{Enumerator, Member};
 use dw_entries::Tag;
 use dw_entries::constants::*;
@@ -27,7 +26,7 @@ pub fn has_child(image: &Image<'_>, children: &[EntryId], one: Tag, another: Tag
 }
 
 /// Whether one of these children cannot be in a body of C: an inheritance or a variant part.
-fn has_odd_child(image: &Image<'_>, children: &[EntryId]) -> bool
+pub fn has_odd_child(image: &Image<'_>, children: &[EntryId]) -> bool
     requires { All (λ child. child < length (entries_in image.now)) children.now }
     ensures { result ≡ list_any (has_tag image.now 0x1c 0x33) children.now }
 {
@@ -56,7 +55,7 @@ fn is_plain_member(image: &Image<'_>, id: EntryId) -> bool
 }
 
 /// The plain members among these children.
-fn members_of<'a>(
+pub fn members_of<'a>(
     alloc: Global,
     image: &Image<'a>,
     children: &[EntryId],
@@ -96,7 +95,7 @@ fn is_enumerator(image: &Image<'_>, id: EntryId) -> bool
 }
 
 /// The enumerators among these children.
-fn enumerators_of<'a>(
+pub fn enumerators_of<'a>(
     alloc: Global,
     image: &Image<'a>,
     children: &[EntryId],
@@ -113,52 +112,4 @@ fn enumerators_of<'a>(
         }
     }
     Ok(enumerators)
-}
-
-/// What is in the body of a structure or union.
-#[derive(Drop)]
-pub struct MemberBody<'a> {
-    pub odd: bool,
-    pub members: Vec<Member<'a>>,
-}
-
-/// The body of a structure or union that is not declared.
-pub fn member_body<'a>(
-    alloc: Global,
-    image: &Image<'a>,
-    id: EntryId,
-) -> Result<MemberBody<'a>, AllocError>
-    requires { id < length (entries_in image.now) }
-    ensures odd { IfOk result (λ it. it.odd ≡ is_odd image.now id) }
-    ensures members { IfOk result (λ it. map view_member it.members.items ≡ members_in image.now id) }
-    ensures fit { IfOk result (λ it. All HasCountedBits (map view_member it.members.items)) }
-{
-    let children = children_at(alloc, image, id)?;
-    let odd = has_odd_child(image, &children);
-    let members = members_of(alloc, image, &children)?;
-    Ok(MemberBody { odd, members })
-}
-
-/// What is in the body of an enumeration.
-#[derive(Drop)]
-pub struct EnumeratorBody<'a> {
-    pub odd: bool,
-    pub enumerators: Vec<Enumerator<'a>>,
-}
-
-/// The body of an enumeration that is not declared.
-pub fn enumerator_body<'a>(
-    alloc: Global,
-    image: &Image<'a>,
-    id: EntryId,
-) -> Result<EnumeratorBody<'a>, AllocError>
-    requires { id < length (entries_in image.now) }
-    ensures odd { IfOk result (λ it. it.odd ≡ is_odd image.now id) }
-    ensures enumerators { IfOk result (λ it. map view_enumerator it.enumerators.items ≡ enumerators_in image.now id) }
-    ensures fit { IfOk result (λ it. All HasValue (map view_enumerator it.enumerators.items)) }
-{
-    let children = children_at(alloc, image, id)?;
-    let odd = has_odd_child(image, &children);
-    let enumerators = enumerators_of(alloc, image, &children)?;
-    Ok(EnumeratorBody { odd, enumerators })
 }

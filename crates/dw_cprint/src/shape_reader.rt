@@ -11,7 +11,7 @@ ghost use Rattle.dw_cprint.specs.Legible.{IsAggregate, IsCount};
 ghost use Rattle.dw_cprint.specs.Regular.{IsRegular};
 ghost use Rattle.dw_cprint.specs.Shapes.{view_shape, array, function, Enum};
 
-use crate::body_reader::{enumerator_body, has_child, member_body};
+use crate::body_reader::{enumerators_of, has_child, has_odd_child, members_of};
 use crate::look_ups::{
     children_at, count_at, declared_at, flag_at, has_at, name_at, tag_at, type_at,
 };
@@ -161,8 +161,9 @@ fn aggregate_shape<'a>(
     if declared_at(image, id) {
         return Ok(Shape::Nameless(word));
     }
-    let found = member_body(alloc, image, id)?;
-    Ok(Shape::Body(word, found.odd, found.members))
+    let children = children_at(alloc, image, id)?;
+    let members = members_of(alloc, image, &children)?;
+    Ok(Shape::Body(word, has_odd_child(image, &children), members))
 }
 
 /// The shape of an enumeration.
@@ -181,8 +182,9 @@ fn enumeration_shape<'a>(
     if declared_at(image, id) {
         return Ok(Shape::Nameless(TagKeyword::Enum));
     }
-    let found = enumerator_body(alloc, image, id)?;
-    Ok(Shape::Enumeration(found.odd, found.enumerators))
+    let children = children_at(alloc, image, id)?;
+    let enumerators = enumerators_of(alloc, image, &children)?;
+    Ok(Shape::Enumeration(has_odd_child(image, &children), enumerators))
 }
 
 /// The shape of an entry with a tag.

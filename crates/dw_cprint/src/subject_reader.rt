@@ -7,8 +7,8 @@ ghost use Rattle.dw_cprint.specs.Legible.{IsAggregate};
 ghost use Rattle.dw_cprint.specs.Regular.{IsRegularSubject};
 ghost use Rattle.dw_cprint.specs.Shapes.{view_subject};
 
-use crate::body_reader::{enumerator_body, member_body};
-use crate::look_ups::{declared_at, name_at, tag_at, type_at};
+use crate::body_reader::{enumerators_of, has_odd_child, members_of};
+use crate::look_ups::{children_at, declared_at, name_at, tag_at, type_at};
 use crate::shape::Subject;
 use crate::words::TagKeyword;
 use dw_entries::Tag;
@@ -31,8 +31,9 @@ fn aggregate_subject<'a>(
     if declared_at(image, id) {
         return Ok(Subject::Declared(word, name));
     }
-    let found = member_body(alloc, image, id)?;
-    Ok(Subject::Aggregate(word, name, found.odd, found.members))
+    let children = children_at(alloc, image, id)?;
+    let members = members_of(alloc, image, &children)?;
+    Ok(Subject::Aggregate(word, name, has_odd_child(image, &children), members))
 }
 
 /// An enumeration that is declared to C.
@@ -49,8 +50,9 @@ fn enumeration_subject<'a>(
     if declared_at(image, id) {
         return Ok(Subject::Declared(TagKeyword::Enum, name));
     }
-    let found = enumerator_body(alloc, image, id)?;
-    Ok(Subject::Enumeration(name, found.odd, found.enumerators))
+    let children = children_at(alloc, image, id)?;
+    let enumerators = enumerators_of(alloc, image, &children)?;
+    Ok(Subject::Enumeration(name, has_odd_child(image, &children), enumerators))
 }
 
 /// What is declared at an entry with a tag.
