@@ -2,30 +2,31 @@
 use Rattle.std.proofs.Common.{◌≡◌, ℕ, Bool, true, List, [], ◌∷◌, ◌++◌, Option, Some, None, refl, sym, ap, ◌∙◌, append_assoc}
 use Rattle.std.specs.Prelude.{◌||◌}
 use Rattle.std.proofs.lemmas.List.{append-nil}
+use Rattle.dw_types.specs.Sizes.{has_elements}
 use Rattle.dw_cprint.specs.Terms.{Qualifier, Enum, Term, Void, Named, Basic, Tagged, Body, Enumeration, Qualified, Pointer, Array, Function}
 use Rattle.dw_cprint.specs.Tokens.{Token, Blank, Star, Open, Close, LeftBrace, RightBrace, VoidWord, TagWord, QualifierWord, Identifier, LeftBracket, RightBracket, Number}
 use Rattle.dw_cprint.specs.Writing.{spell, spaced, qualifying, joined, basic, enclosed, count_tokens, constants, signature_tokens, members_tokens}
-use Rattle.dw_cprint.specs.Declarators.{is_there, gap, pointer_row, opened, closed, before, after}
+use Rattle.dw_cprint.specs.Declarators.{gap, pointer_row, opened, closed, before, after}
 
-spaced-gap : (d : List Token) → spaced d ≡ gap (is_there d) ++ d
+spaced-gap : (d : List Token) → spaced d ≡ gap (has_elements d) ++ d
 spaced-gap [] = refl
 spaced-gap (x ∷ d) = refl
 
-there-append : (a b : List Token) → is_there (a ++ b) ≡ is_there a || is_there b
+there-append : (a b : List Token) → has_elements (a ++ b) ≡ has_elements a || has_elements b
 there-append [] b = refl
 there-append (x ∷ a) b = refl
 
-there-row : (qs : List Qualifier) (inside : Bool) → is_there (pointer_row qs inside) ≡ is_there qs
+there-row : (qs : List Qualifier) (inside : Bool) → has_elements (pointer_row qs inside) ≡ has_elements qs
 there-row [] inside = refl
 there-row (q ∷ qs) inside = refl
 
-joined-row : (qs : List Qualifier) (d : List Token) → joined qs d ≡ pointer_row qs (is_there d) ++ d
+joined-row : (qs : List Qualifier) (d : List Token) → joined qs d ≡ pointer_row qs (has_elements d) ++ d
 joined-row [] d = refl
 joined-row (q ∷ qs) d =
     let inner = joined-row qs d in
-    let outer : spaced (joined qs d) ≡ gap (is_there qs || is_there d) ++ (pointer_row qs (is_there d) ++ d) =
-    rw inner (spaced-gap (pointer_row qs (is_there d) ++ d) ∙ rw (there-append (pointer_row qs (is_there d)) d, there-row qs (is_there d)) refl) in
-    ap (λ (u : List Token). QualifierWord q ∷ u) (outer ∙ sym (append_assoc (gap (is_there qs || is_there d)) (pointer_row qs (is_there d)) d))
+    let outer : spaced (joined qs d) ≡ gap (has_elements qs || has_elements d) ++ (pointer_row qs (has_elements d) ++ d) =
+    rw inner (spaced-gap (pointer_row qs (has_elements d) ++ d) ∙ rw (there-append (pointer_row qs (has_elements d)) d, there-row qs (has_elements d)) refl) in
+    ap (λ (u : List Token). QualifierWord q ∷ u) (outer ∙ sym (append_assoc (gap (has_elements qs || has_elements d)) (pointer_row qs (has_elements d)) d))
 
 enclosed-open : (t : Term) (d : List Token) → enclosed t d ≡ opened t ++ (d ++ closed t)
 enclosed-open Void d = sym (append-nil d)
@@ -39,7 +40,7 @@ enclosed-open (Pointer t) d = sym (append-nil d)
 enclosed-open (Array n t) d = refl
 enclosed-open (Function t s) d = refl
 
-there-enclosed : (t : Term) (x : Token) (d : List Token) → is_there (enclosed t (x ∷ d)) ≡ true
+there-enclosed : (t : Term) (x : Token) (d : List Token) → has_elements (enclosed t (x ∷ d)) ≡ true
 there-enclosed Void x d = refl
 there-enclosed (Named name) x d = refl
 there-enclosed (Basic words) x d = refl
@@ -51,32 +52,32 @@ there-enclosed (Pointer t) x d = refl
 there-enclosed (Array n t) x d = refl
 there-enclosed (Function t s) x d = refl
 
-there-behind : (d : List Token) (x : Token) (e : List Token) → is_there (d ++ x ∷ e) ≡ true
+there-behind : (d : List Token) (x : Token) (e : List Token) → has_elements (d ++ x ∷ e) ≡ true
 there-behind [] x e = refl
 there-behind (y ∷ d) x e = refl
 
-there-count : (d : List Token) (n : Option ℕ) → is_there (d ++ count_tokens n) ≡ true
+there-count : (d : List Token) (n : Option ℕ) → has_elements (d ++ count_tokens n) ≡ true
 there-count d None = there-behind d LeftBracket (RightBracket ∷ [])
 there-count d (Some n) = there-behind d LeftBracket (Number n ∷ RightBracket ∷ [])
 
 -- a specifier with a declarator that may be empty
-parts-many : (front core d : List Token) → front ++ (core ++ spaced d) ≡ (front ++ (core ++ gap (is_there d))) ++ (d ++ [])
+parts-many : (front core d : List Token) → front ++ (core ++ spaced d) ≡ (front ++ (core ++ gap (has_elements d))) ++ (d ++ [])
 parts-many front core d = rw (spaced-gap d) (simp (append_assoc, append-nil))
 
-parts-body : (front begin core close d : List Token) → front ++ (begin ++ (core ++ (close ++ spaced d))) ≡ (front ++ (begin ++ (core ++ (close ++ gap (is_there d))))) ++ (d ++ [])
+parts-body : (front begin core close d : List Token) → front ++ (begin ++ (core ++ (close ++ spaced d))) ≡ (front ++ (begin ++ (core ++ (close ++ gap (has_elements d))))) ++ (d ++ [])
 parts-body front begin core close d = rw (spaced-gap d) (simp (append_assoc, append-nil))
 
-pointed : (t : Term) (qs : List Qualifier) (d : List Token) (b : Bool → List Token) (a : List Token) → b (is_there (enclosed t (Star ∷ joined qs d))) ++ (enclosed t (Star ∷ joined qs d) ++ a) ≡ (b true ++ (opened t ++ Star ∷ pointer_row qs (is_there d))) ++ (d ++ (closed t ++ a))
+pointed : (t : Term) (qs : List Qualifier) (d : List Token) (b : Bool → List Token) (a : List Token) → b (has_elements (enclosed t (Star ∷ joined qs d))) ++ (enclosed t (Star ∷ joined qs d) ++ a) ≡ (b true ++ (opened t ++ Star ∷ pointer_row qs (has_elements d))) ++ (d ++ (closed t ++ a))
 pointed t qs d b a = rw (there-enclosed t Star (joined qs d), enclosed-open t (Star ∷ joined qs d), joined-row qs d) (simp append_assoc)
 
-counted : (n : Option ℕ) (b : Bool → List Token) (a d : List Token) → b (is_there (d ++ count_tokens n)) ++ ((d ++ count_tokens n) ++ a) ≡ b true ++ (d ++ (count_tokens n ++ a))
+counted : (n : Option ℕ) (b : Bool → List Token) (a d : List Token) → b (has_elements (d ++ count_tokens n)) ++ ((d ++ count_tokens n) ++ a) ≡ b true ++ (d ++ (count_tokens n ++ a))
 counted n b a d = rw (there-count d n) (simp append_assoc)
 
-called : (b : Bool → List Token) (s a d : List Token) → b (is_there (d ++ Open ∷ (s ++ Close ∷ []))) ++ ((d ++ Open ∷ (s ++ Close ∷ [])) ++ a) ≡ b true ++ (d ++ Open ∷ (s ++ Close ∷ a))
+called : (b : Bool → List Token) (s a d : List Token) → b (has_elements (d ++ Open ∷ (s ++ Close ∷ []))) ++ ((d ++ Open ∷ (s ++ Close ∷ [])) ++ a) ≡ b true ++ (d ++ Open ∷ (s ++ Close ∷ a))
 called b s a d = rw (there-behind d Open (s ++ Close ∷ [])) (simp append_assoc)
 
 -- the text of a type in its parts
-pub in_parts : (qs : List Qualifier) (t : Term) (d : List Token) → spell qs t d ≡ before qs t (is_there d) ++ (d ++ after t)
+pub in_parts : (qs : List Qualifier) (t : Term) (d : List Token) → spell qs t d ≡ before qs t (has_elements d) ++ (d ++ after t)
 in_parts qs Void d = parts-many (qualifying qs) (VoidWord ∷ []) d
 in_parts qs (Named name) d = parts-many (qualifying qs) (Identifier name ∷ []) d
 in_parts qs (Basic words) d = parts-many (qualifying qs) (basic words) d

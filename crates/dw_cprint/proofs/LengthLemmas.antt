@@ -2,8 +2,9 @@
 use Rattle.std.proofs.Common.{◌≡◌, ℕ, ◌+◌, Bool, true, false, List, [], ◌∷◌, ◌++◌, Option, refl, sym, ap, ◌∙◌, length, length-append, append_assoc, arith}
 use Rattle.std.specs.Prelude.{IsTrue, flat_map}
 use Rattle.std.proofs.lemmas.Grind.{flat_map-append}
+use Rattle.dw_types.specs.Sizes.{has_elements}
 use Rattle.dw_cprint.specs.Declarations.{arrays, is_miscounted}
-use Rattle.dw_cprint.specs.Declarators.{is_there, gap, pointer_row, opened, closed, before, after, body_tokens, enumeration_tokens}
+use Rattle.dw_cprint.specs.Declarators.{gap, pointer_row, opened, closed, before, after, body_tokens, enumeration_tokens}
 use Rattle.dw_cprint.specs.Shapes.{Qualifier, TagKeyword}
 use Rattle.dw_cprint.specs.Summaries.{Length, byte_count, counted, gap_bytes, text_bytes, IsLength}
 use Rattle.dw_cprint.specs.Terms.{Enum, TypeWord, Constant, Term, Void, Named, Basic, Tagged, Body, Enumeration, Qualified, Pointer, Array as ArrayTerm, Function, Unprototyped, Prototyped, Parameters, Members}
@@ -21,10 +22,10 @@ count-cons x ts = length-append (spelling x) (text_of ts)
 
 -- ---- a declarator inside
 
-spell-count : (t : Term) (d : List Token) → byte_count (spell [] t d) ≡ text_bytes t (is_there d) + byte_count d
+spell-count : (t : Term) (d : List Token) → byte_count (spell [] t d) ≡ text_bytes t (has_elements d) + byte_count d
 spell-count t d =
     let parts = ap (λ (u : List Token). byte_count u) (in_parts [] t d) in
-    let front = count-append (before [] t (is_there d)) (d ++ after t) in
+    let front = count-append (before [] t (has_elements d)) (d ++ after t) in
     let back = count-append d (after t) in
     omega arith
 

@@ -4,10 +4,11 @@ use Rattle.std.proofs.Common.{sym, ◌∙◌, ap, subst, append_assoc, append-ni
 use Rattle.std.specs.Global.{Global}
 use Rattle.std.specs.Prelude.{is_some, Vec, flat_map, option_map, option_and_then, if◌then◌else◌}
 use Rattle.std.proofs.lemmas.Grind.{flat_map-append}
+use Rattle.dw_types.specs.Sizes.{has_elements}
 use Rattle.dw_cprint.specs.Declarations.{base_term, arrays, is_miscounted, is_misplaced, has_more, constants_of}
 use Rattle.dw_cprint.specs.Declarations.{parameters_by, members_by, term_by, declaration_by, term_at, parts_of}
 use Rattle.dw_cprint.specs.Declarations.{words_of}
-use Rattle.dw_cprint.specs.Declarators.{is_there, gap, pointer_row, opened, before, after, core, body_tokens}
+use Rattle.dw_cprint.specs.Declarators.{gap, pointer_row, opened, before, after, core, body_tokens}
 use Rattle.dw_cprint.specs.Kept.{Writes}
 use Rattle.dw_cprint.specs.Legible.{is_identifier}
 use Rattle.dw_cprint.specs.Shapes.{Qualifier, TagKeyword, Parameter, Name, TypeAt, MemberOf, ShapeOf, base, typedef}
@@ -177,7 +178,7 @@ module _ (term : TypeAt → Option Term) (o : Option Term) (old new : List ℕ) 
 
 -- ---- a type with a name inside
 
-there-name : (name : Name) → is_there (name_tokens name) ≡ is_some name
+there-name : (name : Name) → has_elements (name_tokens name) ≡ is_some name
 there-name None = refl
 there-name (Some name) = refl
 

@@ -1,15 +1,11 @@
 -- State: the text of a type in two parts: before its declarator, and after it.
 use Rattle.std.specs.Prelude.{Bool, true, false, ◌||◌, List, [], ◌∷◌, ◌++◌}
+use Rattle.dw_types.specs.Sizes.{has_elements}
 use Rattle.dw_cprint.specs.Terms.{Qualifier, Enum, Constant, Members, Term, Void, Named, Basic, Tagged, Body}
 use Rattle.dw_cprint.specs.Terms.{Enumeration, Qualified, Pointer, Array, Function}
 use Rattle.dw_cprint.specs.Tokens.{Token, Blank, Star, Open, Close, LeftBrace, RightBrace, VoidWord, TagWord}
 use Rattle.dw_cprint.specs.Tokens.{QualifierWord, Identifier}
 use Rattle.dw_cprint.specs.Writing.{qualifying, basic, count_tokens, constants, signature_tokens, members_tokens}
-
--- a declarator is not empty
-abbrev pub is_there : {A : Type 0} → List A → Bool
-is_there [] = false
-is_there (x ∷ xs) = true
 
 -- a space, where a declarator that is not empty stands inside
 abbrev pub gap : Bool → List Token
@@ -19,7 +15,7 @@ gap true = Blank ∷ []
 -- the qualifiers of a pointer, joined by spaces, and one behind them where a declarator follows
 abbrev pub pointer_row : List Qualifier → Bool → List Token
 pointer_row [] inside = []
-pointer_row (q ∷ qs) inside = QualifierWord q ∷ (gap (is_there qs || inside) ++ pointer_row qs inside)
+pointer_row (q ∷ qs) inside = QualifierWord q ∷ (gap (has_elements qs || inside) ++ pointer_row qs inside)
 
 -- the parenthesis before the star of a pointer to t: an array's or a function's brackets would bind before the star
 abbrev pub opened : Term → List Token

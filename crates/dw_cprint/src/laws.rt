@@ -14,7 +14,8 @@ ghost use Rattle.dw_cprint.specs.declared.fault.PrintFault.{PrintFault};
 ghost use Rattle.dw_image.specs.declared.image.Image.{Image as ImageOf};
 ghost use Rattle.dw_image.specs.Images.{entries_in, steps_in};
 ghost use Rattle.dw_cprint.specs.LookUps.{type_at};
-ghost use Rattle.dw_cprint.specs.Declarators.{before, after, is_there};
+ghost use Rattle.dw_types.specs.Sizes.{has_elements};
+ghost use Rattle.dw_cprint.specs.Declarators.{before, after};
 ghost use Rattle.dw_cprint.specs.Legible.{IsDeclaration};
 ghost use Rattle.dw_cprint.specs.Reading.{read};
 ghost use Rattle.dw_cprint.specs.Terms.{Declaration, Qualifier, Term};
@@ -30,7 +31,7 @@ pub fn one_reading()
 /// The text of a type is what is before its declarator, the declarator, and what is after it.
 pub fn text_in_parts()
     ensures { (qs : List Qualifier) (t : Term) (d : List Token)
-        → spell qs t d ≡ before qs t (is_there d) ++ (d ++ after t) }
+        → spell qs t d ≡ before qs t (has_elements d) ++ (d ++ after t) }
 {}
 
 /// The types that an entry of an image has, and that its shape names, are entries.
