@@ -24,9 +24,12 @@ joined-row : (qs : List Qualifier) (d : List Token) → joined qs d ≡ pointer_
 joined-row [] d = refl
 joined-row (q ∷ qs) d =
     let inner = joined-row qs d in
-    let outer : spaced (joined qs d) ≡ gap (has_elements qs || has_elements d) ++ (pointer_row qs (has_elements d) ++ d) =
-    rw inner (spaced-gap (pointer_row qs (has_elements d) ++ d) ∙ rw (there-append (pointer_row qs (has_elements d)) d, there-row qs (has_elements d)) refl) in
-    ap (λ (u : List Token). QualifierWord q ∷ u) (outer ∙ sym (append_assoc (gap (has_elements qs || has_elements d)) (pointer_row qs (has_elements d)) d))
+    let outer : spaced (joined qs d)
+    ≡ gap (has_elements qs || has_elements d) ++ (pointer_row qs (has_elements d) ++ d) =
+    rw inner (spaced-gap (pointer_row qs (has_elements d) ++ d)
+    ∙ rw (there-append (pointer_row qs (has_elements d)) d, there-row qs (has_elements d)) refl) in
+    ap (λ (u : List Token). QualifierWord q ∷ u) (outer
+    ∙ sym (append_assoc (gap (has_elements qs || has_elements d)) (pointer_row qs (has_elements d)) d))
 
 enclosed-open : (t : Term) (d : List Token) → enclosed t d ≡ opened t ++ (d ++ closed t)
 enclosed-open Void d = sym (append-nil d)
@@ -61,23 +64,32 @@ there-count d None = there-behind d LeftBracket (RightBracket ∷ [])
 there-count d (Some n) = there-behind d LeftBracket (Number n ∷ RightBracket ∷ [])
 
 -- a specifier with a declarator that may be empty
-parts-many : (front core d : List Token) → front ++ (core ++ spaced d) ≡ (front ++ (core ++ gap (has_elements d))) ++ (d ++ [])
+parts-many : (front core d : List Token)
+    → front ++ (core ++ spaced d) ≡ (front ++ (core ++ gap (has_elements d))) ++ (d ++ [])
 parts-many front core d = rw (spaced-gap d) (simp (append_assoc, append-nil))
 
-parts-body : (front begin core close d : List Token) → front ++ (begin ++ (core ++ (close ++ spaced d))) ≡ (front ++ (begin ++ (core ++ (close ++ gap (has_elements d))))) ++ (d ++ [])
+parts-body : (front begin core close d : List Token)
+    → front ++ (begin ++ (core ++ (close ++ spaced d)))
+    ≡ (front ++ (begin ++ (core ++ (close ++ gap (has_elements d))))) ++ (d ++ [])
 parts-body front begin core close d = rw (spaced-gap d) (simp (append_assoc, append-nil))
 
-pointed : (t : Term) (qs : List Qualifier) (d : List Token) (b : Bool → List Token) (a : List Token) → b (has_elements (enclosed t (Star ∷ joined qs d))) ++ (enclosed t (Star ∷ joined qs d) ++ a) ≡ (b true ++ (opened t ++ Star ∷ pointer_row qs (has_elements d))) ++ (d ++ (closed t ++ a))
+pointed : (t : Term) (qs : List Qualifier) (d : List Token) (b : Bool → List Token) (a : List Token)
+    → b (has_elements (enclosed t (Star ∷ joined qs d))) ++ (enclosed t (Star ∷ joined qs d) ++ a)
+    ≡ (b true ++ (opened t ++ Star ∷ pointer_row qs (has_elements d))) ++ (d ++ (closed t ++ a))
 pointed t qs d b a = rw (there-enclosed t Star (joined qs d), enclosed-open t (Star ∷ joined qs d), joined-row qs d) (simp append_assoc)
 
-counted : (n : Option ℕ) (b : Bool → List Token) (a d : List Token) → b (has_elements (d ++ count_tokens n)) ++ ((d ++ count_tokens n) ++ a) ≡ b true ++ (d ++ (count_tokens n ++ a))
+counted : (n : Option ℕ) (b : Bool → List Token) (a d : List Token)
+    → b (has_elements (d ++ count_tokens n)) ++ ((d ++ count_tokens n) ++ a) ≡ b true ++ (d ++ (count_tokens n ++ a))
 counted n b a d = rw (there-count d n) (simp append_assoc)
 
-called : (b : Bool → List Token) (s a d : List Token) → b (has_elements (d ++ Open ∷ (s ++ Close ∷ []))) ++ ((d ++ Open ∷ (s ++ Close ∷ [])) ++ a) ≡ b true ++ (d ++ Open ∷ (s ++ Close ∷ a))
+called : (b : Bool → List Token) (s a d : List Token)
+    → b (has_elements (d ++ Open ∷ (s ++ Close ∷ []))) ++ ((d ++ Open ∷ (s ++ Close ∷ [])) ++ a)
+    ≡ b true ++ (d ++ Open ∷ (s ++ Close ∷ a))
 called b s a d = rw (there-behind d Open (s ++ Close ∷ [])) (simp append_assoc)
 
 -- the text of a type in its parts
-pub in_parts : (qs : List Qualifier) (t : Term) (d : List Token) → spell qs t d ≡ before qs t (has_elements d) ++ (d ++ after t)
+pub in_parts : (qs : List Qualifier) (t : Term) (d : List Token)
+    → spell qs t d ≡ before qs t (has_elements d) ++ (d ++ after t)
 in_parts qs Void d = parts-many (qualifying qs) (VoidWord ∷ []) d
 in_parts qs (Named name) d = parts-many (qualifying qs) (Identifier name ∷ []) d
 in_parts qs (Basic words) d = parts-many (qualifying qs) (basic words) d

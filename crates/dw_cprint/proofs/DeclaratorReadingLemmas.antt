@@ -28,7 +28,8 @@ qualified (q ∷ qs) t = Qualified q (qualified qs t)
 -- The declarator d reads as this name and shape, where it ends,
 abbrev pub Ends : List Token → Option (List ℕ) → Shape → Type 0
 Ends d name shape = (q p : Shape) (place : Place) (end : End) (r : List Token)
-    → checked false (Inside q p place) (d ++ (end_tokens end ++ r)) ≡ checked false (finished end name (λ t. shape (q (p t))) place) r
+    → checked false (Inside q p place) (d ++ (end_tokens end ++ r))
+    ≡ checked false (finished end name (λ t. shape (q (p t))) place) r
 
 -- where an array or a function goes on,
 abbrev pub bracket : Bool → Token
@@ -37,7 +38,8 @@ bracket false = Open
 
 abbrev pub GoesOn : List Token → Option (List ℕ) → Shape → Type 0
 GoesOn d name shape = (q p : Shape) (place : Place) (square : Bool) (r : List Token)
-    → checked false (Inside q p place) (d ++ bracket square ∷ r) ≡ checked false (behind name (λ t. q (p t)) shape place (bracket square)) r
+    → checked false (Inside q p place) (d ++ bracket square ∷ r)
+    ≡ checked false (behind name (λ t. q (p t)) shape place (bracket square)) r
 
 -- and wherever it stands.
 abbrev pub Closed : List Token → Option (List ℕ) → Shape → Type 0
@@ -45,7 +47,8 @@ Closed d name shape = (q p : Shape) (place : Place) (r : List Token)
     → checked false (Inside q p place) (d ++ r) ≡ checked false (Behind name (λ t. q (p t)) shape place) r
 
 closed_end : (name : Option (List ℕ)) (p s : Shape) (place : Place) (end : End) (r : List Token)
-    → checked false (Behind name p s place) (end_tokens end ++ r) ≡ checked false (finished end name (λ t. s (p t)) place) r
+    → checked false (Behind name p s place) (end_tokens end ++ r)
+    ≡ checked false (finished end name (λ t. s (p t)) place) r
 closed_end name p s place AtClose r = refl
 closed_end name p s place AtComma r = refl
 closed_end name p s place AtSemicolon r = refl
@@ -70,7 +73,8 @@ goes_on_nothing q p place true r = refl
 goes_on_nothing q p place false r = refl
 
 named_end : (name : List ℕ) (q p : Shape) (place : Place) (end : End) (r : List Token)
-    → checked true (Behind (Some name) (λ t. q (p t)) same place) (end_tokens end ++ r) ≡ checked false (finished end (Some name) (λ t. q (p t)) place) r
+    → checked true (Behind (Some name) (λ t. q (p t)) same place) (end_tokens end ++ r)
+    ≡ checked false (finished end (Some name) (λ t. q (p t)) place) r
 named_end name q p place AtClose r = refl
 named_end name q p place AtComma r = refl
 named_end name q p place AtSemicolon r = refl
@@ -90,12 +94,14 @@ Stands (Array n t) d name shape = GoesOn d name shape
 Stands (Function t signature) d name shape = GoesOn d name shape
 Stands _ d name shape = Ends d name shape
 
-pub stands_closed : (t : Term) (d : List Token) (name : Option (List ℕ)) (shape : Shape) → Closed d name shape → Stands t d name shape
+pub stands_closed : (t : Term) (d : List Token) (name : Option (List ℕ)) (shape : Shape) → Closed d name shape
+    → Stands t d name shape
 stands_closed (Array n t) d name shape h = goes_on_closed d name shape h
 stands_closed (Function t signature) d name shape h = goes_on_closed d name shape h
 stands_closed _ d name shape h = ends_closed d name shape h
 
-stands_both : (t : Term) (d : List Token) (name : Option (List ℕ)) (shape : Shape) → Ends d name shape → GoesOn d name shape → Stands t d name shape
+stands_both : (t : Term) (d : List Token) (name : Option (List ℕ)) (shape : Shape) → Ends d name shape
+    → GoesOn d name shape → Stands t d name shape
 stands_both (Array n t) d name shape h g = g
 stands_both (Function t signature) d name shape h g = g
 stands_both _ d name shape h g = h
@@ -108,7 +114,8 @@ stands_name t None h = stands_nothing t
 stands_name t (Some name) h = stands_both t (Identifier name ∷ []) (Some name) same (ends_name name h) (goes_on_name name h)
 
 -- what is qualified is no array and no function
-pub stands_qualifiable : (t : Term) (d : List Token) (name : Option (List ℕ)) (shape : Shape) → IsQualifiable t → Ends d name shape → Stands t d name shape
+pub stands_qualifiable : (t : Term) (d : List Token) (name : Option (List ℕ)) (shape : Shape) → IsQualifiable t
+    → Ends d name shape → Stands t d name shape
 stands_qualifiable (Array n t) d name shape h e = absurd h
 stands_qualifiable (Function t signature) d name shape h e = absurd h
 stands_qualifiable _ d name shape h e = e
@@ -120,7 +127,8 @@ closed_group d name shape h q p place r =
     ap (λ (ts : List Token). checked false (Inside same (λ t. Pointer t) inner) ts) (append_assoc d (Close ∷ []) r)
     ∙ h same same inner AtClose r
 
-pub closed_count : (n : Option ℕ) (d : List Token) (name : Option (List ℕ)) (shape : Shape) → IsCount n → GoesOn d name shape
+pub closed_count : (n : Option ℕ) (d : List Token) (name : Option (List ℕ)) (shape : Shape) → IsCount n
+    → GoesOn d name shape
     → Closed (d ++ count_tokens n) name (λ t. shape (Array n t))
 closed_count None d name shape c h q p place r =
     ap (λ (ts : List Token). checked false (Inside q p place) ts) (append_assoc d (count_tokens None) r)
@@ -136,7 +144,8 @@ ReadsSignature signature = (name : Option (List ℕ)) (p s : Shape) (place : Pla
     → checked false (Before same (OfFirst name p s place)) (signature_tokens signature ++ Close ∷ r)
     ≡ checked false (Behind name p (λ t. s (Function t signature)) place) r
 
-pub closed_signature : (signature : Signature) (d : List Token) (name : Option (List ℕ)) (shape : Shape) → ReadsSignature signature → GoesOn d name shape
+pub closed_signature : (signature : Signature) (d : List Token) (name : Option (List ℕ)) (shape : Shape)
+    → ReadsSignature signature → GoesOn d name shape
     → Closed (d ++ Open ∷ (signature_tokens signature ++ Close ∷ [])) name (λ t. shape (Function t signature))
 closed_signature signature d name shape reads h q p place r =
     ap (λ (ts : List Token). checked false (Inside q p place) ts) (append_assoc d (Open ∷ (signature_tokens signature ++ Close ∷ [])) r)
@@ -148,7 +157,8 @@ closed_signature signature d name shape reads h q p place r =
 
 -- a space before a declarator changes nothing
 spaced_end : (d : List Token) (touching : Bool) (q p : Shape) (place : Place) (end : End) (r : List Token)
-    → checked touching (Inside q p place) (spaced d ++ (end_tokens end ++ r)) ≡ checked false (Inside q p place) (d ++ (end_tokens end ++ r))
+    → checked touching (Inside q p place) (spaced d ++ (end_tokens end ++ r))
+    ≡ checked false (Inside q p place) (d ++ (end_tokens end ++ r))
 spaced_end [] touching q p place AtClose r = refl
 spaced_end [] touching q p place AtComma r = refl
 spaced_end [] touching q p place AtSemicolon r = refl
@@ -158,13 +168,15 @@ spaced_end (t ∷ ts) touching q p place end r = refl
 -- after the type that a declarator stands around
 pub core_end : (d : List Token) (name : Option (List ℕ)) (shape : Shape) → Ends d name shape
     → (touching : Bool) (q : Shape) (t : Term) (place : Place) (end : End) (r : List Token)
-    → checked touching (Inside same same (After q t place)) (spaced d ++ (end_tokens end ++ r)) ≡ checked false (ended end name (shape (q t)) place) r
+    → checked touching (Inside same same (After q t place)) (spaced d ++ (end_tokens end ++ r))
+    ≡ checked false (ended end name (shape (q t)) place) r
 core_end d name shape h touching q t place end r =
     spaced_end d touching same same (After q t place) end r ∙ h same same (After q t place) end r
 
 joined_end : (qs : List Qualifier) (d : List Token) (name : Option (List ℕ)) (shape : Shape) → Ends d name shape
     → (q p : Shape) (place : Place) (end : End) (r : List Token)
-    → checked false (Inside q p place) (joined qs d ++ (end_tokens end ++ r)) ≡ checked false (finished end name (λ t. shape (q (qualified qs (p t)))) place) r
+    → checked false (Inside q p place) (joined qs d ++ (end_tokens end ++ r))
+    ≡ checked false (finished end name (λ t. shape (q (qualified qs (p t)))) place) r
 joined_end [] d name shape h q p place end r = h q p place end r
 joined_end (x ∷ qs) d name shape h q p place end r =
     spaced_end (joined qs d) true (λ t. q (Qualified x t)) p place end r
@@ -187,17 +199,20 @@ qualifying_read (x ∷ qs) q place r = qualifying_read qs (λ t. q (Qualified x 
 
 -- the qualifiers before the tokens ts of a type
 pub after_qualifiers : (qs : List Qualifier) (place : Place) (ts r : List Token)
-    → checked false (Before same place) ((qualifying qs ++ ts) ++ r) ≡ checked false (Before (qualified qs) place) (ts ++ r)
+    → checked false (Before same place) ((qualifying qs ++ ts) ++ r)
+    ≡ checked false (Before (qualified qs) place) (ts ++ r)
 after_qualifiers qs place ts r =
     ap (λ (us : List Token). checked false (Before same place) us) (append_assoc (qualifying qs) ts r)
     ∙ qualifying_read qs same place (ts ++ r)
 
-pub qualified-snoc : (qs : List Qualifier) (x : Qualifier) (t : Term) → qualified (qs ++ x ∷ []) t ≡ qualified qs (Qualified x t)
+pub qualified-snoc : (qs : List Qualifier) (x : Qualifier) (t : Term)
+    → qualified (qs ++ x ∷ []) t ≡ qualified qs (Qualified x t)
 qualified-snoc [] x t = refl
 qualified-snoc (q ∷ qs) x t = ap (Qualified q) (qualified-snoc qs x t)
 
 -- further words of a basic type
-pub words_read : (words : List TypeWord) (before : List TypeWord) (q : Shape) (place : Place) (d : List Token) (name : Option (List ℕ)) (shape : Shape)
+pub words_read : (words : List TypeWord) (before : List TypeWord) (q : Shape) (place : Place) (d : List Token)
+    (name : Option (List ℕ)) (shape : Shape)
     → Ends d name shape → (end : End) (r : List Token)
     → checked true (Inside same same (After q (Basic before) place)) (spaced (basic words) ++ (spaced d ++ (end_tokens end ++ r)))
     ≡ checked false (ended end name (shape (q (Basic (before ++ words)))) place) r

@@ -47,7 +47,8 @@ module _ (P : TypeAt → Type 0) (void : P None) where
   head_of None ats h = void
   head_of (Some n) ats h = h n (among_here n (entries_of ats))
 
-  pub rest_of : (at : TypeAt) (ats : List TypeAt) → ((n : ℕ) → Contains (entries_of (at ∷ ats)) n → P (Some n)) → (n : ℕ) → Contains (entries_of ats) n → P (Some n)
+  pub rest_of : (at : TypeAt) (ats : List TypeAt) → ((n : ℕ) → Contains (entries_of (at ∷ ats)) n → P (Some n))
+      → (n : ℕ) → Contains (entries_of ats) n → P (Some n)
   rest_of None ats h = h
   rest_of (Some m) ats h = λ n c. h n (among_there m n (entries_of ats) c)
 
@@ -71,7 +72,8 @@ base_some : (name : Name) (term : TypeAt → Option Term) → (LacksBaseName nam
 base_some None term h = absurd (h tt)
 base_some (Some n) term h = by_name (is_identifier n) (words_of 4 (parts_of n)) (not_false (is_base_name n) h)
   where
-    by_name : (b : Bool) (o : Option (List TypeWord)) → (b || is_some o) ≡ true → IsSome (if b then Some (Named n) else option_map Basic o)
+    by_name : (b : Bool) (o : Option (List TypeWord)) → (b || is_some o) ≡ true
+        → IsSome (if b then Some (Named n) else option_map Basic o)
     by_name true o h = refl
     by_name false None h = absurd (cc)
     by_name false (Some ws) h = refl
@@ -79,7 +81,8 @@ base_some (Some n) term h = by_name (is_identifier n) (words_of 4 (parts_of n)) 
 pub base_is : (n : List ℕ) (t : Term) → base_term n ≡ Some t → IsBaseTerm t
 base_is n t e = by_name (is_identifier n) refl (words_of 4 (parts_of n)) refl e
   where
-    by_name : (b : Bool) → is_identifier n ≡ b → (o : Option (List TypeWord)) → words_of 4 (parts_of n) ≡ o → (if b then Some (Named n) else option_map Basic o) ≡ Some t → IsBaseTerm t
+    by_name : (b : Bool) → is_identifier n ≡ b → (o : Option (List TypeWord)) → words_of 4 (parts_of n) ≡ o
+        → (if b then Some (Named n) else option_map Basic o) ≡ Some t → IsBaseTerm t
     by_name true i o w e =
         let same : Named n ≡ t = cc in
         subst IsBaseTerm same (record { legible = i; present = tt; qualifiable = tt })
@@ -105,7 +108,8 @@ value_some e h = by_value e.value h
     by_value None h = absurd (h refl)
     by_value (Some v) h = refl
 
-pub constants_some : (es : List EnumeratorOf) → (HasWrongEnumeratorName es → ⊥) → (list_any lacks_value es ≡ true → ⊥) → IsSome (constants_of es)
+pub constants_some : (es : List EnumeratorOf) → (HasWrongEnumeratorName es → ⊥) → (list_any lacks_value es ≡ true → ⊥)
+    → IsSome (constants_of es)
 constants_some [] named valued = refl
 constants_some (e ∷ es) named valued =
     let rest = constants_some es
@@ -121,20 +125,23 @@ module _ (term : TypeAt → Option Term) (void : IsSome (term None)) where
   abbrev pub HasTerm : TypeAt → Type 0
   HasTerm at = IsSome (term at)
 
-  parameters_some : (ps : List Parameter) → ((n : ℕ) → Contains (entries_of (parameter_types ps)) n → HasTerm (Some n)) → IsSome (parameters_by term ps)
+  parameters_some : (ps : List Parameter) → ((n : ℕ) → Contains (entries_of (parameter_types ps)) n → HasTerm (Some n))
+      → IsSome (parameters_by term ps)
   parameters_some [] h = refl
   parameters_some (Typed at ∷ ps) h =
       then_some (λ (t : Term). option_map (ParameterTerm t) (parameters_by term ps)) (term at) (head_of HasTerm void at (parameter_types ps) h)
       (λ t. map_some (ParameterTerm t) (parameters_by term ps) (parameters_some ps (rest_of HasTerm void at (parameter_types ps) h)))
   parameters_some (More ∷ ps) h = parameters_some ps h
 
-  pub members_some : (ms : List MemberOf) → ((n : ℕ) → Contains (entries_of (member_types ms)) n → HasTerm (Some n)) → IsSome (members_by term ms)
+  pub members_some : (ms : List MemberOf) → ((n : ℕ) → Contains (entries_of (member_types ms)) n → HasTerm (Some n))
+      → IsSome (members_by term ms)
   members_some [] h = refl
   members_some (m ∷ ms) h =
       then_some (λ (t : Term). option_map (MemberTerm m.name t (bits_of m.bits)) (members_by term ms)) (term m.type_at) (head_of HasTerm void m.type_at (member_types ms) h)
       (λ t. map_some (MemberTerm m.name t (bits_of m.bits)) (members_by term ms) (members_some ms (rest_of HasTerm void m.type_at (member_types ms) h)))
 
-  shape_some : (shapes : ℕ → ShapeOf) (s : ShapeOf) → IsFine shapes s → ((n : ℕ) → Contains (entries_of (types_reached s)) n → HasTerm (Some n)) → IsSome (term_by term s)
+  shape_some : (shapes : ℕ → ShapeOf) (s : ShapeOf) → IsFine shapes s
+      → ((n : ℕ) → Contains (entries_of (types_reached s)) n → HasTerm (Some n)) → IsSome (term_by term s)
   shape_some shapes (base name) fine h = base_some name term fine.named
   shape_some shapes (typedef None) fine h = absurd (fine.named tt)
   shape_some shapes (typedef (Some n)) fine h = refl
@@ -160,7 +167,8 @@ pub record AreKept (shapes : ℕ → ShapeOf) (Good : ℕ → Type 0) : Type 0 w
   pub fine : (entry : ℕ) → Good entry → IsFine shapes (shapes entry)
   pub on : (from to : ℕ) → Good from → Contains (steps_reached shapes from) to → Good to
 
-pub entry_some : (shapes : ℕ → ShapeOf) (Good : ℕ → Type 0) → AreKept shapes Good → (k n : ℕ) → Good n → ((to : ℕ) → Leads shapes k n to → ⊥) → IsSome (term_at (suc k) shapes (Some n))
+pub entry_some : (shapes : ℕ → ShapeOf) (Good : ℕ → Type 0) → AreKept shapes Good → (k n : ℕ) → Good n
+    → ((to : ℕ) → Leads shapes k n to → ⊥) → IsSome (term_at (suc k) shapes (Some n))
 entry_some shapes Good kept zero n good none = absurd (none n refl)
 entry_some shapes Good kept (suc k) n good none =
     shape_some (term_at (suc k) shapes) refl shapes (shapes n) (kept.fine n good)

@@ -18,27 +18,35 @@ use Rattle.dw_cprint.proofs.OptionLemmas.{map_inverted, then_inverted}
 use Rattle.dw_cprint.proofs.WriterLemmas.{both, text-append}
 
 -- what is left of a list, one item on
-pub next-of : {X Y : Type 0} (f : X → Y) (xs : List X) (i : ℕ) (d : X) → i < length xs → map f (drop i xs) ≡ f (get_or xs i d) ∷ map f (drop (i + 1) xs)
+pub next-of : {X Y : Type 0} (f : X → Y) (xs : List X) (i : ℕ) (d : X) → i < length xs
+    → map f (drop i xs) ≡ f (get_or xs i d) ∷ map f (drop (i + 1) xs)
 next-of f xs i d within = rw (drop_more xs i d within) refl
 
 -- the members that are left are still to be written
-pub record MembersLeft (term : TypeAt → Option Term) (all : List MemberOf) (old : List ℕ) (left : List MemberOf) (out : List ℕ) : Type 0 where
-  pub rest : (us : Members) → members_by term all ≡ Some us → (vs : Members) × (members_by term left ≡ Some vs) × (out ++ text_of (members_tokens vs) ≡ old ++ text_of (members_tokens us))
+pub record MembersLeft (term : TypeAt → Option Term) (all : List MemberOf) (old : List ℕ) (left : List MemberOf)
+    (out : List ℕ) : Type 0 where
+  pub rest : (us : Members) → members_by term all ≡ Some us
+      → (vs : Members) × (members_by term left ≡ Some vs)
+      × (out ++ text_of (members_tokens vs) ≡ old ++ text_of (members_tokens us))
 
 member-tokens : (name : Name) (t : Term) (bits : Option ℕ) (us : Members)
-    → (spell [] t (name_tokens name) ++ (bits_tokens bits ++ Semicolon ∷ Blank ∷ [])) ++ members_tokens us ≡ members_tokens (MemberTerm name t bits us)
+    → (spell [] t (name_tokens name) ++ (bits_tokens bits ++ Semicolon ∷ Blank ∷ [])) ++ members_tokens us
+    ≡ members_tokens (MemberTerm name t bits us)
 member-tokens name t bits us =
     append_assoc (spell [] t (name_tokens name)) (bits_tokens bits ++ Semicolon ∷ Blank ∷ []) (members_tokens us)
     ∙ ap (λ (u : List Token). spell [] t (name_tokens name) ++ u) (append_assoc (bits_tokens bits) (Semicolon ∷ Blank ∷ []) (members_tokens us))
 
 -- what is written is followed by the same rest
-moved : (a rest whole : List Token) (old out out' all : List ℕ) → Writes a out out' → a ++ rest ≡ whole → out ++ text_of whole ≡ old ++ all → out' ++ text_of rest ≡ old ++ all
+moved : (a rest whole : List Token) (old out out' all : List ℕ) → Writes a out out' → a ++ rest ≡ whole
+    → out ++ text_of whole ≡ old ++ all → out' ++ text_of rest ≡ old ++ all
 moved a rest whole old out out' all h parts so_far =
     ap (λ (u : List ℕ). u ++ text_of rest) h ∙ append_assoc out (text_of a) (text_of rest) ∙ ap (λ (u : List ℕ). out ++ u) (sym (text-append a rest))
     ∙ ap (λ (u : List Token). out ++ text_of u) parts ∙ so_far
 
-pub members_next : (term : TypeAt → Option Term) (all : List MemberOf) (m : MemberOf) (left : List MemberOf) (old out out' : List ℕ)
-    → MembersLeft term all old (m ∷ left) out → ((t : Term) → term m.type_at ≡ Some t → Writes (spell [] t (name_tokens m.name) ++ (bits_tokens (bits_of m.bits) ++ Semicolon ∷ Blank ∷ [])) out out')
+pub members_next : (term : TypeAt → Option Term) (all : List MemberOf) (m : MemberOf) (left : List MemberOf)
+    (old out out' : List ℕ)
+    → MembersLeft term all old (m ∷ left) out
+    → ((t : Term) → term m.type_at ≡ Some t → Writes (spell [] t (name_tokens m.name) ++ (bits_tokens (bits_of m.bits) ++ Semicolon ∷ Blank ∷ [])) out out')
     → MembersLeft term all old left out'
 members_next term all m left old out out' so_far written = record {
   rest = λ us e.
@@ -53,8 +61,11 @@ members_next term all m left old out out' so_far written = record {
 }
 
 -- the enumerators that are left are still to be written
-pub record EnumeratorsLeft (all : List EnumeratorOf) (old : List ℕ) (left : List EnumeratorOf) (out : List ℕ) : Type 0 where
-  pub rest : (us : List Constant) → constants_of all ≡ Some us → (vs : List Constant) × (constants_of left ≡ Some vs) × (out ++ text_of (more_constants vs) ≡ old ++ text_of (more_constants us))
+pub record EnumeratorsLeft (all : List EnumeratorOf) (old : List ℕ) (left : List EnumeratorOf)
+    (out : List ℕ) : Type 0 where
+  pub rest : (us : List Constant) → constants_of all ≡ Some us
+      → (vs : List Constant) × (constants_of left ≡ Some vs)
+      × (out ++ text_of (more_constants vs) ≡ old ++ text_of (more_constants us))
 
 -- the constants of one enumerator more
 record IsMoreConstants (x : EnumeratorOf) (es : List EnumeratorOf) (cs : List Constant) : Type 0 where
@@ -66,7 +77,8 @@ record IsMoreConstants (x : EnumeratorOf) (es : List EnumeratorOf) (cs : List Co
   pub are_others : constants_of es ≡ Some others
   pub is : Valued name value ∷ others ≡ cs
 
-more-constants : (x : EnumeratorOf) (es : List EnumeratorOf) (cs : List Constant) → constants_of (x ∷ es) ≡ Some cs → IsMoreConstants x es cs
+more-constants : (x : EnumeratorOf) (es : List EnumeratorOf) (cs : List Constant) → constants_of (x ∷ es) ≡ Some cs
+    → IsMoreConstants x es cs
 more-constants x es cs e =
     let rest = constants_of es in
     let name = then_inverted (λ (name : List ℕ). option_and_then (λ (value : ℤ). option_map (λ (cs : List Constant). Valued name value ∷ cs) rest) x.value) x.name cs e in
@@ -78,7 +90,8 @@ more-constants x es cs e =
 abbrev WritesOne : EnumeratorOf → List ℕ → List ℕ → Type 0
 WritesOne x old new = (name : List ℕ) (value : ℤ) → x.name ≡ Some name → x.value ≡ Some value → Writes (constant (Valued name value)) old new
 
-pub enumerators_next : (all : List EnumeratorOf) (x : EnumeratorOf) (left : List EnumeratorOf) (old out mid out' : List ℕ) → EnumeratorsLeft all old (x ∷ left) out → mid ≡ out ++ 44 ∷ 32 ∷ []
+pub enumerators_next : (all : List EnumeratorOf) (x : EnumeratorOf) (left : List EnumeratorOf)
+    (old out mid out' : List ℕ) → EnumeratorsLeft all old (x ∷ left) out → mid ≡ out ++ 44 ∷ 32 ∷ []
     → WritesOne x mid out' → EnumeratorsLeft all old left out'
 enumerators_next all x left old out mid out' so_far comma written = record {
   rest = λ us e.
@@ -91,8 +104,10 @@ enumerators_next all x left old out mid out' so_far comma written = record {
       );
 }
 
-pub enumerators_done : (x : EnumeratorOf) (others : List EnumeratorOf) (begin mid old out new : List ℕ) → mid ≡ begin ++ 123 ∷ 32 ∷ [] → WritesOne x mid old → EnumeratorsLeft others old [] out
-    → new ≡ out ++ 32 ∷ 125 ∷ [] → (cs : List Constant) → constants_of (x ∷ others) ≡ Some cs → Writes (enumeration_tokens cs) begin new
+pub enumerators_done : (x : EnumeratorOf) (others : List EnumeratorOf) (begin mid old out new : List ℕ)
+    → mid ≡ begin ++ 123 ∷ 32 ∷ [] → WritesOne x mid old → EnumeratorsLeft others old [] out
+    → new ≡ out ++ 32 ∷ 125 ∷ [] → (cs : List Constant) → constants_of (x ∷ others) ≡ Some cs
+    → Writes (enumeration_tokens cs) begin new
 enumerators_done x others begin mid old out new opens first left closes cs e =
     let m = more-constants x others cs e in
     let r = left.rest m.others m.are_others in
@@ -109,16 +124,19 @@ abbrev pub following : Parameters → List Parameter → List Token
 following us ps = more_parameters us ++ ellipsis (has_more ps)
 
 -- the parameters that are left are still to be written
-pub record ParametersLeft (term : TypeAt → Option Term) (all : List Parameter) (old : List ℕ) (left : List Parameter) (out : List ℕ) : Type 0 where
+pub record ParametersLeft (term : TypeAt → Option Term) (all : List Parameter) (old : List ℕ) (left : List Parameter)
+    (out : List ℕ) : Type 0 where
   pub rest : is_cut_short all ≡ false → (us : Parameters) → parameters_by term all ≡ Some us
-      → (vs : Parameters) × (is_cut_short left ≡ false) × (parameters_by term left ≡ Some vs) × (out ++ text_of (following vs left) ≡ old ++ text_of (following us all))
+      → (vs : Parameters) × (is_cut_short left ≡ false) × (parameters_by term left ≡ Some vs)
+      × (out ++ text_of (following vs left) ≡ old ++ text_of (following us all))
 
 -- a parameter is written
 abbrev WritesItem : (TypeAt → Option Term) → Parameter → List ℕ → List ℕ → Type 0
 WritesItem term (Typed at) old new = (t : Term) → term at ≡ Some t → Writes (spell [] t []) old new
 WritesItem term More old new = Writes (Dot ∷ Dot ∷ Dot ∷ []) old new
 
-pub parameters_next : (term : TypeAt → Option Term) (all : List Parameter) (p : Parameter) (left : List Parameter) (old out mid out' : List ℕ) → ParametersLeft term all old (p ∷ left) out → mid ≡ out ++ 44 ∷ 32 ∷ []
+pub parameters_next : (term : TypeAt → Option Term) (all : List Parameter) (p : Parameter) (left : List Parameter)
+    (old out mid out' : List ℕ) → ParametersLeft term all old (p ∷ left) out → mid ≡ out ++ 44 ∷ 32 ∷ []
     → WritesItem term p mid out' → ParametersLeft term all old left out'
 parameters_next term all (Typed at) left old out mid out' so_far comma written = record {
   rest = λ whole us e.
@@ -142,8 +160,10 @@ parameters_next term all More (another ∷ left) old out mid out' so_far comma w
   rest = λ whole us e. let r = so_far.rest whole us e in let cut = r.1 in absurd (cc);
 }
 
-pub parameters_done : (term : TypeAt → Option Term) (p : Parameter) (others : List Parameter) (begin old new : List ℕ) → WritesItem term p begin old → ParametersLeft term others old [] new
-    → is_misplaced (p ∷ others) ≡ false → (us : Parameters) → parameters_by term (p ∷ others) ≡ Some us → Writes (signature_tokens (Prototyped us (has_more (p ∷ others)))) begin new
+pub parameters_done : (term : TypeAt → Option Term) (p : Parameter) (others : List Parameter) (begin old new : List ℕ)
+    → WritesItem term p begin old → ParametersLeft term others old [] new
+    → is_misplaced (p ∷ others) ≡ false → (us : Parameters) → parameters_by term (p ∷ others) ≡ Some us
+    → Writes (signature_tokens (Prototyped us (has_more (p ∷ others)))) begin new
 parameters_done term More others begin old new first left placed us e = absurd (cc)
 parameters_done term (Typed at) others begin old new first left placed us e =
     let t = then_inverted (λ (t : Term). option_map (ParameterTerm t) (parameters_by term others)) (term at) us e in
@@ -155,6 +175,7 @@ parameters_done term (Typed at) others begin old new first left placed us e =
     subst P rest.2 (both (spell [] t.0 []) (following rest.0 others) begin old new (first t.0 t.1) all_out)
 
 -- a parameter is written
-pub item-of : (s : Survey) (k : ℕ) (p : Parameter) (old new : List ℕ) → WritesParameter s k p old new → WritesItem (kept_term s k) p old new
+pub item-of : (s : Survey) (k : ℕ) (p : Parameter) (old new : List ℕ) → WritesParameter s k p old new
+    → WritesItem (kept_term s k) p old new
 item-of s k (Typed at) old new h = h
 item-of s k More old new h = h

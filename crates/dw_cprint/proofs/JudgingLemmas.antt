@@ -47,7 +47,8 @@ one-number : (a b : PrintFault) → number_of a ≡ number_of b → a ≡ b
 one-number a b same = sym (rule-back a) ∙ (ap rule_of same ∙ rule-back b)
 
 -- no declaration is refused for want of memory
-below-seven : (shapes : ℕ → ShapeOf) (subject : SubjectOf) (rule : PrintFault) → Holds shapes subject rule → number_of rule < 7
+below-seven : (shapes : ℕ → ShapeOf) (subject : SubjectOf) (rule : PrintFault) → Holds shapes subject rule
+    → number_of rule < 7
 below-seven shapes s NotPrintable h = omega arith
 below-seven shapes s BadName h = omega arith
 below-seven shapes s Foreign h = omega arith
@@ -57,11 +58,13 @@ below-seven shapes s TooLong h = omega arith
 below-seven shapes s Memory h = elim h [ ]
 
 -- what is printed is not refused
-pub printed-or-refused : (shapes : ℕ → ShapeOf) (subject : SubjectOf) (rule : PrintFault) → IsPrinted shapes subject → Refuses shapes subject rule → ⊥
+pub printed-or-refused : (shapes : ℕ → ShapeOf) (subject : SubjectOf) (rule : PrintFault) → IsPrinted shapes subject
+    → Refuses shapes subject rule → ⊥
 printed-or-refused shapes s rule printed refused = printed rule (below-seven shapes s rule refused.holds) refused.holds
 
 -- and is refused by one rule
-pub one-rule : (shapes : ℕ → ShapeOf) (subject : SubjectOf) (a b : PrintFault) → Refuses shapes subject a → Refuses shapes subject b → a ≡ b
+pub one-rule : (shapes : ℕ → ShapeOf) (subject : SubjectOf) (a b : PrintFault) → Refuses shapes subject a
+    → Refuses shapes subject b → a ≡ b
 one-rule shapes s a b x y = elim (cases_lt (number_of a) (number_of b)) [
   | inl less ↦ absurd (y.least a less x.holds)
   | inr more ↦ elim (cases_lt (number_of b) (number_of a)) [
@@ -73,13 +76,15 @@ one-rule shapes s a b x y = elim (cases_lt (number_of a) (number_of b)) [
 -- ---- judging
 
 -- one of some declarations, as it is seen
-pub viewed-at : (xs : List Subject) (i : ℕ) (x : Subject) → i < length xs → x ≡ get_or xs i x → subject_at (map view_subject xs) i ≡ view_subject x
+pub viewed-at : (xs : List Subject) (i : ℕ) (x : Subject) → i < length xs → x ≡ get_or xs i x
+    → subject_at (map view_subject xs) i ≡ view_subject x
 viewed-at [] i x w e = absurd (omega arith)
 viewed-at (y ∷ xs) zero x w e = ap view_subject (sym e)
 viewed-at (y ∷ xs) (suc i) x w e = viewed-at xs i x (omega arith) e
 
 -- its first steps are among those of all
-pub steps-among : (xs : List Subject) (i : ℕ) (x : Subject) → i < length xs → x ≡ get_or xs i x → AreAmong (first_steps (view_subject x)) (roots_of (map view_subject xs))
+pub steps-among : (xs : List Subject) (i : ℕ) (x : Subject) → i < length xs → x ≡ get_or xs i x
+    → AreAmong (first_steps (view_subject x)) (roots_of (map view_subject xs))
 steps-among [] i x w e entry has = absurd (omega arith)
 steps-among (y ∷ xs) zero x w e entry has =
     let P : Subject → Type 0 = λ z. Contains (first_steps (view_subject z)) entry in
@@ -87,9 +92,12 @@ steps-among (y ∷ xs) zero x w e entry has =
 steps-among (y ∷ xs) (suc i) x w e entry has = Contains-append_right (first_steps (view_subject y)) (roots_of (map view_subject xs)) entry (steps-among xs i x (omega arith) e entry has)
 
 -- one more is printed
-pub judged-printed : (shapes : ℕ → ShapeOf) (named : List ℕ) (subjects : List SubjectOf) (levels : List ℕ) (count : ℕ) (listed listed' : List Listed) (refused : List (ℕ × PrintFault)) (one : Listed)
-    → listed' ≡ listed ++ one ∷ [] → one.place ≡ count → one.entry ≡ get_or named count 0 → one.level ≡ get_or levels one.entry 0 → IsPrinted shapes (subject_at subjects count)
-    → count < length named → AllPairs (λ a b. a < b) named → AreJudged shapes named subjects levels count listed refused → AreJudged shapes named subjects levels (count + 1) listed' refused
+pub judged-printed : (shapes : ℕ → ShapeOf) (named : List ℕ) (subjects : List SubjectOf) (levels : List ℕ) (count : ℕ)
+    (listed listed' : List Listed) (refused : List (ℕ × PrintFault)) (one : Listed)
+    → listed' ≡ listed ++ one ∷ [] → one.place ≡ count → one.entry ≡ get_or named count 0
+    → one.level ≡ get_or levels one.entry 0 → IsPrinted shapes (subject_at subjects count)
+    → count < length named → AllPairs (λ a b. a < b) named → AreJudged shapes named subjects levels count listed refused
+    → AreJudged shapes named subjects levels (count + 1) listed' refused
 judged-printed shapes named subjects levels count listed listed' refused one pushed place entry level printed within rising h = let P : List Listed → Type 0 = λ xs. AreJudged shapes named subjects levels (count + 1) xs refused in subst P (sym pushed) (record {
   printed = all;
   others = λ r has. (let (p, w, e, f) = h.others r has in (p, (omega arith), e, f));
@@ -98,7 +106,9 @@ judged-printed shapes named subjects levels count listed listed' refused one pus
   each = each;
 })
   where
-    all : (x : Listed) → Contains (listed ++ one ∷ []) x → (x.place < count + 1) × (x.entry ≡ get_or named x.place 0) × (x.level ≡ get_or levels x.entry 0) × IsPrinted shapes (subject_at subjects x.place)
+    all : (x : Listed) → Contains (listed ++ one ∷ []) x
+        → (x.place < count + 1) × (x.entry ≡ get_or named x.place 0) × (x.level ≡ get_or levels x.entry 0)
+        × IsPrinted shapes (subject_at subjects x.place)
     all x has = elim (Contains-push_cases listed one x has) [
       | inl old ↦ (let (w, e, l, p) = h.printed x old in ((omega arith), e, l, p))
       | inr same ↦
@@ -113,7 +123,9 @@ judged-printed shapes named subjects levels count listed listed' refused one pus
         let less = rising (get_or listed i d).place count 0 low within in
         omega (arith, e, less, entry)
 
-    each : (p : ℕ) → p < count + 1 → ((x : Listed) × Contains (listed ++ one ∷ []) x × (x.place ≡ p)) ⊎ ((r : ℕ × PrintFault) × Contains refused r × (r.0 ≡ get_or named p 0))
+    each : (p : ℕ) → p < count + 1
+        → ((x : Listed) × Contains (listed ++ one ∷ []) x × (x.place ≡ p))
+        ⊎ ((r : ℕ × PrintFault) × Contains refused r × (r.0 ≡ get_or named p 0))
     each p w = elim (cases_lt p count) [
       | inl less ↦ elim (h.each p less) [
         | inl (x, has, e) ↦ inl (x, Contains-append_left listed (one ∷ []) x has, e)
@@ -123,9 +135,11 @@ judged-printed shapes named subjects levels count listed listed' refused one pus
     ]
 
 -- one more is refused
-pub judged-refused : (shapes : ℕ → ShapeOf) (named : List ℕ) (subjects : List SubjectOf) (levels : List ℕ) (count : ℕ) (listed : List Listed) (refused refused' : List (ℕ × PrintFault)) (one : ℕ × PrintFault)
+pub judged-refused : (shapes : ℕ → ShapeOf) (named : List ℕ) (subjects : List SubjectOf) (levels : List ℕ) (count : ℕ)
+    (listed : List Listed) (refused refused' : List (ℕ × PrintFault)) (one : ℕ × PrintFault)
     → refused' ≡ refused ++ one ∷ [] → one.0 ≡ get_or named count 0 → Refuses shapes (subject_at subjects count) one.1
-    → count < length named → AllPairs (λ a b. a < b) named → AreJudged shapes named subjects levels count listed refused → AreJudged shapes named subjects levels (count + 1) listed refused'
+    → count < length named → AllPairs (λ a b. a < b) named → AreJudged shapes named subjects levels count listed refused
+    → AreJudged shapes named subjects levels (count + 1) listed refused'
 judged-refused shapes named subjects levels count listed refused refused' one pushed entry refuses within rising h = let P : List (ℕ × PrintFault) → Type 0 = λ xs. AreJudged shapes named subjects levels (count + 1) listed xs in subst P (sym pushed) (record {
   printed = λ x has. (let (w, e, l, p) = h.printed x has in ((omega arith), e, l, p));
   others = all;
@@ -134,7 +148,8 @@ judged-refused shapes named subjects levels count listed refused refused' one pu
   each = each;
 })
   where
-    all : (r : ℕ × PrintFault) → Contains (refused ++ one ∷ []) r → (p : ℕ) × (p < count + 1) × (r.0 ≡ get_or named p 0) × Refuses shapes (subject_at subjects p) r.1
+    all : (r : ℕ × PrintFault) → Contains (refused ++ one ∷ []) r
+        → (p : ℕ) × (p < count + 1) × (r.0 ≡ get_or named p 0) × Refuses shapes (subject_at subjects p) r.1
     all r has = elim (Contains-push_cases refused one r has) [
       | inl old ↦ (let (p, w, e, f) = h.others r old in (p, (omega arith), e, f))
       | inr same ↦
@@ -148,7 +163,9 @@ judged-refused shapes named subjects levels count listed refused refused' one pu
         let less = rising p count 0 low within in
         omega (arith, e, less, entry)
 
-    each : (p : ℕ) → p < count + 1 → ((x : Listed) × Contains listed x × (x.place ≡ p)) ⊎ ((r : ℕ × PrintFault) × Contains (refused ++ one ∷ []) r × (r.0 ≡ get_or named p 0))
+    each : (p : ℕ) → p < count + 1
+        → ((x : Listed) × Contains listed x × (x.place ≡ p))
+        ⊎ ((r : ℕ × PrintFault) × Contains (refused ++ one ∷ []) r × (r.0 ≡ get_or named p 0))
     each p w = elim (cases_lt p count) [
       | inl less ↦ elim (h.each p less) [
         | inl found ↦ inl found
@@ -157,7 +174,8 @@ judged-refused shapes named subjects levels count listed refused refused' one pu
       | inr more ↦ (let same : p ≡ count = omega arith in inr (one, Contains-push refused one, (entry ∙ ap (λ n. get_or named n 0) (sym same))))
     ]
 
-pub judged-none : (shapes : ℕ → ShapeOf) (named : List ℕ) (subjects : List SubjectOf) (levels : List ℕ) (listed : List Listed) (refused : List (ℕ × PrintFault)) → listed ≡ [] → refused ≡ []
+pub judged-none : (shapes : ℕ → ShapeOf) (named : List ℕ) (subjects : List SubjectOf) (levels : List ℕ)
+    (listed : List Listed) (refused : List (ℕ × PrintFault)) → listed ≡ [] → refused ≡ []
     → AreJudged shapes named subjects levels 0 listed refused
 judged-none shapes named subjects levels listed refused no_listed no_refused = record {
   printed = λ x has. absurd (none-there listed x no_listed has);

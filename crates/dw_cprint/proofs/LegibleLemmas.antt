@@ -30,7 +30,8 @@ member_legible shapes m h = by_name m.name h
     by_name None h = tt
     by_name (Some n) h = not_false (is_identifier n) h
 
-pub constants_legible : (es : List EnumeratorOf) → (HasWrongEnumeratorName es → ⊥) → All HasValue es → (cs : List Constant) → constants_of es ≡ Some cs → AreConstants cs
+pub constants_legible : (es : List EnumeratorOf) → (HasWrongEnumeratorName es → ⊥) → All HasValue es
+    → (cs : List Constant) → constants_of es ≡ Some cs → AreConstants cs
 constants_legible [] named fit cs e = let same : [] ≡ cs = cc in subst AreConstants same tt
 constants_legible (x ∷ es) named fit cs e =
     let rest = constants_of es in
@@ -52,7 +53,9 @@ module _ (term : TypeAt → Option Term) where
   ReadsAt at = (t : Term) → term at ≡ Some t → IsLegible t
 
   module _ (void : ReadsAt None) where
-    parameters_legible : (ps : List Parameter) → ((n : ℕ) → Contains (entries_of (parameter_types ps)) n → ReadsAt (Some n)) → (us : Parameters) → parameters_by term ps ≡ Some us → AreParameters us
+    parameters_legible : (ps : List Parameter)
+        → ((n : ℕ) → Contains (entries_of (parameter_types ps)) n → ReadsAt (Some n)) → (us : Parameters)
+        → parameters_by term ps ≡ Some us → AreParameters us
     parameters_legible [] h us e = let same : NoParameter ≡ us = cc in subst AreParameters same tt
     parameters_legible (Typed at ∷ ps) h us e =
         let first = then_inverted (λ (t : Term). option_map (ParameterTerm t) (parameters_by term ps)) (term at) us e in
@@ -61,9 +64,11 @@ module _ (term : TypeAt → Option Term) where
         (head_of ReadsAt void at (parameter_types ps) h first.0 first.1, parameters_legible ps (rest_of ReadsAt void at (parameter_types ps) h) others.0 others.1)
     parameters_legible (More ∷ ps) h us e = parameters_legible ps h us e
 
-    signature_legible : (shapes : ℕ → ShapeOf) (ps : List Parameter) → (Any (IsVoidLike shapes) (parameter_types ps) → ⊥) → is_misplaced ps ≡ false
+    signature_legible : (shapes : ℕ → ShapeOf) (ps : List Parameter)
+        → (Any (IsVoidLike shapes) (parameter_types ps) → ⊥) → is_misplaced ps ≡ false
         → ((n : ℕ) → Contains (entries_of (parameter_types ps)) n → (t : Term) → term (Some n) ≡ Some t → IsPresent t)
-        → ((n : ℕ) → Contains (entries_of (parameter_types ps)) n → ReadsAt (Some n)) → (us : Parameters) → parameters_by term ps ≡ Some us → IsSignature (Prototyped us (has_more ps))
+        → ((n : ℕ) → Contains (entries_of (parameter_types ps)) n → ReadsAt (Some n)) → (us : Parameters)
+        → parameters_by term ps ≡ Some us → IsSignature (Prototyped us (has_more ps))
     signature_legible shapes [] voids placed there h us e =
         let same : NoParameter ≡ us = cc in
         let P : Parameters → Type 0 = λ ps. IsSignature (Prototyped ps false) in subst P same refl
@@ -80,8 +85,10 @@ module _ (term : TypeAt → Option Term) where
           parameters_legible ps (rest_of ReadsAt void (Some n) (parameter_types ps) h) others.0 others.1,
         )
 
-    pub members_legible : (shapes : ℕ → ShapeOf) (ms : List MemberOf) → (HasWrongMemberName shapes ms → ⊥) → All HasCountedBits ms
-        → ((n : ℕ) → Contains (entries_of (member_types ms)) n → ReadsAt (Some n)) → (us : Members) → members_by term ms ≡ Some us → AreMembers us
+    pub members_legible : (shapes : ℕ → ShapeOf) (ms : List MemberOf) → (HasWrongMemberName shapes ms → ⊥)
+        → All HasCountedBits ms
+        → ((n : ℕ) → Contains (entries_of (member_types ms)) n → ReadsAt (Some n)) → (us : Members)
+        → members_by term ms ≡ Some us → AreMembers us
     members_legible shapes [] named fit h us e = let same : NoMember ≡ us = cc in subst AreMembers same tt
     members_legible shapes (m ∷ ms) named fit h us e =
         let first = then_inverted (λ (t : Term). option_map (MemberTerm m.name t (bits_of m.bits)) (members_by term ms)) (term m.type_at) us e in
@@ -99,7 +106,8 @@ arrays_legible [] t fit h = h
 arrays_legible (c ∷ cs) t fit h = (all_here IsCount c cs fit, arrays_legible cs t (all_there IsCount c cs fit) h)
 
 -- a type of an entry is no void
-shape_present : (shapes : ℕ → ShapeOf) (term : TypeAt → Option Term) (s : ShapeOf) → IsFine shapes s → (t : Term) → term_by term s ≡ Some t → IsPresent t
+shape_present : (shapes : ℕ → ShapeOf) (term : TypeAt → Option Term) (s : ShapeOf) → IsFine shapes s → (t : Term)
+    → term_by term s ≡ Some t → IsPresent t
 shape_present shapes term (base None) fine t e = absurd (cc)
 shape_present shapes term (base (Some n)) fine t e = IsBaseTerm.present (base_is n t e)
 shape_present shapes term (typedef None) fine t e = absurd (cc)
@@ -162,7 +170,8 @@ void_legible (suc k) shapes t e = let same : Void ≡ t = cc in subst IsLegible 
 module _ (shapes : ℕ → ShapeOf) (k : ℕ) where
   shape_legible : (s : ShapeOf) → IsFine shapes s → IsRegular s
       → ((n : ℕ) → Contains (entries_of (types_reached s)) n → (t : Term) → term_at k shapes (Some n) ≡ Some t → IsPresent t)
-      → ((n : ℕ) → Contains (entries_of (types_reached s)) n → ReadsAt (term_at k shapes) (Some n)) → (t : Term) → term_by (term_at k shapes) s ≡ Some t → IsLegible t
+      → ((n : ℕ) → Contains (entries_of (types_reached s)) n → ReadsAt (term_at k shapes) (Some n)) → (t : Term)
+      → term_by (term_at k shapes) s ≡ Some t → IsLegible t
   shape_legible (base None) fine fit there h t e = absurd (cc)
   shape_legible (base (Some n)) fine fit there h t e = IsBaseTerm.legible (base_is n t e)
   shape_legible (typedef None) fine fit there h t e = absurd (cc)
@@ -195,7 +204,8 @@ module _ (shapes : ℕ → ShapeOf) (k : ℕ) where
             (rest_of (ReadsAt term) (void_legible k shapes) at (parameter_types ps) h) f.0 f.1,
       )
     where
-      further_in : (at : TypeAt) (ats : List TypeAt) (n : ℕ) → Contains (entries_of ats) n → Contains (entries_of (at ∷ ats)) n
+      further_in : (at : TypeAt) (ats : List TypeAt) (n : ℕ) → Contains (entries_of ats) n
+          → Contains (entries_of (at ∷ ats)) n
       further_in None ats n c = c
       further_in (Some m) ats n c = among_there m n (entries_of ats) c
   shape_legible (tagged word name) fine fit there h t e = let same : Tagged word name ≡ t = cc in subst IsLegible same (not_false (is_identifier name) fine.named)
@@ -208,11 +218,13 @@ module _ (shapes : ℕ → ShapeOf) (k : ℕ) where
   shape_legible foreign fine fit there h t e = absurd (cc)
   shape_legible other fine fit there h t e = absurd (cc)
 
-entry_present : (shapes : ℕ → ShapeOf) (Good : ℕ → Type 0) → AreKept shapes Good → (k n : ℕ) → Good n → (t : Term) → term_at k shapes (Some n) ≡ Some t → IsPresent t
+entry_present : (shapes : ℕ → ShapeOf) (Good : ℕ → Type 0) → AreKept shapes Good → (k n : ℕ) → Good n → (t : Term)
+    → term_at k shapes (Some n) ≡ Some t → IsPresent t
 entry_present shapes Good kept zero n good t e = absurd (cc)
 entry_present shapes Good kept (suc k) n good t e = shape_present shapes (term_at k shapes) (shapes n) (kept.fine n good) t e
 
-pub entry_legible : (shapes : ℕ → ShapeOf) (Good : ℕ → Type 0) → AreKept shapes Good → ((entry : ℕ) → Good entry → IsRegular (shapes entry))
+pub entry_legible : (shapes : ℕ → ShapeOf) (Good : ℕ → Type 0) → AreKept shapes Good
+    → ((entry : ℕ) → Good entry → IsRegular (shapes entry))
     → (k n : ℕ) → Good n → (t : Term) → term_at k shapes (Some n) ≡ Some t → IsLegible t
 entry_legible shapes Good kept fit zero n good t e = absurd (cc)
 entry_legible shapes Good kept fit (suc k) n good t e =

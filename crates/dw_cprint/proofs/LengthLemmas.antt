@@ -4,7 +4,8 @@ use Rattle.std.specs.Prelude.{IsTrue, flat_map}
 use Rattle.std.proofs.lemmas.Grind.{flat_map-append}
 use Rattle.dw_types.specs.Sizes.{has_elements}
 use Rattle.dw_cprint.specs.Declarations.{arrays, is_miscounted}
-use Rattle.dw_cprint.specs.Declarators.{gap, pointer_row, opened, closed, before, after, body_tokens, enumeration_tokens}
+use Rattle.dw_cprint.specs.Declarators.{gap, pointer_row, opened, closed, before, after, body_tokens}
+use Rattle.dw_cprint.specs.Declarators.{enumeration_tokens}
 use Rattle.dw_cprint.specs.Shapes.{Qualifier, TagKeyword}
 use Rattle.dw_cprint.specs.Summaries.{Length, byte_count, counted, gap_bytes, text_bytes, IsLength}
 use Rattle.dw_cprint.specs.Terms.{Enum, TypeWord, Constant, Term, Void, Named, Basic, Tagged, Body, Enumeration, Qualified, Pointer, Array as ArrayTerm, Function, Unprototyped, Prototyped, Parameters, Members}
