@@ -23,19 +23,19 @@ use Rattle.dw_entries.proofs.ItemLaws.{items_bytes-append, AreItems-append, node
 use Rattle.dw_entries.proofs.WalkLaws.{length-link_last, along_root}
 
 -- some items of a tree were taken, and this is what is left and what was made of them
-pub record Along (t : Context) (numbers : ℕ → ℕ) (kind : HeaderKind) (unit at : ℕ) (body : List ℕ) (old : List Record) (rest : List ℕ) (w : Walk) : Type 0 where
+pub record Along (t : Context) (numbers : ℕ → ℕ) (kind : HeaderKind) (at : ℕ) (body : List ℕ) (old : List Record) (rest : List ℕ) (w : Walk) : Type 0 where
   pub first : Head
   pub others : List Item
   pub front : Front t kind body (entry first ∷ others) rest (length w.levels)
-  pub walked : walk_along numbers unit at (entry first ∷ others) (record { records = old; levels = [] }) ≡ w
+  pub walked : walk_along numbers at (entry first ∷ others) (record { records = old; levels = [] }) ≡ w
 
 length-open_list : (b : Bool) (id : ℕ) (ls : List Level) → length (open_list b id ls) ≡ cond b (suc (length ls)) (length ls)
 length-open_list true id ls = refl
 length-open_list false id ls = refl
 
 -- after the first entry
-pub along_first : (t : Context) (numbers : ℕ → ℕ) (kind : HeaderKind) (unit at : ℕ) (body : List ℕ) (old : List Record) (h : Head) (rest : List ℕ) (w : Walk) → first_at t kind body ≡ Ok (entry h, rest) → enter unit at (numbers h.decl.code, h.decl) old [] ≡ w → Along t numbers kind unit at body old rest w
-along_first t numbers kind unit at body old h rest w read e =
+pub along_first : (t : Context) (numbers : ℕ → ℕ) (kind : HeaderKind) (at : ℕ) (body : List ℕ) (old : List Record) (h : Head) (rest : List ℕ) (w : Walk) → first_at t kind body ≡ Ok (entry h, rest) → enter at (numbers h.decl.code, h.decl) old [] ≡ w → Along t numbers kind at body old rest w
+along_first t numbers kind at body old h rest w read e =
     let took = first_takes t kind body h rest read in
     record {
       first = h;
@@ -45,36 +45,36 @@ along_first t numbers kind unit at body old h rest w read e =
     }
 
 -- a step changes the depth as its item does
-step_depth : (numbers : ℕ → ℕ) (unit at : ℕ) (i : Item) (rs : List Record) (ls : List Level) → ls ≢ [] → depth_along (length ls) (i ∷ []) ≡ Some (length (step numbers unit at i (record { records = rs; levels = ls })).levels)
-step_depth numbers unit at i rs [] more = absurd (more refl)
-step_depth numbers unit at (null z) rs (l ∷ ls) more = refl
-step_depth numbers unit at (entry h) rs (l ∷ ls) more = ap (λ (d : ℕ). Some d) (sym (length-open_list h.decl.has_children (length rs) (record { parent = l.parent; last = Some (length rs) } ∷ ls)))
+step_depth : (numbers : ℕ → ℕ) (at : ℕ) (i : Item) (rs : List Record) (ls : List Level) → ls ≢ [] → depth_along (length ls) (i ∷ []) ≡ Some (length (step numbers at i (record { records = rs; levels = ls })).levels)
+step_depth numbers at i rs [] more = absurd (more refl)
+step_depth numbers at (null z) rs (l ∷ ls) more = refl
+step_depth numbers at (entry h) rs (l ∷ ls) more = ap (λ (d : ℕ). Some d) (sym (length-open_list h.decl.has_children (length rs) (record { parent = l.parent; last = Some (length rs) } ∷ ls)))
 
-walk_along-push : (numbers : ℕ → ℕ) (unit at : ℕ) (is : List Item) (i : Item) (w : Walk) → walk_along numbers unit at (is ++ i ∷ []) w ≡ step numbers unit (at + length (items_bytes is)) i (walk_along numbers unit at is w)
-walk_along-push numbers unit at [] i w = let e : at ≡ at + 0 = omega arith in ap (λ (o : ℕ). step numbers unit o i w) e
-walk_along-push numbers unit at (j ∷ is) i w =
+walk_along-push : (numbers : ℕ → ℕ) (at : ℕ) (is : List Item) (i : Item) (w : Walk) → walk_along numbers at (is ++ i ∷ []) w ≡ step numbers (at + length (items_bytes is)) i (walk_along numbers at is w)
+walk_along-push numbers at [] i w = let e : at ≡ at + 0 = omega arith in ap (λ (o : ℕ). step numbers o i w) e
+walk_along-push numbers at (j ∷ is) i w =
     let e : (at + length (item_bytes j)) + length (items_bytes is) ≡ at + length (items_bytes (j ∷ is)) = omega (arith, length-append (item_bytes j) (items_bytes is)) in
-    walk_along-push numbers unit (at + length (item_bytes j)) is i (step numbers unit at j w) ∙ ap (λ (o : ℕ). step numbers unit o i (walk_along numbers unit (at + length (item_bytes j)) is (step numbers unit at j w))) e
+    walk_along-push numbers (at + length (item_bytes j)) is i (step numbers at j w) ∙ ap (λ (o : ℕ). step numbers o i (walk_along numbers (at + length (item_bytes j)) is (step numbers at j w))) e
 
 -- how many bytes the items so far took
-pub taken : (t : Context) (numbers : ℕ → ℕ) (kind : HeaderKind) (unit at : ℕ) (body : List ℕ) (old : List Record) (rest : List ℕ) (w : Walk) (a : Along t numbers kind unit at body old rest w) → length (items_bytes (entry a.first ∷ a.others)) ≡ length body - length rest
-taken t numbers kind unit at body old rest w a = omega (arith, ap length a.front.parts, length-append (items_bytes (entry a.first ∷ a.others)) rest)
+pub taken : (t : Context) (numbers : ℕ → ℕ) (kind : HeaderKind) (at : ℕ) (body : List ℕ) (old : List Record) (rest : List ℕ) (w : Walk) (a : Along t numbers kind at body old rest w) → length (items_bytes (entry a.first ∷ a.others)) ≡ length body - length rest
+taken t numbers kind at body old rest w a = omega (arith, ap length a.front.parts, length-append (items_bytes (entry a.first ∷ a.others)) rest)
 
 -- after one more item
-pub along_next : (t : Context) (numbers : ℕ → ℕ) (kind : HeaderKind) (unit at : ℕ) (body : List ℕ) (old : List Record) (rest : List ℕ) (w v : Walk) (i : Item) (after : List ℕ) → Along t numbers kind unit at body old rest w → w.levels ≢ [] → item_at t rest ≡ Ok (i, after) → step numbers unit (at + (length body - length rest)) i w ≡ v → Along t numbers kind unit at body old after v
-along_next t numbers kind unit at body old rest w v i after a more read e =
+pub along_next : (t : Context) (numbers : ℕ → ℕ) (kind : HeaderKind) (at : ℕ) (body : List ℕ) (old : List Record) (rest : List ℕ) (w v : Walk) (i : Item) (after : List ℕ) → Along t numbers kind at body old rest w → w.levels ≢ [] → item_at t rest ≡ Ok (i, after) → step numbers (at + (length body - length rest)) i w ≡ v → Along t numbers kind at body old after v
+along_next t numbers kind at body old rest w v i after a more read e =
     let took = item_takes t rest i after read in
     let is : List Item = entry a.first ∷ a.others in
-    let o : at + length (items_bytes is) ≡ at + (length body - length rest) = ap (λ (k : ℕ). at + k) (taken t numbers kind unit at body old rest w a) in
+    let o : at + length (items_bytes is) ≡ at + (length body - length rest) = ap (λ (k : ℕ). at + k) (taken t numbers kind at body old rest w a) in
     let spelled : body ≡ items_bytes (is ++ i ∷ []) ++ after =
     a.front.parts ∙ ap (λ (b : List ℕ). items_bytes is ++ b) (took.0 ∙ ap (λ (b : List ℕ). b ++ after) (sym (append-nil (item_bytes i)))) ∙ sym (append_assoc (items_bytes is) (item_bytes i ++ []) after) ∙ ap (λ (b : List ℕ). b ++ after) (sym (items_bytes-append is (i ∷ []))) in
     let deep : tree_depth (is ++ i ∷ []) ≡ Some (length v.levels) =
-    depth_along-append (root_depth a.first) (length w.levels) a.others (i ∷ []) a.front.at_depth ∙ step_depth numbers unit (at + (length body - length rest)) i w.records w.levels more ∙ ap (λ (x : Walk). Some (length x.levels)) e in
+    depth_along-append (root_depth a.first) (length w.levels) a.others (i ∷ []) a.front.at_depth ∙ step_depth numbers (at + (length body - length rest)) i w.records w.levels more ∙ ap (λ (x : Walk). Some (length x.levels)) e in
     record {
       first = a.first;
       others = a.others ++ i ∷ [];
       front = record { are = AreItems-append t is (i ∷ []) a.front.are (took.1, tt); fits = a.front.fits; at_depth = deep; parts = spelled };
-      walked = walk_along-push numbers unit at is i (record { records = old; levels = [] }) ∙ ap (λ (k : ℕ). step numbers unit k i (walk_along numbers unit at is (record { records = old; levels = [] }))) o ∙ ap (step numbers unit (at + (length body - length rest)) i) a.walked ∙ e;
+      walked = walk_along-push numbers at is i (record { records = old; levels = [] }) ∙ ap (λ (k : ℕ). step numbers k i (walk_along numbers at is (record { records = old; levels = [] }))) o ∙ ap (step numbers (at + (length body - length rest)) i) a.walked ∙ e;
     }
 
 head_is : (n : Node) (zs : List (List ℕ)) (h : Head) (is : List Item) → node_items n ++ map null zs ≡ entry h ∷ is → head_of n ≡ h
@@ -84,25 +84,25 @@ head_is (parent k ns z) zs h is e = let same : entry k ≡ entry h = cc in cc
 abbrev walk : List Record → List Level → Walk
 walk rs ls = record { records = rs; levels = ls }
 
-walk_along-append : (numbers : ℕ → ℕ) (unit at : ℕ) (is js : List Item) (w : Walk) → walk_along numbers unit at (is ++ js) w ≡ walk_along numbers unit (at + length (items_bytes is)) js (walk_along numbers unit at is w)
-walk_along-append numbers unit at [] js w = let e : at ≡ at + 0 = omega arith in ap (λ (o : ℕ). walk_along numbers unit o js w) e
-walk_along-append numbers unit at (i ∷ is) js w =
+walk_along-append : (numbers : ℕ → ℕ) (at : ℕ) (is js : List Item) (w : Walk) → walk_along numbers at (is ++ js) w ≡ walk_along numbers (at + length (items_bytes is)) js (walk_along numbers at is w)
+walk_along-append numbers at [] js w = let e : at ≡ at + 0 = omega arith in ap (λ (o : ℕ). walk_along numbers o js w) e
+walk_along-append numbers at (i ∷ is) js w =
     let e : (at + length (item_bytes i)) + length (items_bytes is) ≡ at + length (items_bytes (i ∷ is)) = omega (arith, length-append (item_bytes i) (items_bytes is)) in
-    walk_along-append numbers unit (at + length (item_bytes i)) is js (step numbers unit at i w) ∙ ap (λ (o : ℕ). walk_along numbers unit o js (walk_along numbers unit (at + length (item_bytes i)) is (step numbers unit at i w))) e
+    walk_along-append numbers (at + length (item_bytes i)) is js (step numbers at i w) ∙ ap (λ (o : ℕ). walk_along numbers o js (walk_along numbers (at + length (item_bytes i)) is (step numbers at i w))) e
 
-along_nulls : (numbers : ℕ → ℕ) (unit at : ℕ) (zs : List (List ℕ)) (rs : List Record) → walk_along numbers unit at (map null zs) (record { records = rs; levels = [] }) ≡ record { records = rs; levels = [] }
-along_nulls numbers unit at [] rs = refl
-along_nulls numbers unit at (z ∷ zs) rs = along_nulls numbers unit (at + length z) zs rs
+along_nulls : (numbers : ℕ → ℕ) (at : ℕ) (zs : List (List ℕ)) (rs : List Record) → walk_along numbers at (map null zs) (record { records = rs; levels = [] }) ≡ record { records = rs; levels = [] }
+along_nulls numbers at [] rs = refl
+along_nulls numbers at (z ∷ zs) rs = along_nulls numbers (at + length z) zs rs
 
 -- at the end of the tree and its nulls
-pub along_end : (t : Context) (numbers : ℕ → ℕ) (kind : HeaderKind) (unit at : ℕ) (body : List ℕ) (old : List Record) (rest : List ℕ) (w : Walk) → Along t numbers kind unit at body old rest w → w.levels ≡ [] → TreeOf t numbers kind body rest unit at old w.records
-along_end t numbers kind unit at body old rest w a e =
+pub along_end : (t : Context) (numbers : ℕ → ℕ) (kind : HeaderKind) (at : ℕ) (body : List ℕ) (old : List Record) (rest : List ℕ) (w : Walk) → Along t numbers kind at body old rest w → w.levels ≡ [] → TreeOf t numbers kind body rest at old w.records
+along_end t numbers kind at body old rest w a e =
     let deep : tree_depth (entry a.first ∷ a.others) ≡ Some 0 = a.front.at_depth ∙ ap (λ (ls : List Level). Some (length ls)) e in
     let (n, zs, is, nulls, items) = node_of t a.first a.others a.front.are.0 a.front.are.1 deep in
     let start : Walk = record { records = old; levels = [] } in
     let spelled : items_bytes (node_items n ++ map null zs) ≡ node_bytes n ++ nulls_bytes zs = items_bytes-append (node_items n) (map null zs) ∙ ap (λ (x : List ℕ). x ++ items_bytes (map null zs)) (node_spelled n) ∙ ap (λ (x : List ℕ). node_bytes n ++ x) (nulls_spelled zs) in
-    let end : walk_along numbers unit at (node_items n ++ map null zs) start ≡ record { records = old ++ node_records numbers unit None 0 None (length old) at n; levels = [] } =
-    walk_along-append numbers unit at (node_items n) (map null zs) start ∙ ap (walk_along numbers unit (at + length (items_bytes (node_items n))) (map null zs)) (along_root numbers t unit at n old is) ∙ along_nulls numbers unit (at + length (items_bytes (node_items n))) zs (old ++ node_records numbers unit None 0 None (length old) at n) in
+    let end : walk_along numbers at (node_items n ++ map null zs) start ≡ record { records = old ++ node_records numbers None None (length old) at n; levels = [] } =
+    walk_along-append numbers at (node_items n) (map null zs) start ∙ ap (walk_along numbers (at + length (items_bytes (node_items n))) (map null zs)) (along_root numbers t at n old is) ∙ along_nulls numbers (at + length (items_bytes (node_items n))) zs (old ++ node_records numbers None None (length old) at n) in
     record {
       root = n;
       is = is;
@@ -110,7 +110,7 @@ along_end t numbers kind unit at body old rest w a e =
       nulls = zs;
       are_nulls = nulls;
       parts = a.front.parts ∙ ap (λ (b : List ℕ). b ++ rest) (ap items_bytes (sym items) ∙ spelled);
-      records = ap (λ (x : Walk). x.records) (sym a.walked ∙ ap (λ (js : List Item). walk_along numbers unit at js start) (sym items) ∙ end);
+      records = ap (λ (x : Walk). x.records) (sym a.walked ∙ ap (λ (js : List Item). walk_along numbers at js start) (sym items) ∙ end);
     }
 
 pub first_fault : (t : Context) (kind : HeaderKind) (header start : ℕ) (body : List ℕ) (f : Failing) (fault : Broken) → start ≡ header + header_size kind → first_at t kind body ≡ Err f → fault ≡ in_unit f header start → BodyFails t kind header body fault
@@ -129,16 +129,16 @@ first_fault t kind header start body f fault s read e = record {
 reverse_some : (ls : List Level) → ls ≢ [] → reverse ls ≢ []
 reverse_some ls more e = more (nil_from_length ls (omega (arith, ap length e, length-reverse ls)))
 
-pub first_turn : (t : Context) (numbers : ℕ → ℕ) (kind : HeaderKind) (unit at : ℕ) (body : List ℕ) (old records : List Record) (none levels : List Level) (d : ℕ × Declaration) (rest : List ℕ) → seen (numbered_decl numbers) (first_at t kind body) ≡ Ok (Some d, rest) → none ≡ [] → walk_of records levels ≡ enter unit at d old (reverse none) → Along t numbers kind unit at body old rest (walk_of records levels)
-first_turn t numbers kind unit at body old records none levels d rest read empty e =
+pub first_turn : (t : Context) (numbers : ℕ → ℕ) (kind : HeaderKind) (at : ℕ) (body : List ℕ) (old records : List Record) (none levels : List Level) (d : ℕ × Declaration) (rest : List ℕ) → seen (numbered_decl numbers) (first_at t kind body) ≡ Ok (Some d, rest) → none ≡ [] → walk_of records levels ≡ enter at d old (reverse none) → Along t numbers kind at body old rest (walk_of records levels)
+first_turn t numbers kind at body old records none levels d rest read empty e =
     let (h, was, is) = seen_entry numbers (first_at t kind body) d rest read in
-    let entered : enter unit at (numbers h.decl.code, h.decl) old [] ≡ walk_of records levels = ap (λ (x : ℕ × Declaration). enter unit at x old []) is ∙ ap (λ (ls : List Level). enter unit at d old (reverse ls)) (sym empty) ∙ sym e in
-    along_first t numbers kind unit at body old h rest (walk_of records levels) was entered
+    let entered : enter at (numbers h.decl.code, h.decl) old [] ≡ walk_of records levels = ap (λ (x : ℕ × Declaration). enter at x old []) is ∙ ap (λ (ls : List Level). enter at d old (reverse ls)) (sym empty) ∙ sym e in
+    along_first t numbers kind at body old h rest (walk_of records levels) was entered
 
-pub next_turn : (t : Context) (numbers : ℕ → ℕ) (kind : HeaderKind) (unit at : ℕ) (body : List ℕ) (old : List Record) (rest : List ℕ) (records : List Record) (levels : List Level) (more : List Record) (above : List Level) (after : List ℕ) → Along t numbers kind unit at body old rest (walk_of records levels) → levels ≢ [] → seen (λ i. step numbers unit (at + (length body - length rest)) i (walk_of records levels)) (item_at t rest) ≡ Ok (walk_of more above, after) → Along t numbers kind unit at body old after (walk_of more above)
-next_turn t numbers kind unit at body old rest records levels more above after a some read =
-    let (i, was, is) = seen_ok (λ i. step numbers unit (at + (length body - length rest)) i (walk_of records levels)) (item_at t rest) (walk_of more above) after read in
-    along_next t numbers kind unit at body old rest (walk_of records levels) (walk_of more above) i after a (reverse_some levels some) was is
+pub next_turn : (t : Context) (numbers : ℕ → ℕ) (kind : HeaderKind) (at : ℕ) (body : List ℕ) (old : List Record) (rest : List ℕ) (records : List Record) (levels : List Level) (more : List Record) (above : List Level) (after : List ℕ) → Along t numbers kind at body old rest (walk_of records levels) → levels ≢ [] → seen (λ i. step numbers (at + (length body - length rest)) i (walk_of records levels)) (item_at t rest) ≡ Ok (walk_of more above, after) → Along t numbers kind at body old after (walk_of more above)
+next_turn t numbers kind at body old rest records levels more above after a some read =
+    let (i, was, is) = seen_ok (λ i. step numbers (at + (length body - length rest)) i (walk_of records levels)) (item_at t rest) (walk_of more above) after read in
+    along_next t numbers kind at body old rest (walk_of records levels) (walk_of more above) i after a (reverse_some levels some) was is
 
 pub turn_shorter : {B : Type 0} (f : Item → B) (t : Context) (rest : List ℕ) (y : B) (after : List ℕ) → seen f (item_at t rest) ≡ Ok (y, after) → length after < length rest
 turn_shorter f t rest y after read = let (i, was, is) = seen_ok f (item_at t rest) y after read in item_shorter t rest i after was
@@ -152,13 +152,13 @@ none_from xs n len e = nil_from_length xs (sym len ∙ eqb-true n 0 (sym e))
 
 -- ---- how much was made: one entry and one list for each item at most, and each item takes a byte
 
-step_records : (numbers : ℕ → ℕ) (unit at : ℕ) (i : Item) (w : Walk) → length (step numbers unit at i w).records ≤ suc (length w.records)
-step_records numbers unit at (null z) w = omega arith
-step_records numbers unit at (entry h) w = by_levels w.levels
+step_records : (numbers : ℕ → ℕ) (at : ℕ) (i : Item) (w : Walk) → length (step numbers at i w).records ≤ suc (length w.records)
+step_records numbers at (null z) w = omega arith
+step_records numbers at (entry h) w = by_levels w.levels
   where
-    by_levels : (ls : List Level) → length (enter unit at (numbers h.decl.code, h.decl) w.records ls).records ≤ suc (length w.records)
-    by_levels [] = omega (arith, length-append w.records (record { at = at; unit = unit; decl = numbers h.decl.code; parent = None; depth = 0; next = None } ∷ []))
-    by_levels (l ∷ ls) = omega (arith, length-append (link_last l.last (length w.records) w.records) (record { at = at; unit = unit; decl = numbers h.decl.code; parent = l.parent; depth = suc (length ls); next = None } ∷ []), length-link_last l.last (length w.records) w.records)
+    by_levels : (ls : List Level) → length (enter at (numbers h.decl.code, h.decl) w.records ls).records ≤ suc (length w.records)
+    by_levels [] = omega (arith, length-append w.records (record { at = at; decl = numbers h.decl.code; parent = None; next = None } ∷ []))
+    by_levels (l ∷ ls) = omega (arith, length-append (link_last l.last (length w.records) w.records) (record { at = at; decl = numbers h.decl.code; parent = l.parent; next = None } ∷ []), length-link_last l.last (length w.records) w.records)
 
 open_list_few : (b : Bool) (id : ℕ) (ls : List Level) → length (open_list b id ls) ≤ suc (length ls)
 open_list_few true id ls = omega arith
@@ -168,31 +168,31 @@ leave_few : (ls : List Level) → length (leave ls) ≤ length ls
 leave_few [] = omega arith
 leave_few (l ∷ ls) = omega arith
 
-step_levels : (numbers : ℕ → ℕ) (unit at : ℕ) (i : Item) (w : Walk) → length (step numbers unit at i w).levels ≤ suc (length w.levels)
-step_levels numbers unit at (null z) w = let few = leave_few w.levels in omega (arith, few)
-step_levels numbers unit at (entry h) w = by_levels w.levels
+step_levels : (numbers : ℕ → ℕ) (at : ℕ) (i : Item) (w : Walk) → length (step numbers at i w).levels ≤ suc (length w.levels)
+step_levels numbers at (null z) w = let few = leave_few w.levels in omega (arith, few)
+step_levels numbers at (entry h) w = by_levels w.levels
   where
-    by_levels : (ls : List Level) → length (enter unit at (numbers h.decl.code, h.decl) w.records ls).levels ≤ suc (length ls)
+    by_levels : (ls : List Level) → length (enter at (numbers h.decl.code, h.decl) w.records ls).levels ≤ suc (length ls)
     by_levels [] = open_list_few h.decl.has_children (length w.records) []
     by_levels (l ∷ ls) = open_list_few h.decl.has_children (length w.records) (record { parent = l.parent; last = Some (length w.records) } ∷ ls)
 
-walk_records : (t : Context) (numbers : ℕ → ℕ) (unit at : ℕ) (is : List Item) (w : Walk) → AreItems t is → length (walk_along numbers unit at is w).records ≤ length w.records + length (items_bytes is)
-walk_records t numbers unit at [] w p = omega arith
-walk_records t numbers unit at (i ∷ is) w p =
-    let more = walk_records t numbers unit (at + length (item_bytes i)) is (step numbers unit at i w) p.1 in
-    omega (arith, more, step_records numbers unit at i w, item_some t i p.0, length-append (item_bytes i) (items_bytes is))
+walk_records : (t : Context) (numbers : ℕ → ℕ) (at : ℕ) (is : List Item) (w : Walk) → AreItems t is → length (walk_along numbers at is w).records ≤ length w.records + length (items_bytes is)
+walk_records t numbers at [] w p = omega arith
+walk_records t numbers at (i ∷ is) w p =
+    let more = walk_records t numbers (at + length (item_bytes i)) is (step numbers at i w) p.1 in
+    omega (arith, more, step_records numbers at i w, item_some t i p.0, length-append (item_bytes i) (items_bytes is))
 
-walk_levels : (t : Context) (numbers : ℕ → ℕ) (unit at : ℕ) (is : List Item) (w : Walk) → AreItems t is → length (walk_along numbers unit at is w).levels ≤ length w.levels + length (items_bytes is)
-walk_levels t numbers unit at [] w p = omega arith
-walk_levels t numbers unit at (i ∷ is) w p =
-    let more = walk_levels t numbers unit (at + length (item_bytes i)) is (step numbers unit at i w) p.1 in
-    omega (arith, more, step_levels numbers unit at i w, item_some t i p.0, length-append (item_bytes i) (items_bytes is))
+walk_levels : (t : Context) (numbers : ℕ → ℕ) (at : ℕ) (is : List Item) (w : Walk) → AreItems t is → length (walk_along numbers at is w).levels ≤ length w.levels + length (items_bytes is)
+walk_levels t numbers at [] w p = omega arith
+walk_levels t numbers at (i ∷ is) w p =
+    let more = walk_levels t numbers (at + length (item_bytes i)) is (step numbers at i w) p.1 in
+    omega (arith, more, step_levels numbers at i w, item_some t i p.0, length-append (item_bytes i) (items_bytes is))
 
-pub along_few : (t : Context) (numbers : ℕ → ℕ) (kind : HeaderKind) (unit at : ℕ) (body : List ℕ) (old : List Record) (rest : List ℕ) (records : List Record) (levels : List Level) → Along t numbers kind unit at body old rest (walk_of records levels)
+pub along_few : (t : Context) (numbers : ℕ → ℕ) (kind : HeaderKind) (at : ℕ) (body : List ℕ) (old : List Record) (rest : List ℕ) (records : List Record) (levels : List Level) → Along t numbers kind at body old rest (walk_of records levels)
     → (length records ≤ length old + (length body - length rest)) × (length levels ≤ length body - length rest)
-along_few t numbers kind unit at body old rest records levels a =
+along_few t numbers kind at body old rest records levels a =
     let is : List Item = entry a.first ∷ a.others in
-    let bytes = taken t numbers kind unit at body old rest (walk_of records levels) a in
-    let r = walk_records t numbers unit at is (walk old []) a.front.are in
-    let l = walk_levels t numbers unit at is (walk old []) a.front.are in
+    let bytes = taken t numbers kind at body old rest (walk_of records levels) a in
+    let r = walk_records t numbers at is (walk old []) a.front.are in
+    let l = walk_levels t numbers at is (walk old []) a.front.are in
     (omega (arith, bytes, r, ap (λ (w : Walk). length w.records) a.walked), omega (arith, bytes, l, ap (λ (w : Walk). length w.levels) a.walked, length-reverse levels))

@@ -29,7 +29,7 @@ use Rattle.dw_entries.proofs.ScanLaws.{rest_of}
 use Rattle.dw_entries.proofs.HeadLaws.{Stands, head_stands, stands_code, stands_within}
 use Rattle.dw_entries.proofs.EntryFacts.{placed_get, length-placed_from, kept_get, HasFirst, first_entry}
 
-one_some : {A : Type 0} (o : Option A) (x y : A) → o ≡ Some x → o ≡ Some y → x ≡ y
+pub one_some : {A : Type 0} (o : Option A) (x y : A) → o ≡ Some x → o ≡ Some y → x ≡ y
 one_some o x y p q = cc
 
 some_and : {A : Type 0} (o : Option A) (P : A → Type 0) → IsSomeAnd o P → (x : A) × (o ≡ Some x) × P x
@@ -103,9 +103,6 @@ module _ {a info : List ℕ} {tables : List (List Numbered)} {rs : List UnitReco
     pub record_is : r ≡ record_of (numbers_of tables rs) k.entry
     record_is = one_some (slice_get records id) r (record_of (numbers_of tables rs) k.entry) read k.is_record
 
-    pub unit_within : r.unit < length rs
-    unit_within = let e : r.unit ≡ k.entry.unit = ap (λ (q : Record). q.unit) record_is in let w = slice_get_within rs k.entry.unit k.unit_record k.is_unit_record in omega (arith, e, w)
-
     pub at_within : r.at < length info
     at_within = let e : r.at ≡ k.entry.at = ap (λ (q : Record). q.at) record_is in let w = stands_within (units_of s) info k.entry k.stands in omega (arith, e, w)
 
@@ -126,14 +123,12 @@ module _ {a info : List ℕ} {tables : List (List Numbered)} {rs : List UnitReco
         let pair = ok_pair {E = Failing} n k.entry.head.decl.code rest (flat_map attribute_bytes k.entry.head.attributes ++ k.stands.after) (sym got ∙ code_read) in
         of_entry (λ e. (behind : List ℕ) × (rest ≡ flat_map attribute_bytes e.head.attributes ++ behind)) (k.stands.after, pair.1)
 
-    module _ (u : UnitRecord) (read_unit : u ≡ get_or rs r.unit u) where
-      unit_is : u ≡ k.unit_record
-      unit_is =
-          let e : r.unit ≡ k.entry.unit = ap (λ (q : Record). q.unit) record_is in
-          read_is rs r.unit k.unit_record u (ap (slice_get rs) e ∙ k.is_unit_record) read_unit
-
-      pub header_is : IfSome (slice_get (entries_of (units_of s)) id) (λ e. IfSome (slice_get (units_of s) e.unit) (λ v. u.header ≡ v.header))
-      header_is = of_entry (λ e. IfSome (slice_get (units_of s) e.unit) (λ v. u.header ≡ v.header)) (rw k.stands.is_unit (ap (λ (q : UnitRecord). q.header) unit_is ∙ k.header))
+  -- the header of a unit that has the number of the entry's
+  pub header_is : (number : ℕ) (u : UnitRecord) → number ≡ k.entry.unit → slice_get rs number ≡ Some u
+      → IfSome (slice_get (entries_of (units_of s)) id) (λ e. IfSome (slice_get (units_of s) e.unit) (λ v. u.header ≡ v.header))
+  header_is number u same is =
+      let unit_is : u ≡ k.unit_record = one_some (slice_get rs k.entry.unit) u k.unit_record (ap (slice_get rs) (sym same) ∙ is) k.is_unit_record in
+      of_entry (λ e. IfSome (slice_get (units_of s) e.unit) (λ v. u.header ≡ v.header)) (rw k.stands.is_unit (ap (λ (q : UnitRecord). q.header) unit_is ∙ k.header))
 
 -- the declaration of an entry is the one of its number
 module _ (decls : List KeptDecl) {a info : List ℕ} {rs : List UnitRecord} {records : List Record} {s : Scanned a info (tables_of decls) rs records} {id : ℕ} (k : KeptEntry a info (tables_of decls) rs records s id) where

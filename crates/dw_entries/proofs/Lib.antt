@@ -9,6 +9,8 @@ pub mod AlongLaws
 pub mod NullLaws
 pub mod OrderLaws
 pub mod HeaderReads
+pub mod UnitRanges
+pub mod DepthLaws
 pub mod UnitSteps
 pub mod ScanLaws
 pub mod Firsts

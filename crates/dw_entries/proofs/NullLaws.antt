@@ -52,8 +52,8 @@ together body tree rest zs ws left p q =
     p ∙ ap (λ (b : List ℕ). (tree ++ nulls_bytes zs) ++ b) q ∙ sym (append_assoc (tree ++ nulls_bytes zs) (nulls_bytes ws) left)
     ∙ ap (λ (b : List ℕ). b ++ left) (append_assoc tree (nulls_bytes zs) (nulls_bytes ws) ∙ ap (λ (b : List ℕ). tree ++ b) (sym (nulls_bytes-append zs ws)))
 
-pub tree_end : (t : Context) (numbers : ℕ → ℕ) (kind : HeaderKind) (body rest : List ℕ) (unit at : ℕ) (old new : List Record) → TreeOf t numbers kind body rest unit at old new → AreAllNulls rest → TreeOf t numbers kind body [] unit at old new
-tree_end t numbers kind body rest unit at old new tree (zs, are, parts) = record {
+pub tree_end : (t : Context) (numbers : ℕ → ℕ) (kind : HeaderKind) (body rest : List ℕ) (at : ℕ) (old new : List Record) → TreeOf t numbers kind body rest at old new → AreAllNulls rest → TreeOf t numbers kind body [] at old new
+tree_end t numbers kind body rest at old new tree (zs, are, parts) = record {
   root = tree.root;
   is = tree.is;
   tag = tree.tag;
@@ -68,9 +68,9 @@ fits_node kind (leaf h) is e = e
 fits_node kind (parent h ns z) is e = e
 
 -- what comes after the nulls is left over
-pub left_over : (t : Context) (numbers : ℕ → ℕ) (kind : HeaderKind) (header start unit : ℕ) (body rest left : List ℕ) (old new : List Record) → start ≡ header + header_size kind → TreeOf t numbers kind body rest unit start old new → NullsThen rest left
+pub left_over : (t : Context) (numbers : ℕ → ℕ) (kind : HeaderKind) (header start : ℕ) (body rest left : List ℕ) (old new : List Record) → start ≡ header + header_size kind → TreeOf t numbers kind body rest start old new → NullsThen rest left
     → BodyFails t kind header body (in_unit (record { rule = LeftOver; attribute = 0 }) header (start + (length body - length left)))
-left_over t numbers kind header start unit body rest left old new s tree then =
+left_over t numbers kind header start body rest left old new s tree then =
     let zs : List (List ℕ) = tree.nulls ++ then.nulls in
     let is : List Item = node_items tree.root ++ map null zs in
     let spelled : items_bytes is ≡ node_bytes tree.root ++ nulls_bytes zs = items_bytes-append (node_items tree.root) (map null zs) ∙ ap (λ (b : List ℕ). b ++ items_bytes (map null zs)) (node_spelled tree.root) ∙ ap (λ (b : List ℕ). node_bytes tree.root ++ b) (nulls_spelled zs) in

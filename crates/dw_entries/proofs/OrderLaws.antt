@@ -33,7 +33,7 @@ Rises-to low high to [] le p = omega arith
 Rises-to low high to (r ∷ rs) le p = (p.0, Rises-to (suc r.at) high to rs le p.1)
 
 mutual
-  node_rises : (t : Context) (numbers : ℕ → ℕ) (unit : ℕ) (above : Option ℕ) (depth : ℕ) (next : Option ℕ) (id at : ℕ) (n : Node) → IsNode t n → Rises at (at + length (node_bytes n)) (node_records numbers unit above depth next id at n)
+  node_rises : (t : Context) (numbers : ℕ → ℕ) (unit : ℕ) (above : Option ℕ) (depth : ℕ) (next : Option ℕ) (id at : ℕ) (n : Node) → IsNode t n → Rises at (at + length (node_bytes n)) (node_records numbers above next id at n)
   node_rises t numbers unit above depth next id at (leaf h) p = let some = item_some t (entry h) p.0 in (omega arith, omega (arith, some))
   node_rises t numbers unit above depth next id at (parent h ns z) p =
       let some = item_some t (entry h) p.0 in
@@ -41,7 +41,7 @@ mutual
       let e : at + length (head_bytes h) + length (nodes_bytes ns) ≤ at + length (node_bytes (parent h ns z)) = omega (arith, length-append (head_bytes h) (nodes_bytes ns ++ z), length-append (nodes_bytes ns) z) in
       (omega arith, Rises-to (suc at) _ _ _ e (Rises-from (at + length (head_bytes h)) (suc at) _ _ (omega (arith, some)) below))
 
-  nodes_rise : (t : Context) (numbers : ℕ → ℕ) (unit above depth id at : ℕ) (ns : Nodes) → AreNodes t ns → Rises at (at + length (nodes_bytes ns)) (nodes_records numbers unit above depth id at ns)
+  nodes_rise : (t : Context) (numbers : ℕ → ℕ) (unit above depth id at : ℕ) (ns : Nodes) → AreNodes t ns → Rises at (at + length (nodes_bytes ns)) (nodes_records numbers above id at ns)
   nodes_rise t numbers unit above depth id at none p = omega arith
   nodes_rise t numbers unit above depth id at (n then ns) p =
       let e : (at + length (node_bytes n)) + length (nodes_bytes ns) ≤ at + length (nodes_bytes (n then ns)) = omega (arith, length-append (node_bytes n) (nodes_bytes ns)) in

@@ -1,17 +1,16 @@
 -- The entries of one unit, by their offsets.
-use Rattle.std.proofs.Common.{◌≡◌, ℕ, ◌+◌, ◌<◌, ◌≤◌, ◌^◌, List, length, get_or, Option, Some, None, refl, sym, ap, subst, ◌∙◌, arith, inl, inr}
-use Rattle.std.specs.Prelude.{slice_get, IfSome}
+use Rattle.std.proofs.Common.{◌≡◌, ℕ, ◌+◌, ◌<◌, ◌≤◌, ◌^◌, List, length, get_or, Option, Some, refl, sym, ap, subst, ◌∙◌, arith, inl, inr}
+use Rattle.std.specs.Prelude.{slice_get}
 use Rattle.dw_forms.specs.KeptDecls.{Numbered}
 use Rattle.dw_entries.specs.declared.record.Record.{Record}
 use Rattle.dw_entries.specs.declared.record.UnitRecord.{UnitRecord}
 use Rattle.dw_entries.specs.Entries.{Entry, entries_of, PlacedUnit, placed}
-use Rattle.dw_entries.specs.Scanned.{numbers_of, record_of, IsKept, Scanned, units_of}
+use Rattle.dw_entries.specs.Scanned.{IsKept, Scanned, units_of}
 use Rattle.dw_entries.specs.Runs.{IsEntryAt, IsEntryIn, ReachesInUnit}
 use Rattle.dw_entries.specs.Asked.{OffsetsRise}
 use Rattle.dw_entries.proofs.NumberOrder.{three_ways}
 use Rattle.dw_entries.proofs.HeadLaws.{head_stands, stands_within}
 use Rattle.dw_entries.proofs.KeptLaws.{KeptUnit, read_is}
-use Rattle.dw_entries.proofs.EntryFacts.{kept_get}
 
 -- the record of a unit that was read is the one that is kept of it
 pub record_kept : (a info : List ℕ) (tables : List (List Numbered)) (rs : List UnitRecord) (records : List Record) (s : Scanned a info tables rs records) (number : ℕ) (k : KeptUnit a info tables rs records s number) (u : UnitRecord)
@@ -81,21 +80,3 @@ never_far a info tables rs records s number offset k u read few far j reached =
     let at = inside.begins in
     let stands = stands_within (units_of s) info inside.entry (head_stands a info (units_of s) j inside.entry s.1.spells inside.is_entry) in
     omega (arith, place, at, stands, few, far)
-
--- an entry's unit is that of its record
-pub unit_of_record : (a info : List ℕ) (tables : List (List Numbered)) (rs : List UnitRecord) (records : List Record) (s : Scanned a info tables rs records) (id : ℕ) (r : Record) (e : Entry) → r ≡ get_or records id r → slice_get (entries_of (units_of s)) id ≡ Some e
-    → e.unit ≡ r.unit
-unit_of_record a info tables rs records s id r e read is =
-    let numbers = numbers_of tables rs in
-    let kept : slice_get records id ≡ Some (record_of numbers e) = ap (λ (xs : List Record). slice_get xs id) s.1.entries ∙ kept_get numbers (units_of s) id e is in
-    ap (λ (x : Record). x.unit) (sym (read_is records id (record_of numbers e) r kept read))
-
-pub record_unit : (a info : List ℕ) (tables : List (List Numbered)) (rs : List UnitRecord) (records : List Record) (s : Scanned a info tables rs records) (id : ℕ) (r : Record) → slice_get records id ≡ Some r
-    → IfSome (slice_get (entries_of (units_of s)) id) (λ e. r.unit ≡ e.unit)
-record_unit a info tables rs records s id r is = go (slice_get (entries_of (units_of s)) id) refl
-  where
-    go : (o : Option Entry) → slice_get (entries_of (units_of s)) id ≡ o → IfSome o (λ e. r.unit ≡ e.unit)
-    go None at = tt
-    go (Some e) at =
-        let numbers = numbers_of tables rs in
-        ap (λ (x : Record). x.unit) (same_some (slice_get records id) r (record_of numbers e) is (ap (λ (xs : List Record). slice_get xs id) s.1.entries ∙ kept_get numbers (units_of s) id e at))

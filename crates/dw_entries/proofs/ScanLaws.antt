@@ -37,29 +37,29 @@ pub record Upto (a info : List ℕ) (header : ℕ) (kept : Kept) : Type 0 where
 
 records_from-push : (numbers : ℕ → ℕ → ℕ) (unit id at : ℕ) (us : List DebugUnit) (u : DebugUnit)
     → records_from numbers unit id at (us ++ u ∷ [])
-    ≡ records_from numbers unit id at us ++ node_records (numbers (unit + length us)) (unit + length us) None 0 None (id + length (records_from numbers unit id at us)) ((at + length (units_bytes us)) + header_size u.header.kind) u.root
+    ≡ records_from numbers unit id at us ++ node_records (numbers (unit + length us)) None None (id + length (records_from numbers unit id at us)) ((at + length (units_bytes us)) + header_size u.header.kind) u.root
 records_from-push numbers unit id at [] u =
-    let front : node_records (numbers (unit + 0)) (unit + 0) None 0 None (id + 0) (at + 0 + header_size u.header.kind) u.root ≡ node_records (numbers unit) unit None 0 None id (at + header_size u.header.kind) u.root = simp add-zero in
-    append-nil (node_records (numbers unit) unit None 0 None id (at + header_size u.header.kind) u.root) ∙ sym front
+    let front : node_records (numbers (unit + 0)) None None (id + 0) (at + 0 + header_size u.header.kind) u.root ≡ node_records (numbers unit) None None id (at + header_size u.header.kind) u.root = simp add-zero in
+    append-nil (node_records (numbers unit) None None id (at + header_size u.header.kind) u.root) ∙ sym front
 records_from-push numbers unit id at (v ∷ us) u =
-    let first : List Record = node_records (numbers unit) unit None 0 None id (at + header_size v.header.kind) v.root in
+    let first : List Record = node_records (numbers unit) None None id (at + header_size v.header.kind) v.root in
     let others : List Record = records_from numbers (suc unit) (id + node_count v.root) (at + length (unit_bytes v)) us in
     let n : suc unit + length us ≡ unit + length (v ∷ us) = omega arith in
-    let k : (id + node_count v.root) + length others ≡ id + length (first ++ others) = omega (arith, length-append first others, length-node_records (numbers unit) unit None 0 None id (at + header_size v.header.kind) v.root) in
+    let k : (id + node_count v.root) + length others ≡ id + length (first ++ others) = omega (arith, length-append first others, length-node_records (numbers unit) None None id (at + header_size v.header.kind) v.root) in
     let o : (at + length (unit_bytes v)) + length (units_bytes us) ≡ at + length (units_bytes (v ∷ us)) = omega (arith, length-append (unit_bytes v) (units_bytes us)) in
     ap (λ (r : List Record). first ++ r) (records_from-push numbers (suc unit) (id + node_count v.root) (at + length (unit_bytes v)) us u)
     ∙ sym (append_assoc first others _)
-    ∙ ap (λ (r : List Record). (first ++ others) ++ r) (ap (λ (m : ℕ). node_records (numbers m) m None 0 None ((id + node_count v.root) + length others) (((at + length (unit_bytes v)) + length (units_bytes us)) + header_size u.header.kind) u.root) n
-    ∙ ap (λ (m : ℕ). node_records (numbers (unit + length (v ∷ us))) (unit + length (v ∷ us)) None 0 None m (((at + length (unit_bytes v)) + length (units_bytes us)) + header_size u.header.kind) u.root) k
-    ∙ ap (λ (m : ℕ). node_records (numbers (unit + length (v ∷ us))) (unit + length (v ∷ us)) None 0 None (id + length (first ++ others)) (m + header_size u.header.kind) u.root) o)
+    ∙ ap (λ (r : List Record). (first ++ others) ++ r) (ap (λ (m : ℕ). node_records (numbers m) None None ((id + node_count v.root) + length others) (((at + length (unit_bytes v)) + length (units_bytes us)) + header_size u.header.kind) u.root) n
+    ∙ ap (λ (m : ℕ). node_records (numbers (unit + length (v ∷ us))) None None m (((at + length (unit_bytes v)) + length (units_bytes us)) + header_size u.header.kind) u.root) k
+    ∙ ap (λ (m : ℕ). node_records (numbers (unit + length (v ∷ us))) None None (id + length (first ++ others)) (m + header_size u.header.kind) u.root) o)
 
 -- the records of units depend on the numbers of these units alone
 records_same : (f g : ℕ → ℕ → ℕ) (unit id at : ℕ) (us : List DebugUnit) → ((n : ℕ) → n < unit + length us → f n ≡ g n) → records_from f unit id at us ≡ records_from g unit id at us
 records_same f g unit id at [] same = refl
 records_same f g unit id at (u ∷ us) same =
     let rest = records_same f g (suc unit) (id + node_count u.root) (at + length (unit_bytes u)) us (λ n less. same n (omega (arith, less))) in
-    ap (λ (h : ℕ → ℕ). node_records h unit None 0 None id (at + header_size u.header.kind) u.root ++ records_from f (suc unit) (id + node_count u.root) (at + length (unit_bytes u)) us) (same unit (omega arith))
-    ∙ ap (λ (rs : List Record). node_records (g unit) unit None 0 None id (at + header_size u.header.kind) u.root ++ rs) rest
+    ap (λ (h : ℕ → ℕ). node_records h None None id (at + header_size u.header.kind) u.root ++ records_from f (suc unit) (id + node_count u.root) (at + length (unit_bytes u)) us) (same unit (omega arith))
+    ∙ ap (λ (rs : List Record). node_records (g unit) None None id (at + header_size u.header.kind) u.root ++ rs) rest
 
 AreUnits-push : (a : List ℕ) (us : List DebugUnit) (u : DebugUnit) → AreUnits a us → IsUnit a u → AreUnits a (us ++ u ∷ [])
 AreUnits-push a [] u p q = (q, tt)
@@ -125,10 +125,10 @@ placed_from-push numbers unit at first [] u =
     ap (λ (p : PlacedUnit). p ∷ []) (ap (λ (n : ℕ). placed_at n first u) o ∙ ap (λ (n : ℕ). placed_at (at + 0) n u) k)
 placed_from-push numbers unit at first (v ∷ us) u =
     let start : ℕ = at + header_size v.header.kind in
-    let front : List Record = node_records (numbers unit) unit None 0 None first start v.root in
+    let front : List Record = node_records (numbers unit) None None first start v.root in
     let others : List Record = records_from numbers (suc unit) (first + node_count v.root) (at + length (unit_bytes v)) us in
     let o : (at + length (unit_bytes v)) + length (units_bytes us) ≡ at + length (units_bytes (v ∷ us)) = omega (arith, length-append (unit_bytes v) (units_bytes us)) in
-    let k : (first + node_count v.root) + length others ≡ first + length (front ++ others) = omega (arith, length-append front others, length-node_records (numbers unit) unit None 0 None first start v.root) in
+    let k : (first + node_count v.root) + length others ≡ first + length (front ++ others) = omega (arith, length-append front others, length-node_records (numbers unit) None None first start v.root) in
     let last : placed_at ((at + length (unit_bytes v)) + length (units_bytes us)) ((first + node_count v.root) + length others) u ≡ placed_at (at + length (units_bytes (v ∷ us))) (first + length (front ++ others)) u =
     ap (λ (n : ℕ). placed_at n ((first + node_count v.root) + length others) u) o ∙ ap (λ (n : ℕ). placed_at (at + length (units_bytes (v ∷ us))) n u) k in
     ap (λ (ps : List PlacedUnit). placed_at at first v ∷ ps) (placed_from-push numbers (suc unit) (at + length (unit_bytes v)) (first + node_count v.root) us u
@@ -171,11 +171,11 @@ upto_next a info header old new len u t =
           (AllKept-push tables old.units.items (placed u.units) t.record_is (placed_at header (length records) v) (AllKept-more (tables_in old.tables) tables old.units.items (placed u.units) t.stay u.unit_records) t.kept);
       tables = t.tables;
       places = rw t.units (t.records
-          ∙ ap (λ (f : ℕ → ℕ). records ++ node_records f unit None 0 None (length records) (header + size) v.root) (numbers_last tables old.units.items t.record_is unit refl)
-          ∙ ap (λ (m : ℕ). records ++ node_records (numbers m) m None 0 None (length records) (header + size) v.root) n
-          ∙ ap (λ (k : ℕ). records ++ node_records (numbers (0 + length u.units)) (0 + length u.units) None 0 None k (header + size) v.root) id
-          ∙ ap (λ (o : ℕ). records ++ node_records (numbers (0 + length u.units)) (0 + length u.units) None 0 None (0 + length (records_from numbers 0 0 0 u.units)) (o + size) v.root) at
-          ∙ ap (λ (r : List Record). r ++ node_records (numbers (0 + length u.units)) (0 + length u.units) None 0 None (0 + length (records_from numbers 0 0 0 u.units)) ((0 + length (units_bytes u.units)) + size) v.root) same
+          ∙ ap (λ (f : ℕ → ℕ). records ++ node_records f None None (length records) (header + size) v.root) (numbers_last tables old.units.items t.record_is unit refl)
+          ∙ ap (λ (m : ℕ). records ++ node_records (numbers m) None None (length records) (header + size) v.root) n
+          ∙ ap (λ (k : ℕ). records ++ node_records (numbers (0 + length u.units)) None None k (header + size) v.root) id
+          ∙ ap (λ (o : ℕ). records ++ node_records (numbers (0 + length u.units)) None None (0 + length (records_from numbers 0 0 0 u.units)) (o + size) v.root) at
+          ∙ ap (λ (r : List Record). r ++ node_records (numbers (0 + length u.units)) None None (0 + length (records_from numbers 0 0 0 u.units)) ((0 + length (units_bytes u.units)) + size) v.root) same
           ∙ sym (records_from-push numbers 0 0 0 u.units v));
     }
 
@@ -188,12 +188,9 @@ some_size (TypeUnit signature type_offset) = omega arith
 some_bytes : (u : DebugUnit) → 0 < length (unit_bytes u)
 some_bytes u = omega (arith, length-append (header_bytes u.header) (body_bytes u), length-header u.header, some_size u.header.kind)
 
-few_units : (us : List DebugUnit) → length us ≤ length (units_bytes us)
+pub few_units : (us : List DebugUnit) → length us ≤ length (units_bytes us)
 few_units [] = omega arith
 few_units (u ∷ us) = omega (arith, length-append (unit_bytes u) (units_bytes us), some_bytes u, few_units us)
-
-pub upto_few_units : (a info : List ℕ) (header : ℕ) (kept : Kept) → Upto a info header kept → length kept.units.items ≤ header
-upto_few_units a info header kept u = omega (arith, u.count, u.at, few_units u.units)
 
 pub upto_few_entries : (a info : List ℕ) (header : ℕ) (kept : Kept) → Upto a info header kept → length kept.records.items ≤ header
 upto_few_entries a info header kept u = omega (arith, ap length u.places, u.at, few_entries a (numbers_of (tables_in kept.tables) kept.units.items) u.units u.are)

@@ -31,14 +31,14 @@ module _ (a rest : List ℕ) (h : UnitHeader) (body : List ℕ) (bytes : AreByte
       let r = header_takes (length a) rest h body bytes read in
       omega (arith, length-header h, ap length r.parts, length-append (header_bytes h) (body ++ r.after), length-append body r.after)
 
-  pub unit_taken : (at start number first unit : ℕ) (old new : Kept)
-      → start ≡ at + header_size h.kind → first ≡ length old.records.items → unit ≡ length old.units.items
+  pub unit_taken : (at start number first : ℕ) (old new : Kept)
+      → start ≡ at + header_size h.kind → first ≡ length old.records.items
       → IsTableIn a (tables_in new.tables) h.abbrev_offset number
       → AreTablesOf a new.tables → Stay (tables_in old.tables) (tables_in new.tables)
       → new.units.items ≡ old.units.items ++ unit_record at h number first ∷ []
-      → TreeOf (context_by h (table_in (tables_in new.tables) number)) (number_in (numbered_in (tables_in new.tables) number)) h.kind body [] unit start old.records.items new.records.items
+      → TreeOf (context_by h (table_in (tables_in new.tables) number)) (number_in (numbered_in (tables_in new.tables) number)) h.kind body [] start old.records.items new.records.items
       → UnitTaken a rest at old new (4 + h.unit_length)
-  unit_taken at start number first unit old new s few counted there tables stay units tree =
+  unit_taken at start number first old new s few there tables stay units tree =
       let r = header_takes (length a) rest h body bytes read in
       let table : List Declaration = table_in (tables_in new.tables) number in
       let numbers : ℕ → ℕ = number_in (numbered_in (tables_in new.tables) number) in
@@ -59,8 +59,7 @@ module _ (a rest : List ℕ) (h : UnitHeader) (body : List ℕ) (bytes : AreByte
           first = few;
         };
         units = units;
-        records = tree.records ∙ ap (λ (k : ℕ). old.records.items ++ node_records numbers unit None 0 None (length old.records.items) k tree.root) s
-            ∙ ap (λ (n : ℕ). old.records.items ++ node_records numbers n None 0 None (length old.records.items) (at + header_size h.kind) tree.root) counted;
+        records = tree.records ∙ ap (λ (k : ℕ). old.records.items ++ node_records numbers None None (length old.records.items) k tree.root) s;
         tables = tables;
         stay = stay;
       }

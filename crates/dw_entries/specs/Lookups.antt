@@ -29,7 +29,6 @@ entry_head e = record {
   tag = e.head.decl.tag;
   unit = e.unit;
   parent = e.parent;
-  depth = e.depth;
   next_sibling = e.next;
 }
 

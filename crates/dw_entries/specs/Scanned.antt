@@ -21,10 +21,8 @@ numbers_of tables units unit = number_in (numbered_in tables (table_of units uni
 abbrev pub record_of : (ℕ → ℕ → ℕ) → Entry → Record
 record_of numbers e = record {
   at = e.at;
-  unit = e.unit;
   decl = numbers e.unit e.head.decl.code;
   parent = e.parent;
-  depth = e.depth;
   next = e.next;
 }
 

@@ -44,7 +44,7 @@ GivesUnlessMemory view (Ok x) read = read ≡ Ok (view x)
 GivesUnlessMemory view (Err e) read = HaltsBy e read
 
 -- the body spells a tree and nulls, and then the rest; the tree's entries come after the old ones
-pub record TreeOf (x : Context) (numbers : ℕ → ℕ) (kind : HeaderKind) (body rest : List ℕ) (unit at : ℕ)
+pub record TreeOf (x : Context) (numbers : ℕ → ℕ) (kind : HeaderKind) (body rest : List ℕ) (at : ℕ)
     (old new : List Record) : Type 0 where
   pub root : Node
   pub is : IsNode x root
@@ -52,7 +52,7 @@ pub record TreeOf (x : Context) (numbers : ℕ → ℕ) (kind : HeaderKind) (bod
   pub nulls : List (List ℕ)
   pub are_nulls : AreNulls nulls
   pub parts : body ≡ (node_bytes root ++ nulls_bytes nulls) ++ rest
-  pub records : new ≡ old ++ node_records numbers unit None 0 None (length old) at root
+  pub records : new ≡ old ++ node_records numbers None None (length old) at root
 
 -- the bytes are nulls
 abbrev pub AreAllNulls : List ℕ → Type 0
@@ -98,6 +98,6 @@ pub record UnitTaken («abbrev» rest : List ℕ) (at : ℕ) (old new : Kept) (l
   pub units : new.units.items ≡ old.units.items ++ record_is ∷ []
   pub records : new.records.items ≡ old.records.items
       ++ node_records (number_in (numbered_in (tables_in new.tables) record_is.table))
-      (length old.units.items) None 0 None (length old.records.items) (at + header_size taken.header.kind) taken.root
+      None None (length old.records.items) (at + header_size taken.header.kind) taken.root
   pub tables : AreTablesOf «abbrev» new.tables
   pub stay : Stay (tables_in old.tables) (tables_in new.tables)

@@ -32,23 +32,15 @@ open_list true id ls = record { parent = Some id; last = None } ∷ ls
 open_list false id ls = ls
 
 -- an entry is taken up, with the number of its declaration and the declaration
-abbrev pub enter : ℕ → ℕ → ℕ × Declaration → List Record → List Level → Walk
-enter unit at d rs [] = record {
+abbrev pub enter : ℕ → ℕ × Declaration → List Record → List Level → Walk
+enter at d rs [] = record {
   records =
-      rs ++ record { at = at; unit = unit; decl = d.0; parent = None; depth = 0; next = None } ∷ [];
+      rs ++ record { at = at; decl = d.0; parent = None; next = None } ∷ [];
   levels =
       open_list d.1.has_children (length rs) [];
 }
-enter unit at d rs (l ∷ ls) = record {
-  records = link_last l.last (length rs) rs ++ record {
-    at = at;
-    unit = unit;
-    decl = d.0;
-    parent = l.parent;
-    depth =
-        suc (length ls);
-    next = None;
-  } ∷ [];
+enter at d rs (l ∷ ls) = record {
+  records = link_last l.last (length rs) rs ++ record { at = at; decl = d.0; parent = l.parent; next = None } ∷ [];
   levels = open_list d.1.has_children (length rs) (record { parent = l.parent; last = Some (length rs) } ∷ ls);
 }
 
@@ -60,12 +52,11 @@ leave (l ∷ ls) = ls
 -- what an item at this offset makes of the state, with the numbers of the declarations by their codes: an entry is
 -- taken
 -- up, a null closes a list
-abbrev pub step : (ℕ → ℕ) → ℕ → ℕ → Item → Walk → Walk
-step numbers unit at (entry h) w = enter unit at (numbers h.decl.code, h.decl) w.records w.levels
-step numbers unit at (null z) w = record w { levels = leave w.levels }
+abbrev pub step : (ℕ → ℕ) → ℕ → Item → Walk → Walk
+step numbers at (entry h) w = enter at (numbers h.decl.code, h.decl) w.records w.levels
+step numbers at (null z) w = record w { levels = leave w.levels }
 
 -- what items from this offset on make of the state, one after another
-abbrev pub walk_along : (ℕ → ℕ) → ℕ → ℕ → List Item → Walk → Walk
-walk_along numbers unit at [] w = w
-walk_along numbers unit at (i ∷ is) w =
-    walk_along numbers unit (at + length (item_bytes i)) is (step numbers unit at i w)
+abbrev pub walk_along : (ℕ → ℕ) → ℕ → List Item → Walk → Walk
+walk_along numbers at [] w = w
+walk_along numbers at (i ∷ is) w = walk_along numbers (at + length (item_bytes i)) is (step numbers at i w)

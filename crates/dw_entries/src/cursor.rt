@@ -1,34 +1,61 @@
 //! Look-ups of one entry after another, with the unit of the last at hand.
 
-ghost use Rattle.std.specs.Prelude.{◌≡◌, ◌<◌, Some, length, slice_get, IfSome};
+ghost use Rattle.std.specs.Prelude.{◌≡◌, ◌+◌, ◌<◌, ◌≤◌, length, slice_get, IfSome};
+ghost use Rattle.std.specs.List.Sorted.{IsNonDecreasingBy, IsPartitionPoint};
 ghost use Rattle.std.specs.Option.{ForSome};
 ghost use Rattle.std.specs.Bool.{OnFalse, OnTrue};
-ghost use Rattle.dw_entries.specs.Cursors.{IsAt, IsUnitAt};
-ghost use Rattle.dw_entries.specs.Scanned.{all_entries};
+ghost use Rattle.dw_entries.specs.Cursors.{HasEntries, IsIn, IsUnitAt};
+ghost use Rattle.dw_entries.specs.Entries.{node_count};
+ghost use Rattle.dw_entries.specs.Scanned.{all_entries, all_units, units_of};
 
 use crate::entries::Entries;
 use crate::entry_at::EntryAt;
 use crate::id::EntryId;
-use crate::record::{Record, UnitRecord};
+use crate::record::UnitRecord;
 
-/// A unit and its number.
+/// A unit, its number, and which entries are of it: those from its first one on, and before `end`.
 #[derive(Clone, Copy, Debug)]
 pub struct UnitAt {
     pub number: u32,
+    pub end: u32,
     pub record: UnitRecord,
 }
 
-/// The unit of an entry of which this is kept.
-#[inline(always)]
-pub fn unit_at(entries: &Entries<'_>, id: EntryId, kept: &Record) -> UnitAt
-    requires id { id < length (all_entries entries.now.scanned) }
-    requires kept { slice_get entries.now.records.items id ≡ Some kept.now }
-    ensures unit { IsUnitAt entries.now.units.items result }
-    ensures number { result.number ≡ kept.now.unit }
+/// The number of the entry behind the last one of a unit.
+fn end_of(entries: &Entries<'_>, number: usize) -> u32
+    requires { number < length (units_of entries.now.scanned) }
+    ensures { IfSome (slice_get (all_units entries.now.scanned) number)
+        (λ p. result ≡ p.first + node_count p.unit.root) }
 {
+    let next = number + 1;
+    if next < entries.units.len() {
+        entries.units[next].first
+    } else {
+        entries.records.len() as u32
+    }
+}
+
+/// How many units begin with this entry or an earlier one.
+fn units_up_to(units: &[UnitRecord], id: EntryId) -> usize
+    requires { IsNonDecreasingBy (λ u. u.first) units.now }
+    ensures within { result ≤ length units.now }
+    ensures up_to { IsPartitionPoint (λ u. u.first ≤ id) (λ u. id < u.first) units.now result }
+{
+    units.partition_point(|unit| unit.first as usize <= id.number())
+}
+
+/// The unit of an entry.
+pub fn unit_at(entries: &Entries<'_>, id: EntryId) -> UnitAt
+    requires { id < length (all_entries entries.now.scanned) }
+    ensures unit { IsUnitAt entries.now.units.items result }
+    ensures its { HasEntries (all_entries entries.now.scanned) result }
+    ensures number { IfSome (slice_get (all_entries entries.now.scanned) id) (λ e. result.number ≡ e.unit) }
+{
+    let number = units_up_to(&entries.units, id) - 1;
     UnitAt {
-        number: kept.unit,
-        record: entries.units[kept.unit as usize],
+        number: number as u32,
+        end: end_of(entries, number),
+        record: entries.units[number],
     }
 }
 
@@ -40,6 +67,7 @@ pub struct Cursor<'e, 'a> {
     pub entries: &'e Entries<'a>,
     unit: Option<UnitAt>,
     ghost at_hand: { ForSome unit (IsUnitAt entries.now.units.items) },
+    ghost its: { ForSome unit (HasEntries (all_entries entries.now.scanned)) },
 }
 
 impl<'a> Entries<'a> {
@@ -54,15 +82,15 @@ impl<'a> Entries<'a> {
     }
 }
 
-/// Whether a unit is at hand and has this number.
+/// Whether a unit is at hand and has this entry.
 #[inline(always)]
-fn is_at(unit: &Option<UnitAt>, number: u32) -> bool
-    ensures yes { OnTrue result (IsAt unit.now number) }
-    ensures otherwise { OnFalse result (IsAt unit.now number → ⊥) }
+fn has(unit: &Option<UnitAt>, id: EntryId) -> bool
+    ensures yes { OnTrue result (IsIn unit.now id) }
+    ensures no { OnFalse result (IsIn unit.now id → ⊥) }
 {
     match unit {
-        Some(unit) if unit.number == number => true,
-        _ => false,
+        Some(unit) => unit.record.first as usize <= id.number() && id.number() < unit.end as usize,
+        None => false,
     }
 }
 
@@ -73,12 +101,12 @@ impl<'e, 'a> Cursor<'e, 'a> {
         requires { id < length (all_entries self.now.entries.now.scanned) }
         ensures { IfSome result (λ entry. entry ≡ slice_get (all_entries self.now.entries.now.scanned) id) }
     {
-        let record = self.entries.record(id);
+        if !has(&self.unit, id) {
+            return None;
+        }
         match &self.unit {
-            Some(unit) if unit.number == record.unit => {
-                Some(EntryAt::new(self.entries, id, &record, unit))
-            }
-            _ => None,
+            Some(unit) => Some(EntryAt::new(self.entries, id, unit)),
+            None => None,
         }
     }
 
@@ -89,12 +117,11 @@ impl<'e, 'a> Cursor<'e, 'a> {
         ensures same { self.new.entries.now ≡ self.old.entries.now }
         ensures found { result ≡ slice_get (all_entries self.old.entries.now.scanned) id }
     {
-        let kept = self.entries.record(id);
-        if !is_at(&self.unit, kept.unit) {
-            self.unit = Some(unit_at(self.entries, id, &kept));
+        if !has(&self.unit, id) {
+            self.unit = Some(unit_at(self.entries, id));
         }
         match &self.unit {
-            Some(unit) => EntryAt::new(self.entries, id, &kept, unit),
+            Some(unit) => EntryAt::new(self.entries, id, unit),
             None => unreachable!(),
         }
     }

@@ -54,6 +54,8 @@ pub struct EntryAt<'e, 'a> {
     id: EntryId,
     kept: Record,
     decl: &'e Decl,
+    /// The number of its unit.
+    unit: u32,
     header: UnitHeader,
 }
 
@@ -67,7 +69,8 @@ impl<'e, 'a> Model for EntryAt<'e, 'a> {
         × IfSome (slice_get (all_entries it.entries.now.scanned) it.id)
         (λ e. decl_view it.decl.now ≡ e.head.decl)
         × IfSome (slice_get (all_entries it.entries.now.scanned) it.id)
-        (λ e. IfSome (slice_get (units_of it.entries.now.scanned) e.unit) (λ u. it.header ≡ u.header)) };
+        (λ e. IfSome (slice_get (units_of it.entries.now.scanned) e.unit) (λ u. it.header ≡ u.header))
+        × IfSome (slice_get (all_entries it.entries.now.scanned) it.id) (λ e. it.unit ≡ e.unit) };
 }
 
 impl<'a> Entries<'a> {
@@ -77,32 +80,26 @@ impl<'a> Entries<'a> {
         requires { id < length (all_entries self.now.scanned) }
         ensures { result ≡ slice_get (all_entries self.now.scanned) id }
     {
-        let kept = self.record(id);
-        let unit = unit_at(self, id, &kept);
-        EntryAt::new(self, id, &kept, &unit)
+        EntryAt::new(self, id, &unit_at(self, id))
     }
 }
 
 impl<'e, 'a> EntryAt<'e, 'a> {
-    /// An entry of which this is kept, in this unit.
+    /// An entry of a unit.
     #[inline(always)]
-    pub(crate) fn new(
-        entries: &'e Entries<'a>,
-        id: EntryId,
-        kept: &Record,
-        unit: &UnitAt,
-    ) -> EntryAt<'e, 'a>
+    pub(crate) fn new(entries: &'e Entries<'a>, id: EntryId, unit: &UnitAt) -> EntryAt<'e, 'a>
         requires id { id < length (all_entries entries.now.scanned) }
-        requires kept { slice_get entries.now.records.items id ≡ Some kept.now }
         requires unit { IsUnitAt entries.now.units.items unit.now }
-        requires number { unit.now.number ≡ kept.now.unit }
+        requires number { IfSome (slice_get (all_entries entries.now.scanned) id) (λ e. unit.now.number ≡ e.unit) }
         ensures { result ≡ slice_get (all_entries entries.now.scanned) id }
     {
+        let kept = entries.record(id);
         EntryAt {
             entries,
             id,
-            kept: *kept,
+            kept,
             decl: &entries.decls[(kept.decl - 1) as usize].decl,
+            unit: unit.number,
             header: unit.record.header,
         }
     }
@@ -136,7 +133,7 @@ impl<'e, 'a> EntryAt<'e, 'a> {
     pub fn unit(&self) -> usize
         ensures { IfSome self.now (λ e. result ≡ e.unit) }
     {
-        self.kept.unit as usize
+        self.unit as usize
     }
 
     /// Its parent. None at the first entry of a unit.
@@ -163,9 +160,8 @@ impl<'e, 'a> EntryAt<'e, 'a> {
         Head {
             offset: self.kept.at,
             tag: self.decl.tag,
-            unit: self.kept.unit as usize,
+            unit: self.unit as usize,
             parent: id_of(self.kept.parent),
-            depth: self.kept.depth as usize,
             next_sibling: id_of(self.kept.next),
         }
     }

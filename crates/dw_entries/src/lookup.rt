@@ -24,8 +24,6 @@ pub struct Head {
     /// The number of its unit.
     pub unit: usize,
     pub parent: Option<EntryId>,
-    /// How many entries are above it.
-    pub depth: usize,
     pub next_sibling: Option<EntryId>,
 }
 

@@ -27,13 +27,9 @@ pub struct UnitRecord {
 pub struct Record {
     /// The offset of its first byte.
     pub at: u32,
-    /// The number of its unit.
-    pub unit: u32,
     /// The number of its declaration.
     pub decl: u32,
     pub parent: OptionalId,
-    /// How many entries are above it.
-    pub depth: u32,
     /// Its next sibling.
     pub next: OptionalId,
 }
@@ -70,17 +66,15 @@ fn set_next(records: &mut Vec<Record>, at: u32, id: u32)
 pub fn enter(
     records: &mut Vec<Record>,
     levels: &mut Vec<Level>,
-    unit: u32,
     at: u32,
     declared: Declared<'_>,
 ) -> Result<(), AllocError>
     requires few_entries { length records.old.items < 0xffffffff }
     requires few_levels { length levels.old.items < 2 ^ 32 }
     ensures { OnOk result (walk_of records.new.items levels.new.items
-        ≡ entered unit at (declared_view declared.entry) records.old.items (reverse levels.old.items)) }
+        ≡ entered at (declared_view declared.entry) records.old.items (reverse levels.old.items)) }
 {
     let id = records.len() as u32;
-    let depth = levels.len() as u32;
     let mut parent = OptionalId::none();
     if let Some(level) = levels.pop() {
         if let Some(last) = level.last.get() {
@@ -94,10 +88,8 @@ pub fn enter(
     }
     records.push(Record {
         at,
-        unit,
         decl: declared.number,
         parent,
-        depth,
         next: OptionalId::none(),
     })?;
     if declared.decl.has_children {

@@ -4,6 +4,7 @@ ghost use Rattle.std.specs.Prelude.{◌≡◌, ◌<◌, ℕ, length, slice_get, 
 ghost use Rattle.dw_entries.specs.Scanned.{all_entries, all_units, units_of};
 ghost use Rattle.dw_entries.specs.Runs.{ReachesInUnit};
 
+use crate::cursor::unit_at;
 use crate::entries::Entries;
 use crate::id::EntryId;
 
@@ -23,7 +24,21 @@ impl Entries<'_> {
         requires { id < length (all_entries self.now.scanned) }
         ensures { IfSome (slice_get (all_entries self.now.scanned) id) (λ e. result ≡ e.unit) }
     {
-        self.record(id).unit as usize
+        unit_at(self, id).number as usize
+    }
+
+    /// How many entries are above an entry. Each of them is looked at.
+    pub fn depth(&self, id: EntryId) -> usize
+        requires { id < length (all_entries self.now.scanned) }
+        ensures { IfSome (slice_get (all_entries self.now.scanned) id) (λ e. result ≡ e.depth) }
+    {
+        let mut depth = 0;
+        let mut above = self.record(id).parent.get();
+        while let Some(parent) = above {
+            depth += 1;
+            above = self.records[parent as usize].parent.get();
+        }
+        depth
     }
 
     /// The entry of a unit that begins so far behind the first byte of the unit's header.
@@ -41,7 +56,7 @@ impl Entries<'_> {
         let Some(id) = self.find_at(at) else {
             return None;
         };
-        if self.records[id.number()].unit as usize == unit {
+        if self.unit_of(id) == unit {
             Some(id)
         } else {
             None

@@ -39,7 +39,6 @@ pub fn take_unit(
     requires table_fits { length section.now ≤ SECTION_LIMIT }
     requires tables { AreTablesOf section.now kept.old.tables }
     requires few_entries { length kept.old.records.items ≤ at }
-    requires few_units { length kept.old.units.items ≤ at }
     ensures unit { IfOk result (λ len. UnitTaken section.now rest.now at kept.old kept.new len) }
     ensures fault { IfErr result (IfBroken (FailsHere section.now at rest.now)) }
 {
@@ -56,7 +55,6 @@ pub fn take_unit(
         first: kept.records.len() as u32,
     };
     let place = UnitPlace {
-        number: kept.units.len() as u32,
         header: at,
         start: at + header.kind.size() as u32,
     };

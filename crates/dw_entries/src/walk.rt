@@ -55,7 +55,6 @@ fn broken_at(failing: Failing, header: u32, at: u32) -> Broken
 fn turn<'b>(
     context: UnitContext<'_>,
     rest: &'b [u8],
-    unit: u32,
     at: u32,
     records: &mut Vec<Record>,
     levels: &mut Vec<Level>,
@@ -63,7 +62,7 @@ fn turn<'b>(
     requires few_entries { length records.old.items < 0xffffffff }
     requires few_levels { length levels.old.items < 2 ^ 32 }
     ensures { GivesUnlessMemory (λ after. (walk_of records.new.items levels.new.items, after.now)) result
-        (seen (λ i. step (numbers_in context.entry) unit at i (walk_of records.old.items levels.old.items))
+        (seen (λ i. step (numbers_in context.entry) at i (walk_of records.old.items levels.old.items))
         (item_at (context_in context.entry) rest.now)) }
 {
     match read_item(context, rest) {
@@ -73,17 +72,16 @@ fn turn<'b>(
                 Token::Null => {
                     levels.pop();
                 }
-                Token::Entry(declared) => enter(records, levels, unit, at, declared)?,
+                Token::Entry(declared) => enter(records, levels, at, declared)?,
             }
             Ok(after)
         }
     }
 }
 
-/// Where a unit is: its number, the offset of its header, and that of the bytes behind the header.
+/// Where a unit is: the offset of its header, and that of the bytes behind the header.
 #[derive(Clone, Copy)]
 pub struct UnitPlace {
-    pub number: u32,
     pub header: u32,
     pub start: u32,
 }
@@ -102,7 +100,7 @@ fn walk_tree<'b>(
     requires few_entries { length records.old.items ≤ place.header }
     ensures tree { IfOk result
         (λ rest. TreeOf (context_in context.entry) (numbers_in context.entry) kind body.now rest.now
-        place.number place.start records.old.items records.new.items) }
+        place.start records.old.items records.new.items) }
     ensures fault { IfErr result (IfBroken (BodyFails (context_in context.entry) kind place.header body.now)) }
 {
     let mut levels: Vec<Level> = Vec::new(alloc);
@@ -112,10 +110,10 @@ fn walk_tree<'b>(
             return Err(Break::Broken(broken_at(failing, place.header, place.start)));
         }
     };
-    enter(records, &mut levels, place.number, place.start, declared)?;
+    enter(records, &mut levels, place.start, declared)?;
     while !levels.is_empty() {
         let at = place.start + (body.len() - rest.len()) as u32;
-        rest = match turn(context, rest, place.number, at, records, &mut levels) {
+        rest = match turn(context, rest, at, records, &mut levels) {
             Ok(after) => after,
             Err(Halt::Memory) => return Err(Break::Memory),
             Err(Halt::Failing(failing)) => {
@@ -165,7 +163,7 @@ pub fn walk_unit(
     requires fits { place.start + length body.now ≤ SECTION_LIMIT }
     requires few_entries { length records.old.items ≤ place.header }
     ensures tree { OnOk result (TreeOf (context_in context.entry) (numbers_in context.entry) kind body.now []
-        place.number place.start records.old.items records.new.items) }
+        place.start records.old.items records.new.items) }
     ensures fault { IfErr result (IfBroken (BodyFails (context_in context.entry) kind place.header body.now)) }
 {
     let rest = walk_tree(alloc, context, kind, place, body, records)?;

@@ -40,6 +40,15 @@ impl<'a> Image<'a> {
         self.entries.head(id)
     }
 
+    /// How many entries are above an entry. Each of them is looked at.
+    #[tactic(auto, unfolding(crate::specs::Images::units_in))]
+    pub fn depth(&self, id: EntryId) -> usize
+        requires { id < length (entries_in self.now) }
+        ensures { IfSome (slice_get (entries_in self.now) id) (λ e. result ≡ e.depth) }
+    {
+        self.entries.depth(id)
+    }
+
     /// The value of an entry's attribute, if it has that attribute.
     #[tactic(auto, unfolding(crate::specs::Images::units_in))]
     pub fn value(&self, id: EntryId, attribute: Attribute) -> Option<Value<'a>>

@@ -1,9 +1,6 @@
 use Rattle.std.proofs.Common.{arith}
-use Rattle.dw_entries.proofs.ScanLaws.{upto_start, upto_next, upto_end, upto_few_units, upto_few_entries, unit_within, rest_of}
+use Rattle.dw_entries.proofs.ScanLaws.{upto_start, upto_next, upto_end, upto_few_entries, unit_within, rest_of}
 use Rattle.dw_entries.proofs.scanning.scan_units.Goals as goal
-
-pub take_unit-requires-clause-few_units : goal.take_unit-requires-clause-few_units
-take_unit-requires-clause-few_units c = upto_few_units c.args.section.now c.args.info.now c.loop-at.at c.loop-at.kept c.loop-at.invariant.upto
 
 pub take_unit-requires-clause-few_entries : goal.take_unit-requires-clause-few_entries
 take_unit-requires-clause-few_entries c = upto_few_entries c.args.section.now c.args.info.now c.loop-at.at c.loop-at.kept c.loop-at.invariant.upto

@@ -14,27 +14,27 @@ returns-in-Err-clause-fault c =
 
 pub loop-place-init : goal.loop-place-init
 loop-place-init c =
-    first_turn (context_in c.args.context) (numbers_in c.args.context) c.args.kind c.args.place.number c.args.place.start c.args.body.now c.args.records.now.items c.enter.new.records.items c.new-levels.result.items c.enter.new.levels.items (declared_view c.in-Ok.found.0) c.in-Ok.found.1.now c.in-Ok.ensures c.new-levels.ensures.items c.in_ok-enter.ensures
+    first_turn (context_in c.args.context) (numbers_in c.args.context) c.args.kind c.args.place.start c.args.body.now c.args.records.now.items c.enter.new.records.items c.new-levels.result.items c.enter.new.levels.items (declared_view c.in-Ok.found.0) c.in-Ok.found.1.now c.in-Ok.ensures c.new-levels.ensures.items c.in_ok-enter.ensures
 
 pub loop-place-smaller : goal.loop-place-smaller
 loop-place-smaller c =
-    turn_shorter (λ i. step (numbers_in c.args.context) c.args.place.number (c.args.place.start + (length c.args.body.now - length c.loop-place.rest.now)) i (walk_of c.loop-place.records.items c.loop-place.levels.items)) (context_in c.args.context) c.loop-place.rest.now (walk_of c.turn.new.records.items c.turn.new.levels.items) c.in-Ok-turn.after.now c.in-Ok-turn.ensures
+    turn_shorter (λ i. step (numbers_in c.args.context) (c.args.place.start + (length c.args.body.now - length c.loop-place.rest.now)) i (walk_of c.loop-place.records.items c.loop-place.levels.items)) (context_in c.args.context) c.loop-place.rest.now (walk_of c.turn.new.records.items c.turn.new.levels.items) c.in-Ok-turn.after.now c.in-Ok-turn.ensures
 
 pub loop-place-preserved : goal.loop-place-preserved
 loop-place-preserved c =
-    next_turn (context_in c.args.context) (numbers_in c.args.context) c.args.kind c.args.place.number c.args.place.start c.args.body.now c.args.records.now.items c.loop-place.rest.now c.loop-place.records.items c.loop-place.levels.items c.turn.new.records.items c.turn.new.levels.items c.in-Ok-turn.after.now c.loop-place.invariant (some_from c.loop-place.levels.items _ c.loop-place.levels.ok.0 c.loop-place-test.ensures) c.in-Ok-turn.ensures
+    next_turn (context_in c.args.context) (numbers_in c.args.context) c.args.kind c.args.place.start c.args.body.now c.args.records.now.items c.loop-place.rest.now c.loop-place.records.items c.loop-place.levels.items c.turn.new.records.items c.turn.new.levels.items c.in-Ok-turn.after.now c.loop-place.invariant (some_from c.loop-place.levels.items _ c.loop-place.levels.ok.0 c.loop-place-test.ensures) c.in-Ok-turn.ensures
 
 pub returns-clause-tree : goal.returns-clause-tree
 returns-clause-tree c =
     let empty : c.loop-place.levels.items ≡ [] = none_from c.loop-place.levels.items _ c.loop-place.levels.ok.0 c.loop-place-test.ensures in
-    along_end (context_in c.args.context) (numbers_in c.args.context) c.args.kind c.args.place.number c.args.place.start c.args.body.now c.args.records.now.items c.loop-place.rest.now (walk_of c.loop-place.records.items c.loop-place.levels.items) c.loop-place.invariant (ap reverse empty)
+    along_end (context_in c.args.context) (numbers_in c.args.context) c.args.kind c.args.place.start c.args.body.now c.args.records.now.items c.loop-place.rest.now (walk_of c.loop-place.records.items c.loop-place.levels.items) c.loop-place.invariant (ap reverse empty)
 
 pub turn-requires-clause-few_entries : goal.turn-requires-clause-few_entries
 turn-requires-clause-few_entries c =
-    let few = along_few (context_in c.args.context) (numbers_in c.args.context) c.args.kind c.args.place.number c.args.place.start c.args.body.now c.args.records.now.items c.loop-place.rest.now c.loop-place.records.items c.loop-place.levels.items c.loop-place.invariant in
+    let few = along_few (context_in c.args.context) (numbers_in c.args.context) c.args.kind c.args.place.start c.args.body.now c.args.records.now.items c.loop-place.rest.now c.loop-place.records.items c.loop-place.levels.items c.loop-place.invariant in
     omega (arith, few.0, c.requires.fits, c.requires.few_entries, c.requires.start)
 
 pub turn-requires-clause-few_levels : goal.turn-requires-clause-few_levels
 turn-requires-clause-few_levels c =
-    let few = along_few (context_in c.args.context) (numbers_in c.args.context) c.args.kind c.args.place.number c.args.place.start c.args.body.now c.args.records.now.items c.loop-place.rest.now c.loop-place.records.items c.loop-place.levels.items c.loop-place.invariant in
+    let few = along_few (context_in c.args.context) (numbers_in c.args.context) c.args.kind c.args.place.start c.args.body.now c.args.records.now.items c.loop-place.rest.now c.loop-place.records.items c.loop-place.levels.items c.loop-place.invariant in
     omega (arith, few.1, c.requires.fits)

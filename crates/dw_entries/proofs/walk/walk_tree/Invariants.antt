@@ -6,7 +6,7 @@ use Rattle.dw_entries.proofs.walk.walk_tree.Given as goal
 
 abbrev pub invariant-loop-place : goal.invariant-loop-place
 invariant-loop-place l =
-    Along (context_in l.context) (numbers_in l.context) l.fn.kind l.place.number l.place.start l.body l.fn.records.items l.rest (walk_of l.records.items l.levels.items)
+    Along (context_in l.context) (numbers_in l.context) l.fn.kind l.place.start l.body l.fn.records.items l.rest (walk_of l.records.items l.levels.items)
 
 abbrev pub decreases-loop-place : goal.decreases-loop-place
 decreases-loop-place l = length l.rest

@@ -1,11 +1,10 @@
-use Rattle.std.proofs.Common.{arith, sym, ◌∙◌, ◌≡◌, ℕ, get_or, subst}
+use Rattle.std.proofs.Common.{arith, sym, ◌∙◌, ◌≡◌}
 use Rattle.std.proofs.lemmas.Option.{slice_get_within}
 use Rattle.dw_entries.specs.Entries.{entries_of, placed}
 use Rattle.dw_entries.specs.Scanned.{units_of}
 use Rattle.dw_entries.proofs.KeptLaws.{kept_unit, units_counted}
 use Rattle.dw_entries.proofs.EntryFacts.{entries_rise}
-use Rattle.dw_entries.proofs.FindLaws.{entries_counted}
-use Rattle.dw_entries.proofs.RunLaws.{record_kept, unit_of_record, reaches, never_other, never_there, never_far}
+use Rattle.dw_entries.proofs.RunLaws.{record_kept, reaches, never_other, never_there, never_far}
 use Rattle.dw_entries.proofs.entries.Entries.find_in_unit.Goals as goal
 
 pub index-requires : goal.index-requires
@@ -21,28 +20,26 @@ returns-in_default-find_at-clause-none c =
     never_there _ _ _ _ _ c.args.self.now.scanned c.args.unit c.args.offset c.in-Some.at (kept_unit _ _ _ _ _ c.args.self.now.scanned c.args.unit c.requires) c.index.result.now c.index.ensures
     c.in-Some.ensures.1 c.in_default-find_at.ensures.none
 
-pub index-requires-2 : goal.index-requires-2
-index-requires-2 c =
+pub unit_of-requires : goal.unit_of-requires
+unit_of-requires c =
     let found = c.in-Some-find_at.ensures.found in
-    omega (arith, c.number.ensures, slice_get_within (entries_of (units_of c.args.self.now.scanned)) c.in-Some-find_at.id found.entry found.is_entry, entries_counted _ _ _ _ _ c.args.self.now.scanned)
+    slice_get_within (entries_of (units_of c.args.self.now.scanned)) c.in-Some-find_at.id found.entry found.is_entry
 
-pub returns-then-index-unit-clause-found : goal.returns-then-index-unit-clause-found
-returns-then-index-unit-clause-found c =
+pub returns-then-unit_of-unit-clause-found : goal.returns-then-unit_of-unit-clause-found
+returns-then-unit_of-unit-clause-found c =
     let found = c.in-Some-find_at.ensures.found in
     let kept = kept_unit _ _ _ _ _ c.args.self.now.scanned c.args.unit c.requires in
     let place = (record_kept _ _ _ _ _ c.args.self.now.scanned c.args.unit kept c.index.result.now c.index.ensures).at in
-    let P : ℕ → Type 0 = λ n. c.index-2.result.now ≡ get_or c.args.self.now.records.items n c.index-2.result.now in
-    let same = unit_of_record _ _ _ _ _ c.args.self.now.scanned c.in-Some-find_at.id c.index-2.result.now found.entry (subst P c.number.ensures c.index-2.ensures) found.is_entry in
+    let same : c.unit_of.result ≡ found.entry.unit = rw found.is_entry at c.unit_of.ensures in
     reaches (entries_of (units_of c.args.self.now.scanned)) (placed (units_of c.args.self.now.scanned)) c.args.unit c.args.offset c.in-Some.at c.in-Some-find_at.id kept.place found.entry kept.is_place
-    (omega (arith, place, c.in-Some.ensures.1)) found found.is_entry (same ∙ c.if-index-unit.true)
+    (omega (arith, place, c.in-Some.ensures.1)) found found.is_entry (sym same ∙ c.if-unit_of-unit.true)
 
-pub returns-else-index-unit-clause-none : goal.returns-else-index-unit-clause-none
-returns-else-index-unit-clause-none c =
+pub returns-else-unit_of-unit-clause-none : goal.returns-else-unit_of-unit-clause-none
+returns-else-unit_of-unit-clause-none c =
     let found = c.in-Some-find_at.ensures.found in
     let kept = kept_unit _ _ _ _ _ c.args.self.now.scanned c.args.unit c.requires in
     let place = (record_kept _ _ _ _ _ c.args.self.now.scanned c.args.unit kept c.index.result.now c.index.ensures).at in
-    let P : ℕ → Type 0 = λ n. c.index-2.result.now ≡ get_or c.args.self.now.records.items n c.index-2.result.now in
-    let same = unit_of_record _ _ _ _ _ c.args.self.now.scanned c.in-Some-find_at.id c.index-2.result.now found.entry (subst P c.number.ensures c.index-2.ensures) found.is_entry in
+    let same : c.unit_of.result ≡ found.entry.unit = rw found.is_entry at c.unit_of.ensures in
     never_other (entries_of (units_of c.args.self.now.scanned)) (placed (units_of c.args.self.now.scanned)) c.args.unit c.args.offset c.in-Some.at c.in-Some-find_at.id kept.place found.entry
     (entries_rise _ (units_of c.args.self.now.scanned) c.args.self.now.scanned.1.spells.are) kept.is_place (omega (arith, place, c.in-Some.ensures.1)) found found.is_entry
-    (λ here. c.if-index-unit.false (sym same ∙ here))
+    (λ here. c.if-unit_of-unit.false (same ∙ here))

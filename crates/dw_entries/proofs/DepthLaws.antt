@@ -1,0 +1,256 @@
+-- How deep an entry is: one deeper than its parent, which is an earlier entry.
+use Rattle.std.proofs.Common.{◌≡◌, ℕ, zero, suc, ◌+◌, ◌-◌, ◌<◌, ◌≤◌, List, [], ◌∷◌, ◌++◌, length, Option, Some, None, refl, sym, ap, subst, ◌∙◌, inl, inr, arith}
+use Rattle.std.specs.Prelude.{◌⊎◌, slice_get, IfSome}
+use Rattle.std.proofs.lemmas.Bool.{cases_lt}
+use Rattle.std.proofs.lemmas.Option.{slice_get_within}
+use Rattle.dw_forms.specs.KeptDecls.{Numbered}
+use Rattle.dw_entries.specs.declared.record.Record.{Record}
+use Rattle.dw_entries.specs.declared.record.UnitRecord.{UnitRecord}
+use Rattle.dw_entries.specs.Grammar.{head_bytes}
+use Rattle.dw_entries.specs.Header.{header_size}
+use Rattle.dw_entries.specs.Tree.{Node, Nodes, leaf, parent, none, ◌then◌, node_bytes}
+use Rattle.dw_entries.specs.Units.{DebugUnit, unit_bytes}
+use Rattle.dw_entries.specs.Entries.{Entry, node_count, first_id, node_entries, nodes_entries, entries_from, entries_of}
+use Rattle.dw_entries.specs.Scanned.{numbers_of, record_of, Scanned, units_of}
+use Rattle.dw_entries.proofs.EntryFacts.{length-node_entries, kept_get}
+use Rattle.dw_entries.proofs.FindLaws.{entries_counted}
+use Rattle.dw_entries.proofs.KeptLaws.{kept_entry, one_some}
+use Rattle.dw_entries.proofs.UnitRanges.{get_front, get_behind}
+
+-- one of these entries, numbered from id, is the parent, and is one less deep
+pub record HasParent (es : List Entry) (id k : ℕ) (e : Entry) : Type 0 where
+  pub place : ℕ
+  pub above : Entry
+  pub before : place < k
+  pub is_above : slice_get es place ≡ Some above
+  pub parent : e.parent ≡ Some (id + place)
+  pub depth : e.depth ≡ suc above.depth
+
+-- or its parent and its depth are those that all of them have
+IsBelow : List Entry → ℕ → Option ℕ → ℕ → ℕ → Entry → Type 0
+IsBelow es id above depth k e = ((e.parent ≡ above) × (e.depth ≡ depth)) ⊎ HasParent es id k e
+
+-- the same where more entries stand before and behind
+in_front : (es fs : List Entry) (id : ℕ) (above : Option ℕ) (depth k : ℕ) (e : Entry) → k < length es
+    → IsBelow es id above depth k e → IsBelow (es ++ fs) id above depth k e
+unfolding IsBelow
+in_front es fs id above depth k e lt (inl outer) = inl outer
+in_front es fs id above depth k e lt (inr h) =
+    let before = h.before in
+    inr (record {
+      place = h.place;
+      above = h.above;
+      before = before;
+      is_above = get_front es fs h.place (omega (arith, before, lt)) ∙ h.is_above;
+      parent = h.parent;
+      depth = h.depth;
+    })
+
+in_back : (es fs : List Entry) (id first : ℕ) (above : Option ℕ) (depth k : ℕ) (e : Entry) → first ≡ id + length es
+    → length es ≤ k → IsBelow fs first above depth (k - length es) e → IsBelow (es ++ fs) id above depth k e
+unfolding IsBelow
+in_back es fs id first above depth k e starts le (inl outer) = inl outer
+in_back es fs id first above depth k e starts le (inr h) =
+    let before = h.before in
+    let place : (length es + h.place) - length es ≡ h.place = omega arith in
+    let number : first + h.place ≡ id + (length es + h.place) = omega (arith, starts) in
+    inr (record {
+      place = length es + h.place;
+      above = h.above;
+      before = omega (arith, before, le);
+      is_above = get_behind es fs (length es + h.place) (omega arith) ∙ ap (slice_get fs) place ∙ h.is_above;
+      parent = h.parent ∙ ap (λ (n : ℕ). Some n) number;
+      depth = h.depth;
+    })
+
+mutual
+  unfolding IsBelow
+  node_below : (unit : ℕ) (above : Option ℕ) (depth : ℕ) (next : Option ℕ) (id at : ℕ) (n : Node) (k : ℕ) (e : Entry)
+      → slice_get (node_entries unit above depth next id at n) k ≡ Some e
+      → IsBelow (node_entries unit above depth next id at n) id above depth k e
+  node_below unit above depth next id at (leaf h) zero e is =
+      let some : ◌≡◌ {A = Option Entry} (Some (record { at = at; unit = unit; parent = above; depth = depth; next = next; head = h })) (Some e) = is in
+      let same : ◌≡◌ {A = Entry} (record { at = at; unit = unit; parent = above; depth = depth; next = next; head = h }) e = cc in
+      inl (ap (λ (x : Entry). x.parent) (sym same), ap (λ (x : Entry). x.depth) (sym same))
+  node_below unit above depth next id at (leaf h) (suc k) e is = absurd cc
+  node_below unit above depth next id at (parent h ns z) zero e is =
+      let some : ◌≡◌ {A = Option Entry} (Some (record { at = at; unit = unit; parent = above; depth = depth; next = next; head = h })) (Some e) = is in
+      let same : ◌≡◌ {A = Entry} (record { at = at; unit = unit; parent = above; depth = depth; next = next; head = h }) e = cc in
+      inl (ap (λ (x : Entry). x.parent) (sym same), ap (λ (x : Entry). x.depth) (sym same))
+  node_below unit above depth next id at (parent h ns z) (suc k) e is =
+      go (nodes_below unit id (suc depth) (suc id) (at + length (head_bytes h)) ns k e is)
+    where
+      own : Entry
+      own = record { at = at; unit = unit; parent = above; depth = depth; next = next; head = h }
+
+      go : IsBelow (nodes_entries unit id (suc depth) (suc id) (at + length (head_bytes h)) ns) (suc id) (Some id) (suc depth) k e
+          → IsBelow (node_entries unit above depth next id at (parent h ns z)) id above depth (suc k) e
+      go (inl outer) =
+          inr (record {
+            place = 0;
+            above = own;
+            before = omega arith;
+            is_above = refl;
+            parent = outer.0 ∙ ap (λ (n : ℕ). Some n) (let number : id ≡ id + 0 = omega arith in number);
+            depth = outer.1;
+          })
+      go (inr h) =
+          let before = h.before in
+          inr (record {
+            place = suc h.place;
+            above = h.above;
+            before = omega (arith, before);
+            is_above = h.is_above;
+            parent = h.parent ∙ ap (λ (n : ℕ). Some n) (let number : suc id + h.place ≡ id + suc h.place = omega arith in number);
+            depth = h.depth;
+          })
+
+  nodes_below : (unit above depth id at : ℕ) (ns : Nodes) (k : ℕ) (e : Entry)
+      → slice_get (nodes_entries unit above depth id at ns) k ≡ Some e
+      → IsBelow (nodes_entries unit above depth id at ns) id (Some above) depth k e
+  nodes_below unit above depth id at none k e is = absurd cc
+  nodes_below unit above depth id at (n then ns) k e is =
+      let es : List Entry = node_entries unit (Some above) depth (first_id ns (id + node_count n)) id at n in
+      let fs : List Entry = nodes_entries unit above depth (id + node_count n) (at + length (node_bytes n)) ns in
+      let count = length-node_entries unit (Some above) depth (first_id ns (id + node_count n)) id at n in
+      elim (cases_lt k (length es)) [
+        | inl lt ↦
+            in_front es fs id (Some above) depth k e lt
+            (node_below unit (Some above) depth (first_id ns (id + node_count n)) id at n k e (sym (get_front es fs k lt) ∙ is))
+        | inr le ↦
+            in_back es fs id (id + node_count n) (Some above) depth k e (omega (arith, count)) le
+            (nodes_below unit above depth (id + node_count n) (at + length (node_bytes n)) ns (k - length es) e (sym (get_behind es fs k le) ∙ is))
+      ]
+
+units_below : (unit id at : ℕ) (us : List DebugUnit) (k : ℕ) (e : Entry) → slice_get (entries_from unit id at us) k ≡ Some e
+    → IsBelow (entries_from unit id at us) id None 0 k e
+unfolding IsBelow
+units_below unit id at [] k e is = absurd cc
+units_below unit id at (u ∷ us) k e is =
+    let es : List Entry = node_entries unit None 0 None id (at + header_size u.header.kind) u.root in
+    let fs : List Entry = entries_from (suc unit) (id + node_count u.root) (at + length (unit_bytes u)) us in
+    let count = length-node_entries unit None 0 None id (at + header_size u.header.kind) u.root in
+    elim (cases_lt k (length es)) [
+      | inl lt ↦
+          in_front es fs id None 0 k e lt
+          (node_below unit None 0 None id (at + header_size u.header.kind) u.root k e (sym (get_front es fs k lt) ∙ is))
+      | inr le ↦
+          in_back es fs id (id + node_count u.root) None 0 k e (omega (arith, count)) le
+          (units_below (suc unit) (id + node_count u.root) (at + length (unit_bytes u)) us (k - length es) e (sym (get_behind es fs k le) ∙ is))
+    ]
+
+-- an entry without a parent is not deep
+pub no_depth : (us : List DebugUnit) (k : ℕ) (e : Entry) → slice_get (entries_of us) k ≡ Some e → e.parent ≡ None → e.depth ≡ 0
+unfolding IsBelow
+no_depth us k e is top = go (units_below 0 0 0 us k e is)
+  where
+    go : IsBelow (entries_of us) 0 None 0 k e → e.depth ≡ 0
+    go (inl outer) = outer.1
+    go (inr h) = absurd (let both : Some (0 + h.place) ≡ None = sym h.parent ∙ top in cc)
+
+-- an entry with a parent is one deeper than that
+pub one_deeper : (us : List DebugUnit) (k p : ℕ) (e : Entry) → slice_get (entries_of us) k ≡ Some e → e.parent ≡ Some p
+    → (above : Entry) × (slice_get (entries_of us) p ≡ Some above) × (e.depth ≡ suc above.depth) × (p < k)
+unfolding IsBelow
+one_deeper us k p e is under = go (units_below 0 0 0 us k e is)
+  where
+    go : IsBelow (entries_of us) 0 None 0 k e
+        → (above : Entry) × (slice_get (entries_of us) p ≡ Some above) × (e.depth ≡ suc above.depth) × (p < k)
+    go (inl outer) = absurd (let both : Some p ≡ None = sym under ∙ outer.0 in cc)
+    go (inr h) =
+        let both : Some (0 + h.place) ≡ Some p = sym h.parent ∙ under in
+        let same : 0 + h.place ≡ p = cc in
+        let before = h.before in
+        let place : h.place ≡ p = omega (arith, same) in
+        let P : ℕ → Type 0 = λ n. slice_get (entries_of us) n ≡ Some h.above in
+        (h.above, subst P place h.is_above, h.depth, omega (arith, before, place))
+
+-- ---- steps up from an entry
+
+-- so many steps above an entry is one with this parent
+pub record Climbs (es : List Entry) (id depth : ℕ) (above : Option ℕ) : Type 0 where
+  pub start : Entry
+  pub is_start : slice_get es id ≡ Some start
+  pub place : ℕ
+  pub here : Entry
+  pub is_here : slice_get es place ≡ Some here
+  pub parent : here.parent ≡ above
+  pub sum : here.depth + depth ≡ start.depth
+  pub fewer : place + depth ≤ id
+
+-- how many entries may be above, by the number of the next
+abbrev pub height : Option ℕ → ℕ
+height None = 0
+height (Some p) = suc p
+
+module _ (a info : List ℕ) (tables : List (List Numbered)) (rs : List UnitRecord) (records : List Record) (s : Scanned a info tables rs records) where
+  -- the record of an entry has its parent
+  parent_kept : (id : ℕ) (r : Record) (e : Entry) → slice_get records id ≡ Some r → slice_get (entries_of (units_of s)) id ≡ Some e → r.parent ≡ e.parent
+  parent_kept id r e read is =
+      let numbers = numbers_of tables rs in
+      let kept : slice_get records id ≡ Some (record_of numbers e) = ap (λ (xs : List Record). slice_get xs id) s.1.entries ∙ kept_get numbers (units_of s) id e is in
+      ap (λ (x : Record). x.parent) (one_some (slice_get records id) r (record_of numbers e) read kept)
+
+  pub starts : (id : ℕ) (r : Record) → id < length (entries_of (units_of s)) → slice_get records id ≡ Some r → Climbs (entries_of (units_of s)) id 0 r.parent
+  starts id r within read =
+      let k = kept_entry a info tables rs records s id within in
+      record {
+        start = k.entry;
+        is_start = k.is_entry;
+        place = id;
+        here = k.entry;
+        is_here = k.is_entry;
+        parent = sym (parent_kept id r k.entry read k.is_entry);
+        sum = omega arith;
+        fewer = omega arith;
+      }
+
+  module _ (id depth p : ℕ) (c : Climbs (entries_of (units_of s)) id depth (Some p)) where
+    pub above_within : p < length records
+    above_within =
+        let (above, is, deeper, less) = one_deeper (units_of s) c.place p c.here c.is_here c.parent in
+        omega (arith, slice_get_within (entries_of (units_of s)) p above is, entries_counted a info tables rs records s)
+
+    pub depth_less : depth < id
+    depth_less =
+        let (above, is, deeper, less) = one_deeper (units_of s) c.place p c.here c.is_here c.parent in
+        let fewer = c.fewer in
+        omega (arith, less, fewer)
+
+    pub climbs : (r : Record) → slice_get records p ≡ Some r → Climbs (entries_of (units_of s)) id (depth + 1) r.parent
+    climbs r read =
+        let (above, is, deeper, less) = one_deeper (units_of s) c.place p c.here c.is_here c.parent in
+        let sum = c.sum in
+        let fewer = c.fewer in
+        record {
+          start = c.start;
+          is_start = c.is_start;
+          place = p;
+          here = above;
+          is_here = is;
+          parent = sym (parent_kept p r above read is);
+          sum = omega (arith, sum, deeper);
+          fewer = omega (arith, fewer, less);
+        }
+
+    pub lower : (r : Record) → slice_get records p ≡ Some r → height r.parent < suc p
+    lower r read =
+        let (above, is, deeper, less) = one_deeper (units_of s) c.place p c.here c.is_here c.parent in
+        go r.parent (sym (parent_kept p r above read is))
+      where
+        up : (q : ℕ) (above : Entry) → slice_get (entries_of (units_of s)) p ≡ Some above → above.parent ≡ Some q → q < p
+        up q above is under = let (more, at, deeper, less) = one_deeper (units_of s) p q above is under in less
+
+        go : (o : Option ℕ) → (let d = one_deeper (units_of s) c.place p c.here c.is_here c.parent in d.0.parent ≡ o) → height o < suc p
+        go None at = omega arith
+        go (Some q) at =
+            let d = one_deeper (units_of s) c.place p c.here c.is_here c.parent in
+            let less = up q d.0 d.1 at in
+            omega (arith, less)
+
+  pub is_deep : (id depth : ℕ) → Climbs (entries_of (units_of s)) id depth None → IfSome (slice_get (entries_of (units_of s)) id) (λ e. depth ≡ e.depth)
+  is_deep id depth c =
+      let top = no_depth (units_of s) c.place c.here c.is_here c.parent in
+      let sum = c.sum in
+      let same : depth ≡ c.start.depth = omega (arith, top, sum) in
+      rw c.is_start same

@@ -1,0 +1,281 @@
+-- Which entries are of a unit: those from its first one up to the first one of the next unit.
+use Rattle.std.proofs.Common.{◌≡◌, ℕ, zero, suc, ◌+◌, ◌-◌, ◌<◌, ◌≤◌, List, [], ◌∷◌, ◌++◌, length, get_or, Option, Some, None, refl, sym, ap, subst, ◌∙◌, inl, inr, arith, length-append}
+use Rattle.std.specs.Prelude.{slice_get, IfSome}
+use Rattle.std.specs.List.{AllByRecursion}
+use Rattle.std.specs.List.Sorted.{IsPartitionPoint, IsNonDecreasingBy}
+use Rattle.std.proofs.lemmas.Option.{slice_get_within, slice_get-get_or, slice_get_cases, get_or_from_slice_get}
+use Rattle.dw_forms.specs.KeptDecls.{Numbered}
+use Rattle.dw_entries.specs.declared.record.Record.{Record}
+use Rattle.dw_entries.specs.declared.record.UnitRecord.{UnitRecord}
+use Rattle.dw_entries.specs.Grammar.{head_bytes}
+use Rattle.dw_entries.specs.Header.{header_size}
+use Rattle.dw_entries.specs.Tree.{Node, Nodes, leaf, parent, none, ◌then◌, node_bytes}
+use Rattle.dw_entries.specs.Units.{DebugUnit, unit_bytes}
+use Rattle.dw_entries.specs.Entries.{Entry, node_count, first_id, node_entries, nodes_entries, entries_from, entries_of, PlacedUnit, placed_from, placed}
+use Rattle.dw_entries.specs.Scanned.{Scanned, units_of}
+use Rattle.dw_entries.proofs.EntryFacts.{length-node_entries}
+use Rattle.dw_entries.proofs.FindLaws.{entries_counted}
+use Rattle.dw_entries.proofs.HeadLaws.{all-append, all_get}
+use Rattle.dw_entries.proofs.KeptLaws.{kept_entry, kept_unit, one_some, units_counted}
+use Rattle.dw_entries.proofs.NumberOrder.{three_ways}
+use Rattle.dw_entries.proofs.ScanLaws.{few_units}
+
+abbrev IsOfUnit : ℕ → Entry → Type 0
+IsOfUnit unit e = e.unit ≡ unit
+
+-- the entries of a node are of its unit
+mutual
+  node_unit : (unit : ℕ) (above : Option ℕ) (depth : ℕ) (next : Option ℕ) (id at : ℕ) (n : Node)
+      → AllByRecursion (IsOfUnit unit) (node_entries unit above depth next id at n)
+  node_unit unit above depth next id at (leaf h) = (refl, tt)
+  node_unit unit above depth next id at (parent h ns z) =
+      (refl, nodes_unit unit id (suc depth) (suc id) (at + length (head_bytes h)) ns)
+
+  nodes_unit : (unit above depth id at : ℕ) (ns : Nodes)
+      → AllByRecursion (IsOfUnit unit) (nodes_entries unit above depth id at ns)
+  nodes_unit unit above depth id at none = tt
+  nodes_unit unit above depth id at (n then ns) =
+      all-append (IsOfUnit unit) (node_entries unit (Some above) depth (first_id ns (id + node_count n)) id at n)
+      (nodes_entries unit above depth (id + node_count n) (at + length (node_bytes n)) ns)
+      (node_unit unit (Some above) depth (first_id ns (id + node_count n)) id at n)
+      (nodes_unit unit above depth (id + node_count n) (at + length (node_bytes n)) ns)
+
+-- an element of two lists, one behind the other
+pub get_front : {A : Type 0} (xs ys : List A) (k : ℕ) → k < length xs → slice_get (xs ++ ys) k ≡ slice_get xs k
+get_front [] ys k lt = absurd (omega arith)
+get_front (x ∷ xs) ys zero lt = refl
+get_front (x ∷ xs) ys (suc k) lt = get_front xs ys k (omega arith)
+
+pub get_behind : {A : Type 0} (xs ys : List A) (k : ℕ) → length xs ≤ k
+    → slice_get (xs ++ ys) k ≡ slice_get ys (k - length xs)
+get_behind [] ys k le = ap (slice_get ys) (let e : k ≡ k - 0 = omega arith in e)
+get_behind (x ∷ xs) ys zero le = absurd (omega arith)
+get_behind (x ∷ xs) ys (suc k) le =
+    get_behind xs ys k (omega arith)
+    ∙ ap (slice_get ys) (let e : k - length xs ≡ suc k - suc (length xs) = omega arith in e)
+
+-- no unit begins with an earlier entry than these units do
+first_least : (at first : ℕ) (us : List DebugUnit) (k : ℕ) (p : PlacedUnit)
+    → slice_get (placed_from at first us) k ≡ Some p → first ≤ p.first
+first_least at first [] k p is = absurd cc
+first_least at first (u ∷ us) zero p is =
+    let e : ◌≡◌ {A = Option PlacedUnit} (Some (record { at = at; first = first; unit = u })) (Some p) = is in
+    let same : ◌≡◌ {A = PlacedUnit} (record { at = at; first = first; unit = u }) p = cc in
+    let begins = ap (λ (q : PlacedUnit). q.first) same in
+    omega (arith, begins)
+first_least at first (u ∷ us) (suc k) p is =
+    let more = first_least (at + length (unit_bytes u)) (first + node_count u.root) us k p is in
+    omega (arith, more)
+
+-- the entries between the first of a unit and that of the next are of the unit
+range_from : (unit id at : ℕ) (us : List DebugUnit) (n : ℕ) (p : PlacedUnit) (k : ℕ) (e : Entry)
+    → slice_get (placed_from at id us) n ≡ Some p → slice_get (entries_from unit id at us) k ≡ Some e
+    → p.first ≤ id + k → id + k < p.first + node_count p.unit.root → e.unit ≡ unit + n
+range_from unit id at [] n p k e is is_e low high = absurd cc
+range_from unit id at (u ∷ us) zero p k e is is_e low high =
+    let es : List Entry = node_entries unit None 0 None id (at + header_size u.header.kind) u.root in
+    let fs : List Entry = entries_from (suc unit) (id + node_count u.root) (at + length (unit_bytes u)) us in
+    let some : ◌≡◌ {A = Option PlacedUnit} (Some (record { at = at; first = id; unit = u })) (Some p) = is in
+    let same : ◌≡◌ {A = PlacedUnit} (record { at = at; first = id; unit = u }) p = cc in
+    let P : PlacedUnit → Type 0 = λ q. id + k < q.first + node_count q.unit.root in
+    let below : id + k < id + node_count u.root = subst P (sym same) high in
+    let count = length-node_entries unit None 0 None id (at + header_size u.header.kind) u.root in
+    let here : slice_get es k ≡ Some e = sym (get_front es fs k (omega (arith, below, count))) ∙ is_e in
+    let number : unit ≡ unit + 0 = omega arith in
+    all_get (IsOfUnit unit) es k e (node_unit unit None 0 None id (at + header_size u.header.kind) u.root) here ∙ number
+range_from unit id at (u ∷ us) (suc n) p k e is is_e low high =
+    let es : List Entry = node_entries unit None 0 None id (at + header_size u.header.kind) u.root in
+    let fs : List Entry = entries_from (suc unit) (id + node_count u.root) (at + length (unit_bytes u)) us in
+    let count = length-node_entries unit None 0 None id (at + header_size u.header.kind) u.root in
+    let least = first_least (at + length (unit_bytes u)) (id + node_count u.root) us n p is in
+    let behind : slice_get fs (k - length es) ≡ Some e = sym (get_behind es fs k (omega (arith, count, least, low))) ∙ is_e in
+    let same = range_from (suc unit) (id + node_count u.root) (at + length (unit_bytes u)) us n p (k - length es) e is behind
+    (omega (arith, count, least, low)) (omega (arith, count, least, low, high)) in
+    same ∙ (let number : suc unit + n ≡ unit + suc n = omega arith in number)
+
+pub unit_in_range : (us : List DebugUnit) (n : ℕ) (p : PlacedUnit) (k : ℕ) (e : Entry) → slice_get (placed us) n ≡ Some p
+    → slice_get (entries_of us) k ≡ Some e → p.first ≤ k → k < p.first + node_count p.unit.root → e.unit ≡ n
+unit_in_range us n p k e is is_e low high =
+    range_from 0 0 0 us n p k e is is_e (omega (arith, low)) (omega (arith, high)) ∙ (let z : 0 + n ≡ n = omega arith in z)
+
+-- the next unit begins where a unit ends
+next_from : (at first : ℕ) (us : List DebugUnit) (n : ℕ) (p q : PlacedUnit) → slice_get (placed_from at first us) n ≡ Some p
+    → slice_get (placed_from at first us) (suc n) ≡ Some q → q.first ≡ p.first + node_count p.unit.root
+next_from at first [] n p q is next = absurd cc
+next_from at first (u ∷ []) zero p q is next = absurd cc
+next_from at first (u ∷ v ∷ us) zero p q is next =
+    let some : ◌≡◌ {A = Option PlacedUnit} (Some (record { at = at; first = first; unit = u })) (Some p) = is in
+    let same : ◌≡◌ {A = PlacedUnit} (record { at = at; first = first; unit = u }) p = cc in
+    let some_q : ◌≡◌ {A = Option PlacedUnit} (Some (record { at = at + length (unit_bytes u); first = first + node_count u.root; unit = v })) (Some q) = next in
+    let same_q : ◌≡◌ {A = PlacedUnit} (record { at = at + length (unit_bytes u); first = first + node_count u.root; unit = v }) q = cc in
+    let P : PlacedUnit → Type 0 = λ r. q.first ≡ r.first + node_count r.unit.root in
+    subst P same (sym (ap (λ (r : PlacedUnit). r.first) same_q))
+next_from at first (u ∷ us) (suc n) p q is next =
+    next_from (at + length (unit_bytes u)) (first + node_count u.root) us n p q is next
+
+pub next_first : (us : List DebugUnit) (n : ℕ) (p q : PlacedUnit) → slice_get (placed us) n ≡ Some p
+    → slice_get (placed us) (suc n) ≡ Some q → q.first ≡ p.first + node_count p.unit.root
+next_first us n p q is next = next_from 0 0 us n p q is next
+
+-- the last unit ends with the last entry
+last_from : (unit id at : ℕ) (us : List DebugUnit) (n : ℕ) (p : PlacedUnit) → slice_get (placed_from at id us) n ≡ Some p
+    → suc n ≡ length us → id + length (entries_from unit id at us) ≡ p.first + node_count p.unit.root
+last_from unit id at [] n p is last = absurd cc
+last_from unit id at (u ∷ []) zero p is last =
+    let es : List Entry = node_entries unit None 0 None id (at + header_size u.header.kind) u.root in
+    let some : ◌≡◌ {A = Option PlacedUnit} (Some (record { at = at; first = id; unit = u })) (Some p) = is in
+    let same : ◌≡◌ {A = PlacedUnit} (record { at = at; first = id; unit = u }) p = cc in
+    let count = length-node_entries unit None 0 None id (at + header_size u.header.kind) u.root in
+    let len = length-append es [] in
+    let P : PlacedUnit → Type 0 = λ r. id + length (es ++ []) ≡ r.first + node_count r.unit.root in
+    subst P same (omega (arith, count, len))
+last_from unit id at (u ∷ v ∷ us) zero p is last = absurd (omega (arith, last))
+last_from unit id at (u ∷ us) (suc n) p is last =
+    let es : List Entry = node_entries unit None 0 None id (at + header_size u.header.kind) u.root in
+    let fs : List Entry = entries_from (suc unit) (id + node_count u.root) (at + length (unit_bytes u)) us in
+    let count = length-node_entries unit None 0 None id (at + header_size u.header.kind) u.root in
+    let len = length-append es fs in
+    let more = last_from (suc unit) (id + node_count u.root) (at + length (unit_bytes u)) us n p is (omega (arith, last)) in
+    omega (arith, count, len, more)
+
+pub last_ends : (us : List DebugUnit) (n : ℕ) (p : PlacedUnit) → slice_get (placed us) n ≡ Some p → suc n ≡ length us
+    → length (entries_of us) ≡ p.first + node_count p.unit.root
+last_ends us n p is last = (let z : length (entries_of us) ≡ 0 + length (entries_of us) = omega arith in z) ∙ last_from 0 0 0 us n p is last
+
+-- units begin with rising entries
+firsts_from : (at first : ℕ) (us : List DebugUnit) (i j : ℕ) (p q : PlacedUnit) → i ≤ j
+    → slice_get (placed_from at first us) i ≡ Some p → slice_get (placed_from at first us) j ≡ Some q → p.first ≤ q.first
+firsts_from at first [] i j p q le is_p is_q = absurd cc
+firsts_from at first (u ∷ us) zero j p q le is_p is_q =
+    let some : ◌≡◌ {A = Option PlacedUnit} (Some (record { at = at; first = first; unit = u })) (Some p) = is_p in
+    let same : ◌≡◌ {A = PlacedUnit} (record { at = at; first = first; unit = u }) p = cc in
+    let begins = ap (λ (r : PlacedUnit). r.first) same in
+    let least = first_least at first (u ∷ us) j q is_q in
+    omega (arith, begins, least)
+firsts_from at first (u ∷ us) (suc i) zero p q le is_p is_q = absurd (omega arith)
+firsts_from at first (u ∷ us) (suc i) (suc j) p q le is_p is_q =
+    firsts_from (at + length (unit_bytes u)) (first + node_count u.root) us i j p q (omega arith) is_p is_q
+
+-- ---- the units that are kept
+
+module _ (a info : List ℕ) (tables : List (List Numbered)) (rs : List UnitRecord) (records : List Record) (s : Scanned a info tables rs records) where
+  -- what is kept of a unit says where its first entry is
+  kept_first : (n : ℕ) (u : UnitRecord) → slice_get rs n ≡ Some u → (p : PlacedUnit) × (slice_get (placed (units_of s)) n ≡ Some p) × (u.first ≡ p.first)
+  kept_first n u is =
+      let within = slice_get_within rs n u is in
+      let k = kept_unit a info tables rs records s n (omega (arith, within, units_counted a info tables rs records s)) in
+      let same : k.unit_record ≡ u = one_some (slice_get rs n) k.unit_record u k.is_unit_record is in
+      (k.place, k.is_place, ap (λ (q : UnitRecord). q.first) (sym same) ∙ k.kept.first)
+
+  -- the entries of a unit that is kept, up to its end
+  pub its_entries : (n end : ℕ) (u : UnitRecord) → slice_get rs n ≡ Some u
+      → IfSome (slice_get (placed (units_of s)) n) (λ p. end ≡ p.first + node_count p.unit.root)
+      → (id : ℕ) (e : Entry) → slice_get (entries_of (units_of s)) id ≡ Some e → u.first ≤ id → id < end → n ≡ e.unit
+  its_entries n end u is ends id e is_e low high =
+      let (p, is_p, first) = kept_first n u is in
+      let at : end ≡ p.first + node_count p.unit.root = rw is_p at ends in
+      sym (unit_in_range (units_of s) n p id e is_p is_e (omega (arith, low, first)) (omega (arith, high, at)))
+
+  -- a unit ends where the next one begins
+  pub ends_with_next : (n : ℕ) (next : UnitRecord) → slice_get rs (n + 1) ≡ Some next
+      → IfSome (slice_get (placed (units_of s)) n) (λ p. next.first ≡ p.first + node_count p.unit.root)
+  ends_with_next n next is = go (slice_get (placed (units_of s)) n) refl
+    where
+      go : (o : Option PlacedUnit) → slice_get (placed (units_of s)) n ≡ o → IfSome o (λ p. next.first ≡ p.first + node_count p.unit.root)
+      go None at = tt
+      go (Some p) at =
+          let P : ℕ → Type 0 = λ k. slice_get rs k ≡ Some next in
+          let (q, is_q, first) = kept_first (suc n) next (subst P (let e : n + 1 ≡ suc n = omega arith in e) is) in
+          first ∙ next_first (units_of s) n p q at is_q
+
+  -- the last one ends with the last entry
+  pub ends_with_all : (n : ℕ) → n < length (units_of s) → length rs ≤ n + 1
+      → IfSome (slice_get (placed (units_of s)) n) (λ p. length records ≡ p.first + node_count p.unit.root)
+  ends_with_all n within past = go (slice_get (placed (units_of s)) n) refl
+    where
+      last : suc n ≡ length (units_of s)
+      last = omega (arith, within, past, units_counted a info tables rs records s)
+
+      go : (o : Option PlacedUnit) → slice_get (placed (units_of s)) n ≡ o → IfSome o (λ p. length records ≡ p.first + node_count p.unit.root)
+      go None at = tt
+      go (Some p) at = entries_counted a info tables rs records s ∙ last_ends (units_of s) n p at last
+
+  pub units_rise : IsNonDecreasingBy (λ (u : UnitRecord). u.first) rs
+  units_rise i j d le lt =
+      let u = get_or rs i d in
+      let v = get_or rs j d in
+      let (p, is_p, low) = kept_first i u (slice_get-get_or rs i d (omega arith)) in
+      let (q, is_q, high) = kept_first j v (slice_get-get_or rs j d lt) in
+      let rise = firsts_from 0 0 (units_of s) i j p q le is_p is_q in
+      omega (arith, low, high, rise)
+
+  pub few_records : length rs ≤ length info
+  few_records = omega (arith, units_counted a info tables rs records s, few_units (units_of s), ap length s.1.spells.parts)
+
+  module _ (id : ℕ) (within : id < length (entries_of (units_of s))) (n : ℕ)
+      (point : IsPartitionPoint (λ (u : UnitRecord). u.first ≤ id) (λ (u : UnitRecord). id < u.first) rs n) where
+    -- an entry is of a unit
+    pub some_unit : 0 < length rs
+    some_unit = let k = kept_entry a info tables rs records s id within in let w = slice_get_within rs k.entry.unit k.unit_record k.is_unit_record in omega (arith, w)
+
+    -- the first unit begins with the first entry
+    pub some_before : 0 < n
+    some_before = elim (three_ways n 0) [
+      | inl (inl less) ↦ omega (arith, less)
+      | inl (inr same) ↦
+          elim (slice_get_cases rs 0).1 [
+            | inl it ↦
+                let (p, is_p, first) = kept_first 0 it.0 it.2 in
+                let begins = least p is_p in
+                let P : UnitRecord → Type 0 = λ u. id < u.first in
+                let above : id < it.0.first = subst P it.3 (point.1 0 it.0 (omega (arith, same)) it.1) in
+                absurd (omega (arith, first, begins, above))
+            | inr it ↦ (let past = it.0 in absurd (omega (arith, past, some_unit)))
+          ]
+      | inr more ↦ more
+    ]
+      where
+        least : (p : PlacedUnit) → slice_get (placed (units_of s)) 0 ≡ Some p → p.first ≡ 0
+        least p is = go (units_of s) is
+          where
+            go : (us : List DebugUnit) → slice_get (placed us) 0 ≡ Some p → p.first ≡ 0
+            go [] gone = absurd cc
+            go (u ∷ us) is =
+                let some : ◌≡◌ {A = Option PlacedUnit} (Some (record { at = 0; first = 0; unit = u })) (Some p) = is in
+                let same : ◌≡◌ {A = PlacedUnit} (record { at = 0; first = 0; unit = u }) p = cc in
+                sym (ap (λ (q : PlacedUnit). q.first) same)
+
+    pub point_within : n ≤ length rs → n - 1 < length rs
+    point_within le = omega (arith, le, some_before)
+
+    -- the last unit that begins with this entry or an earlier one has it
+    pub unit_found : (end : ℕ) (u : UnitRecord) → slice_get rs (n - 1) ≡ Some u
+        → IfSome (slice_get (placed (units_of s)) (n - 1)) (λ p. end ≡ p.first + node_count p.unit.root)
+        → (e : Entry) → slice_get (entries_of (units_of s)) id ≡ Some e → n - 1 ≡ e.unit
+    unit_found end u is ends e is_e =
+        let P : UnitRecord → Type 0 = λ v. v.first ≤ id in
+        let low : u.first ≤ id = subst P (get_or_from_slice_get rs (n - 1) u u is) (point.0 (n - 1) u (omega arith) (omega (arith, some_before))) in
+        its_entries (n - 1) end u is ends id e is_e low high
+      where
+        behind : n ≡ (n - 1) + 1
+        behind = omega (arith, some_before)
+
+        high : id < end
+        high =
+            let (p, is_p, first) = kept_first (n - 1) u is in
+            let at : end ≡ p.first + node_count p.unit.root = rw is_p at ends in
+            elim (slice_get_cases rs n).1 [
+              | inl it ↦
+                  let Q : UnitRecord → Type 0 = λ v. id < v.first in
+                  let above : id < it.0.first = subst Q it.3 (point.1 n it.0 (omega arith) it.1) in
+                  let R : ℕ → Type 0 = λ k. slice_get rs k ≡ Some it.0 in
+                  let S : Option PlacedUnit → Type 0 = λ o. IfSome o (λ q. it.0.first ≡ q.first + node_count q.unit.root) in
+                  let next : it.0.first ≡ p.first + node_count p.unit.root = subst S is_p (ends_with_next (n - 1) it.0 (subst R behind it.2)) in
+                  omega (arith, above, next, at)
+              | inr it ↦
+                  let past = it.0 in
+                  let S : Option PlacedUnit → Type 0 = λ o. IfSome o (λ q. length records ≡ q.first + node_count q.unit.root) in
+                  let all : length records ≡ p.first + node_count p.unit.root =
+                  subst S is_p (ends_with_all (n - 1) (let w = slice_get_within rs (n - 1) u is in omega (arith, w, units_counted a info tables rs records s)) (omega (arith, past, behind))) in
+                  omega (arith, all, at, within, entries_counted a info tables rs records s)
+            ]
