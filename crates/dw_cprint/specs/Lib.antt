@@ -13,6 +13,7 @@ pub mod Refusals
 pub mod Reading
 pub mod Cycles
 pub mod LongestRows
+pub mod Digits
 pub mod Listings
 -- State.
 pub mod Declarators

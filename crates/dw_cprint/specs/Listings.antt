@@ -1,12 +1,13 @@
 -- Chapter: the listing of all named types of an image, and its text.
-use Rattle.std.specs.Prelude.{◌≡◌, ℕ, ◌+◌, ◌/◌, ◌%◌, ◌<◌, ◌⊎◌, ◌↔◌, Bool, true, false, List, [], ◌∷◌, ◌++◌}
-use Rattle.std.specs.Prelude.{Option, Some, None, is_some, if◌then◌else◌, nat_lt, codes}
+use Rattle.std.specs.Prelude.{◌≡◌, ℕ, ◌<◌, ◌⊎◌, ◌↔◌, Bool, true, false, List, [], ◌∷◌, ◌++◌}
+use Rattle.std.specs.Prelude.{Option, Some, None, is_some, codes}
 use Rattle.std.specs.Prelude.{length, slice_get, flat_map, Contains, AllPairs}
 use Rattle.std.specs.Option.{option_map_or}
 use Rattle.dw_entries.specs.Entries.{Entry}
 use Rattle.dw_image.specs.declared.image.Image.{Image}
 use Rattle.dw_image.specs.Images.{entries_in, steps_in}
 use Rattle.dw_cprint.specs.Declarations.{declaration_of}
+use Rattle.dw_cprint.specs.Digits.{places}
 use Rattle.dw_cprint.specs.EntryShapes.{shape_in, subject_in}
 use Rattle.dw_cprint.specs.LongestRows.{IsLongest}
 use Rattle.dw_cprint.specs.Refusals.{PrintFault, NotPrintable, BadName, Foreign, Unspeakable, TooDeep, TooLong, Memory}
@@ -54,17 +55,6 @@ pub record IsListing (image : Image) (order : List ℕ) (refused : List (ℕ × 
 
 -- ---- the text
 
--- the digit of a number below 16, in lower case
-abbrev pub hex_digit : ℕ → ℕ
-hex_digit n = if nat_lt n 10 then 48 + n else 87 + n
-
--- eight digits, small letters
-abbrev pub hex_digits : ℕ → List ℕ
-hex_digits n =
-    hex_digit (n / 268435456 % 16) ∷ hex_digit (n / 16777216 % 16)
-    ∷ hex_digit (n / 1048576 % 16) ∷ hex_digit (n / 65536 % 16)
-    ∷ hex_digit (n / 4096 % 16) ∷ hex_digit (n / 256 % 16) ∷ hex_digit (n / 16 % 16) ∷ hex_digit (n % 16) ∷ []
-
 -- the code of a refusal
 abbrev pub code_text : PrintFault → List ℕ
 code_text NotPrintable = codes "P1"
@@ -97,7 +87,7 @@ declared_line image entry = text_if (declaration_of (shape_in image) (subject_in
 -- a comment with an offset and a refusal, and a line feed
 abbrev pub refused_line : (offset : ℕ) → PrintFault → List ℕ
 refused_line offset rule =
-    codes "/* 0x" ++ hex_digits offset ++ codes " " ++ code_text rule ++ codes " " ++ name_text rule
+    codes "/* 0x" ++ places 8 offset ++ codes " " ++ code_text rule ++ codes " " ++ name_text rule
     ++ (codes " */" ++ 10 ∷ [])
 
 -- where an entry is

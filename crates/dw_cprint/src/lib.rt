@@ -5,6 +5,7 @@ mod bad_names;
 mod body_reader;
 mod clearing;
 mod declaring;
+mod digits;
 mod fault;
 mod faults;
 mod kinds;
@@ -27,6 +28,7 @@ mod words;
 mod writing;
 
 pub use declaring::declare;
+pub use digits::{digit_of, put_eight_digits};
 pub use dw_image::{EntryId, Image, NoMemory};
 pub use fault::PrintFault;
 pub use laws::{

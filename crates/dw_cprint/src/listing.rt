@@ -8,12 +8,13 @@ ghost use Rattle.dw_cprint.specs.EntryShapes.{subject_in};
 ghost use Rattle.dw_cprint.specs.Judgements.{AreJudged, StandsNoLater, listed_line, subject_at};
 ghost use Rattle.dw_cprint.specs.Kept.{kept};
 ghost use Rattle.dw_cprint.specs.Listings.{AreLevels, AreNamedTypes, IsListing, is_named_type};
-ghost use Rattle.dw_cprint.specs.Listings.{hex_digit, hex_digits, listing_text, refused_line, refused_line_in};
+ghost use Rattle.dw_cprint.specs.Listings.{listing_text, refused_line, refused_line_in};
 ghost use Rattle.dw_cprint.specs.Shapes.{view_subject};
 ghost use Rattle.dw_cprint.specs.Steps.{roots_of};
 ghost use Rattle.dw_cprint.specs.Surveys.{BySurvey};
 ghost use Rattle.dw_cprint.specs.declared.listing.Listed.{Listed as ListedOf};
 
+use crate::digits::put_eight_digits;
 use crate::fault::PrintFault;
 use crate::longest::longest_by_rank;
 use crate::look_ups::{declared_at, name_at, tag_at};
@@ -107,36 +108,12 @@ fn levels_of(alloc: Global, image: &Image<'_>) -> Result<Vec<usize>, NoMemory>
     }
 }
 
-/// One of the sixteen digits.
-fn hex_digit(n: u8) -> u8
-    requires { n < 16 }
-    ensures { result ≡ hex_digit n }
-{
-    if n < 10 { b'0' + n } else { b'a' - 10 + n }
-}
-
-/// A number in eight digits.
-fn put_hex(out: &mut Vec<u8>, n: u32) -> Result<(), AllocError>
-    ensures { OnOk result (out.new.items ≡ out.old.items ++ hex_digits n) }
-{
-    out.extend_from_slice(&[
-        hex_digit((n / 0x1000_0000 % 16) as u8),
-        hex_digit((n / 0x100_0000 % 16) as u8),
-        hex_digit((n / 0x10_0000 % 16) as u8),
-        hex_digit((n / 0x1_0000 % 16) as u8),
-        hex_digit((n / 0x1000 % 16) as u8),
-        hex_digit((n / 0x100 % 16) as u8),
-        hex_digit((n / 0x10 % 16) as u8),
-        hex_digit((n % 16) as u8),
-    ])
-}
-
 /// The line of a named type that is refused.
 fn put_refused(out: &mut Vec<u8>, offset: u32, fault: PrintFault) -> Result<(), AllocError>
     ensures { OnOk result (out.new.items ≡ out.old.items ++ refused_line offset fault) }
 {
     out.extend_from_slice(b"/* 0x")?;
-    put_hex(out, offset)?;
+    put_eight_digits(out, offset)?;
     out.push(b' ')?;
     out.extend_from_slice(fault.code().as_bytes())?;
     out.push(b' ')?;

@@ -65,6 +65,7 @@ in_back es fs id first above depth k e starts le (inr h) =
 
 mutual
   unfolding IsBelow
+
   node_below : (unit : ℕ) (above : Option ℕ) (depth : ℕ) (next : Option ℕ) (id at : ℕ) (n : Node) (k : ℕ) (e : Entry)
       → slice_get (node_entries unit above depth next id at n) k ≡ Some e
       → IsBelow (node_entries unit above depth next id at n) id above depth k e

@@ -8,7 +8,8 @@ use Rattle.dw_forms.specs.declared.form.Form.{Form}
 use Rattle.dw_forms.specs.declared.form.Form.TheVariants.{FlagPresent, ImplicitConst}
 use Rattle.dw_forms.specs.Plans.{is_byteless, is_stop, IsNext}
 use Rattle.dw_entries.specs.Chosen.{OthersPass, Unasked}
-use Rattle.dw_entries.specs.Referring.{may_refer, IsOther}
+use Rattle.dw_forms.specs.FormCodes.{may_refer}
+use Rattle.dw_entries.specs.Referring.{IsOther}
 
 -- ---- a code that DWARF 5 defines is found among them
 

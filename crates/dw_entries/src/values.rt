@@ -4,7 +4,7 @@ ghost use Rattle.std.specs.Prelude.{◌≡◌, ◌≤◌, ◌+◌, ◌-◌, ◌�
 ghost use Rattle.std.specs.Bool.{OnFalse, OnTrue};
 ghost use Rattle.dw_forms.specs.Codes.{DW_AT_type};
 ghost use Rattle.dw_entries.specs.Chosen.{OthersPass, Unasked, IsNextAsked};
-ghost use Rattle.dw_entries.specs.Referring.{may_refer, is_asked};
+ghost use Rattle.dw_entries.specs.Referring.{is_asked};
 ghost use Rattle.dw_forms.specs.declared.decl.AttributeSpec.{AttributeSpec as SpecData};
 ghost use Rattle.dw_forms.specs.declared.steps.Step.{Step as StepData};
 ghost use Rattle.dw_forms.specs.Walks.{steps_from};
@@ -31,30 +31,12 @@ pub struct Values<'e, 'a> {
         bytes.now } by { left_unique (value_context version address_size) (drop at attributes.now) bytes.now },
 }
 
-/// Whether values of the form may be references: those of class reference, and those that name another form.
-#[inline]
-fn may_refer(form: Form) -> bool
-    ensures { result ≡ may_refer form }
-{
-    matches!(
-        form,
-        Form::RefAddr
-            | Form::Ref1
-            | Form::Ref2
-            | Form::Ref4
-            | Form::Ref8
-            | Form::RefUdata
-            | Form::RefSig8
-            | Form::Indirect
-    )
-}
-
 /// Whether an attribute with this code is declared, or one whose value may be a reference.
 #[inline]
 fn is_asked(spec: AttributeSpec, attribute: Attribute) -> bool
     ensures { result ≡ is_asked attribute spec }
 {
-    may_refer(spec.form) || spec.attribute == attribute
+    spec.form.may_refer() || spec.attribute == attribute
 }
 
 /// Which attributes are asked for, by how they are declared.

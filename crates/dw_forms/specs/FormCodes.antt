@@ -1,5 +1,5 @@
 -- Chapter: the codes of the forms (DWARF 5, 7.5.6, table 7.6).
-use Rattle.std.specs.Prelude.{ℕ, pos, Option, List, [], ◌∷◌, find, Bool, ◌||◌, nat_le, if◌then◌else◌, ◌==◌}
+use Rattle.std.specs.Prelude.{ℕ, pos, Option, List, [], ◌∷◌, find, Bool, true, false, ◌||◌, nat_le, if◌then◌else◌, ◌==◌}
 use Rattle.dw_forms.specs.declared.form.Form.{Form}
 use Rattle.dw_forms.specs.declared.form.Form.TheVariants.{Addr, Block2, Block4, Data2, Data4, Data8, Text, Block}
 use Rattle.dw_forms.specs.declared.form.Form.TheVariants.{Block1, Data1, Flag, Sdata, Strp, Udata, RefAddr, Ref1, Ref2}
@@ -68,3 +68,33 @@ form_of code = find (λ form. code_of form == code) forms
 abbrev pub is_allowed : ℕ → Form → Bool
 is_allowed version form =
     if version == 4 then nat_le (code_of form) 0x19 || code_of form == 0x20 else version == 5
+
+-- values of the form may be references: those of class reference, and those that name another form (DWARF 5, 7.5.5)
+abbrev pub may_refer : Form → Bool
+may_refer RefAddr = true
+may_refer Ref1 = true
+may_refer Ref2 = true
+may_refer Ref4 = true
+may_refer Ref8 = true
+may_refer RefUdata = true
+may_refer RefSig8 = true
+may_refer Indirect = true
+may_refer _ = false
+
+-- values of the form may lead out of .debug_info, as offsets or indices of strings or as indices of addresses, and so
+-- may those that name another form (DWARF 5, 7.5.5)
+abbrev pub may_lead_out : Form → Bool
+may_lead_out Strp = true
+may_lead_out LineStrp = true
+may_lead_out Strx = true
+may_lead_out Strx1 = true
+may_lead_out Strx2 = true
+may_lead_out Strx3 = true
+may_lead_out Strx4 = true
+may_lead_out Addrx = true
+may_lead_out Addrx1 = true
+may_lead_out Addrx2 = true
+may_lead_out Addrx3 = true
+may_lead_out Addrx4 = true
+may_lead_out Indirect = true
+may_lead_out _ = false

@@ -1,37 +1,15 @@
 -- State: the values of a declaration that may lead elsewhere, and the steps of a walk over them.
-use Rattle.std.specs.Prelude.{ℕ, suc, ◌+◌, ◌==◌, ◌||◌, List, [], ◌∷◌, Bool, true, false, if◌then◌else◌}
+use Rattle.std.specs.Prelude.{ℕ, suc, ◌+◌, ◌==◌, ◌||◌, List, [], ◌∷◌, Bool, if◌then◌else◌}
 use Rattle.dw_forms.specs.declared.form.Form.{Form}
-use Rattle.dw_forms.specs.declared.form.Form.TheVariants.{Strp, LineStrp, Strx, Strx1, Strx2, Strx3, Strx4}
-use Rattle.dw_forms.specs.declared.form.Form.TheVariants.{Addrx, Addrx1, Addrx2, Addrx3, Addrx4}
-use Rattle.dw_forms.specs.declared.form.Form.TheVariants.{RefAddr, Ref1, Ref2, Ref4, Ref8, RefUdata, RefSig8, Indirect}
 use Rattle.dw_forms.specs.declared.decl.AttributeSpec.{AttributeSpec}
 use Rattle.dw_forms.specs.declared.steps.Step.{Step}
+use Rattle.dw_forms.specs.FormCodes.{may_lead_out, may_refer}
 use Rattle.dw_forms.specs.Codes.{DW_AT_type, DW_AT_str_offsets_base, DW_AT_addr_base}
 use Rattle.dw_forms.specs.Plans.{known_size, does_vary}
 
 -- values of the form may lead elsewhere: to a string, an address or an entry, or by another form (DWARF 5, 7.5.5)
 abbrev pub may_lead : Form → Bool
-may_lead Strp = true
-may_lead LineStrp = true
-may_lead Strx = true
-may_lead Strx1 = true
-may_lead Strx2 = true
-may_lead Strx3 = true
-may_lead Strx4 = true
-may_lead Addrx = true
-may_lead Addrx1 = true
-may_lead Addrx2 = true
-may_lead Addrx3 = true
-may_lead Addrx4 = true
-may_lead RefAddr = true
-may_lead Ref1 = true
-may_lead Ref2 = true
-may_lead Ref4 = true
-may_lead Ref8 = true
-may_lead RefUdata = true
-may_lead RefSig8 = true
-may_lead Indirect = true
-may_lead _ = false
+may_lead form = may_lead_out form || may_refer form
 
 -- the value of the attribute may lead elsewhere: that of a type and the bases of contributions by their codes
 abbrev pub does_lead : AttributeSpec → Bool

@@ -1,7 +1,7 @@
 //! Forms, which say how the values of attributes are laid out (DWARF 5, 7.5.5 and 7.5.6).
 
 ghost use Rattle.std.specs.Prelude.{◌≡◌, ◌≤◌, IfSome};
-ghost use Rattle.dw_forms.specs.FormCodes.{form_of, is_allowed};
+ghost use Rattle.dw_forms.specs.FormCodes.{form_of, is_allowed, may_lead_out, may_refer};
 ghost use Rattle.dw_forms.specs.Value.{may_be_named};
 ghost use Rattle.dw_forms.specs.Sizes.{fixed_size_of};
 
@@ -192,6 +192,49 @@ impl Form {
             Form::Indirect | Form::ImplicitConst(_) => false,
             _ => self.allowed(version),
         }
+    }
+
+    /// Whether values of the form may be references: those of class reference, and those that name another form
+    /// (7.5.5).
+    #[inline(always)]
+    pub fn may_refer(self) -> bool
+        ensures { result ≡ may_refer self }
+    {
+        matches!(
+            self,
+            Form::RefAddr
+                | Form::Ref1
+                | Form::Ref2
+                | Form::Ref4
+                | Form::Ref8
+                | Form::RefUdata
+                | Form::RefSig8
+                | Form::Indirect
+        )
+    }
+
+    /// Whether values of the form may lead out of .debug_info: offsets or indices of strings, indices of addresses,
+    /// and those that name another form (7.5.5).
+    #[inline(always)]
+    pub fn may_lead_out(self) -> bool
+        ensures { result ≡ may_lead_out self }
+    {
+        matches!(
+            self,
+            Form::Strp
+                | Form::LineStrp
+                | Form::Strx
+                | Form::Strx1
+                | Form::Strx2
+                | Form::Strx3
+                | Form::Strx4
+                | Form::Addrx
+                | Form::Addrx1
+                | Form::Addrx2
+                | Form::Addrx3
+                | Form::Addrx4
+                | Form::Indirect
+        )
     }
 
     /// How many bytes each value of the form has, where all have as many.

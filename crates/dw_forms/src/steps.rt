@@ -27,29 +27,7 @@ pub struct Step {
 fn may_lead(form: Form) -> bool
     ensures { result ≡ may_lead form }
 {
-    matches!(
-        form,
-        Form::Strp
-            | Form::LineStrp
-            | Form::Strx
-            | Form::Strx1
-            | Form::Strx2
-            | Form::Strx3
-            | Form::Strx4
-            | Form::Addrx
-            | Form::Addrx1
-            | Form::Addrx2
-            | Form::Addrx3
-            | Form::Addrx4
-            | Form::RefAddr
-            | Form::Ref1
-            | Form::Ref2
-            | Form::Ref4
-            | Form::Ref8
-            | Form::RefUdata
-            | Form::RefSig8
-            | Form::Indirect
-    )
+    form.may_lead_out() || form.may_refer()
 }
 
 /// Whether the value of the attribute may lead elsewhere. That of a type may by its code, and so may the bases of

@@ -192,7 +192,7 @@ pub fn read_value(
 
 /// The length of a value whose form has no one size. Only an indirect one is read for it.
 #[inline(never)]
-#[tactic(auto, unfolding(crate::specs::Sizes::rest_at, crate::specs::ValueReading::layout_at, crate::specs::ValueReading::uleb_then, crate::specs::ValueReading::sleb_then))]
+#[tactic(auto, unfolding(crate::specs::Sizes::rest_at, crate::specs::ValueReading::layout_at))]
 pub(crate) fn skip_long(
     version: u16,
     form: Form,
@@ -218,7 +218,7 @@ pub(crate) fn skip_long(
 
 /// How many bytes the value at the front takes, whether the version allows its form or not.
 #[inline(always)]
-#[tactic(auto, using(crate::specs::SizeLaws::rest_skips, crate::specs::SizeLaws::rest_cuts), unfolding(crate::specs::Sizes::rest_at))]
+#[tactic(auto, using(crate::specs::SizeLaws::rest_skips, crate::specs::SizeLaws::rest_cuts))]
 fn skip_any(version: u16, form: Form, address_size: u8, bytes: &[u8]) -> Result<usize, ValueFault>
     requires { (address_size ≡ 4) ⊎ (address_size ≡ 8) }
     ensures within { IfOk result (λ len. len ≤ length bytes.now) }

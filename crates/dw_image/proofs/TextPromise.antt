@@ -16,7 +16,8 @@ use Rattle.dw_entries.specs.Lookups.{entry_head, value_in, value_at_entry}
 use Rattle.dw_entries.specs.Failures.{HasNone}
 use Rattle.dw_entries.specs.Asked.{HasAttribute, values_of}
 use Rattle.dw_entries.proofs.EntryFacts.{first_entry}
-use Rattle.dw_links.specs.Contributions.{number_at, length_before, IsContribution, slot_count, slot_at, Ends}
+use Rattle.dw_elf.specs.Elf.{number_at}
+use Rattle.dw_links.specs.Contributions.{length_before, IsContribution, slot_count, slot_at, Ends}
 use Rattle.dw_links.specs.Bases.{base_in, section_offset_of, section_offset_in}
 use Rattle.dw_links.specs.Strings.{IsStringContribution, IsAddressContribution, StringFailsIn, StringFailures}
 use Rattle.dw_image.specs.Headline.{HasStringAt, HasAddressAt, LeadsToText, HasTexts}

@@ -1,9 +1,10 @@
 -- Chapter: what the look-ups of an image return, as functions of the list of its entries.
-use Rattle.std.specs.Prelude.{ℕ, ◌==◌, Bool, if◌then◌else◌, List, slice_get, Option, Some, None}
+use Rattle.std.specs.Prelude.{ℕ, Bool, if◌then◌else◌, List, slice_get, Option, Some, None}
 use Rattle.std.specs.Option.{option_and_then}
-use Rattle.std.specs.List.{position_from}
 use Rattle.dw_forms.specs.Codes.{is_type_tag}
 use Rattle.dw_entries.specs.Entries.{Entry}
+-- the number of the entry that begins at an offset of .debug_info
+unfoldable pub use Rattle.dw_links.specs.Targets.{entry_at}
 pub use Rattle.dw_types.specs.Children.{is_number, children_from}
 -- the numbers of an entry's children, in rising offset
 unfoldable pub use Rattle.dw_types.specs.Children.{children_of}
@@ -15,7 +16,3 @@ is_type_entry e = is_type_tag e.head.decl.tag
 -- the number itself, if the entry is a type
 abbrev pub type_number : List Entry → ℕ → Option ℕ
 type_number entries id = option_and_then (λ e. if is_type_entry e then Some id else None) (slice_get entries id)
-
--- the number of the entry that starts at this offset
-unfoldable pub entry_at : List Entry → ℕ → Option ℕ
-entry_at entries offset = position_from (λ e. e.at == offset) 0 entries

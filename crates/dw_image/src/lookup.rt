@@ -71,7 +71,7 @@ impl<'a> Image<'a> {
     }
 
     /// The text of an entry's DW_AT_name, without its closing zero byte. None if the entry has no name.
-    #[tactic(auto, unfolding(crate::specs::Images::units_in, crate::specs::Images::sections_in, crate::specs::Images::name_in))]
+    #[tactic(auto, unfolding(crate::specs::Images::units_in))]
     pub fn name_of(&self, id: EntryId) -> Option<&'a [u8]>
         requires { id < length (entries_in self.now) }
         ensures { IfSome (slice_get (entries_in self.now) id) (λ e. option_copied result ≡ name_in self.now e) }

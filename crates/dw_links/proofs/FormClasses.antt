@@ -3,7 +3,7 @@ use Rattle.std.proofs.Common.{◌≡◌, ℕ, true, false, List, Some, refl, ap,
 use Rattle.dw_forms.specs.declared.form.Form.{Form}
 use Rattle.dw_forms.specs.declared.form.Form.TheVariants as form
 use Rattle.dw_forms.specs.Value.{Datum, Val}
-use Rattle.dw_entries.specs.Referring.{may_refer}
+use Rattle.dw_forms.specs.FormCodes.{may_refer}
 use Rattle.dw_links.specs.declared.class.Class.{Class}
 use Rattle.dw_links.specs.declared.class.Class.TheVariants.{Address, Block, Constant, WideConstant, Exprloc, Flag, ListIndex, Reference, SectionOffset, String}
 use Rattle.dw_links.specs.Classes.{class_of, form_class}

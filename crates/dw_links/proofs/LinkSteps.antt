@@ -10,7 +10,8 @@ use Rattle.dw_entries.specs.Asked.{values_of}
 use Rattle.dw_entries.specs.Entries.{Entry, PlacedUnit}
 use Rattle.dw_entries.specs.Lookups.{entry_head, value_in}
 use Rattle.dw_entries.specs.Chosen.{IsPassed, ArePassed, IsNextOf}
-use Rattle.dw_entries.specs.Referring.{may_refer, IsOther}
+use Rattle.dw_forms.specs.FormCodes.{may_refer}
+use Rattle.dw_entries.specs.Referring.{IsOther}
 use Rattle.dw_entries.specs.declared.fault.Broken.{Broken}
 use Rattle.dw_entries.specs.declared.fault.Section.TheVariants.{Info}
 use Rattle.dw_entries.specs.Failures.{HasNone, IsFirst, IsLeast}

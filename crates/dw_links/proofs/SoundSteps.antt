@@ -9,6 +9,7 @@ use Rattle.dw_forms.specs.declared.decl.AttributeSpec.{AttributeSpec}
 use Rattle.dw_forms.specs.declared.form.Form.{Form}
 use Rattle.dw_forms.specs.declared.form.Form.TheVariants as form
 use Rattle.dw_forms.specs.Value.{Datum, ref_unit}
+use Rattle.dw_forms.specs.FormCodes.{may_lead_out, may_refer}
 use Rattle.dw_forms.specs.Walks.{may_lead}
 use Rattle.dw_entries.specs.declared.lookup.Head.{Head}
 use Rattle.dw_entries.specs.Asked.{values_of}
@@ -17,7 +18,7 @@ use Rattle.dw_entries.specs.Entries.{Entry, PlacedUnit}
 use Rattle.dw_entries.specs.Failures.{IsLeast, HasNone}
 use Rattle.dw_entries.specs.Leading.{DoesNotLead}
 use Rattle.dw_entries.specs.Lookups.{nth_of, entry_head}
-use Rattle.dw_entries.specs.Referring.{may_refer, IsOther}
+use Rattle.dw_entries.specs.Referring.{IsOther}
 use Rattle.dw_links.specs.declared.string_rules.UnitTexts.{UnitTexts}
 use Rattle.dw_links.specs.Classes.{form_class}
 use Rattle.dw_links.specs.Concerns.{AtHead, Passes}
@@ -25,7 +26,7 @@ use Rattle.dw_links.specs.Kept.{kept_after}
 use Rattle.dw_links.specs.Ready.{AreTexts, FailsByTexts}
 use Rattle.dw_links.specs.References.{permits, permits_form, ReferenceFails}
 use Rattle.dw_links.specs.Sound.{IsPlain, IsSoundValue, IsSound, LinksNext, first_type}
-use Rattle.dw_links.specs.Strings.{StringFails, may_lead as may_lead_to_texts}
+use Rattle.dw_links.specs.Strings.{StringFails}
 use Rattle.dw_links.specs.Tables.{type_target}
 use Rattle.dw_links.specs.Targets.{reach_in_unit, reach_of}
 use Rattle.dw_links.proofs.Asked.{least_none, not_wrong, right_sibling}
@@ -87,40 +88,14 @@ linked_in_unit texts entries units head a offset v (Some t) is strings some none
 
 -- ---- what does not lead elsewhere
 
-refers : (f : Form) → may_lead f ≡ false → may_refer f ≡ false
-refers form.RefAddr e = absurd cc
-refers form.Ref1 e = absurd cc
-refers form.Ref2 e = absurd cc
-refers form.Ref4 e = absurd cc
-refers form.Ref8 e = absurd cc
-refers form.RefUdata e = absurd cc
-refers form.RefSig8 e = absurd cc
-refers form.Indirect e = absurd cc
-refers f e = refl
-
-to_texts : (f : Form) → may_lead f ≡ false → may_lead_to_texts f ≡ false
-to_texts form.Strp e = absurd cc
-to_texts form.LineStrp e = absurd cc
-to_texts form.Strx e = absurd cc
-to_texts form.Strx1 e = absurd cc
-to_texts form.Strx2 e = absurd cc
-to_texts form.Strx3 e = absurd cc
-to_texts form.Strx4 e = absurd cc
-to_texts form.Addrx e = absurd cc
-to_texts form.Addrx1 e = absurd cc
-to_texts form.Addrx2 e = absurd cc
-to_texts form.Addrx3 e = absurd cc
-to_texts form.Addrx4 e = absurd cc
-to_texts form.Indirect e = absurd cc
-to_texts f e = refl
-
 neither : (a b : Bool) → (a || b) ≡ false → (a ≡ false) × (b ≡ false)
 neither true b is = absurd cc
 neither false b is = (refl, is)
 
 -- what an attribute that does not lead elsewhere is not
 record Leads (spec : AttributeSpec) : Type 0 where
-  no_form : may_lead spec.form ≡ false
+  no_way_out : may_lead_out spec.form ≡ false
+  no_reference : may_refer spec.form ≡ false
   no_type : (spec.attribute == DW_AT_type) ≡ false
   no_str_base : (spec.attribute == DW_AT_str_offsets_base) ≡ false
   no_addr_base : (spec.attribute == DW_AT_addr_base) ≡ false
@@ -130,10 +105,11 @@ leads spec not =
     let first = neither (may_lead spec.form || spec.attribute == DW_AT_type || spec.attribute == DW_AT_str_offsets_base) (spec.attribute == DW_AT_addr_base) not in
     let second = neither (may_lead spec.form || spec.attribute == DW_AT_type) (spec.attribute == DW_AT_str_offsets_base) first.0 in
     let third = neither (may_lead spec.form) (spec.attribute == DW_AT_type) second.0 in
-    record { no_form = third.0; no_type = third.1; no_str_base = second.1; no_addr_base = first.1 }
+    let form = neither (may_lead_out spec.form) (may_refer spec.form) third.0 in
+    record { no_way_out = form.0; no_reference = form.1; no_type = third.1; no_str_base = second.1; no_addr_base = first.1 }
 
 pub is_other : (spec : AttributeSpec) → DoesNotLead spec → IsOther DW_AT_type spec
-is_other spec not = let l = leads spec not in rw (refers spec.form l.no_form) l.no_type
+is_other spec not = let l = leads spec not in rw l.no_reference l.no_type
 
 pub other_code : (a b : ℕ) → (a == b) ≡ false → a ≡ b → ⊥
 other_code a b not same = let both : (a == b) ≡ true = ap (λ (n : ℕ). n == b) same ∙ eq-eqb b b refl in let no : true ≡ false = sym both ∙ not in cc
@@ -143,7 +119,7 @@ passes_texts texts spec not = by_form spec.form refl (leads spec not)
   where
     by_form : (f : Form) → spec.form ≡ f → Leads spec → Passes (FailsByTexts texts) spec
     by_form form.SecOffset is l = no_base_passes texts spec (ap form_class is) (λ p. elim p [ inl s ↦ other_code _ _ l.no_str_base s | inr s ↦ other_code _ _ l.no_addr_base s ])
-    by_form f is l = form_passes texts spec (to_texts spec.form l.no_form) (λ same. let both : f ≡ form.SecOffset = sym is ∙ same in cc)
+    by_form f is l = form_passes texts spec l.no_way_out (λ same. let both : f ≡ form.SecOffset = sym is ∙ same in cc)
 
 -- what is passed for one reason is passed for another
 pub pass_so : (P Q : AttributeSpec → Type 0) → ((spec : AttributeSpec) → P spec → Q spec) → (items : List (ℕ × Datum)) → ArePassed P items → ArePassed Q items

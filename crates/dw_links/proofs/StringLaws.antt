@@ -18,7 +18,7 @@ use Rattle.dw_links.specs.declared.string_rules.UnitTexts.{UnitTexts}
 use Rattle.dw_links.specs.Concerns.{Passes}
 use Rattle.dw_links.specs.Classes.{class_of, form_class}
 use Rattle.dw_links.specs.Ready.{FailsByTexts}
-use Rattle.dw_links.specs.Strings.{may_lead}
+use Rattle.dw_forms.specs.FormCodes.{may_lead_out}
 use Rattle.dw_links.proofs.FormClasses.{class_by_form}
 
 -- a rule fails at strings, at addresses and at bases
@@ -91,7 +91,7 @@ is_unasked SectionOffset = false
 is_unasked _ = true
 
 -- a form that does not lead to a string or an address holds it, or has another class
-by_form : (f : Form) → may_lead f ≡ false → (f ≡ form.SecOffset → ⊥) → ((f ≡ form.Text) ⊎ (f ≡ form.Addr)) ⊎ ((c : Class) × (form_class f ≡ Some c) × (is_unasked c ≡ true))
+by_form : (f : Form) → may_lead_out f ≡ false → (f ≡ form.SecOffset → ⊥) → ((f ≡ form.Text) ⊎ (f ≡ form.Addr)) ⊎ ((c : Class) × (form_class f ≡ Some c) × (is_unasked c ≡ true))
 by_form form.Addr none other = inl (inr refl)
 by_form form.Block2 none other = inr (Block, refl, refl)
 by_form form.Block4 none other = inr (Block, refl, refl)
@@ -136,7 +136,7 @@ by_form form.Addrx4 none other = absurd (let both : true ≡ false = none in cc)
 other_class : (c d : Class) → is_unasked c ≡ true → is_unasked d ≡ false → c ≡ d → ⊥
 other_class c d is not same = let both : true ≡ false = sym is ∙ ap is_unasked same ∙ not in cc
 
-pub form_passes : (texts : UnitTexts) (spec : AttributeSpec) → may_lead spec.form ≡ false → (spec.form ≡ form.SecOffset → ⊥) → Passes (FailsByTexts texts) spec
+pub form_passes : (texts : UnitTexts) (spec : AttributeSpec) → may_lead_out spec.form ≡ false → (spec.form ≡ form.SecOffset → ⊥) → Passes (FailsByTexts texts) spec
 form_passes texts spec none other =
     elim (by_form spec.form none other) [
       | inl here ↦ inline_passes texts spec here
@@ -144,7 +144,7 @@ form_passes texts spec none other =
     ]
 
 -- the values of such a form take bytes, and a search stops at them
-leads_with_bytes : (f : Form) (b : Bool) → (not (is_byteless f) || b) ≡ false → (may_lead f ≡ false) × (f ≡ form.SecOffset → ⊥)
+leads_with_bytes : (f : Form) (b : Bool) → (not (is_byteless f) || b) ≡ false → (may_lead_out f ≡ false) × (f ≡ form.SecOffset → ⊥)
 leads_with_bytes form.FlagPresent b is = (refl, λ e. absurd (let both : form.FlagPresent ≡ form.SecOffset = e in cc))
 leads_with_bytes (form.ImplicitConst number) b is = (refl, λ e. absurd (let both : form.ImplicitConst number ≡ form.SecOffset = e in cc))
 leads_with_bytes f b is = absurd (let both : true ≡ false = is in cc)

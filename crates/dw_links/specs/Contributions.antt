@@ -2,13 +2,9 @@
 use Rattle.std.specs.Prelude.{◌≡◌, ℕ, ◌+◌, ◌-◌, ◌*◌, ◌/◌, ◌%◌, ◌<◌, ◌≤◌, List, length, drop, slice_index, Option, None}
 use Rattle.std.specs.Prelude.{Some, ◌==◌}
 use Rattle.std.specs.List.{before_first}
-use Rattle.byteorder.specs.Endian.{little_number}
+use Rattle.dw_elf.specs.Elf.{number_at}
 use Rattle.dw_links.specs.declared.contribution.Contribution.{Contribution}
 use Rattle.dw_links.specs.declared.contribution.Contribution.TheVariants.{Absent, Broken, Sound}
-
--- the number in so many bytes from a place on
-unfoldable pub number_at : ℕ → List ℕ → ℕ → ℕ
-number_at size section at = little_number size (drop at section)
 
 -- the length in the header before a base, which counts all bytes behind itself
 abbrev pub length_before : List ℕ → ℕ → ℕ

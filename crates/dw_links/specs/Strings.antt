@@ -1,9 +1,6 @@
 -- Chapter: the rules on strings and addresses (DWARF 5, 7.26 and 7.27).
-use Rattle.std.specs.Prelude.{◌≡◌, ◌≢◌, ℕ, ◌<◌, ◌≤◌, ◌⊎◌, Bool, true, false, List, Option, None, Some, slice_get}
+use Rattle.std.specs.Prelude.{◌≡◌, ◌≢◌, ℕ, ◌<◌, ◌≤◌, ◌⊎◌, List, Option, None, Some, slice_get}
 use Rattle.dw_elf.specs.declared.sections.Sections.{Sections}
-use Rattle.dw_forms.specs.declared.form.Form.{Form}
-use Rattle.dw_forms.specs.declared.form.Form.TheVariants.{Strp, LineStrp, Strx, Strx1, Strx2, Strx3, Strx4, Addrx}
-use Rattle.dw_forms.specs.declared.form.Form.TheVariants.{Addrx1, Addrx2, Addrx3, Addrx4, Indirect}
 use Rattle.dw_forms.specs.Value.{Datum, str, line_str, str_index, addr_index, sec_offset}
 use Rattle.dw_entries.specs.declared.header.UnitHeader.{UnitHeader}
 use Rattle.dw_entries.specs.declared.rule.Rule.{Rule}
@@ -19,24 +16,6 @@ use Rattle.dw_forms.specs.Codes.{DW_AT_str_offsets_base, DW_AT_addr_base}
 use Rattle.dw_entries.specs.Entries.{PlacedUnit, placed}
 use Rattle.dw_links.specs.Contributions.{IsContribution, slot_count, slot_at, Ends}
 use Rattle.dw_links.specs.Bases.{base_in}
-
--- values of the form may be offsets or indices of strings, or indices of addresses: so are those that name another form
--- (DWARF 5, 7.5.5)
-abbrev pub may_lead : Form → Bool
-may_lead Strp = true
-may_lead LineStrp = true
-may_lead Strx = true
-may_lead Strx1 = true
-may_lead Strx2 = true
-may_lead Strx3 = true
-may_lead Strx4 = true
-may_lead Addrx = true
-may_lead Addrx1 = true
-may_lead Addrx2 = true
-may_lead Addrx3 = true
-may_lead Addrx4 = true
-may_lead Indirect = true
-may_lead _ = false
 
 -- the header of a string contribution ends with two zero bytes, and a slot has 4 bytes
 abbrev pub IsStringContribution : Sections → ℕ → Type 0

@@ -1,7 +1,8 @@
 //! The contributions of units to .debug_str_offsets and .debug_addr (DWARF 5, sections 7.26 and 7.27).
 
 ghost use Rattle.std.specs.Prelude.{◌≡◌, ◌+◌, ◌<◌, ◌≤◌, length, Some, IfSome, IfNone};
-ghost use Rattle.dw_links.specs.Contributions.{number_at, slot_count, IsContribution, base_of, IsRead, IsEndOfStrings};
+ghost use Rattle.dw_elf.specs.Elf.{number_at};
+ghost use Rattle.dw_links.specs.Contributions.{slot_count, IsContribution, base_of, IsRead, IsEndOfStrings};
 
 use byteorder::{ByteOrder, LittleEndian};
 use memchr::memrchr;
@@ -18,7 +19,7 @@ pub enum Contribution {
 }
 
 /// The number in so many bytes from a place on, lowest first.
-#[tactic(auto, unfolding(crate::specs::Contributions::number_at))]
+#[tactic(auto, unfolding(dw_elf::specs::Elf::number_at))]
 pub fn number(section: &[u8], at: usize, size: usize) -> u64
     requires some { 1 ≤ size }
     requires few { size ≤ 8 }

@@ -10,7 +10,7 @@ ghost use Rattle.dw_entries.specs.Views.{sections_of};
 ghost use Rattle.dw_entries.specs.Failures.{HasNone, IsFirst, IsPlainFault};
 ghost use Rattle.dw_links.specs.Bases.{base_in};
 ghost use Rattle.dw_links.specs.Ready.{AreEnds, AreTexts};
-ghost use Rattle.dw_links.specs.Strings.{may_lead, StringFailures};
+ghost use Rattle.dw_links.specs.Strings.{StringFailures};
 
 use crate::contribution::named_contribution;
 use crate::rules::{AttributeRules, check_entry, fault_of};
@@ -19,29 +19,6 @@ use dw_entries::constants::*;
 use dw_entries::{Broken, Entries, Fault, Head, Rule};
 use dw_forms::{Attribute, AttributeSpec, Form, Value};
 use std::alloc::Global;
-
-/// Whether values of the form may be offsets or indices of strings, or indices of addresses.
-#[inline]
-fn may_lead(form: Form) -> bool
-    ensures { result ≡ may_lead form }
-{
-    matches!(
-        form,
-        Form::Strp
-            | Form::LineStrp
-            | Form::Strx
-            | Form::Strx1
-            | Form::Strx2
-            | Form::Strx3
-            | Form::Strx4
-            | Form::Addrx
-            | Form::Addrx1
-            | Form::Addrx2
-            | Form::Addrx3
-            | Form::Addrx4
-            | Form::Indirect
-    )
-}
 
 /// Whether an attribute is the base of a contribution.
 #[inline]
@@ -62,7 +39,7 @@ impl AttributeRules for UnitTexts<'_> {
     fn concerns(&self, spec: &AttributeSpec) -> bool {
         match spec.form {
             Form::SecOffset => is_base(spec.attribute),
-            form => may_lead(form),
+            form => form.may_lead_out(),
         }
     }
 

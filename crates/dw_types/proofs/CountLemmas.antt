@@ -18,7 +18,7 @@ use Rattle.dw_types.specs.declared.unit_facts.UnitFacts.{UnitFacts}
 use Rattle.dw_types.specs.declared.kind.Role.TheVariants.{Members, Dimensions, Other}
 use Rattle.dw_types.specs.Counts.{count_at, count_from, is_array_tag, is_dimension, is_subrange_tag, known_natural}
 use Rattle.dw_types.specs.Entries.{entry_of}
-use Rattle.dw_types.specs.FactsOf.{constant_at, facts_in, is_asked}
+use Rattle.dw_types.specs.FactsOf.{constant_at, facts_in, is_type_or_member}
 use Rattle.dw_types.specs.Kinds.{has_members, is_array, is_dimensions, parent_role, role_in, role_of}
 use Rattle.dw_types.specs.UnitsRead.{unit_facts, unit_facts_at}
 use Rattle.dw_types.proofs.FactsLemmas.{length-facts_of, parent-known, tag-known}
@@ -61,7 +61,7 @@ dimension-known us id head below is =
     let parent = parent-known us (facts_in us) refl head id id refl below is in
     λ i. is_subrange_tag (tag i) && is_dimensions (role_in (facts_in us) (parent i))
 
-subrange-asked : (tag : ℕ) → is_subrange_tag tag ≡ true → is_asked tag ≡ true
+subrange-asked : (tag : ℕ) → is_subrange_tag tag ≡ true → is_type_or_member tag ≡ true
 subrange-asked tag is = let same : tag ≡ DW_TAG_subrange_type = eqb-true tag DW_TAG_subrange_type is in rw same refl
 
 -- no target is asked by a count
@@ -91,7 +91,7 @@ module _ (a info : List ℕ) (us : List DebugUnit) (spells : Spells a us info) (
       let facts = entry_of (facts_in us) id in
       let tag : head.tag ≡ facts.tag = tag-known us (facts_in us) refl head id id refl (let long = length-facts_of (entries_of us) (placed us) in omega arith) is_head in
       let subrange = (and_parts (is_subrange_tag facts.tag) _ dimension).0 in
-      let asked : is_asked head.tag ≡ true = subrange-asked head.tag (rw (← tag) at subrange) in
+      let asked : is_type_or_member head.tag ≡ true = subrange-asked head.tag (rw (← tag) at subrange) in
       let of_unit = IfSome_then (slice_get (entries_of us) id) (unit-here unit is_unit) (λ e h. ap (λ (x : UnitFacts). x.language) h) in
       let c = fact-asked us id head below is_head (λ (f : Facts). f.count) (λ e. constant_at e DW_AT_count) Absent (count-is (entries_of us) (placed us)) count asked is_count in
       let u = fact-asked us id head below is_head (λ (f : Facts). f.upper_bound) (λ e. constant_at e DW_AT_upper_bound) Absent (upper_bound-is (entries_of us) (placed us)) upper asked is_upper in

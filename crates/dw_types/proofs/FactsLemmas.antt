@@ -10,7 +10,7 @@ use Rattle.dw_entries.specs.Units.{AreUnits, DebugUnit}
 use Rattle.dw_entries.proofs.EntryFacts.{entries_rise}
 use Rattle.dw_types.specs.declared.facts.Facts.{Facts}
 use Rattle.dw_types.specs.Entries.{entry_of, no_entry, OffsetsRise, ParentsComeFirst, TargetsAreEntries}
-use Rattle.dw_types.specs.FactsOf.{facts_at, facts_in, facts_of, facts_read, facts_unread, is_asked}
+use Rattle.dw_types.specs.FactsOf.{facts_at, facts_in, facts_of, facts_read, facts_unread, is_type_or_member}
 use Rattle.dw_types.proofs.ParentLemmas.{parent-before}
 use Rattle.dw_types.proofs.TargetLemmas.{target-below}
 
@@ -29,7 +29,7 @@ module _ (entries : List Entry) (units : List PlacedUnit) (e : Entry) where
   -- whether they are read or not
   by_tag : (P : Facts → Type 0) → P (facts_read entries units e) → P (facts_unread e) → P (facts_at entries units e)
   unfolding facts_at
-  by_tag P read unread = go (is_asked e.head.decl.tag)
+  by_tag P read unread = go (is_type_or_member e.head.decl.tag)
     where
       go : (b : Bool) → P (if b then facts_read entries units e else facts_unread e)
       go true = read

@@ -13,7 +13,7 @@ use Rattle.dw_types.specs.declared.kind.Role.TheVariants.{Other}
 use Rattle.dw_types.specs.declared.step_list.Step.{Step}
 use Rattle.dw_types.specs.Constants.{is_negative, is_present}
 use Rattle.dw_types.specs.Entries.{entry_of, ParentsComeFirst}
-use Rattle.dw_types.specs.FactsOf.{is_asked}
+use Rattle.dw_types.specs.FactsOf.{is_type_or_member}
 use Rattle.dw_types.specs.Kinds.{alias_tags, container_tags, declarable_tags, has_members, is_array, is_declared_type, kind_of, own_sized_tags, parent_role, passes_type_on, role_of}
 use Rattle.dw_links.specs.Classes.{is_one_of}
 use Rattle.dw_types.specs.Shapes.{breaks_shape}
@@ -83,7 +83,7 @@ module _ (entry : Facts) (untyped : is_type_tag entry.tag ≡ false) where
   untyped-size_none breaks = neither-or (reads_own (kind_of entry)) (is_negative entry.byte_size) (not (is_present entry.byte_size)) (wants_own entry) (ap reads_own untyped-kind) untyped-wants breaks
 
 -- whose tag is none of those that are asked
-module _ (entry : Facts) (unasked : is_asked entry.tag ≡ false) where
+module _ (entry : Facts) (unasked : is_type_or_member entry.tag ≡ false) where
   no-type : is_type_tag entry.tag ≡ false
   no-type = (or_parts (is_type_tag entry.tag) _ unasked).0
 
@@ -113,7 +113,7 @@ module _ (entry : Facts) (unasked : is_asked entry.tag ≡ false) where
   unasked-sized parent container type_size _ breaks = false≢true breaks
 
 -- it has no size in a table that obeys the capped lines, and so breaks no rule on sizes
-pub unasked-size : (entries : List Facts) (table : ℕ → Size) (node : ℕ) → table node ≡ cap_size (2 ^ 63) (size_line entries table node) → is_asked (entry_of entries node).tag ≡ false → (rule : Rule) → fails_size entries table node rule ≡ true → ⊥
+pub unasked-size : (entries : List Facts) (table : ℕ → Size) (node : ℕ) → table node ≡ cap_size (2 ^ 63) (size_line entries table node) → is_type_or_member (entry_of entries node).tag ≡ false → (rule : Rule) → fails_size entries table node rule ≡ true → ⊥
 unasked-size entries table node obeys unasked rule breaks =
     let none : table node ≡ None = obeys ∙ ap (λ (kind : Kind). cap_size (2 ^ 63) (size_of_kind kind entries table node)) (untyped-kind (entry_of entries node) (no-type (entry_of entries node) unasked)) in
     let entry = entry_of entries node in
@@ -126,11 +126,11 @@ and-false true = refl
 and-false false = refl
 
 -- it is no member of any entry
-pub unasked-member : (entries : List Facts) (node child : ℕ) → is_asked (entry_of entries child).tag ≡ false → member_step entries node child ≡ []
+pub unasked-member : (entries : List Facts) (node child : ℕ) → is_type_or_member (entry_of entries child).tag ≡ false → member_step entries node child ≡ []
 unasked-member entries node child unasked = let member = no-member (entry_of entries child) unasked in rw (member, and-false (has_members (entry_of entries node))) refl
 
 -- no step is added for it
-pub unasked-steps : (entries : List Facts) (steps : List Step) (count : ℕ) → ParentsComeFirst entries → HasSteps entries steps count → is_asked (entry_of entries count).tag ≡ false → HasSteps entries steps (count + 1)
+pub unasked-steps : (entries : List Facts) (steps : List Step) (count : ℕ) → ParentsComeFirst entries → HasSteps entries steps count → is_type_or_member (entry_of entries count).tag ≡ false → HasSteps entries steps (count + 1)
 unasked-steps entries steps count first h unasked =
     let entry = entry_of entries count in
     let type : [] ≡ targets_if (passes_type_on entry) entry.type_target = ap (λ (b : Bool). targets_if b entry.type_target) (sym (unasked-passes entry unasked)) in

@@ -7,23 +7,23 @@ use Rattle.dw_links.specs.Targets.{target_of}
 use Rattle.dw_types.specs.declared.constant.Constant.{Constant}
 use Rattle.dw_types.specs.declared.constant.Constant.TheVariants.{Absent}
 use Rattle.dw_types.specs.declared.facts.Facts.{Facts}
-use Rattle.dw_types.specs.FactsOf.{constant_at, facts_at, is_asked}
+use Rattle.dw_types.specs.FactsOf.{constant_at, facts_at, is_type_or_member}
 
 -- the value of an attribute of a type or a member, if it has that attribute
 abbrev pub asked_value : Entry → (attribute : ℕ) → Option Datum
-asked_value e attribute = if is_asked e.head.decl.tag then value_at_entry e attribute else None
+asked_value e attribute = if is_type_or_member e.head.decl.tag then value_at_entry e attribute else None
 
 -- the number of an attribute of a type or a member; any other entry has none
 abbrev pub asked_constant : Entry → (attribute : ℕ) → Constant
-asked_constant e attribute = if is_asked e.head.decl.tag then constant_at e attribute else Absent
+asked_constant e attribute = if is_type_or_member e.head.decl.tag then constant_at e attribute else Absent
 
 -- a type or a member has the attribute
 abbrev pub asked_presence : Entry → (attribute : ℕ) → Bool
-asked_presence e attribute = if is_asked e.head.decl.tag then is_some (value_at_entry e attribute) else false
+asked_presence e attribute = if is_type_or_member e.head.decl.tag then is_some (value_at_entry e attribute) else false
 
 -- the entry that an attribute of a type or a member reaches
 abbrev pub asked_target : List Entry → List PlacedUnit → Entry → (attribute : ℕ) → Option ℕ
-asked_target entries units e attribute = if is_asked e.head.decl.tag then target_of entries units e attribute else None
+asked_target entries units e attribute = if is_type_or_member e.head.decl.tag then target_of entries units e attribute else None
 
 -- the fact is the number of this attribute
 abbrev pub IsConstantAt : (attribute : ℕ) → (Facts → Constant) → Type 0

@@ -41,8 +41,8 @@ abbrev pub language_of : PlacedUnit → Constant
 language_of u = constant_of (value_in (values_of (head_of u.unit.root)) DW_AT_language)
 
 -- an entry that the rules on types look at: a type or a member
-abbrev pub is_asked : (tag : ℕ) → Bool
-is_asked tag = is_type_tag tag || tag == DW_TAG_member
+abbrev pub is_type_or_member : (tag : ℕ) → Bool
+is_type_or_member tag = is_type_tag tag || tag == DW_TAG_member
 
 -- what is read of a type or a member
 unfoldable pub facts_read : List Entry → List PlacedUnit → Entry → Facts
@@ -74,7 +74,7 @@ facts_unread e = record no_entry { offset = e.at; tag = e.head.decl.tag; parent 
 
 -- the facts of an entry
 unfoldable pub facts_at : List Entry → List PlacedUnit → Entry → Facts
-facts_at entries units e = if is_asked e.head.decl.tag then facts_read entries units e else facts_unread e
+facts_at entries units e = if is_type_or_member e.head.decl.tag then facts_read entries units e else facts_unread e
 
 -- the entries, each with its facts
 unfoldable pub facts_of : List Entry → List PlacedUnit → List Facts

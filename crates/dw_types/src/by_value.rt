@@ -92,7 +92,7 @@ fn steps_of(alloc: Global, entries: &FactsList<'_, '_>) -> Result<Vec<Step>, Sto
     let mut cursor = entries.cursor();
     for child in 0..entries.count() {
         let entry = cursor.at(child);
-        if !entry.is_asked() {
+        if !entry.is_type_or_member() {
             roles.push_other()?;
             continue;
         }

@@ -11,7 +11,7 @@ ghost use Rattle.dw_types.specs.declared.constant.Constant.{Constant as Constant
 ghost use Rattle.dw_types.specs.declared.facts.Facts.{Facts as FactsOf};
 ghost use Rattle.dw_types.specs.Entries.{entry_of};
 ghost use Rattle.dw_types.specs.FactsAsked.{IsConstantAt, IsPresenceOf, IsTargetOf, asked_value};
-ghost use Rattle.dw_types.specs.FactsOf.{facts_in, is_asked};
+ghost use Rattle.dw_types.specs.FactsOf.{facts_in, is_type_or_member};
 ghost use Rattle.dw_types.specs.UnitsRead.{all_unit_facts};
 
 use crate::constant::Constant;
@@ -23,8 +23,8 @@ use std::marker::Model;
 
 /// Whether the rules on types look at an entry: a type or a member.
 #[inline(always)]
-fn is_asked(entry: &EntryAt<'_, '_>) -> bool
-    ensures { IfSome entry.now (λ e. result ≡ is_asked e.head.decl.tag) }
+fn is_type_or_member(entry: &EntryAt<'_, '_>) -> bool
+    ensures { IfSome entry.now (λ e. result ≡ is_type_or_member e.head.decl.tag) }
 {
     entry.is_type() || entry.tag() == DW_TAG_member
 }
@@ -35,7 +35,11 @@ fn asked_value<'a>(entry: &EntryAt<'_, 'a>, attribute: Attribute) -> Option<Valu
     ensures { IfSome entry.now (λ e. option_map view result ≡ asked_value e attribute) }
 {
     match entry.value(attribute) {
-        Some(value) => if is_asked(entry) { Some(value) } else { None },
+        Some(value) => if is_type_or_member(entry) {
+            Some(value)
+        } else {
+            None
+        },
         None => None,
     }
 }
@@ -43,10 +47,10 @@ fn asked_value<'a>(entry: &EntryAt<'_, 'a>, attribute: Attribute) -> Option<Valu
 /// The number of the entry that an attribute of an entry reaches, if the rules on types look at the entry.
 #[inline(always)]
 fn asked_target(entry: &EntryAt<'_, '_>, target: Option<EntryId>) -> Option<usize>
-    ensures { IfSome entry.now (λ e. result ≡ if is_asked e.head.decl.tag then target else None) }
+    ensures { IfSome entry.now (λ e. result ≡ if is_type_or_member e.head.decl.tag then target else None) }
 {
     match target {
-        Some(id) => if is_asked(entry) {
+        Some(id) => if is_type_or_member(entry) {
             Some(id.number())
         } else {
             None
@@ -138,10 +142,10 @@ impl<'e, 'a> FactsAt<'e, 'a> {
 
     /// Whether the rules on types look at the entry.
     #[inline(always)]
-    pub(crate) fn is_asked(&self) -> bool
-        ensures { result ≡ is_asked self.now.tag }
+    pub(crate) fn is_type_or_member(&self) -> bool
+        ensures { result ≡ is_type_or_member self.now.tag }
     {
-        is_asked(&self.entry)
+        is_type_or_member(&self.entry)
     }
 
     /// The number of its parent.
@@ -185,7 +189,7 @@ impl<'e, 'a> FactsAt<'e, 'a> {
         ensures address_size { result.address_size ≡ self.now.address_size }
         ensures language { result.language ≡ self.now.language }
     {
-        if is_asked(&self.entry) {
+        if is_type_or_member(&self.entry) {
             unit_at(self.units, self.entry.unit())
         } else {
             UnitFacts {

@@ -70,7 +70,7 @@ fn first_wrong_size(
     let mut cursor = entries.cursor();
     for node in 0..entries.count() {
         let entry = cursor.at(node);
-        if !entry.is_asked() {
+        if !entry.is_type_or_member() {
             roles.push_other()?;
             continue;
         }

@@ -1,14 +1,6 @@
--- Chapter: the digits of numbers.
-use Rattle.std.specs.Prelude.{ℕ, zero, suc, ◌^◌, ◌+◌, ◌/◌, ◌%◌, nat_lt, if◌then◌else◌, List, [], ◌∷◌}
-
--- the digit of a number below 16, in lower case
-abbrev pub hex_digit : ℕ → ℕ
-hex_digit n = if nat_lt n 10 then 48 + n else 87 + n
-
--- the lowest k digits of n, the highest first
-abbrev pub places : ℕ → ℕ → List ℕ
-places zero n = []
-places (suc k) n = hex_digit (n / 16 ^ k % 16) ∷ places k n
+-- Chapter: the digits of numbers, without leading zeros.
+use Rattle.std.specs.Prelude.{ℕ, nat_lt, if◌then◌else◌, List}
+use Rattle.dw_cprint.specs.Digits.{places}
 
 -- the digits of a number of 16 bits, without leading zeros
 unfoldable pub hex : ℕ → List ℕ

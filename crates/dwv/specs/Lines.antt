@@ -6,7 +6,8 @@ use Rattle.dw_elf.specs.declared.fault.ElfFault.{ElfFault}
 use Rattle.dw_elf.specs.RuleTexts as elf
 use Rattle.dw_entries.specs.declared.fault.Fault.{Fault}
 use Rattle.dw_entries.specs.RuleTexts.{code_text, name_text, section_text}
-use Rattle.dwv.specs.Digits.{places, hex}
+use Rattle.dw_cprint.specs.Digits.{places}
+use Rattle.dwv.specs.Digits.{hex}
 
 -- a text that ends with a line feed
 abbrev pub line : List ℕ → List ℕ

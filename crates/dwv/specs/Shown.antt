@@ -8,7 +8,7 @@ use Rattle.dw_entries.specs.Entries.{Entry}
 use Rattle.dw_image.specs.declared.image.Image.{Image}
 use Rattle.dw_image.specs.Images.{entries_in, name_in, size_table_in}
 use Rattle.dw_image.specs.Lookups.{is_type_entry, entry_at, type_number}
-use Rattle.dwv.specs.Digits.{places}
+use Rattle.dw_cprint.specs.Digits.{places}
 use Rattle.dwv.specs.Lines.{line, offset_text}
 use Rattle.dwv.specs.declared.request.Status.{Status}
 use Rattle.dwv.specs.declared.request.Status.TheVariants.{Sound, NotAType}

@@ -1,34 +1,12 @@
 //! Decimal and hexadecimal digits, appended to a text.
 
-ghost use Rattle.std.specs.Prelude.{◌≡◌, ◌<◌, ◌++◌, OnOk};
+ghost use Rattle.std.specs.Prelude.{◌≡◌, ◌++◌, OnOk};
 ghost use Rattle.std.specs.Fmt.{decimal};
-ghost use Rattle.dwv.specs.Digits.{hex_digit, places, hex};
+ghost use Rattle.dw_cprint.specs.Digits.{places};
+ghost use Rattle.dwv.specs.Digits.{hex};
 
+use dw_cprint::digit_of;
 use std::alloc::AllocError;
-
-fn digit_of(n: u32) -> u8
-    requires { n < 16 }
-    ensures { result ≡ hex_digit n }
-{
-    let n = n as u8;
-    if n < 10 { b'0' + n } else { b'a' + (n - 10) }
-}
-
-/// Appends eight hexadecimal digits of a number.
-pub fn put_eight_digits(text: &mut Vec<u8>, n: u32) -> Result<(), AllocError>
-    ensures ok { OnOk result (text.new.items ≡ text.old.items ++ places 8 n) }
-{
-    text.extend_from_slice(&[
-        digit_of(n / 0x1000_0000 % 16),
-        digit_of(n / 0x100_0000 % 16),
-        digit_of(n / 0x10_0000 % 16),
-        digit_of(n / 0x1_0000 % 16),
-        digit_of(n / 0x1000 % 16),
-        digit_of(n / 0x100 % 16),
-        digit_of(n / 0x10 % 16),
-        digit_of(n % 16),
-    ])
-}
 
 /// Appends two hexadecimal digits of a number.
 pub fn put_two_digits(text: &mut Vec<u8>, n: u8) -> Result<(), AllocError>

@@ -6,7 +6,8 @@ ghost use Rattle.dw_image.specs.Images.{unit_count, entry_count, type_count};
 ghost use Rattle.dwv.specs.Lines.{offset_text, sound_line, elf_fault_line, fault_lines, cycle_line, cycle_offset};
 ghost use Rattle.dwv.specs.Lines.{rule_part, place_part};
 
-use crate::digits::{put_decimal, put_eight_digits, put_hex};
+use crate::digits::{put_decimal, put_hex};
+use dw_cprint::put_eight_digits;
 use dw_elf::ElfFault;
 use dw_image::{Fault, Image};
 use std::alloc::AllocError;

@@ -66,12 +66,12 @@ returns-in-Some-clause-fault c =
 pub loop-child-init : goal.loop-child-init
 loop-child-init c = rw c.in_ok-steps.ensures.items (steps-none c.args.entries.now, c.in_ok-roles.ensures, λ k below. absurd (omega arith), c.cursor-cursor.ensures)
 
-pub loop-child-preserved-then-not-is_asked : goal.loop-child-preserved-then-not-is_asked
-loop-child-preserved-then-not-is_asked c =
+pub loop-child-preserved-then-not-is_type_or_member : goal.loop-child-preserved-then-not-is_type_or_member
+loop-child-preserved-then-not-is_type_or_member c =
     let entries = c.args.entries.now in
     let child = c.loop-child.child in
     let inside : child < length entries = rw (← c.count-child-end.ensures) c.loop-child-test.true in
-    let unasked = rw (c.at-entry.ensures.found, c.loop-child.invariant.3) at (sym c.is_asked.ensures ∙ c.if-not-is_asked.true) in (
+    let unasked = rw (c.at-entry.ensures.found, c.loop-child.invariant.3) at (sym c.is_type_or_member.ensures ∙ c.if-not-is_type_or_member.true) in (
       unasked-steps entries c.loop-child.steps.items child c.requires.parents c.loop-child.invariant.0 unasked,
       rw (c.in_ok-push_other.ensures, c.loop-child.invariant.1) (ap (λ (role : Role). roles_of_first entries child ++ role ∷ []) (sym (unasked-role (entry_of entries child) unasked)) ∙ roles-more entries child inside),
       passes-more (fails_shape entries) child c.loop-child.invariant.2 (unasked-shape (entry_of entries child) unasked (parent_role entries child)),

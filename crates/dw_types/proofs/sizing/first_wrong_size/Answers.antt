@@ -48,12 +48,12 @@ returns-in-Some c =
     let least = rw (role, c.at.ensures, c.at-entry.ensures.found, c.loop-node.invariant.2) at c.in-Some.ensures in
     first-here entries (fails_size entries (size_at c.args.sizes.now)) node c.in-Some.rule inside c.loop-node.invariant.1 least
 
-pub loop-node-preserved-then-not-is_asked : goal.loop-node-preserved-then-not-is_asked
-loop-node-preserved-then-not-is_asked c =
+pub loop-node-preserved-then-not-is_type_or_member : goal.loop-node-preserved-then-not-is_type_or_member
+loop-node-preserved-then-not-is_type_or_member c =
     let entries = c.args.entries.now in
     let node = c.loop-node.node in
     let inside : node < length entries = rw (← c.count-node-end.ensures) c.loop-node-test.true in
-    let unasked = rw (c.at-entry.ensures.found, c.loop-node.invariant.2) at (sym c.is_asked.ensures ∙ c.if-not-is_asked.true) in (
+    let unasked = rw (c.at-entry.ensures.found, c.loop-node.invariant.2) at (sym c.is_type_or_member.ensures ∙ c.if-not-is_type_or_member.true) in (
       rw (c.in_ok-push_other.ensures, c.loop-node.invariant.0) (ap (λ (role : Role). roles_of_first entries node ++ role ∷ []) (sym (unasked-role (entry_of entries node) unasked)) ∙ roles-more entries node inside),
       passes-more (fails_size entries (size_at c.args.sizes.now)) node c.loop-node.invariant.1 (unasked-size entries (size_at c.args.sizes.now) node (c.requires.obeys node inside) unasked),
       c.at-entry.ensures.same ∙ c.loop-node.invariant.2,

@@ -6,7 +6,7 @@ use Rattle.dw_entries.specs.Entries.{entries_of, placed}
 use Rattle.dw_entries.specs.Lookups.{value_at_entry}
 use Rattle.dw_entries.specs.Scanned.{units_of}
 use Rattle.dw_types.specs.FactsAsked.{asked_presence}
-use Rattle.dw_types.specs.FactsOf.{is_asked}
+use Rattle.dw_types.specs.FactsOf.{is_type_or_member}
 use Rattle.dw_types.proofs.ReaderLemmas.{by-asked, fact-here}
 use Rattle.dw_types.proofs.facts_at.FactsAt.has.Goals as goal
 
@@ -21,4 +21,4 @@ returns c = λ fact is.
     rw (← c.self.view_is)
     (fact-here us it.id it.entry c.self.invariant.0 c.self.invariant.1 fact (λ e. asked_presence e c.args.attribute) (is (entries_of us) (placed us)) c.is_some.result
     (IfSome_then it.entry c.asked_value.ensures
-    (λ e h. c.is_some.ensures ∙ some-same view c.asked_value.result ∙ ap (λ (v : Option Datum). is_some v) h ∙ by-asked (λ (v : Option Datum). is_some v) (is_asked e.head.decl.tag) (value_at_entry e c.args.attribute) None)))
+    (λ e h. c.is_some.ensures ∙ some-same view c.asked_value.result ∙ ap (λ (v : Option Datum). is_some v) h ∙ by-asked (λ (v : Option Datum). is_some v) (is_type_or_member e.head.decl.tag) (value_at_entry e c.args.attribute) None)))

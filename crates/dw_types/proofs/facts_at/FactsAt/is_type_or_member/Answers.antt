@@ -2,14 +2,14 @@ use Rattle.std.proofs.Common.{ap}
 use Rattle.dw_entries.specs.Entries.{Entry, entries_of, placed}
 use Rattle.dw_entries.specs.Scanned.{units_of}
 use Rattle.dw_types.specs.declared.facts.Facts.{Facts}
-use Rattle.dw_types.specs.FactsOf.{is_asked}
+use Rattle.dw_types.specs.FactsOf.{is_type_or_member}
 use Rattle.dw_types.proofs.FactsLemmas.{facts-tag}
 use Rattle.dw_types.proofs.ReaderLemmas.{fact-here}
-use Rattle.dw_types.proofs.facts_at.FactsAt.is_asked.Goals as goal
+use Rattle.dw_types.proofs.facts_at.FactsAt.is_type_or_member.Goals as goal
 
 pub returns : goal.returns
 returns c =
     let it = c.self.inside in
     let us = units_of it.entries.now.scanned in
     rw (← c.self.view_is)
-    (fact-here us it.id it.entry c.self.invariant.0 c.self.invariant.1 (λ (facts : Facts). is_asked facts.tag) (λ (e : Entry). is_asked e.head.decl.tag) (λ e. ap is_asked (facts-tag (entries_of us) (placed us) e)) c.is_asked.result c.is_asked.ensures)
+    (fact-here us it.id it.entry c.self.invariant.0 c.self.invariant.1 (λ (facts : Facts). is_type_or_member facts.tag) (λ (e : Entry). is_type_or_member e.head.decl.tag) (λ e. ap is_type_or_member (facts-tag (entries_of us) (placed us) e)) c.is_type_or_member.result c.is_type_or_member.ensures)
