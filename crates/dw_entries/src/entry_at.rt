@@ -82,6 +82,24 @@ impl<'a> Entries<'a> {
     {
         EntryAt::new(self, id, &unit_at(self, id))
     }
+
+    /// The parent of an entry. None at the first entry of a unit. Its unit is not looked up.
+    #[inline(always)]
+    pub fn parent(&self, id: EntryId) -> Option<EntryId>
+        requires { id < length (all_entries self.now.scanned) }
+        ensures { IfSome (slice_get (all_entries self.now.scanned) id) (λ e. result ≡ e.parent) }
+    {
+        id_of(self.record(id).parent)
+    }
+
+    /// The next sibling of an entry. Its unit is not looked up.
+    #[inline(always)]
+    pub fn next_sibling(&self, id: EntryId) -> Option<EntryId>
+        requires { id < length (all_entries self.now.scanned) }
+        ensures { IfSome (slice_get (all_entries self.now.scanned) id) (λ e. result ≡ e.next) }
+    {
+        id_of(self.record(id).next)
+    }
 }
 
 impl<'e, 'a> EntryAt<'e, 'a> {

@@ -29,7 +29,7 @@ impl<'i, 'a> Iterator for Children<'i, 'a> {
 
     fn next(&mut self) -> Option<EntryId> {
         let id = self.next?;
-        self.next = self.entries.head(id).next_sibling;
+        self.next = self.entries.next_sibling(id);
         Some(id)
     }
 }

@@ -2,8 +2,7 @@
 use Rattle.std.proofs.Common.{◌≡◌, ℕ, zero, suc, ◌+◌, ◌<◌, ◌≤◌, Bool, true, false, if◌then◌else◌, List, [], ◌∷◌, length, Option, Some, None, IfSome, refl, sym, ap, subst, ◌∙◌, arith, eqb-true, nat_lt, ltb-true, ltb-false}
 use Rattle.std.specs.Prelude.{slice_get, option_map}
 use Rattle.std.proofs.lemmas.Option.{slice_get_within}
-use Rattle.dw_entries.specs.declared.lookup.Head.{Head}
-use Rattle.dw_entries.specs.Lookups.{nth_of, entry_head}
+use Rattle.dw_entries.specs.Lookups.{nth_of}
 use Rattle.dw_entries.specs.Tree.{◌then◌}
 use Rattle.dw_entries.specs.Units.{DebugUnit}
 use Rattle.dw_entries.specs.Entries.{Entry, entries_of}
@@ -28,13 +27,15 @@ linked_within es p m linked = go (slice_get es m) refl
     go None gone = absurd (let known : option_map (λ (y : Entry). y.parent) (slice_get es m) ≡ Some (Some p) = linked m refl in cc)
     go (Some e) some = slice_get_within es m e some
 
--- a child and its next sibling, as the head tells it
-pub next_of_head : (us : List DebugUnit) (p m : ℕ) (head : Head) → IsChild (entries_of us) p (Some m) → IfSome (slice_get (entries_of us) m) (λ e. head ≡ entry_head e) → Steps (entries_of us) p m head.next_sibling
-next_of_head us p m head linked says = go (slice_get (entries_of us) m) refl says
+-- a child and its next sibling
+pub next_of_linked : (us : List DebugUnit) (p m : ℕ) (next : Option ℕ) → IsChild (entries_of us) p (Some m)
+    → IfSome (slice_get (entries_of us) m) (λ e. next ≡ e.next) → Steps (entries_of us) p m next
+next_of_linked us p m next linked says = go (slice_get (entries_of us) m) refl says
   where
-    go : (found : Option Entry) → slice_get (entries_of us) m ≡ found → IfSome found (λ e. head ≡ entry_head e) → Steps (entries_of us) p m head.next_sibling
+    go : (found : Option Entry) → slice_get (entries_of us) m ≡ found → IfSome found (λ e. next ≡ e.next)
+        → Steps (entries_of us) p m next
     go None gone says = absurd (let known : option_map (λ (y : Entry). y.parent) (slice_get (entries_of us) m) ≡ Some (Some p) = linked m refl in cc)
-    go (Some e) some says = subst (Steps (entries_of us) p m) (sym (ap (λ (h : Head). h.next_sibling) says)) (next_of_child us p m e some (linked_parent (entries_of us) p m e linked some))
+    go (Some e) some says = subst (Steps (entries_of us) p m) (sym says) (next_of_child us p m e some (linked_parent (entries_of us) p m e linked some))
 
 -- the entry behind is a child: it is the first
 pub first_of_behind : (us : List DebugUnit) (id k : ℕ) → k ≡ id + 1 → siblings_from (entries_of us) id (Some k) ≡ children_of (entries_of us) id

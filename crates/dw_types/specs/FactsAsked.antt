@@ -23,7 +23,8 @@ asked_presence e attribute = if is_type_or_member e.head.decl.tag then is_some (
 
 -- the entry that an attribute of a type or a member reaches
 abbrev pub asked_target : List Entry → List PlacedUnit → Entry → (attribute : ℕ) → Option ℕ
-asked_target entries units e attribute = if is_type_or_member e.head.decl.tag then target_of entries units e attribute else None
+asked_target entries units e attribute =
+    if is_type_or_member e.head.decl.tag then target_of entries units e attribute else None
 
 -- the fact is the number of this attribute
 abbrev pub IsConstantAt : (attribute : ℕ) → (Facts → Constant) → Type 0

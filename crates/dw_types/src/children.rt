@@ -16,7 +16,7 @@ fn is_child(entries: &Entries<'_>, id: EntryId, parent: EntryId) -> bool
     ensures { IfSome (slice_get (all_entries entries.now.scanned) id)
         (λ e. result ≡ is_number parent e.parent) }
 {
-    match entries.head(id).parent {
+    match entries.parent(id) {
         Some(above) => above == parent,
         None => false,
     }
@@ -64,6 +64,6 @@ impl FactsCursor<'_, '_> {
             → IfSome result (IsChildOf self.now parent) }
     {
         let entries = self.entries();
-        number_of(entries.head(entries.id(child)).next_sibling)
+        number_of(entries.next_sibling(entries.id(child)))
     }
 }
