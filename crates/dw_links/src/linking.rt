@@ -25,7 +25,6 @@ use dw_forms::{Attribute, Value};
 use std::alloc::Global;
 
 /// The number of an entry, or none.
-#[inline(always)]
 fn number_of(entries: &Entries<'_>, id: &Option<EntryId>) -> OptionalId
     requires { IfSome id.now (λ t. t < length (all_entries entries.now.scanned)) }
     ensures { result ≡ id.now }
@@ -37,7 +36,6 @@ fn number_of(entries: &Entries<'_>, id: &Option<EntryId>) -> OptionalId
 }
 
 /// What is kept of an entry's type behind one attribute more: what the first type reaches.
-#[inline(always)]
 fn keep(kept: Option<OptionalId>, attribute: Attribute, reached: OptionalId) -> Option<OptionalId>
     ensures { result ≡ kept_after kept attribute reached }
 {
@@ -55,7 +53,6 @@ fn keep(kept: Option<OptionalId>, attribute: Attribute, reached: OptionalId) -> 
 
 impl References<'_, '_> {
     /// The entry that a value reaches, or the rule that fails there.
-    #[inline(always)]
     fn link_value(
         &self,
         declared: &mut DeclaredEntries,
@@ -139,9 +136,8 @@ impl References<'_, '_> {
         let count = self.entries.count();
         let mut types = Vec::with_capacity(alloc, count)?;
         let mut declared = DeclaredEntries::new(alloc, self.entries)?;
-        let mut cursor = self.entries.cursor();
         for number in 0..count {
-            let entry = cursor.at(self.entries.id(number));
+            let entry = self.entries.at(self.entries.id(number));
             match self.link_entry(&mut declared, &entry) {
                 Ok(target) => types.push(target)?,
                 Err(broken) => return Err(Stop::Fault(fault_of(alloc, broken))),

@@ -135,9 +135,8 @@ pub fn check_entries<R: AttributeRules>(rules: &R, entries: &Entries<'_>) -> Res
     ensures ok { OnOk result (HasNone (AtEntries (all_entries entries.now.scanned) (AtHead (R.fails rules.now)))) }
     ensures err { IfErr result (IsFirst (AtEntries (all_entries entries.now.scanned) (AtHead (R.fails rules.now)))) }
 {
-    let mut cursor = entries.cursor();
     for number in 0..entries.count() {
-        let entry = cursor.at(entries.id(number));
+        let entry = entries.at(entries.id(number));
         check_entry(rules, &entry)?;
     }
     Ok(())

@@ -110,7 +110,6 @@ pub fn read_texts<'a>(entries: &Entries<'a>, ends: StringEnds, number: usize) ->
 }
 
 /// Keeps what was read of a unit, or reads it of another where that is the next.
-#[inline]
 pub fn keep_texts<'a>(
     texts: &mut UnitTexts<'a>,
     entries: &Entries<'a>,
@@ -140,9 +139,8 @@ fn first_failure(entries: &Entries<'_>) -> Result<(), Broken>
     }
     let ends = string_ends(entries.sections());
     let mut texts = read_texts(entries, ends, 0);
-    let mut cursor = entries.cursor();
     for number in 0..entries.count() {
-        let entry = cursor.at(entries.id(number));
+        let entry = entries.at(entries.id(number));
         keep_texts(&mut texts, entries, ends, entry.unit());
         check_entry(&texts, &entry)?;
     }

@@ -57,7 +57,6 @@ impl FactsAt<'_, '_> {
 }
 
 /// The structure or union of which an entry is a plain member, and the entry's type.
-#[inline(always)]
 fn member_of(
     entries: &FactsList<'_, '_>,
     child: usize,
@@ -89,9 +88,8 @@ fn steps_of(alloc: Global, entries: &FactsList<'_, '_>) -> Result<Vec<Step>, Sto
 {
     let mut steps: Vec<Step> = Vec::with_capacity(alloc, entries.count())?;
     let mut roles = Roles::with_room(alloc, entries.count())?;
-    let mut cursor = entries.cursor();
     for child in 0..entries.count() {
-        let entry = cursor.at(child);
+        let entry = entries.at(child);
         if !entry.is_type_or_member() {
             roles.push_other()?;
             continue;
@@ -165,17 +163,14 @@ impl StepGraph for ByValue {
 
     ghost leads_to_nodes = { λ it. cut-leads it.packed.steps it.packed.ends it.packed.in_order it.packed.leads };
 
-    #[inline(always)]
     fn nodes(&self) -> usize {
         self.packed.nodes()
     }
 
-    #[inline(always)]
     fn steps(&self, node: usize) -> usize {
         self.packed.steps(node)
     }
 
-    #[inline(always)]
     fn step(&self, node: usize, k: usize) -> usize {
         self.packed.step(node, k)
     }

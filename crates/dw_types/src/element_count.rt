@@ -28,7 +28,6 @@ pub enum ElementCount {
 
 impl FactsAt<'_, '_> {
     /// Its parent, where it bears on how many elements that has, were it an array.
-    #[inline(always)]
     fn counted_parent(&self) -> Option<usize>
         ensures { result ≡ if is_index self.now then self.now.parent else None }
     {
@@ -193,9 +192,8 @@ pub(crate) fn element_counts(
         → slice_index_or found node NoDimension ≡ element_count_by entries.now (children entries.now node)) }
 {
     let mut counts = ElementCounts::new(alloc, entries.count())?;
-    let mut cursor = entries.cursor();
     for child in 0..entries.count() {
-        let entry = cursor.at(child);
+        let entry = entries.at(child);
         match entry.counted_parent() {
             Some(parent) => {
                 let elements = counts.get(parent).with_child(entries, child, &entry);

@@ -33,7 +33,6 @@ pub fn order<G: StepGraph>(alloc: Global, graph: &G) -> Result<Order, OrderFault
 }
 
 /// Puts a fresh node on the stack. One without steps gets its rank at once instead.
-#[inline(always)]
 fn meet_fresh<G: StepGraph>(graph: &G, walk: &mut Walk, node: usize) -> Result<(), AllocError>
     requires node_in { node < length (G.graph graph.now) }
     requires marks { node < length walk.old.marks }

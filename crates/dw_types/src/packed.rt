@@ -119,7 +119,6 @@ impl Packed {
     }
 
     /// The place of a node's first step among all.
-    #[inline]
     fn begin(&self, node: usize) -> usize
         requires { node < length self.now.ends }
         ensures { result ≡ begin_of self.now.ends node }
@@ -139,17 +138,14 @@ impl StepGraph for Packed {
 
     ghost leads_to_nodes = { λ it. cut-leads it.steps it.ends it.in_order it.leads };
 
-    #[inline]
     fn nodes(&self) -> usize {
         self.ends.len()
     }
 
-    #[inline]
     fn steps(&self, node: usize) -> usize {
         self.ends.get(node) - self.begin(node)
     }
 
-    #[inline]
     fn step(&self, node: usize, k: usize) -> usize {
         self.steps.get_behind(self.begin(node), k)
     }

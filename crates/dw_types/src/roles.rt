@@ -37,7 +37,6 @@ impl Roles {
     }
 
     /// Adds the next entry's.
-    #[inline(always)]
     pub(crate) fn push(&mut self, entry: &FactsAt<'_, '_>) -> Result<(), AllocError>
         ensures { OnOk result (self.new ≡ self.old ++ role_of entry.now ∷ []) }
     {
@@ -46,7 +45,6 @@ impl Roles {
     }
 
     /// Adds that of an entry that is nothing to its children.
-    #[inline(always)]
     pub(crate) fn push_other(&mut self) -> Result<(), AllocError>
         ensures { OnOk result (self.new ≡ self.old ++ Other ∷ []) }
     {
@@ -55,7 +53,6 @@ impl Roles {
     }
 
     /// What a parent, if there is one, is to its children.
-    #[inline(always)]
     pub(crate) fn of_parent(&self, parent: Option<usize>) -> Role
         requires { (node : ℕ) → parent ≡ Some node → node < length self.now }
         ensures { result ≡ role_listed self.now parent }

@@ -42,10 +42,9 @@ fn capped_sizes(
 {
     let counts = element_counts(alloc, entries)?;
     let mut sizes = counts.into_sizes();
-    let mut cursor = entries.cursor();
     for rank in 0..order.count() {
         let node = order.node(rank);
-        let entry = cursor.at(node);
+        let entry = entries.at(node);
         let size = capped_size(entries, sizes.count_at(node), &sizes, node, &entry);
         sizes.set(alloc, node, size)?;
     }
@@ -67,9 +66,8 @@ fn first_wrong_size(
         (λ first. IsFirstAt entries.now (fails_size entries.now (size_at sizes.now)) first.0 first.1)) }
 {
     let mut roles = Roles::with_room(alloc, entries.count())?;
-    let mut cursor = entries.cursor();
     for node in 0..entries.count() {
-        let entry = cursor.at(node);
+        let entry = entries.at(node);
         if !entry.is_type_or_member() {
             roles.push_other()?;
             continue;

@@ -21,7 +21,6 @@ use dw_links::LinkTables;
 use std::alloc::{AllocError, Global};
 
 /// Adds the step to an entry, if one is named.
-#[inline(always)]
 fn push_to(steps: &mut Numbers, to: Option<usize>) -> Result<(), AllocError>
     ensures { OnOk result (steps.new ≡ steps.old ++ option_to_list to) }
 {
@@ -55,7 +54,6 @@ fn push_parts(
 }
 
 /// Adds the steps of an entry.
-#[inline(always)]
 fn push_row(
     cursor: &mut FactsCursor<'_, '_>,
     steps: &mut Numbers,

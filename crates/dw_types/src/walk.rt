@@ -71,7 +71,6 @@ impl Walk {
     }
 
     /// How far it has come with a node.
-    #[inline]
     pub(crate) fn mark(&self, node: usize) -> Mark
         requires { node < length self.now.marks }
         ensures { result ≡ mark_of self.now node }
@@ -80,7 +79,6 @@ impl Walk {
     }
 
     /// How many steps of a node were looked at.
-    #[inline]
     pub(crate) fn next(&self, node: usize) -> usize
         requires { node < length self.now.next }
         ensures { result ≡ slice_index self.now.next node }
@@ -89,7 +87,6 @@ impl Walk {
     }
 
     /// The nodes that were taken up and have no rank yet, each a step from the one before.
-    #[inline]
     pub(crate) fn stack(&self) -> &Numbers
         ensures { result.now ≡ self.now.stack }
     {
@@ -97,7 +94,6 @@ impl Walk {
     }
 
     /// The node on top of the stack.
-    #[inline]
     pub(crate) fn top(&self) -> Option<usize>
         ensures { MatchOption result (self.now.stack ≡ [])
             (λ node. (0 < length self.now.stack) × (slice_index self.now.stack (length self.now.stack - 1) ≡ node)) }
@@ -106,7 +102,6 @@ impl Walk {
     }
 
     /// Puts a node on the stack.
-    #[inline]
     pub(crate) fn take_up(&mut self, node: usize) -> Result<(), AllocError>
         requires node_in { node < length self.old.marks }
         requires room { self.old.turns + 1 < 2 ^ 128 }
@@ -119,7 +114,6 @@ impl Walk {
     }
 
     /// Gives the next rank to a fresh node at once, as if it had been put on the stack for it.
-    #[inline]
     pub(crate) fn rank_fresh(&mut self, node: usize) -> Result<(), AllocError>
         requires node_in { node < length self.old.marks }
         requires room { self.old.turns + 1 < 2 ^ 128 }
@@ -132,7 +126,6 @@ impl Walk {
     }
 
     /// Counts the next step of a node as looked at, by how many were looked at before.
-    #[inline]
     pub(crate) fn count_step(
         &mut self,
         alloc: Global,
@@ -151,7 +144,6 @@ impl Walk {
     }
 
     /// Gives the next rank to the node on top of the stack, and takes it off.
-    #[inline]
     pub(crate) fn rank_top(&mut self, node: usize) -> Result<(), AllocError>
         requires marks { node < length self.old.marks }
         requires ranks { node < length self.old.ranks }

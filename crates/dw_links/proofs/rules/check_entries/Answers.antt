@@ -11,15 +11,15 @@ use Rattle.dw_links.proofs.Skips.{there}
 use Rattle.dw_links.proofs.rules.check_entries.Goals as goal
 
 pub at-entry-requires : goal.at-entry-requires
-at-entry-requires g c = rw c.loop-number.invariant.cursor (omega (arith, c.id.ensures, c.loop-number-test.true, c.count-number-end.ensures))
+at-entry-requires g c = omega (arith, c.id.ensures, c.loop-number-test.true, c.count-number-end.ensures)
 
 pub check_entry-requires-clause-found : goal.check_entry-requires-clause-found
 check_entry-requires-clause-found g c =
     let (e, is) = there (entries_of (units_of c.args.entries.now.scanned)) c.id.result (omega (arith, c.id.ensures, c.loop-number-test.true, c.count-number-end.ensures)) in
-    rw (rw c.loop-number.invariant.cursor at c.at-entry.ensures.found ∙ is) refl
+    rw (c.at-entry.ensures ∙ is) refl
 
 pub check_entry-requires-clause-may : goal.check_entry-requires-clause-may
-check_entry-requires-clause-may g c = λ e is. c.requires c.id.result e (sym (rw c.loop-number.invariant.cursor at c.at-entry.ensures.found) ∙ is)
+check_entry-requires-clause-may g c = λ e is. c.requires c.id.result e (sym c.at-entry.ensures ∙ is)
 
 pub returns-in_err-check_entry-clause-err : goal.returns-in_err-check_entry-clause-err
 returns-in_err-check_entry-clause-err g c =
@@ -28,7 +28,7 @@ returns-in_err-check_entry-clause-err g c =
     let p = err_from_is_err_and c.from_residual.result c.from_residual.ensures.1 in
     let (e, is) = there es c.loop-number.number (omega (arith, c.loop-number-test.true, c.count-number-end.ensures)) in
     let P : ℕ → Type 0 = λ n. slice_get es n ≡ Some e in
-    let at_id : c.at-entry.result ≡ Some e = rw c.loop-number.invariant.cursor at c.at-entry.ensures.found ∙ subst P (sym c.id.ensures) is in
+    let at_id : c.at-entry.result ≡ Some e = c.at-entry.ensures ∙ subst P (sym c.id.ensures) is in
     rw (p.1, p.2) (first_of_entries es (AtHead Fails) c.loop-number.number e _ (entries_rise _ (units_of c.args.entries.now.scanned) c.args.entries.now.scanned.1.spells.are)
     (attributes_stand (λ x. Fails (entry_head x))) is c.loop-number.invariant.passed (c.in_err-check_entry.ensures.err e at_id))
 
@@ -38,9 +38,8 @@ loop-number-preserved g c =
     let Fails = g.R.AttributeRules.fails c.args.rules.now in
     let (e, is) = there es c.loop-number.number (omega (arith, c.loop-number-test.true, c.count-number-end.ensures)) in
     let P : ℕ → Type 0 = λ n. slice_get es n ≡ Some e in
-    let at_id : c.at-entry.result ≡ Some e = rw c.loop-number.invariant.cursor at c.at-entry.ensures.found ∙ subst P (sym c.id.ensures) is in
+    let at_id : c.at-entry.result ≡ Some e = c.at-entry.ensures ∙ subst P (sym c.id.ensures) is in
     record {
-      cursor = c.at-entry.ensures.same ∙ c.loop-number.invariant.cursor;
       passed = more_entries es (AtHead Fails) c.loop-number.number e is c.loop-number.invariant.passed (c.in_ok-check_entry.ensures.ok e at_id);
     }
 

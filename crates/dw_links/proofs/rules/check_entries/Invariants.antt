@@ -8,6 +8,5 @@ use Rattle.dw_links.proofs.rules.check_entries.Given as goal
 
 abbrev pub invariant-loop-number : goal.invariant-loop-number
 invariant-loop-number g l = record {
-  cursor : l.cursor.entries.now ≡ l.entries;
   passed : (j : ℕ) (e : Entry) → j < l.number → slice_get (entries_of (units_of l.entries.scanned)) j ≡ Some e → HasNone (AtHead (g.R.AttributeRules.fails l.rules) e);
 }

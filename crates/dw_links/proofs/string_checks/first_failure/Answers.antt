@@ -15,7 +15,7 @@ use Rattle.dw_links.proofs.Transfers.{first_carried, none_carried, texts_over, t
 use Rattle.dw_links.proofs.string_checks.first_failure.Goals as goal
 
 pub at-entry-requires : goal.at-entry-requires
-at-entry-requires c = rw c.loop-number.invariant.cursor (omega (arith, c.id.ensures, c.loop-number-test.true, c.count-number-end.ensures))
+at-entry-requires c = omega (arith, c.id.ensures, c.loop-number-test.true, c.count-number-end.ensures)
 
 pub keep_texts-requires-clause-next : goal.keep_texts-requires-clause-next
 keep_texts-requires-clause-next c =
@@ -23,14 +23,14 @@ keep_texts-requires-clause-next c =
     let es = entries_of us in
     let (e, is) = there es c.loop-number.number (omega (arith, c.loop-number-test.true, c.count-number-end.ensures)) in
     let P : ℕ → Type 0 = λ n. slice_get es n ≡ Some e in
-    let at_id : c.at-entry.result ≡ Some e = rw c.loop-number.invariant.cursor at c.at-entry.ensures.found ∙ subst P (sym c.id.ensures) is in
+    let at_id : c.at-entry.result ≡ Some e = c.at-entry.ensures ∙ subst P (sym c.id.ensures) is in
     let unit : c.unit.result ≡ e.unit = rw at_id at c.unit.ensures in
     omega (arith, unit, in_units _ _ us c.loop-number.number e c.args.entries.now.scanned.1.spells is)
 
 pub check_entry-requires-clause-found : goal.check_entry-requires-clause-found
 check_entry-requires-clause-found c =
     let (e, is) = there (entries_of (units_of c.args.entries.now.scanned)) c.id.result (omega (arith, c.id.ensures, c.loop-number-test.true, c.count-number-end.ensures)) in
-    rw (rw c.loop-number.invariant.cursor at c.at-entry.ensures.found ∙ is) refl
+    rw (c.at-entry.ensures ∙ is) refl
 
 pub returns-in_err-check_entry-clause-err : goal.returns-in_err-check_entry-clause-err
 returns-in_err-check_entry-clause-err c =
@@ -41,7 +41,7 @@ returns-in_err-check_entry-clause-err c =
     let p = err_from_is_err_and c.from_residual.result c.from_residual.ensures.1 in
     let (e, is) = there es c.loop-number.number (omega (arith, c.loop-number-test.true, c.count-number-end.ensures)) in
     let P : ℕ → Type 0 = λ n. slice_get es n ≡ Some e in
-    let at_id : c.at-entry.result ≡ Some e = rw c.loop-number.invariant.cursor at c.at-entry.ensures.found ∙ subst P (sym c.id.ensures) is in
+    let at_id : c.at-entry.result ≡ Some e = c.at-entry.ensures ∙ subst P (sym c.id.ensures) is in
     let unit : c.unit.result ≡ e.unit = rw at_id at c.unit.ensures in
     let over = texts_over sections es (placed us) c.keep_texts.new.texts (entry_head e) c.keep_texts.ensures.texts (sym unit ∙ sym c.keep_texts.ensures.unit) in
     let back = texts_back sections es (placed us) c.keep_texts.new.texts (entry_head e) c.keep_texts.ensures.texts (sym unit ∙ sym c.keep_texts.ensures.unit) in
@@ -56,11 +56,10 @@ loop-number-preserved c =
     let Fails = StringFails sections es (placed us) in
     let (e, is) = there es c.loop-number.number (omega (arith, c.loop-number-test.true, c.count-number-end.ensures)) in
     let P : ℕ → Type 0 = λ n. slice_get es n ≡ Some e in
-    let at_id : c.at-entry.result ≡ Some e = rw c.loop-number.invariant.cursor at c.at-entry.ensures.found ∙ subst P (sym c.id.ensures) is in
+    let at_id : c.at-entry.result ≡ Some e = c.at-entry.ensures ∙ subst P (sym c.id.ensures) is in
     let unit : c.unit.result ≡ e.unit = rw at_id at c.unit.ensures in
     let back = texts_back sections es (placed us) c.keep_texts.new.texts (entry_head e) c.keep_texts.ensures.texts (sym unit ∙ sym c.keep_texts.ensures.unit) in
     record {
-      cursor = c.at-entry.ensures.same ∙ c.loop-number.invariant.cursor;
       texts = c.keep_texts.ensures.texts;
       passed = more_entries es (AtHead Fails) c.loop-number.number e is c.loop-number.invariant.passed (none_carried (FailsByTexts c.keep_texts.new.texts) Fails e back (c.in_ok-check_entry.ensures.ok e at_id));
     }

@@ -11,7 +11,6 @@ use Rattle.dw_links.proofs.string_checks.first_failure.Given as goal
 
 abbrev pub invariant-loop-number : goal.invariant-loop-number
 invariant-loop-number l = record {
-  cursor : l.cursor.entries.now ≡ l.entries;
   texts : AreTexts (sections_of l.entries) (entries_of (units_of l.entries.scanned)) (placed (units_of l.entries.scanned)) l.texts;
   passed : (j : ℕ) (e : Entry) → j < l.number → slice_get (entries_of (units_of l.entries.scanned)) j ≡ Some e
       → HasNone (AtHead (StringFails (sections_of l.entries) (entries_of (units_of l.entries.scanned)) (placed (units_of l.entries.scanned))) e);

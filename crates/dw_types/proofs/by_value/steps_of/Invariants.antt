@@ -10,4 +10,3 @@ invariant-loop-child l =
     HasSteps l.entries l.steps.items l.child
     × (l.roles ≡ roles_of_first l.entries l.child)
     × ((k : ℕ) → k < l.child → PassesAt (fails_shape l.entries) k)
-    × (l.cursor ≡ l.entries)

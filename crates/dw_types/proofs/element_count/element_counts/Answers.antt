@@ -11,21 +11,21 @@ use Rattle.dw_types.proofs.element_count.element_counts.Goals.{in-Some+in_ok-set
 pub get-requires : goal.get-requires
 get-requires c =
     let entries = c.args.entries.now in
-    let is = counted-parent _ (entry_of entries c.loop-child.child).parent c.in-Some.parent (rw (c.counted_parent.ensures, c.at-entry.ensures.found, c.loop-child.invariant.1) at c.in-Some.is) in
+    let is = counted-parent _ (entry_of entries c.loop-child.child).parent c.in-Some.parent (rw (c.counted_parent.ensures, c.at-entry.ensures) at c.in-Some.is) in
     let first = c.requires c.loop-child.child c.in-Some.parent is in
     let end = c.count-child-end.ensures in
     let below = c.loop-child-test.true in
-    let long = c.loop-child.invariant.0.long in
+    let long = c.loop-child.invariant.long in
     omega arith
 
 pub set-requires-clause-node : goal.set-requires-clause-node
 set-requires-clause-node c =
     let entries = c.args.entries.now in
-    let is = counted-parent _ (entry_of entries c.loop-child.child).parent c.in-Some.parent (rw (c.counted_parent.ensures, c.at-entry.ensures.found, c.loop-child.invariant.1) at c.in-Some.is) in
+    let is = counted-parent _ (entry_of entries c.loop-child.child).parent c.in-Some.parent (rw (c.counted_parent.ensures, c.at-entry.ensures) at c.in-Some.is) in
     let first = c.requires c.loop-child.child c.in-Some.parent is in
     let end = c.count-child-end.ensures in
     let below = c.loop-child-test.true in
-    let long = c.loop-child.invariant.0.long in
+    let long = c.loop-child.invariant.long in
     omega arith
 
 pub loop-child-preserved : goal.loop-child-preserved
@@ -35,12 +35,12 @@ loop-child-preserved c =
       | in-Some+in_ok-set-in-Some w ↦
           let old = c.loop-child.counts in
           let parent = w.in-Some.parent in
-          let is = counted-parent _ (entry_of entries c.loop-child.child).parent parent (rw (c.counted_parent.ensures, c.at-entry.ensures.found, c.loop-child.invariant.1) at w.in-Some.is) in
+          let is = counted-parent _ (entry_of entries c.loop-child.child).parent parent (rw (c.counted_parent.ensures, c.at-entry.ensures) at w.in-Some.is) in
           let first = c.requires c.loop-child.child parent is in
           let end = c.count-child-end.ensures in
           let below = c.loop-child-test.true in
-          (rw (w.counts-is, w.in_ok-set-in-Some.ensures, w.with_child-elements.ensures.grown, w.get.ensures.count) (counts-child entries old c.loop-child.child parent c.loop-child.invariant.0 is (omega arith)), c.at-entry.ensures.same ∙ c.loop-child.invariant.1)
-      | in-None w ↦ (rw w.counts-is (counts-uncounted entries c.loop-child.counts c.loop-child.child c.loop-child.invariant.0 (rw (c.counted_parent.ensures, c.at-entry.ensures.found, c.loop-child.invariant.1) at w.in-None.is)), c.at-entry.ensures.same ∙ c.loop-child.invariant.1)
+          rw (w.counts-is, w.in_ok-set-in-Some.ensures, w.with_child-elements.ensures.grown, w.get.ensures.count) (counts-child entries old c.loop-child.child parent c.loop-child.invariant is (omega arith))
+      | in-None w ↦ rw w.counts-is (counts-uncounted entries c.loop-child.counts c.loop-child.child c.loop-child.invariant (rw (c.counted_parent.ensures, c.at-entry.ensures) at w.in-None.is))
     ]
 
 all-children : (entries : List Facts) (counts : List ElementCount) (count : ℕ) → HasElementCounts entries counts count → count ≤ length entries → length entries ≤ count
@@ -49,4 +49,4 @@ all-children entries counts count h within over = let all : count ≡ length ent
 
 pub returns-clause-each : goal.returns-clause-each
 returns-clause-each c =
-    all-children c.args.entries.now c.loop-child.counts c.loop-child.child c.loop-child.invariant.0 (rw (← c.count-child-end.ensures) c.loop-child.auto.child-end) (rw (← c.count-child-end.ensures) c.loop-child-test.false)
+    all-children c.args.entries.now c.loop-child.counts c.loop-child.child c.loop-child.invariant (rw (← c.count-child-end.ensures) c.loop-child.auto.child-end) (rw (← c.count-child-end.ensures) c.loop-child-test.false)

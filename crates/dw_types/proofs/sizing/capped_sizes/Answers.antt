@@ -21,13 +21,12 @@ loop-rank-init c =
       counts-long counts c.into_sizes-sizes.result is ∙ c.in_ok-counts.ensures.long,
       λ k below. absurd (omega arith),
       counts-left_all c.args.entries.now c.args.order.now counts c.into_sizes-sizes.result is c.in_ok-counts.ensures.each,
-      c.cursor-cursor.ensures,
     )
 
 pub at-entry-requires : goal.at-entry-requires
 at-entry-requires c =
     let below : c.loop-rank.rank < length c.args.order.now.by_rank = rw (← c.count-rank-end.ensures) c.loop-rank-test.true in
-    rw c.loop-rank.invariant.3 (ranked-in c.args.entries.now c.args.order.now c.requires.order c.loop-rank.rank c.node-node.result below c.node-node.ensures)
+    ranked-in c.args.entries.now c.args.order.now c.requires.order c.loop-rank.rank c.node-node.result below c.node-node.ensures
 
 pub capped_size-size-requires-clause-node_in : goal.capped_size-size-requires-clause-node_in
 capped_size-size-requires-clause-node_in c =
@@ -65,7 +64,6 @@ loop-rank-preserved c =
       length-set sizes node size ∙ c.loop-rank.invariant.0,
       has-filled_more (by_value entries) order c.requires.order (capped_line entries) (capped_line-local entries) sizes rank long below c.loop-rank.invariant.1,
       counts-left_more entries order sizes rank node size inside here.1 c.loop-rank.invariant.2,
-      c.at-entry.ensures.same ∙ c.loop-rank.invariant.3,
     )
 
 pub returns-clause-obeys : goal.returns-clause-obeys

@@ -11,4 +11,3 @@ invariant-loop-rank l =
     (length l.sizes ≡ length l.entries)
     × HasFilled (by_value l.entries) l.order (λ table node. cap_size (2 ^ 63) (size_line l.entries table node)) l.sizes l.rank
     × HasCountsLeft l.entries l.order l.sizes l.rank
-    × (l.cursor ≡ l.entries)

@@ -17,26 +17,26 @@ of_parent-parent-requires c =
     let entries = c.args.entries.now in
     let node = c.loop-node.node in
     let inside : node < length entries = rw (← c.count-node-end.ensures) c.loop-node-test.true in
-    rw (c.loop-node.invariant.0, c.parent.ensures, c.at-entry.ensures.found, c.loop-node.invariant.2) (parent-listed entries node _ (omega arith) (c.requires.parents node))
+    rw (c.loop-node.invariant.0, c.parent.ensures, c.at-entry.ensures) (parent-listed entries node _ (omega arith) (c.requires.parents node))
 
 pub broken_size-requires-clause-own : goal.broken_size-requires-clause-own
 broken_size-requires-clause-own c =
     let entries = c.args.entries.now in
     let node = c.loop-node.node in
     let inside : node < length entries = rw (← c.count-node-end.ensures) c.loop-node-test.true in
-    rw (c.at.ensures, c.at-entry.ensures.found, c.loop-node.invariant.2) (sized-own entries (size_at c.args.sizes.now) node (c.requires.obeys node inside))
+    rw (c.at.ensures, c.at-entry.ensures) (sized-own entries (size_at c.args.sizes.now) node (c.requires.obeys node inside))
 
 pub broken_size-requires-clause-container_in : goal.broken_size-requires-clause-container_in
 broken_size-requires-clause-container_in c = λ parent is.
     let entries = c.args.entries.now in
     let node = c.loop-node.node in
     let inside : node < length entries = rw (← c.count-node-end.ensures) c.loop-node-test.true in
-    let before = c.requires.parents node parent (rw (c.at-entry.ensures.found, c.loop-node.invariant.2) at is) in
+    let before = c.requires.parents node parent (rw c.at-entry.ensures at is) in
     let long = c.requires.sizes_in in
     omega arith
 
 pub broken_size-requires-clause-type_in : goal.broken_size-requires-clause-type_in
-broken_size-requires-clause-type_in c = rw (c.at-entry.ensures.found, c.loop-node.invariant.2) (type-in c.args.entries.now c.args.sizes.now c.loop-node.node c.requires.targets c.requires.sizes_in)
+broken_size-requires-clause-type_in c = rw c.at-entry.ensures (type-in c.args.entries.now c.args.sizes.now c.loop-node.node c.requires.targets c.requires.sizes_in)
 
 pub returns-in-Some : goal.returns-in-Some
 returns-in-Some c =
@@ -44,8 +44,8 @@ returns-in-Some c =
     let node = c.loop-node.node in
     let inside : node < length entries = rw (← c.count-node-end.ensures) c.loop-node-test.true in
     let role : c.of_parent-parent.result ≡ parent_role entries node =
-    c.of_parent-parent.ensures ∙ rw (c.loop-node.invariant.0, c.parent.ensures, c.at-entry.ensures.found, c.loop-node.invariant.2) (role-listed entries node _ (omega arith) (c.requires.parents node)) in
-    let least = rw (role, c.at.ensures, c.at-entry.ensures.found, c.loop-node.invariant.2) at c.in-Some.ensures in
+    c.of_parent-parent.ensures ∙ rw (c.loop-node.invariant.0, c.parent.ensures, c.at-entry.ensures) (role-listed entries node _ (omega arith) (c.requires.parents node)) in
+    let least = rw (role, c.at.ensures, c.at-entry.ensures) at c.in-Some.ensures in
     first-here entries (fails_size entries (size_at c.args.sizes.now)) node c.in-Some.rule inside c.loop-node.invariant.1 least
 
 pub loop-node-preserved-then-not-is_type_or_member : goal.loop-node-preserved-then-not-is_type_or_member
@@ -53,10 +53,9 @@ loop-node-preserved-then-not-is_type_or_member c =
     let entries = c.args.entries.now in
     let node = c.loop-node.node in
     let inside : node < length entries = rw (← c.count-node-end.ensures) c.loop-node-test.true in
-    let unasked = rw (c.at-entry.ensures.found, c.loop-node.invariant.2) at (sym c.is_type_or_member.ensures ∙ c.if-not-is_type_or_member.true) in (
+    let unasked = rw c.at-entry.ensures at (sym c.is_type_or_member.ensures ∙ c.if-not-is_type_or_member.true) in (
       rw (c.in_ok-push_other.ensures, c.loop-node.invariant.0) (ap (λ (role : Role). roles_of_first entries node ++ role ∷ []) (sym (unasked-role (entry_of entries node) unasked)) ∙ roles-more entries node inside),
       passes-more (fails_size entries (size_at c.args.sizes.now)) node c.loop-node.invariant.1 (unasked-size entries (size_at c.args.sizes.now) node (c.requires.obeys node inside) unasked),
-      c.at-entry.ensures.same ∙ c.loop-node.invariant.2,
     )
 
 pub loop-node-preserved : goal.loop-node-preserved
@@ -65,6 +64,6 @@ loop-node-preserved c =
     let node = c.loop-node.node in
     let inside : node < length entries = rw (← c.count-node-end.ensures) c.loop-node-test.true in
     let role : c.of_parent-parent.result ≡ parent_role entries node =
-    c.of_parent-parent.ensures ∙ rw (c.loop-node.invariant.0, c.parent.ensures, c.at-entry.ensures.found, c.loop-node.invariant.2) (role-listed entries node _ (omega arith) (c.requires.parents node)) in
-    let passes = rw (role, c.at.ensures, c.at-entry.ensures.found, c.loop-node.invariant.2) at c.in_default.ensures in
-    (rw c.in_ok-push.ensures (rw (c.loop-node.invariant.0, c.at-entry.ensures.found, c.loop-node.invariant.2) (roles-more entries node inside)), passes-more (fails_size entries (size_at c.args.sizes.now)) node c.loop-node.invariant.1 passes, c.at-entry.ensures.same ∙ c.loop-node.invariant.2)
+    c.of_parent-parent.ensures ∙ rw (c.loop-node.invariant.0, c.parent.ensures, c.at-entry.ensures) (role-listed entries node _ (omega arith) (c.requires.parents node)) in
+    let passes = rw (role, c.at.ensures, c.at-entry.ensures) at c.in_default.ensures in
+    (rw c.in_ok-push.ensures (rw (c.loop-node.invariant.0, c.at-entry.ensures) (roles-more entries node inside)), passes-more (fails_size entries (size_at c.args.sizes.now)) node c.loop-node.invariant.1 passes)

@@ -14,16 +14,16 @@ use Rattle.dw_links.proofs.TableLaws.{map_one_more, map_all}
 use Rattle.dw_links.proofs.references.References.link_entries.Goals as goal
 
 pub at-entry-requires : goal.at-entry-requires
-at-entry-requires c = rw c.loop-number.invariant.cursor (omega (arith, c.id.ensures, c.count-count.ensures, c.loop-number-test.true))
+at-entry-requires c = omega (arith, c.id.ensures, c.count-count.ensures, c.loop-number-test.true)
 
 pub link_entry-requires-clause-found : goal.link_entry-requires-clause-found
 link_entry-requires-clause-found c =
     let es = entries_of (units_of c.args.self.now.entries.now.scanned) in
     let (e, is) = there es c.id.result (omega (arith, c.id.ensures, c.count-count.ensures, c.loop-number-test.true)) in
-    rw (rw c.loop-number.invariant.cursor at c.at-entry.ensures.found ∙ is) refl
+    rw (c.at-entry.ensures ∙ is) refl
 
 pub link_entry-requires-clause-may : goal.link_entry-requires-clause-may
-link_entry-requires-clause-may c = λ e is. c.requires c.id.result e (sym (rw c.loop-number.invariant.cursor at c.at-entry.ensures.found) ∙ is)
+link_entry-requires-clause-may c = λ e is. c.requires c.id.result e (sym c.at-entry.ensures ∙ is)
 
 pub returns-in-Err-clause-fault : goal.returns-in-Err-clause-fault
 returns-in-Err-clause-fault c =
@@ -32,7 +32,7 @@ returns-in-Err-clause-fault c =
     let Fails = ReferenceFails es (placed us) in
     let (e, is) = there es c.loop-number.number (omega (arith, c.count-count.ensures, c.loop-number-test.true)) in
     let P : ℕ → Type 0 = λ n. slice_get es n ≡ Some e in
-    let at_id : c.at-entry.result ≡ Some e = rw c.loop-number.invariant.cursor at c.at-entry.ensures.found ∙ subst P (sym c.id.ensures) is in
+    let at_id : c.at-entry.result ≡ Some e = c.at-entry.ensures ∙ subst P (sym c.id.ensures) is in
     let first = first_of_entries es (AtHead Fails) c.loop-number.number e c.in-Err.broken (entries_rise _ us c.args.self.now.entries.now.scanned.1.spells.are)
     (attributes_stand (λ x. Fails (entry_head x))) is c.loop-number.invariant.none (c.in-Err.ensures.err e at_id) in
     record { holds = subst (IsFirst (AttributeFailures es (placed us))) (sym c.fault_of.ensures.broken) first; cycle = c.fault_of.ensures.cycle }
@@ -43,10 +43,9 @@ loop-number-preserved c =
     let es = entries_of us in
     let (e, is) = there es c.loop-number.number (omega (arith, c.count-count.ensures, c.loop-number-test.true)) in
     let P : ℕ → Type 0 = λ n. slice_get es n ≡ Some e in
-    let at_id : c.at-entry.result ≡ Some e = rw c.loop-number.invariant.cursor at c.at-entry.ensures.found ∙ subst P (sym c.id.ensures) is in
+    let at_id : c.at-entry.result ≡ Some e = c.at-entry.ensures ∙ subst P (sym c.id.ensures) is in
     let here : c.in-Ok.target ≡ type_target es (placed us) e = rw at_id at c.in-Ok.ensures.target in
     record {
-      cursor = c.at-entry.ensures.same ∙ c.loop-number.invariant.cursor;
       none = one_more es (λ x. HasNone (AtHead (ReferenceFails es (placed us)) x)) c.loop-number.number e is c.loop-number.invariant.none (c.in-Ok.ensures.ok e at_id);
       types = rw c.in_ok-push-in-Ok.ensures.items (map_one_more (type_target es (placed us)) es c.loop-number.types.items c.loop-number.number e c.in-Ok.target is c.loop-number.invariant.types here);
       kept = c.link_entry.ensures.kept;

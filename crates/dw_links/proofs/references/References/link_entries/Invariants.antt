@@ -11,7 +11,6 @@ use Rattle.dw_links.proofs.references.References.link_entries.Given as goal
 
 abbrev pub invariant-loop-number : goal.invariant-loop-number
 invariant-loop-number l = record {
-  cursor : l.cursor.entries.now ≡ l.self.entries.now;
   none : (j : ℕ) (e : Entry) → j < l.number → slice_get (entries_of (units_of l.self.entries.now.scanned)) j ≡ Some e
       → HasNone (AtHead (ReferenceFails (entries_of (units_of l.self.entries.now.scanned)) (placed (units_of l.self.entries.now.scanned))) e);
   types : l.types.items ≡ map (type_target (entries_of (units_of l.self.entries.now.scanned)) (placed (units_of l.self.entries.now.scanned))) (take l.number (entries_of (units_of l.self.entries.now.scanned)));
