@@ -213,7 +213,8 @@ fn skip_one(version: u16, form: Form, address_size: u8, bytes: &[u8]) -> Result<
 
 /// The bytes behind the values from one place up to another. A step is made for each value that has no one size, so
 /// it takes a byte of the entry at least.
-fn pass_varying<'b>(
+#[inline(always)]
+pub fn pass<'b>(
     plan: &Plan,
     specs: &[AttributeSpec],
     version: u16,
@@ -240,31 +241,6 @@ fn pass_varying<'b>(
         here = ahead_at(plan, specs, at);
     }
     pass_run(plan, specs, address_size, here, at, to, rest)
-}
-
-/// The bytes behind the values from one place up to another.
-#[inline(always)]
-pub fn pass<'b>(
-    plan: &Plan,
-    specs: &[AttributeSpec],
-    version: u16,
-    address_size: u8,
-    from: usize,
-    to: usize,
-    bytes: &'b [u8],
-) -> Result<&'b [u8], ValueFault>
-    requires plan { IsPlan specs.now plan.now }
-    requires order { from ≤ to }
-    requires within { to ≤ length specs.now }
-    requires size { (address_size ≡ 4) ⊎ (address_size ≡ 8) }
-    ensures { Gives (λ rest. rest.now) result
-        (values_end version address_size (slice_range specs.now from to) bytes.now) }
-{
-    let here = ahead_at(plan, specs, from);
-    if to <= here.next_varying as usize {
-        return pass_run(plan, specs, address_size, here, from, to, bytes);
-    }
-    pass_varying(plan, specs, version, address_size, from, to, bytes)
 }
 
 /// The first place from one on at which a search stops, or the end.

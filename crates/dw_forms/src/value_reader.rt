@@ -18,7 +18,7 @@ use crate::number::{Number, SectionOffset};
 use crate::value::{Value, ValueFault};
 
 /// The value of a form that names no other form, and how many bytes it has.
-#[inline]
+#[inline(never)]
 #[tactic(auto, unfolding(crate::specs::ValueReading::layout_at))]
 fn plain(form: Form, address_size: u8, bytes: &[u8]) -> Result<(Value<'_>, usize), ValueFault>
     requires { (address_size ≡ 4) ⊎ (address_size ≡ 8) }
@@ -102,27 +102,8 @@ fn indirect(version: u16, address_size: u8, bytes: &[u8]) -> Result<(Value<'_>, 
     Ok((value, before + len))
 }
 
-/// The value of any form, and how many bytes it has.
-#[inline(never)]
-fn any_value(
-    version: u16,
-    form: Form,
-    address_size: u8,
-    bytes: &[u8],
-) -> Result<(Value<'_>, usize), ValueFault>
-    requires { (address_size ≡ 4) ⊎ (address_size ≡ 8) }
-    ensures within { IfOk result (λ x. x.1 ≤ length bytes.now) }
-    ensures exact { Gives (λ x. (view x.0, drop x.1 bytes.now)) result (value_at version form address_size bytes.now) }
-{
-    match form {
-        Form::Indirect => indirect(version, address_size, bytes),
-        _ => plain(form, address_size, bytes),
-    }
-}
-
 /// The value of any form, and how many bytes it has. Most values that are asked are offsets of strings, references
-/// within
-/// a unit and numbers of one byte, which are read in place.
+/// within a unit and numbers of one byte, which are read in place.
 #[inline(always)]
 #[tactic(auto, unfolding(crate::specs::ValueReading::layout_at))]
 fn value(
@@ -148,10 +129,8 @@ fn value(
             Ok(number) => Ok((Value::Unsigned(number), 1)),
             Err(fault) => Err(fault),
         },
-        _ => match any_value(version, form, address_size, bytes) {
-            Ok((value, len)) => Ok((value, len)),
-            Err(fault) => Err(fault),
-        },
+        Form::Indirect => indirect(version, address_size, bytes),
+        _ => plain(form, address_size, bytes),
     }
 }
 
@@ -212,7 +191,7 @@ pub(crate) fn skip_long(
         Form::Block2 => Ok(2 + counted(bytes, 2)?.len()),
         Form::Block4 => Ok(4 + counted(bytes, 4)?.len()),
         Form::Text => Ok(text(bytes)?.len() + 1),
-        _ => Ok(any_value(version, form, address_size, bytes)?.1),
+        _ => Ok(value(version, form, address_size, bytes)?.1),
     }
 }
 

@@ -1,7 +1,7 @@
 use Rattle.std.proofs.Common.{◌≡◌, ◌≤◌, ◌-◌}
 use Rattle.std.specs.List.{slice_range}
 use Rattle.dw_forms.specs.Plans.{values_end, IsAhead}
-use Rattle.dw_forms.proofs.plan.pass_varying.Given as goal
+use Rattle.dw_forms.proofs.plan.pass.Given as goal
 
 abbrev pub invariant-loop-here : goal.invariant-loop-here
 invariant-loop-here l = record {
