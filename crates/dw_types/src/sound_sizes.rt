@@ -2,10 +2,9 @@
 
 ghost use Rattle.std.specs.Prelude.{◌≡◌, ◌<◌, ◌≤◌, ◌^◌, ℕ, true, Some, length, All, IfOk, IfSome, OnOk};
 ghost use Rattle.dw_entries.specs.Failures.{HasNone};
-ghost use Rattle.dw_forms.specs.Codes.{is_type_tag};
 ghost use Rattle.dw_entries.specs.Scanned.{all_entries, units_of};
 ghost use Rattle.dw_links.specs.Tables.{AreTables};
-ghost use Rattle.dw_types.specs.Entries.{entry_of, ParentsComeFirst, TargetsAreEntries};
+ghost use Rattle.dw_types.specs.Entries.{ParentsComeFirst, TargetsAreEntries};
 ghost use Rattle.dw_types.specs.FactsOf.{facts_in};
 ghost use Rattle.dw_types.specs.Graphs.{HasNoCycle};
 ghost use Rattle.dw_types.specs.Measuring.{AreMeasured, IsMeasurable, IsMeasured, KeepsMeasured};
@@ -40,40 +39,6 @@ fn measure(
     cursor: &mut FactsCursor<'_, '_>,
     done: &MeasuredSizes,
     node: usize,
-    entry: &FactsAt<'_, '_>,
-) -> Option<FoundSize>
-    requires node { node < length cursor.old }
-    requires entries { entries.now ≡ cursor.old }
-    requires entry { entry.now ≡ entry_of cursor.old node }
-    requires stages { length done.now.stages.items ≡ length cursor.old }
-    requires sizes { length done.now.sizes ≡ length cursor.old }
-    requires parents { ParentsComeFirst cursor.old }
-    requires targets { TargetsAreEntries cursor.old }
-    ensures same { cursor.new ≡ cursor.old }
-    ensures small { IfSome result (λ found. IfSome found.size (λ n. n ≤ 2 ^ 63)) }
-    ensures found { IfSome result
-        (λ found. IsMeasurable cursor.old done.now.stages.items (size_at done.now.sizes) node found.size) }
-{
-    if !done.has(entry.type_step()) || !done.has(entry.signature_step()) {
-        return None;
-    }
-    let elements = elements_of(cursor, node, entry)?;
-    let size = capped_size(entries, elements, done.sizes(), node, entry);
-    if !passes_alone(entry, size, done.sizes()) {
-        return None;
-    }
-    if !members_fit(cursor, done, node, entry, size) {
-        return None;
-    }
-    Some(FoundSize { size })
-}
-
-/// The same, by the number of the entry.
-fn measure_at(
-    entries: &FactsList<'_, '_>,
-    cursor: &mut FactsCursor<'_, '_>,
-    done: &MeasuredSizes,
-    node: usize,
 ) -> Option<FoundSize>
     requires node { node < length cursor.old }
     requires entries { entries.now ≡ cursor.old }
@@ -87,7 +52,18 @@ fn measure_at(
         (λ found. IsMeasurable cursor.old done.now.stages.items (size_at done.now.sizes) node found.size) }
 {
     let entry = cursor.at(node);
-    measure(entries, cursor, done, node, &entry)
+    if !done.has(entry.type_step()) || !done.has(entry.signature_step()) {
+        return None;
+    }
+    let elements = elements_of(cursor, node, &entry)?;
+    let size = capped_size(entries, elements, done.sizes(), node, &entry);
+    if !passes_alone(&entry, size, done.sizes()) {
+        return None;
+    }
+    if !members_fit(cursor, done, node, &entry, size) {
+        return None;
+    }
+    Some(FoundSize { size })
 }
 
 /// Whether a child of a structure is a plain member whose type is not measured.
@@ -98,13 +74,16 @@ fn is_waited_for(entry: &FactsAt<'_, '_>, done: &MeasuredSizes) -> bool
     entry.is_plain(Role::Members) && !done.has(entry.type_target())
 }
 
-/// Whether an entry holds something by value that is not measured.
+/// Whether an entry has to wait: it is not on the stack yet, and holds something by value that is not measured.
 fn waits(cursor: &mut FactsCursor<'_, '_>, done: &MeasuredSizes, node: usize) -> bool
     requires node { node < length cursor.old }
     requires stages { length done.now.stages.items ≡ length cursor.old }
     requires targets { TargetsAreEntries cursor.old }
     ensures { cursor.new ≡ cursor.old }
 {
+    if done.is_open(node) {
+        return false;
+    }
     let entry = cursor.at(node);
     if !done.has(entry.type_step()) || !done.has(entry.signature_step()) {
         return true;
@@ -173,12 +152,13 @@ fn push_step(
     Ok(())
 }
 
-/// Measures an entry and all that it holds by value, within a budget of turns.
+/// Measures an entry and all that it holds by value, and what is on the stack, within a budget of turns.
 fn measure_below(
     alloc: Global,
     entries: &FactsList<'_, '_>,
     cursor: &mut FactsCursor<'_, '_>,
     done: &mut MeasuredSizes,
+    stack: &mut Vec<usize>,
     budget: &mut usize,
     start: usize,
 ) -> Result<bool, AllocError>
@@ -186,13 +166,14 @@ fn measure_below(
     requires entries { entries.now ≡ cursor.old }
     requires parents { ParentsComeFirst cursor.old }
     requires targets { TargetsAreEntries cursor.old }
+    requires stack { All (λ k. k < length cursor.old) stack.old.items }
     requires measured { AreMeasured cursor.old done.old.stages.items done.old.sizes }
     ensures same { OnOk result (cursor.new ≡ cursor.old) }
+    ensures stack { OnOk result (All (λ k. k < length cursor.old) stack.new.items) }
     ensures measured { OnOk result (AreMeasured cursor.old done.new.stages.items done.new.sizes) }
     ensures kept { OnOk result (KeepsMeasured done.old.stages.items done.new.stages.items) }
     ensures start { IfOk result (λ all. all ≡ true → IsMeasured done.new.stages.items start) }
 {
-    let mut stack = Vec::new(alloc);
     stack.push(start)?;
     while *budget > 0 {
         *budget -= 1;
@@ -202,56 +183,18 @@ fn measure_below(
         if done.is_measured(node) {
             continue;
         }
-        if !done.is_open(node) {
+        if waits(cursor, done, node) {
             done.open(node);
             stack.push(node)?;
-            push_steps(cursor, done, &mut stack, node)?;
+            push_steps(cursor, done, stack, node)?;
             continue;
         }
-        match measure_at(entries, cursor, done, node) {
+        match measure(entries, cursor, done, node) {
             Some(found) => done.set(alloc, node, found.size)?,
             None => return Ok(false),
         }
     }
     Ok(false)
-}
-
-/// Measures an entry and all that it holds by value, if it is a type, within a budget of turns.
-#[inline(always)]
-fn measure_type(
-    alloc: Global,
-    entries: &FactsList<'_, '_>,
-    cursor: &mut FactsCursor<'_, '_>,
-    done: &mut MeasuredSizes,
-    budget: &mut usize,
-    node: usize,
-) -> Result<bool, AllocError>
-    requires node { node < length cursor.old }
-    requires entries { entries.now ≡ cursor.old }
-    requires parents { ParentsComeFirst cursor.old }
-    requires targets { TargetsAreEntries cursor.old }
-    requires measured { AreMeasured cursor.old done.old.stages.items done.old.sizes }
-    ensures same { OnOk result (cursor.new ≡ cursor.old) }
-    ensures measured { OnOk result (AreMeasured cursor.old done.new.stages.items done.new.sizes) }
-    ensures kept { OnOk result (KeepsMeasured done.old.stages.items done.new.stages.items) }
-    ensures typed { IfOk result (λ all. all ≡ true → is_type_tag (entry_of cursor.old node).tag ≡ true
-        → IsMeasured done.new.stages.items node) }
-{
-    let entry = cursor.at(node);
-    if !entry.is_type() {
-        return Ok(true);
-    }
-    if done.is_measured(node) {
-        return Ok(true);
-    }
-    if waits(cursor, done, node) {
-        return measure_below(alloc, entries, cursor, done, budget, node);
-    }
-    match measure_at(entries, cursor, done, node) {
-        Some(found) => done.set(alloc, node, found.size)?,
-        None => return Ok(false),
-    }
-    Ok(true)
 }
 
 /// Measures all types.
@@ -268,9 +211,22 @@ fn measure_all(alloc: Global, entries: &FactsList<'_, '_>) -> Result<Option<Size
     let count = entries.count();
     let mut done = MeasuredSizes::none(alloc, count)?;
     let mut cursor = entries.cursor();
+    let mut stack = Vec::new(alloc);
     let mut budget = 5 * count;
     for node in 0..count {
-        if !measure_type(alloc, entries, &mut cursor, &mut done, &mut budget, node)? {
+        let entry = cursor.at(node);
+        if !entry.is_type() {
+            continue;
+        }
+        if !measure_below(
+            alloc,
+            entries,
+            &mut cursor,
+            &mut done,
+            &mut stack,
+            &mut budget,
+            node,
+        )? {
             return Ok(None);
         }
     }
