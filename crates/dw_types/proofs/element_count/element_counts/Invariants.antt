@@ -1,4 +1,3 @@
-use Rattle.std.proofs.Common.{◌≡◌}
 use Rattle.dw_types.proofs.ElementCountLemmas.{HasElementCounts}
 use Rattle.dw_types.proofs.element_count.element_counts.Given as goal
 
