@@ -13,12 +13,14 @@ all:
 memory = $(shell awk '/MemAvailable/ { print int($$2 / 3000000) }' /proc/meminfo)
 checks = $(shell printf '%d\n' $$(nproc) $(memory) | sort -n | head -n 1)
 
-# Proves everything from nothing, tries the must-fail edits, and runs every test.
+# Proves everything from nothing, tries the edits of must-fail/, and runs every test.
 .PHONY: test
 test:
 	tests/dead-names.py
 	tests/reading-order.py
 	tests/calling.py
+	tests/toolchain.sh
+	tests/edits.py --apply
 	RT_JOBS=$(checks) rt ci
 	tests/rows.py
 	tests/examples.py
@@ -33,6 +35,12 @@ test:
 .PHONY: check
 check:
 	rt all check
+
+# Tries the edits of more-edits/, several in one check, and the controls: `make edits EDITS="--all dw_elf"`.
+EDITS = --jobs $(checks)
+.PHONY: edits
+edits:
+	tests/edits.py $(EDITS)
 
 # Runs the program on a file without proving it first: `make try FILE=/bin/true`.
 .PHONY: try
