@@ -1,14 +1,16 @@
 #!/usr/bin/env python3
 """Tries the edits that the prover must refuse, several in one check, and the controls, which it must prove.
 
-    tests/edits.py [--all] [--only PATTERN] [--jobs N] [CRATE..]    the edits of more-edits/, with --all those of must-fail/
-    tests/edits.py --apply                                       proves nothing: each edit and control can be applied
+    tests/edits.py [--all] [--only PATTERN] [--jobs N] [CRATE..]
 
-A function is proved against its own contract and those that it calls, so edits of different functions can be tried
-together: one check of a copy of the crate, in which each edited function must be refused by itself. Edits of more than
-one file, and of text that is in no function, are tried alone; so is each edit that was not refused together with others.
-A control (controls/NAME.edit) is a right body in the place of the edit NAME and of its shape: that it is proved shows
-that the edit is refused for what it means.
+It tries the edits of more-edits/ and the controls, with --all also the edits of must-fail/. With --apply it proves
+nothing: it only looks whether each edit and control can be applied.
+
+A function is proved against its own contract and those of the functions that it calls, so edits of different functions
+can be tried together: one check of a copy of the crate, in which each edited function must be refused by itself. Edits
+of more than one file, and of text that is in no function, are tried alone; so is each edit that is not refused beside
+others. A control (controls/NAME.edit) is a right body in the place of the edit NAME and of its shape: that it is proved
+shows that the edit is refused for what it means.
 """
 import argparse
 import collections
@@ -28,14 +30,15 @@ import tempfile
 TOP = pathlib.Path(__file__).resolve().parent.parent
 AT_MOST = 70  # edits in must-fail/, of all crates
 TOGETHER = 10  # edits in one check
-BLOCK = re.compile(r"(?:pub )?(?:impl(?:<.*?>)? (?:(?P<trait>[\w:]+)(?:<.*?>)? for )?(?P<type>[\w:]+)|trait (?P<name>\w+))")
+IMPL = r"impl(?:<.*?>)? (?:(?P<trait>[\w:]+)(?:<.*?>)? for )?(?P<type>[\w:]+)"
+BLOCK = re.compile(rf"(?:pub )?(?:{IMPL}|trait (?P<name>\w+))")
 FUNCTION = re.compile(r"( *)(?:pub )?(?:pub\(crate\) )?(?:const )?fn (\w+)")
 # Errors of a proof file that only say that the edit took a name away.
 NAMES = re.compile(r"has no field|is not in scope|has no `|was not admitted|there is no goal|no goal ")
 WEIGHTS = ("values", "term", "search", "name")
 
 Function = collections.namedtuple("Function", "path first last")
-Outcome = collections.namedtuple("Outcome", "edit is_good text weight")
+Outcome = collections.namedtuple("Outcome", "edit is_good text shows_little", defaults=[False])
 
 
 class Edit:
@@ -102,7 +105,8 @@ def functions_of(crate, file, text):
             free = number + 1  # the line of the comment and the attributes of what follows
         if open_at:
             has_body = has_body or line == indent + "{"
-            if line.startswith((indent + "}", indent + "{}")) or line.endswith("{}") or not has_body and line[-1:] == ";":
+            is_end = line.startswith((indent + "}", indent + "{}")) or line.endswith("{}")
+            if is_end or line.endswith(";") and not has_body:
                 owner = [block] if indent else []
                 found.append(Function("::".join([crate.name, *module, *owner, name]), free, number))
                 open_at, free = None, number + 1
@@ -116,6 +120,7 @@ class Report:
         self.status, self.lines = ran.returncode, ran.stdout.rstrip("\n").split("\n")
         self.is_verdict = self.status == 0 or self.status == 1 and self.lines[-1].startswith("logic=not-proved")
         self.texts, self.crate, self.told = texts, crate, collections.defaultdict(list)
+        self.proved = set(re.findall(r"(?m)^fn (\S+): proved$", ran.stdout))
         for line in self.lines:
             self.read(line)
 
@@ -191,25 +196,23 @@ class Prover:
 
 
 def outcome_of(edit, report, is_alone):
-    """Returns what a check says of an edit, or None where it says nothing."""
+    """Returns what a check says of an edit, or None where it has to be tried alone."""
     if report is None or not report.is_verdict:
         said = next((it for it in report.lines if "error" in it), report.lines[-1])[:160] if report else ""
-        return Outcome(edit, False, f"NOT TRIED: {said}", "") if is_alone else None
+        return Outcome(edit, False, f"NOT TRIED: {said}") if is_alone else None
+    refusal = report.refusal(edit.functions - {None} or None)
+    weight, goal = refusal or report.refusal(None) or ("search", "")
     if edit.is_control:
-        if report.status == 0:
-            return Outcome(edit, True, "proved", "")
-        weight, goal = report.refusal(None if is_alone else edit.functions) or ("", "")
-        return Outcome(edit, False, f"NOT PROVED: {goal} ({weight})", weight) if is_alone else None
-    refusal = report.refusal(edit.functions - {None})
+        if report.status == 0 or edit.functions <= report.proved:
+            return Outcome(edit, True, "proved")
+        return Outcome(edit, False, f"NOT PROVED: {goal} ({weight})") if is_alone else None
     if refusal:
-        return Outcome(edit, True, f"refused: {refusal[1]} ({refusal[0]})", refusal[0])
+        return Outcome(edit, True, f"refused: {goal} ({weight})", weight == "name")
     if not is_alone:
         return None
-    refusal = report.refusal(None)
-    if not refusal:
-        return Outcome(edit, False, "NOT REFUSED", "")
-    others = sorted(str(it) for it in report.told)
-    return Outcome(edit, None in edit.functions, f"refused in {others[0]}: {refusal[1]} ({refusal[0]})", refusal[0])
+    if report.status == 0:
+        return Outcome(edit, False, "NOT REFUSED")
+    return Outcome(edit, True, f"refused only in {', '.join(sorted(report.told))}: {goal} ({weight})", True)
 
 
 def seconds():
@@ -280,9 +283,9 @@ def misplaced(edits):
 
 
 def main():
-    options = argparse.ArgumentParser(description=__doc__, formatter_class=argparse.RawDescriptionHelpFormatter)
+    options = argparse.ArgumentParser(description=__doc__.partition("\n")[0])
     options.add_argument("--all", action="store_true", help="also the edits of must-fail/")
-    options.add_argument("--only", metavar="PATTERN", default="", help="only those with such a name, for example find|text")
+    options.add_argument("--only", metavar="PATTERN", default="", help="only those with such a name, as find|text")
     options.add_argument("--jobs", metavar="N", type=int, default=1, help="how many crates to try side by side")
     options.add_argument("--apply", action="store_true", help="prove nothing")
     options.add_argument("crates", nargs="*", metavar="CRATE")
@@ -296,7 +299,8 @@ def main():
     folders = ("must-fail", "more-edits", "controls") if given.all else ("more-edits", "controls")
     chosen = collections.defaultdict(list)
     for edit in edits:
-        if edit.folder in folders and re.search(given.only, edit.name) and edit.crate.name in (given.crates or [edit.crate.name]):
+        is_asked = edit.folder in folders and re.search(given.only, edit.name)
+        if is_asked and edit.crate.name in (given.crates or [edit.crate.name]):
             chosen[edit.crate.name].append(edit)
     with concurrent.futures.ProcessPoolExecutor(given.jobs) as pool:
         tried = {name: pool.submit(try_crate, name, chosen[name]) for name in chosen}
@@ -314,10 +318,8 @@ def table(tried):
         failed += sum(not it.is_good for it in found)
     for found, _ in tried.values():
         for it in found:
-            if not it.is_good:
+            if not it.is_good or it.shows_little:
                 print(f"{it.edit.label}{' (control)' * it.edit.is_control}: {it.text}")
-            elif it.weight == "name":
-                print(f"{it.edit.label}: refused only for a name in a proof file: {it.text}")
     return 1 if failed else 0
 
 
