@@ -28,6 +28,7 @@ import sys
 import tempfile
 
 TOP = pathlib.Path(__file__).resolve().parent.parent
+FOLDERS = ("must-fail", "more-edits", "controls")
 AT_MOST = 70  # edits in must-fail/, of all crates
 TOGETHER = 10  # edits in one check
 IMPL = r"impl(?:<.*?>)? (?:(?P<trait>[\w:]+)(?:<.*?>)? for )?(?P<type>[\w:]+)"
@@ -282,6 +283,14 @@ def misplaced(edits):
             yield f"{edit.label}: docs/PROOFS.md does not name it"
 
 
+def count(edits):
+    """Prints how many edits and controls each crate has."""
+    counts = collections.Counter((it.crate.name, it.folder) for it in edits)
+    for name in sorted({it.crate.name for it in edits}):
+        print(f"{name:<12}" + "".join(f"{counts[name, folder]:>4} {folder}" for folder in FOLDERS))
+    return 0
+
+
 def main():
     options = argparse.ArgumentParser(description=__doc__.partition("\n")[0])
     options.add_argument("--all", action="store_true", help="also the edits of must-fail/")
@@ -290,13 +299,15 @@ def main():
     options.add_argument("--apply", action="store_true", help="prove nothing")
     options.add_argument("crates", nargs="*", metavar="CRATE")
     given = options.parse_args()
-    paths = [it for folder in ("must-fail", "more-edits", "controls") for it in TOP.glob(f"crates/*/{folder}/*.edit")]
+    paths = [it for folder in FOLDERS for it in TOP.glob(f"crates/*/{folder}/*.edit")]
     edits = [Edit(it) for it in sorted(paths)]
     wrong = list(misplaced(edits))
     print("\n".join(wrong), end="\n" * bool(wrong))
-    if wrong or given.apply:
-        return 1 if wrong else 0
-    folders = ("must-fail", "more-edits", "controls") if given.all else ("more-edits", "controls")
+    if wrong:
+        return 1
+    if given.apply:
+        return count(edits)
+    folders = FOLDERS if given.all else FOLDERS[1:]
     chosen = collections.defaultdict(list)
     for edit in edits:
         is_asked = edit.folder in folders and re.search(given.only, edit.name)
