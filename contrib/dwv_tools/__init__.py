@@ -1,0 +1,1 @@
+"""What the scripts beside `dwv` share. Nothing is proved of it."""

@@ -1,0 +1,200 @@
+"""What is known of the cause of a fault, and what to do.
+
+A cause is chosen by the rule, by what is at the place of the fault, and by the producer that the unit names. Of several
+that fit, the first of the list counts.
+"""
+import collections
+import os
+
+from dwv_tools import dwarf
+
+# `kind` is "compiler" for what a compiler always writes, "limit" for what `dwv` does not read, "file" if the file is
+# not what the standard says and no reason is known.
+Cause = collections.namedtuple("Cause", "kind text remedy")
+
+STRUCTURES, MEMBER, ENUMERATION, BASE_TYPE, SUBPROGRAM, SUBRANGE, VARIANTS = (
+    {0x02, 0x13, 0x17}, 0x0D, 0x04, 0x24, 0x2E, 0x21, {0x19, 0x33}
+)
+SIGNATURE, CONTAINERS = 0x69, {0x2E, 0x0B, 0x1D}
+GNU_ALT, GNU_SPLIT = {0x1F20, 0x1F21, 0x1C, 0x1D, 0x24}, {0x1F01, 0x1F02}
+ALT_SECTION, LINK_SECTION, BUILD_ID = ".gnu_debugaltlink", ".gnu_debuglink", ".note.gnu.build-id"
+
+HABIT = "This is a habit of the compiler, and your file is not damaged: other tools ignore it."
+
+
+def is_by(place, *words):
+    """Whether the producer of the unit has one of these words."""
+    return any(word in (place.producer or "").lower() for word in words)
+
+
+def tag(place):
+    return place.entry.tag if place.entry else None
+
+
+def is_below(place, tags):
+    return any(entry.tag in tags for entry in place.above)
+
+
+def form(place):
+    """The form of a declaration's attribute that a fault names."""
+    fields = place.declaration or []
+    for (*_, what, code), (*_, number) in zip(fields, fields[1:]):
+        if what == "attribute" and code == place.attribute:
+            return number
+    return None
+
+
+def has_type_units(place):
+    return place.file.has_section(".debug_types") or any(it.signature for it in map(place.file.unit, place.file.starts()))
+
+
+def debug_file(place):
+    """Where the debugging information of a stripped file is stored by its build ID, or None."""
+    note = place.file.section(BUILD_ID)
+    text = place.file.data[note.start : note.start + note.size]
+    if len(text) <= 16 or text[12:16] != b"GNU\0":
+        return None
+    number = text[16 : 16 + int.from_bytes(text[4:8], "little")].hex()
+    return f"/usr/lib/debug/.build-id/{number[:2]}/{number[2:]}.debug"
+
+
+def without_info(place):
+    """The cause of E9."""
+    at, said = debug_file(place), "The file has no debugging information: it was built without -g, or stripped."
+    if at and os.path.exists(at):
+        return Cause("limit", said, f"Its debugging information is in another file. Check that: dwv check {at}")
+    more = f" Distributions have it in a package -dbg, -dbgsym or -debuginfo, as {at}." if at else ""
+    return Cause("limit", said, f"Build with -g, and check the program before strip.{more}")
+
+
+def unit_type(place):
+    return place.unit.type if place.unit else None
+
+
+# Rules, whether a cause fits the place, and the cause; or a function that makes it.
+KNOWN = [
+    ("Z3", lambda it: is_by(it, "clang", "llvm") and "ObjC" in (it.language or "") and tag(it) == MEMBER, Cause(
+        "compiler",
+        "clang gives Objective-C's objc_object the size 0, with the member isa of 8 bytes: the entry contradicts"
+        f" itself. It is in each file that names the type id. {HABIT}",
+        "Compile the Objective-C files without -g, or with gcc. No change of your source helps.",
+    )),
+    ("Z3", lambda it: is_by(it, "rustc"), Cause(
+        "compiler",
+        "rustc describes some closures and enumerations with members past the end of the type."
+        f" {HABIT}",
+        "Do not rely on the layout of the type that is named above. Another version of rustc, or another opt-level, may"
+        " describe it correctly.",
+    )),
+    ("Z1", lambda it: is_by(it, "ada", "gnat"), Cause(
+        "compiler",
+        "gnat leaves out the size of types whose size is only known when the program runs; with -fgnat-encodings=all"
+        f" it describes them by its own names. {HABIT}",
+        "Leave -fgnat-encodings out, or use -fgnat-encodings=minimal. If the fault stays, the type has no fixed size,"
+        " and dwv can't verify the unit.",
+    )),
+    ("Z1 Z4", lambda it: dwarf.find(it.entry, SIGNATURE), Cause(
+        "compiler",
+        "The type is described in a type unit, and this entry refers to it by its signature, but gcc left out"
+        f" DW_AT_declaration, so that the entry has no size. {HABIT}",
+        "Compile without -fdebug-types-section.",
+    )),
+    ("R4", lambda it: it.file.has_section(".debug_types"), Cause(
+        "limit",
+        "The types are in the section .debug_types (-fdebug-types-section with DWARF 4), and dwv does not read that.",
+        "Compile without -fdebug-types-section.",
+    )),
+    ("Z1 Z4", has_type_units, Cause(
+        "compiler",
+        f"The file was built with -fdebug-types-section, and gcc leaves a size or DW_AT_declaration out then. {HABIT}",
+        "Compile without -fdebug-types-section.",
+    )),
+    ("Z1", lambda it: is_by(it, "gnu c") and tag(it) in STRUCTURES and is_below(it, CONTAINERS), Cause(
+        "compiler",
+        "A structure inside a function has a member of variable length (int a[n]; an extension of gcc), so its size is"
+        f" not known before the program runs. DWARF allows this; dwv can't give the type a size. {HABIT}",
+        "Replace the member by a pointer or an array of fixed length. Or compile this source file without -g.",
+    )),
+    ("K1 Z1 Z3", lambda it: is_by(it, "free pascal", "fpc"), Cause(
+        "compiler",
+        f"Free Pascal describes some types otherwise than the standard says, for example bounds of arrays. {HABIT}",
+        "No flag helps: -gw2 and -gw3 write versions that dwv does not read (U3). Verify with another tool, such as"
+        " llvm-dwarfdump --verify.",
+    )),
+    ("E7", lambda it: it.file.has_section(".go.buildinfo"), Cause(
+        "limit",
+        "The linker of Go compresses the debugging information, and dwv does not decompress anything.",
+        "go build -ldflags=-compressdwarf=false, or objcopy --decompress-debug-sections FILE PLAIN and check PLAIN.",
+    )),
+    ("E7", None, Cause(
+        "limit",
+        "The debugging information is compressed, and dwv does not decompress anything.",
+        "objcopy --decompress-debug-sections FILE PLAIN and check PLAIN. Or link without -gz and"
+        " --compress-debug-sections.",
+    )),
+    ("A7", lambda it: form(it) in GNU_ALT or it.file.has_section(ALT_SECTION), Cause(
+        "limit",
+        "dwz moved entries of this file into another one (.gnu_debugaltlink), and dwv reads one file at a time.",
+        "Check the file before dwz runs. Packages of distributions are often built so; theirs can't be checked.",
+    )),
+    ("A7", lambda it: form(it) in GNU_SPLIT, Cause(
+        "limit",
+        "The file was built with -gsplit-dwarf in DWARF 4, which puts most entries into .dwo files.",
+        "Compile without -gsplit-dwarf.",
+    )),
+    ("E3", None, Cause(
+        "limit",
+        "The file is an object file (.o, .ko, .dwo) or a core dump. In an object file, offsets have values only once it"
+        " is linked.",
+        "Check the program or the shared library that is linked from it. A kernel module can't be checked; vmlinux can.",
+    )),
+    ("U4", lambda it: unit_type(it) in (4, 5, 6), Cause(
+        "limit",
+        "The file was built with -gsplit-dwarf: most entries are in .dwo files, and this unit only refers to them.",
+        "Compile without -gsplit-dwarf.",
+    )),
+    ("U2", lambda it: it.unit and it.unit.offset_size == 8, Cause(
+        "limit",
+        "The unit is in the 64-bit format of DWARF.",
+        "Compile with -gdwarf32, or without -gdwarf64. An assembler needs --gdwarf-5 without --64bit offsets.",
+    )),
+    ("U3", lambda it: it.unit and it.unit.version in (2, 3), Cause(
+        "limit",
+        "The unit has version 2 or 3 of DWARF.",
+        "Compile with -gdwarf-4 or -gdwarf-5. For assembler files: as --gdwarf-5.",
+    )),
+    ("E2", None, Cause(
+        "limit",
+        "The file is for a 32-bit or a big-endian machine, or no ELF file at all (as on Windows and macOS).",
+        "Only 64-bit little-endian ELF files can be checked.",
+    )),
+    ("E1", None, Cause("limit", "The file is larger than dwv reads.", "Split the program, or use less -g (-g1).")),
+    ("E9", None, without_info),
+    ("E10", None, Cause(
+        "file",
+        "A tool such as strip or objcopy took the bytes of a section with debugging information, and left its header.",
+        "Check the file before that tool ran, or its .debug file.",
+    )),
+    ("U7", None, Cause(
+        "compiler",
+        "The unit is empty. Some assemblers and compilers write such units for source files without code.",
+        "Compile the source file that the unit is made of without -g, or leave it out of the program.",
+    )),
+]
+
+# For all other faults.
+UNKNOWN = Cause(
+    "file",
+    "No compiler is known to write this. The file was damaged, or the last tool that wrote it (compiler, linker, strip,"
+    " objcopy, dwz, ..) has a fault.",
+    "Build it anew. If the fault stays, check the file as the linker wrote it, before any other tool. If that has the"
+    " fault too, report it to the makers of the compiler, with these lines.",
+)
+
+
+def cause(place):
+    """The cause of a fault, as far as it is known."""
+    for rules, fits, known in KNOWN:
+        if place.rule in rules.split() and (fits is None or fits(place)):
+            return known(place) if callable(known) else known
+    return UNKNOWN

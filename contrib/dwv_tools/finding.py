@@ -1,0 +1,120 @@
+"""What is at the place of a fault: the unit, the entry, and those above it, as far as they can be read."""
+import re
+
+from dwv_tools import dwarf, names, reading
+
+LINE = re.compile(
+    r"fault ([A-Z]\d+) (\w+) at (?:section (\d+)|(\.debug_\w+)\+0x([0-9a-f]{8}) attribute 0x([0-9a-f]+))"
+)
+# A type has the size of its type, if it is one of these: typedef, const, volatile, restrict, atomic.
+SAME_SIZE = {0x16, 0x26, 0x35, 0x37, 0x47}
+POINTER = 0x0F
+HEADER_RULES = {"U1", "U2", "U3", "U4", "U5", "U6", "U7", "R5", "R6"}
+
+
+class Place:
+    """The place of a fault. What can't be read of it is None, and `trouble` says why."""
+
+    def __init__(self, verdict, path):
+        rule, name, number, section, at, attribute = LINE.fullmatch(verdict.lines[0]).groups()
+        self.rule, self.name, self.lines, self.note = rule, name, verdict.lines, verdict.note
+        self.section, self.at = section or "file", int(at or "0", 16) if section else int(number)
+        self.attribute = int(attribute or "0", 16)
+        cycles = [line.split()[1:] for line in verdict.lines if line.startswith("cycle ")]
+        self.cycle = [int(it, 16) for it in cycles[0]] if cycles else []
+        self.unit = self.declaration = self.entry = self.trouble = None
+        self.above, self.file = [], dwarf.File(path)
+        try:
+            if section == ".debug_abbrev":
+                self._find_declaration()
+            elif section:
+                self._find_entry()
+        except reading.Unreadable as error:
+            self.entry, self.trouble = error.entry, str(error)
+        self.unit_name, self.producer, self.language = self._about_unit()
+
+    def _find_declaration(self):
+        """The first unit of the table that has the place, and what can be read of the declaration there."""
+        before = [unit for unit in map(self.file.unit, self.file.starts()) if unit.table is not None]
+        before = [unit for unit in before if unit.table <= self.at]
+        self.unit = max(before, key=lambda unit: unit.table, default=None)
+        cursor = reading.Cursor(self.file.data, self.file.abbrev, self.at)
+        self.declaration = reading.fields_of_declaration(cursor)
+
+    def _find_entry(self):
+        self.unit = self.file.unit_of(self.at)
+        if self.rule in HEADER_RULES:
+            return
+        if self.at > self.unit.first:
+            self.above = [self.unit.entry(at) for at in self.unit.path_to(self.at)]
+        self.entry = self.unit.entry(self.at)
+
+    def _about_unit(self):
+        """The name of the unit and its producer and language. Those of another unit serve for one that has none."""
+        found = [None, None, None]
+        try:
+            others = (self.file.unit(at) for at in self.file.starts()[:64])
+            for unit in [self.unit, *others] if self.unit else []:
+                entry = readable(unit, unit.first) if unit.first is not None else None
+                for k, code in enumerate((reading.NAME, reading.PRODUCER, reading.LANGUAGE)):
+                    attribute = dwarf.find(entry, code)
+                    if attribute and found[k] is None and (k or unit is self.unit):
+                        found[k] = text_of(unit, attribute) if k < 2 else names.name("LANG", attribute.value)
+                if found[1]:
+                    break
+        except (reading.Unreadable, TypeError):
+            pass
+        return found
+
+
+def readable(unit, at):
+    """The entry at an offset, or as much of it as can be read."""
+    try:
+        return unit.entry(at)
+    except reading.Unreadable as error:
+        return error.entry
+
+
+def text_of(unit, attribute):
+    """The text of an attribute, or None if it can't be read."""
+    try:
+        text = unit.text(attribute)
+    except reading.Unreadable:
+        return None
+    return None if text is None else text.decode(errors="backslashreplace")
+
+
+def name_of(entry):
+    """The name of an entry, or None."""
+    attribute = dwarf.find(entry, reading.NAME)
+    return text_of(entry.unit, attribute) if attribute else None
+
+
+def number_of(entry, code):
+    """The number that an attribute of an entry has, or None."""
+    attribute = dwarf.find(entry, code)
+    return attribute.value if attribute and isinstance(attribute.value, int) else None
+
+
+def target_of(entry, code):
+    """The entry that an attribute of an entry refers to, or None."""
+    attribute = dwarf.find(entry, code)
+    try:
+        found = attribute and entry.unit.target(attribute)
+        return found[0].entry(found[1]) if found else None
+    except reading.Unreadable:
+        return None
+
+
+def size_of(entry):
+    """The size of a type, if it is easy to see, or None."""
+    for _ in range(64):
+        size = number_of(entry, reading.BYTE_SIZE)
+        if size is not None:
+            return size
+        if entry.tag == POINTER:
+            return entry.unit.address_size
+        entry = target_of(entry, reading.TYPE) if entry.tag in SAME_SIZE else None
+        if entry is None:
+            return None
+    return None

@@ -1,0 +1,82 @@
+"""Reads what `dwv types` and `dwv show` print of a file: each line once, and where the entries of its types are."""
+import collections
+import re
+import subprocess
+
+from dwv_tools import members, reading
+from dwv_tools.running import show_progress
+
+REFUSED = re.compile(rb"/\* 0x([0-9a-f]{8}) (P\d \w+) \*/")
+# In the lines of `dwv show`: a structure, union, enumeration, typedef or base type with a name.
+SHOWN = re.compile(rb'^0x([0-9a-f]{8}) +0x00(13|17|04|16|24) "([^"\n]*)"(?: size (\d+))?$', re.MULTILINE)
+KINDS = {b"13": "struct", b"17": "union", b"04": "enum", b"16": "typedef", b"24": "base type"}
+BLOCK = 2**20
+# How many entries of a name are kept: enough for the different types that have it.
+MOST = 32
+
+
+class Failed(Exception):
+    """`dwv` ended with another status than 0."""
+
+
+def output(dwv, command, path):
+    """What a command of `dwv` prints, in blocks of whole lines."""
+    with subprocess.Popen([dwv, command, path], stdout=subprocess.PIPE) as process:
+        rest = b""
+        while block := process.stdout.read(BLOCK):
+            block = rest + block
+            cut = block.rfind(b"\n") + 1
+            rest = block[cut:]
+            yield block[:cut]
+    if process.returncode != 0:
+        raise Failed(f"dwv {command} ended with status {process.returncode}")
+
+
+class Listing:
+    """The distinct declarations in their order, the refused types by their offsets, and how many lines there are."""
+
+    def __init__(self, dwv, path):
+        self.lines, self.refused, self.count = {}, {}, 0
+        for block in output(dwv, "types", path):
+            for line in block.splitlines():
+                self.count += 1
+                if line not in self.lines:
+                    if found := REFUSED.fullmatch(line):
+                        self.refused[int(found[1], 16)] = found[2].decode()
+                    else:
+                        self.lines[line] = None
+            show_progress(f"{self.count} lines, {len(self.lines)} distinct")
+
+
+class Places:
+    """Where the entries of named types are, the names of the refused ones, and the sizes of base types."""
+
+    def __init__(self, dwv, path, file, wanted, refused):
+        self.file, self.names = file, {}
+        self.bases, self.at = collections.defaultdict(set), {node: [] for node in wanted}
+        done = 0
+        for block in output(dwv, "show", path):
+            for at, tag, name, size in SHOWN.findall(block):
+                kind, name, at = KINDS[tag], name.decode("ascii", "replace"), int(at, 16)
+                if kind == "base type":
+                    self.bases[name].add(int(size or 0))
+                    continue
+                found = self.at.get((kind, name))
+                if found is not None and len(found) < MOST and (size or kind == "typedef"):
+                    found.append(at)
+                if at in refused:
+                    self.names[at] = f"{kind} {name}"
+            done += len(block)
+            show_progress(f"{done >> 20} MB of entries")
+
+    def shapes(self, node, declaration):
+        """What the file says of the layouts that the text of a node may have, each once."""
+        found = []
+        for at in self.at.get(declaration[:2], ()):
+            try:
+                shape = members.shape_at(self.file, declaration, at)
+            except reading.Unreadable:
+                continue
+            if shape is not None and shape not in found:
+                found.append(shape)
+        return found
