@@ -27,7 +27,6 @@ pub mod JudgingLemmas
 pub mod HeldLemmas
 pub mod KeptLemmas
 pub mod ListingTextLemmas
-pub mod OrderLemmas
 pub mod RefusalLemmas
 pub mod KindLemmas
 pub mod FaultLemmas

@@ -24,14 +24,13 @@ use crate::survey::Survey;
 use dw_entries::constants::*;
 use dw_image::{EntryId, Image, NoMemory};
 use dw_types::{OrderFault, order};
-use indexmap::IndexSet;
 use std::alloc::{AllocError, Global};
 
 /// The named types of an image: those that are printed, those that are refused, and the text of both.
 #[derive(Drop)]
 pub struct Listing {
     /// Those that are printed, by rising level and then by rising offset, so each after those that it holds by value.
-    pub order: IndexSet<EntryId>,
+    pub order: Vec<EntryId>,
     /// A line for each in `order`, its declaration; then a comment line for each in `refused`.
     pub text: Vec<u8>,
     /// Those that are refused, in rising offset, and why.
@@ -204,14 +203,13 @@ fn sort_listed(listed: &mut Vec<Listed>) -> Result<(), AllocError>
     listed.sort()
 }
 
-/// The entries of those that are printed, in the same order. No two of these have the same entry.
-fn entries_of(alloc: Global, listed: &[Listed]) -> Result<IndexSet<EntryId>, AllocError>
-    requires { AllPairs (λ a b. a.entry ≡ b.entry → ⊥) listed.now }
-    ensures { IfOk result (λ order. order.keys ≡ map (λ (one : ListedOf). one.entry) listed.now) }
+/// The entries of those that are printed, in the same order.
+fn entries_of(alloc: Global, listed: &[Listed]) -> Result<Vec<EntryId>, AllocError>
+    ensures { IfOk result (λ order. order.items ≡ map (λ (one : ListedOf). one.entry) listed.now) }
 {
-    let mut order = IndexSet::with_capacity(alloc, listed.len())?;
+    let mut order = Vec::with_capacity(alloc, listed.len())?;
     for one in listed {
-        order.insert(one.entry)?;
+        order.push(one.entry)?;
     }
     Ok(order)
 }
@@ -221,8 +219,8 @@ fn entries_of(alloc: Global, listed: &[Listed]) -> Result<IndexSet<EntryId>, All
 ///
 /// The text has at most 65,537 bytes for each of them. The one error is that an allocation failed.
 pub fn declare_all(alloc: Global, image: &Image<'_>) -> Result<Listing, NoMemory>
-    ensures listing { IfOk result (λ it. IsListing image.now it.order.keys it.refused.items) }
-    ensures text { IfOk result (λ it. it.text.items ≡ listing_text image.now it.order.keys it.refused.items) }
+    ensures listing { IfOk result (λ it. IsListing image.now it.order.items it.refused.items) }
+    ensures text { IfOk result (λ it. it.text.items ≡ listing_text image.now it.order.items it.refused.items) }
 {
     let named = named_types(alloc, image)?;
     let subjects = subjects_of(alloc, image, &named)?;

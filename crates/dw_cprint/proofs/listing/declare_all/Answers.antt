@@ -1,5 +1,5 @@
 use Rattle.std.proofs.Common.{◌≡◌, ◌<◌, ◌++◌, ℕ, List, map, length, sym, ap, ◌∙◌, subst}
-use Rattle.std.specs.Prelude.{All, AllPairs, IsSome, flat_map}
+use Rattle.std.specs.Prelude.{All, IsSome, flat_map}
 use Rattle.dw_image.specs.Images.{entries_in}
 use Rattle.dw_cprint.specs.Declarations.{declaration_of}
 use Rattle.dw_cprint.specs.EntryShapes.{shape_in, subject_in}
@@ -15,7 +15,6 @@ use Rattle.dw_cprint.specs.declared.shape.Subject.{Subject}
 use Rattle.dw_cprint.proofs.KeptLemmas.{printed-declared}
 use Rattle.dw_cprint.proofs.ListingLemmas.{listing-done}
 use Rattle.dw_cprint.proofs.ListingTextLemmas.{as-many, judged-of, listed-declared, listed-lines, listed-places, named-within, refused-within}
-use Rattle.dw_cprint.proofs.OrderLemmas.{sorted-apart}
 use Rattle.dw_cprint.proofs.WithinLemmas.{roots_within}
 use Rattle.dw_cprint.proofs.listing.declare_all.Goals as goal
 
@@ -78,23 +77,6 @@ put_all_refused-requires c =
     let R : List (ℕ × PrintFault) → Type 0 = λ rs. All (λ (r : ℕ × PrintFault). r.0 < length (entries_in image)) rs in
     subst R (sym c.deref-8.ensures.value) (refused-within image (shape_in image) named (map view_subject subjects) levels listed refused c.in_ok-named.ensures judged)
 
-pub entries_of-requires : goal.entries_of-requires
-entries_of-requires c =
-    let image = c.args.image.now in
-    let named = c.in_ok-named.named.items in
-    let subjects = c.in_ok-subjects.subjects.items in
-    let survey = c.in_ok-survey.survey in
-    let levels = c.in_ok-levels.levels.items in
-    let listed = c.in_ok-judged.judged.listed.items in
-    let refused = c.in_ok-judged.judged.refused.items in
-    let sorted = c.sort_listed.new.listed.items in
-    let S : List Subject → Type 0 = λ ss. IsSurveyOf (shape_in image) (roots_of (map view_subject ss)) survey in
-    let surveyed = subst S c.deref-2.ensures.value c.in_ok-survey.ensures in
-    let judged =
-    judged-of image survey named c.deref-3.result.now subjects c.deref-4.result.now levels c.deref-5.result.now listed refused c.deref-3.ensures.value c.deref-4.ensures.value c.deref-5.ensures.value surveyed c.in_ok-judged.ensures in
-    let A : List Listed → Type 0 = λ xs. AllPairs (λ (a b : Listed). a.entry ≡ b.entry → ⊥) xs in
-    subst A (sym c.deref-9.ensures.value) (sorted-apart (shape_in image) named (map view_subject subjects) levels listed sorted refused judged c.in_ok-sort_listed.ensures.permutation)
-
 -- what is declared at the named types
 same-subjects : (c : goal.After-drop-named-2) → map view_subject c.in_ok-subjects.subjects.items ≡ map (subject_in c.args.image.now) c.in_ok-named.named.items
 same-subjects c = c.in_ok-subjects.ensures ∙ ap (map (subject_in c.args.image.now)) c.deref.ensures.value
@@ -110,7 +92,7 @@ judged c =
     judged-of c.args.image.now c.in_ok-survey.survey c.in_ok-named.named.items c.deref-3.result.now c.in_ok-subjects.subjects.items c.deref-4.result.now c.in_ok-levels.levels.items c.deref-5.result.now
     c.in_ok-judged.judged.listed.items c.in_ok-judged.judged.refused.items c.deref-3.ensures.value c.deref-4.ensures.value c.deref-5.ensures.value (surveyed c) c.in_ok-judged.ensures
 
-order : (c : goal.After-drop-named-2) → c.in_ok-order.order.keys ≡ map (λ (one : Listed). one.entry) c.sort_listed.new.listed.items
+order : (c : goal.After-drop-named-2) → c.in_ok-order.order.items ≡ map (λ (one : Listed). one.entry) c.sort_listed.new.listed.items
 order c = c.in_ok-order.ensures ∙ ap (map (λ (one : Listed). one.entry)) c.deref-9.ensures.value
 
 pub returns-clause-listing : goal.returns-clause-listing
@@ -126,7 +108,7 @@ returns-clause-text c =
     let views = map view_subject c.in_ok-subjects.subjects.items in
     let sorted = c.sort_listed.new.listed.items in
     let refused = c.in_ok-judged.judged.refused.items in
-    let lines : c.put_listed.new.out.items ≡ flat_map (declared_line image) c.in_ok-order.order.keys =
+    let lines : c.put_listed.new.out.items ≡ flat_map (declared_line image) c.in_ok-order.order.items =
     c.in_ok-put_listed.ensures
     ∙ ap (λ (u : List ℕ). u ++ flat_map (listed_line (kept c.in_ok-survey.survey) (map view_subject c.deref-6.result.now)) c.deref-7.result.now) c.new-text.ensures.items
     ∙ ap (λ (ss : List Subject). flat_map (listed_line (kept c.in_ok-survey.survey) (map view_subject ss)) c.deref-7.result.now) c.deref-6.ensures.value
