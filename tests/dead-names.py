@@ -2,7 +2,7 @@
 """Finds the lemmas, definitions, constants and functions of the crates that nothing uses.
 
 A name is used if used text cites it. Always used are: what a library exports, the answers to goals, tests, `main`, the
-methods of traits, and all text outside of definitions. Comments, imports and must-fail edits cite nothing. It prints a
+methods of traits, and all text outside of definitions. Comments, imports and edits cite nothing. It prints a
 line for each name that is not used, with its file and line, and ends with status 1 if there are any.
 """
 import pathlib

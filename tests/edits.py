@@ -121,7 +121,8 @@ class Report:
         self.status, self.lines = ran.returncode, ran.stdout.rstrip("\n").split("\n")
         self.is_verdict = self.status == 0 or self.status == 1 and self.lines[-1].startswith("logic=not-proved")
         self.texts, self.crate, self.told = texts, crate, collections.defaultdict(list)
-        self.proved = set(re.findall(r"(?m)^fn (\S+): proved$", ran.stdout))
+        # A function is also proved by itself if only one that it calls is not.
+        self.proved = set(re.findall(r"(?m)^fn (\S+): (?:proved$|no proof: it calls )", ran.stdout))
         for line in self.lines:
             self.read(line)
 
