@@ -67,6 +67,16 @@ def without_info(place):
     return Cause("limit", said, f"Build with -g, and check the program before strip.{more}")
 
 
+def compressed(file):
+    """The cause of E7."""
+    plain = "objcopy --decompress-debug-sections FILE PLAIN makes a file PLAIN that dwv reads."
+    if file.has_section(".go.buildinfo"):
+        said = "The linker of Go compresses the debugging information, and dwv does not decompress anything."
+        return Cause("limit", said, f"go build -ldflags=-compressdwarf=false, or: {plain}")
+    said = "The debugging information is compressed, and dwv does not decompress anything."
+    return Cause("limit", said, f"{plain} Or link without -gz and --compress-debug-sections.")
+
+
 def unit_type(place):
     return place.unit.type if place.unit else None
 
@@ -121,17 +131,7 @@ KNOWN = [
         "No flag helps: -gw2 and -gw3 write versions that dwv does not read (U3). Verify with another tool, such as"
         " llvm-dwarfdump --verify.",
     )),
-    ("E7", lambda it: it.file.has_section(".go.buildinfo"), Cause(
-        "limit",
-        "The linker of Go compresses the debugging information, and dwv does not decompress anything.",
-        "go build -ldflags=-compressdwarf=false, or objcopy --decompress-debug-sections FILE PLAIN and check PLAIN.",
-    )),
-    ("E7", None, Cause(
-        "limit",
-        "The debugging information is compressed, and dwv does not decompress anything.",
-        "objcopy --decompress-debug-sections FILE PLAIN and check PLAIN. Or link without -gz and"
-        " --compress-debug-sections.",
-    )),
+    ("E7", None, lambda it: compressed(it.file)),
     ("A7", lambda it: form(it) in GNU_ALT or it.file.has_section(ALT_SECTION), Cause(
         "limit",
         "dwz moved entries of this file into another one (.gnu_debugaltlink), and dwv reads one file at a time.",

@@ -2,9 +2,10 @@
 import pathlib
 import textwrap
 
-from dwv_tools import causes, finding, names, reading
+from dwv_tools import causes, dwarf, finding, names, reading
 from dwv_tools.running import plain
 
+RULES = pathlib.Path(__file__).parent / "rules.txt"
 KINDS = {
     "compiler": "Your compiler writes this.",
     "limit": "dwv does not read such files.",
@@ -18,7 +19,7 @@ MEMBER_RULES = "AUG"
 
 def rules():
     """From each rule to what violates it, and to how a valid file has it."""
-    lines = (pathlib.Path(__file__).parent / "rules.txt").read_text().splitlines()
+    lines = RULES.read_text().splitlines()
     rows = [line.split(" | ") for line in lines if not line.startswith("#")]
     return {title.split()[0]: (text, required) for title, text, required in rows}
 
@@ -161,6 +162,15 @@ def lines(verdict, path):
         [f"Not shown: {place.trouble}"] if place.trouble and place.rule[0] not in MEMBER_RULES else [],
     ]
     return "\n\n".join("\n".join(block) for block in blocks if block).split("\n")
+
+
+def sound(verdict, path):
+    """What is said of a sound file in lines. `path` is the file, which may have compressed sections."""
+    if not verdict.note:
+        return verdict.lines
+    cause = causes.compressed(dwarf.File(path))
+    return [verdict.lines[0] + verdict.note, "", *folded("Note", f"dwv itself refuses the file (E7). {cause.text}"),
+            *folded("What to do", cause.remedy)]
 
 
 def shown(entry):
