@@ -1,8 +1,8 @@
 #!/usr/bin/env python3
 """Runs contrib/c-header on listings that are written here, and on programs; compilers must accept each header.
 
-A listing is given to the script by a stand-in for `dwv`. The headers of programs have an assertion of each size and each
-offset. It prints one line a test and ends with 'N passed, M failed'. What is not installed is skipped.
+A listing is given to the script by a stand-in for `dwv`. The headers of programs have an assertion of each size and
+each offset. It prints one line a test and ends with 'N passed, M failed'. What is not installed is skipped.
 """
 import os
 import pathlib
@@ -37,9 +37,11 @@ LISTINGS = [
     ("equal lines", "typedef int t;\ntypedef int t;\n", ["2 lines, 1 of them different", "!another"]),
     ("a typedef behind a pointer", "typedef late *p;\ntypedef struct { int x; } late;\n", []),
     ("names in parameters", "typedef int (*f)(t *, u);\ntypedef int t;\ntypedef struct s u;\n", ["struct s;"]),
-    ("structures that point to each other", "struct a { struct b *b; t *t; };\nstruct b { struct a *a; struct a (*f)(struct"
+    ("structures that point to each other", "struct a { struct b *b; t *t; };\nstruct b { struct a *a; struct a"
+    " (*f)(struct"
      " b *, t); };\ntypedef struct a t;\n", ["struct b;"]),
-    ("an order by value", "struct out { t x[2]; struct in y; };\nstruct in { int x; };\ntypedef u t;\ntypedef struct deep u;\n"
+    ("an order by value", "struct out { t x[2]; struct in y; };\nstruct in { int x; };\ntypedef u t;\ntypedef struct"
+    " deep u;\n"
      "struct deep { struct out *o; };\n", []),
     ("arrays of structures that come later", "typedef struct s a[3];\nstruct s { int (*p)[3]; u (*q)[2]; };\n"
      "typedef struct v u;\nstruct v { int x; };\n", []),
@@ -47,32 +49,43 @@ LISTINGS = [
      ["/* another text of struct s: struct s { char y; }; */"]),
     ("several texts, --all", "struct s { int x; };\nstruct s { char y; };\ntypedef int t;\ntypedef char t;\n",
      ["struct s___2 {", "typedef char t___2;", "!another"]),
-    ("a first text that can't be written", "struct s { missing x; };\nstruct s { char y; };\nstruct t { struct s s; };\n",
+    ("a first text that can't be written", "struct s { missing x; };\nstruct s { char y; };\nstruct t { struct s s;"
+    " };\n",
      ["left out, because it needs missing, which has no declaration", "\tchar y;"]),
-    ("one name of all kinds", "struct x { int a; };\ntypedef int x;\nunion x { int b; };\nenum x { Q = 1 };\nstruct user {"
+    ("one name of all kinds", "struct x { int a; };\ntypedef int x;\nunion x { int b; };\nenum x { Q = 1 };\nstruct"
+    " user {"
      " union x *u; enum x e; x t; struct x s; };\n", ["union x___union", "enum x___enum"]),
-    ("enumerators twice", "enum a { A = 0, B = 1 };\nenum b { A = 3, T = 4 };\ntypedef int T;\nstruct s { enum { A = 7 } m;"
+    ("enumerators twice", "enum a { A = 0, B = 1 };\nenum b { A = 3, T = 4 };\ntypedef int T;\nstruct s { enum { A ="
+    " 7 } m;"
      " };\n", ["A___2 = 3", "A___3 = 7", "T___2 = 4"]),
-    ("an enumeration in several places", "struct s { enum { A = 0 } x; enum { A = 0 } y; };\ntypedef enum { A = 0 } t;\n",
+    ("an enumeration in several places", "struct s { enum { A = 0 } x; enum { A = 0 } y; };\ntypedef enum { A = 0 }"
+    " t;\n",
      ["enum of_A {"]),
-    ("refused types", "typedef gone *p;\nstruct s { p x; };\nstruct v { struct nobody *n; };\n/* 0x00000010 P2 BadName */\n",
+    ("refused types", "typedef gone *p;\nstruct s { p x; };\nstruct v { struct nobody *n; };\n/* 0x00000010 P2"
+    " BadName */\n",
      ["/* refused: 0x00000010 P2 BadName", "struct nobody;", "left out: 2"]),
     ("an enumeration that is only named", "struct s { enum gone *x; };\n", ["enum gone;"]),
     ("names of the compiler", "typedef __builtin_va_list __gnuc_va_list;\ntypedef struct __va_list_tag"
-     " __builtin_va_list[1];\nstruct __va_list_tag { int x; };\ntypedef float _Float32;\nstruct s { _Float64 a; _Float128 b;"
+     " __builtin_va_list[1];\nstruct __va_list_tag { int x; };\ntypedef float _Float32;\nstruct s { _Float64 a;"
+     " _Float128 b;"
      " __int128 c; _Float32 d; bool e; wchar_t f; char16_t g; _Decimal64 h; _Float64x i; };\n", ["#ifdef __clang__"]),
-    ("arrays of unknown count", "struct a { int n; char x[]; };\nstruct b { char x[]; };\nstruct c { char x[]; int n; };\n"
+    ("arrays of unknown count", "struct a { int n; char x[]; };\nstruct b { char x[]; };\nstruct c { char x[]; int n;"
+    " };\n"
      "union d { char x[]; int n; };\n", ["\tchar x[];", "\tchar x[0];"]),
-    ("extreme values", "enum e { A = -9223372036854775808, B = 9223372036854775807 };\nenum f { C = 18446744073709551615"
+    ("extreme values", "enum e { A = -9223372036854775808, B = 9223372036854775807 };\nenum f { C ="
+    " 18446744073709551615"
      " };\nenum g { D = 4294967295, E = -1 };\n", ["18446744073709551615U"]),
     ("words of gcc", "struct s { int asm; int typeof; int linux; int unix; };\n", ["asm_", "#undef linux"]),
-    ("a cycle by value", "struct a { struct b x; };\nstruct b { struct a y; };\nstruct b { int z; };\n", ["struct b {"]),
+    ("a cycle by value", "struct a { struct b x; };\nstruct b { struct a y; };\nstruct b { int z; };\n", ["struct b"
+    " {"]),
     ("a cycle of typedefs", "typedef t u;\ntypedef u t;\nstruct s { u *x; };\nstruct k { int x; };\n", ["struct k {"]),
     ("a name that is void first", "typedef void t;\ntypedef struct { int x; } t;\nstruct s { t x; };\ntypedef void v;\n"
      "typedef v w;\nstruct k { w x; };\ntypedef w *p;\n", ["struct s {", "left out: 1", "*p;"]),
     ("two members of one name", "struct s { int x; union { int x; }; };\n", ["it has two members named x"]),
-    ("declarators", "typedef int (*(*f)(int, ...))[3];\ntypedef const char *const (*g[4])(void (*)(int), const volatile void"
-     " *restrict, ...);\ntypedef int h();\ntypedef int k(void);\ntypedef void (*signal_t(int, void (*)(int)))(int);\n", []),
+    ("declarators", "typedef int (*(*f)(int, ...))[3];\ntypedef const char *const (*g[4])(void (*)(int), const"
+    " volatile void"
+     " *restrict, ...);\ntypedef int h();\ntypedef int k(void);\ntypedef void (*signal_t(int, void"
+     " (*)(int)))(int);\n", []),
     ("a layout that is not known", "struct s { char a; int b; };\n", ["/* guessed: the layout of struct s;"]),
     ("a line of something else", "int x;\nstruct s { int x; };\n", ["left out", "struct s {"]),
     ("the end of a comment in a line", "typedef evil */ t;\n", ["!evil */ t", "evil * / t"]),
@@ -102,7 +115,7 @@ union mixed { struct __attribute__((packed)) { char a; long b; }; long c; char d
 typedef union { char a; int b; } __attribute__((aligned(32))) apart_union; apart_union au;
 typedef struct { char a; struct __attribute__((packed)) { char b; int c; } d; } inner; inner in[2];
 enum __attribute__((packed)) small { ONE = 1, TWO }; struct has_small { enum small a; enum small b; char c; } has_small;
-struct unnamed { enum __attribute__((packed)) { P, Q } a; enum { R } b; int (*f)(struct unnamed *, enum small); } unnamed;
+struct unnamed { enum __attribute__((packed)) { P, Q } a; enum { R } b; int (*f)(struct unnamed *, enum small); } un;
 typedef int vector __attribute__((vector_size(16))); struct has_vector { char a; vector b; } has_vector;
 struct odd { long double a; __int128 b; _Bool c; max_align_t d; double _Complex e; } odd;
 struct empty { } empty; struct after { struct empty e; int x; } after;
@@ -160,8 +173,8 @@ def listings(folder):
 
 def programs(folder):
     (folder / "layouts.c").write_text(LAYOUTS)
-    sources = {"layouts": folder / "layouts.c", "shapes": HERE / "programs/shapes.c", "calls": HERE / "programs/calls.c",
-               "library": HERE / "programs/library.c"}
+    sources = {"layouts": folder / "layouts.c"}
+    sources |= {name: HERE / f"programs/{name}.c" for name in ("shapes", "calls", "library")}
     for compiler in COMPILERS:
         for version in (5, 4):
             for name, source in sources.items():
@@ -172,8 +185,8 @@ def programs(folder):
                     continue
                 status, header, errors = run(rows.DWV, "--assert", path)
                 guessed = [line for line in header.splitlines() if line.startswith("/* guessed")]
-                is_checked = header.count("_Static_assert(sizeof") and header.count("_Static_assert(__builtin_offsetof")
-                outcome(title, errors or status or guessed or refusals(header) or ("" if is_checked else "no assertions"))
+                lacking = [it for it in ("sizeof", "__builtin_offsetof") if f"_Static_assert({it}" not in header]
+                outcome(title, errors or status or guessed or refusals(header) or lacking)
 
 
 def words(folder):

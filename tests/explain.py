@@ -26,7 +26,7 @@ from dwv_tools import dwarf, explaining, names, running
 EXPLAIN = HERE.parent / "contrib/explain"
 PROGRAMS = HERE / "programs"
 DOCS = HERE.parent / "docs"
-CHANGES = 300
+CHANGES = 200
 KEYS = "at attribute cycle name rule section sound".split()
 # The flags that lead to a fault, its rule, and a word of what is said.
 FLAGS = [
@@ -56,7 +56,8 @@ def same(name, said, wanted):
 def page_rules():
     """The rules of the manual page, each with its sentence as text."""
     found = {}
-    for title, text in re.findall(r"^\.It Sy ([A-Z]\d+ \w+)\n((?:(?!\.It|\.El).*\n)*)", (DOCS / "dwv.1").read_text(), re.M):
+    items = re.findall(r"^\.It Sy ([A-Z]\d+ \w+)\n((?:(?!\.It|\.El).*\n)*)", (DOCS / "dwv.1").read_text(), re.M)
+    for title, text in items:
         text = re.sub(r"^\.\w\w ", "", text, flags=re.M)
         found[title] = re.sub(r" ([.,])(?= |$)", r"\1", " ".join(text.split()))
     return {title: text for title, text in found.items() if title[0] != "P"}
@@ -120,7 +121,8 @@ def changed(folder):
     for number in range(CHANGES):
         section = file.section(chance.choice([".debug_info", ".debug_info", ".debug_abbrev"]))
         text = bytearray(bytes_of)
-        text[section.start + chance.randrange(section.size)] = chance.choice([0, 1, 0x7F, 0x80, 0xFF, chance.randrange(256)])
+        byte = chance.choice([0, 1, 0x7F, 0x80, 0xFF, chance.randrange(256)])
+        text[section.start + chance.randrange(section.size)] = byte
         path.write_bytes(text)
         why, what = explained(path)
         seen.add(what)
@@ -153,6 +155,13 @@ def listed(path):
     return found
 
 
+def run(*words):
+    """The exit status of a run of the script, and what it writes."""
+    env = {**os.environ, "DWV": str(rows.DWV)}
+    ran = subprocess.run([EXPLAIN, *words], capture_output=True, text=True, env=env)
+    return ran.returncode, ran.stdout, ran.stderr
+
+
 def compiled(folder):
     """What compilers make."""
     for command, sources, rule, word in FLAGS:
@@ -160,9 +169,9 @@ def compiled(folder):
         if path is None:
             print(f"skipped: {command} {sources} does not compile")
             continue
-        ran = subprocess.run([EXPLAIN, path], capture_output=True, text=True, env={**os.environ, "DWV": str(rows.DWV)})
-        is_right = ran.stdout.startswith(f"fault {rule} ") and word in " ".join(ran.stdout.split()) and ran.returncode == 1
-        outcome(f"{command} {sources}: {rule}", None if is_right else ran.stdout + ran.stderr)
+        status, text, errors = run(path)
+        is_right = text.startswith(f"fault {rule} ") and word in " ".join(text.split()) and status == 1
+        outcome(f"{command} {sources}: {rule}", None if is_right else text + errors)
     for command in ("gcc -gdwarf-5", "gcc -gdwarf-4", "clang -gdwarf-5", "clang -gdwarf-4"):
         path = compilers.compiled(folder, command, "shapes.c calls.c") if shutil.which(command.split()[0]) else None
         if path and shutil.which("readelf"):
@@ -171,10 +180,6 @@ def compiled(folder):
 
 def words(folder):
     """The words of the command line, and what is written where."""
-    def run(*words):
-        ran = subprocess.run([EXPLAIN, *words], capture_output=True, text=True, env={**os.environ, "DWV": str(rows.DWV)})
-        return ran.returncode, ran.stdout, ran.stderr
-
     sound = "sound: 1 units, 2 entries, 1 types"
     plain = rows.CRATE / "data/X1"
     same("a sound file", run(plain), (0, f"{sound}\n", ""))
@@ -185,7 +190,8 @@ def words(folder):
     same("no words", run()[:2], (2, ""))
     if shutil.which("objcopy"):
         packed = folder / "packed"
-        subprocess.run(["objcopy", "--compress-debug-sections", compilers.compiled(folder, "gcc -g", compilers.C), packed])
+        program = compilers.compiled(folder, "gcc -g", compilers.C)
+        subprocess.run(["objcopy", "--compress-debug-sections", program, packed])
         status, text, _ = run(packed)
         is_right = text.startswith("sound: ") and "(of a decompressed copy)" in text and "compressed" in text
         outcome("a compressed file", None if is_right and status == 0 else text)
