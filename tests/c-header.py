@@ -63,7 +63,7 @@ LISTINGS = [
      ["enum of_A {"]),
     ("refused types", "typedef gone *p;\nstruct s { p x; };\nstruct v { struct nobody *n; };\n/* 0x00000010 P2"
     " BadName */\n",
-     ["/* refused: 0x00000010 P2 BadName", "struct nobody;", "left out: 2"]),
+     ["/* refused: 0x00000010 P2 BadName", "struct nobody;", "2 left out"]),
     ("an enumeration that is only named", "struct s { enum gone *x; };\n", ["enum gone;"]),
     ("names of the compiler", "typedef __builtin_va_list __gnuc_va_list;\ntypedef struct __va_list_tag"
      " __builtin_va_list[1];\nstruct __va_list_tag { int x; };\ntypedef float _Float32;\nstruct s { _Float64 a;"
@@ -80,14 +80,14 @@ LISTINGS = [
     " {"]),
     ("a cycle of typedefs", "typedef t u;\ntypedef u t;\nstruct s { u *x; };\nstruct k { int x; };\n", ["struct k {"]),
     ("a name that is void first", "typedef void t;\ntypedef struct { int x; } t;\nstruct s { t x; };\ntypedef void v;\n"
-     "typedef v w;\nstruct k { w x; };\ntypedef w *p;\n", ["struct s {", "left out: 1", "*p;"]),
+     "typedef v w;\nstruct k { w x; };\ntypedef w *p;\n", ["struct s {", "1 left out", "*p;"]),
     ("two members of one name", "struct s { int x; union { int x; }; };\n", ["it has two members named x"]),
     ("declarators", "typedef int (*(*f)(int, ...))[3];\ntypedef const char *const (*g[4])(void (*)(int), const"
     " volatile void"
      " *restrict, ...);\ntypedef int h();\ntypedef int k(void);\ntypedef void (*signal_t(int, void"
      " (*)(int)))(int);\n", []),
     ("a layout that is not known", "struct s { char a; int b; };\n", ["/* guessed: the layout of struct s;"]),
-    ("a line of something else", "int x;\nstruct s { int x; };\n", ["left out", "struct s {"]),
+    ("a line of something else", "int x;\nstruct s { int x; };\n", ["1 left out", "struct s {"]),
     ("the end of a comment in a line", "typedef evil */ t;\n", ["!evil */ t", "evil * / t"]),
 ]
 # Long listings. None may take time that grows faster than the listing.
