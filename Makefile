@@ -30,6 +30,8 @@ test:
 	tests/endings.sh
 	tests/install.sh
 	tests/check-tree.sh
+	tests/explain.py
+	tests/c-header.py
 
 # Proves what changed, in every crate, over what earlier runs kept.
 .PHONY: check
@@ -62,12 +64,15 @@ NEW = crates/dwv/out/dwv
 same-answers:
 	tests/same-answers.py $(OLD) $(NEW)
 
-# Installs the program that `make` built, its manual page and its completion in bash: `make install PREFIX=$HOME/.local`
-# chooses the folder. It builds and proves nothing. DESTDIR is put before all paths, as packages need it.
+# Installs the program that `make` built, the scripts beside it (as dwv-explain, ..), the manual page and the completion
+# in bash: `make install PREFIX=$HOME/.local` chooses the folder. It builds and proves nothing. DESTDIR is put before all
+# paths, as packages need it.
 PREFIX = /usr/local
 bin = $(DESTDIR)$(PREFIX)/bin
 man = $(DESTDIR)$(PREFIX)/share/man/man1
 completions = $(DESTDIR)$(PREFIX)/share/bash-completion/completions
+share = $(DESTDIR)$(PREFIX)/share/dwv
+scripts = c-header check-tree explain
 .PHONY: install
 install:
 	@[ -x crates/dwv/out/dwv ] || { echo "crates/dwv/out/dwv is not built: run make first." >&2; exit 1; }
@@ -75,16 +80,29 @@ install:
 	install -m 755 crates/dwv/out/dwv "$(bin)/dwv"
 	install -m 644 docs/dwv.1 "$(man)/dwv.1"
 	install -m 644 contrib/dwv.bash "$(completions)/dwv"
+	install -d "$(share)/dwv_tools"
+	install -m 755 $(scripts:%=contrib/%) "$(share)"
+	install -m 644 contrib/dwv_tools/*.py contrib/dwv_tools/*.txt "$(share)/dwv_tools"
+	for it in $(scripts); do \
+	    ln -sf "../share/dwv/$$it" "$(bin)/dwv-$$it" && ln -sf dwv "$(completions)/dwv-$$it" || exit 1; \
+	done
 
 # Removes what `make install` installed, by the same PREFIX and DESTDIR.
 .PHONY: uninstall
 uninstall:
 	rm -f "$(bin)/dwv" "$(man)/dwv.1" "$(completions)/dwv"
+	rm -f $(scripts:%="$(bin)/dwv-%") $(scripts:%="$(completions)/dwv-%")
+	rm -rf "$(share)"
 
 # Measures the program beside the peers that are installed, and draws docs/performance.svg.
 .PHONY: bench
 bench:
 	bench/bench.py
+
+# Runs the program on what the installed compilers make of small programs, and writes docs/COMPILERS.md.
+.PHONY: compilers
+compilers:
+	bench/compilers.py
 
 # Runs the peers that are installed on the smallest file of each rule, and writes docs/COMPARISON.md.
 .PHONY: compare

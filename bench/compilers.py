@@ -71,6 +71,19 @@ begin
    Ada.Text_IO.Put_Line (N.Name & Integer'Image (N.Value));
 end Rows;
 """,
+    "pairs.adb": """with Ada.Text_IO; with Ada.Command_Line;
+procedure Pairs is
+   N : constant Integer := Ada.Command_Line.Argument_Count + 3;
+   type Row is array (1 .. N) of Integer;
+   type Pair is record
+      Left, Right : Row;
+      Value : Integer;
+   end record;
+   P : Pair := (Left => (others => 1), Right => (others => 2), Value => 3);
+begin
+   Ada.Text_IO.Put_Line (Integer'Image (P.Value));
+end Pairs;
+""",
     "closures.rs": """use std::collections::HashMap;
 enum Shape { Circle(f64), Square { side: f64 }, Empty }
 fn area(s: &Shape) -> f64 { match s { Shape::Circle(r) => r * r, Shape::Square { side } => side * side, _ => 0.0 } }
@@ -120,10 +133,12 @@ _start: mov $60, %eax
 # A language, the compiler with its flags, and its sources. `-o` and the name of the program follow.
 C, TYPES = "calls.c shapes.c", "-fdebug-types-section"
 COMPILED = [
-    ("C", "gcc -gdwarf-5", C), ("C", "gcc -gdwarf-5 -O2 -flto", C), ("C", "gcc -gdwarf-4", C), ("C", "gcc -gdwarf-3", C),
+    ("C", "gcc -gdwarf-5", C), ("C", "gcc -gdwarf-5 -O2 -flto", C), ("C", "gcc -gdwarf-4", C),
+    ("C", "gcc -gdwarf-3", C),
     ("C", f"gcc -gdwarf-5 {TYPES}", "named.c"), ("C", f"gcc -gdwarf-4 {TYPES}", "named.c"),
     ("C, a structure of variable length", "gcc -gdwarf-5", "sized.c"),
-    ("C", "gcc -gdwarf-5 -gdwarf64", C), ("C", "gcc -gdwarf-5 -gsplit-dwarf", C), ("C", "gcc -gdwarf-4 -gsplit-dwarf", C),
+    ("C", "gcc -gdwarf-5 -gdwarf64", C), ("C", "gcc -gdwarf-5 -gsplit-dwarf", C),
+    ("C", "gcc -gdwarf-4 -gsplit-dwarf", C),
     ("C", "gcc -gdwarf-5 -gz", C), ("C", "gcc -g -s", C), ("C, an object file", "gcc -g -c", "named.c"),
     ("assembler", "gcc -g -nostdlib -static", "start.s"),
     ("C", "clang -gdwarf-5", C), ("C", "clang -gdwarf-5 -O2", C), ("C", "clang -gdwarf-4", C),
@@ -133,6 +148,7 @@ COMPILED = [
     ("Objective-C", "gcc -gdwarf-5", "plain.m"), ("Objective-C", "clang -gdwarf-5", "plain.m"),
     ("Fortran", "gfortran -gdwarf-5", "sums.f90"), ("Fortran", "gfortran -gdwarf-4 -O2", "sums.f90"),
     ("Ada", "gnatmake -q -g", "rows.adb"), ("Ada", "gnatmake -q -g -fgnat-encodings=all", "rows.adb"),
+    ("Ada, a record of variable size", "gnatmake -q -g", "pairs.adb"),
     ("Rust", "rustc -g", "closures.rs"), ("Rust", "rustc -g -O", "closures.rs"),
     ("Go", "go build", "list.go"), ("Go", "go build -ldflags=-compressdwarf=false", "list.go"),
     ("D", "gdc -gdwarf-5", "list.d"),

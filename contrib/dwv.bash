@@ -12,3 +12,19 @@ _dwv() {
 }
 
 complete -o bashdefault -o default -F _dwv dwv
+
+# Completes the options of the scripts. For each other word bash completes names of files.
+_dwv_script() {
+    local word=${COMP_WORDS[COMP_CWORD]} options='--help'
+    COMPREPLY=()
+    case ${COMP_WORDS[0]##*/} in
+        dwv-c-header) options='--all --assert --help -o' ;;
+        dwv-check-tree) options='--explain --help --ignore --jobs' ;;
+        dwv-explain) options='--help --json' ;;
+    esac
+    if [[ $word == -* ]]; then
+        mapfile -t COMPREPLY < <(compgen -W "$options" -- "$word")
+    fi
+}
+
+complete -o bashdefault -o default -F _dwv_script dwv-c-header dwv-check-tree dwv-explain

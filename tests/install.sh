@@ -32,21 +32,41 @@ mkdir "$folder/bin" "$root"
 printf '#!/bin/sh\ntouch "%s/called"\nexit 1\n' "$folder" > "$folder/bin/rt"
 chmod +x "$folder/bin/rt"
 
-# The files below a folder, with their permissions.
+# The files below a folder, with their permissions, and the links, with where they lead.
 files() {
-    (cd "$1" && find . -type f -printf '%m %P\n' | sort)
+    (cd "$1" && find . -type f -printf '%m %P\n' -o -type l -printf '%l %P\n' | sort)
 }
 
 makes install DESTDIR="$root" PREFIX='/opt/dwv tools' > "$folder/log"
 is 'make install ends' "$?" 0
 is 'make install proves nothing' "$(ls "$folder/called" 2> /dev/null)" ''
-is 'the files that are installed' "$(files "$installed")" '644 share/bash-completion/completions/dwv
+is 'the files that are installed' "$(files "$installed" | grep -v ' share/dwv/dwv_tools/')" "$(sort << 'END'
+../share/dwv/c-header bin/dwv-c-header
+../share/dwv/check-tree bin/dwv-check-tree
+../share/dwv/explain bin/dwv-explain
+644 share/bash-completion/completions/dwv
 644 share/man/man1/dwv.1
-755 bin/dwv'
-is 'no other file is installed' "$(files "$root" | wc -l)" 3
+755 bin/dwv
+755 share/dwv/c-header
+755 share/dwv/check-tree
+755 share/dwv/explain
+dwv share/bash-completion/completions/dwv-c-header
+dwv share/bash-completion/completions/dwv-check-tree
+dwv share/bash-completion/completions/dwv-explain
+END
+)"
+is 'the modules of the scripts' "$(files "$installed/share/dwv/dwv_tools")" \
+    "$(cd contrib/dwv_tools && find . -name '*.py' -printf '644 %f\n' -o -name '*.txt' -printf '644 %f\n' | sort)"
+is 'no other file is installed' "$(files "$root" | wc -l)" "$(files "$installed" | wc -l)"
 is 'the installed program' "$("$installed/bin/dwv" check crates/dwv/data/X1)" 'sound: 1 units, 2 entries, 1 types'
-by_default=$(makes --dry-run install | tail -n 3 | grep -c '"/usr/local/[a-z0-9/.-]*"$')
-is 'by default all is below /usr/local' "$by_default" 3
+for script in check-tree explain c-header; do
+    said=$(PATH=$installed/bin:$PATH "dwv-$script" crates/dwv/data/X1 | grep -c 'sound')
+    is "the installed dwv-$script" "$said" 1
+    is "the name in its usage" "$(PATH=$installed/bin:$PATH "dwv-$script" 2>&1 | head -n 1 | cut -d ' ' -f 1-2)" \
+        "usage: dwv-$script"
+done
+is 'by default all is below /usr/local' "$(makes --dry-run install | grep -c ' "/usr/local/[a-z0-9/._-]*"$')" \
+    "$(makes --dry-run install | grep -c '^install ')"
 
 # completed WORD..: what bash offers for the last of these words.
 completed() {
@@ -78,6 +98,15 @@ if man --version 2> /dev/null | grep -q '^man '; then
 else
     echo 'skipped: man is not installed'
 fi
+
+completed_by() {
+    bash -c 'source "$1"; shift; COMP_WORDS=("$@"); COMP_CWORD=$(($# - 1)); _dwv_script; echo "${COMPREPLY[*]}"' - \
+        "$installed/share/bash-completion/completions/dwv" "$@"
+}
+is 'completion of dwv-explain' "$(completed_by dwv-explain -)" '--help --json'
+is 'completion of dwv-c-header' "$(completed_by dwv-c-header --a)" '--all --assert'
+is 'completion of dwv-check-tree' "$(completed_by dwv-check-tree --e)" '--explain'
+is 'completion of a file' "$(completed_by dwv-explain a)" ''
 
 makes uninstall DESTDIR="$root" PREFIX='/opt/dwv tools' > "$folder/log"
 is 'make uninstall ends' "$?" 0

@@ -5,6 +5,7 @@ other nodes before it: typedefs that it names, and complete types of its members
 with several texts gets the first that can be written.
 """
 import collections
+import itertools
 import re
 
 from dwv_tools import c_types
@@ -88,7 +89,7 @@ class Needs:
 
 
 class Header:
-    """The declarations of a header. `shapes` gives what the file says of a node's text: a Shape, a size or None."""
+    """The declarations of a header. `shapes` gives what the file says of a declaration: Shapes, or sizes."""
 
     def __init__(self, shapes, bases, has_all):
         self.shapes, self.bases, self.has_all = shapes, bases, has_all
@@ -227,14 +228,16 @@ class Header:
         for tag in found.needs.tags:
             if tag != node and self.state.get(tag) != "done":
                 self.forward[tag] = True
-        shapes = self.shapes(node, found.declaration)
-        sizes = dict(enum_sizes(found.declaration.type, shapes[0] if shapes else None))
+        shapes = self.shapes(found.declaration)
+        first = next(shapes, None)
+        sizes = dict(enum_sizes(found.declaration.type, first))
         for constants in found.needs.enums:
             if self.enum_uses[constants] > 1 and constants not in self.writer.hoisted:
                 self.hoist(constants, sizes.get(constants))
         enums = [it for it in found.needs.enums if it not in self.writer.hoisted]
         enums += [found.declaration.type.constants] if node[0] == "enum" else []
         self.claim([constant for constants in enums for constant in constants])
+        shapes = shapes if first is None else itertools.chain([first], shapes)
         declaration, note = self.fitted(node, found.declaration, shapes)
         text = self.writer.declaration(declaration._replace(name=node[1]))
         if node[0] == "typedef" and node[1] in ALIASES:

@@ -52,6 +52,8 @@ class Reader:
 
     def __init__(self, line):
         self.tokens, self.at = [*TOKEN.findall(line), ""], 0
+        if "".join(self.tokens) != line.replace(" ", ""):
+            raise Malformed("there are letters that no declaration has")
 
     def take(self, wanted=None):
         token = self.tokens[self.at]

@@ -26,14 +26,17 @@ class Writer:
         self.is_line = is_line
         self.tags, self.constants, self.hoisted = {}, {}, {}
 
+    def plain(self, name):
+        return name if self.is_line else plain_name(name)
+
     def tag(self, kind, name):
         return self.tags.get((kind, name), name)
 
     def declaration(self, declaration):
         kind, name, t = declaration
         if kind == "typedef":
-            return f"typedef {self.spelled(t, plain_name(name))};"
-        return f"{kind} {plain_name(self.tag(kind, name))} {self.body(t, 0)};"
+            return f"typedef {self.spelled(t, self.plain(name))};"
+        return f"{kind} {self.plain(self.tag(kind, name))} {self.body(t, 0)};"
 
     def body(self, t, depth):
         """The braces of a type with what is in them."""
@@ -55,7 +58,7 @@ class Writer:
         name, t, bits = body.members[place]
         if type(t) is Array and t.count is None and not self.is_line and not is_flexible(body, place):
             t = t._replace(count=0)
-        text = self.spelled(t, plain_name(name or ""), depth)
+        text = self.spelled(t, self.plain(name or ""), depth)
         return text if bits is None else f"{text} : {bits}"
 
     def spelled(self, t, name, depth=0):
@@ -82,9 +85,9 @@ class Writer:
         if type(t) is Void:
             return "void"
         if type(t) is Name:
-            return plain_name(t.name)
+            return self.plain(t.name)
         if type(t) is Tag:
-            return f"{t.kind} {plain_name(self.tag(t.kind, t.name))}"
+            return f"{t.kind} {self.plain(self.tag(t.kind, t.name))}"
         if type(t) is Body:
             return f"{t.kind} {self.body(t, depth)}"
         if type(t) is Enum:

@@ -19,8 +19,6 @@ SIGNATURE, CONTAINERS = 0x69, {0x2E, 0x0B, 0x1D}
 GNU_ALT, GNU_SPLIT = {0x1F20, 0x1F21, 0x1C, 0x1D, 0x24}, {0x1F01, 0x1F02}
 ALT_SECTION, LINK_SECTION, BUILD_ID = ".gnu_debugaltlink", ".gnu_debuglink", ".note.gnu.build-id"
 
-HABIT = "This is a habit of the compiler, and your file is not damaged: other tools ignore it."
-
 
 def is_by(place, *words):
     """Whether the producer of the unit has one of these words."""
@@ -45,7 +43,8 @@ def form(place):
 
 
 def has_type_units(place):
-    return place.file.has_section(".debug_types") or any(it.signature for it in map(place.file.unit, place.file.starts()))
+    units = map(place.file.unit, place.file.starts())
+    return place.file.has_section(".debug_types") or any(it.signature is not None for it in units)
 
 
 def debug_file(place):
@@ -67,6 +66,16 @@ def without_info(place):
     return Cause("limit", said, f"Build with -g, and check the program before strip.{more}")
 
 
+def compressed(file):
+    """The cause of E7."""
+    plain = "objcopy --decompress-debug-sections FILE PLAIN makes a file PLAIN that dwv reads."
+    if file.has_section(".go.buildinfo"):
+        said = "The linker of Go compresses the debugging information, and dwv does not decompress anything."
+        return Cause("limit", said, f"go build -ldflags=-compressdwarf=false, or: {plain}")
+    said = "The debugging information is compressed, and dwv does not decompress anything."
+    return Cause("limit", said, f"{plain} Or link without -gz and --compress-debug-sections.")
+
+
 def unit_type(place):
     return place.unit.type if place.unit else None
 
@@ -76,27 +85,26 @@ KNOWN = [
     ("Z3", lambda it: is_by(it, "clang", "llvm") and "ObjC" in (it.language or "") and tag(it) == MEMBER, Cause(
         "compiler",
         "clang gives Objective-C's objc_object the size 0, with the member isa of 8 bytes: the entry contradicts"
-        f" itself. It is in each file that names the type id. {HABIT}",
+        " itself. It is in each file that names the type id.",
         "Compile the Objective-C files without -g, or with gcc. No change of your source helps.",
     )),
     ("Z3", lambda it: is_by(it, "rustc"), Cause(
         "compiler",
-        "rustc describes some closures and enumerations with members past the end of the type."
-        f" {HABIT}",
+        "rustc describes some closures and enumerations with members past the end of the type.",
         "Do not rely on the layout of the type that is named above. Another version of rustc, or another opt-level, may"
         " describe it correctly.",
     )),
     ("Z1", lambda it: is_by(it, "ada", "gnat"), Cause(
         "compiler",
-        "gnat leaves out the size of types whose size is only known when the program runs; with -fgnat-encodings=all"
-        f" it describes them by its own names. {HABIT}",
-        "Leave -fgnat-encodings out, or use -fgnat-encodings=minimal. If the fault stays, the type has no fixed size,"
-        " and dwv can't verify the unit.",
+        "The size of a record is only known when the program runs (its bounds are computed), or the program was"
+        " compiled with -fgnat-encodings=all. DWARF allows a record without a size; dwv can't give it one.",
+        "Leave -fgnat-encodings out. If the fault stays, give the record bounds that are known when it is compiled, or"
+        " compile this source file without -g.",
     )),
     ("Z1 Z4", lambda it: dwarf.find(it.entry, SIGNATURE), Cause(
         "compiler",
         "The type is described in a type unit, and this entry refers to it by its signature, but gcc left out"
-        f" DW_AT_declaration, so that the entry has no size. {HABIT}",
+        " DW_AT_declaration, so that the entry has no size.",
         "Compile without -fdebug-types-section.",
     )),
     ("R4", lambda it: it.file.has_section(".debug_types"), Cause(
@@ -106,32 +114,22 @@ KNOWN = [
     )),
     ("Z1 Z4", has_type_units, Cause(
         "compiler",
-        f"The file was built with -fdebug-types-section, and gcc leaves a size or DW_AT_declaration out then. {HABIT}",
+        "The file was built with -fdebug-types-section, and gcc leaves a size or DW_AT_declaration out then.",
         "Compile without -fdebug-types-section.",
     )),
     ("Z1", lambda it: is_by(it, "gnu c") and tag(it) in STRUCTURES and is_below(it, CONTAINERS), Cause(
         "compiler",
         "A structure inside a function has a member of variable length (int a[n]; an extension of gcc), so its size is"
-        f" not known before the program runs. DWARF allows this; dwv can't give the type a size. {HABIT}",
+        " not known before the program runs. DWARF allows this; dwv can't give the type a size.",
         "Replace the member by a pointer or an array of fixed length. Or compile this source file without -g.",
     )),
     ("K1 Z1 Z3", lambda it: is_by(it, "free pascal", "fpc"), Cause(
         "compiler",
-        f"Free Pascal describes some types otherwise than the standard says, for example bounds of arrays. {HABIT}",
+        "Free Pascal describes some types otherwise than the standard says, for example bounds of arrays.",
         "No flag helps: -gw2 and -gw3 write versions that dwv does not read (U3). Verify with another tool, such as"
         " llvm-dwarfdump --verify.",
     )),
-    ("E7", lambda it: it.file.has_section(".go.buildinfo"), Cause(
-        "limit",
-        "The linker of Go compresses the debugging information, and dwv does not decompress anything.",
-        "go build -ldflags=-compressdwarf=false, or objcopy --decompress-debug-sections FILE PLAIN and check PLAIN.",
-    )),
-    ("E7", None, Cause(
-        "limit",
-        "The debugging information is compressed, and dwv does not decompress anything.",
-        "objcopy --decompress-debug-sections FILE PLAIN and check PLAIN. Or link without -gz and"
-        " --compress-debug-sections.",
-    )),
+    ("E7", None, lambda it: compressed(it.file)),
     ("A7", lambda it: form(it) in GNU_ALT or it.file.has_section(ALT_SECTION), Cause(
         "limit",
         "dwz moved entries of this file into another one (.gnu_debugaltlink), and dwv reads one file at a time.",
@@ -146,7 +144,8 @@ KNOWN = [
         "limit",
         "The file is an object file (.o, .ko, .dwo) or a core dump. In an object file, offsets have values only once it"
         " is linked.",
-        "Check the program or the shared library that is linked from it. A kernel module can't be checked; vmlinux can.",
+        "Check the program or the shared library that is linked from it. A kernel module can't be checked; vmlinux"
+        " can.",
     )),
     ("U4", lambda it: unit_type(it) in (4, 5, 6), Cause(
         "limit",

@@ -11,12 +11,12 @@ import struct
 import time
 
 from dwv_tools.reading import (
-    ADDR, BLOCKS, FIXED, FLAG_PRESENT, IMPLICIT, INDIRECT, LINE_STRP, OFFSET, REF_ADDR, REF_SIG8, REF_UNIT, SDATA, STRING,
-    STRP, STRX, STR_OFFSETS_BASE, ULEB, Cursor, Section, Unreadable, read_declaration,
+    ADDR, BLOCKS, FIXED, FLAG_PRESENT, IMPLICIT, INDIRECT, LINE_STRP, OFFSET, REF_ADDR, REF_SIG8, REF_UNIT, SDATA,
+    STRING, STRP, STRX, STR_OFFSETS_BASE, ULEB, Cursor, Section, Unreadable, read_declaration,
 )
 
-# How long a search may take.
-SECONDS = 10
+# How long a search may take, and how many abbreviation tables are kept.
+SECONDS, TABLES = 10, 256
 
 # An attribute of an entry: its code, its form (of an indirect one that which its value names), where its value is.
 Attribute = collections.namedtuple("Attribute", "code form value at end")
@@ -111,7 +111,8 @@ class Unit:
         if code not in self.skip_of:
             declaration, steps = self.declaration(code), [0]
             for _, form, _ in declaration.pairs:
-                size = FIXED.get(form, self.offset_size if form in OFFSET else self.address_size if form == ADDR else None)
+                size = self.offset_size if form in OFFSET else self.address_size if form == ADDR else None
+                size = FIXED.get(form, size)
                 if size is None or form == REF_ADDR:
                     steps += [~form, 0]
                 else:
@@ -232,6 +233,8 @@ class File:
         if at is None:
             raise Unreadable("the unit has no table")
         if at not in self.tables:
+            if len(self.tables) == TABLES:
+                self.tables.clear()
             table, cursor = self.tables.setdefault(at, {}), Cursor(self.data, self.abbrev, at)
             try:
                 while (found := read_declaration(cursor))[0] != 0:

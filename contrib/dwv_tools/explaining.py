@@ -2,12 +2,13 @@
 import pathlib
 import textwrap
 
-from dwv_tools import causes, finding, names, reading
+from dwv_tools import causes, dwarf, finding, names, reading
 from dwv_tools.running import plain
 
+RULES = pathlib.Path(__file__).parent / "rules.txt"
 KINDS = {
-    "compiler": "Your compiler writes this.",
-    "limit": "dwv does not read such files.",
+    "compiler": "A habit of your compiler; the file is not damaged.",
+    "limit": "dwv does not read such files; the file itself may be fine.",
     "file": "The file is not what the standard says.",
 }
 # How many entries above one, attributes, entries of a cycle and bytes of a block are printed.
@@ -18,7 +19,7 @@ MEMBER_RULES = "AUG"
 
 def rules():
     """From each rule to what violates it, and to how a valid file has it."""
-    lines = (pathlib.Path(__file__).parent / "rules.txt").read_text().splitlines()
+    lines = RULES.read_text().splitlines()
     rows = [line.split(" | ") for line in lines if not line.startswith("#")]
     return {title.split()[0]: (text, required) for title, text, required in rows}
 
@@ -58,7 +59,8 @@ def entry_lines(place):
         lines.append(f"0x{entry.at:08x} {'  ' * depth}{described(entry)}")
     if place.entry:
         depth = "  " * min(len(place.above), MOST)
-        lines.append(f"0x{place.entry.at:08x} {depth}{described(place.entry)}{'' if place.attribute else '   <-- here'}")
+        arrow = "" if place.attribute else "   <-- here"
+        lines.append(f"0x{place.entry.at:08x} {depth}{described(place.entry)}{arrow}")
         for attribute in place.entry.attributes[:MOST]:
             name, form = names.name("AT", attribute.code), names.name("FORM", attribute.form)
             is_here = attribute.code == place.attribute
@@ -119,8 +121,8 @@ def header_lines(place):
     if not 0 < place.at < len(place.file.sections):
         return []
     it = place.file.sections[place.at]
-    return [f'section header {place.at}: "{plain(it.name)}", type {it.type}, flags 0x{it.flags:x}, offset 0x{it.start:x},'
-            f" {it.size} bytes (the file has {len(place.file.data)})"]
+    about = f'"{plain(it.name)}", type {it.type}, flags 0x{it.flags:x}, offset 0x{it.start:x}, {it.size} bytes'
+    return [f"section header {place.at}: {about} (the file has {len(place.file.data)})"]
 
 
 def cycle_lines(place):
@@ -136,6 +138,9 @@ def unit_lines(place):
     if place.unit is None:
         return []
     rows = [("name", place.unit_name), ("producer", place.producer), ("language", place.language)]
+    declared = [finding.number_of(it, reading.DECL_LINE) for it in [*place.above, place.entry] if it]
+    if lines := [it for it in declared if it is not None]:
+        rows.append(("line", f"{lines[-1]}, of this file or of one that it includes"))
     version = f"version {place.unit.version}" if place.unit.version is not None else "a part of a header"
     return [f"Unit at 0x{place.unit.at:08x}, {version}", *(f"  {what:<9} {plain(text)}" for what, text in rows if text)]
 
@@ -161,6 +166,15 @@ def lines(verdict, path):
         [f"Not shown: {place.trouble}"] if place.trouble and place.rule[0] not in MEMBER_RULES else [],
     ]
     return "\n\n".join("\n".join(block) for block in blocks if block).split("\n")
+
+
+def sound(verdict, path):
+    """What is said of a sound file in lines. `path` is the file, which may have compressed sections."""
+    if not verdict.note:
+        return verdict.lines
+    cause = causes.compressed(dwarf.File(path))
+    return [verdict.lines[0] + verdict.note, "", *folded("Note", f"dwv itself refuses the file (E7). {cause.text}"),
+            *folded("What to do", cause.remedy)]
 
 
 def shown(entry):

@@ -53,7 +53,7 @@ class Place:
         """The name of the unit and its producer and language. Those of another unit serve for one that has none."""
         found = [None, None, None]
         try:
-            others = (self.file.unit(at) for at in self.file.starts()[:64])
+            others = (self.file.unit(at) for at in self.file.starts()[:4096])
             for unit in [self.unit, *others] if self.unit else []:
                 entry = readable(unit, unit.first) if unit.first is not None else None
                 for k, code in enumerate((reading.NAME, reading.PRODUCER, reading.LANGUAGE)):

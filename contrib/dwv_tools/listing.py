@@ -69,14 +69,14 @@ class Places:
             done += len(block)
             show_progress(f"{done >> 20} MB of entries")
 
-    def shapes(self, node, declaration):
-        """What the file says of the layouts that the text of a node may have, each once."""
-        found = []
+    def shapes(self, declaration):
+        """What the file says of the layouts that a declaration may have, each once."""
+        seen = []
         for at in self.at.get(declaration[:2], ()):
             try:
                 shape = members.shape_at(self.file, declaration, at)
             except reading.Unreadable:
                 continue
-            if shape is not None and shape not in found:
-                found.append(shape)
-        return found
+            if shape is not None and shape not in seen:
+                seen.append(shape)
+                yield shape

@@ -42,6 +42,8 @@ def start_of(entry):
     before, bits = number(entry, reading.BIT_OFFSET), number(entry, reading.BIT_SIZE)
     if before is None or bits is None:
         return 8 * at
+    # A bit field of a packed structure may pass its storage, and then clang writes a negative number.
+    before -= 2**64 if before >= 2**63 else 0
     storage = number(entry, reading.BYTE_SIZE)
     if storage is None:
         of = type_of(entry)

@@ -1,0 +1,221 @@
+#!/usr/bin/env python3
+"""Runs contrib/c-header on listings that are written here, and on programs; compilers must accept each header.
+
+A listing is given to the script by a stand-in for `dwv`. The headers of programs have an assertion of each size and
+each offset. It prints one line a test and ends with 'N passed, M failed'. What is not installed is skipped.
+"""
+import os
+import pathlib
+import resource
+import shutil
+import subprocess
+import sys
+import tempfile
+import time
+
+sys.dont_write_bytecode = True
+HERE = pathlib.Path(__file__).resolve().parent
+sys.path[:0] = [str(HERE.parent / "contrib")]
+import rows
+from dwv_tools import c_types, c_writing
+
+SCRIPT = HERE.parent / "contrib/c-header"
+COMPILERS = [tool for tool in ("gcc", "clang") if shutil.which(tool)]
+STAND_IN = """#!/bin/sh
+case $1 in
+    check) echo "sound: 1 units, 1 entries, 1 types" ;;
+    types) cat "$2" ;;
+esac
+"""
+# The most lines of a listing that must take less than SECONDS of processor time.
+MANY, SECONDS = 20000, 20
+counts = {True: 0, False: 0}
+
+# A name, the lines of `dwv types`, texts that the header must have, and after a `!` such as it must not have.
+LISTINGS = [
+    ("nothing", "", []),
+    ("equal lines", "typedef int t;\ntypedef int t;\n", ["2 lines, 1 of them different", "!another"]),
+    ("a typedef behind a pointer", "typedef late *p;\ntypedef struct { int x; } late;\n", []),
+    ("names in parameters", "typedef int (*f)(t *, u);\ntypedef int t;\ntypedef struct s u;\n", ["struct s;"]),
+    ("structures that point to each other", "struct a { struct b *b; t *t; };\nstruct b { struct a *a; struct a"
+    " (*f)(struct"
+     " b *, t); };\ntypedef struct a t;\n", ["struct b;"]),
+    ("an order by value", "struct out { t x[2]; struct in y; };\nstruct in { int x; };\ntypedef u t;\ntypedef struct"
+    " deep u;\n"
+     "struct deep { struct out *o; };\n", []),
+    ("arrays of structures that come later", "typedef struct s a[3];\nstruct s { int (*p)[3]; u (*q)[2]; };\n"
+     "typedef struct v u;\nstruct v { int x; };\n", []),
+    ("several texts of a name", "struct s { int x; };\nstruct s { char y; };\nstruct s { long int z; };\n",
+     ["/* another text of struct s: struct s { char y; }; */"]),
+    ("several texts, --all", "struct s { int x; };\nstruct s { char y; };\ntypedef int t;\ntypedef char t;\n",
+     ["struct s___2 {", "typedef char t___2;", "!another"]),
+    ("a first text that can't be written", "struct s { missing x; };\nstruct s { char y; };\nstruct t { struct s s;"
+    " };\n",
+     ["left out, because it needs missing, which has no declaration", "\tchar y;"]),
+    ("one name of all kinds", "struct x { int a; };\ntypedef int x;\nunion x { int b; };\nenum x { Q = 1 };\nstruct"
+    " user {"
+     " union x *u; enum x e; x t; struct x s; };\n", ["union x___union", "enum x___enum"]),
+    ("enumerators twice", "enum a { A = 0, B = 1 };\nenum b { A = 3, T = 4 };\ntypedef int T;\nstruct s { enum { A ="
+    " 7 } m;"
+     " };\n", ["A___2 = 3", "A___3 = 7", "T___2 = 4"]),
+    ("an enumeration in several places", "struct s { enum { A = 0 } x; enum { A = 0 } y; };\ntypedef enum { A = 0 }"
+    " t;\n",
+     ["enum of_A {"]),
+    ("refused types", "typedef gone *p;\nstruct s { p x; };\nstruct v { struct nobody *n; };\n/* 0x00000010 P2"
+    " BadName */\n",
+     ["/* refused: 0x00000010 P2 BadName", "struct nobody;", "2 left out"]),
+    ("an enumeration that is only named", "struct s { enum gone *x; };\n", ["enum gone;"]),
+    ("names of the compiler", "typedef __builtin_va_list __gnuc_va_list;\ntypedef struct __va_list_tag"
+     " __builtin_va_list[1];\nstruct __va_list_tag { int x; };\ntypedef float _Float32;\nstruct s { _Float64 a;"
+     " _Float128 b;"
+     " __int128 c; _Float32 d; bool e; wchar_t f; char16_t g; _Decimal64 h; _Float64x i; };\n", ["#ifdef __clang__"]),
+    ("arrays of unknown count", "struct a { int n; char x[]; };\nstruct b { char x[]; };\nstruct c { char x[]; int n;"
+    " };\n"
+     "union d { char x[]; int n; };\n", ["\tchar x[];", "\tchar x[0];"]),
+    ("extreme values", "enum e { A = -9223372036854775808, B = 9223372036854775807 };\nenum f { C ="
+    " 18446744073709551615"
+     " };\nenum g { D = 4294967295, E = -1 };\n", ["18446744073709551615U"]),
+    ("words of gcc", "struct s { int asm; int typeof; int linux; int unix; };\n", ["asm_", "#undef linux"]),
+    ("a cycle by value", "struct a { struct b x; };\nstruct b { struct a y; };\nstruct b { int z; };\n", ["struct b"
+    " {"]),
+    ("a cycle of typedefs", "typedef t u;\ntypedef u t;\nstruct s { u *x; };\nstruct k { int x; };\n", ["struct k {"]),
+    ("a name that is void first", "typedef void t;\ntypedef struct { int x; } t;\nstruct s { t x; };\ntypedef void v;\n"
+     "typedef v w;\nstruct k { w x; };\ntypedef w *p;\n", ["struct s {", "1 left out", "*p;"]),
+    ("two members of one name", "struct s { int x; union { int x; }; };\n", ["it has two members named x"]),
+    ("declarators", "typedef int (*(*f)(int, ...))[3];\ntypedef const char *const (*g[4])(void (*)(int), const"
+    " volatile void"
+     " *restrict, ...);\ntypedef int h();\ntypedef int k(void);\ntypedef void (*signal_t(int, void"
+     " (*)(int)))(int);\n", []),
+    ("a layout that is not known", "struct s { char a; int b; };\n", ["/* guessed: the layout of struct s;"]),
+    ("a line of something else", "int x;\nstruct s { int x; };\n", ["1 left out", "struct s {"]),
+    ("the end of a comment in a line", "typedef evil */ t;\n", ["!evil */ t", "evil * / t"]),
+]
+# Long listings. None may take time that grows faster than the listing.
+LONG = {
+    "a chain": "".join(f"typedef t{i + 1} t{i};\n" for i in range(MANY)) + f"typedef int t{MANY};\n",
+    "texts of one name": "".join(f"struct s {{ int x{i}; }};\n" for i in range(MANY)),
+    "one enumerator": "".join(f"enum e{i} {{ A = {i} }};\n" for i in range(MANY)),
+    "a chain that ends nowhere": "".join(f"typedef t{i + 1} t{i};\n" for i in range(MANY)),
+    "a cycle by value": "".join(f"struct s{i} {{ struct s{(i + 1) % MANY} x; }};\n" for i in range(MANY)),
+}
+LAYOUTS = """#include <stdalign.h>
+#include <stdarg.h>
+#include <stddef.h>
+#include <stdint.h>
+struct __attribute__((packed)) tight { char c; long l; short s; };
+struct holds { struct tight a; int b; struct tight c[2]; } holds;
+struct apart { char a; _Alignas(64) char b; char c; } apart;
+struct wide { int x; } __attribute__((aligned(128))) wide;
+struct later { int x; char a; _Alignas(2) char b; } later;
+struct bits { unsigned a : 3, : 2, b : 7; unsigned long c : 40; char d; int e : 5; int : 0; int f : 5; } bits;
+struct __attribute__((packed)) tight_bits { unsigned a : 3; unsigned long c : 61; char d; unsigned e : 30; } tight_bits;
+struct open { struct open *next; unsigned f : 3, g : 7; int tail[]; } *open;
+struct open_apart { long n; _Alignas(32) char tail[]; } *open_apart;
+union mixed { struct __attribute__((packed)) { char a; long b; }; long c; char d[23]; } mixed;
+typedef union { char a; int b; } __attribute__((aligned(32))) apart_union; apart_union au;
+typedef struct { char a; struct __attribute__((packed)) { char b; int c; } d; } inner; inner in[2];
+enum __attribute__((packed)) small { ONE = 1, TWO }; struct has_small { enum small a; enum small b; char c; } has_small;
+struct unnamed { enum __attribute__((packed)) { P, Q } a; enum { R } b; int (*f)(struct unnamed *, enum small); } un;
+typedef int vector __attribute__((vector_size(16))); struct has_vector { char a; vector b; } has_vector;
+struct odd { long double a; __int128 b; _Bool c; max_align_t d; double _Complex e; } odd;
+struct empty { } empty; struct after { struct empty e; int x; } after;
+va_list *list; struct point { struct { short x, y; }; union { long l; double d; } u[2]; } *points(struct point *);
+struct far { char a; _Alignas(4096) char b; } far;
+int main(void) { return points != 0; }
+struct point *points(struct point *p) { return p; }
+"""
+
+
+def outcome(name, why):
+    """Counts a test that failed for a reason, or passed if that is empty, and prints a line on it."""
+    counts[not why] += 1
+    print(f"{'FAILED' if why else 'passed'} {name}{f': {why}'[:800] if why else ''}", flush=True)
+
+
+def run(dwv, *words):
+    ran = subprocess.run([SCRIPT, *words], capture_output=True, text=True, env={**os.environ, "DWV": str(dwv)})
+    return ran.returncode, ran.stdout, ran.stderr
+
+
+def refusals(text):
+    """What the compilers say against a header that is included twice."""
+    said = ""
+    for compiler in COMPILERS:
+        words = [compiler, "-w", "-fsyntax-only", "-x", "c", "-"]
+        for more in ("", "\n#undef DWV\n"):
+            ran = subprocess.run(words, input=text + more + text, capture_output=True, text=True)
+            said += "\n".join(ran.stderr.splitlines()[:3]) if ran.returncode else ""
+    return said
+
+
+def listings(folder):
+    for name, text, wanted in LISTINGS:
+        path = folder / "listing"
+        path.write_text(text)
+        status, header, errors = run(folder / "dwv", *(["--all"] if "--all" in name else []), path)
+        wrong = [it for it in wanted if it.startswith("!") == (it.removeprefix("!") in header)]
+        outcome(name, errors or wrong or status or refusals(header))
+        for line in text.splitlines():
+            try:
+                said = c_writing.Writer(True).declaration(c_types.read(line))
+            except c_types.Malformed:
+                continue
+            if said != line:
+                outcome(f"{name}: the line is written as it was read", said)
+    for name, text in LONG.items():
+        path = folder / "listing"
+        path.write_text(text)
+        before = resource.getrusage(resource.RUSAGE_CHILDREN).ru_utime
+        status, _, errors = run(folder / "dwv", path)
+        used = resource.getrusage(resource.RUSAGE_CHILDREN).ru_utime - before
+        outcome(f"{MANY} lines, {name}", errors or status or (used if used > SECONDS else ""))
+
+
+def programs(folder):
+    (folder / "layouts.c").write_text(LAYOUTS)
+    sources = {"layouts": folder / "layouts.c"}
+    sources |= {name: HERE / f"programs/{name}.c" for name in ("shapes", "calls", "library")}
+    for compiler in COMPILERS:
+        for version in (5, 4):
+            for name, source in sources.items():
+                title, path = f"{name}, {compiler} -gdwarf-{version}", folder / name
+                words = [compiler, f"-gdwarf-{version}", "-w", "-shared", "-fPIC", "-o", path, source]
+                if subprocess.run(words, capture_output=True).returncode:
+                    print(f"skipped: {title} does not compile")
+                    continue
+                status, header, errors = run(rows.DWV, "--assert", path)
+                guessed = [line for line in header.splitlines() if line.startswith("/* guessed")]
+                lacking = [it for it in ("sizeof", "__builtin_offsetof") if f"_Static_assert({it}" not in header]
+                outcome(title, errors or status or guessed or refusals(header) or lacking)
+
+
+def words(folder):
+    broken = folder / "broken"
+    broken.write_bytes((rows.CRATE / "data/X1").read_bytes().replace(b"\x02int", b"\x03int"))
+    status, text, errors = run(rows.DWV, broken)
+    line = f"c-header: {broken}: fault G1 UndeclaredCode at .debug_info+0x0000000f attribute 0x0\n"
+    outcome("a file that is not sound", "" if (status, text, errors) == (1, "", line) else (status, text, errors))
+    status, text, errors = run(rows.DWV, folder / "none")
+    is_right = (status, text, errors) == (3, "", f"c-header: {folder / 'none'}: No such file or directory\n")
+    outcome("no file", "" if is_right else (status, text, errors))
+    status, text, errors = run(rows.DWV, "-o", folder / "none/x.h", rows.CRATE / "data/X1")
+    outcome("a header that can't be written", "" if status == 3 and not text else (status, text, errors))
+    status, text, errors = run(rows.DWV)
+    outcome("no words", "" if status == 2 and not text else (status, text, errors))
+
+
+def main():
+    rows.build()
+    with tempfile.TemporaryDirectory() as name:
+        folder = pathlib.Path(name)
+        (folder / "dwv").write_text(STAND_IN)
+        (folder / "dwv").chmod(0o755)
+        listings(folder)
+        programs(folder)
+        words(folder)
+    print(f"{counts[True]} passed, {counts[False]} failed")
+    return 1 if counts[False] else 0
+
+
+if __name__ == "__main__":
+    sys.exit(main())

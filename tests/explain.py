@@ -1,0 +1,216 @@
+#!/usr/bin/env python3
+"""Runs contrib/explain on the smallest file of each rule, on what compilers make, and on programs that are changed.
+
+It also compares the texts of rules with docs/RULES.md and docs/dwv.1, the names of tags and attributes with those of
+dw_forms, and the entries that it reads with those that readelf lists. It prints one line a test and ends with
+'N passed, M failed'. What needs a tool that is not installed is skipped.
+"""
+import json
+import os
+import pathlib
+import random
+import re
+import shutil
+import subprocess
+import sys
+import tempfile
+
+sys.dont_write_bytecode = True
+HERE = pathlib.Path(__file__).resolve().parent
+sys.path[:0] = [str(HERE.parent / folder) for folder in ("contrib", "bench")]
+import compilers
+import examples
+import rows
+from dwv_tools import dwarf, explaining, names, running
+
+EXPLAIN = HERE.parent / "contrib/explain"
+PROGRAMS = HERE / "programs"
+DOCS = HERE.parent / "docs"
+CHANGES = 200
+KEYS = "at attribute cycle name rule section sound".split()
+# The flags that lead to a fault, its rule, and a word of what is said.
+FLAGS = [
+    ("gcc -gdwarf-3", compilers.C, "U3", "-gdwarf-5"),
+    ("gcc -gdwarf-5 -gdwarf64", compilers.C, "U2", "-gdwarf32"),
+    ("gcc -gdwarf-5 -gsplit-dwarf", compilers.C, "U4", "-gsplit-dwarf"),
+    ("gcc -gdwarf-5", "sized.c", "Z1", "variable length"),
+    ("gcc -gdwarf-4 -fdebug-types-section", "named.c", "R4", "-fdebug-types-section"),
+    ("gcc -g -c", "named.c", "E3", "shared library"),
+    ("gcc -g -s", compilers.C, "E9", "strip"),
+    ("clang -gdwarf-5", "plain.m", "Z3", "Objective-C"),
+    ("g++ -gdwarf-5 -fdebug-types-section", "boxes.cpp", "Z1", "-fdebug-types-section"),
+]
+counts = {True: 0, False: 0}
+
+
+def outcome(name, why):
+    """Counts a test that failed for a reason, or passed if that is None, and prints a line on it."""
+    counts[not why] += 1
+    print(f"{'FAILED' if why else 'passed'} {name}{f': {why}' if why else ''}")
+
+
+def same(name, said, wanted):
+    outcome(name, None if said == wanted else f"{said!r}, wanted {wanted!r}"[:1000])
+
+
+def page_rules():
+    """The rules of the manual page, each with its sentence as text."""
+    found = {}
+    items = re.findall(r"^\.It Sy ([A-Z]\d+ \w+)\n((?:(?!\.It|\.El).*\n)*)", (DOCS / "dwv.1").read_text(), re.M)
+    for title, text in items:
+        text = re.sub(r"^\.\w\w ", "", text, flags=re.M)
+        found[title] = re.sub(r" ([.,])(?= |$)", r"\1", " ".join(text.split()))
+    return {title: text for title, text in found.items() if title[0] != "P"}
+
+
+def texts():
+    table = [line.split(" | ") for line in explaining.RULES.read_text().splitlines() if not line.startswith("#")]
+    same("the rules are those of RULES.md", [row[0] for row in table], [" ".join(rule) for rule in sorted_rules()])
+    same("the rules say what the manual page says", {row[0]: row[1] for row in table}, page_rules())
+    folder = HERE.parent / "crates/dw_forms/src/constants"
+    code = "".join((folder / f"{name}.rt").read_text() for name in ("tags", "attributes", "languages"))
+    found = re.findall(r"pub const DW_([A-Z]+)_(\w+): \w+ = \w+\((0x[0-9a-f]+)\)", code)
+    odd = [word for kind, word, number in found if names.name(kind, int(number, 16)) != f"DW_{kind}_{word}"]
+    same("the names are those of dw_forms", (len(found) > 200, odd), (True, []))
+
+
+def sorted_rules():
+    """The rules of RULES.md, in the order of the manual page: by group and number."""
+    groups = "EAUGKSRYCZ"
+    return sorted(examples.rules(), key=lambda rule: (groups.index(rule[0][0]), int(rule[0][1:])))
+
+
+def explained(path):
+    """Why a file is not explained as it must be, or None. And the rule of its fault."""
+    try:
+        verdict = running.check(str(rows.DWV), path)
+        if verdict.status != 1:
+            return None if verdict.status == 0 else verdict.lines, verdict.what
+        lines, fields = explaining.lines(verdict, path), json.loads(json.dumps(explaining.fields(verdict, path)))
+        wanted = subprocess.run([rows.DWV, "check", "--json", path], capture_output=True, text=True).stdout
+        if lines[0] != verdict.lines[0]:
+            return lines[0], verdict.what
+        if {key: fields[key] for key in KEYS} != json.loads(wanted):
+            return f"{fields}, wanted {wanted}", verdict.what
+        return None, verdict.what
+    except Exception as error:
+        return repr(error), "none"
+
+
+def every_rule(folder):
+    """The smallest file of each rule, except that of E1, which has 1 GB."""
+    table, parts = examples.read()
+    path = folder / "file"
+    for row in table:
+        if row.name.startswith("E1 "):
+            continue
+        path.write_bytes(next(row.files(parts))[0])
+        why, what = explained(path)
+        wanted = "sound" if row.name.startswith("sound") else row.name.split(",")[0]
+        outcome(row.name, why or (None if what == wanted else what))
+
+
+def changed(folder):
+    """A program with bytes changed in its sections, at random: no change may stop the script."""
+    program = compilers.compiled(folder, "gcc -gdwarf-5", "shapes.c calls.c")
+    if program is None:
+        print("skipped: gcc is not installed")
+        return
+    file, bytes_of, chance, seen = dwarf.File(program), program.read_bytes(), random.Random(1), set()
+    path = folder / "changed"
+    for number in range(CHANGES):
+        section = file.section(chance.choice([".debug_info", ".debug_info", ".debug_abbrev"]))
+        text = bytearray(bytes_of)
+        byte = chance.choice([0, 1, 0x7F, 0x80, 0xFF, chance.randrange(256)])
+        text[section.start + chance.randrange(section.size)] = byte
+        path.write_bytes(text)
+        why, what = explained(path)
+        seen.add(what)
+        if why:
+            outcome(f"changed program {number}", why)
+    outcome(f"{CHANGES} changed programs, {len(seen)} rules", None if len(seen) > 8 else seen)
+
+
+def entries(path):
+    """The entries of a file: the offset, the tag and the attributes of each."""
+    file = dwarf.File(path)
+    for unit in map(file.unit, file.starts()):
+        at = unit.first
+        while at < unit.end:
+            entry = unit.entry(at)
+            if entry:
+                yield at, names.name("TAG", entry.tag), [names.name("AT", it.code) for it in entry.attributes]
+            at = entry.end if entry else at + 1
+
+
+def listed(path):
+    """The same as readelf lists it."""
+    words = ["readelf", "--wide", "--debug-dump=info", path]
+    found = []
+    for line in subprocess.run(words, capture_output=True, text=True, errors="replace").stdout.splitlines():
+        if it := re.match(r" *<[0-9a-f]+><([0-9a-f]+)>: Abbrev Number: \d+ \((\w+)\)", line):
+            found.append((int(it[1], 16), it[2], []))
+        elif it := re.match(r" *<[0-9a-f]+> +(DW_AT_\w+) *:", line):
+            found[-1][2].append(it[1])
+    return found
+
+
+def run(*words):
+    """The exit status of a run of the script, and what it writes."""
+    env = {**os.environ, "DWV": str(rows.DWV)}
+    ran = subprocess.run([EXPLAIN, *words], capture_output=True, text=True, env=env)
+    return ran.returncode, ran.stdout, ran.stderr
+
+
+def compiled(folder):
+    """What compilers make."""
+    for command, sources, rule, word in FLAGS:
+        path = compilers.compiled(folder, command, sources) if shutil.which(command.split()[0]) else None
+        if path is None:
+            print(f"skipped: {command} {sources} does not compile")
+            continue
+        status, text, errors = run(path)
+        is_right = text.startswith(f"fault {rule} ") and word in " ".join(text.split()) and status == 1
+        outcome(f"{command} {sources}: {rule}", None if is_right else text + errors)
+    for command in ("gcc -gdwarf-5", "gcc -gdwarf-4", "clang -gdwarf-5", "clang -gdwarf-4"):
+        path = compilers.compiled(folder, command, "shapes.c calls.c") if shutil.which(command.split()[0]) else None
+        if path and shutil.which("readelf"):
+            same(f"{command}: entries as readelf lists them", list(entries(path)), listed(path))
+
+
+def words(folder):
+    """The words of the command line, and what is written where."""
+    sound = "sound: 1 units, 2 entries, 1 types"
+    plain = rows.CRATE / "data/X1"
+    same("a sound file", run(plain), (0, f"{sound}\n", ""))
+    status, text, _ = run("--json", plain)
+    same("a sound file, --json", (status, json.loads(text)["sound"]), (0, True))
+    status, text, errors = run(folder / "none")
+    same("no file", (status, text, errors), (3, "", f"explain: {folder / 'none'}: No such file or directory\n"))
+    same("no words", run()[:2], (2, ""))
+    if shutil.which("objcopy"):
+        packed = folder / "packed"
+        program = compilers.compiled(folder, "gcc -g", compilers.C)
+        subprocess.run(["objcopy", "--compress-debug-sections", program, packed])
+        status, text, _ = run(packed)
+        is_right = text.startswith("sound: ") and "(of a decompressed copy)" in text and "compressed" in text
+        outcome("a compressed file", None if is_right and status == 0 else text)
+
+
+def main():
+    rows.build()
+    with tempfile.TemporaryDirectory() as name:
+        folder = pathlib.Path(name)
+        for source, text in compilers.SOURCES.items():
+            (folder / source).write_text(text)
+        texts()
+        every_rule(folder)
+        compiled(folder)
+        changed(folder)
+        words(folder)
+    print(f"{counts[True]} passed, {counts[False]} failed")
+    return 1 if counts[False] else 0
+
+
+if __name__ == "__main__":
+    sys.exit(main())
