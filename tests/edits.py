@@ -142,10 +142,11 @@ class Report:
         return inside[0] if inside else file
 
     def refusal(self, functions):
-        """Returns how much the refusal of these functions, or of any, shows, and the goal, or None."""
+        """Returns how much the refusal of these functions, or of any, shows, and its first goals, or None."""
         told = [it for function in functions or self.told for it in self.told.get(function, [])]
         told.sort(key=lambda it: WEIGHTS.index(it[0]))
-        return (told[0][0], goal_in(told[0][1])) if told else None
+        goals = list(dict.fromkeys(goal_in(text) for _, text in told))
+        return (told[0][0], ", ".join(goals[:3])) if told else None
 
 
 def goal_in(text):
