@@ -23,7 +23,6 @@ import pathlib
 import re
 import resource
 import shutil
-import subprocess
 import sys
 import tempfile
 
@@ -142,10 +141,11 @@ class Report:
         return inside[0] if inside else file
 
     def refusal(self, functions):
-        """Returns how much the refusal of these functions, or of any, shows, and the goal, or None."""
+        """Returns how much the refusal of these functions, or of any, shows, and its first goals, or None."""
         told = [it for function in functions or self.told for it in self.told.get(function, [])]
         told.sort(key=lambda it: WEIGHTS.index(it[0]))
-        return (told[0][0], goal_in(told[0][1])) if told else None
+        goals = list(dict.fromkeys(goal_in(text) for _, text in told))
+        return (told[0][0], ", ".join(goals[:3])) if told else None
 
 
 def goal_in(text):
@@ -289,7 +289,6 @@ def count(edits):
     counts = collections.Counter((it.crate.name, it.folder) for it in edits)
     for name in sorted({it.crate.name for it in edits}):
         print(f"{name:<12}" + "".join(f"{counts[name, folder]:>4} {folder}" for folder in FOLDERS))
-    return 0
 
 
 def main():
@@ -304,19 +303,18 @@ def main():
     edits = [Edit(it) for it in sorted(paths)]
     wrong = list(misplaced(edits))
     print("\n".join(wrong), end="\n" * bool(wrong))
-    if wrong:
-        return 1
     if given.apply:
-        return count(edits)
+        count(edits)
+        return 1 if wrong else 0
     folders = FOLDERS if given.all else FOLDERS[1:]
     chosen = collections.defaultdict(list)
     for edit in edits:
         is_asked = edit.folder in folders and re.search(given.only, edit.name)
-        if is_asked and edit.crate.name in (given.crates or [edit.crate.name]):
+        if is_asked and not edit.why and edit.crate.name in (given.crates or [edit.crate.name]):
             chosen[edit.crate.name].append(edit)
     with concurrent.futures.ProcessPoolExecutor(given.jobs) as pool:
         tried = {name: pool.submit(try_crate, name, chosen[name]) for name in chosen}
-        return table({name: it.result() for name, it in tried.items()})
+        return table({name: it.result() for name, it in tried.items()}) or any(it.why for it in edits)
 
 
 def table(tried):
