@@ -89,10 +89,11 @@ class Needs:
 
 
 class Header:
-    """The declarations of a header. `shapes` gives what the file says of a declaration: Shapes, or sizes."""
+    """The declarations of a header. `shapes` gives what the file says of a declaration: Shapes, or sizes. With
+    `declared`, the nodes of the listing, each further text of a node gets a name of its own."""
 
-    def __init__(self, shapes, bases, has_all):
-        self.shapes, self.bases, self.has_all = shapes, bases, has_all
+    def __init__(self, shapes, bases, declared):
+        self.shapes, self.bases, self.declared = shapes, bases, declared
         self.texts = {}             # from a node to its texts, in the order of the listing
         self.state, self.chosen = {}, {}
         self.parts, self.forward, self.left_out, self.others, self.guessed = [], {}, [], 0, 0
@@ -107,9 +108,10 @@ class Header:
         """Adds the declaration of a line."""
         declaration = c_types.read(line)
         node = declaration[:2]
-        if self.has_all and node in self.texts:
-            self.numbers[node] += 1
-            node = (node[0], f"{node[1]}___{self.numbers[node]}")
+        while self.declared and node in self.texts:
+            self.numbers[declaration[:2]] += 1
+            node = (node[0], f"{declaration.name}___{self.numbers[declaration[:2]]}")
+            node = node if node not in self.declared else declaration[:2]
         needs = Needs(declaration)
         self.texts.setdefault(node, []).append(Text(declaration, needs, line))
         if node[0] != "typedef" and self.kinds.setdefault(node[1], node[0]) != node[0]:
