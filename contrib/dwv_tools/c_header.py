@@ -232,7 +232,7 @@ class Header:
                 self.forward[tag] = True
         shapes = self.shapes(found.declaration)
         first = next(shapes, None)
-        sizes = dict(enum_sizes(found.declaration.type, first))
+        sizes = dict(enum_sizes(found.declaration.type, first and first[1]))
         for constants in found.needs.enums:
             if self.enum_uses[constants] > 1 and constants not in self.writer.hoisted:
                 self.hoist(constants, sizes.get(constants))
@@ -244,9 +244,15 @@ class Header:
         text = self.writer.declaration(declaration._replace(name=node[1]))
         if node[0] == "typedef" and node[1] in ALIASES:
             text = f"#if {ALIASES[node[1]][2]}\n{text}\n#endif"
-        others = [f"/* another text of {self.called(node)}: {it.line} */" for it in self.texts[node][number + 1 :]]
+        others = [self.other(node, it, first) for it in self.texts[node][number + 1 :]]
         self.others += len(others)
         self.parts.append("\n".join([*note, *others, text, ""]))
+
+    def other(self, node, text, first):
+        """A comment with a text of a node that is not written, and where its entry is, if its members show it."""
+        places = (at for at, _ in self.shapes(text.declaration) if first is None or at != first[0])
+        at = next(places, None)
+        return f"/* another text of {self.called(node)}{'' if at is None else f' at 0x{at:08x}'}: {text.line} */"
 
     def claim(self, constants):
         """Gives each enumerator a name that nothing else has."""
@@ -284,7 +290,7 @@ class Header:
                 self.layouts.of[node] = extent
             return declaration, []
         reason = "the file has no entry with these members, and a size"
-        for shape in shapes:
+        for _, shape in shapes:
             try:
                 self.layouts.pads = 0
                 t, extent = self.layouts.typed(declaration.type, shape)

@@ -77,7 +77,10 @@ def inner_of(of, entry):
 
 def shape_at(file, declaration, at):
     """What the file says of the body of a declaration, whose entry is at an offset, or None."""
-    entry = file.unit_of(at).entry(at)
-    if entry is not None and declaration.kind == "typedef":
+    entry, of = file.unit_of(at).entry(at), innermost(declaration.type)
+    if type(of) not in (Body, Enum):
+        return None
+    if declaration.kind == "typedef":
         entry = innermost_entry(entry)
-    return inner_of(innermost(declaration.type), entry)
+        entry = entry if entry and name(entry) is None else None
+    return inner_of(of, entry)
