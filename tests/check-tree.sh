@@ -88,6 +88,13 @@ link
 
 1 files with debugging information, 0 ELF files without, 0 other files' link
 
+said=$("$here/contrib/check-tree" --explain ./-o link)
+compare 'a fault that is explained' "$(sed -n '/^link$/,/^    Rule: /p' <<< "$said")" 'link
+  fault G1 UndeclaredCode at .debug_info+0x0000000f attribute 0x0
+
+    Rule:       The unit'"'"'s abbreviation table does not declare the code of an entry.'
+compare 'what is not explained' "$(grep -c '^    Rule: ' <<< "$said")" 1
+
 # Reading a process's memory at 0 fails for every user; permissions do not keep the superuser out.
 run 'what cannot be read' 3 '       1  sound
        2  not read

@@ -24,7 +24,6 @@ import rows
 from dwv_tools import dwarf, explaining, names, running
 
 EXPLAIN = HERE.parent / "contrib/explain"
-PROGRAMS = HERE / "programs"
 DOCS = HERE.parent / "docs"
 CHANGES = 200
 KEYS = "at attribute cycle name rule section sound".split()

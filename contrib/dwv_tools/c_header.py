@@ -89,10 +89,11 @@ class Needs:
 
 
 class Header:
-    """The declarations of a header. `shapes` gives what the file says of a declaration: Shapes, or sizes."""
+    """The declarations of a header. `shapes` gives what the file says of a declaration: Shapes, or sizes. With
+    `declared`, the nodes of the listing, each further text of a node gets a name of its own."""
 
-    def __init__(self, shapes, bases, has_all):
-        self.shapes, self.bases, self.has_all = shapes, bases, has_all
+    def __init__(self, shapes, bases, declared):
+        self.shapes, self.bases, self.declared = shapes, bases, declared
         self.texts = {}             # from a node to its texts, in the order of the listing
         self.state, self.chosen = {}, {}
         self.parts, self.forward, self.left_out, self.others, self.guessed = [], {}, [], 0, 0
@@ -107,9 +108,10 @@ class Header:
         """Adds the declaration of a line."""
         declaration = c_types.read(line)
         node = declaration[:2]
-        if self.has_all and node in self.texts:
-            self.numbers[node] += 1
-            node = (node[0], f"{node[1]}___{self.numbers[node]}")
+        while self.declared and node in self.texts:
+            self.numbers[declaration[:2]] += 1
+            node = (node[0], f"{declaration.name}___{self.numbers[declaration[:2]]}")
+            node = node if node not in self.declared else declaration[:2]
         needs = Needs(declaration)
         self.texts.setdefault(node, []).append(Text(declaration, needs, line))
         if node[0] != "typedef" and self.kinds.setdefault(node[1], node[0]) != node[0]:
@@ -230,7 +232,7 @@ class Header:
                 self.forward[tag] = True
         shapes = self.shapes(found.declaration)
         first = next(shapes, None)
-        sizes = dict(enum_sizes(found.declaration.type, first))
+        sizes = dict(enum_sizes(found.declaration.type, first and first[1]))
         for constants in found.needs.enums:
             if self.enum_uses[constants] > 1 and constants not in self.writer.hoisted:
                 self.hoist(constants, sizes.get(constants))
@@ -242,9 +244,15 @@ class Header:
         text = self.writer.declaration(declaration._replace(name=node[1]))
         if node[0] == "typedef" and node[1] in ALIASES:
             text = f"#if {ALIASES[node[1]][2]}\n{text}\n#endif"
-        others = [f"/* another text of {self.called(node)}: {it.line} */" for it in self.texts[node][number + 1 :]]
+        others = [self.other(node, it, first) for it in self.texts[node][number + 1 :]]
         self.others += len(others)
         self.parts.append("\n".join([*note, *others, text, ""]))
+
+    def other(self, node, text, first):
+        """A comment with a text of a node that is not written, and where its entry is, if its members show it."""
+        places = (at for at, _ in self.shapes(text.declaration) if first is None or at != first[0])
+        at = next(places, None)
+        return f"/* another text of {self.called(node)}{'' if at is None else f' at 0x{at:08x}'}: {text.line} */"
 
     def claim(self, constants):
         """Gives each enumerator a name that nothing else has."""
@@ -282,7 +290,7 @@ class Header:
                 self.layouts.of[node] = extent
             return declaration, []
         reason = "the file has no entry with these members, and a size"
-        for shape in shapes:
+        for _, shape in shapes:
             try:
                 self.layouts.pads = 0
                 t, extent = self.layouts.typed(declaration.type, shape)

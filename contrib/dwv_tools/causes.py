@@ -12,12 +12,11 @@ from dwv_tools import dwarf
 # not what the standard says and no reason is known.
 Cause = collections.namedtuple("Cause", "kind text remedy")
 
-STRUCTURES, MEMBER, ENUMERATION, BASE_TYPE, SUBPROGRAM, SUBRANGE, VARIANTS = (
-    {0x02, 0x13, 0x17}, 0x0D, 0x04, 0x24, 0x2E, 0x21, {0x19, 0x33}
-)
-SIGNATURE, CONTAINERS = 0x69, {0x2E, 0x0B, 0x1D}
+# Tags: structures, a member, what a function is made of. An attribute.
+STRUCTURES, MEMBER, FUNCTIONS = {0x02, 0x13, 0x17}, 0x0D, {0x2E, 0x0B, 0x1D}
+SIGNATURE = 0x69
 GNU_ALT, GNU_SPLIT = {0x1F20, 0x1F21, 0x1C, 0x1D, 0x24}, {0x1F01, 0x1F02}
-ALT_SECTION, LINK_SECTION, BUILD_ID = ".gnu_debugaltlink", ".gnu_debuglink", ".note.gnu.build-id"
+ALT_SECTION, BUILD_ID = ".gnu_debugaltlink", ".note.gnu.build-id"
 
 
 def is_by(place, *words):
@@ -117,7 +116,7 @@ KNOWN = [
         "The file was built with -fdebug-types-section, and gcc leaves a size or DW_AT_declaration out then.",
         "Compile without -fdebug-types-section.",
     )),
-    ("Z1", lambda it: is_by(it, "gnu c") and tag(it) in STRUCTURES and is_below(it, CONTAINERS), Cause(
+    ("Z1", lambda it: is_by(it, "gnu c") and tag(it) in STRUCTURES and is_below(it, FUNCTIONS), Cause(
         "compiler",
         "A structure inside a function has a member of variable length (int a[n]; an extension of gcc), so its size is"
         " not known before the program runs. DWARF allows this; dwv can't give the type a size.",

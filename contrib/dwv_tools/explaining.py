@@ -2,7 +2,7 @@
 import pathlib
 import textwrap
 
-from dwv_tools import causes, dwarf, finding, names, reading
+from dwv_tools import causes, dwarf, entries, finding, names, reading
 from dwv_tools.running import plain
 
 RULES = pathlib.Path(__file__).parent / "rules.txt"
@@ -26,7 +26,7 @@ def rules():
 
 def described(entry):
     """The tag of an entry, its name, and the size of a type."""
-    name, size = finding.name_of(entry), finding.size_of(entry)
+    name, size = entries.name_of(entry), entries.size_of(entry)
     text = names.name("TAG", entry.tag) + (f' "{plain(name)}"' if name is not None else "")
     return text + (f", {size} bytes" if size is not None else "")
 
@@ -34,7 +34,7 @@ def described(entry):
 def value_text(entry, attribute, is_entry=True):
     """The value of an attribute. A reference that is not to an entry is told by the rule R1."""
     unit, value = entry.unit, attribute.value
-    text = finding.text_of(unit, attribute)
+    text = entries.text_of(unit, attribute)
     if text is not None:
         return f'"{plain(text)}"'
     if isinstance(value, bytes):
@@ -46,7 +46,7 @@ def value_text(entry, attribute, is_entry=True):
     except reading.Unreadable as error:
         return f"0x{value:x}: {error}"
     if found:
-        target = finding.target_of(entry, attribute.code) if is_entry else None
+        target = entries.target_of(entry, attribute.code) if is_entry else None
         return f"0x{found[1]:08x}{f' {described(target)}' if target else ', where no entry starts'}"
     name = names.name("FORM", attribute.form)
     return hex(value) if any(word in name for word in ("addr", "sec_offset", "strp", "alt", "strx")) else str(value)
@@ -128,7 +128,7 @@ def header_lines(place):
 def cycle_lines(place):
     lines = []
     for at in place.cycle[:MOST]:
-        entry = finding.readable(place.file.unit_of(at), at)
+        entry = entries.readable(place.file.unit_of(at), at)
         lines.append(f"0x{at:08x} {described(entry) if entry else ''}")
     return lines
 
@@ -138,7 +138,7 @@ def unit_lines(place):
     if place.unit is None:
         return []
     rows = [("name", place.unit_name), ("producer", place.producer), ("language", place.language)]
-    declared = [finding.number_of(it, reading.DECL_LINE) for it in [*place.above, place.entry] if it]
+    declared = [entries.number_of(it, reading.DECL_LINE) for it in [*place.above, place.entry] if it]
     if lines := [it for it in declared if it is not None]:
         rows.append(("line", f"{lines[-1]}, of this file or of one that it includes"))
     version = f"version {place.unit.version}" if place.unit.version is not None else "a part of a header"
@@ -180,7 +180,7 @@ def sound(verdict, path):
 def shown(entry):
     """An entry as an object, without its attributes."""
     tag = names.name("TAG", entry.tag)
-    return {"at": entry.at, "tag": tag, "name": finding.name_of(entry), "size": finding.size_of(entry)}
+    return {"at": entry.at, "tag": tag, "name": entries.name_of(entry), "size": entries.size_of(entry)}
 
 
 def fields(verdict, path):

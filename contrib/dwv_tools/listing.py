@@ -70,7 +70,7 @@ class Places:
             show_progress(f"{done >> 20} MB of entries")
 
     def shapes(self, declaration):
-        """What the file says of the layouts that a declaration may have, each once."""
+        """What the file says of the layouts that a declaration may have, each once, after the offset of its entry."""
         seen = []
         for at in self.at.get(declaration[:2], ()):
             try:
@@ -79,4 +79,4 @@ class Places:
                 continue
             if shape is not None and shape not in seen:
                 seen.append(shape)
-                yield shape
+                yield at, shape

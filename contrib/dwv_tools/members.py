@@ -2,27 +2,16 @@
 from dwv_tools import dwarf, reading
 from dwv_tools.c_layout import Shape
 from dwv_tools.c_types import Body, Enum, innermost
+from dwv_tools.entries import name_of, number_of, target_of
 
-MEMBER, TYPEDEF, ENUMERATION, STRUCTURES = 0x0D, 0x16, 0x04, {0x13, 0x17, 0x02}
+MEMBER, STRUCTURES = 0x0D, {0x13, 0x17, 0x02}
 # What leads from a type to its innermost one: arrays, pointers, functions, qualifiers.
 LEADING = {0x01, 0x0F, 0x15, 0x26, 0x35, 0x37, 0x47}
 
 
-def number(entry, code):
-    attribute = dwarf.find(entry, code)
-    return attribute.value if attribute and isinstance(attribute.value, int) else None
-
-
-def name(entry):
-    attribute = dwarf.find(entry, reading.NAME)
-    return entry.unit.text(attribute).decode(errors="replace") if attribute else None
-
-
 def type_of(entry):
     """The type of an entry, or None."""
-    attribute = dwarf.find(entry, reading.TYPE)
-    unit, at = entry.unit.target(attribute) if attribute else (None, None)
-    return unit.entry(at) if unit else None
+    return target_of(entry, reading.TYPE)
 
 
 def innermost_entry(entry):
@@ -35,30 +24,30 @@ def innermost_entry(entry):
 
 def start_of(entry):
     """The bit at which a member starts, or None if it is no number."""
-    position, location = number(entry, reading.BIT_POSITION), dwarf.find(entry, reading.MEMBER_LOCATION)
-    at = 0 if location is None else number(entry, reading.MEMBER_LOCATION)
+    position, location = number_of(entry, reading.BIT_POSITION), dwarf.find(entry, reading.MEMBER_LOCATION)
+    at = 0 if location is None else number_of(entry, reading.MEMBER_LOCATION)
     if position is not None or at is None:
         return position
-    before, bits = number(entry, reading.BIT_OFFSET), number(entry, reading.BIT_SIZE)
+    before, bits = number_of(entry, reading.BIT_OFFSET), number_of(entry, reading.BIT_SIZE)
     if before is None or bits is None:
         return 8 * at
     # A bit field of a packed structure may pass its storage, and then clang writes a negative number.
     before -= 2**64 if before >= 2**63 else 0
-    storage = number(entry, reading.BYTE_SIZE)
+    storage = number_of(entry, reading.BYTE_SIZE)
     if storage is None:
         of = type_of(entry)
-        while of and number(of, reading.BYTE_SIZE) is None:
+        while of and number_of(of, reading.BYTE_SIZE) is None:
             of = type_of(of)
-        storage = number(of, reading.BYTE_SIZE) if of else None
+        storage = number_of(of, reading.BYTE_SIZE) if of else None
     return None if storage is None else 8 * (at + storage) - before - bits
 
 
 def shape_of(body, entry):
     """The shape of a body by its entry, or None if the entry has other members."""
-    if entry is None or entry.tag not in STRUCTURES or number(entry, reading.BYTE_SIZE) is None:
+    if entry is None or entry.tag not in STRUCTURES or number_of(entry, reading.BYTE_SIZE) is None:
         return None
-    found = [it for it in entry.unit.children(entry) if it.tag == MEMBER and not number(it, reading.DECLARATION)]
-    if [it.name for it in body.members] != [name(it) or None for it in found]:
+    found = [it for it in entry.unit.children(entry) if it.tag == MEMBER and not number_of(it, reading.DECLARATION)]
+    if [it.name for it in body.members] != [name_of(it) or None for it in found]:
         return None
     starts, inner = [], []
     for member, it in zip(body.members, found):
@@ -67,17 +56,20 @@ def shape_of(body, entry):
         inner.append(inner_of(of, innermost_entry(it)) if type(of) in (Body, Enum) else None)
         if starts[-1] is None or type(of) is Body and inner[-1] is None:
             return None
-    return Shape(number(entry, reading.BYTE_SIZE), number(entry, reading.ALIGNMENT), starts, inner)
+    return Shape(number_of(entry, reading.BYTE_SIZE), number_of(entry, reading.ALIGNMENT), starts, inner)
 
 
 def inner_of(of, entry):
     """The shape of a body, or the size of an enumeration."""
-    return shape_of(of, entry) if type(of) is Body else number(entry, reading.BYTE_SIZE) if entry else None
+    return shape_of(of, entry) if type(of) is Body else number_of(entry, reading.BYTE_SIZE) if entry else None
 
 
 def shape_at(file, declaration, at):
     """What the file says of the body of a declaration, whose entry is at an offset, or None."""
-    entry = file.unit_of(at).entry(at)
-    if entry is not None and declaration.kind == "typedef":
+    entry, of = file.unit_of(at).entry(at), innermost(declaration.type)
+    if type(of) not in (Body, Enum):
+        return None
+    if declaration.kind == "typedef":
         entry = innermost_entry(entry)
-    return inner_of(innermost(declaration.type), entry)
+        entry = entry if entry and name_of(entry) is None else None
+    return inner_of(of, entry)
