@@ -12,6 +12,7 @@ ghost use Rattle.dw_types.specs.FactsOf.{facts_in};
 ghost use Rattle.dw_types.specs.UnitsRead.{all_unit_facts};
 ghost use Rattle.dw_image.specs.Measures.{AreMeasures};
 
+use dw_elf::Sections;
 use dw_entries::Entries;
 use dw_links::LinkTables;
 use dw_types::{SizeTable, UnitFacts};
@@ -33,7 +34,15 @@ pub struct Image<'a> {
 }
 
 impl<'a> Image<'a> {
-    ghost use Rattle.dw_image.specs.Images.{unit_count, entry_count, type_count};
+    ghost use Rattle.dw_image.specs.Images.{sections_in, unit_count, entry_count, type_count};
+
+    /// The sections that were verified.
+    #[tactic(auto, unfolding(crate::specs::Images::sections_in))]
+    pub fn sections(&self) -> &Sections<'a>
+        ensures { result.now ≡ sections_in self.now }
+    {
+        self.entries.sections()
+    }
 
     /// How many units there are.
     #[tactic(auto, unfolding(crate::specs::Images::units_in))]

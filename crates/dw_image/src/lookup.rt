@@ -4,13 +4,16 @@ ghost use Rattle.std.specs.Prelude.{◌≡◌, ◌<◌, length, slice_get, IfSom
 ghost use Rattle.dw_forms.specs.Value.{view};
 ghost use Rattle.dw_entries.specs.Lookups.{nth_of, entry_head, value_at_entry};
 ghost use Rattle.dw_entries.specs.Entries.{placed};
+ghost use Rattle.dw_links.specs.Slots.{IsPlace};
 ghost use Rattle.dw_links.specs.Targets.{target_of};
-ghost use Rattle.dw_image.specs.Images.{units_in, entries_in, name_in};
+ghost use Rattle.dw_links.specs.ValueTexts.{text_there};
+ghost use Rattle.dw_image.specs.Images.{units_in, entries_in, name_in, sections_in};
 ghost use Rattle.dw_image.specs.Lookups.{entry_at};
 
 use crate::image::Image;
 use dw_entries::constants::DW_AT_name;
 use dw_entries::{Attribute, EntryId, Head, Value};
+use dw_links::TextPlace;
 
 impl<'a> Image<'a> {
     /// The entry that starts at this offset of .debug_info.
@@ -68,6 +71,17 @@ impl<'a> Image<'a> {
         ensures within { IfSome result (λ to. to < length (entries_in self.now)) }
     {
         self.tables.target(&self.entries, id, attribute)
+    }
+
+    /// Where the text of an entry's DW_AT_name is. None if the entry has no name.
+    #[tactic(auto, unfolding(crate::specs::Images::units_in))]
+    pub fn name_place(&self, id: EntryId) -> Option<TextPlace<'a>>
+        requires { id < length (entries_in self.now) }
+        ensures text { IfSome (slice_get (entries_in self.now) id)
+            (λ e. option_map (text_there (sections_in self.now)) result ≡ name_in self.now e) }
+        ensures within { IfSome result (IsPlace (sections_in self.now)) }
+    {
+        self.tables.text_place(&self.entries, id, DW_AT_name)
     }
 
     /// The text of an entry's DW_AT_name, without its closing zero byte. None if the entry has no name.

@@ -19,6 +19,7 @@ mod string_checks;
 mod string_rules;
 mod targets;
 mod text_lookups;
+mod text_place;
 
 pub use class::{Class, check_classes, class_of_value};
 pub use laws::{one_entry_is_reached, references_have_targets, strings_have_texts};
@@ -26,3 +27,4 @@ pub use link_tables::LinkTables;
 pub use links::{Links, link};
 pub use sound::link_sound;
 pub use string_checks::check_strings;
+pub use text_place::{TextPlace, string_from};

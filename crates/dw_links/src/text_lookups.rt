@@ -1,36 +1,38 @@
 //! The texts and addresses of entries' attributes.
 
-ghost use Rattle.std.specs.Prelude.{◌≡◌, ◌<◌, length, slice_get, IfSome, option_copied};
+ghost use Rattle.std.specs.Prelude.{◌≡◌, ◌<◌, length, slice_get, IfSome, option_copied, option_map};
 ghost use Rattle.dw_forms.specs.Value.{view};
 ghost use Rattle.dw_entries.specs.Scanned.{all_entries, all_units, units_of};
 ghost use Rattle.dw_entries.specs.Views.{sections_of};
 ghost use Rattle.dw_entries.specs.Failures.{HasNone};
 ghost use Rattle.dw_links.specs.Strings.{StringFailures};
 ghost use Rattle.dw_links.specs.Tables.{bases_in, AreTables};
-ghost use Rattle.dw_links.specs.ValueTexts.{text_of, address_of};
-ghost use Rattle.dw_links.specs.Slots.{TextLies, AddressLies};
+ghost use Rattle.dw_links.specs.ValueTexts.{text_of, address_of, text_there};
+ghost use Rattle.dw_links.specs.Slots.{AddressLies, IsPlace, TextLies};
 ghost use Rattle.dw_links.specs.AttributeTexts.{text_at, address_at};
 
 use crate::link_tables::{LinkTables, UnitBases};
-use crate::slots::{address_in_slot, string_from, text_in_slot};
+use crate::slots::{address_in_slot, place_in_slot};
+use crate::text_place::TextPlace;
 use dw_elf::Sections;
 use dw_entries::{Entries, EntryId, UnitHeader};
 use dw_forms::{Attribute, Value};
 
-/// The text of a value, if that is a string.
-fn text_of_value<'a>(
+/// Where the text of a value is, if that is a string.
+fn place_of_value<'a>(
     sections: &Sections<'a>,
     base: Option<u32>,
     value: Value<'a>,
-) -> Option<&'a [u8]>
+) -> Option<TextPlace<'a>>
     requires { TextLies sections.now base (view value) }
-    ensures { option_copied result ≡ text_of sections.now base (view value.entry) }
+    ensures text { option_map (text_there sections.now) result ≡ text_of sections.now base (view value.entry) }
+    ensures within { IfSome result (IsPlace sections.now) }
 {
     match value {
-        Value::Text(bytes) => Some(bytes),
-        Value::Str(offset) => Some(string_from(sections.str, offset as usize)),
-        Value::LineStr(offset) => Some(string_from(sections.line_str, offset as usize)),
-        Value::StrIndex(index) => text_in_slot(sections, base, index),
+        Value::Text(bytes) => Some(TextPlace::Inline(bytes)),
+        Value::Str(offset) => Some(TextPlace::Str(offset as usize)),
+        Value::LineStr(offset) => Some(TextPlace::LineStr(offset as usize)),
+        Value::StrIndex(index) => place_in_slot(sections, base, index),
         _ => None,
     }
 }
@@ -64,6 +66,34 @@ impl LinkTables {
         self.bases[entries.unit_of(id)]
     }
 
+    /// Where the text of an entry's attribute is. None where the attribute is absent or no string.
+    pub fn text_place<'a>(
+        &self,
+        entries: &Entries<'a>,
+        id: EntryId,
+        attribute: Attribute,
+    ) -> Option<TextPlace<'a>>
+        requires id { id < length (all_entries entries.now.scanned) }
+        requires tables { AreTables entries.now self.now }
+        requires strings { HasNone (StringFailures (sections_of entries.now) (units_of entries.now.scanned)) }
+        ensures text { IfSome (slice_get (all_entries entries.now.scanned) id)
+            (λ e. option_map (text_there (sections_of entries.now)) result
+            ≡ text_at (sections_of entries.now) (all_entries entries.now.scanned)
+            (all_units entries.now.scanned) e attribute) }
+        ensures within { IfSome result (IsPlace (sections_of entries.now)) }
+    {
+        match entries.value(id, attribute) {
+            Some(value) => {
+                place_of_value(
+                    entries.sections(),
+                    self.bases_of(entries, id).strings,
+                    value,
+                )
+            }
+            None => None,
+        }
+    }
+
     /// The text of an entry's attribute. None where the attribute is absent or no string.
     pub fn text<'a>(
         &self,
@@ -79,14 +109,8 @@ impl LinkTables {
             ≡ text_at (sections_of entries.now) (all_entries entries.now.scanned)
             (all_units entries.now.scanned) e attribute) }
     {
-        match entries.value(id, attribute) {
-            Some(value) => {
-                text_of_value(
-                    entries.sections(),
-                    self.bases_of(entries, id).strings,
-                    value,
-                )
-            }
+        match self.text_place(entries, id, attribute) {
+            Some(place) => Some(place.text(entries.sections())),
             None => None,
         }
     }

@@ -1,4 +1,4 @@
-use Rattle.std.proofs.Common.{◌≡◌, Some, sym, subst, option_copied}
+use Rattle.std.proofs.Common.{◌≡◌, ◌∙◌, Some, ap, sym, subst, option_map}
 use Rattle.dw_elf.specs.declared.sections.Sections.{Sections}
 use Rattle.dw_forms.specs.Value.{view}
 use Rattle.dw_entries.specs.Entries.{entries_of, placed}
@@ -8,13 +8,14 @@ use Rattle.dw_entries.specs.Lookups.{value_at_entry}
 use Rattle.dw_links.specs.declared.link_tables.UnitBases.{UnitBases}
 use Rattle.dw_links.specs.Slots.{TextLies}
 use Rattle.dw_links.specs.Tables.{bases_in}
+use Rattle.dw_links.specs.ValueTexts.{text_there}
 use Rattle.dw_links.proofs.Skips.{there}
 use Rattle.dw_links.proofs.TableLaws.{unit_of_entry}
 use Rattle.dw_links.proofs.SlotLaws.{text_lies, text_told, no_text}
-use Rattle.dw_links.proofs.link_tables.LinkTables.text.Goals as goal
+use Rattle.dw_links.proofs.link_tables.LinkTables.text_place.Goals as goal
 
-pub text_of_value-requires : goal.text_of_value-requires
-text_of_value-requires c =
+pub place_of_value-requires : goal.place_of_value-requires
+place_of_value-requires c =
     let us = units_of c.args.entries.now.scanned in
     let (e, is) = there (entries_of us) c.args.id c.requires.id in
     let (p, is_p) = unit_of_entry _ _ us c.args.id e c.args.entries.now.scanned.1.spells is in
@@ -25,16 +26,17 @@ text_of_value-requires c =
     let Q : UnitBases → Type 0 = λ b. TextLies c.sections.result.now b.strings (view c.in-Some.value) in
     subst Q (sym bases) (subst P (sym c.sections.ensures) lies)
 
-pub returns-in-Some : goal.returns-in-Some
-returns-in-Some c =
+pub returns-in-Some-clause-text : goal.returns-in-Some-clause-text
+returns-in-Some-clause-text c =
     let us = units_of c.args.entries.now.scanned in
     let (e, is) = there (entries_of us) c.args.id c.requires.id in
     let (p, is_p) = unit_of_entry _ _ us c.args.id e c.args.entries.now.scanned.1.spells is in
-    rw is (text_told c.sections.result.now (sections_of c.args.entries.now) (entries_of us) (placed us) e p c.args.attribute (view c.in-Some.value) c.bases_of.result (option_copied c.text_of_value.result) c.sections.ensures
-    (rw (is, is_p) at c.bases_of.ensures) is_p (rw is at c.in-Some.ensures) c.text_of_value.ensures)
+    rw is (text_told c.sections.result.now (sections_of c.args.entries.now) (entries_of us) (placed us) e p c.args.attribute (view c.in-Some.value) c.bases_of.result (option_map (text_there (sections_of c.args.entries.now)) c.place_of_value.result) c.sections.ensures
+    (rw (is, is_p) at c.bases_of.ensures) is_p (rw is at c.in-Some.ensures)
+    (ap (λ (s : Sections). option_map (text_there s) c.place_of_value.result) (sym c.sections.ensures) ∙ c.place_of_value.ensures.text))
 
-pub returns-in-None : goal.returns-in-None
-returns-in-None c =
+pub returns-in-None-clause-text : goal.returns-in-None-clause-text
+returns-in-None-clause-text c =
     let us = units_of c.args.entries.now.scanned in
     let (e, is) = there (entries_of us) c.args.id c.requires.id in
     let (p, is_p) = unit_of_entry _ _ us c.args.id e c.args.entries.now.scanned.1.spells is in
