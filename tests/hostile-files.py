@@ -3,9 +3,9 @@
 declarations of many attributes whose values take no bytes.
 
 For each the program must print the stated line within the time limit, and no run may crash. Tables that begin inside
-declarations have limits of their own. The lines of `show` of a deep tree are far more bytes than the memory that it may
-have: it must say so, and write nothing. `types` must print its whole text within less memory. The script prints one
-line a run with the seconds it took, and ends with 'N passed, M failed'.
+declarations, and entries of one byte with many flags, have limits of their own. The lines of `show` of a deep tree are
+far more bytes than the memory that it may have: it must say so, and write nothing. `types` must print its whole text
+within less memory. The script prints one line a run with the seconds it took, and ends with 'N passed, M failed'.
 """
 import pathlib
 import resource
@@ -25,11 +25,14 @@ MEMORY = 1 << 30
 TYPES_MEMORY = 1 << 29
 TABLES = 40_000
 DECLARATIONS = 1 << 19
-# Tables that begin inside declarations of another one, and the seconds of processor time and bytes of memory that they
-# may take.
+# Tables that begin inside declarations of another one.
 INSIDE = 16_000
-INSIDE_TIME = 1
-INSIDE_MEMORY = 1 << 29
+# Seconds of processor time and bytes of memory that runs with limits of their own may take.
+SOON_TIME = 1
+SOON_MEMORY = 1 << 29
+# Entries of one byte with a flag for each code of DWARF 5 that may be one, and the codes that may not (rule K1).
+FLAGGED = 500_000
+NO_FLAGS = bytes.fromhex("01030b0d18222e2f3137383e474951696b7273")
 # Attributes of a declaration that has many.
 WIDE = 50_000
 SECTIONS = 65_000
@@ -252,7 +255,22 @@ def inside():
     units = [unit(code[1:], table=6 * n + 1) for n, code in enumerate(codes)]
     for order, some in orders(units):
         sections = [(".debug_abbrev", row), (".debug_info", some)]
-        yield f"{INSIDE:,} units with tables inside declarations, {order}", sections
+        yield (f"{INSIDE:,} units with tables inside declarations, {order}", sections,
+               f"sound: {INSIDE} units, {INSIDE} entries, 0 types")
+
+
+def flagged():
+    """Variables of one byte with many flags, and one with an attribute in the form indirect; a reference after them."""
+    known = [code for code in range(1, 0x8d) if code not in NO_FLAGS]
+    flags = b"".join(uleb(code) + b"\x19" for code in known)
+    table = TABLE[:-1] + b"\x0b\x34\0" + flags + b"\0\0" + b"\x0c\x34\0" + uleb(0x2000) + b"\x16\0\0" + b"\0"
+    items = b"\x01" + b"\x0b" * FLAGGED
+    sound = [(".debug_abbrev", table), (".debug_info", unit(items + b"\x0c\x0b\1\0"))]
+    yield (f"{FLAGGED:,} variables with {len(known)} flags without bytes", sound,
+           f"sound: 1 units, {FLAGGED + 2} entries, 0 types")
+    fault = [(".debug_abbrev", table), (".debug_info", unit(items + b"\x03\0\0\0\0\0"))]
+    yield (f"{FLAGGED:,} variables with {len(known)} flags without bytes, and a reference to no entry", fault,
+           f"fault R1 NoEntry at .debug_info+0x{FIRST + FLAGGED:08x} attribute 0x49")
 
 
 # 1 compile unit, 2 base type with a name and a size, 3 typedef with a name and a type, 4 structure with a size,
@@ -439,10 +457,10 @@ def limited_types():
     resource.setrlimit(resource.RLIMIT_AS, (TYPES_MEMORY, TYPES_MEMORY))
 
 
-def limited_inside():
+def limited_soon():
     """Limits the memory and the processor time of the process that is about to run."""
-    resource.setrlimit(resource.RLIMIT_AS, (INSIDE_MEMORY, INSIDE_MEMORY))
-    resource.setrlimit(resource.RLIMIT_CPU, (INSIDE_TIME, INSIDE_TIME))
+    resource.setrlimit(resource.RLIMIT_AS, (SOON_MEMORY, SOON_MEMORY))
+    resource.setrlimit(resource.RLIMIT_CPU, (SOON_TIME, SOON_TIME))
 
 
 def checked(path):
@@ -453,7 +471,7 @@ def checked(path):
 
 def checked_soon(path):
     """The same within limits."""
-    ran = subprocess.run([DWV, "check", path], capture_output=True, text=True, timeout=LIMIT, preexec_fn=limited_inside)
+    ran = subprocess.run([DWV, "check", path], capture_output=True, text=True, timeout=LIMIT, preexec_fn=limited_soon)
     return f"{ran.stdout}{ran.stderr}"
 
 
@@ -473,8 +491,9 @@ def runs():
     """Each run: its name, the file, what asks it, and the beginning of what it must say."""
     for name, sections, want in files():
         yield name, elf(sections), checked, want
-    for name, sections in inside():
-        yield name, elf(sections), checked_soon, f"sound: {INSIDE} units, {INSIDE} entries, 0 types"
+    for some in (inside(), flagged()):
+        for name, sections, want in some:
+            yield name, elf(sections), checked_soon, want
     for some in (chains(), bodies()):
         for name, types in some:
             yield f"types of {name}", types.file(), typed, f"{types.text()}status 0\n"

@@ -1,34 +1,31 @@
 -- What is asked for is found among the places at which a search stops.
 use Rattle.std.proofs.Common.{◌≡◌, ℕ, ◌<◌, ◌+◌, ◌≤◌, Bool, true, false, ltb, List, length, get_or, Option, Some, refl, sym, ap, subst, ◌∙◌, arith}
-use Rattle.std.specs.Prelude.{slice_get, nat_le, not, ◌||◌}
-use Rattle.std.proofs.lemmas.Bool.{ne_eqb, le-leb, ltb-true, ltb-false}
+use Rattle.std.specs.Prelude.{slice_get}
+use Rattle.std.proofs.lemmas.Bool.{ne_eqb, ltb-true, ltb-false}
 use Rattle.std.proofs.lemmas.Option.{slice_get_read}
 use Rattle.dw_forms.specs.declared.decl.AttributeSpec.{AttributeSpec}
 use Rattle.dw_forms.specs.declared.form.Form.{Form}
 use Rattle.dw_forms.specs.declared.form.Form.TheVariants.{FlagPresent, ImplicitConst}
-use Rattle.dw_forms.specs.Plans.{is_byteless, is_stop, IsNext}
+use Rattle.dw_forms.specs.Codes.{DW_AT_type}
+use Rattle.dw_forms.specs.Plans.{is_one_of, not_flags, not_constants, stops_in, is_stop, IsNext}
 use Rattle.dw_entries.specs.Chosen.{OthersPass, Unasked}
 use Rattle.dw_forms.specs.FormCodes.{may_refer}
 use Rattle.dw_entries.specs.Referring.{IsOther}
 
--- ---- a code that DWARF 5 defines is found among them
+-- ---- DW_AT_type and references are among them
 
 apart : true ≡ false → ⊥
 apart e = cc
 
-no_stop : (form : Form) (b : Bool) → (not (is_byteless form) || b) ≡ false → (may_refer form ≡ false) × (b ≡ false)
-no_stop FlagPresent b e = (refl, e)
-no_stop (ImplicitConst number) b e = (refl, e)
-no_stop form b e = absurd (apart e)
+no_stop : (form : Form) (code : ℕ) → stops_in form code ≡ false → (may_refer form ≡ false) × (code ≡ DW_AT_type → ⊥)
+no_stop FlagPresent code e = (refl, λ same. apart (sym (ap (is_one_of not_flags) same) ∙ e))
+no_stop (ImplicitConst number) code e = (refl, λ same. apart (sym (ap (is_one_of not_constants) same) ∙ e))
+no_stop form code e = absurd (apart e)
 
-pub others_pass : (attribute : ℕ) → attribute ≤ 0x8c → OthersPass (IsOther attribute)
-others_pass attribute small spec e =
-    let both = no_stop spec.form (nat_le spec.attribute 0x8c) e in
-    let other : spec.attribute ≡ attribute → ⊥ = λ same. apart (sym (is_le (spec.attribute) (omega (arith, small, same))) ∙ both.1) in
-    rw (both.0, ne_eqb spec.attribute attribute other) refl
-  where
-    is_le : (code : ℕ) → code ≤ 0x8c → nat_le code 0x8c ≡ true
-    is_le code le = le-leb code 0x8c le
+pub others_pass : OthersPass (IsOther DW_AT_type)
+others_pass spec e =
+    let both = no_stop spec.form spec.attribute e in
+    rw (both.0, ne_eqb spec.attribute DW_AT_type both.1) refl
 
 -- ---- a loop over the places at which a search stops
 

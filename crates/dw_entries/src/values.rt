@@ -78,14 +78,15 @@ impl Choice for Referring {
     fn keeps_to_stops(&self) {}
 }
 
-/// The place of the next attribute that is asked for, by the places at which a search stops.
+/// The place of the next attribute that is asked for, from a place on. Only attributes at which a search stops are
+/// looked at.
 #[inline(always)]
-fn next_stop<C: Choice>(choice: &C, attributes: &Attributes, from: usize) -> Option<usize>
-    requires within { from ≤ length attributes.now }
-    requires others { OthersPass (C.passes choice.now) }
+fn next_asked<C: Choice>(choice: &C, attributes: &Attributes, from: usize) -> Option<usize>
+    requires { from ≤ length attributes.now }
     ensures found { IfSome result (IsNextAsked (C.passes choice.now) (C.asked choice.now) attributes.now from) }
     ensures none { IfNone result (Unasked (C.passes choice.now) attributes.now from (length attributes.now)) }
 {
+    choice.keeps_to_stops();
     let specs = attributes.as_slice();
     let mut place = attributes.next_stop(from);
     while place < specs.len() {
@@ -95,35 +96,6 @@ fn next_stop<C: Choice>(choice: &C, attributes: &Attributes, from: usize) -> Opt
         place = attributes.next_stop(place + 1);
     }
     None
-}
-
-/// The same by all places, for few attributes.
-fn next_of_all<C: Choice>(choice: &C, attributes: &Attributes, from: usize) -> Option<usize>
-    requires { from ≤ length attributes.now }
-    ensures found { IfSome result (IsNextAsked (C.passes choice.now) (C.asked choice.now) attributes.now from) }
-    ensures none { IfNone result (Unasked (C.passes choice.now) attributes.now from (length attributes.now)) }
-{
-    let specs = attributes.as_slice();
-    for place in from..specs.len() {
-        if choice.asks(&specs[place]) {
-            return Some(place);
-        }
-    }
-    None
-}
-
-/// The place of the next attribute that is asked for, from a place on. Of at most 16 attributes all are looked at.
-#[inline(always)]
-fn next_asked<C: Choice>(choice: &C, attributes: &Attributes, from: usize) -> Option<usize>
-    requires { from ≤ length attributes.now }
-    ensures found { IfSome result (IsNextAsked (C.passes choice.now) (C.asked choice.now) attributes.now from) }
-    ensures none { IfNone result (Unasked (C.passes choice.now) attributes.now from (length attributes.now)) }
-{
-    if attributes.as_slice().len() <= 16 {
-        return next_of_all(choice, attributes, from);
-    }
-    choice.keeps_to_stops();
-    next_stop(choice, attributes, from)
 }
 
 impl<'a> Values<'_, 'a> {

@@ -15,6 +15,7 @@ pub mod TailLaws
 pub mod MapLaws
 pub mod KeptLaws
 pub mod StartLaws
+pub mod StartCounts
 pub mod RemainderLaws
 pub mod AllowedForms
 pub mod FewAttributes

@@ -1,5 +1,5 @@
 -- Tables that begin at offsets of a section, as more declarations are kept.
-use Rattle.std.proofs.Common.{◌≡◌, ℕ, ◌<◌, Bool, true, false, cond, List, [], ◌∷◌, ◌++◌, length, drop, Option, Some, None, Ok, sym, ap, subst, ◌∙◌, inl, inr, append_assoc, append-nil, arith}
+use Rattle.std.proofs.Common.{◌≡◌, ℕ, suc, ◌<◌, Bool, true, false, cond, List, [], ◌∷◌, ◌++◌, length, drop, Option, Some, None, Ok, sym, ap, subst, ◌∙◌, inl, inr, append_assoc, append-nil, arith}
 use Rattle.std.specs.Prelude.{◌==◌}
 use Rattle.std.specs.Ordering.{nat_cmp}
 use Rattle.std.specs.Cmp.{unsigned_tied}
@@ -77,7 +77,7 @@ abbrev pub Leads : List ℕ → List KeptDecl → ℕ → ℕ → List Started �
 Leads section kept table offset decls = (next : ℕ) × AreBehind section decls offset next × IsTableIn section (tables_of kept) next table
 
 module _ (section : List ℕ) (kept new : List KeptDecl) (table offset : ℕ) (all rest : List Started) (s : Started) (parts : all ≡ rest ++ s ∷ []) (leads : Leads section kept table offset all) where
-  popped : AreBehind section rest offset s.start × (decl_at [] (drop s.start section) ≡ Ok (Some (view s.decl), drop leads.0 section))
+  pub popped : AreBehind section rest offset s.start × (decl_at [] (drop s.start section) ≡ Ok (Some (view s.decl), drop leads.0 section))
   popped = behind_pop section rest offset leads.0 s (subst (λ (xs : List Started). AreBehind section xs offset leads.0) parts leads.1)
 
   pub turn_none : Added (view s.decl) table kept new None → NoTable section offset
@@ -98,6 +98,11 @@ module _ (section : List ℕ) (kept new : List KeptDecl) (table offset : ℕ) (a
       table = table_more section s.start leads.0 (view s.decl) (table_in (tables_of kept) table) popped.1 leads.2.table (lacks_from code_of_decl s.decl.code (table_in (tables_of kept) table) added.0)
           ∙ ap (λ (t : List Numbered). Ok (declarations t)) (sym new_is);
     }
+
+    pub turn_long : length new ≡ suc (length kept)
+    turn_long =
+        let more = length-append (tables_of kept) ((record { number = number; decl = view s.decl } ∷ numbered_in (tables_of kept) table) ∷ []) in
+        omega (arith, ap length added.2, more, tables_long kept, tables_long new)
 
     pub turn_leads : Leads section new number offset rest
     turn_leads = (s.start, popped.0, turn_table)

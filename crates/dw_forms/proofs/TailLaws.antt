@@ -1,5 +1,5 @@
 -- A declaration and the table behind it: they are a table where no code stands twice, and no other table begins there.
-use Rattle.std.proofs.Common.{◌≡◌, ◌≤◌, ℕ, zero, suc, ◌-◌, ◌<◌, List, [], ◌∷◌, ◌++◌, length, take, drop, Option, Some, None, Result, Ok, Err, refl, sym, ap, subst, ◌∙◌, append_assoc, arith}
+use Rattle.std.proofs.Common.{◌≡◌, ◌≤◌, ℕ, zero, suc, ◌+◌, ◌-◌, ◌<◌, List, [], ◌∷◌, ◌++◌, length, take, drop, Option, Some, None, Result, Ok, Err, refl, sym, ap, subst, ◌∙◌, append_assoc, arith}
 use Rattle.std.proofs.lemmas.List.{length-append, length-take, length-drop, take-append-drop, take_all, drop_at}
 use Rattle.std.proofs.lemmas.List.Elements.{All-cons}
 use Rattle.std.proofs.lemmas.Result.{MatchResult-at_ok}
@@ -143,6 +143,21 @@ module _ (section : List ℕ) where
       twice (subst (Lacks code_of_decl d.code) (read_is (sym s.table ∙ is)) s.lacks)
 
   -- ---- some declarations
+
+  -- a declaration takes bytes
+  pub decl_takes : (offset next : ℕ) (d : Declaration) → decl_at [] (drop offset section) ≡ Ok (Some d, drop next section) → (offset < next) × (offset < length section)
+  decl_takes offset next d e =
+      let t = taken (drop offset section) (Some d) (drop next section) e in
+      let some = decl_some t.text d t.spelled.0 in
+      let long : length (drop offset section) ≡ length t.text + length (drop next section) = ap length t.parts ∙ length-append t.text (drop next section) in
+      (omega (arith, some, long, length-drop offset section, length-drop next section), omega (arith, some, long, length-drop offset section, length-drop next section))
+
+  -- so they end where they begin, or after it
+  pub behind_on : (xs : List Started) (offset end : ℕ) → AreBehind section xs offset end → offset ≤ end
+  behind_on [] offset end here = omega (arith, here)
+  behind_on (x ∷ xs) offset end p =
+      let less = decl_takes offset p.1 (view x.decl) p.2 in
+      omega (arith, less.0, behind_on xs p.1 end p.3)
 
   -- one more behind them
   pub behind_push : (xs : List Started) (offset end next : ℕ) (s : Started) → AreBehind section xs offset end → s.start ≡ end → decl_at [] (drop end section) ≡ Ok (Some (view s.decl), drop next section)

@@ -3,7 +3,7 @@ use Rattle.std.specs.Prelude.{ℕ, List, []}
 use Rattle.dw_forms.specs.declared.abbrev_tables.AbbrevTables.{AbbrevTables}
 use Rattle.dw_forms.specs.Marks.{AreMarks}
 use Rattle.dw_forms.specs.KeptDecls.{Numbered, tables_of, AreKept}
-use Rattle.dw_forms.specs.TableStarts.{AreStarts}
+use Rattle.dw_forms.specs.TableStarts.{AreStarts, AreFew}
 
 -- the tables by their numbers
 abbrev pub tables_in : AbbrevTables → List (List Numbered)
@@ -17,4 +17,5 @@ AreSearchable t = AreKept t.maps.nodes.items t.kept.items
 pub record AreTablesOf (section : List ℕ) (t : AbbrevTables) : Type 0 where
   pub kept : AreSearchable t
   pub starts : AreStarts section (tables_in t) t.starts
+  pub few : AreFew section t.kept.items t.starts
   pub marks : AreMarks [] t.marks.items

@@ -1,5 +1,6 @@
 -- State: the tables that begin at offsets of a section.
-use Rattle.std.specs.Prelude.{◌≡◌, ℕ, ◌<◌, List, [], ◌∷◌, ◌++◌, length, drop, Option, Some, None, Ok, false, true, ◌⊎◌}
+use Rattle.std.specs.Prelude.{◌≡◌, ℕ, zero, suc, ◌+◌, ◌<◌, ◌≤◌, List, [], ◌∷◌, ◌++◌, length, drop, Option, Some, None, Ok}
+use Rattle.std.specs.Prelude.{false, true, ◌⊎◌, is_some, if◌then◌else◌}
 use Rattle.std.specs.Ordering.{nat_cmp}
 use Rattle.std.specs.BTreeMap.{BTreeMap, get}
 use Rattle.dw_forms.specs.declared.abbrev_fault.DeclError.{DeclError}
@@ -34,6 +35,21 @@ AreBehind section [] offset end = offset ≡ end
 AreBehind section (s ∷ rest) offset end =
     (s.start ≡ offset) × (next : ℕ) × (decl_at [] (drop offset section) ≡ Ok (Some (view s.decl), drop next section))
     × AreBehind section rest next end
+
+-- none of the declarations begins at an offset that has a number
+abbrev pub AreNew : BTreeMap ℕ ℕ → List Started → Type 0
+AreNew starts [] = Unit {0}
+AreNew starts (s ∷ rest) = (get nat_cmp starts s.start ≡ None) × AreNew starts rest
+
+-- how many offsets below this one have a number
+unfoldable pub starts_below : BTreeMap ℕ ℕ → ℕ → ℕ
+starts_below starts zero = 0
+starts_below starts (suc offset) =
+    (if is_some (get nat_cmp starts offset) then 1 else 0) + starts_below starts offset
+
+-- there are no more declarations than offsets of the section that have a number
+abbrev pub AreFew : List ℕ → List KeptDecl → BTreeMap ℕ ℕ → Type 0
+AreFew section kept starts = length kept ≤ starts_below starts (length section)
 
 -- the table that begins at this offset was kept, or it has no declarations
 abbrev pub GoesOn : List ℕ → BTreeMap ℕ ℕ → ℕ → ℕ → Type 0

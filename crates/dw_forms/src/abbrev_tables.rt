@@ -8,6 +8,7 @@ ghost use Rattle.dw_forms.specs.AbbrevReading.{table_at, TableFails as ReadingFa
 ghost use Rattle.dw_forms.specs.KeptDecls.{numbered_in, table_in, tables_of, number_in, decl_of, IsMapOf, IsRun};
 ghost use Rattle.dw_forms.specs.KeptDecls.{AreKept};
 ghost use Rattle.dw_forms.specs.TableStarts.{IsTableIn, AreStarts, Stay, NoTable, AreBehind, GoesOn, Added, IsWhole};
+ghost use Rattle.dw_forms.specs.TableStarts.{AreNew, AreFew};
 ghost use Rattle.dw_forms.specs.AbbrevTables.{tables_in, AreSearchable, AreTablesOf};
 
 use crate::abbrev_fault::{AbbrevFault, DeclError};
@@ -40,20 +41,6 @@ pub struct AbbrevTables {
     pub(crate) starts: BTreeMap<usize, u32>,
     /// Marks for no attributes, one for each code of 16 bits.
     pub(crate) marks: Vec<bool>,
-}
-
-/// The number of the declaration that is kept next, if four bytes can say it. They always can: each declaration begins
-/// at
-/// an offset of its own, and a section has at most 2^30 bytes.
-fn next_number(len: usize) -> Result<u32, AbbrevFault>
-    ensures ok { IfOk result (λ number. number ≡ len) }
-    ensures err { IfFault result (λ _. ⊥) }
-{
-    if len < 0xffff_ffff {
-        Ok(len as u32)
-    } else {
-        Err(AbbrevFault::Memory)
-    }
 }
 
 /// The number of the declaration of a table that has this code, or 0.
@@ -115,6 +102,7 @@ fn push(
     decl: Decl,
 ) -> Result<Option<u32>, AbbrevFault>
     requires rest { rest ≤ length kept.old.items }
+    requires few { length kept.old.items < 0xffffffff }
     requires kept { AreKept maps.old.nodes.items kept.old.items }
     ensures kept { OnOk result (AreKept maps.new.nodes.items kept.new.items) }
     ensures added { IfOk result (Added (view decl) rest kept.old.items kept.new.items) }
@@ -123,7 +111,7 @@ fn push(
     if find_in(kept, maps, rest, decl.code) != 0 {
         return Ok(None);
     }
-    let number = next_number(kept.len() + 1)?;
+    let number = kept.len() as u32 + 1;
     let run = run_before(kept, maps, rest, decl.code);
     let codes = codes_of(kept, maps, rest);
     let codes = maps.insert(codes, decl.code, number)?;
@@ -138,6 +126,7 @@ fn push(
 
 /// Keeps the declarations before a table, the last one first, and returns the number of the table that begins with the
 /// first. None if a code would be in a table twice. The section and the offset are what the clauses are about.
+/// Each declaration begins at an offset of its own, so that four bytes can say how many there are.
 fn keep(
     kept: &mut Vec<KeptDecl>,
     maps: &mut CodeMaps,
@@ -148,10 +137,14 @@ fn keep(
 ) -> Result<Option<u32>, AbbrevFault>
     requires kept { AreKept maps.old.nodes.items kept.old.items }
     requires starts { AreStarts section.now (tables_of kept.old.items) starts.old }
+    requires few { AreFew section.now kept.old.items starts.old }
+    requires fits { length section.now < 0xffffffff }
+    requires new { AreNew starts.old front.decls.items }
     requires front { AreBehind section.now front.decls.items offset front.end }
     requires goes_on { GoesOn section.now starts.old front.end front.rest }
     ensures kept { OnOk result (AreKept maps.new.nodes.items kept.new.items) }
     ensures starts { OnOk result (AreStarts section.now (tables_of kept.new.items) starts.new) }
+    ensures few { OnOk result (AreFew section.now kept.new.items starts.new) }
     ensures stay { OnOk result (Stay (tables_of kept.old.items) (tables_of kept.new.items)) }
     ensures whole { IfOk result (IsWhole section.now (tables_of kept.new.items) offset) }
     ensures err { IfFault result (λ _. ⊥) }
@@ -201,6 +194,7 @@ impl AbbrevTables {
     /// not read again.
     pub fn read(&mut self, alloc: Global, section: &[u8], offset: usize) -> Result<u32, AbbrevFault>
         requires offset { offset ≤ length section.now }
+        requires fits { length section.now < 0xffffffff }
         requires tables { AreTablesOf section.now self.old }
         ensures found { IfOk result (IsTableIn section.now (tables_in self.new) offset) }
         ensures allowed { IfOk result (λ table. AreDeclarations (table_in (tables_in self.new) table)) }

@@ -108,7 +108,7 @@ impl Attributes {
     }
 
     /// The first place from one on at which a search stops, or how many attributes there are: the value there takes
-    /// bytes, or DWARF 5 defines the code.
+    /// bytes, or has a class that is none of the attribute's.
     #[inline(always)]
     pub fn next_stop(&self, from: usize) -> usize
         requires { from ≤ length self.now }

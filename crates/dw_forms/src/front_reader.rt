@@ -6,7 +6,7 @@ ghost use Rattle.std.specs.BTreeMap.{get};
 ghost use Rattle.dw_forms.specs.Abbrev.{view};
 ghost use Rattle.dw_forms.specs.Marks.{AreMarks};
 ghost use Rattle.dw_forms.specs.AbbrevReading.{GivesOrMemory, decl_at};
-ghost use Rattle.dw_forms.specs.TableStarts.{NoTable, AreBehind, GoesOn, IfBroken};
+ghost use Rattle.dw_forms.specs.TableStarts.{NoTable, AreBehind, AreNew, GoesOn, IfBroken};
 
 use crate::abbrev::AbbrevTable;
 use crate::abbrev_fault::DeclError;
@@ -66,6 +66,7 @@ pub fn read_front(
     requires marks { AreMarks [] marks.old }
     ensures unmarked { OnOk result (AreMarks [] marks.new) }
     ensures front { IfOk result (λ f. AreBehind section.now f.decls.items offset f.end) }
+    ensures new { IfOk result (λ f. AreNew starts.now f.decls.items) }
     ensures goes_on { IfOk result (λ f. GoesOn section.now starts.now f.end f.rest) }
     ensures fault { IfErr result (IfBroken (NoTable section.now offset)) }
 {

@@ -2,11 +2,13 @@
 
 ghost use Rattle.std.specs.Prelude.{◌≡◌, ◌<◌, ◌≤◌, ◌⊎◌, ◌+◌, drop, length, IfOk};
 ghost use Rattle.std.specs.List.{slice_range};
-ghost use Rattle.dw_forms.specs.Plans.{known_size, known_sum, known_of, does_vary, place_or, is_byteless, is_stop};
+ghost use Rattle.dw_forms.specs.Plans.{known_size, known_sum, known_of, does_vary, place_or, is_one_of, is_stop};
+ghost use Rattle.dw_forms.specs.Plans.{not_flags, not_constants};
 ghost use Rattle.dw_forms.specs.Plans.{cut_at, values_end, IsNext, IsAhead, IsPlan};
 ghost use Rattle.dw_forms.specs.Sizes.{rest_at};
 ghost use Rattle.dw_forms.specs.ValueReading.{Gives};
 
+use crate::constants::*;
 use crate::decl::AttributeSpec;
 use crate::form::Form;
 use crate::value::ValueFault;
@@ -55,21 +57,63 @@ pub fn does_vary(form: Form) -> bool
     form.fixed_size(8).is_none()
 }
 
-/// Whether values of the form take no bytes of an entry.
-#[inline(always)]
-fn is_byteless(form: Form) -> bool
-    ensures { result ≡ is_byteless form }
+/// Whether the attribute has values, but no flags (DWARF 5, 7.5.4).
+fn is_no_flag(attribute: Attribute) -> bool
+    ensures { result ≡ is_one_of not_flags attribute }
 {
-    matches!(form, Form::FlagPresent | Form::ImplicitConst(_))
+    matches!(
+        attribute,
+        DW_AT_sibling
+            | DW_AT_name
+            | DW_AT_byte_size
+            | DW_AT_bit_size
+            | DW_AT_import
+            | DW_AT_lower_bound
+            | DW_AT_bit_stride
+            | DW_AT_upper_bound
+            | DW_AT_abstract_origin
+            | DW_AT_count
+            | DW_AT_data_member_location
+            | DW_AT_encoding
+            | DW_AT_specification
+            | DW_AT_type
+            | DW_AT_byte_stride
+            | DW_AT_signature
+            | DW_AT_data_bit_offset
+            | DW_AT_str_offsets_base
+            | DW_AT_addr_base
+    )
 }
 
-/// Whether a search stops at the attribute: its values take bytes, or DWARF 5 defines its code, and the last of those
-/// codes is 0x8c.
-#[inline(always)]
+/// Whether the attribute has values, but no constants (DWARF 5, 7.5.4).
+fn is_no_constant(attribute: Attribute) -> bool
+    ensures { result ≡ is_one_of not_constants attribute }
+{
+    matches!(
+        attribute,
+        DW_AT_sibling
+            | DW_AT_name
+            | DW_AT_import
+            | DW_AT_prototyped
+            | DW_AT_abstract_origin
+            | DW_AT_declaration
+            | DW_AT_specification
+            | DW_AT_type
+            | DW_AT_signature
+            | DW_AT_str_offsets_base
+            | DW_AT_addr_base
+    )
+}
+
+/// Whether a search stops at the attribute: its values take bytes, or have a class that is none of the attribute's.
 fn is_stop(spec: &AttributeSpec) -> bool
     ensures { result ≡ is_stop spec.now }
 {
-    !is_byteless(spec.form) || spec.attribute.0 <= 0x8c
+    match spec.form {
+        Form::FlagPresent => is_no_flag(spec.attribute),
+        Form::ImplicitConst(_) => is_no_constant(spec.attribute),
+        _ => true,
+    }
 }
 
 /// The place, if this is true, and else the next one.

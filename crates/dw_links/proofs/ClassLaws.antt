@@ -1,15 +1,15 @@
 -- The rule on classes, by declarations and by values.
 use Rattle.std.proofs.Common.{◌≡◌, ℕ, ◌<◌, Bool, true, false, List, [], ◌∷◌, length, Some, refl, sym, ap, ◌∙◌, arith, if◌then◌else◌, nat_eq}
-use Rattle.std.specs.Prelude.{slice_get, IfSome, nat_le, not, ◌||◌, ◌&&◌}
+use Rattle.std.specs.Prelude.{slice_get, IfSome, ◌&&◌}
 use Rattle.std.specs.List.{list_all}
-use Rattle.std.proofs.lemmas.Bool.{ne_eqb, leb-true, leb-false}
+use Rattle.std.proofs.lemmas.Bool.{ne_eqb}
 use Rattle.std.proofs.lemmas.Option.{slice_get_within}
 use mathlib.Core.Logic.{∥∥₁_elim}
 use Rattle.dw_forms.specs.Value.{Datum}
 use Rattle.dw_forms.specs.declared.form.Form.{Form}
 use Rattle.dw_forms.specs.declared.form.Form.TheVariants as form
 use Rattle.dw_forms.specs.declared.decl.AttributeSpec.{AttributeSpec}
-use Rattle.dw_forms.specs.Plans.{is_byteless}
+use Rattle.dw_forms.specs.Plans.{not_flags, not_constants, stops_in}
 use Rattle.dw_forms.specs.Codes.{DW_AT_sibling, DW_AT_name, DW_AT_byte_size, DW_AT_bit_size, DW_AT_import, DW_AT_lower_bound, DW_AT_prototyped, DW_AT_bit_stride, DW_AT_upper_bound, DW_AT_abstract_origin, DW_AT_count, DW_AT_data_member_location, DW_AT_declaration, DW_AT_encoding, DW_AT_specification, DW_AT_type, DW_AT_byte_stride, DW_AT_signature, DW_AT_data_bit_offset, DW_AT_str_offsets_base, DW_AT_addr_base}
 use Rattle.dw_entries.specs.declared.rule.Rule.TheVariants.{WrongClass}
 use Rattle.dw_entries.specs.declared.lookup.Head.{Head}
@@ -26,7 +26,7 @@ use Rattle.dw_entries.proofs.EntryFacts.{length-placed_from}
 use Rattle.dw_links.specs.declared.class.Class.{Class}
 use Rattle.dw_links.specs.declared.class.Class.TheVariants.{Constant, Flag}
 use Rattle.dw_links.specs.Concerns.{Passes}
-use Rattle.dw_links.specs.Classes.{class_of, form_class, is_one_of, allows, allows_in, ClassFails}
+use Rattle.dw_links.specs.Classes.{class_of, form_class, is_one_of, is_flag, is_section_offset, allows, allows_in, ClassFails}
 use Rattle.dw_links.proofs.Skips.{there}
 use Rattle.dw_links.proofs.FormClasses.{class_by_form}
 
@@ -49,39 +49,53 @@ class_passes units spec c form ok x a is head rule fails =
     ∙ ap (λ (code : ℕ). allows_in (version_of fails.unit.unit.header.kind) code (class_of a.value)) (sym is.code) ∙ fails.class in
     let no : true ≡ false = sym (allowed_in (version_of fails.unit.unit.header.kind) spec.attribute c ok) ∙ both in cc)
 
--- ---- a code past those of DWARF 5 has no line, and values that take no bytes have a class
+-- ---- a search stops at values that take no bytes, if their class is none of the attribute's
 
-no_one : (codes : List ℕ) (a : ℕ) → 0x8c < a → list_all (λ code. nat_le code 0x8c) codes ≡ true → is_one_of codes a ≡ false
-no_one [] a past small = refl
-no_one (code ∷ codes) a past small = by_code (nat_le code 0x8c) refl small (λ others. no_one codes a past others)
+no_one : (all codes : List ℕ) (a : ℕ) → is_one_of all a ≡ false → list_all (is_one_of all) codes ≡ true → is_one_of codes a ≡ false
+no_one all [] a none within = refl
+no_one all (code ∷ codes) a none within = by_code (is_one_of all code) refl within (λ others. no_one all codes a none others)
   where
-    by_code : (b : Bool) → nat_le code 0x8c ≡ b → (b && list_all (λ c. nat_le c 0x8c) codes) ≡ true → (list_all (λ c. nat_le c 0x8c) codes ≡ true → is_one_of codes a ≡ false) → is_one_of (code ∷ codes) a ≡ false
-    by_code true le others none = rw (ne_eqb a code (λ same. omega (arith, past, same, leb-true code 0x8c le))) (none others)
-    by_code false le others none = absurd (let both : false ≡ true = others in cc)
+    by_code : (b : Bool) → is_one_of all code ≡ b → (b && list_all (is_one_of all) codes) ≡ true → (list_all (is_one_of all) codes ≡ true → is_one_of codes a ≡ false) → is_one_of (code ∷ codes) a ≡ false
+    by_code true is others rest = rw (ne_eqb a code (λ same. let both : true ≡ false = sym is ∙ ap (is_one_of all) (sym same) ∙ none in cc)) (rest others)
+    by_code false is others rest = absurd (let both : false ≡ true = others in cc)
 
 or_else : (b x y : Bool) → b ≡ false → y ≡ true → (if b then x else y) ≡ true
 or_else b x y is not = rw is not
 
-allows_past : (a : ℕ) (c : Class) → 0x8c < a → allows a c ≡ true
-allows_past a c past =
-    or_else _ _ _ (no_one (DW_AT_sibling ∷ DW_AT_import ∷ DW_AT_abstract_origin ∷ DW_AT_specification ∷ DW_AT_type ∷ DW_AT_signature ∷ []) a past refl)
-    (or_else _ _ _ (no_one (DW_AT_name ∷ []) a past refl)
-    (or_else _ _ _ (no_one (DW_AT_byte_size ∷ DW_AT_bit_size ∷ DW_AT_count ∷ DW_AT_byte_stride ∷ DW_AT_data_bit_offset ∷ []) a past refl)
-    (or_else _ _ _ (no_one (DW_AT_lower_bound ∷ DW_AT_upper_bound ∷ DW_AT_bit_stride ∷ []) a past refl)
-    (or_else _ _ _ (no_one (DW_AT_data_member_location ∷ []) a past refl)
-    (or_else _ _ _ (no_one (DW_AT_encoding ∷ []) a past refl)
-    (or_else _ _ _ (no_one (DW_AT_prototyped ∷ DW_AT_declaration ∷ []) a past refl)
-    (or_else _ _ _ (no_one (DW_AT_str_offsets_base ∷ DW_AT_addr_base ∷ []) a past refl) refl)))))))
+either : (b x y : Bool) → x ≡ true → y ≡ true → (if b then x else y) ≡ true
+either true x y first is = first
+either false x y first is = is
 
-byteless_class : (f : Form) (b : Bool) → (not (is_byteless f) || b) ≡ false → (c : Class) × (form_class f ≡ Some c) × (b ≡ false)
-byteless_class form.FlagPresent b is = (Flag, refl, is)
-byteless_class (form.ImplicitConst number) b is = (Constant, refl, is)
-byteless_class f b is = absurd (let both : true ≡ false = is in cc)
+allows_flag : (a : ℕ) → is_one_of not_flags a ≡ false → allows a Flag ≡ true
+allows_flag a none =
+    or_else _ _ _ (no_one not_flags (DW_AT_sibling ∷ DW_AT_import ∷ DW_AT_abstract_origin ∷ DW_AT_specification ∷ DW_AT_type ∷ DW_AT_signature ∷ []) a none refl)
+    (or_else _ _ _ (no_one not_flags (DW_AT_name ∷ []) a none refl)
+    (or_else _ _ _ (no_one not_flags (DW_AT_byte_size ∷ DW_AT_bit_size ∷ DW_AT_count ∷ DW_AT_byte_stride ∷ DW_AT_data_bit_offset ∷ []) a none refl)
+    (or_else _ _ _ (no_one not_flags (DW_AT_lower_bound ∷ DW_AT_upper_bound ∷ DW_AT_bit_stride ∷ []) a none refl)
+    (or_else _ _ _ (no_one not_flags (DW_AT_data_member_location ∷ []) a none refl)
+    (or_else _ _ _ (no_one not_flags (DW_AT_encoding ∷ []) a none refl)
+    (either _ _ _ refl (or_else _ _ _ (no_one not_flags (DW_AT_str_offsets_base ∷ DW_AT_addr_base ∷ []) a none refl) refl)))))))
+
+allows_constant : (a : ℕ) → is_one_of not_constants a ≡ false → allows a Constant ≡ true
+allows_constant a none =
+    or_else _ _ _ (no_one not_constants (DW_AT_sibling ∷ DW_AT_import ∷ DW_AT_abstract_origin ∷ DW_AT_specification ∷ DW_AT_type ∷ DW_AT_signature ∷ []) a none refl)
+    (or_else _ _ _ (no_one not_constants (DW_AT_name ∷ []) a none refl)
+    (either (is_one_of (DW_AT_byte_size ∷ DW_AT_bit_size ∷ DW_AT_count ∷ DW_AT_byte_stride ∷ DW_AT_data_bit_offset ∷ []) a) _ _ refl
+    (either (is_one_of (DW_AT_lower_bound ∷ DW_AT_upper_bound ∷ DW_AT_bit_stride ∷ []) a) _ _ refl
+    (either (is_one_of (DW_AT_data_member_location ∷ []) a) _ _ refl
+    (either (is_one_of (DW_AT_encoding ∷ []) a) _ _ refl
+    (or_else _ (is_flag Constant) _ (no_one not_constants (DW_AT_prototyped ∷ DW_AT_declaration ∷ []) a none refl)
+    (or_else _ (is_section_offset Constant) _ (no_one not_constants (DW_AT_str_offsets_base ∷ DW_AT_addr_base ∷ []) a none refl) refl)))))))
+
+byteless_class : (f : Form) (a : ℕ) → stops_in f a ≡ false → (c : Class) × (form_class f ≡ Some c) × (allows a c ≡ true)
+byteless_class form.FlagPresent a is = (Flag, refl, allows_flag a is)
+byteless_class (form.ImplicitConst number) a is = (Constant, refl, allows_constant a is)
+byteless_class f a is = absurd (let both : true ≡ false = is in cc)
 
 pub others_pass : (units : List PlacedUnit) → OthersPass (Passes (ClassFails units))
 others_pass units spec is =
-    let (c, class, past) = byteless_class spec.form (nat_le spec.attribute 0x8c) is in
-    class_passes units spec c class (allows_past spec.attribute c (leb-false spec.attribute 0x8c past))
+    let (c, class, ok) = byteless_class spec.form spec.attribute is in
+    class_passes units spec c class ok
 
 -- a value of another class
 pub class_least : (units : List PlacedUnit) (head : Head) (a : ℕ) (v : Datum) (p : PlacedUnit) → slice_get units head.unit ≡ Some p → allows_in (version_of p.unit.header.kind) a (class_of v) ≡ false

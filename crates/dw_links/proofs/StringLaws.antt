@@ -1,12 +1,12 @@
 -- Which declarations the rules on strings and addresses are asked of.
 use Rattle.std.proofs.Common.{◌≡◌, ℕ, Bool, true, false, List, Option, Some, None, refl, sym, ap, ◌∙◌, subst, inl, inr, ◌⊎◌}
-use Rattle.std.specs.Prelude.{is_some, nat_le, not, ◌||◌}
+use Rattle.std.specs.Prelude.{is_some}
 use Rattle.std.specs.Bool.{OnFalse}
 use mathlib.Core.Logic.{∥∥₁_elim}
 use Rattle.dw_forms.specs.declared.form.Form.{Form}
 use Rattle.dw_forms.specs.declared.form.Form.TheVariants as form
 use Rattle.dw_forms.specs.declared.decl.AttributeSpec.{AttributeSpec}
-use Rattle.dw_forms.specs.Plans.{is_byteless}
+use Rattle.dw_forms.specs.Plans.{stops_in}
 use Rattle.dw_forms.specs.Value.{Datum, Val, address, block, unsigned, signed, wide, text, flag, str, line_str, str_index, ref_info, ref_unit, ref_sig, sec_offset, expr, addr_index, loc_index, rng_index}
 use Rattle.dw_entries.specs.declared.rule.Rule.{Rule}
 use Rattle.dw_entries.specs.declared.lookup.Head.{Head}
@@ -144,13 +144,13 @@ form_passes texts spec none other =
     ]
 
 -- the values of such a form take bytes, and a search stops at them
-leads_with_bytes : (f : Form) (b : Bool) → (not (is_byteless f) || b) ≡ false → (may_lead_out f ≡ false) × (f ≡ form.SecOffset → ⊥)
-leads_with_bytes form.FlagPresent b is = (refl, λ e. absurd (let both : form.FlagPresent ≡ form.SecOffset = e in cc))
-leads_with_bytes (form.ImplicitConst number) b is = (refl, λ e. absurd (let both : form.ImplicitConst number ≡ form.SecOffset = e in cc))
-leads_with_bytes f b is = absurd (let both : true ≡ false = is in cc)
+leads_with_bytes : (f : Form) (a : ℕ) → stops_in f a ≡ false → (may_lead_out f ≡ false) × (f ≡ form.SecOffset → ⊥)
+leads_with_bytes form.FlagPresent a is = (refl, λ e. absurd (let both : form.FlagPresent ≡ form.SecOffset = e in cc))
+leads_with_bytes (form.ImplicitConst number) a is = (refl, λ e. absurd (let both : form.ImplicitConst number ≡ form.SecOffset = e in cc))
+leads_with_bytes f a is = absurd (let both : true ≡ false = is in cc)
 
 pub stops_only : (texts : UnitTexts) → OthersPass (Passes (FailsByTexts texts))
-stops_only texts spec is = let both = leads_with_bytes spec.form (nat_le spec.attribute 0x8c) is in form_passes texts spec both.0 both.1
+stops_only texts spec is = let both = leads_with_bytes spec.form spec.attribute is in form_passes texts spec both.0 both.1
 
 -- what holds where an answer is no
 pub where_false : (b c : Bool) (P : Type 0) → b ≡ c → (c ≡ false → P) → OnFalse b P

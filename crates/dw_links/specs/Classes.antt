@@ -1,7 +1,7 @@
 -- Chapter: the classes of values, and the classes that an attribute may have (DWARF 5, 7.5.4 and 7.5.5).
 use Rattle.std.specs.Prelude.{◌≡◌, ℕ, Bool, true, false, List, [], ◌∷◌, if◌then◌else◌, nat_eq, slice_get, Option, Some}
 use Rattle.std.specs.Prelude.{None}
-use Rattle.std.specs.List.{list_any}
+pub use Rattle.dw_forms.specs.Plans.{is_one_of}
 use Rattle.dw_forms.specs.declared.form.Form.{Form}
 use Rattle.dw_forms.specs.declared.form.Form.TheVariants as form
 use Rattle.dw_forms.specs.Value.{Datum, address, block, unsigned, signed, wide, text, flag, str, line_str, str_index}
@@ -87,10 +87,6 @@ form_class form.Addrx1 = Some Address
 form_class form.Addrx2 = Some Address
 form_class form.Addrx3 = Some Address
 form_class form.Addrx4 = Some Address
-
--- the code is one of these
-abbrev pub is_one_of : List ℕ → ℕ → Bool
-is_one_of codes code = list_any (nat_eq code) codes
 
 -- reference
 abbrev pub is_reference : Class → Bool

@@ -159,8 +159,7 @@ impl AttributeRules for Classes<'_, '_> {
         }
     }
 
-    // Values that take no bytes have a class, and the attributes with a line in `is_allowed` have codes of DWARF 5.
-    #[tactic(auto, using(crate::proofs::ClassLaws::others_pass))]
+    // A search stops at values that take no bytes, if `is_allowed` forbids their class.
     fn keeps_to_stops(&self) {}
 
     fn ask(&self, head: &Head, attribute: Attribute, value: &Value<'_>) -> Option<Rule> {

@@ -39,7 +39,7 @@ fn read_two(
     first: usize,
     second: usize,
 ) -> Option<([Option<u32>; 3], [Option<u32>; 3], usize)> {
-    if first > section.len() || second > section.len() {
+    if section.len() > 1000 || first > section.len() || second > section.len() {
         return None;
     }
     let Ok(mut tables) = AbbrevTables::new(alloc) else {

@@ -1,4 +1,4 @@
-use Rattle.std.proofs.Common.{rules, ◌≡◌, ℕ, suc, length, arith, refl, subst}
+use Rattle.std.proofs.Common.{rules, ◌≡◌, ◌+◌, ℕ, suc, length, arith, refl, subst}
 use Rattle.dw_forms.specs.CodeMaps.{Puts}
 use Rattle.dw_forms.specs.KeptDecls.{numbered_in, tables_of}
 use Rattle.dw_forms.proofs.KeptLaws.{none_has, some_has, are_numbered, tables_long, tables_more, kept_more}
@@ -12,7 +12,7 @@ returns-then-find_in-ne0-clause-added c =
 
 pub returns-clause-kept : goal.returns-clause-kept
 returns-clause-kept c =
-    let number : c.in_ok-number.number ≡ suc (length c.args.kept.now.items) = omega (arith, c.in_ok-number.ensures.ok, c.len.ensures) in
+    let number : c.len.result + 1 ≡ suc (length c.args.kept.now.items) = omega (arith, c.len.ensures) in
     rw c.in_ok-push.ensures.items
     (kept_more c.args.maps.now.nodes.items c.insert.new.self.nodes.items c.args.kept.now.items _ c.requires.kept c.in_ok-codes.ensures.stay
     c.codes_of-codes.result (search rules) (rw c.deref-2.ensures.value at c.run_before-run.ensures.short)
@@ -24,7 +24,7 @@ pub returns-clause-added : goal.returns-clause-added
 returns-clause-added c =
     let found = rw c.deref.ensures.value at c.find_in.ensures in
     let none = c.if-find_in-ne0.false in
-    let number : c.in_ok-number.number ≡ length (tables_of c.args.kept.now.items) = omega (arith, c.in_ok-number.ensures.ok, c.len.ensures, tables_long c.args.kept.now.items) in
+    let number : c.len.result + 1 ≡ length (tables_of c.args.kept.now.items) = omega (arith, c.len.ensures, tables_long c.args.kept.now.items) in
     let table = numbered_in (tables_of c.args.kept.now.items) c.args.rest in
     let own = are_numbered c.args.kept.now.items c.args.rest in
     (none_has c.args.kept.now.items table c.args.decl.code own (omega (arith, found, none)), number, rw (c.in_ok-push.ensures.items, number) (tables_more c.args.kept.now.items _))

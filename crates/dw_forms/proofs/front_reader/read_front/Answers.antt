@@ -1,5 +1,6 @@
-use Rattle.std.proofs.Common.{refl, inr}
+use Rattle.std.proofs.Common.{rules, refl, inr}
 use Rattle.dw_forms.proofs.TailLaws.{table_end, behind_push, front_fails}
+use Rattle.dw_forms.proofs.StartCounts.{new_push}
 use Rattle.dw_forms.proofs.front_reader.read_front.Goals as goal
 
 pub returns-in-Err-clause-fault : goal.returns-in-Err-clause-fault
@@ -12,5 +13,6 @@ pub loop-rest-preserved : goal.loop-rest-preserved
 loop-rest-preserved c = record {
   within = c.in-Ok.ensures.within;
   unmarked = c.in-Ok.ensures.unmarked;
+  new = rw c.in_ok-push.ensures.items (new_push c.args.starts.now c.loop-rest.decls.items _ c.loop-rest.invariant.new (search rules));
   behind = rw c.in_ok-push.ensures.items (behind_push c.args.section.now c.loop-rest.decls.items c.args.offset c.loop-rest.end c.in-Ok.found.1 _ c.loop-rest.invariant.behind refl (rw c.in-Some-next.is at c.in-Ok.ensures.exact));
 }

@@ -1,6 +1,6 @@
 use Rattle.std.proofs.Common.{◌≤◌, ◌-◌, length}
 use Rattle.dw_entries.specs.Chosen.{Unasked}
-use Rattle.dw_entries.proofs.values.next_stop.Given as goal
+use Rattle.dw_entries.proofs.values.next_asked.Given as goal
 
 abbrev pub invariant-loop-place : goal.invariant-loop-place
 invariant-loop-place g l = record {

@@ -1,12 +1,12 @@
 use Rattle.std.proofs.Common.{ap, length, arith}
 use Rattle.dw_entries.proofs.StopSteps.{up_to_stop, on_to_stop, spec_at}
-use Rattle.dw_entries.proofs.values.next_stop.Goals as goal
+use Rattle.dw_entries.proofs.values.next_asked.Goals as goal
 
 pub loop-place-init : goal.loop-place-init
 loop-place-init g c = record {
   on = c.next_stop-place.ensures.on;
   within = c.next_stop-place.ensures.within;
-  before = up_to_stop (g.C.Choice.passes c.args.choice.now) c.args.attributes.now c.args.from c.requires.others c.args.from c.next_stop-place.result c.next_stop-place.ensures;
+  before = up_to_stop (g.C.Choice.passes c.args.choice.now) c.args.attributes.now c.args.from c.keeps_to_stops.ensures c.args.from c.next_stop-place.result c.next_stop-place.ensures;
 }
 
 pub loop-place-preserved : goal.loop-place-preserved
@@ -17,7 +17,7 @@ loop-place-preserved g c =
     record {
       on = omega (arith, l.invariant.on, n.ensures.on);
       within = n.ensures.within;
-      before = on_to_stop (g.C.Choice.passes c.args.choice.now) c.args.attributes.now c.args.from c.requires.others l.place n.result spec
+      before = on_to_stop (g.C.Choice.passes c.args.choice.now) c.args.attributes.now c.args.from c.keeps_to_stops.ensures l.place n.result spec
           (spec_at c.args.attributes.now c.as_slice-specs.result.now l.place spec c.as_slice-specs.ensures c.loop-place-test.true c.index-specs-place.is) c.if-asks.ensures.passes l.invariant.before n.ensures;
     }
 
