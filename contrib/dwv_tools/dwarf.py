@@ -127,7 +127,7 @@ class Unit:
         while cursor.at < at:
             start, code = cursor.at, cursor.leb()
             if code == 0:
-                above = above[:-1]
+                above[-1:] = []
                 continue
             steps, has_children = self.skips(code)
             for step in steps:
@@ -139,7 +139,7 @@ class Unit:
                         form = cursor.leb()
                     self.value(form, 0, cursor)
             if has_children:
-                above = [*above, start] if len(above) < 1000 else above
+                above.append(start)
             if time.monotonic() > limit:
                 raise Unreadable(f"the entries before it were not read within {SECONDS} s")
         if cursor.at != at:

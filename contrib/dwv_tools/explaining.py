@@ -3,6 +3,7 @@ import pathlib
 import textwrap
 
 from dwv_tools import causes, dwarf, entries, finding, names, reading
+from dwv_tools.finding import MOST
 from dwv_tools.running import plain
 
 RULES = pathlib.Path(__file__).parent / "rules.txt"
@@ -11,10 +12,9 @@ KINDS = {
     "limit": "dwv does not read such files; the file itself may be fine.",
     "file": "The file is not what the standard says.",
 }
-# How many entries above one, attributes, entries of a cycle and bytes of a block are printed.
-MOST = 40
+# How many bytes of a block are shown.
 BYTES = 16
-MEMBER_RULES = "AUG"
+BYTE_RULES = "AUG"
 
 
 def rules():
@@ -55,10 +55,10 @@ def value_text(entry, attribute, is_entry=True):
 def entry_lines(place):
     """The entry at the place of a fault with its attributes, and those above it."""
     lines = []
-    for depth, entry in enumerate(place.above[:MOST]):
+    for depth, entry in enumerate(place.above):
         lines.append(f"0x{entry.at:08x} {'  ' * depth}{described(entry)}")
     if place.entry:
-        depth = "  " * min(len(place.above), MOST)
+        depth = "  " * len(place.above)
         arrow = "" if place.attribute else "   <-- here"
         lines.append(f"0x{place.entry.at:08x} {depth}{described(place.entry)}{arrow}")
         for attribute in place.entry.attributes[:MOST]:
@@ -97,7 +97,7 @@ def entry_fields(place):
         return []
     first = place.entry.attributes[0].at if place.entry.attributes else place.entry.end or place.at + 1
     fields = [(place.at, first, f"the code of {names.name('TAG', place.entry.tag)}", None)]
-    for it in place.entry.attributes:
+    for it in place.entry.attributes[-MOST:]:
         if it.end > it.at:
             fields.append((it.at, it.end, names.name("AT", it.code), value_text(place.entry, it)))
     return fields
@@ -161,9 +161,9 @@ def lines(verdict, path):
         [*folded("Cause", f"{KINDS[cause.kind]} {cause.text}"), *folded("What to do", cause.remedy)],
         unit_lines(place),
         header_lines(place) if place.section == "file" else entry_lines(place) if place.rule[0] not in "AU" else [],
-        byte_lines(place) if place.rule[0] in MEMBER_RULES else [],
+        byte_lines(place) if place.rule[0] in BYTE_RULES else [],
         cycle_lines(place),
-        [f"Not shown: {place.trouble}"] if place.trouble and place.rule[0] not in MEMBER_RULES else [],
+        [f"Not shown: {place.trouble}"] if place.trouble and place.rule[0] not in BYTE_RULES else [],
     ]
     return "\n\n".join("\n".join(block) for block in blocks if block).split("\n")
 
@@ -190,7 +190,7 @@ def fields(verdict, path):
     entry, unit, cause = None, None, causes.cause(place)
     if place.entry:
         attributes = [{"name": names.name("AT", it.code), "form": names.name("FORM", it.form),
-                       "value": value_text(place.entry, it)} for it in place.entry.attributes]
+                       "value": value_text(place.entry, it)} for it in place.entry.attributes[:MOST]]
         entry = {**shown(place.entry), "attributes": attributes, "above": [shown(it) for it in place.above]}
     if place.unit:
         unit = {"at": place.unit.at, "version": place.unit.version, "name": place.unit_name, "language": place.language}

@@ -7,6 +7,8 @@ from dwv_tools.entries import readable, text_of
 LINE = re.compile(
     r"fault ([A-Z]\d+) (\w+) at (?:section (\d+)|(\.debug_\w+)\+0x([0-9a-f]{8}) attribute 0x([0-9a-f]+))"
 )
+# How many entries above one are read, and how many attributes, entries of a cycle and fields are shown.
+MOST = 40
 HEADER_RULES = {"U1", "U2", "U3", "U4", "U5", "U6", "U7", "R5", "R6"}
 
 
@@ -44,7 +46,7 @@ class Place:
         if self.rule in HEADER_RULES:
             return
         if self.at > self.unit.first:
-            self.above = [self.unit.entry(at) for at in self.unit.path_to(self.at)]
+            self.above = [self.unit.entry(at) for at in self.unit.path_to(self.at)[:MOST]]
         self.entry = self.unit.entry(self.at)
 
     def _about_unit(self):

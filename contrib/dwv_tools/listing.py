@@ -12,7 +12,7 @@ SHOWN = re.compile(rb'^0x([0-9a-f]{8}) +0x00(13|17|04|16|24) "([^"\n]*)"(?: size
 KINDS = {b"13": "struct", b"17": "union", b"04": "enum", b"16": "typedef", b"24": "base type"}
 BLOCK = 2**20
 # How many entries of a name are kept: enough for the different types that have it.
-MOST = 32
+MOST = 8
 
 
 class Failed(Exception):
