@@ -33,6 +33,10 @@ SOON_MEMORY = 1 << 29
 # Entries of one byte with a flag for each code of DWARF 5 that may be one, and the codes that may not (rule K1).
 FLAGGED = 500_000
 NO_FLAGS = bytes.fromhex("01030b0d18222e2f3137383e474951696b7273")
+# Type units, the declared structures that each has by its signature, and the seconds of such a file.
+SIGNED = 120_000
+DECLARED = 5
+SIGNED_TIME = 5
 # Attributes of a declaration that has many.
 WIDE = 50_000
 SECTIONS = 65_000
@@ -273,6 +277,15 @@ def flagged():
            f"fault R1 NoEntry at .debug_info+0x{FIRST + FLAGGED:08x} attribute 0x49")
 
 
+def signed():
+    """Type units, and declared structures that refer to each by its signature, far from the one before."""
+    table = TABLE[:-1] + bytes.fromhex("0b13003c1969200000" "0c13000b0b0000" "00")
+    types = b"".join(unit(b"\x09\x0c\4\0", 2, struct.pack("<QI", n, 25)) for n in range(SIGNED))
+    count = SIGNED * DECLARED
+    users = b"".join(b"\x0b" + struct.pack("<Q", n * 7919 % SIGNED) for n in range(count))
+    return [(".debug_abbrev", table), (".debug_info", types + unit(b"\x01" + users + b"\0"))]
+
+
 # 1 compile unit, 2 base type with a name and a size, 3 typedef with a name and a type, 4 structure with a size,
 # 5 member with a name and a type, 6 const with a type, 7 pointer with a type, 8 structure with a name and a size,
 # 9 prototyped subroutine with a type, 10 parameter with a type, 11 const, 12 compile unit with a name and a language,
@@ -457,22 +470,23 @@ def limited_types():
     resource.setrlimit(resource.RLIMIT_AS, (TYPES_MEMORY, TYPES_MEMORY))
 
 
-def limited_soon():
-    """Limits the memory and the processor time of the process that is about to run."""
-    resource.setrlimit(resource.RLIMIT_AS, (SOON_MEMORY, SOON_MEMORY))
-    resource.setrlimit(resource.RLIMIT_CPU, (SOON_TIME, SOON_TIME))
-
-
 def checked(path):
     """What `check` of a file says."""
     ran = subprocess.run([DWV, "check", path], capture_output=True, text=True, timeout=LIMIT)
     return f"{ran.stdout}{ran.stderr}"
 
 
-def checked_soon(path):
-    """The same within limits."""
-    ran = subprocess.run([DWV, "check", path], capture_output=True, text=True, timeout=LIMIT, preexec_fn=limited_soon)
-    return f"{ran.stdout}{ran.stderr}"
+def checked_within(memory, seconds):
+    """The same with limits of memory and of processor time."""
+    def limit():
+        resource.setrlimit(resource.RLIMIT_AS, (memory, memory))
+        resource.setrlimit(resource.RLIMIT_CPU, (seconds, seconds))
+
+    def checked_soon(path):
+        ran = subprocess.run([DWV, "check", path], capture_output=True, text=True, timeout=LIMIT, preexec_fn=limit)
+        return f"{ran.stdout}{ran.stderr}"
+
+    return checked_soon
 
 
 def shown(path):
@@ -493,7 +507,11 @@ def runs():
         yield name, elf(sections), checked, want
     for some in (inside(), flagged()):
         for name, sections, want in some:
-            yield name, elf(sections), checked_soon, want
+            yield name, elf(sections), checked_within(SOON_MEMORY, SOON_TIME), want
+    count = SIGNED * DECLARED
+    yield (f"{SIGNED:,} type units and {count:,} declared structures", elf(signed()),
+           checked_within(SOON_MEMORY, SIGNED_TIME),
+           f"sound: {SIGNED + 1} units, {2 * SIGNED + count + 1} entries, {SIGNED + count} types")
     for some in (chains(), bodies()):
         for name, types in some:
             yield f"types of {name}", types.file(), typed, f"{types.text()}status 0\n"

@@ -1,8 +1,6 @@
 -- Which rule on references has the least number of those that fail.
 use Rattle.std.proofs.Common.{◌≡◌, ℕ, ◌<◌, true, false, List, Option, Some, None, refl, sym, ap, ◌∙◌, arith, subst, inl, inr}
-use Rattle.std.specs.Prelude.{slice_get}
-use Rattle.std.specs.Ordering.{nat_cmp}
-use Rattle.std.specs.BTreeMap.{BTreeMap, get}
+use Rattle.std.specs.Prelude.{slice_get, IsSome}
 use Rattle.dw_forms.specs.Value.{Datum, ref_sig}
 use Rattle.dw_entries.specs.declared.rule.Rule.{Rule}
 use Rattle.dw_entries.specs.declared.rule.Rule.TheVariants as rule
@@ -10,17 +8,15 @@ use Rattle.dw_entries.specs.declared.lookup.Head.{Head}
 use Rattle.dw_entries.specs.Entries.{Entry, PlacedUnit}
 use Rattle.dw_entries.specs.Rules.{number_of}
 use Rattle.dw_entries.proofs.Firsts.{same_some}
-use Rattle.dw_links.specs.References.{permits, permits_form, NoEntryThere, IsWrongKind, IsOtherThan, NoSignatureThere, ReferenceFails}
-use Rattle.dw_links.specs.Signatures.{HasSignature, HasFirstSigned}
+use Rattle.dw_links.specs.References.{permits, permits_form, is_signature, NoEntryThere, IsWrongKind, IsOtherThan, NoSignatureThere, ReferenceFails}
+use Rattle.dw_links.specs.SignedTypes.{AreTyped}
 use Rattle.dw_links.specs.Targets.{reach_of}
-use Rattle.dw_links.proofs.TargetLaws.{at_first_signed, none_signed, at_type}
+use Rattle.dw_links.proofs.TargetLaws.{at_type}
 
--- no signature, by the table
-pub unsigned_if : (units : List PlacedUnit) (s : ℕ) (table : BTreeMap ℕ ℕ) → HasFirstSigned units table → None ≡ get nat_cmp table s → (n : ℕ) → HasSignature units s n → ⊥
-unsigned_if units s table so is = none_signed units s (sym (so s) ∙ sym is)
-
-pub signed_if : (units : List PlacedUnit) (s first : ℕ) (table : BTreeMap ℕ ℕ) → HasFirstSigned units table → Some first ≡ get nat_cmp table s → HasSignature units s first
-signed_if units s first table so is = (at_first_signed units s first (sym (so s) ∙ sym is)).1
+-- a signature that reaches no entry is no unit's
+pub no_signature : (entries : List Entry) (units : List PlacedUnit) (unit : ℕ) (v : Datum) → AreTyped entries units → is_signature v ≡ true → reach_of entries units unit v ≡ None → NoSignatureThere units v
+no_signature entries units unit (ref_sig s) typed is nowhere = λ number has. let some : IsSome {T = ℕ} None = subst (λ (o : Option ℕ). IsSome o) nowhere (typed s number has) in cc
+no_signature entries units unit _ typed is nowhere = absurd cc
 
 -- a reference that reaches an entry has its signature
 not_unsigned : (entries : List Entry) (units : List PlacedUnit) (unit : ℕ) (v : Datum) (id : ℕ) → reach_of entries units unit v ≡ Some id → NoSignatureThere units v → ⊥

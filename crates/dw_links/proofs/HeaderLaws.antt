@@ -1,5 +1,5 @@
 -- The rules at the headers of type units.
-use Rattle.std.proofs.Common.{◌≡◌, ℕ, zero, suc, ◌+◌, [], ◌∷◌, length, length-append, ◌<◌, ◌≤◌, true, false, List, Option, Some, None, refl, sym, ap, ◌∙◌, arith, subst, inl, inr}
+use Rattle.std.proofs.Common.{◌≡◌, ◌⊎◌, ℕ, zero, suc, ◌+◌, [], ◌∷◌, length, length-append, ◌<◌, ◌≤◌, true, false, List, Option, Some, None, refl, sym, ap, ◌∙◌, arith, subst, inl, inr}
 use Rattle.std.specs.Prelude.{slice_get}
 use Rattle.dw_entries.specs.declared.rule.Rule.{Rule}
 use Rattle.dw_entries.specs.declared.rule.Rule.TheVariants.{SignatureTwice, BadTypeOffset}
@@ -11,13 +11,13 @@ use Rattle.dw_entries.specs.HeaderLaws.{length-header}
 use Rattle.dw_entries.specs.Units.{DebugUnit, unit_bytes, body_bytes}
 use Rattle.dw_entries.specs.Entries.{Entry, PlacedUnit, node_count, placed_from, placed}
 use Rattle.dw_entries.specs.Rules.{number_of}
-use Rattle.dw_entries.specs.Places.{at_header}
-use Rattle.dw_entries.specs.Failures.{Names, HasNone, IsFirst, IsLeast}
+use Rattle.dw_entries.specs.Places.{Place, IsBefore, at_header, at_attribute}
+use Rattle.dw_entries.specs.Failures.{Failure, Precedes, Names, HasNone, IsFirst, IsLeast}
 use Rattle.dw_entries.specs.Asked.{OffsetsRise, AtPlace}
 use Rattle.dw_entries.proofs.Firsts.{same_some, first_of_list, more_of_list, none_of_list}
 use Rattle.dw_entries.proofs.FirstPlaces.{header_precedes_le, first_at_place, none_at_place}
 use Rattle.dw_entries.specs.Runs.{IsEntryIn}
-use Rattle.dw_links.specs.References.{IsSignedBefore, HasType, TypeUnitFails, HeaderFails, AtHeader, HeaderFailures}
+use Rattle.dw_links.specs.References.{IsSignedBefore, HasType, TypeUnitFails, HeaderFails, AtHeader, HeaderFailures, AttributeFailures}
 use Rattle.dw_forms.specs.Codes.{is_type_tag}
 use Rattle.dw_links.specs.Signatures.{AreDistinct, HasSignature}
 use Rattle.dw_entries.proofs.RunLaws.{one_at, in_is_at}
@@ -144,3 +144,42 @@ least_type_offset entries units number at signature t first untyped = (
     | inr p ↦ let same = ap number_of p.0 in omega (arith, same, less)
   ],
 )
+
+-- an earlier unit has the signature
+pub least_twice : (entries : List Entry) (units : List PlacedUnit) (number at signature t : ℕ) → IsSignedBefore units number signature → IsLeast (TypeUnitFails entries units number at signature t) (Some SignatureTwice)
+least_twice entries units number at signature t before = (
+  inl (refl, before),
+  λ rule fails less. elim fails [
+    | inl p ↦ let same = ap number_of p.0 in omega (arith, same, less)
+    | inr p ↦ let same = ap number_of p.0 in omega (arith, same, less)
+  ],
+)
+
+-- a type begins there, and no earlier unit has the signature
+pub none_at_header : (entries : List Entry) (units : List PlacedUnit) (number at signature t : ℕ) → (IsSignedBefore units number signature → ⊥) → HasType entries number (at + t) → IsLeast (TypeUnitFails entries units number at signature t) None
+none_at_header entries units number at signature t first typed = λ rule fails. elim fails [
+  | inl p ↦ first p.1
+  | inr p ↦ p.1 typed
+]
+
+-- headers come before entries
+header_before : (a at position : ℕ) (f g : Failure) → f.place ≡ at_header a → g.place ≡ at_attribute at position → Precedes g f → ⊥
+header_before a at position f g f_at g_at precedes =
+    elim precedes [
+      | inl before ↦
+          let P : Place → Type 0 = λ x. IsBefore x f.place in
+          let Q : Place → Type 0 = λ x. IsBefore (at_attribute at position) x in
+          subst Q f_at (subst P g_at before)
+      | inr same ↦ let both : at_attribute at position ≡ at_header a = sym g_at ∙ same.0 ∙ f_at in cc
+    ]
+
+pub first_by_header : (entries : List Entry) (units : List PlacedUnit) (broken : Broken) → IsFirst (HeaderFailures entries units) broken → IsFirst (λ f. HeaderFailures entries units f ⊎ AttributeFailures entries units f) broken
+first_by_header entries units broken first = record {
+  failure = first.failure;
+  fails = inl first.fails;
+  named = first.named;
+  first = λ g fails precedes. elim fails [
+    | inl p ↦ first.first g p precedes
+    | inr q ↦ header_before first.fails.item.at q.item.at q.fails.position first.failure g first.fails.fails.stands q.fails.place precedes
+  ];
+}

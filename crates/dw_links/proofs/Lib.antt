@@ -1,5 +1,6 @@
 pub mod Names
 pub mod Signed
+pub mod Stops
 pub mod Reached
 pub mod HeaderLaws
 pub mod FormClasses

@@ -1,8 +1,6 @@
 -- The entry that a value reaches.
-use Rattle.std.proofs.Common.{◌≡◌, ℕ, ◌+◌, ◌<◌, ◌==◌, ◌&&◌, Bool, true, false, List, length, Option, Some, None, IfSome, IfNone, option_and_then, refl, sym, ap, ◌∙◌, subst, arith, eq-eqb, ne_eqb}
+use Rattle.std.proofs.Common.{◌≡◌, ℕ, ◌+◌, ◌<◌, ◌==◌, ◌&&◌, Bool, true, false, List, length, Option, Some, None, IfSome, IfNone, IsSome, option_and_then, refl, sym, ap, ◌∙◌, subst, arith, eq-eqb, ne_eqb}
 use Rattle.std.specs.Prelude.{slice_get}
-use Rattle.std.specs.Ordering.{nat_cmp}
-use Rattle.std.specs.BTreeMap.{BTreeMap, get}
 use Rattle.std.proofs.lemmas.Option.{slice_get_within, option_and_then_some}
 use Rattle.std.proofs.lemmas.Bool.{eqb-true}
 use Rattle.dw_forms.specs.Value.{Datum, ref_info, ref_unit, ref_sig}
@@ -12,8 +10,9 @@ use Rattle.dw_entries.specs.Entries.{Entry, PlacedUnit}
 use Rattle.dw_entries.specs.Runs.{IsEntryAt, IsEntryIn, ReachesInUnit}
 use Rattle.dw_entries.proofs.Firsts.{same_some}
 use Rattle.dw_links.specs.LinkLaws.{ReachesBySignature}
-use Rattle.dw_links.specs.Signatures.{type_in, HasSignature, is_signature_of, first_signed, HasFirstSigned, IsFirstSigned, AreSignatures, AreDistinct}
-use Rattle.dw_links.specs.Targets.{entry_at, entry_in, reach_in_unit, type_of_unit, reach_of, target_of}
+use Rattle.dw_links.specs.Signatures.{type_in, HasSignature, is_signature_of, first_signed, AreDistinct}
+use Rattle.dw_links.specs.SignedTypes.{IsFirstSigned, IsSignedType}
+use Rattle.dw_links.specs.Targets.{entry_at, entry_in, reach_in_unit, type_of_unit, signed_type, reach_of, target_of}
 use Rattle.dw_links.proofs.Positions.{IsFirstAt, position_is, place_is, none_passes, answer_is}
 
 -- ---- entries by their offsets
@@ -141,10 +140,6 @@ first_signed_answer units signature below None all none = go (first_signed units
         let found = at_first_signed units signature number is in
         absurd (none number (omega (arith, found.0, all)) found.1)
 
--- the table of all units has them
-pub has_first_signed : (units : List PlacedUnit) (below : ℕ) (table : BTreeMap ℕ ℕ) → below ≡ length units → AreSignatures units below table → HasFirstSigned units table
-has_first_signed units below table all so signature = first_signed_answer units signature below (get nat_cmp table signature) all (so signature)
-
 -- where none is found, none has the signature
 pub none_signed : (units : List PlacedUnit) (signature : ℕ) → first_signed units signature ≡ None → (number : ℕ) → HasSignature units signature number → ⊥
 unfolding first_signed
@@ -185,6 +180,17 @@ type_is entries units signature id rise distinct reached =
     rw (first_signed_is units signature (length units) reached.number first)
     (type_of_unit_is entries units reached.number signature reached.has.type_offset reached.has.unit (Some id) reached.has.is_unit reached.has.signed
     (reach_in_unit_is entries units reached.number reached.has.type_offset id rise (record { unit = reached.has.unit; is_unit = reached.has.is_unit; target = reached.target })))
+
+-- what is read of all units is the type of a signature
+pub signed_type_is : (entries : List Entry) (units : List PlacedUnit) (signature : ℕ) (o : Option ℕ) → IsSignedType entries units signature (length units) o → o ≡ signed_type entries units signature
+signed_type_is entries units signature None none = ap (option_and_then (type_of_unit entries units)) (first_signed_answer units signature (length units) None refl none)
+signed_type_is entries units signature (Some id) found =
+    sym (rw (first_signed_is units signature (length units) found.0 found.1) found.2)
+
+-- each signature has a type
+pub signed_some : (entries : List Entry) (units : List PlacedUnit) (signature number : ℕ) (o : Option ℕ) → IsSignedType entries units signature (length units) o → HasSignature units signature number → IsSome (signed_type entries units signature)
+signed_some entries units signature number None none has = absurd (none number (slice_get_within units number has.unit has.is_unit) has)
+signed_some entries units signature number (Some id) found has = subst (λ (o : Option ℕ). IsSome o) (signed_type_is entries units signature (Some id) found) refl
 
 -- ---- what a value reaches
 

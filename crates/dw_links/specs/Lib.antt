@@ -13,6 +13,7 @@ pub mod LinkLaws
 -- State.
 pub mod Ready
 pub mod Slots
+pub mod SignedTypes
 pub mod Linkable
 pub mod Kept
 pub mod DeclaredEntries

@@ -1,8 +1,6 @@
 -- Chapter: the type units by their signatures: which have one, the first that has it, and that no two have the same.
-use Rattle.std.specs.Prelude.{◌≡◌, ℕ, ◌==◌, ◌<◌, Bool, false, List, Option, None, Some, slice_get}
+use Rattle.std.specs.Prelude.{◌≡◌, ℕ, ◌==◌, Bool, false, List, Option, None, Some, slice_get}
 use Rattle.std.specs.List.{position_from}
-use Rattle.std.specs.Ordering.{nat_cmp}
-use Rattle.std.specs.BTreeMap.{BTreeMap, get}
 use Rattle.dw_entries.specs.declared.header.HeaderKind.{HeaderKind}
 use Rattle.dw_entries.specs.declared.header.HeaderKind.TheVariants.{TypeUnit}
 use Rattle.dw_entries.specs.Entries.{PlacedUnit}
@@ -32,18 +30,3 @@ is_signature_of signature (Some (other, type_offset)) = other == signature
 unfoldable pub first_signed : List PlacedUnit → ℕ → Option ℕ
 first_signed units signature =
     position_from (λ (u : PlacedUnit). is_signature_of signature (type_in u.unit.header.kind)) 0 units
-
--- the table has the first type unit of each signature
-abbrev pub HasFirstSigned : List PlacedUnit → BTreeMap ℕ ℕ → Type 0
-HasFirstSigned units table = (signature : ℕ) → get nat_cmp table signature ≡ first_signed units signature
-
--- of the type units below a number, the first that has the signature; None where none has
-abbrev pub IsFirstSigned : List PlacedUnit → (signature below : ℕ) → Option ℕ → Type 0
-IsFirstSigned units signature below None = (number : ℕ) → number < below → HasSignature units signature number → ⊥
-IsFirstSigned units signature below (Some first) =
-    (first < below) × HasSignature units signature first
-    × ((number : ℕ) → number < first → HasSignature units signature number → ⊥)
-
--- the table has the first type unit of each signature, of those below a number
-abbrev pub AreSignatures : List PlacedUnit → ℕ → BTreeMap ℕ ℕ → Type 0
-AreSignatures units below table = (signature : ℕ) → IsFirstSigned units signature below (get nat_cmp table signature)

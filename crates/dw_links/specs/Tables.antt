@@ -7,7 +7,7 @@ use Rattle.dw_entries.specs.Scanned.{all_entries, all_units}
 use Rattle.dw_links.specs.declared.link_tables.UnitBases.{UnitBases}
 use Rattle.dw_links.specs.declared.link_tables.LinkTables.{LinkTables}
 use Rattle.dw_links.specs.Bases.{base_in}
-use Rattle.dw_links.specs.Signatures.{HasFirstSigned}
+use Rattle.dw_links.specs.SignedTypes.{HasSignedTypes}
 use Rattle.dw_links.specs.Targets.{target_of}
 
 -- the bases that a unit's first entry gives
@@ -22,10 +22,9 @@ bases_in entries unit = record {
 abbrev pub type_target : List Entry → List PlacedUnit → Entry → Option ℕ
 type_target entries units e = target_of entries units e DW_AT_type
 
--- the tables of these entries: the first type unit of each signature, the bases of each unit, and the target of each
--- entry's type
+-- the tables of these entries: the type of each signature, the bases of each unit, and the target of each entry's type
 pub record AreTables (entries : Entries) (tables : LinkTables) : Type 0 where
-  pub signatures : HasFirstSigned (all_units entries.scanned) tables.signatures
+  pub signatures : HasSignedTypes (all_entries entries.scanned) (all_units entries.scanned) tables.signatures
   pub bases : tables.bases.items ≡ map (bases_in (all_entries entries.scanned)) (all_units entries.scanned)
   pub types : tables.types.items ≡ map (type_target (all_entries entries.scanned) (all_units entries.scanned))
       (all_entries entries.scanned)

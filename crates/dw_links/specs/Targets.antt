@@ -25,12 +25,15 @@ type_of_unit entries units unit =
     option_and_then (λ (u : PlacedUnit). option_and_then
     (λ (type : ℕ × ℕ). reach_in_unit entries units unit type.1) (type_in u.unit.header.kind)) (slice_get units unit)
 
+-- the type of the first type unit that has the signature
+abbrev pub signed_type : List Entry → List PlacedUnit → (signature : ℕ) → Option ℕ
+signed_type entries units signature = option_and_then (type_of_unit entries units) (first_signed units signature)
+
 -- the number of the entry that a value in a unit reaches; None if it is no reference or no entry is there
 abbrev pub reach_of : List Entry → List PlacedUnit → (unit : ℕ) → Datum → Option ℕ
 reach_of entries units unit (ref_info offset) = entry_at entries offset
 reach_of entries units unit (ref_unit offset) = reach_in_unit entries units unit offset
-reach_of entries units unit (ref_sig signature) =
-    option_and_then (type_of_unit entries units) (first_signed units signature)
+reach_of entries units unit (ref_sig signature) = signed_type entries units signature
 reach_of entries units unit _ = None
 
 -- the number of the entry that an attribute of an entry reaches; None where the attribute is absent or no reference

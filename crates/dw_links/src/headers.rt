@@ -1,111 +1,134 @@
-//! The rules at the headers of type units.
+//! The rules at the headers of type units, and the type of each signature.
 
-ghost use Rattle.std.specs.Prelude.{ℕ, ◌≡◌, ◌+◌, ◌<◌, Some, length, slice_get, OnOk, IfErr};
-ghost use Rattle.std.specs.Bool.{OnTrue, OnFalse};
+ghost use Rattle.std.specs.Prelude.{ℕ, ◌≡◌, ◌+◌, ◌<◌, None, Some, length, slice_get, IfSome, IfNone, IfOk, OnOk, IfErr};
 ghost use Rattle.dw_entries.specs.Entries.{PlacedUnit};
 ghost use Rattle.dw_entries.specs.Scanned.{all_entries, all_units, units_of};
+ghost use Rattle.dw_entries.specs.Runs.{ReachesInUnit};
 ghost use Rattle.dw_entries.specs.Failures.{HasNone, IsFirst, IsLeast};
-ghost use Rattle.dw_links.specs.References.{IsSignedBefore, HasType, TypeUnitFails, AtHeader};
-ghost use Rattle.dw_links.specs.References.{HeaderFailures};
-ghost use Rattle.dw_links.specs.Signatures.{HasSignature};
-ghost use Rattle.dw_links.specs.Linkable.{IsLinkable};
+ghost use Rattle.dw_entries.specs.Stopped.{IfFault};
+ghost use Rattle.dw_links.specs.References.{HasType, TypeUnitFails, AtHeader, HeaderFailures};
+ghost use Rattle.dw_links.specs.Signatures.{type_in, HasSignature};
+ghost use Rattle.dw_links.specs.SignedTypes.{AreSignedBelow, HasSignedTypes, AreTyped};
 
-use crate::references::References;
-use crate::signatures::type_in_header;
-use dw_entries::{Broken, Rule, Section};
+use crate::rules::fault_of;
+use dw_entries::{Broken, Entries, EntryId, HeaderKind, Rule, Section, Stop};
+use std::alloc::Global;
+use std::collections::BTreeMap;
 
-impl References<'_, '_> {
-    /// Whether an earlier type unit has a signature.
-    fn is_signed_before(&self, number: usize, signature: u64) -> bool
-        requires linkable { IsLinkable self.now }
-        requires has { HasSignature (all_units self.now.entries.now.scanned) signature number }
-        ensures yes { OnTrue result (IsSignedBefore (all_units self.now.entries.now.scanned) number signature) }
-        ensures otherwise { OnFalse result (IsSignedBefore (all_units self.now.entries.now.scanned) number signature
-            → ⊥) }
-    {
-        match self.signatures.get(&signature) {
-            Some(first) if *first < number => true,
-            _ => false,
-        }
+/// The signature and the type offset in the header of a type unit.
+fn type_in_header(kind: HeaderKind) -> Option<(u64, u32)>
+    ensures { result ≡ type_in kind }
+{
+    match kind {
+        HeaderKind::TypeUnit {
+            signature,
+            type_offset,
+        } => Some((signature, type_offset)),
+        _ => None,
     }
+}
 
-    /// Whether a type begins so far behind the first byte of a unit's header.
-    fn has_type(&self, number: usize, type_offset: u32) -> bool
-        requires { number < length (units_of self.now.entries.now.scanned) }
-        ensures yes { OnTrue result ((p : PlacedUnit)
-            → slice_get (all_units self.now.entries.now.scanned) number ≡ Some p
-            → HasType (all_entries self.now.entries.now.scanned) number (p.at + type_offset)) }
-        ensures otherwise { OnFalse result ((p : PlacedUnit)
-            → slice_get (all_units self.now.entries.now.scanned) number ≡ Some p
-            → HasType (all_entries self.now.entries.now.scanned) number (p.at + type_offset) → ⊥) }
-    {
-        let Some(id) = self.entries.find_in_unit(number, type_offset as u64) else {
-            return false;
-        };
-        if self.entries.head(id).tag.is_type() {
-            return true;
-        }
-        false
+/// The type that begins so far behind the first byte of a unit's header.
+fn find_type(entries: &Entries<'_>, number: usize, type_offset: u32) -> Option<EntryId>
+    requires { number < length (units_of entries.now.scanned) }
+    ensures found { IfSome result
+        (ReachesInUnit (all_entries entries.now.scanned) (all_units entries.now.scanned) number type_offset) }
+    ensures some { IfSome result (λ _. (p : PlacedUnit) → slice_get (all_units entries.now.scanned) number ≡ Some p
+        → HasType (all_entries entries.now.scanned) number (p.at + type_offset)) }
+    ensures none { IfNone result ((p : PlacedUnit) → slice_get (all_units entries.now.scanned) number ≡ Some p
+        → HasType (all_entries entries.now.scanned) number (p.at + type_offset) → ⊥) }
+{
+    let Some(id) = entries.find_in_unit(number, type_offset as u64) else {
+        return None;
+    };
+    if entries.head(id).tag.is_type() {
+        return Some(id);
     }
+    None
+}
 
-    /// The rule at the header of a type unit.
-    fn ask_header(&self, number: usize, signature: u64, type_offset: u32) -> Option<Rule>
-        requires linkable { IsLinkable self.now }
-        requires within { number < length (units_of self.now.entries.now.scanned) }
-        requires has { HasSignature (all_units self.now.entries.now.scanned) signature number }
-        ensures { (p : PlacedUnit) → slice_get (all_units self.now.entries.now.scanned) number ≡ Some p
-            → IsLeast (TypeUnitFails (all_entries self.now.entries.now.scanned) (all_units self.now.entries.now.scanned)
-            number p.at signature type_offset) result }
-    {
-        if self.is_signed_before(number, signature) {
-            return Some(Rule::SignatureTwice);
-        }
-        if self.has_type(number, type_offset) {
-            return None;
-        }
-        Some(Rule::BadTypeOffset)
+/// The type of a type unit, or the rule that fails at its header.
+fn check_type(
+    entries: &Entries<'_>,
+    signatures: &BTreeMap<u64, EntryId>,
+    number: usize,
+    signature: u64,
+    type_offset: u32,
+) -> Result<EntryId, Rule>
+    requires within { number < length (units_of entries.now.scanned) }
+    requires has { HasSignature (all_units entries.now.scanned) signature number }
+    requires before { AreSignedBelow (all_entries entries.now.scanned) (all_units entries.now.scanned) number
+        signatures.now }
+    ensures found { IfOk result
+        (ReachesInUnit (all_entries entries.now.scanned) (all_units entries.now.scanned) number type_offset) }
+    ensures ok { OnOk result ((p : PlacedUnit) → slice_get (all_units entries.now.scanned) number ≡ Some p
+        → IsLeast (TypeUnitFails (all_entries entries.now.scanned) (all_units entries.now.scanned) number p.at signature
+        type_offset) None) }
+    ensures err { IfErr result (λ rule. (p : PlacedUnit) → slice_get (all_units entries.now.scanned) number ≡ Some p
+        → IsLeast (TypeUnitFails (all_entries entries.now.scanned) (all_units entries.now.scanned) number p.at signature
+        type_offset) (Some rule)) }
+{
+    if signatures.contains_key(&signature) {
+        return Err(Rule::SignatureTwice);
     }
+    match find_type(entries, number, type_offset) {
+        Some(id) => Ok(id),
+        None => Err(Rule::BadTypeOffset),
+    }
+}
 
-    /// The failure at a unit's header.
-    fn check_header(&self, number: usize) -> Result<(), Broken>
-        requires linkable { IsLinkable self.now }
-        requires within { number < length (units_of self.now.entries.now.scanned) }
-        ensures ok { OnOk result ((p : PlacedUnit) → slice_get (all_units self.now.entries.now.scanned) number ≡ Some p
-            → HasNone (AtHeader (all_entries self.now.entries.now.scanned) (all_units self.now.entries.now.scanned)
-            number p)) }
-        ensures err { IfErr result
-            (λ broken. (p : PlacedUnit) → slice_get (all_units self.now.entries.now.scanned) number ≡ Some p
-            → IsFirst (AtHeader (all_entries self.now.entries.now.scanned) (all_units self.now.entries.now.scanned)
-            number p) broken) }
-    {
-        let unit = self.entries.unit(number);
-        let Some((signature, type_offset)) = type_in_header(unit.header.kind) else {
-            return Ok(());
-        };
-        match self.ask_header(number, signature, type_offset) {
-            None => Ok(()),
-            Some(rule) => Err(Broken {
+/// Adds the type of a unit, if it is a type unit of which no rule fails at the header.
+fn add_type(
+    alloc: Global,
+    entries: &Entries<'_>,
+    signatures: &mut BTreeMap<u64, EntryId>,
+    number: usize,
+) -> Result<(), Stop>
+    requires within { number < length (units_of entries.now.scanned) }
+    requires before { AreSignedBelow (all_entries entries.now.scanned) (all_units entries.now.scanned) number
+        signatures.old }
+    ensures added { OnOk result (AreSignedBelow (all_entries entries.now.scanned) (all_units entries.now.scanned)
+        (number + 1) signatures.new) }
+    ensures ok { OnOk result ((p : PlacedUnit) → slice_get (all_units entries.now.scanned) number ≡ Some p
+        → HasNone (AtHeader (all_entries entries.now.scanned) (all_units entries.now.scanned) number p)) }
+    ensures fault { IfErr result (IfFault
+        (λ broken. (p : PlacedUnit) → slice_get (all_units entries.now.scanned) number ≡ Some p
+        → IsFirst (AtHeader (all_entries entries.now.scanned) (all_units entries.now.scanned) number p) broken)) }
+{
+    let unit = entries.unit(number);
+    let Some((signature, type_offset)) = type_in_header(unit.header.kind) else {
+        return Ok(());
+    };
+    match check_type(entries, signatures, number, signature, type_offset) {
+        Ok(id) => {
+            signatures.insert(signature, id)?;
+            Ok(())
+        }
+        Err(rule) => {
+            let broken = Broken {
                 rule,
                 section: Section::Info,
                 at: unit.offset,
                 attribute: 0,
-            }),
+            };
+            Err(Stop::Fault(fault_of(alloc, broken)))
         }
     }
+}
 
-    /// The first failure at a header.
-    pub fn check_headers(&self) -> Result<(), Broken>
-        requires linkable { IsLinkable self.now }
-        ensures ok { OnOk result
-            (HasNone (HeaderFailures (all_entries self.now.entries.now.scanned)
-            (all_units self.now.entries.now.scanned))) }
-        ensures err { IfErr result
-            (IsFirst (HeaderFailures (all_entries self.now.entries.now.scanned)
-            (all_units self.now.entries.now.scanned))) }
-    {
-        for number in 0..self.entries.unit_count() {
-            self.check_header(number)?;
-        }
-        Ok(())
+/// Reads the type of each signature, or finds the first failure at the header of a type unit. Want of memory comes
+/// where the table can't grow.
+pub fn read_signatures(alloc: Global, entries: &Entries<'_>) -> Result<BTreeMap<u64, EntryId>, Stop>
+    ensures types { IfOk result (HasSignedTypes (all_entries entries.now.scanned) (all_units entries.now.scanned)) }
+    ensures typed { OnOk result (AreTyped (all_entries entries.now.scanned) (all_units entries.now.scanned)) }
+    ensures ok { OnOk result
+        (HasNone (HeaderFailures (all_entries entries.now.scanned) (all_units entries.now.scanned))) }
+    ensures fault { IfErr result
+        (IfFault (IsFirst (HeaderFailures (all_entries entries.now.scanned) (all_units entries.now.scanned)))) }
+{
+    let mut signatures: BTreeMap<u64, EntryId> = BTreeMap::new(alloc);
+    for number in 0..entries.unit_count() {
+        add_type(alloc, entries, &mut signatures, number)?;
     }
+    Ok(signatures)
 }

@@ -12,7 +12,6 @@ mod linking;
 mod links;
 mod references;
 mod rules;
-mod signatures;
 mod slots;
 mod sound;
 mod string_checks;

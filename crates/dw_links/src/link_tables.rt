@@ -22,11 +22,11 @@ pub(crate) struct UnitBases {
     pub(crate) addresses: Option<u32>,
 }
 
-/// What is read once, so that values can be followed: the first type unit of each signature, the bases of each
-/// unit, and the entry that the type of each entry reaches.
+/// What is read once, so that values can be followed: the type of each signature, the bases of each unit, and
+/// the entry that the type of each entry reaches.
 #[derive(Drop)]
 pub struct LinkTables {
-    pub(crate) signatures: BTreeMap<u64, usize>,
+    pub(crate) signatures: BTreeMap<u64, EntryId>,
     pub(crate) bases: Vec<UnitBases>,
     pub(crate) types: Vec<OptionalId>,
 }

@@ -2,16 +2,16 @@
 
 ghost use Rattle.std.specs.Prelude.{ℕ, ◌≡◌, ◌<◌, length, map, None, Some, slice_get, IfSome, IsSome, OnOk, IfOk, IfErr};
 ghost use Rattle.dw_entries.specs.Entries.{Entry};
-ghost use Rattle.dw_entries.specs.Scanned.{all_entries, all_units, units_of};
+ghost use Rattle.dw_entries.specs.Scanned.{all_entries, all_units};
 ghost use Rattle.dw_entries.specs.Lookups.{entry_head};
 ghost use Rattle.dw_entries.specs.Failures.{HasNone, IsFirst, IsLeast};
 ghost use Rattle.dw_forms.specs.Value.{view};
 ghost use Rattle.dw_links.specs.Targets.{reach_of};
 ghost use Rattle.dw_entries.specs.Stopped.{IfFault};
 ghost use Rattle.dw_links.specs.Concerns.{AtHead, PassesAt, FailsAt};
-ghost use Rattle.dw_links.specs.References.{ReferenceFails, AttributeFailures, ReferenceFailures};
+ghost use Rattle.dw_links.specs.References.{ReferenceFails, AttributeFailures};
 ghost use Rattle.dw_links.specs.DeclaredEntries.{KeepsDeclared};
-ghost use Rattle.dw_links.specs.Linkable.{IsLinkable, MayAsk};
+ghost use Rattle.dw_links.specs.Linkable.{MayAsk};
 ghost use Rattle.dw_links.specs.Tables.{type_target};
 ghost use Rattle.dw_links.specs.Kept.{kept_after};
 
@@ -119,7 +119,7 @@ impl References<'_, '_> {
     }
 
     /// The entries that the types of all entries reach, in their order, or the first failure at a reference.
-    fn link_entries(&self, alloc: Global) -> Result<Vec<OptionalId>, Stop>
+    pub fn link_entries(&self, alloc: Global) -> Result<Vec<OptionalId>, Stop>
         requires { (id : ℕ) (e : Entry) → slice_get (all_entries self.now.entries.now.scanned) id ≡ Some e
             → MayAsk self.now (entry_head e) }
         ensures ok { OnOk result
@@ -144,22 +144,5 @@ impl References<'_, '_> {
             }
         }
         Ok(types)
-    }
-
-    /// The entries that the types of all entries reach, in their order, or the first failure of the rules on
-    /// references. Want of memory comes where the table can't grow.
-    pub fn link(&self, alloc: Global) -> Result<Vec<OptionalId>, Stop>
-        requires { IsLinkable self.now }
-        ensures ok { OnOk result (HasNone (ReferenceFailures (units_of self.now.entries.now.scanned))) }
-        ensures types { IfOk result
-            (λ types. types.items ≡ map
-            (type_target (all_entries self.now.entries.now.scanned) (all_units self.now.entries.now.scanned))
-            (all_entries self.now.entries.now.scanned)) }
-        ensures fault { IfErr result (IfFault (IsFirst (ReferenceFailures (units_of self.now.entries.now.scanned)))) }
-    {
-        match self.check_headers() {
-            Ok(()) => self.link_entries(alloc),
-            Err(broken) => Err(Stop::Fault(fault_of(alloc, broken))),
-        }
     }
 }

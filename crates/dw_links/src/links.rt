@@ -12,9 +12,9 @@ ghost use Rattle.dw_links.specs.Tables.{AreTables};
 ghost use Rattle.dw_links.specs.Targets.{target_of};
 ghost use Rattle.dw_links.specs.AttributeTexts.{text_at, address_at};
 
+use crate::headers::read_signatures;
 use crate::link_tables::{LinkTables, read_bases};
 use crate::references::References;
-use crate::signatures::read_signatures;
 use dw_entries::{Entries, EntryId, Stop};
 use dw_forms::Attribute;
 use std::alloc::Global;
@@ -46,17 +46,13 @@ pub fn link<'r, 'a>(alloc: Global, entries: &'r Entries<'a>) -> Result<Links<'r,
         entries,
         signatures: &signatures,
     };
-    match references.link(alloc) {
-        Ok(types) => {
-            let tables = LinkTables {
-                signatures,
-                bases,
-                types,
-            };
-            Ok(Links { entries, tables })
-        }
-        Err(stop) => Err(stop),
-    }
+    let types = references.link_entries(alloc)?;
+    let tables = LinkTables {
+        signatures,
+        bases,
+        types,
+    };
+    Ok(Links { entries, tables })
 }
 
 impl<'a> Links<'_, 'a> {

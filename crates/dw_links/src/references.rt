@@ -5,10 +5,10 @@ ghost use Rattle.std.specs.Bool.{OnTrue, OnFalse};
 ghost use Rattle.dw_forms.specs.Value.{view};
 ghost use Rattle.dw_entries.specs.Scanned.{all_entries, all_units};
 ghost use Rattle.dw_entries.specs.Failures.{IsLeast};
-ghost use Rattle.dw_links.specs.References.{is_reference_value, NoSignatureThere, IsWrongKind, ReferenceFails};
+ghost use Rattle.dw_links.specs.References.{is_reference_value, IsWrongKind, ReferenceFails};
 ghost use Rattle.dw_links.specs.Targets.{reach_of};
 ghost use Rattle.dw_links.specs.DeclaredEntries.{KeepsDeclared};
-ghost use Rattle.dw_links.specs.Linkable.{IsLinkable, MayAsk};
+ghost use Rattle.dw_links.specs.Linkable.{MayAsk};
 
 use crate::declared_entries::DeclaredEntries;
 use crate::kinds::{is_permitted, is_permitted_form, is_reference, is_sig8};
@@ -17,11 +17,11 @@ use dw_entries::{Entries, EntryId, Head, Rule};
 use dw_forms::{Attribute, Value};
 use std::collections::BTreeMap;
 
-/// What the rules on references are asked with: the entries, and the first type unit of each signature.
+/// What the rules on references are asked with: the entries, and the type of each signature.
 #[derive(Drop)]
 pub struct References<'r, 'd> {
     pub entries: &'r Entries<'d>,
-    pub signatures: &'r BTreeMap<u64, usize>,
+    pub signatures: &'r BTreeMap<u64, EntryId>,
 }
 
 /// Whether the next sibling is this entry.
@@ -37,23 +37,8 @@ fn is_next(next: Option<EntryId>, id: EntryId) -> bool
 }
 
 impl References<'_, '_> {
-    /// Whether a value is a signature that no type unit has.
-    fn is_unsigned(&self, value: &Value<'_>) -> bool
-        requires { IsLinkable self.now }
-        ensures yes { OnTrue result (NoSignatureThere (all_units self.now.entries.now.scanned) (view value.now)) }
-        ensures otherwise { OnFalse result (NoSignatureThere (all_units self.now.entries.now.scanned) (view value.now)
-            → ⊥) }
-    {
-        match value {
-            Value::RefSig(signature) => match self.signatures.get(signature) {
-                Some(_) => false,
-                None => true,
-            },
-            _ => false,
-        }
-    }
-
     /// The rule at a reference that reaches no entry.
+    #[tactic(auto, using(crate::proofs::Asked::no_signature))]
     fn ask_unreached(&self, head: &Head, attribute: Attribute, value: &Value<'_>) -> Option<Rule>
         requires may { MayAsk self.now head.now }
         requires reference { is_reference_value (view value.now) ≡ true }
@@ -68,10 +53,7 @@ impl References<'_, '_> {
         if attribute == DW_AT_sibling && head.next_sibling.is_none() {
             return Some(Rule::NotNextSibling);
         }
-        if self.is_unsigned(value) {
-            return Some(Rule::NoSignature);
-        }
-        None
+        Some(Rule::NoSignature)
     }
 
     /// Whether a reference may not have its form, or not reach its target.

@@ -21,16 +21,16 @@ ghost use Rattle.dw_links.specs.Targets.{reach_of};
 
 use crate::class::check_classes;
 use crate::declared_entries::DeclaredEntries;
+use crate::headers::read_signatures;
 use crate::kinds::is_reference;
 use crate::link_tables::{LinkTables, read_bases};
 use crate::links::Links;
 use crate::references::References;
 use crate::rules::{AttributeRules, check_entry};
-use crate::signatures::read_signatures;
 use crate::string_checks::read_texts;
 use crate::string_rules::{StringEnds, UnitTexts, string_ends};
 use dw_entries::constants::*;
-use dw_entries::{Cursor, Entries, EntryAt, EntryId, Head, Hints, Leading, OptionalId};
+use dw_entries::{Cursor, Entries, EntryAt, EntryId, Head, Hints, Leading, OptionalId, Stop};
 use dw_forms::{Attribute, Form, Value};
 use std::alloc::{AllocError, Global};
 
@@ -308,14 +308,15 @@ pub fn link_sound<'r, 'a>(
     let Ok(()) = check_classes(alloc, entries) else {
         return Ok(None);
     };
-    let signatures = read_signatures(alloc, entries)?;
+    let signatures = match read_signatures(alloc, entries) {
+        Ok(signatures) => signatures,
+        Err(Stop::Fault(_)) => return Ok(None),
+        Err(Stop::Memory) => return Err(AllocError),
+    };
     let bases = read_bases(alloc, entries)?;
     let references = References {
         entries,
         signatures: &signatures,
-    };
-    let Ok(()) = references.check_headers() else {
-        return Ok(None);
     };
     let hints = entries.hints(alloc)?;
     let linker = Linker {

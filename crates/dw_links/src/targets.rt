@@ -1,12 +1,11 @@
 //! The entry that a reference reaches (DWARF 5, section 7.5.5), and the target of an attribute.
 
-ghost use Rattle.std.specs.Prelude.{◌≡◌, ◌<◌, length, slice_get, IfSome, option_and_then};
+ghost use Rattle.std.specs.Prelude.{◌≡◌, ◌<◌, length, slice_get, IfSome};
 ghost use Rattle.dw_forms.specs.Value.{view};
 ghost use Rattle.dw_entries.specs.Scanned.{all_entries, all_units, units_of};
-ghost use Rattle.dw_links.specs.Signatures.{first_signed, HasFirstSigned};
-ghost use Rattle.dw_links.specs.Targets.{entry_at, reach_in_unit, type_of_unit, reach_of, target_of};
+ghost use Rattle.dw_links.specs.SignedTypes.{HasSignedTypes};
+ghost use Rattle.dw_links.specs.Targets.{entry_at, reach_in_unit, signed_type, reach_of, target_of};
 
-use crate::signatures::type_in_header;
 use dw_entries::{Entries, EntryId};
 use dw_forms::{Attribute, Value};
 use std::collections::BTreeMap;
@@ -28,29 +27,17 @@ fn entry_from_header(entries: &Entries<'_>, unit: usize, offset: u64) -> Option<
     entries.find_in_unit(unit, offset)
 }
 
-/// The entry at the type offset of a unit, if that is a type unit.
-fn type_in_unit(entries: &Entries<'_>, unit: usize) -> Option<EntryId>
-    requires { unit < length (units_of entries.now.scanned) }
-    ensures { result ≡ type_of_unit (all_entries entries.now.scanned) (all_units entries.now.scanned) unit }
-{
-    match type_in_header(entries.unit(unit).header.kind) {
-        Some((_, type_offset)) => entry_from_header(entries, unit, type_offset as u64),
-        None => None,
-    }
-}
-
-/// The type of the first type unit that has a signature.
+/// The type of a signature.
 fn type_by_signature(
     entries: &Entries<'_>,
-    signatures: &BTreeMap<u64, usize>,
+    signatures: &BTreeMap<u64, EntryId>,
     signature: u64,
 ) -> Option<EntryId>
-    requires { HasFirstSigned (all_units entries.now.scanned) signatures.now }
-    ensures { result ≡ option_and_then (type_of_unit (all_entries entries.now.scanned) (all_units entries.now.scanned))
-        (first_signed (all_units entries.now.scanned) signature) }
+    requires { HasSignedTypes (all_entries entries.now.scanned) (all_units entries.now.scanned) signatures.now }
+    ensures { result ≡ signed_type (all_entries entries.now.scanned) (all_units entries.now.scanned) signature }
 {
     match signatures.get(&signature) {
-        Some(unit) => type_in_unit(entries, *unit),
+        Some(id) => Some(*id),
         None => None,
     }
 }
@@ -59,12 +46,13 @@ fn type_by_signature(
 #[inline(always)]
 pub fn reach(
     entries: &Entries<'_>,
-    signatures: &BTreeMap<u64, usize>,
+    signatures: &BTreeMap<u64, EntryId>,
     unit: usize,
     value: &Value<'_>,
 ) -> Option<EntryId>
     requires unit { unit < length (units_of entries.now.scanned) }
-    requires signatures { HasFirstSigned (all_units entries.now.scanned) signatures.now }
+    requires signatures { HasSignedTypes (all_entries entries.now.scanned) (all_units entries.now.scanned)
+        signatures.now }
     ensures { result ≡ reach_of (all_entries entries.now.scanned) (all_units entries.now.scanned) unit
         (view value.now) }
 {
@@ -79,12 +67,13 @@ pub fn reach(
 /// Searches the entry that an entry's attribute reaches.
 pub(crate) fn find_target(
     entries: &Entries<'_>,
-    signatures: &BTreeMap<u64, usize>,
+    signatures: &BTreeMap<u64, EntryId>,
     id: EntryId,
     attribute: Attribute,
 ) -> Option<EntryId>
     requires id { id < length (all_entries entries.now.scanned) }
-    requires signatures { HasFirstSigned (all_units entries.now.scanned) signatures.now }
+    requires signatures { HasSignedTypes (all_entries entries.now.scanned) (all_units entries.now.scanned)
+        signatures.now }
     ensures exact { IfSome (slice_get (all_entries entries.now.scanned) id)
         (λ e. result ≡ target_of (all_entries entries.now.scanned) (all_units entries.now.scanned) e attribute) }
     ensures within { IfSome result (λ t. t < length (all_entries entries.now.scanned)) }

@@ -9,7 +9,7 @@ pub link_entries-requires : goal.link_entries-requires
 link_entries-requires c = λ id e is.
     let us = units_of c.args.entries.now.scanned in
     record {
-      linkable = c.in_ok-signatures.ensures;
+      linkable = record { types = c.in-Ok-read_signatures.ensures.types; typed = c.in-Ok-read_signatures.ensures.typed };
       in_unit = in_units _ _ us id e c.args.entries.now.scanned.1.spells is;
     }
 
@@ -18,11 +18,11 @@ invariant_of-result c =
     let us = units_of c.args.entries.now.scanned in
     record {
       tables_are = record {
-        signatures = c.in_ok-signatures.ensures;
+        signatures = c.in-Ok-read_signatures.ensures.types;
         bases = c.in_ok-bases.ensures;
         types = rw c.in-Some.is at c.in_ok-linked.ensures.types;
       };
       classes = c.in-Ok.ensures.ok;
       strings = rw c.in-Some.is at c.in_ok-linked.ensures.strings;
-      references = none_by_both (HeaderFailures (entries_of us) (placed us)) (AttributeFailures (entries_of us) (placed us)) c.in-Ok-check_headers.ensures.ok (rw c.in-Some.is at c.in_ok-linked.ensures.references);
+      references = none_by_both (HeaderFailures (entries_of us) (placed us)) (AttributeFailures (entries_of us) (placed us)) c.in-Ok-read_signatures.ensures.ok (rw c.in-Some.is at c.in_ok-linked.ensures.references);
     }

@@ -8,32 +8,32 @@ use Rattle.dw_entries.proofs.EntryFacts.{entries_rise}
 use Rattle.dw_forms.specs.Codes.{is_type_tag}
 use Rattle.dw_links.proofs.Reached.{in_unit, in_place}
 use Rattle.dw_links.proofs.HeaderLaws.{typed, not_typed}
-use Rattle.dw_links.proofs.references.References.has_type.Goals as goal
+use Rattle.dw_links.proofs.headers.find_type.Goals as goal
 
-pub returns-in_default-clause-otherwise : goal.returns-in_default-clause-otherwise
-returns-in_default-clause-otherwise c = λ p is has.
-    let us = units_of c.args.self.now.entries.now.scanned in
+pub returns-in_default-clause-none : goal.returns-in_default-clause-none
+returns-in_default-clause-none c = λ p is has.
+    let us = units_of c.args.entries.now.scanned in
     c.in_default.ensures.none has.id
     (in_unit (entries_of us) (placed us) c.args.number c.args.type_offset (p.at + c.args.type_offset) has.id p is (let e : p.at + c.args.type_offset ≡ c.args.type_offset + p.at = omega arith in e) has.is_type)
 
 pub head-requires : goal.head-requires
 head-requires c =
     let reached = c.in-Some.ensures.found in
-    slice_get_within (entries_of (units_of c.args.self.now.entries.now.scanned)) c.in-Some.id reached.target.entry reached.target.is_entry
+    slice_get_within (entries_of (units_of c.args.entries.now.scanned)) c.in-Some.id reached.target.entry reached.target.is_entry
 
-pub returns-then-is_type-clause-yes : goal.returns-then-is_type-clause-yes
-returns-then-is_type-clause-yes c = λ p is.
-    let us = units_of c.args.self.now.entries.now.scanned in
+pub returns-then-is_type-clause-some : goal.returns-then-is_type-clause-some
+returns-then-is_type-clause-some c = λ p is.
+    let us = units_of c.args.entries.now.scanned in
     let reached = c.in-Some.ensures.found in
     let head : c.head.result ≡ entry_head reached.target.entry = rw reached.target.is_entry at c.head.ensures in
     typed (entries_of us) c.args.number (p.at + c.args.type_offset) c.in-Some.id reached.target.entry (in_place (entries_of us) (placed us) c.args.number c.args.type_offset p c.in-Some.id is reached) reached.target.is_entry
     (ap (λ (h : Head). is_type_tag h.tag) (sym head) ∙ sym c.if-is_type.ensures)
 
-pub returns-clause-otherwise : goal.returns-clause-otherwise
-returns-clause-otherwise c = λ p is.
-    let us = units_of c.args.self.now.entries.now.scanned in
+pub returns-clause-none : goal.returns-clause-none
+returns-clause-none c = λ p is.
+    let us = units_of c.args.entries.now.scanned in
     let reached = c.in-Some.ensures.found in
     let head : c.head.result ≡ entry_head reached.target.entry = rw reached.target.is_entry at c.head.ensures in
-    not_typed (entries_of us) c.args.number (p.at + c.args.type_offset) c.in-Some.id reached.target.entry (entries_rise _ us c.args.self.now.entries.now.scanned.1.spells.are)
+    not_typed (entries_of us) c.args.number (p.at + c.args.type_offset) c.in-Some.id reached.target.entry (entries_rise _ us c.args.entries.now.scanned.1.spells.are)
     (in_place (entries_of us) (placed us) c.args.number c.args.type_offset p c.in-Some.id is reached) reached.target.is_entry
     (ap (λ (h : Head). is_type_tag h.tag) (sym head) ∙ sym c.if-is_type.ensures)

@@ -1,0 +1,34 @@
+-- State: the type of each signature, while the headers of type units are read.
+use Rattle.std.specs.Prelude.{◌≡◌, ℕ, ◌<◌, List, Option, None, Some, IsSome}
+use Rattle.std.specs.Ordering.{nat_cmp}
+use Rattle.std.specs.BTreeMap.{BTreeMap, get}
+use Rattle.dw_entries.specs.Entries.{Entry, PlacedUnit}
+use Rattle.dw_links.specs.Signatures.{HasSignature}
+use Rattle.dw_links.specs.Targets.{type_of_unit, signed_type}
+
+-- of the type units below a number, the first that has the signature; None where none has
+abbrev pub IsFirstSigned : List PlacedUnit → (signature below : ℕ) → Option ℕ → Type 0
+IsFirstSigned units signature below None = (number : ℕ) → number < below → HasSignature units signature number → ⊥
+IsFirstSigned units signature below (Some first) =
+    (first < below) × HasSignature units signature first
+    × ((number : ℕ) → number < first → HasSignature units signature number → ⊥)
+
+-- of the type units below a number, the type of the first that has the signature; None where none has
+abbrev pub IsSignedType : List Entry → List PlacedUnit → (signature below : ℕ) → Option ℕ → Type 0
+IsSignedType entries units signature below None = IsFirstSigned units signature below None
+IsSignedType entries units signature below (Some id) =
+    (first : ℕ) × IsFirstSigned units signature below (Some first) × (type_of_unit entries units first ≡ Some id)
+
+-- the table has the type of each signature of the type units below a number
+abbrev pub AreSignedBelow : List Entry → List PlacedUnit → (below : ℕ) → BTreeMap ℕ ℕ → Type 0
+AreSignedBelow entries units below table =
+    (signature : ℕ) → IsSignedType entries units signature below (get nat_cmp table signature)
+
+-- the table has the type of each signature
+abbrev pub HasSignedTypes : List Entry → List PlacedUnit → BTreeMap ℕ ℕ → Type 0
+HasSignedTypes entries units table = (signature : ℕ) → get nat_cmp table signature ≡ signed_type entries units signature
+
+-- each signature of a type unit has a type
+abbrev pub AreTyped : List Entry → List PlacedUnit → Type 0
+AreTyped entries units =
+    (signature number : ℕ) → HasSignature units signature number → IsSome (signed_type entries units signature)
