@@ -1,7 +1,7 @@
 #!/usr/bin/env python3
 """Compares the code on the pages crates/*/CALLING.md with the code that the tests compile.
 
-Each part of a block of code, up to an empty line, must be in `calling.rt` of `dw_tests` or in the crate's own `src/`.
+Each part of a block of code, up to an empty line, must be in `src/` of a crate, most of them in `calling.rt` of `dw_tests`.
 It prints each part that is not, and ends with status 1 if there is one.
 """
 import pathlib
@@ -9,10 +9,9 @@ import re
 import sys
 
 CRATES = pathlib.Path(__file__).resolve().parent.parent / "crates"
+code = "\n".join(source.read_text() for source in CRATES.glob("*/src/**/*.rt"))
 failed = False
 for page in sorted(CRATES.glob("*/CALLING.md")):
-    sources = [CRATES / "dw_tests/src/calling.rt", *page.parent.glob("src/**/*.rt")]
-    code = "\n".join(source.read_text() for source in sources)
     blocks = re.findall(r"^```rust\n(.*?)^```$", page.read_text(), re.S | re.M)
     parts = [part.strip("\n") for block in blocks for part in block.split("\n\n")]
     for part in parts:

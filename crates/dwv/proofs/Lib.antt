@@ -1,5 +1,3 @@
 pub mod OutputLemmas
 pub mod ReportLemmas
-pub mod ObjectLemmas
-pub mod ShownLemmas
 pub mod OffsetLemmas

@@ -5,9 +5,10 @@ use Rattle.std.proofs.lemmas.Grind.{common_steps}
 use Rattle.dw_elf.specs.Checks.{ChecksPass}
 use Rattle.dw_elf.specs.Rules.{IsFault}
 use Rattle.dw_elf.specs.Sections.{AreSections}
-use Rattle.dwv.specs.declared.request.Request.{Request}
-use Rattle.dwv.specs.declared.request.Status.{Status}
-use Rattle.dwv.specs.Reports.{Report, large, fails, fault, sound, WritesReport, WritesBeginning}
+use Rattle.dw_report.specs.declared.request.Request.{Request}
+use Rattle.dw_report.specs.declared.request.Status.{Status}
+use Rattle.dwv.specs.Reports.{WritesReport, WritesBeginning}
+use Rattle.dw_report.specs.Reports.{Report, large, fails, fault, sound}
 
 -- what is read within the limit is all there is
 all_read : (limit : ℕ) (input : List ℕ) → length (take (limit + 1) input) ≤ limit → take (limit + 1) input ≡ input

@@ -1,74 +1,9 @@
--- Chapter: the report of a request over the bytes of a file.
-use Rattle.std.specs.Prelude.{◌≡◌, ℕ, ◌<◌, ◌≤◌, true, false, List, length, take, Option}
+-- Chapter: what is written of a report.
+use Rattle.std.specs.Prelude.{ℕ, List, take, Option}
 use Rattle.std.specs.Io.KnownBytes.{Appends}
-use Rattle.dw_elf.specs.declared.fault.ElfRule.TheVariants as elf_rules
-use Rattle.dw_elf.specs.declared.fault.ElfFault.{ElfFault}
-use Rattle.dw_elf.specs.declared.sections.Sections.{Sections}
-use Rattle.dw_elf.specs.Checks.{ChecksPass}
-use Rattle.dw_elf.specs.Rules.{IsFault}
-use Rattle.dw_elf.specs.Sections.{AreSections}
-use Rattle.dw_entries.specs.declared.fault.Fault.{Fault as FirstFault}
-use Rattle.dw_cprint.specs.Listings.{IsListing, listing_text}
-use Rattle.dw_cprint.specs.declared.fault.PrintFault.{PrintFault}
-use Rattle.dw_image.specs.declared.image.Image.{Image}
-use Rattle.dw_image.specs.Headline.{IsImageOf, IsFaultOf}
-use Rattle.dw_image.specs.Images.{unit_count, entry_count, type_count}
-use Rattle.dwv.specs.Lines.{sound_line, elf_fault_line, fault_lines}
-use Rattle.dwv.specs.Shown.{show_lines, size_text, size_status, type_at_offset}
-use Rattle.dwv.specs.Objects.{sound_object, fault_object, elf_fault_object, object_line}
-use Rattle.dwv.specs.declared.request.Request.{Request}
-use Rattle.dwv.specs.declared.request.Request.TheVariants.{Check, Show, Types, Size}
-use Rattle.dwv.specs.declared.request.Status.{Status}
-use Rattle.dwv.specs.declared.request.Status.TheVariants.{Sound, Fault}
-
--- the most bytes that a file may have: 4 GiB
-abbrev pub file_limit : ℕ
-file_limit = 4_294_967_296
-
--- a fault of the file: an object in JSON if `--json` was given, else a line
-abbrev pub elf_fault_text : Request → ElfFault → List ℕ
-elf_fault_text (Check true) f = object_line (elf_fault_object f)
-elf_fault_text _ f = elf_fault_line f
-
--- a fault of the sections
-abbrev pub fault_text : Request → FirstFault → List ℕ
-fault_text (Check true) f = object_line (fault_object f)
-fault_text _ f = fault_lines f
-
--- the lines of the listing of all named types
-pub record AreTypeLines (i : Image) (text : List ℕ) : Type 0 where
-  pub order : List ℕ
-  pub refused : List (ℕ × PrintFault)
-  pub listing : IsListing i order refused
-  pub lines : text ≡ listing_text i order refused
-
--- what is written if the sections are sound
-abbrev pub IsSoundText : Request → Image → List ℕ → Type 0
-IsSoundText (Check true) i text = text ≡ object_line (sound_object (unit_count i) (entry_count i) (type_count i))
-IsSoundText (Check false) i text = text ≡ sound_line (unit_count i) (entry_count i) (type_count i)
-IsSoundText Show i text = text ≡ show_lines i
-IsSoundText Types i text = AreTypeLines i text
-IsSoundText (Size offset) i text = text ≡ size_text i (type_at_offset i offset)
-
--- the status that goes with it
-abbrev pub sound_status : Request → Image → Status
-sound_status (Size offset) i = size_status (type_at_offset i offset)
-sound_status _ i = Sound
-
--- a file that is not within the limit
-abbrev pub too_large : ElfFault
-too_large = record { rule = elf_rules.TooLarge; section = 0 }
-
--- what is returned and written for these bytes of a file, if a file has at most `limit` of them: the fault of a longer
--- file, the first check of the file that fails, the first fault of its sections, or what is requested of sound ones
-pub data Report (limit : ℕ) (request : Request) (bytes : List ℕ) : Status → List ℕ → Type 0 where
-  large : limit < length bytes → Report limit request bytes Fault (elf_fault_text request too_large)
-  fails : (f : ElfFault) → length bytes ≤ limit → IsFault bytes f
-      → Report limit request bytes Fault (elf_fault_text request f)
-  fault : (s : Sections) (f : FirstFault) → length bytes ≤ limit → ChecksPass bytes → AreSections bytes s
-      → IsFaultOf s f → Report limit request bytes Fault (fault_text request f)
-  sound : (s : Sections) (i : Image) (text : List ℕ) → length bytes ≤ limit → ChecksPass bytes → AreSections bytes s
-      → IsImageOf s i → IsSoundText request i text → Report limit request bytes (sound_status request i) text
+use Rattle.dw_report.specs.Reports.{Report}
+use Rattle.dw_report.specs.declared.request.Request.{Request}
+use Rattle.dw_report.specs.declared.request.Status.{Status}
 
 -- a writer whose known bytes were `old` and are `new` has taken the report of these bytes
 abbrev pub WritesReport : ℕ → Request → List ℕ → Status → Option (List ℕ) → Option (List ℕ) → Type 0

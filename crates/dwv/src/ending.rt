@@ -11,9 +11,7 @@ pub fn ending(answer: &Result<Status, RunFault>) -> (u8, &'static str)
     ensures line { result.1.now ≡ line_of answer.now }
 {
     match answer {
-        Ok(Status::Sound) => (0, ""),
-        Ok(Status::Fault) => (1, ""),
-        Ok(Status::NotAType) => (2, ""),
+        Ok(status) => (status.code(), ""),
         Err(RunFault::ReadFailed) => (3, "dwv: reading failed"),
         Err(RunFault::WriteFailed) => (3, "dwv: writing failed"),
         Err(RunFault::Memory) => (4, "dwv: out of memory"),

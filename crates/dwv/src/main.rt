@@ -3,16 +3,11 @@
 
 mod arguments;
 mod device;
-mod digits;
 mod ending;
 mod input;
-mod json;
-mod lines;
 mod output;
-mod report;
 mod request;
 mod running;
-mod shown;
 #[cfg(test)]
 mod tests;
 mod words;

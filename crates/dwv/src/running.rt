@@ -2,21 +2,15 @@
 
 ghost use Rattle.std.specs.Prelude.{◌≡◌, ◌<◌, ◌↔◌, IfOk, IfSome, OnOk, IsErrOf};
 ghost use Rattle.dwv.specs.Devices.{TakesInput};
-ghost use Rattle.dwv.specs.Reports.{WritesReport, WritesBeginning, file_limit};
+ghost use Rattle.dw_report.specs.Reports.{file_limit};
+ghost use Rattle.dwv.specs.Reports.{WritesReport, WritesBeginning};
 
 use crate::device::{Sink, Source};
 use crate::input::read_input;
 use crate::output::write_text;
-use crate::report::report;
 use crate::request::{Request, RunFault, Status};
+use dw_report::{longest_file, report};
 use std::alloc::Global;
-
-/// How many bytes the longest file has that is read as one.
-fn longest_file() -> usize
-    ensures { result ≡ file_limit }
-{
-    4_294_967_296
-}
 
 /// Answers a request over the bytes of a reader: nothing is written before all of them were read.
 pub fn run<R: Source, W: Sink>(

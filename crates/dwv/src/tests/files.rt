@@ -1,8 +1,8 @@
 use super::devices::{SlowReader, SlowWriter};
 use crate::device::Device;
-use crate::report::report;
 use crate::request::{Request, RunFault, Status};
 use crate::running::run;
+use dw_report::report;
 use std::alloc::Global;
 use std::process::Abort;
 use std::test::Fail;

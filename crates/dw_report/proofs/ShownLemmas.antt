@@ -1,0 +1,50 @@
+-- The line of an entry, and the lines of the entries so far.
+use Rattle.std.proofs.Common.{◌≡◌, ℕ, zero, suc, ◌+◌, ◌<◌, List, [], ◌∷◌, ◌++◌, length, take, Option, Some, None, IfSome, refl, sym, ap, ◌∙◌, append_assoc, append-nil, arith}
+use Rattle.std.specs.Prelude.{slice_get}
+use Rattle.std.specs.List.{enumerate_from, flat_map}
+use Rattle.dw_entries.specs.declared.lookup.Head.{Head}
+use Rattle.dw_entries.specs.Entries.{Entry}
+use Rattle.dw_entries.specs.Lookups.{entry_head}
+use Rattle.dw_image.specs.declared.image.Image.{Image}
+use Rattle.dw_image.specs.Images.{name_in}
+use Rattle.dw_image.proofs.LookupLemmas.{slice_get_none}
+use Rattle.dw_report.specs.Shown.{shown_line, shown_size, entry_line}
+
+-- what the look-ups of an entry tell makes its line
+pub entry_line_told : (i : Image) (number : ℕ) (found : Option Entry) (head : Head) (depth : ℕ) (name : Option (List ℕ)) (size : Option ℕ)
+    (old new : List ℕ) → IfSome found (λ e. head ≡ entry_head e) → IfSome found (λ e. depth ≡ e.depth) → IfSome found (λ e. name ≡ name_in i e) → IfSome found (λ e. size ≡ shown_size i number e)
+    → new ≡ old ++ shown_line head.offset depth head.tag name size → IfSome found (λ e. new ≡ old ++ entry_line i (number, e))
+unfolding entry_line
+entry_line_told i number None head depth name size old new is_head is_depth is_name is_size is = tt
+entry_line_told i number (Some e) head depth name size old new is_head is_depth is_name is_size is =
+    is ∙ ap (λ (h : Head). old ++ shown_line h.offset depth h.tag name size) is_head
+    ∙ ap (λ d. old ++ shown_line e.at d e.head.decl.tag name size) is_depth
+    ∙ ap (λ n. old ++ shown_line e.at e.depth e.head.decl.tag n size) is_name
+    ∙ ap (λ s. old ++ shown_line e.at e.depth e.head.decl.tag (name_in i e) s) is_size
+
+-- one item more of a numbered list
+more_lines : (f : ℕ × Entry → List ℕ) (es : List Entry) (n k : ℕ) (e : Entry) → slice_get es k ≡ Some e
+    → flat_map f (take (suc k) (enumerate_from n es)) ≡ flat_map f (take k (enumerate_from n es)) ++ f (n + k, e)
+more_lines f [] n k e there = absurd cc
+more_lines f (x ∷ es) n zero e there =
+    let both : Some x ≡ Some e = there in
+    let same : x ≡ e = cc in
+    let at : n ≡ n + 0 = omega arith in
+    rw (same, ← at) (append-nil _)
+more_lines f (x ∷ es) n (suc k) e there =
+    let at : n + 1 + k ≡ n + suc k = omega arith in
+    ap (λ l. f (n, x) ++ l) (more_lines f es (n + 1) k e there ∙ ap (λ m. flat_map f (take k (enumerate_from (n + 1) es)) ++ f (m, e)) at)
+    ∙ sym (append_assoc (f (n, x)) _ _)
+
+-- the line of the entry with the number k stands behind those before it
+pub one_more_line : (f : ℕ × Entry → List ℕ) (es : List Entry) (k : ℕ) (first old new : List ℕ) → k < length es
+    → IfSome (slice_get es k) (λ e. new ≡ old ++ f (k, e)) → old ≡ first ++ flat_map f (take k (enumerate_from 0 es))
+    → new ≡ first ++ flat_map f (take (k + 1) (enumerate_from 0 es))
+one_more_line f es k first old new below says is = go (slice_get es k) refl says
+  where
+    go : (found : Option Entry) → slice_get es k ≡ found → IfSome found (λ e. new ≡ old ++ f (k, e)) → new ≡ first ++ flat_map f (take (k + 1) (enumerate_from 0 es))
+    go None gone says = absurd (omega (arith, below, slice_get_none es k gone))
+    go (Some e) there says =
+        let next : k + 1 ≡ suc k = omega arith in
+        let at : 0 + k ≡ k = omega arith in
+        rw next (says ∙ ap (λ xs. xs ++ f (k, e)) is ∙ append_assoc first _ _ ∙ ap (λ xs. first ++ xs) (sym (more_lines f es 0 k e there ∙ ap (λ m. flat_map f (take k (enumerate_from 0 es)) ++ f (m, e)) at)))

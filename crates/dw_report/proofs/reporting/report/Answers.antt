@@ -1,0 +1,28 @@
+use Rattle.std.proofs.Common.{sym, subst}
+use Rattle.dw_report.specs.declared.request.Status.TheVariants.{Fault}
+use Rattle.dw_image.specs.Headline.{IsFaultOf, IsImageOf}
+use Rattle.dw_report.specs.Reports.{Report, large, fails, fault, sound}
+use Rattle.dw_report.proofs.reporting.report.Goals as goal
+
+pub returns-then-bytes-limit : goal.returns-then-bytes-limit
+returns-then-bytes-limit c = subst (λ t. Report c.args.limit c.args.request c.args.bytes.now Fault t) (sym c.in_ok-text.ensures) (large c.if-bytes-limit.true)
+
+pub returns-in-Err : goal.returns-in-Err
+returns-in-Err c =
+    subst (λ t. Report c.args.limit c.args.request c.args.bytes.now Fault t) (sym c.in_ok-text-in-Err.ensures)
+    (fails c.in-Err.fault c.if-bytes-limit.false c.in-Err.ensures.fault)
+
+pub returns-in_ok-text-in-Fault : goal.returns-in_ok-text-in-Fault
+returns-in_ok-text-in-Fault c =
+    let judged : IsFaultOf c.in-Ok.sections c.in-Fault.fault = rw c.in-Fault.is at c.in_ok-fault.ensures in
+    subst (λ t. Report c.args.limit c.args.request c.args.bytes.now Fault t) (sym c.in_ok-text-in-Fault.ensures)
+    (fault c.in-Ok.sections c.in-Fault.fault c.if-bytes-limit.false c.in-Ok.ensures.passes c.in-Ok.ensures.sections judged)
+
+pub returns-in_ok-answer-in-Sound : goal.returns-in_ok-answer-in-Sound
+returns-in_ok-answer-in-Sound c =
+    let judged : IsImageOf c.in-Ok.sections c.in-Sound.image = rw c.in-Sound.is at c.in_ok-fault.ensures in
+    let answer = c.in_ok-answer-in-Sound.answer in
+    subst (λ s. Report c.args.limit c.args.request c.args.bytes.now s answer.text.items)
+    (sym c.in_ok-answer-in-Sound.ensures.status)
+    (sound c.in-Ok.sections c.in-Sound.image answer.text.items c.if-bytes-limit.false c.in-Ok.ensures.passes
+    c.in-Ok.ensures.sections judged c.in_ok-answer-in-Sound.ensures.text)

@@ -1,0 +1,53 @@
+-- Chapter: the lines of a report.
+use Rattle.std.specs.Prelude.{ℕ, List, [], ◌∷◌, ◌++◌, codes}
+use Rattle.std.specs.List.{flat_map}
+use Rattle.std.specs.Fmt.{decimal}
+use Rattle.dw_elf.specs.declared.fault.ElfFault.{ElfFault}
+use Rattle.dw_elf.specs.RuleTexts as elf
+use Rattle.dw_entries.specs.declared.fault.Fault.{Fault}
+use Rattle.dw_entries.specs.RuleTexts.{code_text, name_text, section_text}
+use Rattle.dw_cprint.specs.Digits.{places}
+use Rattle.dw_report.specs.Digits.{hex}
+
+-- a text that ends with a line feed
+abbrev pub line : List ℕ → List ℕ
+line text = text ++ 10 ∷ []
+
+-- a number of 32 bits: `0x` and eight digits
+unfoldable pub offset_text : ℕ → List ℕ
+offset_text n = codes "0x" ++ places 8 n
+
+-- `sound: U units, E entries, T types`
+unfoldable pub sound_line : ℕ → ℕ → ℕ → List ℕ
+sound_line units entries types =
+    line (codes "sound: " ++ decimal units ++ codes " units, " ++ decimal entries ++ codes " entries, "
+    ++ decimal types ++ codes " types")
+
+-- `fault RULE NAME`
+unfoldable pub rule_part : List ℕ → List ℕ → List ℕ
+rule_part code name = codes "fault " ++ code ++ codes " " ++ name
+
+-- `fault RULE NAME at section N`
+unfoldable pub elf_fault_line : ElfFault → List ℕ
+elf_fault_line f =
+    line (rule_part (elf.code_text f.rule) (elf.name_text f.rule) ++ codes " at section " ++ decimal f.section)
+
+-- ` at SECTION+0xOOOOOOOO attribute 0xA`
+unfoldable pub place_part : List ℕ → ℕ → ℕ → List ℕ
+place_part section at attribute =
+    codes " at " ++ section ++ codes "+" ++ offset_text at ++ codes " attribute 0x" ++ hex attribute
+
+-- an offset of a cycle, after a space
+unfoldable pub cycle_offset : ℕ → List ℕ
+cycle_offset n = codes " " ++ offset_text n
+
+-- `cycle` and the offsets on a line, if there are any
+unfoldable pub cycle_line : List ℕ → List ℕ
+cycle_line [] = []
+cycle_line (n ∷ ns) = line (codes "cycle" ++ flat_map cycle_offset (n ∷ ns))
+
+-- `fault RULE NAME at SECTION+0xOOOOOOOO attribute 0xA`, and the line of the cycle
+unfoldable pub fault_lines : Fault → List ℕ
+fault_lines f =
+    line (rule_part (code_text f.rule) (name_text f.rule) ++ place_part (section_text f.section) f.at f.attribute)
+    ++ cycle_line f.cycle.items

@@ -1,0 +1,52 @@
+-- Chapter: the objects of a report in JSON.
+use Rattle.std.specs.Prelude.{ℕ, true, false, List, [], map, codes}
+use Rattle.serde_json.specs.Data.{Data, number, unsigned, string, boolean, array, object, member, no_members}
+use Rattle.serde_json.specs.View.{items_of}
+use Rattle.serde_json.specs.Written.{compact_text}
+use Rattle.dw_elf.specs.declared.fault.ElfFault.{ElfFault}
+use Rattle.dw_elf.specs.RuleTexts as elf
+use Rattle.dw_entries.specs.declared.fault.Fault.{Fault}
+use Rattle.dw_entries.specs.RuleTexts.{code_text, name_text, section_text}
+use Rattle.dw_report.specs.Lines.{line}
+
+-- a number that is not negative
+abbrev pub whole : ℕ → Data
+whole n = number (unsigned n)
+
+-- the counts of sound sections
+abbrev pub sound_object : ℕ → ℕ → ℕ → Data
+sound_object units entries types =
+    object (member (codes "entries") (whole entries)
+    (member (codes "sound") (boolean true)
+    (member (codes "types") (whole types)
+    (member (codes "units") (whole units) no_members))))
+
+-- offsets as numbers
+abbrev pub cycle_array : List ℕ → Data
+cycle_array cycle = array (items_of (map whole cycle))
+
+-- a fault's place, attribute, cycle, name, code and section
+abbrev pub fault_members : ℕ → ℕ → Data → List ℕ → List ℕ → List ℕ → Data
+fault_members at attribute cycle name rule section =
+    object (member (codes "at") (whole at)
+    (member (codes "attribute") (whole attribute)
+    (member (codes "cycle") cycle
+    (member (codes "name") (string name)
+    (member (codes "rule") (string rule)
+    (member (codes "section") (string section)
+    (member (codes "sound") (boolean false) no_members)))))))
+
+-- a fault of the sections
+abbrev pub fault_object : Fault → Data
+fault_object f =
+    fault_members f.at f.attribute (cycle_array f.cycle.items) (name_text f.rule) (code_text f.rule)
+    (section_text f.section)
+
+-- a fault of the file: its place is a section's number
+abbrev pub elf_fault_object : ElfFault → Data
+elf_fault_object f =
+    fault_members f.section 0 (cycle_array []) (elf.name_text f.rule) (elf.code_text f.rule) (codes "file")
+
+-- an object on a line, with no spaces
+abbrev pub object_line : Data → List ℕ
+object_line d = line (compact_text d)

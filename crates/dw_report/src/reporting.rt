@@ -1,0 +1,126 @@
+//! The text for a request over the bytes of a file.
+
+ghost use Rattle.std.specs.Prelude.{◌≡◌, IfOk};
+ghost use Rattle.dw_report.specs.Reports.{file_limit, fault_text, elf_fault_text, AreTypeLines, IsSoundText};
+ghost use Rattle.dw_report.specs.Reports.{sound_status, Report};
+
+use crate::json::{put_elf_fault_object, put_fault_object, put_sound_object};
+use crate::lines::{put_elf_fault_line, put_fault_lines, put_sound_line};
+use crate::request::{Request, Status};
+use crate::shown::{put_show_lines, put_size_at};
+use dw_cprint::declare_all;
+use dw_elf::{ElfFault, ElfRule, find};
+use dw_image::{Fault, Image, NoMemory, Verdict, verify};
+use std::alloc::{AllocError, Global};
+
+/// How many bytes the longest file has that is read as one.
+pub fn longest_file() -> usize
+    ensures { result ≡ file_limit }
+{
+    4_294_967_296
+}
+
+/// The status of a request, and the text that is written for it.
+#[derive(Drop)]
+pub struct Answer {
+    pub status: Status,
+    pub text: Vec<u8>,
+}
+
+/// What is written for a fault of the file.
+fn text_of_elf_fault(
+    alloc: Global,
+    request: Request,
+    fault: ElfFault,
+) -> Result<Vec<u8>, AllocError>
+    ensures { IfOk result (λ text. text.items ≡ elf_fault_text request fault) }
+{
+    let mut text = Vec::new(alloc);
+    match request {
+        Request::Check { json: true } => put_elf_fault_object(&mut text, alloc, fault)?,
+        Request::Check { json: false } => put_elf_fault_line(&mut text, fault)?,
+        Request::Show => put_elf_fault_line(&mut text, fault)?,
+        Request::Types => put_elf_fault_line(&mut text, fault)?,
+        Request::Size(_) => put_elf_fault_line(&mut text, fault)?,
+    }
+    Ok(text)
+}
+
+/// What is written for a fault of the sections.
+fn text_of_fault(alloc: Global, request: Request, fault: &Fault) -> Result<Vec<u8>, AllocError>
+    ensures { IfOk result (λ text. text.items ≡ fault_text request fault.now) }
+{
+    let mut text = Vec::new(alloc);
+    match request {
+        Request::Check { json: true } => put_fault_object(&mut text, alloc, fault)?,
+        Request::Check { json: false } => put_fault_lines(&mut text, fault)?,
+        Request::Show => put_fault_lines(&mut text, fault)?,
+        Request::Types => put_fault_lines(&mut text, fault)?,
+        Request::Size(_) => put_fault_lines(&mut text, fault)?,
+    }
+    Ok(text)
+}
+
+/// The lines of all named types.
+fn text_of_types(alloc: Global, image: &Image<'_>) -> Result<Vec<u8>, NoMemory>
+    ensures { IfOk result (λ text. AreTypeLines image.now text.items) }
+{
+    let listing = declare_all(alloc, image)?;
+    Ok(listing.text)
+}
+
+/// The result if the sections are sound.
+fn answer_of_sound(alloc: Global, request: Request, image: &Image<'_>) -> Result<Answer, NoMemory>
+    ensures text { IfOk result (λ answer. IsSoundText request image.now answer.text.items) }
+    ensures status { IfOk result (λ answer. answer.status ≡ sound_status request image.now) }
+{
+    let mut text = Vec::new(alloc);
+    let mut status = Status::Sound;
+    match request {
+        Request::Check { json: true } => put_sound_object(&mut text, alloc, image)?,
+        Request::Check { json: false } => put_sound_line(&mut text, image)?,
+        Request::Show => put_show_lines(&mut text, image)?,
+        Request::Types => text = text_of_types(alloc, image)?,
+        Request::Size(offset) => status = put_size_at(&mut text, image, offset)?,
+    }
+    Ok(Answer { status, text })
+}
+
+/// The result of a request over the bytes of a file.
+pub fn report(
+    alloc: Global,
+    limit: usize,
+    request: Request,
+    bytes: &[u8],
+) -> Result<Answer, NoMemory>
+    ensures { IfOk result (λ answer. Report limit request bytes.now answer.status answer.text.items) }
+{
+    if bytes.len() > limit {
+        let fault = ElfFault {
+            rule: ElfRule::TooLarge,
+            section: 0,
+        };
+        let text = text_of_elf_fault(alloc, request, fault)?;
+        let status = Status::Fault;
+        return Ok(Answer { status, text });
+    }
+    let sections = match find(bytes) {
+        Ok(sections) => sections,
+        Err(fault) => {
+            let text = text_of_elf_fault(alloc, request, fault)?;
+            let status = Status::Fault;
+            return Ok(Answer { status, text });
+        }
+    };
+    match verify(alloc, sections)? {
+        Verdict::Fault(fault) => {
+            let text = text_of_fault(alloc, request, &fault)?;
+            let status = Status::Fault;
+            Ok(Answer { status, text })
+        }
+        Verdict::Sound(image) => {
+            let answer = answer_of_sound(alloc, request, &image)?;
+            Ok(answer)
+        }
+    }
+}

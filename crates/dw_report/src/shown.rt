@@ -1,0 +1,191 @@
+//! The entries of an image, one a line, and the size of the type at an offset.
+
+ghost use Rattle.std.specs.Prelude.{◌≡◌, ◌<◌, ◌++◌, ◌*◌, length, slice_get, replicate, option_copied, IfSome, IfOk};
+ghost use Rattle.std.specs.Prelude.{OnOk};
+ghost use Rattle.std.specs.List.{flat_map};
+ghost use Rattle.dw_image.specs.Images.{entries_in};
+ghost use Rattle.dw_report.specs.Shown.{glyph, name_part, size_part, entry_part, shown_line, shown_size, entry_line};
+ghost use Rattle.dw_report.specs.Shown.{show_lines, size_line, size_text, size_status, type_at_offset};
+
+use crate::digits::{put_decimal, put_four_digits, put_two_digits};
+use crate::lines::put_offset;
+use crate::request::Status;
+use dw_image::{EntryId, Head, Image, TypeId};
+use std::alloc::AllocError;
+
+/// Two spaces for each depth.
+fn put_indent(text: &mut Vec<u8>, depth: usize) -> Result<(), AllocError>
+    ensures ok { OnOk result (text.new.items ≡ text.old.items ++ replicate (2 * depth) 32) }
+{
+    // A length that saturates is more than a vector can have, so its growth is refused.
+    let len = text.len().saturating_add(depth.saturating_mul(2));
+    text.resize(len, b' ')
+}
+
+/// An entry's offset, two spaces for each depth, and its tag.
+#[tactic(auto, unfolding(crate::specs::Shown::entry_part))]
+fn put_entry_part(text: &mut Vec<u8>, offset: u32, depth: usize, tag: u16) -> Result<(), AllocError>
+    ensures ok { OnOk result (text.new.items ≡ text.old.items ++ entry_part offset depth tag) }
+{
+    put_offset(text, offset)?;
+    text.extend_from_slice(b" ")?;
+    put_indent(text, depth)?;
+    text.extend_from_slice(b"0x")?;
+    put_four_digits(text, tag)
+}
+
+/// A byte of a name, as it is shown.
+#[tactic(auto, unfolding(crate::specs::Shown::glyph))]
+fn put_glyph(text: &mut Vec<u8>, byte: u8) -> Result<(), AllocError>
+    ensures ok { OnOk result (text.new.items ≡ text.old.items ++ glyph byte) }
+{
+    let is_plain = (0x20..=0x7e).contains(&byte) && byte != b'"' && byte != b'\\';
+    if is_plain {
+        return text.extend_from_slice(&[byte]);
+    }
+    text.extend_from_slice(b"\\x")?;
+    put_two_digits(text, byte)
+}
+
+/// The bytes of a name, as they are shown.
+fn put_glyphs(text: &mut Vec<u8>, name: &[u8]) -> Result<(), AllocError>
+    ensures ok { OnOk result (text.new.items ≡ text.old.items ++ flat_map glyph name.now) }
+{
+    for byte in name {
+        put_glyph(text, *byte)?;
+    }
+    Ok(())
+}
+
+/// ` "NAME"`, if there is a name.
+#[tactic(auto, unfolding(crate::specs::Shown::name_part))]
+fn put_name(text: &mut Vec<u8>, name: Option<&[u8]>) -> Result<(), AllocError>
+    ensures ok { OnOk result (text.new.items ≡ text.old.items ++ name_part (option_copied name.entry)) }
+{
+    let Some(name) = name else {
+        return Ok(());
+    };
+    text.extend_from_slice(b" \"")?;
+    put_glyphs(text, name)?;
+    text.extend_from_slice(b"\"")
+}
+
+/// ` size N`, if there is a size.
+#[tactic(auto, unfolding(crate::specs::Shown::size_part))]
+fn put_size(text: &mut Vec<u8>, size: Option<u64>) -> Result<(), AllocError>
+    ensures ok { OnOk result (text.new.items ≡ text.old.items ++ size_part size) }
+{
+    let Some(size) = size else {
+        return Ok(());
+    };
+    text.extend_from_slice(b" size ")?;
+    put_decimal(text, size)
+}
+
+/// An entry's line: its head, its depth, its name and its size.
+#[tactic(auto, unfolding(crate::specs::Shown::shown_line))]
+fn put_shown_line(
+    text: &mut Vec<u8>,
+    head: Head,
+    depth: usize,
+    name: Option<&[u8]>,
+    size: Option<u64>,
+) -> Result<(), AllocError>
+    ensures ok { OnOk result (text.new.items
+        ≡ text.old.items ++ shown_line head.offset depth head.tag (option_copied name.entry) size) }
+{
+    put_entry_part(text, head.offset, depth, head.tag.0)?;
+    put_name(text, name)?;
+    put_size(text, size)?;
+    text.extend_from_slice(b"\n")
+}
+
+/// The size of an entry, if it is a type and has one.
+#[tactic(auto, unfolding(crate::specs::Shown::shown_size))]
+fn size_of_entry(image: &Image<'_>, id: EntryId) -> Option<u64>
+    requires { id < length (entries_in image.now) }
+    ensures { IfSome (slice_get (entries_in image.now) id) (λ e. result ≡ shown_size image.now id e) }
+{
+    match image.type_at(id) {
+        Some(of_type) => image.size_of(of_type),
+        None => None,
+    }
+}
+
+/// The line of an entry.
+fn put_entry_line(text: &mut Vec<u8>, image: &Image<'_>, id: EntryId) -> Result<(), AllocError>
+    requires { id < length (entries_in image.now) }
+    ensures ok { OnOk result (IfSome (slice_get (entries_in image.now) id) (λ e.
+        text.new.items ≡ text.old.items ++ entry_line image.now (id, e))) }
+{
+    let head = image.head(id);
+    let depth = image.depth(id);
+    let name = image.name_of(id);
+    let size = size_of_entry(image, id);
+    put_shown_line(text, head, depth, name, size)
+}
+
+/// The line of the entry with a number.
+fn put_numbered_line(text: &mut Vec<u8>, image: &Image<'_>, number: usize) -> Result<(), AllocError>
+    requires { number < length (entries_in image.now) }
+    ensures ok { OnOk result (IfSome (slice_get (entries_in image.now) number) (λ e.
+        text.new.items ≡ text.old.items ++ entry_line image.now (number, e))) }
+{
+    match image.nth(number) {
+        Some(id) => put_entry_line(text, image, id),
+        None => Ok(()),
+    }
+}
+
+/// A line for each entry.
+pub fn put_show_lines(text: &mut Vec<u8>, image: &Image<'_>) -> Result<(), AllocError>
+    ensures ok { OnOk result (text.new.items ≡ text.old.items ++ show_lines image.now) }
+{
+    for number in 0..image.entries() {
+        put_numbered_line(text, image, number)?;
+    }
+    Ok(())
+}
+
+/// The type whose entry starts at an offset.
+#[tactic(auto, unfolding(crate::specs::Shown::type_at_offset))]
+fn type_at(image: &Image<'_>, offset: u32) -> Option<TypeId>
+    ensures exact { result ≡ type_at_offset image.now offset }
+    ensures within { IfSome result (λ it. it < length (entries_in image.now)) }
+{
+    match image.entry(offset) {
+        Some(id) => image.type_at(id),
+        None => None,
+    }
+}
+
+/// `size N` or `no size`.
+#[tactic(auto, unfolding(crate::specs::Shown::size_line))]
+fn put_size_line(text: &mut Vec<u8>, size: Option<u64>) -> Result<(), AllocError>
+    ensures ok { OnOk result (text.new.items ≡ text.old.items ++ size_line size) }
+{
+    let Some(size) = size else {
+        return text.extend_from_slice(b"no size\n");
+    };
+    text.extend_from_slice(b"size ")?;
+    put_decimal(text, size)?;
+    text.extend_from_slice(b"\n")
+}
+
+/// The size of the type whose entry starts at an offset, and whether a type is there.
+pub fn put_size_at(text: &mut Vec<u8>, image: &Image<'_>, offset: u32) -> Result<Status, AllocError>
+    ensures text { OnOk result (text.new.items
+        ≡ text.old.items ++ size_text image.now (type_at_offset image.now offset)) }
+    ensures status { IfOk result (λ status. status ≡ size_status (type_at_offset image.now offset)) }
+{
+    match type_at(image, offset) {
+        Some(id) => {
+            put_size_line(text, image.size_of(id))?;
+            Ok(Status::Sound)
+        }
+        None => {
+            text.extend_from_slice(b"not a type\n")?;
+            Ok(Status::NotAType)
+        }
+    }
+}
