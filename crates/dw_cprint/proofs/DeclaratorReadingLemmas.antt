@@ -6,7 +6,7 @@ use Rattle.dw_cprint.specs.Tokens.{Token, Blank, Star, Open, Close, LeftBracket,
 use Rattle.dw_cprint.specs.Tokens.{Identifier, Number}
 use Rattle.dw_cprint.specs.Writing.{spaced, qualifying, joined, basic, enclosed, count_tokens, name_tokens}
 use Rattle.dw_cprint.specs.Writing.{signature_tokens}
-use Rattle.dw_cprint.specs.Legible.{IsIdentifier, IsName, IsCount, IsQualifiable}
+use Rattle.dw_cprint.specs.Legible.{IsIdentifier, IsName, IsQualifiable}
 use Rattle.dw_cprint.specs.Reading.{Shape, same, Place, OfFirst, After, Grouped, Before, Inside, Behind, AtCount, End}
 use Rattle.dw_cprint.specs.Reading.{AtClose, AtComma, AtSemicolon, AtColon, ended, finished, behind}
 use Rattle.dw_cprint.proofs.CheckedLemmas.{checked, checked-name, checked-number}
@@ -127,16 +127,16 @@ closed_group d name shape h q p place r =
     ap (λ (ts : List Token). checked false (Inside same (λ t. Pointer t) inner) ts) (append_assoc d (Close ∷ []) r)
     ∙ h same same inner AtClose r
 
-pub closed_count : (n : Option ℕ) (d : List Token) (name : Option (List ℕ)) (shape : Shape) → IsCount n
+pub closed_count : (n : Option ℕ) (d : List Token) (name : Option (List ℕ)) (shape : Shape)
     → GoesOn d name shape
     → Closed (d ++ count_tokens n) name (λ t. shape (Array n t))
-closed_count None d name shape c h q p place r =
+closed_count None d name shape h q p place r =
     ap (λ (ts : List Token). checked false (Inside q p place) ts) (append_assoc d (count_tokens None) r)
     ∙ h q p place true (RightBracket ∷ r)
-closed_count (Some n) d name shape c h q p place r =
+closed_count (Some n) d name shape h q p place r =
     ap (λ (ts : List Token). checked false (Inside q p place) ts) (append_assoc d (count_tokens (Some n)) r)
     ∙ h q p place true (Number n ∷ RightBracket ∷ r)
-    ∙ checked-number n c (AtCount name (λ t. q (p t)) shape place) (RightBracket ∷ r)
+    ∙ checked-number n (AtCount name (λ t. q (p t)) shape place) (RightBracket ∷ r)
 
 -- The signature's tokens read as the signature.
 abbrev pub ReadsSignature : Signature → Type 0

@@ -68,16 +68,16 @@ subject_legible k shapes subject none own fit d e =
     by_subject (aggregate_subject word (Some n) odd ms) none own h e =
         let f = map_inverted (Aggregate word n) (members_by (term_at k shapes) ms) d e in
         subst IsDeclaration f.2 (
-          own.0,
+          own,
           own_identifier (aggregate_subject word (Some n) odd ms) n none (λ w. aggregate_name w),
-          members_legible (term_at k shapes) (void_legible k shapes) shapes ms (λ w. none BadName (omega arith) (own_name (member_name w))) own.1 h f.0 f.1,
+          members_legible (term_at k shapes) (void_legible k shapes) shapes ms (λ w. none BadName (omega arith) (own_name (member_name w))) h f.0 f.1,
         )
     by_subject (enumeration_subject None odd es) none own h e = absurd (cc)
     by_subject (enumeration_subject (Some n) odd es) none own h e =
         let f = map_inverted (Constants n) (constants_of es) d e in
         subst IsDeclaration f.2 (
           own_identifier (enumeration_subject (Some n) odd es) n none (λ w. enumeration_name w),
-          constants_legible es (λ w. none BadName (omega arith) (own_name (enumerator_name w))) own f.0 f.1,
+          constants_legible es (λ w. none BadName (omega arith) (own_name (enumerator_name w))) f.0 f.1,
         )
     by_subject (declared_subject word None) none own h e = absurd (cc)
     by_subject (declared_subject word (Some n)) none own h e =

@@ -1,7 +1,7 @@
 -- An entry that is not wrong has a term.
 use Rattle.std.proofs.Common.{◌≡◌, ℕ, zero, suc, ℤ, ◌<◌, Bool, true, false, List, [], ◌∷◌, Option, Some, None, refl}
 use Rattle.std.proofs.Common.{subst, inr, length, arith}
-use Rattle.std.specs.Prelude.{IsSome, is_some, ◌==◌, not, ◌||◌, option_map, option_and_then, Any, All, Contains}
+use Rattle.std.specs.Prelude.{IsSome, is_some, ◌==◌, not, ◌||◌, option_map, option_and_then, Any, Contains}
 use Rattle.std.specs.Prelude.{if◌then◌else◌}
 use Rattle.std.specs.List.{list_any}
 use Rattle.std.proofs.lemmas.List.Splits.{length-slice_split}
@@ -27,12 +27,6 @@ any_here P x xs p = (0, x, omega arith, refl, p)
 
 pub any_there : {X : Type 0} (P : X → Type 0) (x : X) (xs : List X) → Any P xs → Any P (x ∷ xs)
 any_there P x xs (k, y, w, e, p) = (suc k, y, omega arith, e, p)
-
-pub all_here : {X : Type 0} (P : X → Type 0) (x : X) (xs : List X) → All P (x ∷ xs) → P x
-all_here P x xs h = h 0 x (omega arith)
-
-pub all_there : {X : Type 0} (P : X → Type 0) (x : X) (xs : List X) → All P (x ∷ xs) → All P xs
-all_there P x xs h = λ k d w. h (suc k) d (omega arith)
 
 pub among_here : (n : ℕ) (ns : List ℕ) → Contains (n ∷ ns) n
 among_here n ns = (0, omega arith, refl)

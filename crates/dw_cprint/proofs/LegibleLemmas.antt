@@ -1,12 +1,12 @@
 -- The term of an entry that is not wrong can be read back from its text.
 use Rattle.std.proofs.Common.{◌≡◌, ℕ, zero, suc, ℤ, true, false, List, [], ◌∷◌, Option, Some, None, refl, sym, ◌∙◌, ap}
 use Rattle.std.proofs.Common.{subst}
-use Rattle.std.specs.Prelude.{option_map, option_and_then, Any, All, IfSome, Contains}
+use Rattle.std.specs.Prelude.{option_map, option_and_then, Any, Contains}
 use Rattle.dw_cprint.specs.Declarations.{is_miscounted, is_misplaced, arrays, bits_of, constants_of, has_more}
 use Rattle.dw_cprint.specs.Declarations.{parameters_by, members_by, term_by, term_at}
-use Rattle.dw_cprint.specs.Legible.{is_identifier, IsIdentifier, IsName, IsCount, IsValue, AreConstants, IsQualifiable}
+use Rattle.dw_cprint.specs.Legible.{is_identifier, IsIdentifier, IsName, AreConstants, IsQualifiable}
 use Rattle.dw_cprint.specs.Legible.{IsPresent, IsLegible, IsSignature, AreParameters, AreMembers}
-use Rattle.dw_cprint.specs.Regular.{HasCountedBits, HasValue, IsRegular}
+use Rattle.dw_cprint.specs.Regular.{IsRegular}
 use Rattle.dw_cprint.specs.Shapes.{Parameter, Typed, More, Name, TypeAt, MemberOf, EnumeratorOf, ShapeOf, base, typedef}
 use Rattle.dw_cprint.specs.Shapes.{qualified, pointer, array, function, tagged, nameless, body, enumeration, foreign}
 use Rattle.dw_cprint.specs.Shapes.{other}
@@ -18,7 +18,7 @@ use Rattle.dw_cprint.specs.Wrong.{LacksName, LacksMemberName, HasWrongMemberName
 use Rattle.dw_cprint.specs.Wrong.{StandsUnder, nothing, itself, is_array, is_function, shape_of, count, void_parameter}
 use Rattle.dw_cprint.specs.Wrong.{over_array, over_function}
 use Rattle.dw_cprint.proofs.OptionLemmas.{map_inverted, then_inverted, unless_inverted, not_false}
-use Rattle.dw_cprint.proofs.HasTermLemmas.{AreKept, IsBaseTerm, IsFine, all_here, all_there, among_here, among_there}
+use Rattle.dw_cprint.proofs.HasTermLemmas.{AreKept, IsBaseTerm, IsFine, among_here, among_there}
 use Rattle.dw_cprint.proofs.HasTermLemmas.{any_here, any_there, base_is, head_of, name_there, rest_of}
 
 -- ---- an entry that is not wrong is legible
@@ -30,21 +30,19 @@ member_legible shapes m h = by_name m.name h
     by_name None h = tt
     by_name (Some n) h = not_false (is_identifier n) h
 
-pub constants_legible : (es : List EnumeratorOf) → (HasWrongEnumeratorName es → ⊥) → All HasValue es
+pub constants_legible : (es : List EnumeratorOf) → (HasWrongEnumeratorName es → ⊥)
     → (cs : List Constant) → constants_of es ≡ Some cs → AreConstants cs
-constants_legible [] named fit cs e = let same : [] ≡ cs = cc in subst AreConstants same tt
-constants_legible (x ∷ es) named fit cs e =
+constants_legible [] named cs e = let same : [] ≡ cs = cc in subst AreConstants same tt
+constants_legible (x ∷ es) named cs e =
     let rest = constants_of es in
     let name = then_inverted (λ (name : List ℕ). option_and_then (λ (value : ℤ). option_map (λ (cs : List Constant). Valued name value ∷ cs) rest) x.value) x.name cs e in
     let value = then_inverted (λ (value : ℤ). option_map (λ (cs : List Constant). Valued name.0 value ∷ cs) rest) x.value cs name.2 in
     let others = map_inverted (λ (cs : List Constant). Valued name.0 value.0 ∷ cs) rest cs value.2 in
     let there = name_there x.name (λ w. named (any_here (λ (e : EnumeratorOf). LacksName e.name) x es w)) in
     let same : there.0 ≡ name.0 = cc in
-    let P : Option ℤ → Type 0 = λ o. IfSome o IsValue in
     subst AreConstants others.2 (
       subst IsIdentifier same there.2,
-      subst P value.1 (all_here HasValue x es fit),
-      constants_legible es (λ w. named (any_there (λ (e : EnumeratorOf). LacksName e.name) x es w)) (all_there HasValue x es fit) others.0 others.1,
+      constants_legible es (λ w. named (any_there (λ (e : EnumeratorOf). LacksName e.name) x es w)) others.0 others.1,
     )
 
 module _ (term : TypeAt → Option Term) where
@@ -86,24 +84,22 @@ module _ (term : TypeAt → Option Term) where
         )
 
     pub members_legible : (shapes : ℕ → ShapeOf) (ms : List MemberOf) → (HasWrongMemberName shapes ms → ⊥)
-        → All HasCountedBits ms
         → ((n : ℕ) → Contains (entries_of (member_types ms)) n → ReadsAt (Some n)) → (us : Members)
         → members_by term ms ≡ Some us → AreMembers us
-    members_legible shapes [] named fit h us e = let same : NoMember ≡ us = cc in subst AreMembers same tt
-    members_legible shapes (m ∷ ms) named fit h us e =
+    members_legible shapes [] named h us e = let same : NoMember ≡ us = cc in subst AreMembers same tt
+    members_legible shapes (m ∷ ms) named h us e =
         let first = then_inverted (λ (t : Term). option_map (MemberTerm m.name t (bits_of m.bits)) (members_by term ms)) (term m.type_at) us e in
         let others = map_inverted (MemberTerm m.name first.0 (bits_of m.bits)) (members_by term ms) us first.2 in
         let P : MemberOf → Type 0 = λ m. LacksMemberName shapes m m.name in
         subst AreMembers others.2 (
           member_legible shapes m (λ w. named (any_here P m ms w)),
           head_of ReadsAt void m.type_at (member_types ms) h first.0 first.1,
-          all_here HasCountedBits m ms fit,
-          members_legible shapes ms (λ w. named (any_there P m ms w)) (all_there HasCountedBits m ms fit) (rest_of ReadsAt void m.type_at (member_types ms) h) others.0 others.1,
+          members_legible shapes ms (λ w. named (any_there P m ms w)) (rest_of ReadsAt void m.type_at (member_types ms) h) others.0 others.1,
         )
 
-arrays_legible : (counts : List (Option ℕ)) (t : Term) → All IsCount counts → IsLegible t → IsLegible (arrays counts t)
-arrays_legible [] t fit h = h
-arrays_legible (c ∷ cs) t fit h = (all_here IsCount c cs fit, arrays_legible cs t (all_there IsCount c cs fit) h)
+arrays_legible : (counts : List (Option ℕ)) (t : Term) → IsLegible t → IsLegible (arrays counts t)
+arrays_legible [] t h = h
+arrays_legible (c ∷ cs) t h = arrays_legible cs t h
 
 -- a type of an entry is no void
 shape_present : (shapes : ℕ → ShapeOf) (term : TypeAt → Option Term) (s : ShapeOf) → IsFine shapes s → (t : Term)
@@ -187,7 +183,7 @@ module _ (shapes : ℕ → ShapeOf) (k : ℕ) where
   shape_legible (array counts strange at) fine fit there h t e =
       let u = unless_inverted (is_miscounted counts) (option_map (arrays counts) (term_at k shapes at)) t e in
       let f = map_inverted (arrays counts) (term_at k shapes at) t u.1 in
-      subst IsLegible f.2 (arrays_legible counts f.0 fit (head_of (ReadsAt (term_at k shapes)) (void_legible k shapes) at [] h f.0 f.1))
+      subst IsLegible f.2 (arrays_legible counts f.0 (head_of (ReadsAt (term_at k shapes)) (void_legible k shapes) at [] h f.0 f.1))
   shape_legible (function at None) fine fit there h t e =
       let f = map_inverted (λ (t : Term). Function t Unprototyped) (term_at k shapes at) t e in
       subst IsLegible f.2 (head_of (ReadsAt (term_at k shapes)) (void_legible k shapes) at [] h f.0 f.1, tt)
@@ -212,9 +208,9 @@ module _ (shapes : ℕ → ShapeOf) (k : ℕ) where
   shape_legible (nameless word) fine fit there h t e = absurd (cc)
   shape_legible (body word odd ms) fine fit there h t e =
       let f = map_inverted (Body word) (members_by (term_at k shapes) ms) t e in
-      subst IsLegible f.2 (fit.0, members_legible (term_at k shapes) (void_legible k shapes) shapes ms fine.named fit.1 h f.0 f.1)
+      subst IsLegible f.2 (fit, members_legible (term_at k shapes) (void_legible k shapes) shapes ms fine.named h f.0 f.1)
   shape_legible (enumeration odd es) fine fit there h t e =
-      let f = map_inverted Enumeration (constants_of es) t e in subst IsLegible f.2 (constants_legible es fine.named fit f.0 f.1)
+      let f = map_inverted Enumeration (constants_of es) t e in subst IsLegible f.2 (constants_legible es fine.named f.0 f.1)
   shape_legible foreign fine fit there h t e = absurd (cc)
   shape_legible other fine fit there h t e = absurd (cc)
 

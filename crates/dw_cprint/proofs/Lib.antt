@@ -11,6 +11,7 @@ pub mod WriterLemmas
 pub mod ItemWriterLemmas
 pub mod LookUpLemmas
 pub mod ShapeLemmas
+pub mod NumeralLemmas
 pub mod LexingLemmas
 pub mod PlaceLemmas
 pub mod ReadingLemmas

@@ -6,6 +6,7 @@ pub mod Steps
 pub mod Terms
 pub mod Legible
 pub mod Declarations
+pub mod Digits
 pub mod Tokens
 pub mod Writing
 pub mod Wrong
@@ -13,7 +14,6 @@ pub mod Refusals
 pub mod Reading
 pub mod Cycles
 pub mod LongestRows
-pub mod Digits
 pub mod Listings
 -- State.
 pub mod Declarators

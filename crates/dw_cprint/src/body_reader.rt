@@ -4,7 +4,6 @@ ghost use Rattle.std.specs.Prelude.{◌≡◌, ◌<◌, length, IfOk, All, map, 
 ghost use Rattle.std.specs.List.{list_any};
 ghost use Rattle.dw_image.specs.Images.{entries_in};
 ghost use Rattle.dw_cprint.specs.EntryShapes.{has_tag, is_plain_member, member_at, is_enumerator, enumerator_at};
-ghost use Rattle.dw_cprint.specs.Regular.{HasCountedBits, HasValue};
 ghost use Rattle.dw_cprint.specs.Shapes.{view_member, view_enumerator};
 
 use crate::look_ups::{bits_at, declared_at, integer_at, name_at, tag_at, type_at};
@@ -36,8 +35,7 @@ pub fn has_odd_child(image: &Image<'_>, children: &[EntryId]) -> bool
 /// A plain member.
 fn member_at<'a>(image: &Image<'a>, id: EntryId) -> Member<'a>
     requires { id < length (entries_in image.now) }
-    ensures member { view_member result ≡ member_at image.now id }
-    ensures fit { HasCountedBits (view_member result) }
+    ensures { view_member result ≡ member_at image.now id }
 {
     Member {
         name: name_at(image, id),
@@ -61,9 +59,8 @@ pub fn members_of<'a>(
     children: &[EntryId],
 ) -> Result<Vec<Member<'a>>, AllocError>
     requires { All (λ child. child < length (entries_in image.now)) children.now }
-    ensures members { IfOk result (λ members. map view_member members.items
+    ensures { IfOk result (λ members. map view_member members.items
         ≡ map (member_at image.now) (filter (is_plain_member image.now) children.now)) }
-    ensures fit { IfOk result (λ members. All HasCountedBits (map view_member members.items)) }
 {
     let mut members = Vec::with_capacity(alloc, children.len())?;
     for child in children {
@@ -77,8 +74,7 @@ pub fn members_of<'a>(
 /// An enumerator.
 fn enumerator_at<'a>(image: &Image<'a>, id: EntryId) -> Enumerator<'a>
     requires { id < length (entries_in image.now) }
-    ensures enumerator { view_enumerator result ≡ enumerator_at image.now id }
-    ensures fit { HasValue (view_enumerator result) }
+    ensures { view_enumerator result ≡ enumerator_at image.now id }
 {
     Enumerator {
         name: name_at(image, id),
@@ -101,9 +97,8 @@ pub fn enumerators_of<'a>(
     children: &[EntryId],
 ) -> Result<Vec<Enumerator<'a>>, AllocError>
     requires { All (λ child. child < length (entries_in image.now)) children.now }
-    ensures enumerators { IfOk result (λ enumerators. map view_enumerator enumerators.items
+    ensures { IfOk result (λ enumerators. map view_enumerator enumerators.items
         ≡ map (enumerator_at image.now) (filter (is_enumerator image.now) children.now)) }
-    ensures fit { IfOk result (λ enumerators. All HasValue (map view_enumerator enumerators.items)) }
 {
     let mut enumerators = Vec::with_capacity(alloc, children.len())?;
     for child in children {

@@ -1,10 +1,11 @@
 //! How long the parts of the text of a type are, counted to one past the limit.
 
 ghost use Rattle.std.specs.Prelude.{◌≡◌, ◌+◌, ◌∷◌, ◌++◌, [], false, true, ℕ, ℤ, All, IfOk, IsTrue, List, Option, Some};
-ghost use Rattle.std.specs.Prelude.{decimal, flat_map, length, map, option_copied};
+ghost use Rattle.std.specs.Prelude.{flat_map, length, map, option_copied};
 ghost use Rattle.dw_cprint.specs.Declarations.{bits_of, constants_of, declaration_by, has_more, is_cut_short};
 ghost use Rattle.dw_cprint.specs.Declarations.{is_misplaced, members_by, parameters_by, term_at, term_by};
 ghost use Rattle.dw_cprint.specs.Declarators.{body_tokens, enumeration_tokens};
+ghost use Rattle.dw_cprint.specs.Digits.{numeral};
 ghost use Rattle.dw_cprint.specs.Shapes.{ShapeOf, TypeAt as TypeAtOf, function, parameter_items, view_enumerator};
 ghost use Rattle.dw_cprint.specs.Shapes.{view_member, view_shape, view_subject};
 ghost use Rattle.dw_cprint.specs.Steps.{member_types, parameter_types, types_declared, types_reached};
@@ -86,8 +87,9 @@ pub fn word(bytes: usize) -> Length
 }
 
 /// A number in decimal.
+#[tactic(auto, using(crate::proofs::NumeralLemmas::numeral_is_decimal))]
 fn decimal_length(alloc: Global, n: u128) -> Result<usize, AllocError>
-    ensures { IfOk result (λ bytes. bytes ≡ length (decimal n)) }
+    ensures { IfOk result (λ bytes. bytes ≡ length (numeral n)) }
 {
     Ok(n.to_string(alloc)?.len())
 }
@@ -144,13 +146,21 @@ pub fn body_length(
     Ok(bytes)
 }
 
+/// A value in decimal.
+#[tactic(auto, using(crate::proofs::NumeralLemmas::value_text))]
+fn integer_length(alloc: Global, value: i128) -> Result<usize, AllocError>
+    ensures { IfOk result (λ bytes. bytes ≡ byte_count (value_tokens value)) }
+{
+    Ok(value.to_string(alloc)?.len())
+}
+
 /// The text of an enumerator's value.
 fn value_length(alloc: Global, value: Option<i128>) -> Result<usize, AllocError>
     ensures { IfOk result (λ bytes. (n : ℤ) → value ≡ Some n → bytes ≡ byte_count (value_tokens n)) }
 {
     match value {
         None => Ok(0),
-        Some(value) => Ok(value.to_string(alloc)?.len()),
+        Some(value) => integer_length(alloc, value),
     }
 }
 

@@ -6,8 +6,6 @@ ghost use Rattle.dw_image.specs.Images.{entries_in};
 ghost use Rattle.dw_cprint.specs.LookUps.{tag_at, value_at, name_at, type_at, children_at, count_in, has_at, flag_at};
 ghost use Rattle.dw_cprint.specs.LookUps.{declared_at, integer_at};
 ghost use Rattle.dw_cprint.specs.EntryShapes.{bits_in};
-ghost use Rattle.dw_cprint.specs.Declarations.{bits_of};
-ghost use Rattle.dw_cprint.specs.Legible.{IsCount, IsValue};
 ghost use Rattle.dw_forms.specs.Codes.{DW_AT_bit_size};
 
 use crate::shape::{Bits, Name, TypeAt};
@@ -72,8 +70,7 @@ pub fn children_at(
 /// The known count of a dimension.
 pub fn count_at(image: &Image<'_>, id: EntryId) -> Option<u128>
     requires { id < length (entries_in image.now) }
-    ensures count { result ≡ count_in image.now id }
-    ensures fit { IsCount result }
+    ensures { result ≡ count_in image.now id }
 {
     image.count_of(id)
 }
@@ -108,8 +105,7 @@ pub fn declared_at(image: &Image<'_>, id: EntryId) -> bool
 /// The number under an attribute of an entry. This project's choice: the form data16 gives none.
 pub fn integer_at(image: &Image<'_>, id: EntryId, attribute: Attribute) -> Option<i128>
     requires { id < length (entries_in image.now) }
-    ensures number { result ≡ integer_at image.now id attribute }
-    ensures fit { IfSome result IsValue }
+    ensures { result ≡ integer_at image.now id attribute }
 {
     match value_at(image, id, attribute) {
         Some(Value::Unsigned(n)) => Some(i128::from(n)),
@@ -121,8 +117,7 @@ pub fn integer_at(image: &Image<'_>, id: EntryId, attribute: Attribute) -> Optio
 /// The size in bits of a member.
 pub fn bits_at(image: &Image<'_>, id: EntryId) -> Bits
     requires { id < length (entries_in image.now) }
-    ensures bits { result ≡ bits_in (value_at image.now id DW_AT_bit_size) }
-    ensures fit { IsCount (bits_of result) }
+    ensures { result ≡ bits_in (value_at image.now id DW_AT_bit_size) }
 {
     match value_at(image, id, DW_AT_bit_size) {
         None => Bits::Absent,

@@ -1,8 +1,9 @@
 //! Pieces of a type's text: numbers, names, brackets, qualifiers, enumerators.
 
-ghost use Rattle.std.specs.Prelude.{◌≡◌, ◌++◌, ◌∷◌, [], decimal, flat_map, map, option_copied, OnOk};
+ghost use Rattle.std.specs.Prelude.{◌≡◌, ◌++◌, ◌∷◌, [], flat_map, map, option_copied, OnOk};
 ghost use Rattle.dw_cprint.specs.Declarations.{bits_of};
 ghost use Rattle.dw_cprint.specs.Declarators.{gap, pointer_row};
+ghost use Rattle.dw_cprint.specs.Digits.{numeral};
 ghost use Rattle.dw_cprint.specs.Kept.{Writes, WritesEnumerator, WritesEnumerators};
 ghost use Rattle.dw_cprint.specs.Shapes.{view_enumerator};
 ghost use Rattle.dw_cprint.specs.Tokens.{Blank, TagWord};
@@ -13,14 +14,16 @@ use crate::words::{Qualifier, TagKeyword};
 use std::alloc::{AllocError, Global};
 
 /// A number in decimal.
+#[tactic(auto, using(crate::proofs::NumeralLemmas::numeral_is_decimal))]
 fn put_number(alloc: Global, out: &mut Vec<u8>, n: u128) -> Result<(), AllocError>
-    ensures { OnOk result (out.new.items ≡ out.old.items ++ decimal n) }
+    ensures { OnOk result (out.new.items ≡ out.old.items ++ numeral n) }
 {
     let text = n.to_string(alloc)?;
     out.extend_from_slice(text.as_bytes())
 }
 
 /// An enumerator's value in decimal.
+#[tactic(auto, using(crate::proofs::NumeralLemmas::value_text))]
 fn put_value(alloc: Global, out: &mut Vec<u8>, value: i128) -> Result<(), AllocError>
     ensures { OnOk result (Writes (value_tokens value) out.old.items out.new.items) }
 {

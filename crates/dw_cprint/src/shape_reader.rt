@@ -7,7 +7,7 @@ ghost use Rattle.dw_cprint.specs.LookUps.{children_at, count_in, tag_at, type_at
 ghost use Rattle.dw_cprint.specs.EntryShapes.{is_parameter, parameter_at, has_stride, is_strided_dimension};
 ghost use Rattle.dw_cprint.specs.EntryShapes.{is_dimension, parameters_of, aggregate_shape, enumeration_shape};
 ghost use Rattle.dw_cprint.specs.EntryShapes.{counts_in, is_strange, parameters_in, shape_in, shape_by};
-ghost use Rattle.dw_cprint.specs.Legible.{IsAggregate, IsCount};
+ghost use Rattle.dw_cprint.specs.Legible.{IsAggregate};
 ghost use Rattle.dw_cprint.specs.Regular.{IsRegular};
 ghost use Rattle.dw_cprint.specs.Shapes.{view_shape, array, function, Enum};
 
@@ -53,9 +53,8 @@ fn counts_of(
     children: &[EntryId],
 ) -> Result<Vec<Option<u128>>, AllocError>
     requires { All (λ child. child < length (entries_in image.now)) children.now }
-    ensures counts { IfOk result (λ counts. counts.items
+    ensures { IfOk result (λ counts. counts.items
         ≡ map (count_in image.now) (filter (is_dimension image.now) children.now)) }
-    ensures fit { IfOk result (λ counts. All IsCount counts.items) }
 {
     let mut counts = Vec::with_capacity(alloc, children.len())?;
     for child in children {

@@ -1,29 +1,20 @@
-use Rattle.std.proofs.Common.{List, sym, ap, subst, ◌∙◌, map, Vec}
-use Rattle.std.specs.Prelude.{All, filter}
-use Rattle.std.proofs.lemmas.List.Elements.{All-push}
+use Rattle.std.proofs.Common.{sym, ap, ◌∙◌, map, Vec}
+use Rattle.std.specs.Prelude.{filter}
 use Rattle.std.specs.Global.{Global}
 use Rattle.dw_cprint.specs.declared.shape.Member.{Member}
 use Rattle.dw_cprint.specs.EntryShapes.{member_at}
 use Rattle.dw_cprint.specs.EntryShapes.{is_plain_member}
-use Rattle.dw_cprint.specs.Shapes.{MemberOf, view_member}
-use Rattle.dw_cprint.specs.Regular.{HasCountedBits}
+use Rattle.dw_cprint.specs.Shapes.{view_member}
 use Rattle.dw_cprint.proofs.ShapeLemmas.{taken, passed, seen}
 use Rattle.dw_cprint.proofs.body_reader.members_of.Goals.{then-is_plain_member+in_ok-push, else-is_plain_member}
 use Rattle.dw_cprint.proofs.body_reader.members_of.Goals as goal
 
 pub loop-child-preserved : goal.loop-child-preserved
 loop-child-preserved c =
-    let image = c.args.image.now in
     let all = map (member_at c.args.image.now) (filter (is_plain_member c.args.image.now) c.args.children.now) in
-    let P : List (MemberOf) → Type 0 = λ xs. All HasCountedBits xs in record {
-      so_far = elim c.if-is_plain_member.branch [
-        | then-is_plain_member+in_ok-push w ↦ taken (member_at c.args.image.now) (is_plain_member c.args.image.now) (map view_member c.if-is_plain_member.members.items) (map view_member c.loop-child.members.items) all (view_member w.member_at.result) c.args.children.now c.loop-child.child-index c.child-item.result
-            (seen view_member c.if-is_plain_member.members.items c.loop-child.members.items w.member_at.result (ap (λ (v : Vec (Member) Global). v.items) w.members-is ∙ w.in_ok-push.ensures.items)) w.member_at.ensures.member c.loop-child-test.true c.child-item.is (sym w.if-is_plain_member.ensures) c.loop-child.invariant.so_far
-        | else-is_plain_member w ↦ passed (member_at c.args.image.now) (is_plain_member c.args.image.now) (map view_member c.if-is_plain_member.members.items) (map view_member c.loop-child.members.items) all c.args.children.now c.loop-child.child-index c.child-item.result
-            (ap (λ (v : Vec (Member) Global). map view_member v.items) w.members-is) c.loop-child-test.true c.child-item.is (sym w.if-is_plain_member.ensures) c.loop-child.invariant.so_far
-      ];
-      fit = elim c.if-is_plain_member.branch [
-        | then-is_plain_member+in_ok-push w ↦ subst P (sym (seen view_member c.if-is_plain_member.members.items c.loop-child.members.items w.member_at.result (ap (λ (v : Vec (Member) Global). v.items) w.members-is ∙ w.in_ok-push.ensures.items))) (All-push HasCountedBits (map view_member c.loop-child.members.items) (view_member w.member_at.result) c.loop-child.invariant.fit w.member_at.ensures.fit)
-        | else-is_plain_member w ↦ subst P (sym (ap (λ (v : Vec (Member) Global). map view_member v.items) w.members-is)) c.loop-child.invariant.fit
-      ];
-    }
+    elim c.if-is_plain_member.branch [
+      | then-is_plain_member+in_ok-push w ↦ taken (member_at c.args.image.now) (is_plain_member c.args.image.now) (map view_member c.if-is_plain_member.members.items) (map view_member c.loop-child.members.items) all (view_member w.member_at.result) c.args.children.now c.loop-child.child-index c.child-item.result
+          (seen view_member c.if-is_plain_member.members.items c.loop-child.members.items w.member_at.result (ap (λ (v : Vec (Member) Global). v.items) w.members-is ∙ w.in_ok-push.ensures.items)) w.member_at.ensures c.loop-child-test.true c.child-item.is (sym w.if-is_plain_member.ensures) c.loop-child.invariant
+      | else-is_plain_member w ↦ passed (member_at c.args.image.now) (is_plain_member c.args.image.now) (map view_member c.if-is_plain_member.members.items) (map view_member c.loop-child.members.items) all c.args.children.now c.loop-child.child-index c.child-item.result
+          (ap (λ (v : Vec (Member) Global). map view_member v.items) w.members-is) c.loop-child-test.true c.child-item.is (sym w.if-is_plain_member.ensures) c.loop-child.invariant
+    ]

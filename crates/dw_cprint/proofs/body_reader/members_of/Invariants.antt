@@ -1,13 +1,9 @@
 use Rattle.std.proofs.Common.{◌≡◌, ◌++◌, drop, map}
-use Rattle.std.specs.Prelude.{All, filter}
+use Rattle.std.specs.Prelude.{filter}
 use Rattle.dw_cprint.specs.EntryShapes.{member_at}
 use Rattle.dw_cprint.specs.EntryShapes.{is_plain_member}
 use Rattle.dw_cprint.specs.Shapes.{view_member}
-use Rattle.dw_cprint.specs.Regular.{HasCountedBits}
 use Rattle.dw_cprint.proofs.body_reader.members_of.Given as goal
 
 abbrev pub invariant-loop-child : goal.invariant-loop-child
-invariant-loop-child l = record {
-  so_far : map view_member l.members.items ++ map (member_at l.image) (filter (is_plain_member l.image) (drop l.child-index l.children)) ≡ map (member_at l.image) (filter (is_plain_member l.image) l.children);
-  fit : All HasCountedBits (map view_member l.members.items);
-}
+invariant-loop-child l = map view_member l.members.items ++ map (member_at l.image) (filter (is_plain_member l.image) (drop l.child-index l.children)) ≡ map (member_at l.image) (filter (is_plain_member l.image) l.children)
