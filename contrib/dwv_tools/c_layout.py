@@ -9,8 +9,8 @@ MODES = {1: "QI", 2: "HI", 4: "SI", 8: "DI"}
 LARGEST_ALIGNMENT = 4096
 
 # What a file says of the body of a structure or union: its size, its alignment or None, the bit at which each member
-# starts, and of each member whose type has a body or is an enumeration without a name, the shape or the size of that.
-Shape = collections.namedtuple("Shape", "size alignment starts inner")
+# starts, the size of its type or None, and the shape of a body in it, or the size of an enumeration without a name.
+Shape = collections.namedtuple("Shape", "size alignment starts sizes inner")
 # What a body or a type takes: its size and its alignment.
 Extent = collections.namedtuple("Extent", "size alignment")
 
@@ -118,6 +118,8 @@ class Layouts:
                 if shape:
                     raise Misfit(f"the size of the member {member.name} is not known")
                 return body, None
+            if shape and shape.sizes[k] not in (None, extent.size):
+                raise Misfit(f"the member {member.name} has {shape.sizes[k]} bytes in the file, and {extent.size} here")
             step = 1 if is_packed else extent.alignment
             start = shape.starts[k] if shape else None
             at = 0 if body.kind == "union" else at

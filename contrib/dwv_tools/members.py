@@ -2,7 +2,7 @@
 from dwv_tools import dwarf, reading
 from dwv_tools.c_layout import Shape
 from dwv_tools.c_types import Body, Enum, innermost
-from dwv_tools.entries import name_of, number_of, target_of
+from dwv_tools.entries import name_of, number_of, size_of, target_of
 
 MEMBER, STRUCTURES = 0x0D, {0x13, 0x17, 0x02}
 # What leads from a type to its innermost one: arrays, pointers, functions, qualifiers.
@@ -49,14 +49,15 @@ def shape_of(body, entry):
     found = [it for it in entry.unit.children(entry) if it.tag == MEMBER and not number_of(it, reading.DECLARATION)]
     if [it.name for it in body.members] != [name_of(it) or None for it in found]:
         return None
-    starts, inner = [], []
+    starts, sizes, inner = [], [], []
     for member, it in zip(body.members, found):
         starts.append(start_of(it))
-        of = innermost(member.type)
+        kind, of = type_of(it), innermost(member.type)
+        sizes.append(size_of(kind) if kind else None)
         inner.append(inner_of(of, innermost_entry(it)) if type(of) in (Body, Enum) else None)
         if starts[-1] is None or type(of) is Body and inner[-1] is None:
             return None
-    return Shape(number_of(entry, reading.BYTE_SIZE), number_of(entry, reading.ALIGNMENT), starts, inner)
+    return Shape(number_of(entry, reading.BYTE_SIZE), number_of(entry, reading.ALIGNMENT), starts, sizes, inner)
 
 
 def inner_of(of, entry):
