@@ -460,6 +460,29 @@ def bodies():
     yield f"{MANY // 100:,} typedefs of a pointer to a function that returns such a pointer, 30 deep", types
 
 
+# 1 compile unit, 2 typedef with a name, 3 const
+SMALL = bytes.fromhex("0111010000" "02160003080000" "0326000000" "00")
+COLLISIONS = 125_000
+
+
+def hashed(number):
+    """The hash of the number of an entry in a table of the toolchain, whose seed is fixed."""
+    product = (0x243f_6a88_85a3_08d3 ^ number) * (0x9e37_79b9_7f4a_7c15 ^ 16)
+    hash = (product ^ product >> 64) % (1 << 64)
+    return (hash ^ hash >> 32) % (1 << 32)
+
+
+def collisions():
+    """Typedefs whose numbers would be in one sixteenth of a hash table, and what `types` prints of them."""
+    items, number, left = bytearray(b"\x01"), 1, COLLISIONS
+    while left:
+        chosen = hashed(number) % (1 << 14) < 1 << 10
+        items += b"\x02t\0" if chosen else b"\x03"
+        number, left = number + 1, left - chosen
+    file = elf([(".debug_abbrev", SMALL), (".debug_info", unit(bytes(items) + b"\0"))])
+    return file, "typedef void t;\n" * COLLISIONS
+
+
 def limited():
     """Limits the memory of the process that is about to run."""
     resource.setrlimit(resource.RLIMIT_AS, (MEMORY, MEMORY))
@@ -515,6 +538,8 @@ def runs():
     for some in (chains(), bodies()):
         for name, types in some:
             yield f"types of {name}", types.file(), typed, f"{types.text()}status 0\n"
+    file, want = collisions()
+    yield f"types of {COLLISIONS:,} typedefs whose numbers collide", file, typed, f"{want}status 0\n"
     tree = [(".debug_abbrev", TABLE), (".debug_info", unit(deep()))]
     yield f"show of {MANY:,} nested structures", elf(tree), shown, "status 4, 0 bytes written, dwv: out of memory\n"
     yield f"{SECTIONS:,} sections with one name of 16 MB", alike(), checked, "sound: 0 units, 0 entries, 0 types"
