@@ -8,6 +8,23 @@ all:
 	cd crates/dwv && rt run -- check data/X1
 	@echo "The program is crates/dwv/out/dwv: copy it where you like."
 
+# Proves the C library and links it into out/, with its header and a file for pkg-config. Only the names dwv_* are
+# visible. The toolchain's own archive has its allocator, which calls malloc.
+kit = $(dir $(shell readlink -f "$$(command -v rt)"))..
+.PHONY: lib
+lib:
+	cd crates/dwv_c && rt lib
+	install -d out/lib/pkgconfig out/include
+	ld -r --whole-archive crates/dwv_c/out/libdwv_c.a "$(kit)/c/liblibc_c.a" -o out/lib/dwv.o
+	objcopy --wildcard --keep-global-symbol='dwv_*' out/lib/dwv.o
+	rm -f out/lib/libdwv.a
+	ar rcsD out/lib/libdwv.a out/lib/dwv.o
+	$(CC) -shared -o out/lib/libdwv.so.0 out/lib/dwv.o -Wl,-soname,libdwv.so.0 -Wl,-z,defs,-z,relro,-z,now,-z,noexecstack
+	ln -sf libdwv.so.0 out/lib/libdwv.so
+	rm out/lib/dwv.o
+	install -m 644 include/dwv.h out/include
+	install -m 644 contrib/dwv.pc out/lib/pkgconfig
+
 # How many checks `make test` runs side by side: one a processor, if there are 3 GB of memory for each. With RT_JOBS
 # each has one job, which costs the least processor time: jobs that share a check each load all that it stands on.
 memory = $(shell awk '/MemAvailable/ { print int($$2 / 3000000) }' /proc/meminfo)
@@ -32,6 +49,7 @@ test:
 	tests/check-tree.sh
 	tests/explain.py
 	tests/c-header.py
+	tests/library.sh
 
 # Proves what changed, in every crate, over what earlier runs kept.
 .PHONY: check
@@ -65,14 +83,17 @@ same-answers:
 	tests/same-answers.py $(OLD) $(NEW)
 
 # Installs the program that `make` built, the scripts beside it (as dwv-explain, ..), the manual page and the completion
-# in bash: `make install PREFIX=$HOME/.local` chooses the folder. It builds and proves nothing. DESTDIR is put before all
-# paths, as packages need it.
+# in bash, and the C library if `make lib` built it: `make install PREFIX=$HOME/.local` chooses the folder. It builds and
+# proves nothing. DESTDIR is put before all paths, as packages need it.
 PREFIX = /usr/local
 bin = $(DESTDIR)$(PREFIX)/bin
 man = $(DESTDIR)$(PREFIX)/share/man/man1
 completions = $(DESTDIR)$(PREFIX)/share/bash-completion/completions
 share = $(DESTDIR)$(PREFIX)/share/dwv
 scripts = c-header check-tree explain
+lib = $(DESTDIR)$(PREFIX)/lib
+include = $(DESTDIR)$(PREFIX)/include
+library = $(wildcard out/lib/libdwv.a)
 .PHONY: install
 install:
 	@[ -x crates/dwv/out/dwv ] || { echo "crates/dwv/out/dwv is not built: run make first." >&2; exit 1; }
@@ -86,6 +107,14 @@ install:
 	for it in $(scripts); do \
 	    ln -sf "../share/dwv/$$it" "$(bin)/dwv-$$it" && ln -sf dwv "$(completions)/dwv-$$it" || exit 1; \
 	done
+ifneq ($(library),)
+	install -d "$(lib)/pkgconfig" "$(include)"
+	install -m 644 out/lib/libdwv.a "$(lib)/libdwv.a"
+	install -m 755 out/lib/libdwv.so.0 "$(lib)/libdwv.so.0"
+	ln -sf libdwv.so.0 "$(lib)/libdwv.so"
+	install -m 644 out/include/dwv.h "$(include)/dwv.h"
+	install -m 644 out/lib/pkgconfig/dwv.pc "$(lib)/pkgconfig/dwv.pc"
+endif
 
 # Removes what `make install` installed, by the same PREFIX and DESTDIR.
 .PHONY: uninstall
@@ -93,6 +122,7 @@ uninstall:
 	rm -f "$(bin)/dwv" "$(man)/dwv.1" "$(completions)/dwv"
 	rm -f $(scripts:%="$(bin)/dwv-%") $(scripts:%="$(completions)/dwv-%")
 	rm -rf "$(share)"
+	rm -f "$(lib)/libdwv.a" "$(lib)/libdwv.so.0" "$(lib)/libdwv.so" "$(include)/dwv.h" "$(lib)/pkgconfig/dwv.pc"
 
 # Measures the program beside the peers that are installed, and draws docs/performance.svg.
 .PHONY: bench
@@ -103,6 +133,11 @@ bench:
 .PHONY: compilers
 compilers:
 	bench/compilers.py
+
+# Measures the C library beside the program.
+.PHONY: bench-library
+bench-library:
+	bench/library.py
 
 # Runs the peers that are installed on the smallest file of each rule, and writes docs/COMPARISON.md.
 .PHONY: compare
@@ -117,4 +152,4 @@ fmt:
 # Removes what checks and builds kept.
 .PHONY: clean
 clean:
-	rm -rf crates/*/out bench/out tests/out
+	rm -rf crates/*/out bench/out tests/out out

@@ -258,4 +258,5 @@ def main():
         print(f"gnuplot is not installed: {PICTURE.name} is as it was.")
 
 
-main()
+if __name__ == "__main__":
+    main()

@@ -26,6 +26,19 @@ def read():
     return rows.read(RULES, parts, lines), parts
 
 
+def files():
+    """The files of all rows: those of tests/rows, and those of the page."""
+    parts = {}
+    tables = sorted((rows.HERE / "rows").glob("*.txt"), key=lambda it: (it.name != "parts.txt", it.name))
+    for table in tables:
+        own = dict(parts)
+        for row in rows.read(table, parts if table.name == "parts.txt" else own):
+            yield from row.files(own)
+    table, parts = read()
+    for row in table:
+        yield from row.files(parts)
+
+
 def rules():
     """The codes and names of the rules in the tables of the page, in its order. P1 to P6 are no rules of a file."""
     found = re.findall(r"^\| ([A-Z]\d+) \| (\w+) \|", RULES.read_text(), re.MULTILINE)

@@ -37,7 +37,7 @@ files() {
     (cd "$1" && find . -type f -printf '%m %P\n' -o -type l -printf '%l %P\n' | sort)
 }
 
-makes install DESTDIR="$root" PREFIX='/opt/dwv tools' > "$folder/log"
+makes install library= DESTDIR="$root" PREFIX='/opt/dwv tools' > "$folder/log"
 is 'make install ends' "$?" 0
 is 'make install proves nothing' "$(ls "$folder/called" 2> /dev/null)" ''
 is 'the files that are installed' "$(files "$installed" | grep -v ' share/dwv/dwv_tools/')" "$(sort << 'END'
@@ -65,8 +65,8 @@ for script in check-tree explain c-header; do
     is "the name in its usage" "$(PATH=$installed/bin:$PATH "dwv-$script" 2>&1 | head -n 1 | cut -d ' ' -f 1-2)" \
         "usage: dwv-$script"
 done
-is 'by default all is below /usr/local' "$(makes --dry-run install | grep -c ' "/usr/local/[a-z0-9/._-]*"$')" \
-    "$(makes --dry-run install | grep -c '^install ')"
+is 'by default all is below /usr/local' "$(makes --dry-run install library= | grep -c ' "/usr/local/[a-z0-9/._-]*"$')" \
+    "$(makes --dry-run install library= | grep -c '^install ')"
 
 # completed WORD..: what bash offers for the last of these words.
 completed() {

@@ -19,23 +19,9 @@ import tempfile
 sys.dont_write_bytecode = True
 import examples
 import fuzz
-import rows
 
 hostile = importlib.import_module("hostile-files")
 COUNT = 20_000
-
-
-def row_files():
-    """The files of all rows."""
-    parts = {}
-    tables = sorted((rows.HERE / "rows").glob("*.txt"), key=lambda it: (it.name != "parts.txt", it.name))
-    for table in tables:
-        own = dict(parts)
-        for row in rows.read(table, parts if table.name == "parts.txt" else own):
-            yield from row.files(own)
-    table, parts = examples.read()
-    for row in table:
-        yield from row.files(parts)
 
 
 def asked(folder, count, chance):
@@ -46,7 +32,7 @@ def asked(folder, count, chance):
         yield "compiled programs", file, both
     for _, file, *_ in hostile.runs():
         yield "hostile files", file, both
-    for file, _ in row_files():
+    for file, _ in examples.files():
         yield "rows", file, both
     for k in range(count if programs else 0):
         yield "changed programs", fuzz.changed(chance.choice(programs), chance), both if k % 10 == 0 else both[:1]

@@ -1,7 +1,8 @@
 use Rattle.std.proofs.Common.{subst, take}
 use Rattle.std.specs.Prelude.{IfSome}
 use Rattle.std.specs.Io.KnownBytes.{Appends}
-use Rattle.dwv.specs.Reports.{Report, WritesReport, WritesBeginning}
+use Rattle.dw_report.specs.Reports.{Report}
+use Rattle.dwv.specs.Reports.{WritesReport, WritesBeginning}
 use Rattle.dwv.proofs.ReportLemmas.{WritesReport-of_read, WritesBeginning-of_read}
 use Rattle.dwv.proofs.running.run.Goals as goal
 

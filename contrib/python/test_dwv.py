@@ -1,0 +1,44 @@
+"""Tests of dwv.py: `DWV_LIBRARY=out/lib/libdwv.so.0 python3 contrib/python/test_dwv.py`."""
+import concurrent.futures
+import doctest
+import pathlib
+import unittest
+
+import dwv
+
+SAMPLE = pathlib.Path(__file__).resolve().parents[2] / "crates/dwv/data/X1"
+BROKEN = SAMPLE.read_bytes().replace(b"\x02int\0", b"\x03int\0")
+SOUND = dwv.Counts(units=1, entries=2, types=1)
+FAULT = dwv.Fault(rule="G1", name="UndeclaredCode", section=".debug_info", at=15, attribute=0)
+
+
+class Calls(unittest.TestCase):
+    def test_verdicts(self):
+        self.assertEqual(dwv.check(SAMPLE), SOUND)
+        self.assertEqual(dwv.check(str(SAMPLE)), SOUND)
+        self.assertEqual(dwv.check(SAMPLE.read_bytes()), SOUND)
+        self.assertEqual(dwv.check(BROKEN), FAULT)
+
+    def test_reports(self):
+        self.assertEqual(dwv.report(SAMPLE), (0, b"sound: 1 units, 2 entries, 1 types\n"))
+        self.assertEqual(dwv.report(SAMPLE, dwv.SIZE, 15), (0, b"size 4\n"))
+        self.assertEqual(dwv.report(SAMPLE, dwv.SIZE, 12), (2, b"not a type\n"))
+        self.assertEqual(dwv.report(SAMPLE, dwv.TYPES), (0, b""))
+        self.assertEqual(dwv.report(BROKEN)[0], 1)
+
+    def test_bad_arguments(self):
+        self.assertRaises(ValueError, dwv.report, SAMPLE, 5)
+        self.assertRaises(ValueError, dwv.report, SAMPLE, dwv.SIZE, 1 << 32)
+        self.assertRaises(TypeError, dwv.check, None)
+        self.assertRaises(TypeError, dwv.check, bytearray(b"changes"))
+        self.assertRaises(OSError, dwv.check, "/no such file")
+
+    def test_threads(self):
+        with concurrent.futures.ThreadPoolExecutor(8) as pool:
+            self.assertEqual(set(pool.map(dwv.check, [SAMPLE.read_bytes()] * 1000)), {SOUND})
+
+    def test_examples(self):
+        self.assertEqual(doctest.testmod(dwv).failed, 0)
+
+
+unittest.main()

@@ -1,0 +1,15 @@
+use Rattle.std.proofs.Common.{length, slice_get, refl}
+use Rattle.dw_image.specs.Images.{entries_in}
+use Rattle.dwv_c.proofs.RowLemmas.{parent_before, row_told}
+use Rattle.dwv_c.proofs.rows.row_at.Goals as goal
+
+pub depth_by_rows-depth-requires : goal.depth_by_rows-depth-requires
+depth_by_rows-depth-requires c =
+    parent_before c.args.image.now c.args.id (length c.args.rows.now) (slice_get (entries_in c.args.image.now) c.args.id)
+    c.head-head.result c.requires.room refl c.requires.entry c.head-head.ensures
+
+pub returns : goal.returns
+returns c =
+    row_told c.args.image.now c.args.id c.args.rows.now (slice_get (entries_in c.args.image.now) c.args.id)
+    c.head-head.result c.depth_by_rows-depth.result c.size_of_entry-size.result c.row_with.result refl c.requires.before
+    c.head-head.ensures c.depth_by_rows-depth.ensures c.size_of_entry-size.ensures c.row_with.ensures

@@ -1,0 +1,8 @@
+-- Chapters, in reading order.
+pub mod Statuses
+pub mod Verdicts
+pub mod Rows
+pub mod Texts
+-- State.
+pub mod Judged
+pub mod RowsSoFar

@@ -1,0 +1,100 @@
+-- Chapter: the verdict on a file or on six sections, as the caller's struct has it.
+use Rattle.std.specs.Prelude.{◌≡◌, ℕ, ◌-◌, ◌<◌, ◌≤◌, ◌⊎◌, List, ◌++◌, length, replicate, codes}
+use Rattle.dw_elf.specs.declared.fault.ElfFault.{ElfFault}
+use Rattle.dw_elf.specs.declared.sections.Sections.{Sections}
+use Rattle.dw_elf.specs.Limits.{section_limit}
+use Rattle.dw_elf.specs.Checks.{ChecksPass}
+use Rattle.dw_elf.specs.Rules.{IsFault}
+use Rattle.dw_elf.specs.Sections.{AreSections}
+use Rattle.dw_elf.specs.RuleTexts as elf
+use Rattle.dw_entries.specs.declared.fault.Fault.{Fault as FirstFault}
+use Rattle.dw_entries.specs.RuleTexts.{code_text, name_text, section_text}
+use Rattle.dw_image.specs.declared.image.Image.{Image}
+use Rattle.dw_image.specs.Headline.{IsImageOf, IsFaultOf}
+use Rattle.dw_image.specs.Images.{unit_count, entry_count, type_count}
+use Rattle.dw_report.specs.Reports.{file_limit, too_large}
+use Rattle.dwv_c.specs.Statuses.{SOUND, FAULT, NO_MEMORY}
+use Rattle.dwv_c.specs.declared.verdict.Verdict.{Verdict}
+
+-- a text, and zero bytes after it up to n bytes in all
+abbrev pub field_text : ℕ → List ℕ → List ℕ
+field_text n text = text ++ replicate (n - length text) 0
+
+-- a fault: its place, its attribute and its three texts
+abbrev pub fault_verdict : (at attribute : ℕ) → (rule section name : List ℕ) → Verdict
+fault_verdict at attribute rule section name = record {
+  units = 0;
+  entries = 0;
+  types = 0;
+  at = at;
+  attribute = attribute;
+  rule = field_text 8 rule;
+  section = field_text 16 section;
+  name = field_text 24 name;
+}
+
+-- a fault of the file: its place is the number of a section header
+abbrev pub of_file_fault : ElfFault → Verdict
+of_file_fault f = fault_verdict f.section 0 (elf.code_text f.rule) (codes "file") (elf.name_text f.rule)
+
+-- a fault of the sections
+abbrev pub of_fault : FirstFault → Verdict
+of_fault f = fault_verdict f.at f.attribute (code_text f.rule) (section_text f.section) (name_text f.rule)
+
+-- sound sections: their counts
+abbrev pub of_image : Image → Verdict
+of_image i = record {
+  units = unit_count i;
+  entries = entry_count i;
+  types = type_count i;
+  at = 0;
+  attribute = 0;
+  rule = replicate 8 0;
+  section = replicate 16 0;
+  name = replicate 24 0;
+}
+
+-- the file is sound, and the image is of its sections
+pub record IsSoundFile (bytes : List ℕ) (i : Image) : Type 0 where
+  pub within : length bytes ≤ file_limit
+  pub passes : ChecksPass bytes
+  pub sections : Sections
+  pub are : AreSections bytes sections
+  pub image : IsImageOf sections i
+
+-- the fault of a file that is too long, the first check of the file that fails, or the first fault of its sections
+pub data IsFaultOfFile (bytes : List ℕ) : Verdict → Type 0 where
+  large : file_limit < length bytes → IsFaultOfFile bytes (of_file_fault too_large)
+  fails : (f : ElfFault) → length bytes ≤ file_limit → IsFault bytes f → IsFaultOfFile bytes (of_file_fault f)
+  violates : (s : Sections) (f : FirstFault) → length bytes ≤ file_limit → ChecksPass bytes → AreSections bytes s
+      → IsFaultOf s f → IsFaultOfFile bytes (of_fault f)
+
+-- the sections have these bytes
+pub record HaveBytes (s : Sections) (info abbrevs strs line_strs offsets addrs : List ℕ) : Type 0 where
+  pub info_is : s.info.now ≡ info
+  pub abbrev_is : s.«abbrev».now ≡ abbrevs
+  pub str_is : s.str.now ≡ strs
+  pub line_str_is : s.line_str.now ≡ line_strs
+  pub str_offsets_is : s.str_offsets.now ≡ offsets
+  pub addr_is : s.addr.now ≡ addrs
+
+-- six sections are sound, and the image is of them
+pub record AreSound (info abbrevs strs line_strs offsets addrs : List ℕ) (i : Image) : Type 0 where
+  pub sections : Sections
+  pub bytes : HaveBytes sections info abbrevs strs line_strs offsets addrs
+  pub image : IsImageOf sections i
+
+-- the fault if one of six sections is longer than a section may be, or their first fault
+pub data IsFaultOfSix (info abbrevs strs line_strs offsets addrs : List ℕ) : Verdict → Type 0 where
+  large : (section_limit < length abbrevs) ⊎ (section_limit < length info) ⊎ (section_limit < length strs)
+      ⊎ (section_limit < length line_strs) ⊎ (section_limit < length offsets) ⊎ (section_limit < length addrs)
+      → IsFaultOfSix info abbrevs strs line_strs offsets addrs (of_file_fault too_large)
+  violates : (s : Sections) (f : FirstFault) → HaveBytes s info abbrevs strs line_strs offsets addrs
+      → IsFaultOf s f → IsFaultOfSix info abbrevs strs line_strs offsets addrs (of_fault f)
+
+-- what a check returns, and the caller's struct then: the counts, the fault, or the struct as it was if an allocation
+-- failed
+pub data Checks (IsOfFault : Verdict → Type 0) (IsSound : Image → Type 0) (old : Verdict) : ℕ → Verdict → Type 0 where
+  sound : (i : Image) → IsSound i → Checks IsOfFault IsSound old SOUND (of_image i)
+  fault : (v : Verdict) → IsOfFault v → Checks IsOfFault IsSound old FAULT v
+  memory : Checks IsOfFault IsSound old NO_MEMORY old

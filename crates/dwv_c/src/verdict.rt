@@ -1,0 +1,119 @@
+//! A verdict as a struct of fixed size.
+
+ghost use Rattle.std.specs.Prelude.{◌≡◌, ◌<◌, length};
+ghost use Rattle.dw_elf.specs.declared.fault.ElfRule.{ElfRule as FileRule};
+ghost use Rattle.dw_elf.specs.RuleTexts as elf;
+ghost use Rattle.dw_entries.specs.declared.fault.Section.{Section};
+ghost use Rattle.dw_entries.specs.declared.rule.Rule.{Rule};
+ghost use Rattle.dw_entries.specs.RuleTexts.{code_text, name_text, section_text};
+ghost use Rattle.dw_report.specs.Reports.{too_large};
+ghost use Rattle.dwv_c.specs.Verdicts.{fault_verdict, of_file_fault, of_fault, of_image};
+
+use crate::texts::put_text;
+use dw_elf::{ElfFault, ElfRule};
+use dw_image::{Fault, Image};
+
+/// What a file or six sections are found to be. Of a fault the counts are 0, of sound ones everything else.
+#[repr(C)]
+#[derive(Clone, Copy, Debug)]
+pub struct Verdict {
+    /// How many units there are.
+    pub units: u64,
+    /// How many entries there are.
+    pub entries: u64,
+    /// How many entries are types.
+    pub types: u64,
+    /// The offset in the section. For a fault of the file, the number of a section header.
+    pub at: u32,
+    /// The attribute, 0 for none.
+    pub attribute: u32,
+    /// The code of the rule, as `G1`, and zero bytes.
+    pub rule: [u8; 8],
+    /// The name of the section, or `file` for a fault of the file, and zero bytes.
+    pub section: [u8; 16],
+    /// The name of the rule, as `UndeclaredCode`, and zero bytes.
+    pub name: [u8; 24],
+}
+
+/// Each text is shorter than its field: none is cut, and a zero byte ends it.
+pub fn texts_fit()
+    ensures rules { (rule : Rule) → length (code_text rule) < 8 }
+    ensures names { (rule : Rule) → length (name_text rule) < 24 }
+    ensures sections { (section : Section) → length (section_text section) < 16 }
+    ensures file_rules { (rule : FileRule) → length (elf.code_text rule) < 8 }
+    ensures file_names { (rule : FileRule) → length (elf.name_text rule) < 24 }
+{}
+
+/// A fault with its texts.
+fn with_texts(at: u32, attribute: u32, rule: &str, section: &str, name: &str) -> Verdict
+    requires rule { length rule.now < 8 }
+    requires section { length section.now < 16 }
+    requires name { length name.now < 24 }
+    ensures { result ≡ fault_verdict at attribute rule.now section.now name.now }
+{
+    let mut verdict = Verdict {
+        units: 0,
+        entries: 0,
+        types: 0,
+        at,
+        attribute,
+        rule: [0; 8],
+        section: [0; 16],
+        name: [0; 24],
+    };
+    put_text(&mut verdict.rule, rule.as_bytes());
+    put_text(&mut verdict.section, section.as_bytes());
+    put_text(&mut verdict.name, name.as_bytes());
+    verdict
+}
+
+/// A fault of the file.
+#[tactic(auto, using(crate::proofs::TextLemmas::file_rule_fits, crate::proofs::TextLemmas::file_name_fits))]
+pub fn verdict_of_file_fault(fault: ElfFault) -> Verdict
+    ensures { result ≡ of_file_fault fault }
+{
+    let at = u32::from(fault.section);
+    with_texts(at, 0, fault.rule.code(), "file", fault.rule.name())
+}
+
+/// The fault of a file or of a section that is too long.
+pub fn verdict_of_large() -> Verdict
+    ensures { result ≡ of_file_fault too_large }
+{
+    verdict_of_file_fault(ElfFault {
+        rule: ElfRule::TooLarge,
+        section: 0,
+    })
+}
+
+/// A fault of the sections.
+#[tactic(auto, using(crate::proofs::TextLemmas::rule_fits, crate::proofs::TextLemmas::name_fits, crate::proofs::TextLemmas::section_fits))]
+pub fn verdict_of_fault(fault: &Fault) -> Verdict
+    ensures { result ≡ of_fault fault.now }
+{
+    let attribute = u32::from(fault.attribute);
+    let rule = fault.rule;
+    with_texts(
+        fault.at,
+        attribute,
+        rule.code(),
+        fault.section.name(),
+        rule.name(),
+    )
+}
+
+/// The counts of sound sections.
+pub fn verdict_of_image(image: &Image<'_>) -> Verdict
+    ensures { result ≡ of_image image.now }
+{
+    Verdict {
+        units: image.units() as u64,
+        entries: image.entries() as u64,
+        types: image.types() as u64,
+        at: 0,
+        attribute: 0,
+        rule: [0; 8],
+        section: [0; 16],
+        name: [0; 24],
+    }
+}

@@ -1,0 +1,178 @@
+#!/usr/bin/env bash
+# Proves and links the C library (`make lib`), and tries what dwv.h and docs/LIBRARY.md say of it: the names that it has
+# and needs, the layout of its structs, callers in C, C++, Rust, Python and Go, allocations that fail, threads, and
+# `make install`. Compilers and interpreters that are not installed are skipped, and it says so. It prints one line a
+# check and ends with 'N passed, M failed'.
+set -u
+cd "$(dirname "$0")/.." || exit 1
+
+folder=$(mktemp -d)
+trap 'rm -rf "$folder"' EXIT
+dwv=crates/dwv/out/dwv
+tests=tests/library
+sample=crates/dwv/data/X1
+passed=0
+failed=0
+
+# is NAME SAID WANTED: the two texts must be the same.
+is() {
+    if [ "$2" = "$3" ]; then
+        passed=$((passed + 1))
+        echo "passed $1"
+    else
+        failed=$((failed + 1))
+        echo "FAILED $1: ${2:-nothing}, wanted ${3:-nothing}"
+    fi
+}
+
+# ends NAME COMMAND WORD..: it must end with status 0. If not, what it printed is shown.
+ends() {
+    local name=$1
+    shift
+    "$@" > "$folder/log" 2>&1
+    is "$name" "$?" 0
+    [ "$(tail -n 1 "$folder/log")" ] && tail -n 1 "$folder/log" | sed 's/^/    /'
+}
+
+# has COMMAND: whether it is installed.
+has() {
+    command -v "$1" > /dev/null && return
+    echo "skipped: $1 is not installed"
+    return 1
+}
+
+[ -x "$dwv" ] || (cd crates/dwv && rt run -- check data/X1)
+make --no-print-directory lib > "$folder/log" 2>&1
+is 'make lib ends' "$?" 0
+[ "$failed" -eq 0 ] || { cat "$folder/log"; echo "$passed passed, $failed failed"; exit 1; }
+
+# The names that a file has or needs, of these kinds.
+names() {
+    sed -n "s/^[0-9a-f ]* [$1] \\([A-Za-z0-9_.]*\\)\$/\\1/p" | sort -u | xargs
+}
+calls='dwv_check dwv_check_sections dwv_entries dwv_report'
+needs='free malloc memcpy memmove memset realloc'
+is 'what libdwv.a has' "$(nm -g out/lib/libdwv.a | names TDBRVWC)" "$calls"
+is 'what libdwv.a needs' "$(nm -g out/lib/libdwv.a | names Uw)" "$needs"
+is 'what libdwv.so.0 has' "$(nm -D out/lib/libdwv.so.0 | sed 's/@.*//' | names TDBRVWC)" "$calls"
+is 'what libdwv.so.0 needs' "$(nm -D out/lib/libdwv.so.0 | sed 's/@.*//' | names U)" "$needs"
+# dynamic KIND: the entries of this kind in the dynamic section.
+dynamic() {
+    readelf -d out/lib/libdwv.so.0 | sed -n "s/.*($1).*\\[\\(.*\\)\\]/\\1/p"
+}
+is 'the libraries that libdwv.so.0 needs' "$(dynamic NEEDED)" libc.so.6
+is 'the name of libdwv.so.0' "$(dynamic SONAME)" libdwv.so.0
+
+# layout FILE TYPE NAME: of a struct of the sources, a test that the one of dwv.h has the same size and offsets.
+layout() {
+    awk -v type="$2" -v name="$3" '
+        $0 ~ "^pub struct " type " " { inside = 1; next }
+        /^}/ && inside { size = int((at + most - 1) / most) * most
+            print "_Static_assert(sizeof(struct " name ") == " size ", \"size\");"; exit }
+        inside && /^ *pub / { field = $2; sub(":", "", field); kind = $0; sub(/^[^:]*: /, "", kind); sub(/,$/, "", kind)
+            if (match(kind, /^\[u8; [0-9]+\]$/)) { size = substr(kind, 6) + 0; align = 1 }
+            else if (match(kind, /^u[0-9]+$/)) { size = substr(kind, 2) / 8; align = size }
+            else { print "#error " kind; exit }
+            at = int((at + align - 1) / align) * align
+            most = align > most ? align : most
+            print "_Static_assert(offsetof(struct " name ", " field ") == " at ", \"" field "\");"
+            print "_Static_assert(sizeof(((struct " name " *)0)->" field ") == " size ", \"" field "\");"
+            at += size }' "$1"
+}
+{
+    echo '#include "dwv.h"'
+    layout crates/dwv_c/src/verdict.rt Verdict dwv_verdict
+    layout crates/dwv_c/src/rows.rt EntryRow dwv_entry
+    sed -n 's/^pub const \([A-Z_]*\): u32 = \([0-9]*\);/_Static_assert(DWV_\1 == \2, "\1");/p' \
+        crates/dwv_c/src/statuses.rt
+} > "$folder/layout.c"
+is 'tests of the layout' "$(grep -c '^_Static_assert' "$folder/layout.c")" 33
+
+# Files: a sound one, one with a fault, and one that a compiler makes.
+LC_ALL=C sed 's/\x02int/\x03int/' "$sample" > "$folder/broken"
+files=("$sample" "$folder/broken")
+if has gcc; then
+    gcc -gdwarf-5 -w -o "$folder/program" tests/programs/shapes.c tests/programs/calls.c && files+=("$folder/program")
+fi
+
+flags=(-std=c11 -g -O1 -Wall -Wextra -Werror -pedantic -Iout/include)
+sanitizers=(-fsanitize=address,undefined -fno-sanitize-recover=all)
+for compiler in gcc clang; do
+    has "$compiler" || continue
+    build() {
+        "$compiler" "${flags[@]}" "${sanitizers[@]}" "$@" out/lib/libdwv.a
+    }
+    ends "$compiler: the layout of the structs" "$compiler" "${flags[@]}" -c -o "$folder/layout.o" "$folder/layout.c"
+    ends "$compiler: calls.c compiles" build -o "$folder/calls" "$tests/calls.c"
+    for file in "${files[@]}"; do
+        name=$(basename "$file")
+        is "$compiler: check of $name" "$("$folder/calls" check "$file" 2>&1; echo $?)" \
+            "$("$dwv" check "$file"; echo $?)"
+        is "$compiler: entries of $name" "$("$folder/calls" entries "$file" 2>&1 | md5sum)" \
+            "$("$dwv" show "$file" | sed -e 's/ "[^"]*"//' -e '/^fault/d' | md5sum)"
+    done
+    wraps=(-Wl,--wrap=malloc,--wrap=realloc,--wrap=free)
+    ends "$compiler: failing.c compiles" build "${wraps[@]}" -o "$folder/failing" "$tests/failing.c"
+    ends "$compiler: allocations that fail" "$folder/failing" "${files[@]:0:2}"
+    ends "$compiler: threads.c compiles" build -pthread -o "$folder/threads" "$tests/threads.c"
+    ends "$compiler: eight threads" "$folder/threads" "${files[@]:0:2}"
+done
+
+# block LANGUAGE: the example of docs/LIBRARY.md in this language.
+block() {
+    sed -n "/^\`\`\`$1\$/,/^\`\`\`\$/{/^\`\`\`/!p}" docs/LIBRARY.md
+}
+wanted=$(printf 'sound, 2 entries\nG1 UndeclaredCode at .debug_info+0x0000000f')
+block c > "$folder/example.c"
+block c++ > "$folder/example.cc"
+block go > "$folder/example.go"
+
+# The library as `make install` leaves it, with no `rt`.
+root="$folder/root"
+mkdir "$folder/bin" "$root"
+printf '#!/bin/sh\nexit 1\n' > "$folder/bin/rt"
+chmod +x "$folder/bin/rt"
+makes() {
+    env -u MAKEFLAGS -u MAKELEVEL PATH="$folder/bin:$PATH" \
+        make --no-print-directory "$@" DESTDIR="$root" PREFIX=/opt/dwv
+}
+installed="$root/opt/dwv"
+ends 'make install' makes install
+is 'what make install installs' "$(cd "$installed" && find include lib | sort | xargs)" \
+    'include include/dwv.h lib lib/libdwv.a lib/libdwv.so lib/libdwv.so.0 lib/pkgconfig lib/pkgconfig/dwv.pc'
+if has pkg-config && has gcc; then
+    said() {
+        PKG_CONFIG_PATH="$installed/lib/pkgconfig" pkg-config "$@" dwv
+    }
+    eval "words=($(said --cflags --libs))"
+    ends 'the C example compiles by pkg-config' \
+        gcc -Wall -Wextra -Werror -o "$folder/c" "$folder/example.c" "${words[@]}"
+    is 'the C example' "$(LD_LIBRARY_PATH="$installed/lib" "$folder/c" "$sample" "$folder/broken")" "$wanted"
+    if has g++; then
+        ends 'the C++ example compiles' \
+            g++ -std=c++17 -Wall -Wextra -Werror -o "$folder/cc" "$folder/example.cc" "${words[@]}"
+        is 'the C++ example' "$(LD_LIBRARY_PATH="$installed/lib" "$folder/cc" "$sample" "$folder/broken")" "$wanted"
+    fi
+    if has go; then
+        mkdir "$folder/go"
+        cp "$folder/example.go" "$folder/go/main.go"
+        (cd "$folder/go" && printf 'module example\n' > go.mod && PKG_CONFIG_PATH="$installed/lib/pkgconfig" \
+            GOCACHE="$folder/cache" go build -o ../example .) > "$folder/log" 2>&1
+        is 'the Go example compiles' "$?" 0
+        is 'the Go example' "$(LD_LIBRARY_PATH="$installed/lib" "$folder/example" "$sample" "$folder/broken")" "$wanted"
+    fi
+fi
+if has python3; then
+    export DWV_LIBRARY="$installed/lib/libdwv.so.0"
+    ends 'the tests of dwv.py' env PYTHONDONTWRITEBYTECODE=1 python3 contrib/python/test_dwv.py
+    ends 'the same answers as the program on the files of all rows' \
+        env PYTHONDONTWRITEBYTECODE=1 PYTHONPATH=contrib/python:tests python3 "$tests/reports.py"
+fi
+if has cargo; then
+    ends 'the tests of the Rust crate' env DWV_LIB_DIR="$PWD/out/lib" CARGO_TARGET_DIR="$folder/target" \
+        cargo test --quiet --offline --locked --manifest-path contrib/rust/dwv/Cargo.toml
+fi
+makes uninstall > "$folder/log" 2>&1
+is 'make uninstall removes every file' "$(cd "$root" && find . ! -type d)" ''
+echo "$passed passed, $failed failed"
+[ "$failed" -eq 0 ]
