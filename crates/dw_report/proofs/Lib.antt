@@ -1,2 +1,3 @@
 pub mod ObjectLemmas
 pub mod ShownLemmas
+pub mod GlyphLemmas

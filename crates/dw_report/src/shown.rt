@@ -1,8 +1,9 @@
 //! The entries of an image, one a line, and the size of the type at an offset.
 
-ghost use Rattle.std.specs.Prelude.{◌≡◌, ◌<◌, ◌++◌, ◌*◌, length, slice_get, replicate, option_copied, IfSome, IfOk};
-ghost use Rattle.std.specs.Prelude.{OnOk};
+ghost use Rattle.std.specs.Prelude.{◌≡◌, ◌<◌, ◌++◌, ◌∷◌, [], ◌*◌, codes, length, slice_get, slice_index, take};
+ghost use Rattle.std.specs.Prelude.{replicate, option_copied, All, MatchBool, IfNone, IfSome, IfOk, OnOk};
 ghost use Rattle.std.specs.List.{flat_map};
+ghost use Rattle.dw_cprint.specs.Digits.{places};
 ghost use Rattle.dw_image.specs.Images.{entries_in};
 ghost use Rattle.dw_report.specs.Shown.{glyph, name_part, size_part, entry_part, shown_line, shown_size, entry_line};
 ghost use Rattle.dw_report.specs.Shown.{show_lines, size_line, size_text, size_status, type_at_offset};
@@ -34,27 +35,44 @@ fn put_entry_part(text: &mut Vec<u8>, offset: u32, depth: usize, tag: u16) -> Re
     put_four_digits(text, tag)
 }
 
-/// A byte of a name, as it is shown.
+/// Whether a byte of a name is shown as it is.
 #[tactic(auto, unfolding(crate::specs::Shown::glyph))]
-fn put_glyph(text: &mut Vec<u8>, byte: u8) -> Result<(), AllocError>
-    ensures ok { OnOk result (text.new.items ≡ text.old.items ++ glyph byte) }
+fn is_plain(byte: u8) -> bool
+    ensures { MatchBool result (glyph byte ≡ byte ∷ []) (glyph byte ≡ codes "\\x" ++ places 2 byte) }
 {
-    let is_plain = (0x20..=0x7e).contains(&byte) && byte != b'"' && byte != b'\\';
-    if is_plain {
-        return text.extend_from_slice(&[byte]);
-    }
+    (0x20..=0x7e).contains(&byte) && byte != b'"' && byte != b'\\'
+}
+
+/// `\x` and two digits of a byte.
+fn put_escape(text: &mut Vec<u8>, byte: u8) -> Result<(), AllocError>
+    ensures ok { OnOk result (text.new.items ≡ text.old.items ++ (codes "\\x" ++ places 2 byte)) }
+{
     text.extend_from_slice(b"\\x")?;
     put_two_digits(text, byte)
 }
 
-/// The bytes of a name, as they are shown.
+/// The index of the first byte of a name that is escaped, if there is one.
+fn first_escaped(name: &[u8]) -> Option<usize>
+    ensures none { IfNone result (All (λ b. glyph b ≡ b ∷ []) name.now) }
+    ensures within { IfSome result (λ at. at < length name.now) }
+    ensures plain { IfSome result (λ at. All (λ b. glyph b ≡ b ∷ []) (take at name.now)) }
+    ensures escaped { IfSome result (λ at.
+        glyph (slice_index name.now at) ≡ codes "\\x" ++ places 2 (slice_index name.now at)) }
+{
+    name.iter().position(|byte| !is_plain(*byte))
+}
+
+/// The bytes of a name, as they are shown. Those between two that are escaped are copied at once.
 fn put_glyphs(text: &mut Vec<u8>, name: &[u8]) -> Result<(), AllocError>
     ensures ok { OnOk result (text.new.items ≡ text.old.items ++ flat_map glyph name.now) }
 {
-    for byte in name {
-        put_glyph(text, *byte)?;
+    let mut rest = name;
+    while let Some(at) = first_escaped(rest) {
+        text.extend_from_slice(&rest[..at])?;
+        put_escape(text, rest[at])?;
+        rest = &rest[at + 1..];
     }
-    Ok(())
+    text.extend_from_slice(rest)
 }
 
 /// ` "NAME"`, if there is a name.

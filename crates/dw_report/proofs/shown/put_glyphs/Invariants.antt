@@ -1,7 +1,10 @@
-use Rattle.std.proofs.Common.{◌≡◌, ◌++◌, take}
+use Rattle.std.proofs.Common.{◌≡◌, ◌++◌, length}
 use Rattle.std.specs.List.{flat_map}
 use Rattle.dw_report.specs.Shown.{glyph}
 use Rattle.dw_report.proofs.shown.put_glyphs.Given as goal
 
-abbrev pub invariant-loop-byte : goal.invariant-loop-byte
-invariant-loop-byte l = l.text.items ≡ l.fn.text.items ++ flat_map glyph (take l.byte-index l.name)
+abbrev pub invariant-loop-at : goal.invariant-loop-at
+invariant-loop-at l = l.text.items ++ flat_map glyph l.rest ≡ l.fn.text.items ++ flat_map glyph l.name
+
+abbrev pub decreases-loop-at : goal.decreases-loop-at
+decreases-loop-at l = length l.rest
