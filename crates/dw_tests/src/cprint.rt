@@ -1,6 +1,7 @@
 //! Declarations and listings of small sections.
 
 mod refusals;
+mod variables;
 
 use crate::image::image_of;
 use crate::vectors::T;
