@@ -462,12 +462,14 @@ def bodies():
 
 # 1 compile unit, 2 typedef with a name, 3 const
 SMALL = bytes.fromhex("0111010000" "02160003080000" "0326000000" "00")
+# Typedefs whose numbers collide, and the seconds of processor time that `types` may take for them.
 COLLISIONS = 125_000
+COLLISIONS_TIME = 2
 
 
 def hashed(number):
-    """The hash of the number of an entry in a table of the toolchain, whose seed is fixed."""
-    product = (0x243f_6a88_85a3_08d3 ^ number) * (0x9e37_79b9_7f4a_7c15 ^ 16)
+    """The hash of the number of an entry in a table of the toolchain, whose seed is fixed: of four bytes, read twice."""
+    product = (0x243f_6a88_85a3_08d3 ^ (number | number << 32)) * (0x9e37_79b9_7f4a_7c15 ^ 8)
     hash = (product ^ product >> 64) % (1 << 64)
     return (hash ^ hash >> 32) % (1 << 32)
 
@@ -491,6 +493,12 @@ def limited():
 def limited_types():
     """The same for `types`."""
     resource.setrlimit(resource.RLIMIT_AS, (TYPES_MEMORY, TYPES_MEMORY))
+
+
+def limited_collisions():
+    """The same, with a limit of processor time."""
+    limited_types()
+    resource.setrlimit(resource.RLIMIT_CPU, (COLLISIONS_TIME, COLLISIONS_TIME))
 
 
 def checked(path):
@@ -518,10 +526,15 @@ def shown(path):
     return f"status {ran.returncode}, {len(ran.stdout)} bytes written, {ran.stderr.decode()}"
 
 
-def typed(path):
+def typed(path, limits=limited_types):
     """What `types` of a file prints, and its status."""
-    ran = subprocess.run([DWV, "types", path], capture_output=True, text=True, timeout=LIMIT, preexec_fn=limited_types)
+    ran = subprocess.run([DWV, "types", path], capture_output=True, text=True, timeout=LIMIT, preexec_fn=limits)
     return f"{ran.stdout}{ran.stderr}status {ran.returncode}\n"
+
+
+def typed_soon(path):
+    """The same with a limit of processor time."""
+    return typed(path, limited_collisions)
 
 
 def runs():
@@ -539,7 +552,7 @@ def runs():
         for name, types in some:
             yield f"types of {name}", types.file(), typed, f"{types.text()}status 0\n"
     file, want = collisions()
-    yield f"types of {COLLISIONS:,} typedefs whose numbers collide", file, typed, f"{want}status 0\n"
+    yield f"types of {COLLISIONS:,} typedefs whose numbers collide", file, typed_soon, f"{want}status 0\n"
     tree = [(".debug_abbrev", TABLE), (".debug_info", unit(deep()))]
     yield f"show of {MANY:,} nested structures", elf(tree), shown, "status 4, 0 bytes written, dwv: out of memory\n"
     yield f"{SECTIONS:,} sections with one name of 16 MB", alike(), checked, "sound: 0 units, 0 entries, 0 types"
