@@ -20,7 +20,6 @@ lib:
 	rm -f out/lib/libdwv.a
 	ar rcsD out/lib/libdwv.a out/lib/dwv.o
 	$(CC) -shared -o out/lib/libdwv.so.0 out/lib/dwv.o -Wl,-soname,libdwv.so.0 -Wl,-z,defs,-z,relro,-z,now,-z,noexecstack
-	ln -sf libdwv.so.0 out/lib/libdwv.so
 	rm out/lib/dwv.o
 	install -m 644 include/dwv.h out/include
 	install -m 644 contrib/dwv.pc out/lib/pkgconfig
