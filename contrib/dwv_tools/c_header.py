@@ -37,14 +37,24 @@ ALIASES = {
 COMPLEX = {8: "_Complex float", 16: "_Complex double", 32: "_Complex long double"}
 MACROS = re.compile(r"\b(?:linux|unix)\b")
 
-# A text of a node: the declaration, what it needs, and its line.
-Text = collections.namedtuple("Text", "declaration needs line")
+
+class Text(collections.namedtuple("Text", "line needs")):
+    """A text of a node: its line, and what it needs. The declaration is read anew each time, since it takes more memory
+    than the line."""
+
+    __slots__ = ()
+
+    @property
+    def declaration(self):
+        return c_types.read(self.line)
 
 
 class Needs:
     """What a declaration needs: `before`, nodes that come before it; `tags`, which it names; `enums`, the enumerations
     without a name that it has; `value`, what must be complete where a typedef is used by value, or None if that is not
     possible; `bad`, why it can't be written."""
+
+    __slots__ = ("before", "tags", "enums", "value", "bad")
 
     def __init__(self, declaration):
         self.before, self.tags, self.enums, self.value, self.bad = {}, {}, [], [], None
@@ -58,6 +68,7 @@ class Needs:
             self.value = None
         if declaration.kind == "enum":
             self.enums = []
+        self.before, self.tags, self.enums = tuple(self.before), tuple(self.tags), tuple(self.enums)
 
     def names(self, body, found):
         for name, t, _ in body.members:
@@ -90,10 +101,11 @@ class Needs:
 
 class Header:
     """The declarations of a header. `shapes` gives what the file says of a declaration: Shapes, or sizes. With
-    `declared`, the nodes of the listing, each further text of a node gets a name of its own."""
+    `declared`, the nodes of the listing, each further text of a node gets a name of its own. `has_asserts` says whether
+    `assertions` is called."""
 
-    def __init__(self, shapes, bases, declared):
-        self.shapes, self.bases, self.declared = shapes, bases, declared
+    def __init__(self, shapes, bases, declared, has_asserts):
+        self.shapes, self.bases, self.declared, self.has_asserts = shapes, bases, declared, has_asserts
         self.texts = {}             # from a node to its texts, in the order of the listing
         self.state, self.chosen = {}, {}
         self.parts, self.forward, self.left_out, self.others, self.guessed = [], {}, [], 0, 0
@@ -113,7 +125,7 @@ class Header:
             node = (node[0], f"{declaration.name}___{self.numbers[declaration[:2]]}")
             node = node if node not in self.declared else declaration[:2]
         needs = Needs(declaration)
-        self.texts.setdefault(node, []).append(Text(declaration, needs, line))
+        self.texts.setdefault(node, []).append(Text(line, needs))
         if node[0] != "typedef" and self.kinds.setdefault(node[1], node[0]) != node[0]:
             self.writer.tags[node] = f"{node[1]}___{node[0]}"
         self.enum_uses.update(needs.enums)
@@ -230,17 +242,18 @@ class Header:
         for tag in found.needs.tags:
             if tag != node and self.state.get(tag) != "done":
                 self.forward[tag] = True
-        shapes = self.shapes(found.declaration)
+        declaration = found.declaration
+        shapes = self.shapes(declaration)
         first = next(shapes, None)
-        sizes = dict(enum_sizes(found.declaration.type, first and first[1]))
+        sizes = dict(enum_sizes(declaration.type, first and first[1]))
         for constants in found.needs.enums:
             if self.enum_uses[constants] > 1 and constants not in self.writer.hoisted:
                 self.hoist(constants, sizes.get(constants))
         enums = [it for it in found.needs.enums if it not in self.writer.hoisted]
-        enums += [found.declaration.type.constants] if node[0] == "enum" else []
+        enums += [declaration.type.constants] if node[0] == "enum" else []
         self.claim([constant for constants in enums for constant in constants])
         shapes = shapes if first is None else itertools.chain([first], shapes)
-        declaration, note = self.fitted(node, found.declaration, shapes)
+        declaration, note = self.fitted(node, declaration, shapes)
         text = self.writer.declaration(declaration._replace(name=node[1]))
         if node[0] == "typedef" and node[1] in ALIASES:
             text = f"#if {ALIASES[node[1]][2]}\n{text}\n#endif"
@@ -295,7 +308,8 @@ class Header:
                 self.layouts.pads = 0
                 t, extent = self.layouts.typed(declaration.type, shape)
                 self.layouts.of[node] = extent
-                self.asserted.append((node, t, shape))
+                if self.has_asserts:
+                    self.asserted.append((node, t, shape))
                 return declaration._replace(type=t), []
             except Misfit as error:
                 reason = str(error)

@@ -1,6 +1,7 @@
 """C declarations as `dwv types` prints them, read into types (docs/C-TEXT.md has their grammar)."""
 import collections
 import re
+import sys
 
 # A type is one of these, and `Void()`. `of` is the type that a pointer, an array, a function or a qualifier is of.
 Void = collections.namedtuple("Void", "")
@@ -51,7 +52,8 @@ class Reader:
     """Reads the tokens of a line."""
 
     def __init__(self, line):
-        self.tokens, self.at = [*TOKEN.findall(line), ""], 0
+        # A name is kept once, however many declarations have it.
+        self.tokens, self.at = [*map(sys.intern, TOKEN.findall(line)), ""], 0
         if "".join(self.tokens) != line.replace(" ", ""):
             raise Malformed("there are letters that no declaration has")
 

@@ -218,6 +218,12 @@ class File:
         texts = [names[it[0] : names.find(b"\0", it[0])] for it in headers]
         return [Section(text.decode(errors="replace"), *it[1:3], *it[4:6]) for text, it in zip(texts, headers)]
 
+    def forget(self):
+        """Frees the tables, and the pages of the file that were read. What is asked for again is read again."""
+        self.tables.clear()
+        if self.data:
+            self.data.madvise(mmap.MADV_DONTNEED)
+
     def section(self, name):
         """The bytes of a section. One that is absent, compressed or without bytes is empty."""
         for it in self.sections:
@@ -234,7 +240,7 @@ class File:
             raise Unreadable("the unit has no table")
         if at not in self.tables:
             if len(self.tables) == TABLES:
-                self.tables.clear()
+                self.forget()
             table, cursor = self.tables.setdefault(at, {}), Cursor(self.data, self.abbrev, at)
             try:
                 while (found := read_declaration(cursor))[0] != 0:
@@ -250,6 +256,7 @@ class File:
             while at + 4 <= self.info.size and time.monotonic() < limit:
                 self.units.append(at)
                 at = self.unit(at).end
+            self.forget()
         return self.units
 
     def unit(self, at):

@@ -1,4 +1,5 @@
 """Reads what `dwv types` and `dwv show` print of a file: each line once, and where the entries of its types are."""
+import array
 import collections
 import re
 import subprocess
@@ -53,10 +54,10 @@ class Places:
 
     def __init__(self, dwv, path, file, wanted, refused):
         self.file, self.names = file, {}
-        self.bases, self.at = collections.defaultdict(set), {node: [] for node in wanted}
+        self.bases, self.at = collections.defaultdict(set), {node: array.array("Q") for node in wanted}
         done = 0
         for block in output(dwv, "show", path):
-            for at, tag, name, size in SHOWN.findall(block):
+            for at, tag, name, size in map(re.Match.groups, SHOWN.finditer(block)):
                 kind, name, at = KINDS[tag], name.decode("ascii", "replace"), int(at, 16)
                 if kind == "base type":
                     self.bases[name].add(int(size or 0))
