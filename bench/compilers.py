@@ -1,8 +1,8 @@
 #!/usr/bin/env python3
 """Runs `dwv check` and `dwv types` on what the installed compilers make of small programs, for docs/COMPILERS.md.
 
-Each row of the table is a command that compiles a program of one of the languages below. What is not installed is left
-out. DWV is the path of `dwv`, if it is not the one that `make` built.
+Each row of the table is a command that compiles a program of one of the languages below. If a tool is not installed, its
+rows stay as they are. DWV is the path of `dwv`, if it is not the one that `make` built.
 """
 import collections
 import datetime
@@ -97,6 +97,14 @@ fn main() {
     println!("{:?}", scaled);
 }
 """,
+    "tails.rs": """use std::sync::Arc;
+struct Tail<T: ?Sized> { count: u32, rest: T }
+fn sum(it: &Tail<[u8]>) -> usize { it.rest.len() + it.count as usize }
+fn main() {
+    let name: Arc<str> = Arc::from("abc");
+    println!("{} {}", name.len(), sum(&Tail { count: 1, rest: [1, 2] }));
+}
+""",
     "list.go": """package main
 
 import "fmt"
@@ -128,6 +136,12 @@ _start: mov $60, %eax
         xor %edi, %edi
         syscall
 """,
+    "start.asm": """        global _start
+        section .text
+_start: mov eax, 60
+        xor edi, edi
+        syscall
+""",
 }
 
 # A language, the compiler with its flags, and its sources. `-o` and the name of the program follow.
@@ -140,7 +154,8 @@ COMPILED = [
     ("C", "gcc -gdwarf-5 -gdwarf64", C), ("C", "gcc -gdwarf-5 -gsplit-dwarf", C),
     ("C", "gcc -gdwarf-4 -gsplit-dwarf", C),
     ("C", "gcc -gdwarf-5 -gz", C), ("C", "gcc -g -s", C), ("C, an object file", "gcc -g -c", "named.c"),
-    ("assembler", "gcc -g -nostdlib -static", "start.s"),
+    ("assembler", "gcc -g -nostdlib -static", "start.s"), ("assembler", "nasm -f elf64 -g -F dwarf", "start.asm"),
+    ("assembler", "yasm -f elf64 -g dwarf2", "start.asm"),
     ("C", "clang -gdwarf-5", C), ("C", "clang -gdwarf-5 -O2", C), ("C", "clang -gdwarf-4", C),
     ("C", f"clang -gdwarf-5 {TYPES}", "named.c"), ("C", "clang -gdwarf-5 -gsplit-dwarf", C),
     ("C++", "g++ -gdwarf-5", "boxes.cpp"), ("C++", "g++ -gdwarf-4 -O2", "boxes.cpp"),
@@ -150,6 +165,8 @@ COMPILED = [
     ("Ada", "gnatmake -q -g", "rows.adb"), ("Ada", "gnatmake -q -g -fgnat-encodings=all", "rows.adb"),
     ("Ada, a record of variable size", "gnatmake -q -g", "pairs.adb"),
     ("Rust", "rustc -g", "closures.rs"), ("Rust", "rustc -g -O", "closures.rs"),
+    ("Rust, a structure that ends with a slice", "rustc -g", "tails.rs"),
+    ("Rust, a structure that ends with a slice", "rustc -C debuginfo=1", "tails.rs"),
     ("Go", "go build", "list.go"), ("Go", "go build -ldflags=-compressdwarf=false", "list.go"),
     ("D", "gdc -gdwarf-5", "list.d"),
     ("Pascal", "fpc -v0 -gw4", "sets.pas"), ("Pascal", "fpc -v0 -gw3", "sets.pas"),
@@ -165,6 +182,8 @@ def compiled(folder, command, sources):
     quiet = ["-w"] if words[0] in ("gcc", "g++", "clang", "clang++") else []
     to = [f"-o{out}"] if words[0] == "fpc" else ["-o", out]
     ran = subprocess.run([*words, *quiet, *to, *sources.split()], cwd=folder, capture_output=True, timeout=SECONDS)
+    if ran.returncode == 0 and words[0] in ("nasm", "yasm"):
+        ran = subprocess.run(["ld", "-o", out, out.rename(folder / "object")], capture_output=True)
     return out if ran.returncode == 0 and out.exists() else None
 
 
@@ -195,9 +214,28 @@ def shared(dwv, folder):
         yield row(dwv, "C, two programs", "dwz -m shared one two", paths[0])
 
 
+def known(text):
+    """The rows of the table as it was, by their first two cells, and the versions of the tools above it."""
+    kept = {tuple(line.split(" | ")[:2]): line for line in text.splitlines() if line.startswith("| ")}
+    return kept, dict(re.findall(r"(\S+) (\d+(?:\.\d+)+)", text.partition("|")[0]))
+
+
 def main():
     dwv = os.environ.get("DWV", rows.DWV)
-    table, versions, absent = [], {}, set()
+    page = PAGE.read_text()
+    start, end = page.index(BEGIN) + len(BEGIN), page.index(END)
+    kept, old = known(page[start:end])
+    table, versions, earlier, absent = [], {}, {}, set()
+
+    def keep(language, command):
+        """Keeps the row of a command that can't be run here."""
+        tool = command.split()[0]
+        if line := kept.get((f"| {language}", f"`{command}`")):
+            table.append(line)
+            earlier[tool] = old.get(tool, "")
+        else:
+            absent.add(f"{language} by {tool}")
+
     with tempfile.TemporaryDirectory() as name:
         folder = pathlib.Path(name)
         for source, text in SOURCES.items():
@@ -206,7 +244,7 @@ def main():
             tool = command.split()[0]
             path = compiled(folder, command, sources) if shutil.which(tool) else None
             if path is None:
-                absent.add(f"{language} by {tool}")
+                keep(language, command)
                 continue
             table.append(row(dwv, language, command, path))
             words = [tool, {"go": "version", "fpc": "-iV"}.get(tool, "--version")]
@@ -214,14 +252,16 @@ def main():
             versions[tool] = re.search(r"\d+\.\d+(\.\d+)?", said)[0]
         if shutil.which("dwz"):
             table += shared(dwv, folder)
+        else:
+            keep("C, two programs", "dwz -m shared one two")
     about = f"{datetime.date.today()}: {', '.join(f'{tool} {version}' for tool, version in versions.items())}."
+    if earlier := [f"{tool} {version}".strip() for tool, version in earlier.items() if tool not in versions]:
+        about += f" Not run that day, but before: {', '.join(earlier)}."
     if absent:
         about += f" Not installed, or not able to: {', '.join(sorted(absent))}."
     head = ["| Language | Command | `dwv check` | `dwv types` | Why, and what to do |", "|---|---|---|---|---|"]
     text = "\n".join([about, "", *head, *table, ""])
-    page = PAGE.read_text()
-    before, after = page.index(BEGIN) + len(BEGIN), page.index(END)
-    PAGE.write_text(page[:before] + "\n" + text + "\n" + page[after:])
+    PAGE.write_text(page[:start] + "\n" + text + "\n" + page[end:])
     print(text)
 
 

@@ -87,11 +87,12 @@ KNOWN = [
         " itself. It is in each file that names the type id.",
         "Compile the Objective-C files without -g, or with gcc. No change of your source helps.",
     )),
-    ("Z3", lambda it: is_by(it, "rustc"), Cause(
+    ("Z3", lambda it: is_by(it, "rustc") and tag(it) == MEMBER, Cause(
         "compiler",
-        "rustc describes some closures and enumerations with members past the end of the type.",
-        "Do not rely on the layout of the type that is named above. Another version of rustc, or another opt-level, may"
-        " describe it correctly.",
+        "rustc gives a structure that ends with a slice or a str (as Path, CStr, and what an Arc of a str points to)"
+        " the size of what is before it, and describes the slice as one element, past the end.",
+        "Compile the package of the unit with -C debuginfo=1: then it has no types. No flag of rustc changes how they"
+        " are described.",
     )),
     ("Z1", lambda it: is_by(it, "ada", "gnat"), Cause(
         "compiler",
@@ -156,6 +157,11 @@ KNOWN = [
         "The unit is in the 64-bit format of DWARF.",
         "Compile with -gdwarf32, or without -gdwarf64. An assembler needs --gdwarf-5 without --64bit offsets.",
     )),
+    ("U3", lambda it: is_by(it, "nasm", "yasm"), Cause(
+        "compiler",
+        "nasm writes version 3 of DWARF and yasm version 2, and no flag changes that.",
+        "Assemble the source file that the unit is made of without -g.",
+    )),
     ("U3", lambda it: it.unit and it.unit.version in (2, 3), Cause(
         "limit",
         "The unit has version 2 or 3 of DWARF.",
@@ -174,8 +180,9 @@ KNOWN = [
         "Check the file before that tool ran, or its .debug file.",
     )),
     ("U7", None, Cause(
-        "compiler",
-        "The unit is empty. Some assemblers and compilers write such units for source files without code.",
+        "file",
+        "The unit has a header and no entry, so it describes nothing. gcc, clang, GNU as, llvm-mc, nasm and yasm write no"
+        " such unit, not even for a source file without code.",
         "Compile the source file that the unit is made of without -g, or leave it out of the program.",
     )),
 ]
