@@ -41,7 +41,7 @@ test:
 	tests/rows.py
 	tests/examples.py
 	tests/real-programs.sh
-	tests/hostile-files.py
+	tests/hostile_files.py
 	tests/refused-growths.py
 	tests/endings.sh
 	tests/install.sh

@@ -6,7 +6,6 @@ rows stay as they are. DWV is the path of `dwv`, if it is not the one that `make
 """
 import collections
 import datetime
-import os
 import pathlib
 import re
 import shutil
@@ -16,18 +15,17 @@ import tempfile
 
 sys.dont_write_bytecode = True
 HERE = pathlib.Path(__file__).resolve().parent
-sys.path[:0] = [str(HERE.parent / "tests"), str(HERE.parent / "contrib")]
-import rows
+sys.path.insert(0, str(HERE.parent / "tests"))
+import common
 from dwv_tools import causes, finding, running
 
 PAGE = HERE.parent / "docs/COMPILERS.md"
 BEGIN, END = "<!-- made by bench/compilers.py -->\n", "<!-- end -->\n"
-PROGRAMS = HERE.parent / "tests/programs"
 SECONDS = 300
 
 SOURCES = {
-    "calls.c": (PROGRAMS / "calls.c").read_text(),
-    "shapes.c": (PROGRAMS / "shapes.c").read_text(),
+    "calls.c": (common.PROGRAMS / "calls.c").read_text(),
+    "shapes.c": (common.PROGRAMS / "shapes.c").read_text(),
     "sized.c": """int f(int n)
 {
     struct { int a[n]; int b; } s;
@@ -221,7 +219,7 @@ def known(text):
 
 
 def main():
-    dwv = os.environ.get("DWV", rows.DWV)
+    dwv = common.DWV
     page = PAGE.read_text()
     start, end = page.index(BEGIN) + len(BEGIN), page.index(END)
     kept, old = known(page[start:end])

@@ -4,7 +4,6 @@
 A listing is given to the script by a stand-in for `dwv`. The headers of programs have an assertion of each size and
 each offset. It prints one line a test and ends with 'N passed, M failed'. What is not installed is skipped.
 """
-import os
 import pathlib
 import resource
 import shutil
@@ -14,12 +13,9 @@ import tempfile
 import time
 
 sys.dont_write_bytecode = True
-HERE = pathlib.Path(__file__).resolve().parent
-sys.path[:0] = [str(HERE.parent / "contrib")]
-import rows
+import common
 from dwv_tools import c_types, c_writing
 
-SCRIPT = HERE.parent / "contrib/c-header"
 COMPILERS = [tool for tool in ("gcc", "clang") if shutil.which(tool)]
 STAND_IN = """#!/bin/sh
 case $1 in
@@ -29,7 +25,7 @@ esac
 """
 # The most lines of a listing that must take less than SECONDS of processor time.
 MANY, SECONDS = 20000, 20
-counts = {True: 0, False: 0}
+tally = common.Tally()
 
 # A name, the lines of `dwv types`, texts that the header must have, and after a `!` such as it must not have.
 LISTINGS = [
@@ -126,15 +122,8 @@ struct point *points(struct point *p) { return p; }
 """
 
 
-def outcome(name, why):
-    """Counts a test that failed for a reason, or passed if that is empty, and prints a line on it."""
-    counts[not why] += 1
-    print(f"{'FAILED' if why else 'passed'} {name}{f': {why}'[:800] if why else ''}", flush=True)
-
-
-def run(dwv, *words):
-    ran = subprocess.run([SCRIPT, *words], capture_output=True, text=True, env={**os.environ, "DWV": str(dwv)})
-    return ran.returncode, ran.stdout, ran.stderr
+def run(*words, dwv=common.DWV):
+    return common.script("c-header", *words, dwv=dwv)
 
 
 def refusals(text):
@@ -152,29 +141,29 @@ def listings(folder):
     for name, text, wanted in LISTINGS:
         path = folder / "listing"
         path.write_text(text)
-        status, header, errors = run(folder / "dwv", *(["--all"] if "--all" in name else []), path)
+        status, header, errors = run(*(["--all"] if "--all" in name else []), path, dwv=folder / "dwv")
         wrong = [it for it in wanted if it.startswith("!") == (it.removeprefix("!") in header)]
-        outcome(name, errors or wrong or status or refusals(header))
+        tally.add(name, errors or wrong or status or refusals(header))
         for line in text.splitlines():
             try:
                 said = c_writing.Writer(True).declaration(c_types.read(line))
             except c_types.Malformed:
                 continue
             if said != line:
-                outcome(f"{name}: the line is written as it was read", said)
+                tally.add(f"{name}: the line is written as it was read", said)
     for name, text in LONG.items():
         path = folder / "listing"
         path.write_text(text)
         before = resource.getrusage(resource.RUSAGE_CHILDREN).ru_utime
-        status, _, errors = run(folder / "dwv", path)
+        status, _, errors = run(path, dwv=folder / "dwv")
         used = resource.getrusage(resource.RUSAGE_CHILDREN).ru_utime - before
-        outcome(f"{MANY} lines, {name}", errors or status or (used if used > SECONDS else ""))
+        tally.add(f"{MANY} lines, {name}", errors or status or (used if used > SECONDS else ""))
 
 
 def programs(folder):
     (folder / "layouts.c").write_text(LAYOUTS)
     sources = {"layouts": folder / "layouts.c"}
-    sources |= {name: HERE / f"programs/{name}.c" for name in ("shapes", "calls", "library")}
+    sources |= {name: common.PROGRAMS / f"{name}.c" for name in ("shapes", "calls", "library")}
     for compiler in COMPILERS:
         for version in (5, 4):
             for name, source in sources.items():
@@ -183,29 +172,29 @@ def programs(folder):
                 if subprocess.run(words, capture_output=True).returncode:
                     print(f"skipped: {title} does not compile")
                     continue
-                status, header, errors = run(rows.DWV, "--assert", path)
+                status, header, errors = run("--assert", path)
                 guessed = [line for line in header.splitlines() if line.startswith("/* guessed")]
                 lacking = [it for it in ("sizeof", "__builtin_offsetof") if f"_Static_assert({it}" not in header]
-                outcome(title, errors or status or guessed or refusals(header) or lacking)
+                tally.add(title, errors or status or guessed or refusals(header) or lacking)
 
 
 def words(folder):
     broken = folder / "broken"
-    broken.write_bytes((rows.CRATE / "data/X1").read_bytes().replace(b"\x02int", b"\x03int"))
-    status, text, errors = run(rows.DWV, broken)
+    broken.write_bytes((common.CRATE / "data/X1").read_bytes().replace(b"\x02int", b"\x03int"))
+    status, text, errors = run(broken)
     line = f"c-header: {broken}: fault G1 UndeclaredCode at .debug_info+0x0000000f attribute 0x0\n"
-    outcome("a file that is not sound", "" if (status, text, errors) == (1, "", line) else (status, text, errors))
-    status, text, errors = run(rows.DWV, folder / "none")
+    tally.add("a file that is not sound", "" if (status, text, errors) == (1, "", line) else (status, text, errors))
+    status, text, errors = run(folder / "none")
     is_right = (status, text, errors) == (3, "", f"c-header: {folder / 'none'}: No such file or directory\n")
-    outcome("no file", "" if is_right else (status, text, errors))
-    status, text, errors = run(rows.DWV, "-o", folder / "none/x.h", rows.CRATE / "data/X1")
-    outcome("a header that can't be written", "" if status == 3 and not text else (status, text, errors))
-    status, text, errors = run(rows.DWV)
-    outcome("no words", "" if status == 2 and not text else (status, text, errors))
+    tally.add("no file", "" if is_right else (status, text, errors))
+    status, text, errors = run("-o", folder / "none/x.h", common.CRATE / "data/X1")
+    tally.add("a header that can't be written", "" if status == 3 and not text else (status, text, errors))
+    status, text, errors = run()
+    tally.add("no words", "" if status == 2 and not text else (status, text, errors))
 
 
 def main():
-    rows.build()
+    common.build()
     with tempfile.TemporaryDirectory() as name:
         folder = pathlib.Path(name)
         (folder / "dwv").write_text(STAND_IN)
@@ -213,8 +202,7 @@ def main():
         listings(folder)
         programs(folder)
         words(folder)
-    print(f"{counts[True]} passed, {counts[False]} failed")
-    return 1 if counts[False] else 0
+    return tally.end()
 
 
 if __name__ == "__main__":

@@ -10,9 +10,10 @@ import sys
 import tempfile
 
 sys.dont_write_bytecode = True
+import common
 import rows
 
-RULES = rows.HERE.parent / "docs/RULES.md"
+RULES = common.TOP / "docs/RULES.md"
 
 
 def read():
@@ -28,12 +29,8 @@ def read():
 
 def files():
     """The files of all rows: those of tests/rows, and those of the page."""
-    parts = {}
-    tables = sorted((rows.HERE / "rows").glob("*.txt"), key=lambda it: (it.name != "parts.txt", it.name))
-    for table in tables:
-        own = dict(parts)
-        for row in rows.read(table, parts if table.name == "parts.txt" else own):
-            yield from row.files(own)
+    for _, row, parts in rows.all_rows():
+        yield from row.files(parts)
     table, parts = read()
     for row in table:
         yield from row.files(parts)
@@ -54,18 +51,15 @@ def rule_of(row):
 
 def main():
     table, parts = read()
-    passed = failed = 0
-    rows.build()
+    tally = common.Tally()
+    common.build()
     with tempfile.TemporaryDirectory() as folder:
         for row in table:
-            is_passed = rows.outcome("RULES", row, parts, pathlib.Path(folder) / "file")
-            passed, failed = passed + is_passed, failed + (not is_passed)
+            rows.run(tally, "RULES", row, parts, pathlib.Path(folder) / "file")
     shown = {rule_of(row) for row in table}
     for rule in rules():
-        print(f"{'passed' if rule in shown else 'FAILED'} RULES: {' '.join(rule)} has an example")
-        passed, failed = passed + (rule in shown), failed + (rule not in shown)
-    print(f"{passed} passed, {failed} failed")
-    return 1 if failed else 0
+        tally.add(f"RULES: {' '.join(rule)} has an example", None if rule in shown else "no row prints it")
+    return tally.end()
 
 
 if __name__ == "__main__":

@@ -6,7 +6,6 @@ dw_forms, and the entries that it reads with those that readelf lists. It prints
 'N passed, M failed'. What needs a tool that is not installed is skipped.
 """
 import json
-import os
 import pathlib
 import random
 import re
@@ -16,15 +15,13 @@ import sys
 import tempfile
 
 sys.dont_write_bytecode = True
-HERE = pathlib.Path(__file__).resolve().parent
-sys.path[:0] = [str(HERE.parent / folder) for folder in ("contrib", "bench")]
+import common
 import compilers
 import examples
-import rows
+from common import DWV, TOP
 from dwv_tools import dwarf, explaining, names, running
 
-EXPLAIN = HERE.parent / "contrib/explain"
-DOCS = HERE.parent / "docs"
+DOCS = TOP / "docs"
 CHANGES = 200
 KEYS = "at attribute cycle name rule section sound".split()
 # The flags that lead to a fault, its rule, and a word of what is said.
@@ -38,18 +35,15 @@ FLAGS = [
     ("gcc -g -s", compilers.C, "E9", "strip"),
     ("clang -gdwarf-5", "plain.m", "Z3", "Objective-C"),
     ("g++ -gdwarf-5 -fdebug-types-section", "boxes.cpp", "Z1", "-fdebug-types-section"),
+    ("rustc -g", "tails.rs", "Z3", "debuginfo=1"),
+    ("nasm -f elf64 -g -F dwarf", "start.asm", "U3", "nasm"),
+    ("yasm -f elf64 -g dwarf2", "start.asm", "U3", "yasm"),
 ]
-counts = {True: 0, False: 0}
-
-
-def outcome(name, why):
-    """Counts a test that failed for a reason, or passed if that is None, and prints a line on it."""
-    counts[not why] += 1
-    print(f"{'FAILED' if why else 'passed'} {name}{f': {why}' if why else ''}")
+tally = common.Tally()
 
 
 def same(name, said, wanted):
-    outcome(name, None if said == wanted else f"{said!r}, wanted {wanted!r}"[:1000])
+    tally.add(name, None if said == wanted else f"{said!r}, wanted {wanted!r}"[:1000])
 
 
 def page_rules():
@@ -66,7 +60,7 @@ def texts():
     table = [line.split(" | ") for line in explaining.RULES.read_text().splitlines() if not line.startswith("#")]
     same("the rules are those of RULES.md", [row[0] for row in table], [" ".join(rule) for rule in sorted_rules()])
     same("the rules say what the manual page says", {row[0]: row[1] for row in table}, page_rules())
-    folder = HERE.parent / "crates/dw_forms/src/constants"
+    folder = TOP / "crates/dw_forms/src/constants"
     code = "".join((folder / f"{name}.rt").read_text() for name in ("tags", "attributes", "languages"))
     found = re.findall(r"pub const DW_([A-Z]+)_(\w+): \w+ = \w+\((0x[0-9a-f]+)\)", code)
     odd = [word for kind, word, number in found if names.name(kind, int(number, 16)) != f"DW_{kind}_{word}"]
@@ -82,11 +76,11 @@ def sorted_rules():
 def explained(path):
     """Why a file is not explained as it must be, or None. And the rule of its fault."""
     try:
-        verdict = running.check(str(rows.DWV), path)
+        verdict = running.check(str(DWV), path)
         if verdict.status != 1:
             return None if verdict.status == 0 else verdict.lines, verdict.what
         lines, fields = explaining.lines(verdict, path), json.loads(json.dumps(explaining.fields(verdict, path)))
-        wanted = subprocess.run([rows.DWV, "check", "--json", path], capture_output=True, text=True).stdout
+        wanted = subprocess.run([DWV, "check", "--json", path], capture_output=True, text=True).stdout
         if lines[0] != verdict.lines[0]:
             return lines[0], verdict.what
         if {key: fields[key] for key in KEYS} != json.loads(wanted):
@@ -106,7 +100,7 @@ def every_rule(folder):
         path.write_bytes(next(row.files(parts))[0])
         why, what = explained(path)
         wanted = "sound" if row.name.startswith("sound") else row.name.split(",")[0]
-        outcome(row.name, why or (None if what == wanted else what))
+        tally.add(row.name, why or (None if what == wanted else what))
 
 
 def changed(folder):
@@ -126,8 +120,8 @@ def changed(folder):
         why, what = explained(path)
         seen.add(what)
         if why:
-            outcome(f"changed program {number}", why)
-    outcome(f"{CHANGES} changed programs, {len(seen)} rules", None if len(seen) > 8 else seen)
+            tally.add(f"changed program {number}", why)
+    tally.add(f"{CHANGES} changed programs, {len(seen)} rules", None if len(seen) > 8 else seen)
 
 
 def entries(path):
@@ -156,9 +150,7 @@ def listed(path):
 
 def run(*words):
     """The exit status of a run of the script, and what it writes."""
-    env = {**os.environ, "DWV": str(rows.DWV)}
-    ran = subprocess.run([EXPLAIN, *words], capture_output=True, text=True, env=env)
-    return ran.returncode, ran.stdout, ran.stderr
+    return common.script("explain", *words)
 
 
 def compiled(folder):
@@ -170,7 +162,7 @@ def compiled(folder):
             continue
         status, text, errors = run(path)
         is_right = text.startswith(f"fault {rule} ") and word in " ".join(text.split()) and status == 1
-        outcome(f"{command} {sources}: {rule}", None if is_right else text + errors)
+        tally.add(f"{command} {sources}: {rule}", None if is_right else text + errors)
     for command in ("gcc -gdwarf-5", "gcc -gdwarf-4", "clang -gdwarf-5", "clang -gdwarf-4"):
         path = compilers.compiled(folder, command, "shapes.c calls.c") if shutil.which(command.split()[0]) else None
         if path and shutil.which("readelf"):
@@ -180,7 +172,7 @@ def compiled(folder):
 def words(folder):
     """The words of the command line, and what is written where."""
     sound = "sound: 1 units, 2 entries, 1 types"
-    plain = rows.CRATE / "data/X1"
+    plain = common.CRATE / "data/X1"
     same("a sound file", run(plain), (0, f"{sound}\n", ""))
     status, text, _ = run("--json", plain)
     same("a sound file, --json", (status, json.loads(text)["sound"]), (0, True))
@@ -193,11 +185,11 @@ def words(folder):
         subprocess.run(["objcopy", "--compress-debug-sections", program, packed])
         status, text, _ = run(packed)
         is_right = text.startswith("sound: ") and "(of a decompressed copy)" in text and "compressed" in text
-        outcome("a compressed file", None if is_right and status == 0 else text)
+        tally.add("a compressed file", None if is_right and status == 0 else text)
 
 
 def main():
-    rows.build()
+    common.build()
     with tempfile.TemporaryDirectory() as name:
         folder = pathlib.Path(name)
         for source, text in compilers.SOURCES.items():
@@ -207,8 +199,7 @@ def main():
         compiled(folder)
         changed(folder)
         words(folder)
-    print(f"{counts[True]} passed, {counts[False]} failed")
-    return 1 if counts[False] else 0
+    return tally.end()
 
 
 if __name__ == "__main__":

@@ -24,10 +24,10 @@ import sys
 import tempfile
 import time
 
-ROOT = pathlib.Path(__file__).resolve().parent.parent
-DWV = ROOT / "crates/dwv/out/dwv"
-SLOW = ROOT / "crates/slow_check/out/slow_check"
-PROGRAMS = ROOT / "tests/programs"
+sys.dont_write_bytecode = True
+from common import DWV, PROGRAMS, TOP
+
+SLOW = TOP / "crates/slow_check/out/slow_check"
 # The sources of each program.
 SOURCES = (["library.c"], ["shapes.c"], ["shapes.c", "calls.c"])
 SECTIONS = {".debug_abbrev", ".debug_info", ".debug_str", ".debug_line_str", ".debug_str_offsets", ".debug_addr"}

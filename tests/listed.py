@@ -6,12 +6,13 @@ name, and that is not only declared, has one line of `dwv types`, and there are 
 prints these lines as a C file, followed by an assertion for each type that it has the size that `dwv size` prints.
 """
 import collections
-import pathlib
 import re
 import subprocess
 import sys
 
-DWV = pathlib.Path(__file__).resolve().parent.parent / "crates/dwv/out/dwv"
+sys.dont_write_bytecode = True
+from common import DWV
+
 WORDS = {"typedef": "typedef", "structure_type": "struct", "union_type": "union", "enumeration_type": "enum"}
 # What readelf prints before a value: its form, and where a name is that is not in the entry itself.
 BEFORE = re.compile(r"(?:\((?:str|line_str|flag|offset|index|indirect|alt)[^)]*\):? *)*")

@@ -13,10 +13,10 @@ import sys
 import tempfile
 
 sys.dont_write_bytecode = True
+import common
 import rows
+from common import DWV, HERE, PROGRAMS
 
-HERE = pathlib.Path(__file__).resolve().parent
-DWV = HERE.parent / "crates/dwv/out/dwv"
 # .debug_abbrev and .debug_info of small files, by the parts of tests/rows/parts.txt.
 FILES = {
     "sound": ("A", "B"),
@@ -59,26 +59,21 @@ def main():
     if not shutil.which("gcc"):
         print("skipped: gcc is not installed\n0 passed, 0 failed")
         return 0
-    passed = failed = 0
+    tally = common.Tally()
     with tempfile.TemporaryDirectory() as name:
         folder = pathlib.Path(name)
         library = folder / "refusing-malloc.so"
         source = HERE / "refusing-malloc.c"
         subprocess.run(["gcc", "-O1", "-shared", "-fPIC", "-o", library, source, "-ldl"], check=True)
         program = folder / "program"
-        sources = [HERE / "programs/shapes.c", HERE / "programs/calls.c"]
+        sources = [PROGRAMS / "shapes.c", PROGRAMS / "calls.c"]
         subprocess.run(["gcc", "-gdwarf-5", "-O0", "-w", "-o", program, *sources], check=True)
         for words in commands([*small(folder), program]):
             requests, ended, wrong = tried(words, library, folder)
             line = " ".join(pathlib.Path(word).name for word in words)
-            if wrong is None and ended > 0:
-                passed += 1
-                print(f"passed dwv {line}: {requests} requests, {ended} of them end it with want of memory")
-            else:
-                failed += 1
-                print(f"FAILED dwv {line}: {wrong or 'no refused request ends it'}")
-    print(f"{passed} passed, {failed} failed")
-    return 1 if failed else 0
+            why = wrong or (None if ended else "no refused request ends it")
+            tally.add(f"dwv {line}", why, f"{requests} requests, {ended} of them end it with want of memory")
+    return tally.end()
 
 
 def small(folder):
@@ -86,10 +81,9 @@ def small(folder):
     parts = {}
     rows.read(HERE / "rows/parts.txt", parts)
     for name, (abbrev, info) in FILES.items():
-        sections = dict.fromkeys(rows.SECTIONS, b"")
-        sections["abbrev"], sections["info"] = rows.Bytes(abbrev, parts).all(), rows.Bytes(info, parts).all()
+        sections = {"abbrev": rows.Bytes(abbrev, parts).all(), "info": rows.Bytes(info, parts).all()}
         file = folder / name
-        file.write_bytes(rows.elf(sections, []))
+        file.write_bytes(rows.elf(sections))
         yield file
 
 

@@ -12,9 +12,10 @@ import subprocess
 import sys
 import tempfile
 
-HERE = pathlib.Path(__file__).resolve().parent
-CRATE = HERE.parent / "crates/dwv"
-DWV = CRATE / "out/dwv"
+sys.dont_write_bytecode = True
+import common
+from common import DWV
+
 SECTIONS = ("abbrev", "info", "str", "line_str", "str_offsets", "addr")
 TOKEN = re.compile(r'\s*("[^"]*"|[0-9a-f]{2}\b|[A-Z]\w*|unit4?\(|type_unit\(|\(|\)|\[[^\]]*\]|\*\d+)')
 REQUEST = re.compile(r"(check --json|check|show|types|size 0x[0-9a-f]+) ([0-4])(?: \| (.*))?$")
@@ -75,34 +76,17 @@ class Bytes:
 
 def made(kind, items):
     """Items as they are, or as a unit with addresses of 8 bytes and the first table."""
-    heads = {
-        "unit": struct.pack("<HBBI", 5, 1, 8, 0),
-        "unit4": struct.pack("<HIB", 4, 0, 8),
-        "type_unit": struct.pack("<HBBIQI", 5, 2, 8, 0, 1, 0x19),
-    }
-    if not kind:
-        return items
-    body = heads[kind] + items
-    return struct.pack("<I", len(body)) + body
+    if kind == "type_unit":
+        return common.unit(items, 2, struct.pack("<QI", 1, 0x19))
+    return common.unit(items, version=4 if kind == "unit4" else 5) if kind else items
 
 
-def elf(sections, more):
+def elf(sections, more=()):
     """A linked ELF64 file: the sections that are not empty, more sections, the name table. It has .debug_info."""
-    kept = [(f".debug_{name}", 1, sections[name]) for name in SECTIONS if sections[name]] + more
+    kept = [(f".debug_{name}", 1, sections[name]) for name in SECTIONS if sections.get(name)] + list(more)
     if ".debug_info" not in [name for name, _, _ in kept]:
         kept.append((".debug_info", 1, b""))
-    names, headers, body, start = b"\0", [bytes(64)], [], 64
-    for name, kind, data in [*kept, (".shstrtab", 3, None)]:
-        at, names = len(names), names + name.encode() + b"\0"
-        data = names if data is None else data
-        headers.append(struct.pack("<IIQQQQIIQQ", at, kind, 0, 0, start, len(data), 0, 0, 0, 0))
-        body.append(data)
-        start += len(data)
-    body.append(bytes(-start % 8))
-    ident = b"\x7fELF\x02\x01\x01" + bytes(9)
-    start, count = start + len(body[-1]), len(headers)
-    head = struct.pack("<HHIQQQIHHHHHH", 2, 62, 1, 0, 0, start, 0, 64, 0, 0, 64, count, count - 1)
-    return b"".join([ident, head, *body, *headers])
+    return common.elf(kept)
 
 
 class Row:
@@ -190,34 +174,31 @@ def wrong(row, parts, path):
     return runs, None if runs else "nothing is asked"
 
 
-def build():
-    """Proves and builds the program, if it is not built."""
-    if not DWV.exists():
-        subprocess.run(["rt", "run", "--", "check", "data/X1"], cwd=CRATE, check=True)
-
-
-def outcome(table, row, parts, path):
-    """Runs a row, prints a line on it, and returns whether it passed."""
+def run(tally, table, row, parts, path):
+    """Runs a row, and counts it."""
     try:
         runs, why = wrong(row, parts, path)
     except (ValueError, KeyError, IndexError) as error:
         runs, why = 0, f"the file cannot be made: {error!r}"
-    print(f"{'passed' if why is None else 'FAILED'} {table}: {row.name}: {why or f'{runs} runs'}")
-    return why is None
+    tally.add(f"{table}: {row.name}", why, f"{runs} runs")
+
+
+def all_rows():
+    """Each row of tests/rows, with the name of its table and its parts."""
+    parts = {}
+    for table in sorted((common.HERE / "rows").glob("*.txt"), key=lambda it: (it.name != "parts.txt", it.name)):
+        own = dict(parts)
+        for row in read(table, parts if table.name == "parts.txt" else own):
+            yield table.stem, row, own
 
 
 def main():
-    passed = failed = 0
-    parts, tables = {}, sorted((HERE / "rows").glob("*.txt"), key=lambda it: (it.name != "parts.txt", it.name))
-    build()
+    tally = common.Tally()
+    common.build()
     with tempfile.TemporaryDirectory() as folder:
-        for table in tables:
-            own = dict(parts)
-            for row in read(table, parts if table.name == "parts.txt" else own):
-                is_passed = outcome(table.stem, row, own, pathlib.Path(folder) / "file")
-                passed, failed = passed + is_passed, failed + (not is_passed)
-    print(f"{passed} passed, {failed} failed")
-    return 1 if failed else 0
+        for table, row, parts in all_rows():
+            run(tally, table, row, parts, pathlib.Path(folder) / "file")
+    return tally.end()
 
 
 if __name__ == "__main__":

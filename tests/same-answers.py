@@ -2,7 +2,7 @@
 """Compares the answers of two programs `dwv`: same-answers.py OLD NEW [COUNT] [SEED].
 
 Both run `check` and `types` on the programs of tests/programs, as gcc and clang compile them in versions 4 and 5, on
-the files of tests/hostile-files.py, and on those of the rows of tests/rows and docs/RULES.md. They run `check` on
+the files of tests/hostile_files.py, and on those of the rows of tests/rows and docs/RULES.md. They run `check` on
 COUNT copies of the compiled programs (20,000 if it is not given) that are changed at random as tests/fuzz.py does, and
 `types` on each tenth of them. Of each run the exit status, standard output and standard error must be the same.
 
@@ -10,7 +10,6 @@ It prints how often OLD found each rule, and the first difference, whose file is
 The last line is 'N runs had the same answer, M did not'.
 """
 import collections
-import importlib
 import pathlib
 import random
 import sys
@@ -19,8 +18,8 @@ import tempfile
 sys.dont_write_bytecode = True
 import examples
 import fuzz
+import hostile_files
 
-hostile = importlib.import_module("hostile-files")
 COUNT = 20_000
 
 
@@ -30,7 +29,7 @@ def asked(folder, count, chance):
     programs = fuzz.built(folder, levels=("-O0", "-O2"))
     for file in programs:
         yield "compiled programs", file, both
-    for _, file, *_ in hostile.runs():
+    for _, file, *_ in hostile_files.runs():
         yield "hostile files", file, both
     for file, _ in examples.files():
         yield "rows", file, both

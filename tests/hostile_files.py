@@ -8,14 +8,16 @@ far more bytes than the memory that it may have: it must say so, and write nothi
 within less memory. The script prints one line a run with the seconds it took, and ends with 'N passed, M failed'.
 """
 import pathlib
-import resource
 import struct
 import subprocess
 import sys
 import tempfile
 import time
 
-DWV = pathlib.Path(__file__).resolve().parent.parent / "crates/dwv/out/dwv"
+sys.dont_write_bytecode = True
+import common
+from common import DWV, limited, linked, section, uleb, unit
+
 # Seconds that a run may take at most, far above what it takes, since other work may run beside it.
 LIMIT = 20
 MANY = 100_000
@@ -44,52 +46,16 @@ SECTIONS = 65_000
 LONG = 16 << 20
 
 
-def linked(body, headers):
-    """A linked ELF64 file with these section headers, the last of them that of the name table."""
-    ident = b"\x7fELF\x02\x01\x01" + bytes(9)
-    start, count = 64 + len(body), len(headers)
-    head = ident + struct.pack("<HHIQQQIHHHHHH", 2, 62, 1, 0, 0, start, 0, 64, 0, 0, 64, count, count - 1)
-    return head + bytes(body) + b"".join(headers)
-
-
-def section(name, kind, start, size):
-    """A section header: where its name begins, its type, where its bytes begin after the file header, and its size."""
-    return struct.pack("<IIQQQQIIQQ", name, kind, 0, 0, 64 + start, size, 0, 0, 1, 0)
-
-
 def elf(sections):
     """A linked ELF64 file with these sections, by name."""
-    names = b"\0" + b".shstrtab\0"
-    headers = [bytes(64)]
-    body = bytearray()
-    for name, data in sections:
-        headers.append(section(len(names), 1, len(body), len(data)))
-        names += name.encode() + b"\0"
-        body += data
-    headers.append(section(1, 3, len(body), len(names)))
-    return linked(body + names, headers)
+    return common.elf([(name, 1, data) for name, data in sections])
 
 
 def alike():
     """A file of sections that share one long name. The only zero byte of the name table is its last byte."""
     names = b"a" * LONG + b".debug_info\0"
-    info = section(LONG, 1, 0, 0)
-    return linked(names, [bytes(64), info] + [section(0, 1, 0, 0)] * SECTIONS + [section(0, 3, 0, len(names))])
-
-
-def unit(items, kind=1, more=b"", table=0):
-    """A version 5 unit: its header with the offset of its table, and its items."""
-    body = struct.pack("<HBBI", 5, kind, 8, table) + more + items
-    return struct.pack("<I", len(body)) + body
-
-
-def uleb(number):
-    """The number in the least bytes."""
-    out = bytearray()
-    while number >= 128:
-        out.append(number % 128 + 128)
-        number //= 128
-    return bytes(out) + bytes([number])
+    info = section(LONG, 1, 64, 0)
+    return linked(names, [bytes(64), info] + [section(0, 1, 64, 0)] * SECTIONS + [section(0, 3, 64, len(names))])
 
 
 # 1 compile unit, 2 base type with a size, 3 typedef with a type, 4 structure with a size, 5 member with a type, 6 array
@@ -485,56 +451,37 @@ def collisions():
     return file, "typedef void t;\n" * COLLISIONS
 
 
-def limited():
-    """Limits the memory of the process that is about to run."""
-    resource.setrlimit(resource.RLIMIT_AS, (MEMORY, MEMORY))
+def said(limit, *words):
+    """The status of a run under a limit, and both texts."""
+    ran = subprocess.run([DWV, *words], capture_output=True, text=True, timeout=LIMIT, preexec_fn=limit)
+    return ran.returncode, ran.stdout, ran.stderr
 
 
-def limited_types():
-    """The same for `types`."""
-    resource.setrlimit(resource.RLIMIT_AS, (TYPES_MEMORY, TYPES_MEMORY))
-
-
-def limited_collisions():
-    """The same, with a limit of processor time."""
-    limited_types()
-    resource.setrlimit(resource.RLIMIT_CPU, (COLLISIONS_TIME, COLLISIONS_TIME))
-
-
-def checked(path):
+def checked(path, limit=None):
     """What `check` of a file says."""
-    ran = subprocess.run([DWV, "check", path], capture_output=True, text=True, timeout=LIMIT)
-    return f"{ran.stdout}{ran.stderr}"
+    return "".join(said(limit, "check", path)[1:])
 
 
-def checked_within(memory, seconds):
+def checked_within(seconds):
     """The same with limits of memory and of processor time."""
-    def limit():
-        resource.setrlimit(resource.RLIMIT_AS, (memory, memory))
-        resource.setrlimit(resource.RLIMIT_CPU, (seconds, seconds))
-
-    def checked_soon(path):
-        ran = subprocess.run([DWV, "check", path], capture_output=True, text=True, timeout=LIMIT, preexec_fn=limit)
-        return f"{ran.stdout}{ran.stderr}"
-
-    return checked_soon
+    return lambda path: checked(path, limited(SOON_MEMORY, seconds))
 
 
 def shown(path):
     """How `show` of a file ends under a limit of memory: the status, the bytes written, the line on standard error."""
-    ran = subprocess.run([DWV, "show", path], capture_output=True, timeout=LIMIT, preexec_fn=limited)
-    return f"status {ran.returncode}, {len(ran.stdout)} bytes written, {ran.stderr.decode()}"
+    status, text, errors = said(limited(MEMORY), "show", path)
+    return f"status {status}, {len(text)} bytes written, {errors}"
 
 
-def typed(path, limits=limited_types):
+def typed(path, limit=limited(TYPES_MEMORY)):
     """What `types` of a file prints, and its status."""
-    ran = subprocess.run([DWV, "types", path], capture_output=True, text=True, timeout=LIMIT, preexec_fn=limits)
-    return f"{ran.stdout}{ran.stderr}status {ran.returncode}\n"
+    status, text, errors = said(limit, "types", path)
+    return f"{text}{errors}status {status}\n"
 
 
 def typed_soon(path):
     """The same with a limit of processor time."""
-    return typed(path, limited_collisions)
+    return typed(path, limited(TYPES_MEMORY, COLLISIONS_TIME))
 
 
 def runs():
@@ -543,10 +490,10 @@ def runs():
         yield name, elf(sections), checked, want
     for some in (inside(), flagged()):
         for name, sections, want in some:
-            yield name, elf(sections), checked_within(SOON_MEMORY, SOON_TIME), want
+            yield name, elf(sections), checked_within(SOON_TIME), want
     count = SIGNED * DECLARED
     yield (f"{SIGNED:,} type units and {count:,} declared structures", elf(signed()),
-           checked_within(SOON_MEMORY, SIGNED_TIME),
+           checked_within(SIGNED_TIME),
            f"sound: {SIGNED + 1} units, {2 * SIGNED + count + 1} entries, {SIGNED + count} types")
     for some in (chains(), bodies()):
         for name, types in some:
@@ -559,25 +506,19 @@ def runs():
 
 
 def main():
-    passed = failed = 0
+    tally = common.Tally()
     with tempfile.TemporaryDirectory() as folder:
         path = pathlib.Path(folder) / "file"
         for name, file, ask, want in runs():
             path.write_bytes(file)
             before = time.monotonic()
             try:
-                said = ask(path)
+                text = ask(path)
             except subprocess.TimeoutExpired:
-                said = f"no answer within {LIMIT} seconds"
-            seconds = time.monotonic() - before
-            if said.startswith(want):
-                passed += 1
-                print(f"passed {name}: {seconds:.3f} s")
-            else:
-                failed += 1
-                print(f"FAILED {name}: {said[:200]!r}, {seconds:.3f} s")
-    print(f"{passed} passed, {failed} failed")
-    return 1 if failed else 0
+                text = f"no answer within {LIMIT} seconds"
+            seconds = f"{time.monotonic() - before:.3f} s"
+            tally.add(name, None if text.startswith(want) else f"{text[:200]!r}, {seconds}", seconds)
+    return tally.end()
 
 
 if __name__ == "__main__":
