@@ -93,7 +93,7 @@ fn a_file(rt: HostRuntime) -> Result<(), Fail> {
         assert_agrees(&rt, rt.alloc(), front)?;
     }
     let runs = assert_changes(&rt, rt.alloc(), file.as_mut_slice(), 0)?;
-    assert_eq!(rt; runs, 103_168);
+    assert_eq!(rt; runs, 102_912);
     Ok(())
 }
 
