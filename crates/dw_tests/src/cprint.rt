@@ -113,10 +113,11 @@ fn declarations(rt: HostRuntime) -> Result<(), Fail> {
         let mut text = Vec::new(rt.alloc());
         text.push(b'x')?;
         let outcome = declare(rt.alloc(), &image, id, &mut text);
-        let added = text.as_slice().get(1..).ok_or("no text")?;
+        let text = String::from_utf8(text).ok().ok_or("no text")?;
+        let added = text.strip_prefix('x').ok_or("the text before it is gone")?;
         match want {
-            Ok(wanted) => assert_eq!(rt; (outcome, added), (Ok(()), wanted.as_bytes())),
-            Err(refusal) => assert_eq!(rt; (outcome, added.len()), (Err(*refusal), 0)),
+            Ok(wanted) => assert_eq!(rt; (outcome, added), (Ok(()), *wanted)),
+            Err(refusal) => assert_eq!(rt; (outcome, added), (Err(*refusal), "")),
         }
     }
     Ok(())

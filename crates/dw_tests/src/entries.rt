@@ -86,8 +86,8 @@ fn values(rt: HostRuntime) -> Result<(), Fail> {
     Ok(())
 }
 
-// The place, type, version and address size of a type unit and a unit of version 4, and the number of its first entry. In
-// version 4 the type is that of the first entry's tag.
+// The place, type, version and address size of a type unit and a unit of version 4, and the number of the first entry.
+// In version 4 the type is that of the first entry's tag.
 #[test]
 fn units(rt: HostRuntime) -> Result<(), Fail> {
     let info = joined(rt.alloc(), &[&G, &B4])?;
@@ -114,7 +114,7 @@ fn units(rt: HostRuntime) -> Result<(), Fail> {
 /// Three compile units without attributes, with the codes 1, 2 and 3, at 0, 5 and 10.
 const ROW: [u8; 16] = [1, 0x11, 0, 0, 0, 2, 0x11, 0, 0, 0, 3, 0x11, 0, 0, 0, 0];
 
-/// Three with the codes 129, 130 and 131 of two bytes, at 0, 6 and 12. The second bytes start declarations of the code 1.
+/// Three with the codes 129, 130 and 131 of two bytes, at 0, 6 and 12. The second bytes start declarations of code 1.
 const INSIDE: [u8; 19] = [
     0x81, 1, 0x11, 0, 0, 0, 0x82, 1, 0x11, 0, 0, 0, 0x83, 1, 0x11, 0, 0, 0, 0,
 ];

@@ -41,9 +41,9 @@ const INFO: [u8; 42] = [
     0,
 ];
 
-/// An entry: its offset, tag, depth and name; the numbers of its parent, its next sibling and its first two children; the
-/// numbers of the target of its DW_AT_type, of that type, of itself if it is a type, and of its steps by value; its count
-/// and its size.
+/// An entry: its offset, tag, depth and name; the numbers of its parent, its next sibling and its first two children;
+/// the numbers of the target of its DW_AT_type, of that type, of itself if it is a type, and of its steps by value; its
+/// count and its size.
 type Row<'a> = (
     u32,
     Tag,

@@ -66,8 +66,8 @@ pub const G: [u8; 33] = [
     0x0f, 0x02, 0x69, 0x6e, 0x74, 0, 4, 5, 0,
 ];
 
-/// Declarations of a compile unit, a type unit with a name, a partial unit, and two of 20 attributes each, with the forms
-/// of version 5 in the order of their codes. The attributes have the codes 0x2000, 0x2001 and so on.
+/// Declarations of a compile unit, a type unit with a name, a partial unit, and two of 20 attributes each, with the
+/// forms of version 5 in the order of their codes. The attributes have the codes 0x2000, 0x2001 and so on.
 pub const FORMS_5: [u8; 167] = [
     0x01, 0x11, 0x01, 0x00, 0x00, 0x05, 0x41, 0x00, 0x03, 0x08, 0x00, 0x00, 0x06, 0x3c, 0x01, 0x00,
     0x00, //
