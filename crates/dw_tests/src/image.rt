@@ -158,6 +158,10 @@ fn row_of<'a>(image: &Image<'a>, offset: u32) -> Option<Row<'a>> {
         number_of(children.next()),
     ];
     let of_type = image.type_at(id);
+    let size = match of_type {
+        Some(of_type) => image.size_of(of_type),
+        None => None,
+    };
     let types = [
         number_of(image.target(id, DW_AT_type)),
         entry_of(image.type_of(id)),
@@ -165,10 +169,6 @@ fn row_of<'a>(image: &Image<'a>, offset: u32) -> Option<Row<'a>> {
         number_of(image.step(id, 0)),
         number_of(image.step(id, 1)),
     ];
-    let size = match of_type {
-        Some(of_type) => image.size_of(of_type),
-        None => None,
-    };
     let (depth, name, count) = (image.depth(id), image.name_of(id), image.count_of(id));
     Some((
         head.offset,
@@ -187,7 +187,8 @@ fn entries(rt: HostRuntime) -> Result<(), Fail> {
     let image = image_of(rt.alloc(), &TABLE, &INFO)?;
     assert_eq!(rt; (image.units(), image.entries(), image.types()), (1, 7, 4));
     for want in &ROWS {
-        assert_eq!(rt; row_of(&image, want.0), Some(*want));
+        let found = row_of(&image, want.0);
+        assert_eq!(rt; found.as_ref(), Some(want));
     }
     assert_eq!(rt; image.entry(0x0d), None);
     let structure = image.nth(2).ok_or("no entry")?;
