@@ -65,14 +65,42 @@ ends 1 'fault E2 NotElf64 at section 0' '' show /dev/null
 ends 1 'fault E2 NotElf64 at section 0' '' types /dev/null
 ends 1 'fault E2 NotElf64 at section 0' '' size /dev/null 0x10
 ends 2 'not a type' '' size "$file" 0x10
-ends 2 '' 'dwv: bad usage' show
-ends 2 '' 'dwv: bad usage' types
-ends 2 '' 'dwv: bad usage' types --json "$file"
+ends 0 "$sound" '' check -- "$file"
+ends 0 '{"entries":2,"sound":true,"types":1,"units":1}' '' check "$file" --json
+ends 0 'size 4' '' size "$file" 0x0000000f
+ends 2 'not a type' '' size "$file" 0xFf
+ends 2 'not a type' '' size "$file" 0xffffffff
+ends 2 '' 'dwv: bad usage'
 ends 2 '' 'dwv: bad usage' check $'\xff'
-ends 2 '' 'dwv: bad usage' size "$file"
-ends 2 '' 'dwv: bad usage' size no-such-file 10 --json
-ends 2 '' 'dwv: bad usage' --help
-ends 2 '' 'dwv: bad offset' size no-such-file 10
+# The file is not opened, and the words are read before the offset.
+while read -r -a words; do
+    ends 2 '' 'dwv: bad usage' "${words[@]}"
+done << 'END'
+check
+show
+types
+size
+x
+raw x x
+check x x
+show x x
+types x x
+check --json --json x
+check --jso x
+check --json=1 x
+show --json x
+types --json x
+size x
+size x 0x0 x
+size --json x 0x0
+size x 10 --json
+help
+--help
+-V
+END
+for offset in 10 0x 0X10 0x123456789 0xg 0x+1 ''; do
+    ends 2 '' 'dwv: bad offset' size x "$offset"
+done
 ends 3 '' 'dwv: cannot open file' size no-such-file 0x10
 ends 3 '' 'dwv: cannot open file' show no-such-file
 ends 3 '' 'dwv: cannot open file' types no-such-file

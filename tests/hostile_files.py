@@ -21,6 +21,8 @@ from common import DWV, limited, linked, section, uleb, unit
 # Seconds that a run may take at most, far above what it takes, since other work may run beside it.
 LIMIT = 20
 MANY = 100_000
+# Structures inside one another whose lines are compared.
+NESTED = 1_000
 # Bytes of memory that a run of `show` may have.
 MEMORY = 1 << 30
 # Bytes of memory that a run of `types` may have.
@@ -484,6 +486,45 @@ def typed_soon(path):
     return typed(path, limited(TYPES_MEMORY, COLLISIONS_TIME))
 
 
+def sized(at):
+    """What `size` says of the type at an offset of a file."""
+    def sized_there(path):
+        ran = subprocess.run([DWV, "size", path, f"0x{at:x}"], capture_output=True, text=True, timeout=LIMIT)
+        return f"{ran.stdout}{ran.stderr}"
+
+    return sized_there
+
+
+def ends():
+    """The sizes of the last types of chains: the name of each file, its types, where the last is, and its size."""
+    types = Types()
+    last = types.int
+    for n in range(MANY):
+        last = types.add(3, f"t{n}", last)
+    yield f"a chain of {MANY:,} typedefs", types, last, 4
+
+    types = Types()
+    last = types.int
+    for _ in range(MANY):
+        last = types.structure([("m", last)])
+    yield f"a chain of {MANY:,} structures, each with a member of the one before", types, last, 8
+
+
+def nested():
+    """Structures, each inside the one before, and the lines of `show`."""
+    level = b"\x04\x01"
+    lines = [f"0x{12:08x} 0x0011\n"]
+    lines += [f"0x{FIRST + n * len(level):08x} {'  ' * (n + 1)}0x0013 size 1\n" for n in range(NESTED)]
+    info = unit(b"\x01" + level * NESTED + b"\0" * (NESTED + 1))
+    return elf([(".debug_abbrev", TABLE), (".debug_info", info)]), "".join(lines)
+
+
+def shown_whole(path):
+    """What `show` of a file prints, and its status."""
+    ran = subprocess.run([DWV, "show", path], capture_output=True, text=True, timeout=LIMIT)
+    return f"{ran.stdout}{ran.stderr}status {ran.returncode}\n"
+
+
 def runs():
     """Each run: its name, the file, what asks it, and the beginning of what it must say."""
     for name, sections, want in files():
@@ -500,6 +541,10 @@ def runs():
             yield f"types of {name}", types.file(), typed, f"{types.text()}status 0\n"
     file, want = collisions()
     yield f"types of {COLLISIONS:,} typedefs whose numbers collide", file, typed_soon, f"{want}status 0\n"
+    for name, types, at, size in ends():
+        yield f"size of the last in {name}", types.file(), sized(at), f"size {size}\n"
+    file, want = nested()
+    yield f"show of {NESTED:,} nested structures, each line", file, shown_whole, f"{want}status 0\n"
     tree = [(".debug_abbrev", TABLE), (".debug_info", unit(deep()))]
     yield f"show of {MANY:,} nested structures", elf(tree), shown, "status 4, 0 bytes written, dwv: out of memory\n"
     yield f"{SECTIONS:,} sections with one name of 16 MB", alike(), checked, "sound: 0 units, 0 entries, 0 types"

@@ -1,6 +1,6 @@
 //! The examples on the pages CALLING.md of the crates.
 
-use crate::agreement::elf_file::file_of;
+use crate::elf::file_of;
 use crate::image::image_of;
 use crate::vectors::{A, B};
 use dw_cprint::declare;

@@ -1,306 +1,124 @@
-//! Declarations and listings of small sections.
-
-mod refusals;
-mod variables;
+//! Declarations that `types` does not print: variables, and entries that are not listed.
 
 use crate::image::image_of;
-use crate::vectors::T;
-use dw_cprint::{Image, PrintFault, declare, declare_all};
-use std::alloc::Global;
-use std::process::Abort;
+use dw_cprint::{PrintFault, declare};
 use std::test::Fail;
 
-/// A unit of version 5 with these items.
-fn unit(alloc: Global, items: &[u8]) -> Result<Vec<u8>, Fail> {
-    let count = u32::try_from(items.len()).ok().ok_or("too long")?;
-    let length = count.checked_add(8).ok_or("too long")?;
-    let mut bytes = Vec::new(alloc);
-    bytes.extend_from_slice(&length.to_le_bytes())?;
-    bytes.extend_from_slice(&[5, 0, 1, 8, 0, 0, 0, 0])?;
-    bytes.extend_from_slice(items)?;
-    Ok(bytes)
-}
+/// A table; `tests/rows/declarations.txt` has most of its entries. References have one byte.
+const TABLE: [u8; 208] = [
+    0x01, 0x11, 1, 0, 0, // compile unit
+    0x02, 0x24, 0, 0x03, 0x08, 0x0b, 0x0b, 0, 0, // base type: name, size
+    0x03, 0x16, 0, 0x03, 0x08, 0x49, 0x11, 0, 0, // typedef: name, type
+    0x04, 0x0f, 0, 0x49, 0x11, 0, 0, // pointer: type
+    0x05, 0x0f, 0, 0, 0, // pointer
+    0x06, 0x26, 0, 0x49, 0x11, 0, 0, // const: type
+    0x07, 0x26, 0, 0, 0, // const
+    0x09, 0x35, 0, 0, 0, // volatile
+    0x0a, 0x37, 0, 0x49, 0x11, 0, 0, // restrict: type
+    0x0d, 0x01, 1, 0x49, 0x11, 0, 0, // array: type
+    0x0e, 0x21, 0, 0x37, 0x0b, 0, 0, // dimension: count
+    0x0f, 0x21, 0, 0, 0, // dimension
+    0x10, 0x15, 0, 0x49, 0x11, 0, 0, // subroutine: type
+    0x11, 0x15, 1, 0x27, 0x19, 0, 0, // subroutine: prototyped
+    0x13, 0x05, 0, 0x49, 0x11, 0, 0, // parameter: type
+    0x14, 0x18, 0, 0, 0, // more parameters
+    0x16, 0x13, 1, 0x0b, 0x0b, 0, 0, // structure: size
+    0x17, 0x0d, 0, 0x03, 0x08, 0x49, 0x11, 0, 0, // member: name, type
+    0x1a, 0x17, 1, 0x0b, 0x0b, 0, 0, // union: size
+    0x1b, 0x04, 1, 0x03, 0x08, 0x0b, 0x0b, 0, 0, // enumeration: name, size
+    0x1c, 0x04, 1, 0x0b, 0x0b, 0, 0, // enumeration: size
+    0x1d, 0x28, 0, 0x03, 0x08, 0x1c, 0x0d, 0, 0, // enumerator: name, value
+    0x20, 0x34, 0, 0x03, 0x08, 0x49, 0x11, 0, 0, // variable: name, type
+    0x21, 0x34, 0, 0x49, 0x11, 0, 0, // variable: type
+    0x22, 0x34, 0, 0x03, 0x08, 0, 0, // variable: name
+    0x23, 0x13, 0, 0x03, 0x08, 0x3c, 0x19, 0, 0, // structure: name, declaration
+    0x24, 0x17, 0, 0x3c, 0x19, 0, 0, // union: declaration
+    0x25, 0x04, 0, 0x03, 0x08, 0x3c, 0x19, 0, 0, // enumeration: name, declaration
+    0x26, 0x16, 0, 0x49, 0x11, 0, 0, // typedef: type
+    0,
+];
 
-/// The listing of a table and a unit's items.
-fn listed(alloc: Global, table: &[u8], items: &[u8]) -> Result<String, Fail> {
-    let info = unit(alloc, items)?;
-    let image = image_of(alloc, table, &info)?;
-    let listing = declare_all(alloc, &image).ok().ok_or("memory")?;
-    Ok(String::from_utf8(listing.text).ok().ok_or("no text")?)
-}
+/// A unit up to `int`, which is at 0x0d. What follows is at 0x13.
+const FIRST: [u8; 19] = [
+    0, 0, 0, 0, 5, 0, 1, 8, 0, 0, 0, 0, 0x01, 0x02, b'i', b'n', b't', 0, 4,
+];
 
-/// A row: the offset of the entry that is declared, and its text or refusal.
-type Row = (u32, Result<&'static str, PrintFault>);
+/// The entry at 0x13 and those after it, and its declaration or its refusal. The texts are written by hand.
+const ROWS: [(&[u8], Result<&str, PrintFault>); 32] = [
+    // variables: the type, where it is not `int`, is at 0x17
+    (b"\x20v\0\x0d", Ok("int v;")),
+    (b"\x20v\0\x17\x03t\0\x0d", Ok("t v;")),
+    (b"\x20v\0\x17\x23s\0", Ok("struct s v;")),
+    (b"\x20v\0\x17\x1be\0\x04\x1dA\0\0\0", Ok("enum e v;")),
+    (b"\x20v\0\x17\x06\x0d", Ok("const int v;")),
+    (b"\x20v\0\x17\x04\x0d", Ok("int *v;")),
+    (b"\x20v\0\x17\x05", Ok("void *v;")),
+    (b"\x20v\0\x17\x06\x19\x04\x0d", Ok("int *const v;")),
+    (
+        b"\x20v\0\x17\x06\x19\x0a\x1b\x04\x0d",
+        Ok("int *const restrict v;"),
+    ),
+    (b"\x20v\0\x17\x04\x19\x09", Ok("volatile void *v;")),
+    (b"\x20v\0\x17\x0d\x0d\x0e\x02\x0e\x03\0", Ok("int v[2][3];")),
+    (b"\x20v\0\x17\x0d\x0d\x0f\0", Ok("int v[];")),
+    (
+        b"\x20v\0\x17\x0d\x1c\x0e\x03\0\x04\x1e\x06\x0d",
+        Ok("const int *v[3];"),
+    ),
+    (
+        b"\x20v\0\x17\x04\x19\x0d\x0d\x0e\x02\x0e\x03\0",
+        Ok("int (*v)[2][3];"),
+    ),
+    (b"\x20v\0\x17\x10\x0d", Ok("int v();")),
+    (b"\x20v\0\x17\x11\0", Ok("void v(void);")),
+    (b"\x20v\0\x17\x11\x13\x0d\x14\0", Ok("void v(int, ...);")),
+    (
+        b"\x20v\0\x17\x04\x19\x11\x13\x0d\x14\0",
+        Ok("void (*v)(int, ...);"),
+    ),
+    (
+        b"\x20v\0\x17\x1a\x04\x17x\0\x0d\0",
+        Ok("union { int x; } v;"),
+    ),
+    (
+        b"\x20v\0\x17\x1c\x04\x1dB\0\x7e\0",
+        Ok("enum { B = -2 } v;"),
+    ),
+    (b"\x20v\0\x17\x09", Err(PrintFault::Unspeakable)),
+    (b"\x20v\0\x17\x07", Err(PrintFault::Unspeakable)),
+    (b"\x22v\0", Err(PrintFault::Unspeakable)),
+    (b"\x21\x0d", Err(PrintFault::BadName)),
+    // other entries
+    (b"\x23opaque\0", Ok("struct opaque;")),
+    (b"\x16\x04\0", Err(PrintFault::BadName)),
+    (b"\x24", Err(PrintFault::BadName)),
+    (b"\x1c\x04\x1dA\0\x01\0", Err(PrintFault::BadName)),
+    (b"\x25e\0", Err(PrintFault::Unspeakable)),
+    (b"\x26\x0d", Err(PrintFault::BadName)),
+    (b"\x02char\0\x01", Err(PrintFault::NotPrintable)),
+    (b"\x04\x0d", Err(PrintFault::NotPrintable)),
+];
 
-/// Declares the entry of a row behind the byte `x`.
-fn expect(rt: &impl Abort, alloc: Global, image: &Image<'_>, row: Row) -> Result<(), Fail> {
-    let id = image.entry(row.0).ok_or("no entry")?;
-    let mut out = Vec::new(alloc);
-    out.push(b'x')?;
-    let outcome = declare(alloc, image, id, &mut out);
-    let text = String::from_utf8(out).ok().ok_or("no text")?;
-    let found = text.strip_prefix('x').ok_or("the text before it is gone")?;
-    match row.1 {
-        Ok(wanted) => {
-            assert_eq!(rt; outcome, Ok(()));
-            assert_eq!(rt; found, wanted);
+// A text goes behind what is there, and a refused entry leaves that as it is.
+#[test]
+fn declarations(rt: HostRuntime) -> Result<(), Fail> {
+    for (items, want) in &ROWS {
+        let mut info = FIRST.to_vec(rt.alloc())?;
+        info.extend_from_slice(items)?;
+        info.push(0)?;
+        let length = u8::try_from(info.len() - 4).ok().ok_or("too long")?;
+        info[0] = length;
+        let image = image_of(rt.alloc(), &TABLE, &info)?;
+        let id = image.entry(0x13).ok_or("no entry")?;
+        let mut text = Vec::new(rt.alloc());
+        text.push(b'x')?;
+        let outcome = declare(rt.alloc(), &image, id, &mut text);
+        let text = String::from_utf8(text).ok().ok_or("no text")?;
+        let added = text.strip_prefix('x').ok_or("the text before it is gone")?;
+        match want {
+            Ok(wanted) => assert_eq!(rt; (outcome, added), (Ok(()), *wanted)),
+            Err(refusal) => assert_eq!(rt; (outcome, added), (Err(*refusal), "")),
         }
-        Err(refusal) => {
-            assert_eq!(rt; outcome, Err(refusal));
-            assert_eq!(rt; found.len(), 0);
-        }
-    }
-    Ok(())
-}
-
-/// `int (*(*f)(int, ...))[3]`, as a typedef.
-const FAR: [u8; 55] = [
-    0x01, 0x61, 0x00, 0x02, 0x69, 0x6e, 0x74, 0x00, 0x04, 0x05, 0x03, 0x66, 0x00, 0x1d, 0x00, 0x00,
-    0x00, //
-    0x06, 0x22, 0x00, 0x00, 0x00, 0x0a, 0x2e, 0x00, 0x00, 0x00, 0x0b, 0x0f, 0x00, 0x00, 0x00, 0x0c,
-    0x00, //
-    0x06, 0x33, 0x00, 0x00, 0x00, 0x08, 0x0f, 0x00, 0x00, 0x00, 0x09, 0x03, 0x00, 0x00, 0x00, 0x00,
-    0x00, 0x00, 0x00, //
-    0x00, 0x00,
-];
-
-/// A const over a pointer to the const, and a typedef of it.
-const LOOP: [u8; 21] = [
-    0x01, 0x61, 0x00, 0x07, 0x14, 0x00, 0x00, 0x00, 0x06, 0x0f, 0x00, 0x00, 0x00, //
-    0x03, 0x74, 0x00, 0x0f, 0x00, 0x00, 0x00, 0x00,
-];
-
-/// A structure with one member, and `int`.
-const ONE: [u8; 28] = [
-    0x01, 0x61, 0x00, 0x0d, 0x20, 0x00, 0x00, 0x00, 0x73, 0x00, 0x04, 0x05, 0x78, 0x00, 0x20, 0x00,
-    0x00, 0x00, 0x00, //
-    0x00, 0x02, 0x69, 0x6e, 0x74, 0x00, 0x04, 0x05, 0x00,
-];
-
-#[test]
-fn one_declaration(rt: HostRuntime) -> Result<(), Fail> {
-    let rows: [(&[u8], Row); 4] = [
-        (&FAR, (0x16, Ok("typedef int (*(*f)(int, ...))[3];"))),
-        (&LOOP, (0x19, Err(PrintFault::NotPrintable))),
-        (&LOOP, (0x0f, Err(PrintFault::NotPrintable))),
-        (&ONE, (0x20, Err(PrintFault::NotPrintable))),
-    ];
-    for (items, row) in rows {
-        let info = unit(rt.alloc(), items)?;
-        let image = image_of(rt.alloc(), &T, &info)?;
-        expect(&rt, rt.alloc(), &image, row)?;
-    }
-    Ok(())
-}
-
-#[test]
-fn listings(rt: HostRuntime) -> Result<(), Fail> {
-    let rows: [(&[u8], &str); 11] = [
-        (&FAR, "typedef int (*(*f)(int, ...))[3];\n"),
-        (&LOOP, "/* 0x00000019 P1 NotPrintable */\n"),
-        (&ONE, "struct s { int x; };\n"),
-        // A structure of a typedef, which stands after it.
-        (
-            &[
-                0x01, 0x61, 0x00, 0x04, 0x73, 0x00, 0x04, 0x05, 0x78, 0x00, 0x23, 0x00, 0x00, 0x00,
-                0x00, 0x00, //
-                0x02, 0x69, 0x6e, 0x74, 0x00, 0x04, 0x05, 0x03, 0x74, 0x00, 0x1c, 0x00, 0x00, 0x00,
-                0x00,
-            ],
-            "typedef int t;\nstruct s { t x; };\n",
-        ),
-        // Two structures with pointers to each other.
-        (
-            &[
-                0x01, 0x61, 0x00, 0x04, 0x58, 0x00, 0x08, 0x05, 0x79, 0x00, 0x29, 0x00, 0x00, 0x00,
-                0x00, 0x00, //
-                0x04, 0x59, 0x00, 0x08, 0x05, 0x78, 0x00, 0x2e, 0x00, 0x00, 0x00, 0x00, 0x00, //
-                0x06, 0x1c, 0x00, 0x00, 0x00, 0x06, 0x0f, 0x00, 0x00, 0x00, 0x00,
-            ],
-            "struct X { struct Y *y; };\nstruct Y { struct X *x; };\n",
-        ),
-        // By level, then by offset.
-        (
-            &[
-                0x01, 0x61, 0x00, 0x02, 0x69, 0x6e, 0x74, 0x00, 0x04, 0x05, 0x03, 0x74, 0x00, 0x0f,
-                0x00, 0x00, 0x00, //
-                0x03, 0x75, 0x00, 0x16, 0x00, 0x00, 0x00, 0x03, 0x76, 0x00, 0x0f, 0x00, 0x00, 0x00,
-                0x00,
-            ],
-            "typedef int t;\ntypedef int v;\ntypedef t u;\n",
-        ),
-        // A structure with a pointer to itself.
-        (
-            &[
-                0x01, 0x61, 0x00, 0x04, 0x73, 0x00, 0x08, 0x05, 0x6e, 0x00, 0x1c, 0x00, 0x00, 0x00,
-                0x00, 0x00, //
-                0x06, 0x0f, 0x00, 0x00, 0x00, 0x00,
-            ],
-            "struct s { struct s *n; };\n",
-        ),
-        // Names of base types.
-        (
-            b"\x01a\0\x02unsigned int\0\x04\x07\x03u\0\x0f\0\0\0\0",
-            "typedef unsigned int u;\n",
-        ),
-        (
-            b"\x01a\0\x02long  int\0\x04\x07\x03u\0\x0f\0\0\0\0",
-            "/* 0x0000001c P2 BadName */\n",
-        ),
-        (
-            b"\x01a\0\x02unsigned\0\x04\x07\x03u\0\x0f\0\0\0\0",
-            "typedef unsigned u;\n",
-        ),
-        (
-            b"\x01a\0\x02int x\0\x04\x07\x03u\0\x0f\0\0\0\0",
-            "/* 0x00000018 P2 BadName */\n",
-        ),
-    ];
-    for (items, text) in rows {
-        let found = listed(rt.alloc(), &T, items)?;
-        assert_eq!(rt; found.as_str(), text);
-    }
-    Ok(())
-}
-
-/// A table: a compile unit, a base type, a typedef, a structure without a name, a member.
-const Q: [u8; 40] = [
-    0x01, 0x11, 0x01, 0x00, 0x00, //
-    0x02, 0x24, 0x00, 0x03, 0x08, 0x0b, 0x0b, 0x00, 0x00, //
-    0x03, 0x16, 0x00, 0x03, 0x08, 0x49, 0x13, 0x00, 0x00, //
-    0x04, 0x13, 0x01, 0x0b, 0x0b, 0x00, 0x00, //
-    0x05, 0x0d, 0x00, 0x03, 0x08, 0x49, 0x13, 0x00, 0x00, //
-    0x00,
-];
-
-/// Structures of two members each, both of the structure before, and a typedef of the last.
-fn doubled(alloc: Global, levels: u32) -> Result<Vec<u8>, Fail> {
-    let mut items = Vec::new(alloc);
-    items.extend_from_slice(&[0x01, 0x02, 0x69, 0x6e, 0x74, 0x00, 0x04])?;
-    let mut below: u32 = 0x0d;
-    for level in 0..levels {
-        let reference = [(below & 0xff) as u8, (below >> 8 & 0xff) as u8, 0, 0];
-        items.extend_from_slice(&[0x04, 0x04, 0x05, 0x61, 0x00])?;
-        items.extend_from_slice(&reference)?;
-        items.extend_from_slice(&[0x05, 0x62, 0x00])?;
-        items.extend_from_slice(&reference)?;
-        items.push(0x00)?;
-        below = 19 + 17 * (level & 0xff);
-    }
-    items.extend_from_slice(&[
-        0x03,
-        0x74,
-        0x00,
-        (below & 0xff) as u8,
-        (below >> 8 & 0xff) as u8,
-        0,
-        0,
-        0x00,
-    ])?;
-    Ok(items)
-}
-
-#[test]
-fn doubled_bodies(rt: HostRuntime) -> Result<(), Fail> {
-    let rows = [
-        (1, "typedef struct { int a; int b; } t;\n"),
-        (12, "/* 0x000000df P6 TooLong */\n"),
-        (63, "/* 0x00000442 P6 TooLong */\n"),
-        (64, "/* 0x00000453 P5 TooDeep */\n"),
-    ];
-    for (levels, text) in rows {
-        let items = doubled(rt.alloc(), levels)?;
-        let found = listed(rt.alloc(), &Q, &items)?;
-        assert_eq!(rt; found.as_str(), text);
-    }
-    let items = doubled(rt.alloc(), 11)?;
-    assert_eq!(rt; listed(rt.alloc(), &Q, &items)?.len(), 43_002);
-    Ok(())
-}
-
-/// A table: a compile unit; a base type; a typedef; a pointer; a const, a restrict and a volatile without a type; an
-/// array, a dimension with a count and one without; a subroutine without a prototype and one with; a parameter and
-/// unspecified parameters; a structure and a union without a name; members with a name, without one, and with a bit
-/// size; an enumeration and an enumerator; a structure that is declared; a variable; an enumeration without a name.
-const W: [u8; 181] = [
-    0x01, 0x11, 0x01, 0x00, 0x00, //
-    0x02, 0x24, 0x00, 0x03, 0x08, 0x0b, 0x0b, 0x00, 0x00, //
-    0x03, 0x16, 0x00, 0x03, 0x08, 0x49, 0x13, 0x00, 0x00, //
-    0x04, 0x0f, 0x00, 0x49, 0x13, 0x00, 0x00, //
-    0x05, 0x26, 0x00, 0x49, 0x13, 0x00, 0x00, //
-    0x06, 0x37, 0x00, 0x49, 0x13, 0x00, 0x00, //
-    0x07, 0x35, 0x00, 0x00, 0x00, //
-    0x08, 0x01, 0x01, 0x49, 0x13, 0x00, 0x00, //
-    0x09, 0x21, 0x00, 0x37, 0x0b, 0x00, 0x00, //
-    0x0a, 0x21, 0x00, 0x00, 0x00, //
-    0x0b, 0x15, 0x00, 0x49, 0x13, 0x00, 0x00, //
-    0x0c, 0x15, 0x01, 0x27, 0x19, 0x00, 0x00, //
-    0x0d, 0x05, 0x00, 0x49, 0x13, 0x00, 0x00, //
-    0x0e, 0x18, 0x00, 0x00, 0x00, //
-    0x0f, 0x13, 0x01, 0x03, 0x08, 0x0b, 0x0b, 0x00, 0x00, //
-    0x10, 0x17, 0x01, 0x0b, 0x0b, 0x00, 0x00, //
-    0x11, 0x0d, 0x00, 0x03, 0x08, 0x49, 0x13, 0x00, 0x00, //
-    0x12, 0x0d, 0x00, 0x49, 0x13, 0x00, 0x00, //
-    0x13, 0x0d, 0x00, 0x03, 0x08, 0x49, 0x13, 0x0d, 0x0b, 0x00, 0x00, //
-    0x14, 0x04, 0x01, 0x03, 0x08, 0x0b, 0x0b, 0x00, 0x00, //
-    0x15, 0x28, 0x00, 0x03, 0x08, 0x1c, 0x0d, 0x00, 0x00, //
-    0x16, 0x13, 0x00, 0x03, 0x08, 0x3c, 0x19, 0x00, 0x00, //
-    0x17, 0x34, 0x00, 0x03, 0x08, 0x49, 0x13, 0x00, 0x00, //
-    0x18, 0x04, 0x01, 0x0b, 0x0b, 0x00, 0x00, //
-    0x00,
-];
-
-/// Types of each form, and declarations of them.
-const FORMS: [u8; 260] = [
-    0x01, 0x02, 0x69, 0x6e, 0x74, 0x00, 0x04, 0x02, 0x63, 0x68, 0x61, 0x72, 0x00, 0x01, //
-    0x05, 0x13, 0x00, 0x00, 0x00, 0x04, 0x1a, 0x00, 0x00, 0x00, 0x08, 0x1f, 0x00, 0x00, 0x00, 0x09, //
-    0x03, 0x00, 0x17, 0x76, 0x00, 0x24, 0x00, 0x00, 0x00, //
-    0x08, 0x0d, 0x00, 0x00, 0x00, 0x09, 0x02, 0x09, 0x03, 0x00, 0x04, 0x33, 0x00, 0x00, 0x00, 0x03, //
-    0x66, 0x00, 0x3d, 0x00, 0x00, 0x00, //
-    0x08, 0x0d, 0x00, 0x00, 0x00, 0x0a, 0x09, 0x04, 0x00, 0x03, 0x65, 0x00, 0x49, 0x00, 0x00, 0x00, //
-    0x04, 0x0d, 0x00, 0x00, 0x00, 0x06, 0x59, 0x00, 0x00, 0x00, 0x05, 0x5e, 0x00, 0x00, 0x00, 0x17, //
-    0x72, 0x00, 0x63, 0x00, 0x00, 0x00, //
-    0x07, 0x04, 0x6f, 0x00, 0x00, 0x00, 0x17, 0x77, 0x00, 0x70, 0x00, 0x00, 0x00, //
-    0x0b, 0x0d, 0x00, 0x00, 0x00, 0x03, 0x67, 0x00, 0x7c, 0x00, 0x00, 0x00, //
-    0x0c, 0x00, 0x03, 0x68, 0x00, 0x88, 0x00, 0x00, 0x00, //
-    0x0c, 0x0d, 0x0d, 0x00, 0x00, 0x00, 0x0d, 0x1f, 0x00, 0x00, 0x00, 0x0e, 0x00, 0x04, 0x91, 0x00, //
-    0x00, 0x00, 0x17, 0x6b, 0x00, 0x9e, 0x00, 0x00, 0x00, //
-    0x10, 0x04, 0x11, 0x78, 0x00, 0x0d, 0x00, 0x00, 0x00, 0x11, 0x79, 0x00, 0x13, 0x00, 0x00, 0x00, //
-    0x00, //
-    0x04, 0xc0, 0x00, 0x00, 0x00, 0x0f, 0x73, 0x00, 0x08, 0x13, 0x6c, 0x6f, 0x77, 0x00, 0x0d, 0x00, //
-    0x00, 0x00, 0x03, 0x11, 0x6e, 0x65, 0x78, 0x74, 0x00, 0xbb, 0x00, 0x00, 0x00, 0x12, 0xaa, 0x00, //
-    0x00, 0x00, 0x00, //
-    0x14, 0x63, 0x6f, 0x6c, 0x6f, 0x72, 0x00, 0x04, 0x15, 0x52, 0x45, 0x44, 0x00, 0x00, 0x15, 0x4c, //
-    0x45, 0x53, 0x53, 0x00, 0x7f, 0x00, //
-    0x18, 0x04, 0x15, 0x41, 0x00, 0x05, 0x00, 0x17, 0x6e, 0x00, 0xf4, 0x00, 0x00, 0x00, //
-    0x16, 0x6f, 0x70, 0x61, 0x71, 0x75, 0x65, 0x00, 0x0f, 0x7a, 0x00, 0x00, 0x00, 0x00, //
-];
-
-// Each form of type and declaration. The texts are written by hand.
-#[test]
-fn spellings(rt: HostRuntime) -> Result<(), Fail> {
-    let rows: [Row; 13] = [
-        (0x2c, Ok("const char *v[3];")),
-        (0x42, Ok("typedef int (*f)[2][3];")),
-        (0x52, Ok("typedef int e[][4];")),
-        (0x68, Ok("int *const restrict r;")),
-        (0x75, Ok("volatile void *w;")),
-        (0x81, Ok("typedef int g();")),
-        (0x8a, Ok("typedef void h(void);")),
-        (0xa3, Ok("void (*k)(int, const char *, ...);")),
-        (
-            0xc0,
-            Ok("struct s { int low : 3; struct s *next; union { int x; char y; }; };"),
-        ),
-        (0xde, Ok("enum color { RED = 0, LESS = -1 };")),
-        (0xfb, Ok("enum { A = 5 } n;")),
-        (0x102, Ok("struct opaque;")),
-        (0x10a, Ok("struct z { };")),
-    ];
-    let info = unit(rt.alloc(), &FORMS)?;
-    let image = image_of(rt.alloc(), &W, &info)?;
-    for row in rows {
-        expect(&rt, rt.alloc(), &image, row)?;
     }
     Ok(())
 }

@@ -2,10 +2,9 @@
 
 use dw_elf::Sections;
 use dw_entries::constants::*;
-use dw_entries::{Entries, EntryId, Value, scan};
+use dw_entries::{EntryId, scan};
 use dw_forms::Attribute;
-use dw_links::{Class, Links, check_classes, check_strings, class_of_value, link, link_sound};
-use std::alloc::Global;
+use dw_links::{Links, check_classes, check_strings, link};
 use std::test::Fail;
 
 /// A compile_unit with both bases, and entries with values in each form of a reference, a string and an address.
@@ -67,28 +66,6 @@ fn number_of(id: Option<EntryId>) -> Option<usize> {
     }
 }
 
-/// The links of entries, by one group of rules after another.
-fn links_by_groups<'r, 'a>(alloc: Global, entries: &'r Entries<'a>) -> Result<Links<'r, 'a>, Fail> {
-    let Ok(()) = check_classes(alloc, entries) else {
-        return Err("a class".into());
-    };
-    let Ok(()) = check_strings(alloc, entries) else {
-        return Err("a string".into());
-    };
-    match link(alloc, entries) {
-        Ok(links) => Ok(links),
-        Err(_) => Err("a reference".into()),
-    }
-}
-
-/// The same in one pass.
-fn links_at_once<'r, 'a>(alloc: Global, entries: &'r Entries<'a>) -> Result<Links<'r, 'a>, Fail> {
-    match link_sound(alloc, entries) {
-        Ok(Some(links)) => Ok(links),
-        _ => Err("a rule".into()),
-    }
-}
-
 /// What an attribute of the entry with this number leads to.
 fn answer<'a>(
     links: &Links<'_, 'a>,
@@ -132,117 +109,21 @@ fn values_lead_somewhere(rt: HostRuntime) -> Result<(), Fail> {
     let Ok(entries) = scan(rt.alloc(), &sections) else {
         return Err("no entries".into());
     };
-    let links = links_by_groups(rt.alloc(), &entries)?;
-    let others = links_at_once(rt.alloc(), &entries)?;
+    let Ok(()) = check_classes(rt.alloc(), &entries) else {
+        return Err("a class".into());
+    };
+    let Ok(()) = check_strings(rt.alloc(), &entries) else {
+        return Err("a string".into());
+    };
+    let Ok(links) = link(rt.alloc(), &entries) else {
+        return Err("a fault".into());
+    };
     for (number, attribute, want) in &ROWS {
         assert_eq!(rt;
             answer(&links, *number, *attribute)?,
             *want,
             "entry {number}"
         );
-        assert_eq!(rt;
-            answer(&others, *number, *attribute)?,
-            *want,
-            "entry {number}"
-        );
     }
-    Ok(())
-}
-
-/// A compile_unit with a base of addresses and an indexed low_pc, its table and its .debug_addr.
-const INDEXED_TABLE: [u8; 10] = [0x01, 0x11, 0, 0x73, 0x17, 0x11, 0x1b, 0, 0, 0];
-
-const INDEXED: [u8; 18] = [
-    0x0e, 0, 0, 0, 5, 0, 1, 8, 0, 0, 0, 0, // header
-    0x01, 8, 0, 0, 0, 0,
-];
-
-const INDEXED_ADDR: [u8; 16] = [
-    0x0c, 0, 0, 0, 5, 0, 8, 0, 0x11, 0x22, 0x33, 0x44, 0x55, 0x66, 0x77, 0x88,
-];
-
-#[test]
-fn an_indexed_address(rt: HostRuntime) -> Result<(), Fail> {
-    let Ok(sections) = Sections::new(&INDEXED_TABLE, &INDEXED, &[], &[], &[], &INDEXED_ADDR) else {
-        return Err("too large".into());
-    };
-    let Ok(entries) = scan(rt.alloc(), &sections) else {
-        return Err("no entries".into());
-    };
-    let links = links_at_once(rt.alloc(), &entries)?;
-    assert_eq!(rt;
-        answer(&links, 0, DW_AT_low_pc)?,
-        (None, None, Some(0x8877_6655_4433_2211))
-    );
-    Ok(())
-}
-
-#[test]
-fn classes_of_values(rt: HostRuntime) {
-    assert_eq!(rt; class_of_value(&Value::Unsigned(1)), Class::Constant);
-    assert_eq!(rt; class_of_value(&Value::Wide(&[0; 16])), Class::WideConstant);
-    assert_eq!(rt; class_of_value(&Value::StrIndex(0)), Class::String);
-}
-
-/// A compile_unit, base_types with a sibling, and a typedef.
-const TREE_TABLE: [u8; 20] = [
-    1, 0x11, 1, 0, 0, // compile_unit
-    2, 0x24, 0, 0x01, 0x13, 0, 0, // base_type: sibling in form ref4
-    3, 0x16, 0, 0x49, 0x13, 0, 0, // typedef: type in form ref4
-    0,
-];
-
-const TREE: [u8; 29] = [
-    25, 0, 0, 0, 5, 0, 1, 8, 0, 0, 0, 0, // header
-    1, // compile_unit
-    2, 0x12, 0, 0, 0, // base_type, at 0x0d
-    2, 0x17, 0, 0, 0, // base_type, at 0x12
-    3, 0x0d, 0, 0, 0, // typedef, at 0x17
-    0,
-];
-
-/// Whether no rule of the three groups fails.
-fn is_sound(alloc: Global, entries: &Entries<'_>) -> bool {
-    let Ok(()) = check_classes(alloc, entries) else {
-        return false;
-    };
-    let Ok(()) = check_strings(alloc, entries) else {
-        return false;
-    };
-    link(alloc, entries).is_ok()
-}
-
-/// Whether one pass links the entries. If it does not, a rule fails.
-fn is_linked(alloc: Global, info: &[u8]) -> Result<bool, Fail> {
-    let Ok(sections) = Sections::new(&TREE_TABLE, info, &[], &[], &[], &[]) else {
-        return Err("too large".into());
-    };
-    let Ok(entries) = scan(alloc, &sections) else {
-        return Err("no entries".into());
-    };
-    let Ok(links) = link_sound(alloc, &entries) else {
-        return Err("no memory".into());
-    };
-    if links.is_some() != is_sound(alloc, &entries) {
-        return Err("one pass and the groups of rules do not agree".into());
-    }
-    Ok(links.is_some())
-}
-
-#[test]
-fn one_pass_sees_each_reference(rt: HostRuntime) -> Result<(), Fail> {
-    assert!(rt; is_linked(rt.alloc(), &TREE)?);
-    let mut later_sibling = TREE;
-    later_sibling[14] = 0x17;
-    assert!(rt; !is_linked(rt.alloc(), &later_sibling)?);
-    let mut itself = TREE;
-    itself[19] = 0x12;
-    assert!(rt; !is_linked(rt.alloc(), &itself)?);
-    let mut within_an_entry = TREE;
-    within_an_entry[24] = 0x0e;
-    assert!(rt; !is_linked(rt.alloc(), &within_an_entry)?);
-    let mut the_unit = TREE;
-    the_unit[24] = 0x0c;
-    assert!(rt; !is_linked(rt.alloc(), &the_unit)?);
     Ok(())
 }

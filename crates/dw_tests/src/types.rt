@@ -1,46 +1,108 @@
-//! The order of graphs, the counts of dimensions, and the sizes that one walk finds.
+//! The order of small graphs, each plain and packed.
 
-mod graphs;
-mod one_walk;
-mod rows;
+ghost use Rattle.std.specs.Prelude.{◌≡◌, length};
+ghost use Rattle.dw_types.specs.Graphs.{LeadsToNodes};
+ghost use Rattle.dw_tests.specs.Rows.{row_items};
 
-use dw_entries::{Sections, scan};
-use dw_types::{UnitFacts, count_at};
+use dw_types::{OrderFault, Packed, StepGraph, order};
+use std::alloc::{AllocError, Global};
+use std::cell::Cell;
 use std::test::Fail;
 
-/// A compile unit, an array, dimensions with a count and with an upper bound, and a typedef with an upper bound.
-const TABLE: [u8; 32] = [
-    0x01, 0x11, 1, 0, 0, // compile_unit
-    0x02, 0x01, 1, 0, 0, // array_type
-    0x03, 0x21, 0, 0x37, 0x07, 0, 0, // subrange_type: count
-    0x04, 0x21, 0, 0x2f, 0x0d, 0, 0, // subrange_type: upper_bound
-    0x05, 0x16, 0, 0x2f, 0x0d, 0, 0, // typedef: upper_bound
-    0,
-];
+/// A graph by rows: the steps of each node. It counts how often a step is looked at.
+#[derive(Drop)]
+struct Rows {
+    rows: Vec<Vec<usize>>,
+    looks: Cell<u64>,
+    ghost leads: { LeadsToNodes (row_items rows.items) },
+}
 
-/// An array with a count of 2^64 - 1, an upper bound of 4 and a typedef; and a subrange of the unit.
-const INFO: [u8; 31] = [
-    27, 0, 0, 0, 5, 0, 1, 8, 0, 0, 0, 0, // header
-    1, 2, // compile_unit, array_type
-    3, 0xff, 0xff, 0xff, 0xff, 0xff, 0xff, 0xff, 0xff, // subrange_type
-    4, 4, 5, 4, 0, // subrange_type, typedef, null
-    4, 4, 0,
+impl Rows {
+    /// The graph with these rows, where each step leads to a row.
+    fn new(rows: Vec<Vec<usize>>) -> Option<Self> {
+        let nodes = rows.len();
+        for row in &rows {
+            for to in row {
+                if *to >= nodes {
+                    return None;
+                }
+            }
+        }
+        Some(Rows {
+            rows,
+            looks: Cell::new(0),
+        })
+    }
+}
+
+impl StepGraph for Rows {
+    ghost graph = { λ it. row_items it.rows.items };
+
+    ghost leads_to_nodes = { λ it. it.leads };
+
+    fn nodes(&self) -> usize {
+        self.rows.len()
+    }
+
+    fn steps(&self, node: usize) -> usize {
+        self.rows[node].len()
+    }
+
+    fn step(&self, node: usize, k: usize) -> usize {
+        self.looks.set(self.looks.get().wrapping_add(1));
+        self.rows[node][k]
+    }
+}
+
+/// The graph of constant rows.
+fn graph_of(alloc: Global, rows: &[&[usize]]) -> Result<Rows, Fail> {
+    let mut all = Vec::new(alloc);
+    for row in rows {
+        all.push(Vec::from_slice(alloc, row)?)?;
+    }
+    match Rows::new(all) {
+        Some(graph) => Ok(graph),
+        None => Err("no graph".into()),
+    }
+}
+
+/// The turns of a graph's order and after them the rank of each node; or 0 and the nodes of a cycle.
+fn ordered<G: StepGraph>(alloc: Global, graph: &G) -> Result<(u128, Vec<usize>), AllocError> {
+    match order(alloc, graph) {
+        Ok(order) => {
+            let mut ranks = Vec::new(alloc);
+            for node in 0..graph.nodes() {
+                ranks.push(order.rank(node))?;
+            }
+            Ok((order.turns(), ranks))
+        }
+        Err(OrderFault::Cycle(nodes)) => Ok((0, nodes)),
+        Err(OrderFault::Memory) => Err(AllocError),
+    }
+}
+
+/// A graph, how many steps are looked at at most, and what `ordered` returns. These ranks are the only ones if the walk
+/// begins with node 0.
+const GRAPHS: [(&[&[usize]], u64, u128, &[usize]); 7] = [
+    (&[], 0, 0, &[]),
+    (&[&[1], &[2], &[]], 2, 5, &[2, 1, 0]),
+    (&[&[1, 1], &[]], 2, 4, &[1, 0]),
+    (&[&[], &[0], &[1, 0]], 3, 6, &[0, 1, 2]),
+    (&[&[0]], 1, 0, &[0, 0]),
+    (&[&[2], &[2], &[3], &[1]], 4, 0, &[1, 2, 3, 1]),
+    (&[&[], &[3], &[1, 0], &[0, 2]], 5, 0, &[1, 3, 2, 1]),
 ];
 
 #[test]
-fn counts(rt: HostRuntime) -> Result<(), Fail> {
-    let Ok(sections) = Sections::new(&TABLE, &INFO, &[], &[], &[], &[]) else {
-        return Err("too large".into());
-    };
-    let Ok(entries) = scan(rt.alloc(), &sections) else {
-        return Err("no entries".into());
-    };
-    let units = UnitFacts::read_all(rt.alloc(), &entries)?;
-    let mut found = Vec::new(rt.alloc());
-    for number in 0..entries.count() {
-        found.push(count_at(&entries, &units, entries.id(number)))?;
+fn orders(rt: HostRuntime) -> Result<(), Fail> {
+    for (rows, most, turns, nodes) in &GRAPHS {
+        let graph = graph_of(rt.alloc(), rows)?;
+        let packed = Packed::new(rt.alloc(), &graph).ok().ok_or("no memory")?;
+        graph.looks.set(0);
+        for (found, ranks) in [ordered(rt.alloc(), &graph)?, ordered(rt.alloc(), &packed)?] {
+            assert_eq!(rt; (found, ranks.as_slice()), (*turns, *nodes));
+        }
+        assert!(rt; graph.looks.get() <= *most);
     }
-    let want = [None, None, Some(u128::from(u64::MAX)), Some(5), None, None];
-    assert_eq!(rt; found.as_slice(), want.as_slice());
     Ok(())
 }

@@ -1,5 +1,5 @@
-//! Devices that are slow or fail, the limit of a file, words and endings. `tests/rows` has what is printed of files.
+//! Devices that are slow or fail, and the limit of a file. `tests/rows` has what is printed of files, `tests/endings.sh`
+//! has words and endings.
 
 mod devices;
 mod files;
-mod words;

@@ -10,7 +10,7 @@ use std::test::Fail;
 const CHECK: Request = Request::Check { json: false };
 
 /// Requests, and what is written of the sample.
-const REQUESTS: [(Request, &[u8]); 4] = [
+const REQUESTS: [(Request, &[u8]); 5] = [
     (CHECK, b"sound: 1 units, 2 entries, 1 types\n"),
     (
         Request::Check { json: true },
@@ -18,8 +18,9 @@ const REQUESTS: [(Request, &[u8]); 4] = [
     ),
     (
         Request::Show,
-        b"0x0000000c 0x0011 \"a\"\n0x0000000f   0x0024 \"int\" size 4\n",
+        b"0x0000000c 0x0011 \"a\"\n0x0000000f   0x0013 \"cat\" size 4\n",
     ),
+    (Request::Types, b"struct cat { };\n"),
     (Request::Size(0x0f), b"size 4\n"),
 ];
 
@@ -32,12 +33,12 @@ const PARTS: [(usize, &[u8]); 17] = [
     (0x3a, &[64]),
     (0x3c, &[4]),
     (0x3e, &[3]),
-    // .debug_abbrev: a compile unit with a name, a base type with a name, a size and an encoding
+    // .debug_abbrev: a compile unit with a name, a structure with a name, a size and an encoding
     (0x40, &[0x01, 0x11, 1, 0x03, 0x08]),
-    (0x47, &[0x02, 0x24, 0, 0x03, 0x08, 0x0b, 0x0b, 0x3e, 0x0b]),
-    // .debug_info: a unit with the base type `int`
+    (0x47, &[0x02, 0x13, 0, 0x03, 0x08, 0x0b, 0x0b, 0x3e, 0x0b]),
+    // .debug_info: a unit with the structure `cat`
     (0x53, &[0x13, 0, 0, 0, 5, 0, 1, 8]),
-    (0x5f, b"\x01a\x00\x02int\x00\x04\x05"),
+    (0x5f, b"\x01a\x00\x02cat\x00\x04\x05"),
     // the name table
     (0x6b, b".debug_abbrev\x00.debug_info\x00.shstrtab"),
     // the section headers: name and type, offset, size
@@ -59,18 +60,6 @@ fn sample() -> [u8; 400] {
     }
     file
 }
-
-/// The sample with the structure `cat` in place of the base type.
-fn structure() -> [u8; 400] {
-    let mut file = sample();
-    file[0x48] = 0x13;
-    file[0x63] = b'c';
-    file[0x64] = b'a';
-    file
-}
-
-/// What `types` writes of it.
-const DECLARED: &[u8] = b"struct cat { };\n";
 
 #[test]
 fn longer_than_the_limit(rt: HostRuntime) -> Result<(), Fail> {
@@ -118,7 +107,7 @@ fn failing_reads(rt: HostRuntime) -> Result<(), Fail> {
     for (request, text) in &REQUESTS {
         assert_reads(&rt, rt.alloc(), &file, *request, text)?;
     }
-    assert_reads(&rt, rt.alloc(), &structure(), Request::Types, DECLARED)
+    Ok(())
 }
 
 /// Asserts what is answered where a writer that takes a byte a call fails, or takes none, at one call: call k leaves
@@ -175,5 +164,5 @@ fn failing_writes(rt: HostRuntime) -> Result<(), Fail> {
     for (request, text) in &REQUESTS {
         assert_writes(&rt, rt.alloc(), &file, *request, text)?;
     }
-    assert_writes(&rt, rt.alloc(), &structure(), Request::Types, DECLARED)
+    Ok(())
 }

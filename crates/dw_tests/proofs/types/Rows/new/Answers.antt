@@ -1,6 +1,6 @@
 use Rattle.std.proofs.Common.{◌≡◌, ◌<◌, ◌≤◌, length, arith}
 use Rattle.dw_tests.proofs.PlainGraphLemmas.{leads-more, leads-all}
-use Rattle.dw_tests.proofs.types.rows.Rows.new.Goals as goal
+use Rattle.dw_tests.proofs.types.Rows.new.Goals as goal
 
 pub loop-row-preserved : goal.loop-row-preserved
 loop-row-preserved c =

@@ -1,7 +1,7 @@
 use Rattle.std.proofs.Common.{ℕ, ◌<◌, length, slice_index}
 use Rattle.dw_types.specs.Graphs.{steps_of, step_at}
 use Rattle.dw_tests.specs.Rows.{row_items}
-use Rattle.dw_tests.proofs.types.rows.Rows.new.Given as goal
+use Rattle.dw_tests.proofs.types.Rows.new.Given as goal
 
 abbrev pub invariant-loop-row : goal.invariant-loop-row
 invariant-loop-row l =
