@@ -4,7 +4,7 @@ use dw_elf::Sections;
 use dw_entries::constants::*;
 use dw_entries::{Entries, EntryId, Value, scan};
 use dw_forms::Attribute;
-use dw_links::{Class, Links, check_classes, check_strings, class_of_value, link, link_sound};
+use dw_links::{Class, Links, class_of_value, link};
 use std::alloc::Global;
 use std::test::Fail;
 
@@ -67,28 +67,6 @@ fn number_of(id: Option<EntryId>) -> Option<usize> {
     }
 }
 
-/// The links of entries, by one group of rules after another.
-fn links_by_groups<'r, 'a>(alloc: Global, entries: &'r Entries<'a>) -> Result<Links<'r, 'a>, Fail> {
-    let Ok(()) = check_classes(alloc, entries) else {
-        return Err("a class".into());
-    };
-    let Ok(()) = check_strings(alloc, entries) else {
-        return Err("a string".into());
-    };
-    match link(alloc, entries) {
-        Ok(links) => Ok(links),
-        Err(_) => Err("a reference".into()),
-    }
-}
-
-/// The same in one pass.
-fn links_at_once<'r, 'a>(alloc: Global, entries: &'r Entries<'a>) -> Result<Links<'r, 'a>, Fail> {
-    match link_sound(alloc, entries) {
-        Ok(Some(links)) => Ok(links),
-        _ => Err("a rule".into()),
-    }
-}
-
 /// What an attribute of the entry with this number leads to.
 fn answer<'a>(
     links: &Links<'_, 'a>,
@@ -132,16 +110,12 @@ fn values_lead_somewhere(rt: HostRuntime) -> Result<(), Fail> {
     let Ok(entries) = scan(rt.alloc(), &sections) else {
         return Err("no entries".into());
     };
-    let links = links_by_groups(rt.alloc(), &entries)?;
-    let others = links_at_once(rt.alloc(), &entries)?;
+    let Ok(links) = link(rt.alloc(), &entries) else {
+        return Err("a rule fails".into());
+    };
     for (number, attribute, want) in &ROWS {
         assert_eq!(rt;
             answer(&links, *number, *attribute)?,
-            *want,
-            "entry {number}"
-        );
-        assert_eq!(rt;
-            answer(&others, *number, *attribute)?,
             *want,
             "entry {number}"
         );
@@ -169,7 +143,9 @@ fn an_indexed_address(rt: HostRuntime) -> Result<(), Fail> {
     let Ok(entries) = scan(rt.alloc(), &sections) else {
         return Err("no entries".into());
     };
-    let links = links_at_once(rt.alloc(), &entries)?;
+    let Ok(links) = link(rt.alloc(), &entries) else {
+        return Err("a rule fails".into());
+    };
     assert_eq!(rt;
         answer(&links, 0, DW_AT_low_pc)?,
         (None, None, Some(0x8877_6655_4433_2211))
@@ -201,18 +177,7 @@ const TREE: [u8; 29] = [
     0,
 ];
 
-/// Whether no rule of the three groups fails.
-fn is_sound(alloc: Global, entries: &Entries<'_>) -> bool {
-    let Ok(()) = check_classes(alloc, entries) else {
-        return false;
-    };
-    let Ok(()) = check_strings(alloc, entries) else {
-        return false;
-    };
-    link(alloc, entries).is_ok()
-}
-
-/// Whether one pass links the entries. If it does not, a rule fails.
+/// Whether each reference of the tree reaches the entry that it may reach.
 fn is_linked(alloc: Global, info: &[u8]) -> Result<bool, Fail> {
     let Ok(sections) = Sections::new(&TREE_TABLE, info, &[], &[], &[], &[]) else {
         return Err("too large".into());
@@ -220,17 +185,11 @@ fn is_linked(alloc: Global, info: &[u8]) -> Result<bool, Fail> {
     let Ok(entries) = scan(alloc, &sections) else {
         return Err("no entries".into());
     };
-    let Ok(links) = link_sound(alloc, &entries) else {
-        return Err("no memory".into());
-    };
-    if links.is_some() != is_sound(alloc, &entries) {
-        return Err("one pass and the groups of rules do not agree".into());
-    }
-    Ok(links.is_some())
+    Ok(link(alloc, &entries).is_ok())
 }
 
 #[test]
-fn one_pass_sees_each_reference(rt: HostRuntime) -> Result<(), Fail> {
+fn each_reference_is_checked(rt: HostRuntime) -> Result<(), Fail> {
     assert!(rt; is_linked(rt.alloc(), &TREE)?);
     let mut later_sibling = TREE;
     later_sibling[14] = 0x17;

@@ -1,7 +1,7 @@
 //! The sizes that one walk over the types finds.
 
 use dw_entries::{Sections, scan};
-use dw_links::{check_classes, check_strings, link};
+use dw_links::link;
 use dw_types::{UnitFacts, sizes_if_sound};
 use std::alloc::Global;
 use std::test::Fail;
@@ -34,14 +34,8 @@ fn array_size(alloc: Global, info: &[u8]) -> Result<Option<u64>, Fail> {
     let Ok(entries) = scan(alloc, &sections) else {
         return Err("no entries".into());
     };
-    let Ok(()) = check_classes(alloc, &entries) else {
-        return Err("a class".into());
-    };
-    let Ok(()) = check_strings(alloc, &entries) else {
-        return Err("a string".into());
-    };
     let Ok(links) = link(alloc, &entries) else {
-        return Err("a reference".into());
+        return Err("a class, a string or a reference".into());
     };
     let Some(array) = entries.nth(3) else {
         return Err("no array".into());
