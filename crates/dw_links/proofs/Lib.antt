@@ -16,7 +16,6 @@ pub mod Asked
 pub mod TableLaws
 pub mod SlotLaws
 pub mod TypeLaws
-pub mod SoundSteps
 pub mod LinkedTexts
 pub mod LinkedEntries
 pub mod RuleSteps

@@ -21,8 +21,8 @@ fn is_open(spec: &AttributeSpec) -> bool
     ensures { OnFalse result ((units : List PlacedUnit) → Passes (ClassFails units) spec.now) }
 {
     match class_of_form(spec.form) {
-        Some(class) => !is_allowed(spec.attribute, class),
-        None => true,
+        Some(class) if is_allowed(spec.attribute, class) => false,
+        _ => true,
     }
 }
 
