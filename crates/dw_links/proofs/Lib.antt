@@ -20,4 +20,5 @@ pub mod LinkedTexts
 pub mod LinkedEntries
 pub mod RuleSteps
 pub mod LinkSteps
+pub mod LinkedLoop
 pub mod DeclaredLemmas
