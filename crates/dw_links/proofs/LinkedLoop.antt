@@ -1,12 +1,12 @@
 -- One entry behind the other, by what was read of its unit.
-use Rattle.std.proofs.Common.{◌≡◌, ℕ, ◌<◌, List, [], ◌∷◌, length, Option, Some, sym, subst, arith}
+use Rattle.std.proofs.Common.{◌≡◌, ℕ, ◌<◌, List, Option, Some, sym, subst}
 use Rattle.std.specs.Prelude.{slice_get}
+use Rattle.std.specs.BTreeMap.{BTreeMap}
 use Rattle.dw_entries.specs.declared.entries.Entries.{Entries}
-use Rattle.dw_entries.specs.Entries.{Entry, placed}
+use Rattle.dw_entries.specs.Entries.{Entry}
 use Rattle.dw_entries.specs.Failures.{HasNone, IsFirst}
 use Rattle.dw_entries.specs.Lookups.{entry_head}
 use Rattle.dw_entries.specs.Scanned.{all_entries, all_units, units_of}
-use Rattle.dw_entries.specs.Units.{DebugUnit}
 use Rattle.dw_entries.specs.Views.{sections_of}
 use Rattle.dw_entries.proofs.EntryFacts.{entries_rise}
 use Rattle.dw_entries.proofs.Firsts.{first_of_entries, attributes_stand}
@@ -15,12 +15,24 @@ use Rattle.dw_links.specs.declared.linking.Failed.{Failed}
 use Rattle.dw_links.specs.declared.linking.Failed.TheVariants.{String, Reference}
 use Rattle.dw_links.specs.declared.references.References.{References}
 use Rattle.dw_links.specs.Concerns.{Rules, AtHead}
+use Rattle.dw_links.specs.Linkable.{IsLinkable}
 use Rattle.dw_links.specs.Linking.{IsLinked, HasFailed, IsFirstOfGroup}
 use Rattle.dw_links.specs.Ready.{AreTexts, FailsByTexts}
 use Rattle.dw_links.specs.References.{ReferenceFails, HeaderFailures, AttributeFailures}
+use Rattle.dw_links.specs.SignedTypes.{HasSignedTypes, AreTyped}
 use Rattle.dw_links.specs.Strings.{StringFails}
 use Rattle.dw_links.specs.Tables.{type_target}
 use Rattle.dw_links.proofs.Transfers.{first_carried, none_carried, texts_over, texts_back}
+
+-- what is known of all entries is known of those of the unit at hand
+pub linkable : (it : References) (entries : Entries) (signatures : BTreeMap ℕ ℕ) → it.cursor.entries.now ≡ entries → it.signatures.now ≡ signatures → HasSignedTypes (all_entries entries.scanned) (all_units entries.scanned) signatures
+    → AreTyped (all_entries entries.scanned) (all_units entries.scanned) → AreTexts (sections_of entries) (all_entries entries.scanned) (all_units entries.scanned) it.texts → IsLinkable it
+linkable it entries signatures same table types typed texts =
+    let P : Entries → Type 0 = λ x. HasSignedTypes (all_entries x.scanned) (all_units x.scanned) it.signatures.now in
+    let S : BTreeMap ℕ ℕ → Type 0 = λ t. HasSignedTypes (all_entries entries.scanned) (all_units entries.scanned) t in
+    let T : Entries → Type 0 = λ x. AreTyped (all_entries x.scanned) (all_units x.scanned) in
+    let X : Entries → Type 0 = λ x. AreTexts (sections_of x) (all_entries x.scanned) (all_units x.scanned) it.texts in
+    record { types = subst P (sym same) (subst S (sym table) types); typed = subst T (sym same) typed; texts = subst X (sym same) texts }
 
 -- no rule fails at the entries below a number
 abbrev pub NoneBelow : List Entry → Rules → ℕ → Type 0

@@ -69,7 +69,7 @@ fn keep(kept: Option<OptionalId>, attribute: Attribute, reached: OptionalId) -> 
     }
 }
 
-impl References<'_, '_> {
+impl References<'_, '_, '_> {
     /// The entry that a value reaches, or the rule on references that fails there.
     #[inline(always)]
     fn link_value(
@@ -199,11 +199,11 @@ fn stop_of(alloc: Global, entries: &Entries<'_>, failed: Failed) -> Stop
 
 /// The entries that the types of all entries reach, in their order, or the first failure at a string or an address, or
 /// if there is none, at a reference.
-pub(crate) fn link_entries<'r, 'a>(
+pub(crate) fn link_entries<'t>(
     alloc: Global,
-    entries: &'r Entries<'a>,
-    signatures: &'r BTreeMap<u64, EntryId>,
-    hints: &'r Hints,
+    entries: &Entries<'_>,
+    signatures: &'t BTreeMap<u64, EntryId>,
+    hints: &'t Hints,
 ) -> Result<Vec<OptionalId>, Stop>
     requires types { HasSignedTypes (all_entries entries.now.scanned) (all_units entries.now.scanned) signatures.now }
     requires typed { AreTyped (all_entries entries.now.scanned) (all_units entries.now.scanned) }

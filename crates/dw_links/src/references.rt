@@ -19,15 +19,15 @@ use std::collections::BTreeMap;
 
 /// What the values of one unit after another are followed and checked with.
 #[derive(Drop)]
-pub struct References<'r, 'd> {
+pub struct References<'e, 'd, 't> {
     /// Looks up entries, sooner those of the unit at hand.
-    pub cursor: Cursor<'r, 'd>,
+    pub cursor: Cursor<'e, 'd>,
     /// What is read once of the unit at hand.
     pub texts: UnitTexts<'d>,
     /// The type of each signature.
-    pub signatures: &'r BTreeMap<u64, EntryId>,
+    pub signatures: &'t BTreeMap<u64, EntryId>,
     /// Guesses at the entry that starts at an offset.
-    pub hints: &'r Hints,
+    pub hints: &'t Hints,
 }
 
 /// Whether the next sibling is this entry.
@@ -42,7 +42,7 @@ fn is_next(next: Option<EntryId>, id: EntryId) -> bool
     }
 }
 
-impl References<'_, '_> {
+impl References<'_, '_, '_> {
     /// The entry of the unit at hand that starts so many bytes after the unit's header, if a guess finds it.
     #[inline(always)]
     fn guess_in_unit(&self, offset: u64) -> Option<EntryId>

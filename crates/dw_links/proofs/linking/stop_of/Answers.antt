@@ -14,6 +14,6 @@ returns-in-String c = record {
 
 pub strings_first-requires : goal.strings_first-requires
 strings_first-requires c = record {
-  holds = subst (IsFirst (ReferenceFailures (units_of c.args.entries.now.scanned))) (sym c.fault_of.ensures.broken) (rw c.in-Reference.is at c.requires);
-  cycle = c.fault_of.ensures.cycle;
+  holds = subst (IsFirst (ReferenceFailures (units_of c.args.entries.now.scanned))) (sym c.fault_of-in-Reference.ensures.broken) (rw c.in-Reference.is at c.requires);
+  cycle = c.fault_of-in-Reference.ensures.cycle;
 }

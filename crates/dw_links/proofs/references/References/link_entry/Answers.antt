@@ -35,8 +35,8 @@ pub loop-form-preserved : goal.loop-form-preserved
 loop-form-preserved c = record {
   so_far = λ e is.
       let head : c.head-head.result ≡ entry_head e = rw is at c.head-head.ensures in
-      let P : Head → Type 0 = λ h. LinksNext c.args.self.now h (leading_left c.loop-form.leading) (leading_left c.link_next.new.leading) c.in_ok-attribute.attribute in
-      rw c.keep-kept.ensures (more_so_far c.args.self.now e (leading_left c.loop-form.leading) (leading_left c.link_next.new.leading) c.loop-form.kept c.in_ok-attribute.attribute (c.loop-form.invariant.so_far e is) (subst P head c.in_ok-attribute.ensures.ok));
+      let P : Head → Type 0 = λ h. LinksNext c.args.self.now h (leading_left c.loop-form.leading) (leading_left c.link_next.new.leading) (c.in_ok-attribute.attribute, c.in_ok-attribute.reached) in
+      rw c.keep-kept.ensures (more_so_far c.args.self.now e (leading_left c.loop-form.leading) (leading_left c.link_next.new.leading) c.loop-form.kept (c.in_ok-attribute.attribute, c.in_ok-attribute.reached) (c.loop-form.invariant.so_far e is) (subst P head c.in_ok-attribute.ensures.ok));
   kept = c.in_ok-attribute.ensures.kept;
 }
 
