@@ -7,6 +7,7 @@ use Rattle.dw_entries.specs.Failures.{HasNone, IsFirst, IsPlainFault}
 use Rattle.dw_entries.specs.Scanned.{units_of}
 use Rattle.dw_entries.specs.Views.{sections_of}
 use Rattle.dw_links.specs.Classes.{ClassFailures}
+use Rattle.dw_links.specs.LinkFaults.{IsFirstOfLinks}
 use Rattle.dw_links.specs.Strings.{StringFailures}
 use Rattle.dw_links.specs.References.{ReferenceFailures}
 use Rattle.dw_image.specs.First.{Group, classes, strings, references, turn_of, IsFirstIn, IsFirstFault, in_group}
@@ -24,7 +25,7 @@ faulty s entries group fault same before first =
     fault_of s fault (subst (λ t. IsFirstFault t fault) same
     (in_group group (record { units = entries.scanned.0; spelled = entries.scanned.1.spells; before = before; first = first })))
 
-pub wrong_class : (s : Sections) (entries : Entries) (fault : Fault) → entries.sections ≡ s → IsPlainFault (IsFirst (ClassFailures (units_of entries.scanned))) fault → IsFaultOf s fault
+wrong_class : (s : Sections) (entries : Entries) (fault : Fault) → entries.sections ≡ s → IsPlainFault (IsFirst (ClassFailures (units_of entries.scanned))) fault → IsFaultOf s fault
 wrong_class s entries fault same first = faulty s entries classes fault same (none_before (sections_of entries) (units_of entries.scanned)) first
 
 -- classes hold
@@ -44,13 +45,24 @@ before_references entries none nor = one_more (sections_of entries) (units_of en
 before_types : (entries : Entries) → ClassesHold entries → StringsHold entries → HasNone (ReferenceFailures (units_of entries.scanned)) → HoldBefore (sections_of entries) (units_of entries.scanned) 5
 before_types entries none nor neither = one_more (sections_of entries) (units_of entries.scanned) references (before_references entries none nor) neither
 
-pub wrong_string : (s : Sections) (entries : Entries) (fault : Fault) → entries.sections ≡ s → ClassesHold entries
+wrong_string : (s : Sections) (entries : Entries) (fault : Fault) → entries.sections ≡ s → ClassesHold entries
     → IsPlainFault (IsFirst (StringFailures (sections_of entries) (units_of entries.scanned))) fault → IsFaultOf s fault
 wrong_string s entries fault same none first = faulty s entries strings fault same (before_strings entries none) first
 
-pub wrong_reference : (s : Sections) (entries : Entries) (fault : Fault) → entries.sections ≡ s → ClassesHold entries → StringsHold entries
+wrong_reference : (s : Sections) (entries : Entries) (fault : Fault) → entries.sections ≡ s → ClassesHold entries → StringsHold entries
     → IsPlainFault (IsFirst (ReferenceFailures (units_of entries.scanned))) fault → IsFaultOf s fault
 wrong_reference s entries fault same none nor first = faulty s entries references fault same (before_references entries none nor) first
+
+-- of the groups on the values of attributes the first that fails
+pub wrong_link : (s : Sections) (entries : Entries) (fault : Fault) → entries.sections ≡ s → IsPlainFault (IsFirstOfLinks (sections_of entries) (units_of entries.scanned)) fault → IsFaultOf s fault
+wrong_link s entries fault same first =
+    elim first.holds [
+      | inl class ↦ wrong_class s entries fault same (record { holds = class; cycle = first.cycle })
+      | inr targets ↦ elim targets.1 [
+          | inl string ↦ wrong_string s entries fault same targets.0 (record { holds = string; cycle = first.cycle })
+          | inr reference ↦ wrong_reference s entries fault same targets.0 reference.0 (record { holds = reference.1; cycle = first.cycle })
+        ]
+    ]
 
 pub wrong_type : (s : Sections) (entries : Entries) (fault : Fault) → entries.sections ≡ s → ClassesHold entries → StringsHold entries → HasNone (ReferenceFailures (units_of entries.scanned))
     → FailsInTypes (sections_of entries) (units_of entries.scanned) fault → IsFaultOf s fault

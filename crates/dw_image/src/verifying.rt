@@ -1,14 +1,14 @@
 //! The verdict on six sections: the groups of rules in their order.
 
-ghost use Rattle.std.specs.Prelude.{◌≡◌, IfOk, IfErr};
+ghost use Rattle.std.specs.Prelude.{IfOk, IfErr};
 ghost use Rattle.dw_entries.specs.Stopped.{IfFaulty};
 ghost use Rattle.dw_image.specs.Headline.{IsImageOf, IsFaultOf, IsVerdictOf};
 
 use crate::image::Image;
 use crate::measuring::measure;
 use dw_elf::Sections;
-use dw_entries::{Entries, Fault, Stop, scan};
-use dw_links::{Links, check_classes, check_strings, link, link_sound};
+use dw_entries::{Fault, Stop, scan};
+use dw_links::link;
 use dw_types::{NoMemory, UnitFacts};
 use std::alloc::Global;
 
@@ -21,27 +21,13 @@ pub enum Verdict<'a> {
     Fault(Fault),
 }
 
-/// Links entries: in one pass where that passes, else group by group, which finds the first failure.
-fn links_of<'r, 'a>(alloc: Global, entries: &'r Entries<'a>) -> Result<Links<'r, 'a>, Stop>
-    ensures entries { IfOk result (λ links. links.entries ≡ entries.entry) }
-    ensures fault { IfErr result (IfFaulty (IsFaultOf entries.now.sections)) }
-{
-    let sound = link_sound(alloc, entries)?;
-    if let Some(links) = sound {
-        return Ok(links);
-    }
-    check_classes(alloc, entries)?;
-    check_strings(alloc, entries)?;
-    link(alloc, entries)
-}
-
 /// Checks the groups of rules in their order.
 fn image_of<'a>(alloc: Global, sections: Sections<'a>) -> Result<Image<'a>, Stop>
     ensures sound { IfOk result (IsImageOf sections.entry) }
     ensures fault { IfErr result (IfFaulty (IsFaultOf sections.entry)) }
 {
     let entries = scan(alloc, &sections)?;
-    let links = links_of(alloc, &entries)?;
+    let links = link(alloc, &entries)?;
     let units = UnitFacts::read_all(alloc, &entries)?;
     let tables = links.into_tables();
     let sizes = measure(alloc, &entries, &tables, &units)?;

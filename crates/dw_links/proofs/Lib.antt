@@ -16,9 +16,9 @@ pub mod Asked
 pub mod TableLaws
 pub mod SlotLaws
 pub mod TypeLaws
-pub mod SoundSteps
 pub mod LinkedTexts
 pub mod LinkedEntries
 pub mod RuleSteps
 pub mod LinkSteps
+pub mod LinkedLoop
 pub mod DeclaredLemmas

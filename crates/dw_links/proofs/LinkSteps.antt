@@ -1,42 +1,78 @@
--- The references of an entry, one behind the other, and the entry that its type reaches.
-use Rattle.std.proofs.Common.{◌≡◌, ℕ, suc, ◌<◌, ◌||◌, Bool, true, false, List, [], ◌∷◌, ◌++◌, length, Option, Some, None, refl, sym, ap, ◌∙◌, subst, arith, append_assoc, length-append}
-use Rattle.std.specs.Prelude.{slice_get, ◌==◌, option_map}
+-- The values of an entry that may lead elsewhere, one behind the other: at which no rule fails, and the entry that the
+-- entry's type reaches.
+use Rattle.std.proofs.Common.{◌≡◌, ℕ, suc, ◌||◌, Bool, true, false, List, [], ◌∷◌, ◌++◌, Option, Some, None, refl, sym, ap, ◌∙◌, append_assoc, inl, inr}
+use Rattle.std.specs.Prelude.{◌==◌, option_map}
 use Rattle.std.specs.Option.{option_flatten, option_and_then}
-use Rattle.dw_forms.specs.Codes.{DW_AT_type}
+use Rattle.std.proofs.lemmas.Bool.{eq-eqb}
+use Rattle.dw_elf.specs.declared.sections.Sections.{Sections}
+use Rattle.dw_forms.specs.Codes.{DW_AT_type, DW_AT_str_offsets_base, DW_AT_addr_base}
+use Rattle.dw_forms.specs.declared.decl.AttributeSpec.{AttributeSpec}
+use Rattle.dw_forms.specs.declared.form.Form.{Form}
+use Rattle.dw_forms.specs.declared.form.Form.TheVariants as form
 use Rattle.dw_forms.specs.Value.{Datum}
+use Rattle.dw_forms.specs.FormCodes.{may_lead_out, may_refer}
+use Rattle.dw_forms.specs.Walks.{may_lead}
 use Rattle.dw_entries.specs.declared.lookup.Head.{Head}
-use Rattle.dw_entries.specs.declared.rule.Rule.{Rule}
-use Rattle.dw_entries.specs.Asked.{values_of}
-use Rattle.dw_entries.specs.Entries.{Entry, PlacedUnit}
-use Rattle.dw_entries.specs.Lookups.{entry_head, value_in}
-use Rattle.dw_entries.specs.Chosen.{IsPassed, ArePassed, IsNextOf}
-use Rattle.dw_forms.specs.FormCodes.{may_refer}
-use Rattle.dw_entries.specs.Referring.{IsOther}
 use Rattle.dw_entries.specs.declared.fault.Broken.{Broken}
 use Rattle.dw_entries.specs.declared.fault.Section.TheVariants.{Info}
+use Rattle.dw_entries.specs.declared.rule.Rule.{Rule}
+use Rattle.dw_entries.specs.Asked.{values_of}
+use Rattle.dw_entries.specs.Chosen.{IsPassed, ArePassed, IsNextOf}
+use Rattle.dw_entries.specs.Entries.{Entry, PlacedUnit}
 use Rattle.dw_entries.specs.Failures.{HasNone, IsFirst, IsLeast}
-use Rattle.dw_entries.proofs.Firsts.{first_of_attributes, none_of_attributes}
-use Rattle.dw_links.specs.Concerns.{AtHead}
+use Rattle.dw_entries.specs.Leading.{DoesNotLead}
+use Rattle.dw_entries.specs.Lookups.{entry_head, value_in}
+use Rattle.dw_links.specs.declared.linking.Failed.{Failed}
+use Rattle.dw_links.specs.declared.linking.Failed.TheVariants.{String, Reference}
+use Rattle.dw_links.specs.declared.references.References.{References}
+use Rattle.dw_links.specs.declared.string_rules.UnitTexts.{UnitTexts}
+use Rattle.dw_links.specs.Classes.{form_class}
+use Rattle.dw_links.specs.Concerns.{Rules, AtHead, Passes}
 use Rattle.dw_links.specs.Kept.{kept_after}
+use Rattle.dw_links.specs.Linkable.{entries_in, units_in, reached_by, FailsByTarget}
+use Rattle.dw_links.specs.Linking.{LinksNext, FailsNext, HasFailedNext, IsLinked, HasFailed}
+use Rattle.dw_links.specs.Ready.{FailsByTexts}
 use Rattle.dw_links.specs.References.{ReferenceFails}
-use Rattle.dw_links.specs.Tables.{type_target}
 use Rattle.dw_links.specs.Targets.{reach_of, target_of}
 use Rattle.dw_links.proofs.FormClasses.{plain_form}
-use Rattle.dw_links.proofs.RuleSteps.{NoneFails, none_both, none_one, front_get, between_get}
 use Rattle.dw_links.proofs.ReferenceLaws.{others_pass}
+use Rattle.dw_links.proofs.RuleSteps.{Checked, none_checked, checked_more, checked_fails, checked_all}
+use Rattle.dw_links.proofs.StringLaws.{form_passes, no_base_passes}
 
--- ---- the rules
+-- ---- what does not lead elsewhere
 
 neither : (a b : Bool) → (a || b) ≡ false → (a ≡ false) × (b ≡ false)
 neither true b is = absurd cc
 neither false b is = (refl, is)
 
--- at what is passed no rule fails
-passed_none : (entries : List Entry) (units : List PlacedUnit) (head : Head) (attribute : ℕ) (items : List (ℕ × Datum)) → ArePassed (IsOther attribute) items → NoneFails (ReferenceFails entries units) head items
-passed_none entries units head attribute items passed k item is r fails =
-    let p = passed k item is in
-    let form = plain_form p.spec.form (neither (may_refer p.spec.form) (p.spec.attribute == attribute) p.not_asked).0 in
-    others_pass entries units p.spec form.0 form.1 form.2 p.context p.declared p.is_attribute head r (subst (λ (y : ℕ × Datum). ReferenceFails entries units head y.0 y.1 r) (sym p.is_item) fails)
+-- what an attribute that does not lead elsewhere is not
+record Leads (spec : AttributeSpec) : Type 0 where
+  no_way_out : may_lead_out spec.form ≡ false
+  no_reference : may_refer spec.form ≡ false
+  no_type : (spec.attribute == DW_AT_type) ≡ false
+  no_str_base : (spec.attribute == DW_AT_str_offsets_base) ≡ false
+  no_addr_base : (spec.attribute == DW_AT_addr_base) ≡ false
+
+leads : (spec : AttributeSpec) → DoesNotLead spec → Leads spec
+leads spec not =
+    let first = neither (may_lead spec.form || spec.attribute == DW_AT_type || spec.attribute == DW_AT_str_offsets_base) (spec.attribute == DW_AT_addr_base) not in
+    let second = neither (may_lead spec.form || spec.attribute == DW_AT_type) (spec.attribute == DW_AT_str_offsets_base) first.0 in
+    let third = neither (may_lead spec.form) (spec.attribute == DW_AT_type) second.0 in
+    let form = neither (may_lead_out spec.form) (may_refer spec.form) third.0 in
+    record { no_way_out = form.0; no_reference = form.1; no_type = third.1; no_str_base = second.1; no_addr_base = first.1 }
+
+other_code : (a b : ℕ) → (a == b) ≡ false → a ≡ b → ⊥
+other_code a b not same = let both : (a == b) ≡ true = ap (λ (n : ℕ). n == b) same ∙ eq-eqb b b refl in let no : true ≡ false = sym both ∙ not in cc
+
+pub passes_texts : (texts : UnitTexts) (spec : AttributeSpec) → DoesNotLead spec → Passes (FailsByTexts texts) spec
+passes_texts texts spec not = by_form spec.form refl (leads spec not)
+  where
+    by_form : (f : Form) → spec.form ≡ f → Leads spec → Passes (FailsByTexts texts) spec
+    by_form form.SecOffset is l = no_base_passes texts spec (ap form_class is) (λ p. elim p [ inl s ↦ other_code _ _ l.no_str_base s | inr s ↦ other_code _ _ l.no_addr_base s ])
+    by_form f is l = form_passes texts spec l.no_way_out (λ same. let both : f ≡ form.SecOffset = sym is ∙ same in cc)
+
+passes_targets : (entries : List Entry) (units : List PlacedUnit) (spec : AttributeSpec) → DoesNotLead spec → Passes (ReferenceFails entries units) spec
+passes_targets entries units spec not = let form = plain_form spec.form (leads spec not).no_reference in others_pass entries units spec form.0 form.1 form.2
 
 -- ---- the first type
 
@@ -56,95 +92,78 @@ back_value (x ∷ xs) ys attribute is = by_code (back_value xs ys attribute) (x.
     by_code more true q = absurd (let none : Some x.1 ≡ None = rw q at is in cc)
     by_code more false q = rw q (more (rw q at is))
 
-passed_other : (attribute : ℕ) (item : ℕ × Datum) → IsPassed (IsOther attribute) item → (item.0 == attribute) ≡ false
-passed_other attribute item p =
-    let declared : (p.spec.attribute == attribute) ≡ false = (neither (may_refer p.spec.form) (p.spec.attribute == attribute) p.not_asked).1 in
-    let code : p.declared.code ≡ p.spec.attribute = p.is_attribute.code in
-    let here : p.declared.code ≡ item.0 = ap (λ (y : ℕ × Datum). y.0) p.is_item in
-    ap (λ (n : ℕ). n == attribute) (sym here ∙ code) ∙ declared
+passed_value : (items : List (ℕ × Datum)) → ArePassed DoesNotLead items → value_in items DW_AT_type ≡ None
+passed_value [] passed = refl
+passed_value (x ∷ items) passed =
+    let p = passed 0 x refl in
+    let code : p.spec.attribute ≡ x.0 = sym p.is_attribute.code ∙ ap (λ (y : ℕ × Datum). y.0) p.is_item in
+    let other : (x.0 == DW_AT_type) ≡ false = ap (λ (n : ℕ). n == DW_AT_type) (sym code) ∙ (leads p.spec p.not_asked).no_type in
+    rw other (passed_value items (λ k y is. passed (suc k) y is))
 
-passed_value : (attribute : ℕ) (items : List (ℕ × Datum)) → ArePassed (IsOther attribute) items → value_in items attribute ≡ None
-passed_value attribute [] passed = refl
-passed_value attribute (x ∷ items) passed = rw (passed_other attribute x (passed 0 x refl)) (passed_value attribute items (λ k y is. passed (suc k) y is))
+-- this is kept of the first type of what was read, and these are left
+pub record Keeps (reach : Datum → Option ℕ) (items left : List (ℕ × Datum)) (kept : Option (Option ℕ)) : Type 0 where
+  pub done : List (ℕ × Datum)
+  pub parts : items ≡ done ++ left
+  pub is_kept : kept ≡ option_map reach (value_in done DW_AT_type)
 
--- what is kept, behind one attribute more
-kept_next : (reach : Datum → Option ℕ) (done passed : List (ℕ × Datum)) (a : ℕ) (v : Datum) → ArePassed (IsOther DW_AT_type) passed → (o : Option Datum) → value_in done DW_AT_type ≡ o
-    → kept_after (option_map reach o) a (reach v) ≡ option_map reach (value_in (done ++ (passed ++ (a, v) ∷ [])) DW_AT_type)
-kept_next reach done passed a v are (Some d) is = ap (option_map reach) (sym (front_value done (passed ++ (a, v) ∷ []) DW_AT_type d is))
-kept_next reach done passed a v are None is =
-    by_code (a == DW_AT_type) refl ∙ ap (option_map reach) (sym (back_value done (passed ++ (a, v) ∷ []) DW_AT_type is ∙ back_value passed ((a, v) ∷ []) DW_AT_type (passed_value DW_AT_type passed are)))
+-- behind one attribute more
+keeps_more : (reach : Datum → Option ℕ) (items left behind : List (ℕ × Datum)) (kept : Option (Option ℕ)) (a : ℕ) (v : Datum) → Keeps reach items left kept → IsNextOf DoesNotLead left (a, v) behind → Keeps reach items behind (kept_after kept a (reach v))
+keeps_more reach items left behind kept a v k n = record {
+  done = k.done ++ (n.passed ++ (a, v) ∷ []);
+  parts = k.parts ∙ ap (λ (xs : List (ℕ × Datum)). k.done ++ xs) (n.parts ∙ sym (append_assoc n.passed ((a, v) ∷ []) behind)) ∙ sym (append_assoc k.done (n.passed ++ (a, v) ∷ []) behind);
+  is_kept = ap (λ (o : Option (Option ℕ)). kept_after o a (reach v)) k.is_kept ∙ by_value (value_in k.done DW_AT_type) refl;
+}
   where
     by_code : (b : Bool) → (a == DW_AT_type) ≡ b → kept_after None a (reach v) ≡ option_map reach (value_in ((a, v) ∷ []) DW_AT_type)
     by_code true q = rw q refl
     by_code false q = rw q refl
 
+    by_value : (o : Option Datum) → value_in k.done DW_AT_type ≡ o → kept_after (option_map reach o) a (reach v) ≡ option_map reach (value_in (k.done ++ (n.passed ++ (a, v) ∷ [])) DW_AT_type)
+    by_value (Some d) is = ap (option_map reach) (sym (front_value k.done (n.passed ++ (a, v) ∷ []) DW_AT_type d is))
+    by_value None is = by_code (a == DW_AT_type) refl ∙ ap (option_map reach) (sym (back_value k.done (n.passed ++ (a, v) ∷ []) DW_AT_type is ∙ back_value n.passed ((a, v) ∷ []) DW_AT_type (passed_value n.passed n.are_passed)))
+
+-- at the end it is that of the entry's type
+keeps_all : (reach : Datum → Option ℕ) (items left : List (ℕ × Datum)) (kept : Option (Option ℕ)) → Keeps reach items left kept → ArePassed DoesNotLead left → option_flatten kept ≡ option_and_then reach (value_in items DW_AT_type)
+keeps_all reach items left kept k passed = ap option_flatten k.is_kept ∙ by_value (value_in k.done DW_AT_type) refl ∙ ap (λ (xs : List (ℕ × Datum)). option_and_then reach (value_in xs DW_AT_type)) (sym k.parts)
+  where
+    by_value : (o : Option Datum) → value_in k.done DW_AT_type ≡ o → option_flatten (option_map reach o) ≡ option_and_then reach (value_in (k.done ++ left) DW_AT_type)
+    by_value (Some d) is = ap (option_and_then reach) (sym (front_value k.done left DW_AT_type d is))
+    by_value None is = ap (option_and_then reach) (sym (back_value k.done left DW_AT_type is ∙ passed_value left passed))
+
 -- ---- the loop
 
--- no rule fails so far, and this is kept
-pub record Linked (entries : List Entry) (units : List PlacedUnit) (head : Head) (items left : List (ℕ × Datum)) (kept : Option (Option ℕ)) : Type 0 where
-  pub done : List (ℕ × Datum)
-  pub parts : items ≡ done ++ left
-  pub none : NoneFails (ReferenceFails entries units) head done
-  pub is_kept : kept ≡ option_map (reach_of entries units head.unit) (value_in done DW_AT_type)
+-- no rule fails so far, and this is kept of the first type
+pub record SoFar (it : References) (e : Entry) (left : List (ℕ × Datum)) (kept : Option (Option ℕ)) : Type 0 where
+  pub strings : Checked (FailsByTexts it.texts) (entry_head e) (values_of e.head) left
+  pub references : Checked (FailsByTarget it) (entry_head e) (values_of e.head) left
+  pub keeps : Keeps (reached_by it) (values_of e.head) left kept
 
-pub linked_none : (entries : List Entry) (units : List PlacedUnit) (head : Head) (items left : List (ℕ × Datum)) → left ≡ items → Linked entries units head items left None
-linked_none entries units head items left same = record { done = []; parts = sym same; none = λ k item is. absurd cc; is_kept = refl }
-
-module _ (entries : List Entry) (units : List PlacedUnit) (head : Head) (items left behind : List (ℕ × Datum)) (kept : Option (Option ℕ)) (a : ℕ) (v : Datum) (l : Linked entries units head items left kept) (n : IsNextOf (IsOther DW_AT_type) left (a, v) behind) where
-  joined : items ≡ (l.done ++ n.passed) ++ (a, v) ∷ behind
-  joined = l.parts ∙ ap (λ (xs : List (ℕ × Datum)). l.done ++ xs) n.parts ∙ sym (append_assoc l.done n.passed ((a, v) ∷ behind))
-
-  before_none : NoneFails (ReferenceFails entries units) head (l.done ++ n.passed)
-  before_none = none_both (ReferenceFails entries units) head l.done n.passed l.none (passed_none entries units head DW_AT_type n.passed n.are_passed)
-
-  -- where it stands
-  pub place_of : ℕ
-  place_of = length (l.done ++ n.passed)
-
-  pub stands : slice_get items place_of ≡ Some (a, v)
-  unfolding place_of
-  stands = ap (λ (xs : List (ℕ × Datum)). slice_get xs (length (l.done ++ n.passed))) joined ∙ between_get (l.done ++ n.passed) behind (a, v)
-
-  pub none_before : (j b : ℕ) (w : Datum) → j < place_of → slice_get items j ≡ Some (b, w) → (r : Rule) → ReferenceFails entries units head b w r → ⊥
-  unfolding place_of
-  none_before j b w lt is r fails = before_none j (b, w) (front_get (l.done ++ n.passed) ((a, v) ∷ behind) j (b, w) lt (ap (λ (xs : List (ℕ × Datum)). slice_get xs j) (sym joined) ∙ is)) r fails
-
-  -- one attribute more, where no rule fails
-  pub linked_more : (reached : Option ℕ) → reached ≡ reach_of entries units head.unit v → ((r : Rule) → ReferenceFails entries units head a v r → ⊥) → Linked entries units head items behind (kept_after kept a reached)
-  linked_more reached is_reached none = record {
-    done = l.done ++ (n.passed ++ (a, v) ∷ []);
-    parts = l.parts ∙ ap (λ (xs : List (ℕ × Datum)). l.done ++ xs) (n.parts ∙ sym (append_assoc n.passed ((a, v) ∷ []) behind)) ∙ sym (append_assoc l.done (n.passed ++ (a, v) ∷ []) behind);
-    none = none_both (ReferenceFails entries units) head l.done (n.passed ++ (a, v) ∷ []) l.none
-        (none_both (ReferenceFails entries units) head n.passed ((a, v) ∷ []) (passed_none entries units head DW_AT_type n.passed n.are_passed) (none_one (ReferenceFails entries units) head (a, v) none));
-    is_kept = (λ i. kept_after (l.is_kept i) a (is_reached i)) ∙ kept_next (reach_of entries units head.unit) l.done n.passed a v n.are_passed (value_in l.done DW_AT_type) refl;
+module _ (it : References) (e : Entry) (left : List (ℕ × Datum)) where
+  pub none_so_far : left ≡ values_of e.head → SoFar it e left None
+  none_so_far same = record {
+    strings = none_checked (FailsByTexts it.texts) (entry_head e) (values_of e.head) left same;
+    references = none_checked (FailsByTarget it) (entry_head e) (values_of e.head) left same;
+    keeps = record { done = []; parts = sym same; is_kept = refl };
   }
 
-  pub fewer : length behind < length left
-  fewer = omega (arith, ap length n.parts, length-append n.passed ((a, v) ∷ behind))
+  -- one attribute more
+  pub more_so_far : (behind : List (ℕ × Datum)) (kept : Option (Option ℕ)) (linked : ℕ × Option ℕ) → SoFar it e left kept → LinksNext it (entry_head e) left behind linked → SoFar it e behind (kept_after kept linked.0 linked.1)
+  more_so_far behind kept linked s n = record {
+    strings = checked_more (FailsByTexts it.texts) DoesNotLead (passes_texts it.texts) e left behind linked.0 n.value s.strings n.next n.strings;
+    references = checked_more (FailsByTarget it) DoesNotLead (passes_targets (entries_in it) (units_in it)) e left behind linked.0 n.value s.references n.next n.references;
+    keeps = rw n.is_reached (keeps_more (reached_by it) (values_of e.head) left behind kept linked.0 n.value s.keeps n.next);
+  }
 
--- where a rule fails, that is the first failure
-pub linked_fails : (entries : List Entry) (units : List PlacedUnit) (e : Entry) (left behind : List (ℕ × Datum)) (kept : Option (Option ℕ)) (a : ℕ) (v : Datum)
-    → Linked entries units (entry_head e) (values_of e.head) left kept → IsNextOf (IsOther DW_AT_type) left (a, v) behind → (rule : Rule) (broken : Broken) → IsLeast (ReferenceFails entries units (entry_head e) a v) (Some rule)
-    → broken ≡ record { rule = rule; section = Info; at = e.at; attribute = a } → IsFirst (AtHead (ReferenceFails entries units) e) broken
-linked_fails entries units e left behind kept a v l n rule broken least is =
-    first_of_attributes (λ x. ReferenceFails entries units (entry_head x)) e (place_of entries units (entry_head e) (values_of e.head) left behind kept a v l n) a v rule broken
-    (stands entries units (entry_head e) (values_of e.head) left behind kept a v l n) (none_before entries units (entry_head e) (values_of e.head) left behind kept a v l n) least
-    (record { rule = ap (λ (b : Broken). b.rule) is; section = ap (λ (b : Broken). b.section) is; at = ap (λ (b : Broken). b.at) is; attribute = ap (λ (b : Broken). b.attribute) is })
+  -- where a rule fails, that is the first failure of its group
+  pub fails_so_far : (kept : Option (Option ℕ)) (failed : Failed) → SoFar it e left kept → HasFailedNext it (entry_head e) left failed → HasFailed it e failed
+  fails_so_far kept (String broken) s n = checked_fails (FailsByTexts it.texts) DoesNotLead (passes_texts it.texts) e left n.behind n.attribute n.value s.strings n.next n.rule broken n.least n.named
+  fails_so_far kept (Reference broken) s n = checked_fails (FailsByTarget it) DoesNotLead (passes_targets (entries_in it) (units_in it)) e left n.behind n.attribute n.value s.references n.next n.rule broken n.least n.named
 
--- at the end no rule fails at the entry
-pub linked_passes : (entries : List Entry) (units : List PlacedUnit) (e : Entry) (left : List (ℕ × Datum)) (kept : Option (Option ℕ)) → Linked entries units (entry_head e) (values_of e.head) left kept → ArePassed (IsOther DW_AT_type) left
-    → HasNone (AtHead (ReferenceFails entries units) e)
-linked_passes entries units e left kept l passed =
-    none_of_attributes (λ x. ReferenceFails entries units (entry_head x)) e
-    (λ j a v below has r fails. none_both (ReferenceFails entries units) (entry_head e) l.done left l.none (passed_none entries units (entry_head e) DW_AT_type left passed) j (a, v) (ap (λ (xs : List (ℕ × Datum)). slice_get xs j) (sym l.parts) ∙ has) r fails)
-
--- and what is kept is the target of its type
-pub linked_target : (entries : List Entry) (units : List PlacedUnit) (e : Entry) (left : List (ℕ × Datum)) (kept : Option (Option ℕ)) → Linked entries units (entry_head e) (values_of e.head) left kept → ArePassed (IsOther DW_AT_type) left
-    → option_flatten kept ≡ type_target entries units e
-unfolding target_of
-linked_target entries units e left kept l passed =
-    ap option_flatten l.is_kept ∙ by_value (value_in l.done DW_AT_type) refl ∙ ap (λ (xs : List (ℕ × Datum)). option_and_then (reach_of entries units e.unit) (value_in xs DW_AT_type)) (sym l.parts)
-  where
-    by_value : (o : Option Datum) → value_in l.done DW_AT_type ≡ o → option_flatten (option_map (reach_of entries units e.unit) o) ≡ option_and_then (reach_of entries units e.unit) (value_in (l.done ++ left) DW_AT_type)
-    by_value (Some d) is = ap (option_and_then (reach_of entries units e.unit)) (sym (front_value l.done left DW_AT_type d is))
-    by_value None is = ap (option_and_then (reach_of entries units e.unit)) (sym (back_value l.done left DW_AT_type is ∙ passed_value DW_AT_type left passed))
+  -- at the end
+  pub linked_at_end : (kept : Option (Option ℕ)) (target : Option ℕ) → target ≡ option_flatten kept → e.unit ≡ it.texts.unit → SoFar it e left kept → ArePassed DoesNotLead left → IsLinked it e target
+  unfolding target_of
+  linked_at_end kept target is same s passed = record {
+    strings = checked_all (FailsByTexts it.texts) DoesNotLead (passes_texts it.texts) e left s.strings passed;
+    references = checked_all (FailsByTarget it) DoesNotLead (passes_targets (entries_in it) (units_in it)) e left s.references passed;
+    is_target = is ∙ keeps_all (reached_by it) (values_of e.head) left kept s.keeps passed ∙ ap (λ (u : ℕ). option_and_then (reach_of (entries_in it) (units_in it) u) (value_in (values_of e.head) DW_AT_type)) (sym same);
+  }

@@ -1,7 +1,9 @@
 -- Entries by their offsets from headers.
-use Rattle.std.proofs.Common.{◌≡◌, ℕ, ◌+◌, List, Option, Some, None, ap, ◌∙◌, arith}
+use Rattle.std.proofs.Common.{◌≡◌, ℕ, ◌+◌, ◌<◌, Bool, true, false, cond, ltb, List, length, Option, Some, None, refl, ap, ◌∙◌, arith}
 use Rattle.std.specs.Prelude.{slice_get, IfNone}
 use Rattle.dw_entries.specs.Entries.{Entry, PlacedUnit}
+use Rattle.std.proofs.lemmas.Bool.{ltb-true}
+use Rattle.dw_entries.specs.Lookups.{nth_of}
 use Rattle.dw_entries.proofs.Firsts.{same_some}
 use Rattle.dw_entries.specs.Runs.{IsEntryIn, ReachesInUnit}
 
@@ -23,3 +25,11 @@ none_map (Some n) A B over h = h
 
 pub in_place : (entries : List Entry) (units : List PlacedUnit) (n t : ℕ) (p : PlacedUnit) (id : ℕ) → slice_get units n ≡ Some p → ReachesInUnit entries units n t id → IsEntryIn entries n (p.at + t) id
 in_place entries units n t p id is reached = in_unit_back entries units n t (p.at + t) id p is (let e : p.at + t ≡ t + p.at = omega arith in e) reached
+
+-- the entry with a number is one of the entries
+pub nth_within : (entries : List Entry) (k id : ℕ) → nth_of entries k ≡ Some id → id < length entries
+nth_within entries k id is = by_test (ltb k (length entries)) refl is
+  where
+    by_test : (b : Bool) → ltb k (length entries) ≡ b → cond b (Some k) None ≡ Some id → id < length entries
+    by_test true q e = let same : k ≡ id = cc in omega (arith, ltb-true _ _ q, same)
+    by_test false q e = absurd cc

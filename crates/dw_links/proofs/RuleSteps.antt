@@ -45,12 +45,6 @@ none_one Fails head x here (suc k) item is = absurd cc
 
 -- ---- the loop
 
--- at what the rules do not concern none fails
-passed_none : (Fails : Rules) (head : Head) (items : List (ℕ × Datum)) → ArePassed (Passes Fails) items → NoneFails Fails head items
-passed_none Fails head items passed k item is r fails =
-    let p = passed k item is in
-    p.not_asked p.context p.declared p.is_attribute head r (subst (λ (y : ℕ × Datum). Fails head y.0 y.1 r) (sym p.is_item) fails)
-
 -- no rule fails so far, and these are left
 pub record Checked (Fails : Rules) (head : Head) (items left : List (ℕ × Datum)) : Type 0 where
   pub done : List (ℕ × Datum)
@@ -60,35 +54,46 @@ pub record Checked (Fails : Rules) (head : Head) (items left : List (ℕ × Datu
 pub none_checked : (Fails : Rules) (head : Head) (items left : List (ℕ × Datum)) → left ≡ items → Checked Fails head items left
 none_checked Fails head items left same = record { done = []; parts = sym same; none = λ k item is. absurd cc }
 
-module _ (Fails : Rules) (e : Entry) (left behind : List (ℕ × Datum)) (a : ℕ) (v : Datum) (l : Checked Fails (entry_head e) (values_of e.head) left) (n : IsNextOf (Passes Fails) left (a, v) behind) where
-  joined : values_of e.head ≡ (l.done ++ n.passed) ++ (a, v) ∷ behind
-  joined = l.parts ∙ ap (λ (xs : List (ℕ × Datum)). l.done ++ xs) n.parts ∙ sym (append_assoc l.done n.passed ((a, v) ∷ behind))
-
-  before_none : NoneFails Fails (entry_head e) (l.done ++ n.passed)
-  before_none = none_both Fails (entry_head e) l.done n.passed l.none (passed_none Fails (entry_head e) n.passed n.are_passed)
-
-  -- where a rule fails, that is the first failure
-  pub checked_fails : (rule : Rule) (broken : Broken) → IsLeast (Fails (entry_head e) a v) (Some rule) → broken ≡ record { rule = rule; section = Info; at = e.at; attribute = a } → IsFirst (AtHead Fails e) broken
-  checked_fails rule broken least is =
-      let stands : slice_get (values_of e.head) (length (l.done ++ n.passed)) ≡ Some (a, v) = ap (λ (xs : List (ℕ × Datum)). slice_get xs (length (l.done ++ n.passed))) joined ∙ between_get (l.done ++ n.passed) behind (a, v) in
-      first_of_attributes (λ x. Fails (entry_head x)) e (length (l.done ++ n.passed)) a v rule broken stands
-      (λ j b w lt has. before_none j (b, w) (front_get (l.done ++ n.passed) ((a, v) ∷ behind) j (b, w) lt (ap (λ (xs : List (ℕ × Datum)). slice_get xs j) (sym joined) ∙ has))) least
-      (record { rule = ap (λ (b : Broken). b.rule) is; section = ap (λ (b : Broken). b.section) is; at = ap (λ (b : Broken). b.at) is; attribute = ap (λ (b : Broken). b.attribute) is })
-
-  -- one attribute more, where no rule fails
-  pub checked_more : ((r : Rule) → Fails (entry_head e) a v r → ⊥) → Checked Fails (entry_head e) (values_of e.head) behind
-  checked_more none = record {
-    done = (l.done ++ n.passed) ++ (a, v) ∷ [];
-    parts = joined ∙ sym (append_assoc (l.done ++ n.passed) ((a, v) ∷ []) behind);
-    none = none_both Fails (entry_head e) (l.done ++ n.passed) ((a, v) ∷ []) before_none (none_one Fails (entry_head e) (a, v) none);
-  }
-
 -- fewer are left
 pub fewer : (Pass : AttributeSpec → Type 0) (left : List (ℕ × Datum)) (x : ℕ × Datum) (behind : List (ℕ × Datum)) → IsNextOf Pass left x behind → length behind < length left
 fewer Pass left x behind n = omega (arith, ap length n.parts, length-append n.passed (x ∷ behind))
 
--- at the end no rule fails at the entry
-pub checked_all : (Fails : Rules) (e : Entry) (left : List (ℕ × Datum)) → Checked Fails (entry_head e) (values_of e.head) left → ArePassed (Passes Fails) left → HasNone (AtHead Fails e)
-checked_all Fails e left l passed =
-    none_of_attributes (λ x. Fails (entry_head x)) e
-    (λ j a v below has r fails. none_both Fails (entry_head e) l.done left l.none (passed_none Fails (entry_head e) left passed) j (a, v) (ap (λ (xs : List (ℕ × Datum)). slice_get xs j) (sym l.parts) ∙ has) r fails)
+-- the next attribute is the first that is left, and none is passed
+pub next_at_once : (Pass : AttributeSpec → Type 0) (left : List (ℕ × Datum)) (x : ℕ × Datum) (behind : List (ℕ × Datum)) → left ≡ x ∷ behind → IsNextOf Pass left x behind
+next_at_once Pass left x behind parts = record { passed = []; parts = parts; are_passed = λ k item is. absurd cc }
+
+-- of attributes that are passed none fails
+module _ (Fails : Rules) (Pass : AttributeSpec → Type 0) (over : (spec : AttributeSpec) → Pass spec → Passes Fails spec) where
+  passed_none : (head : Head) (items : List (ℕ × Datum)) → ArePassed Pass items → NoneFails Fails head items
+  passed_none head items passed k item is r fails =
+      let p = passed k item is in
+      over p.spec p.not_asked p.context p.declared p.is_attribute head r (subst (λ (y : ℕ × Datum). Fails head y.0 y.1 r) (sym p.is_item) fails)
+
+  -- at the end no rule fails at the entry
+  pub checked_all : (e : Entry) (left : List (ℕ × Datum)) → Checked Fails (entry_head e) (values_of e.head) left → ArePassed Pass left → HasNone (AtHead Fails e)
+  checked_all e left l passed =
+      none_of_attributes (λ x. Fails (entry_head x)) e
+      (λ j a v below has r fails. none_both Fails (entry_head e) l.done left l.none (passed_none (entry_head e) left passed) j (a, v) (ap (λ (xs : List (ℕ × Datum)). slice_get xs j) (sym l.parts) ∙ has) r fails)
+
+  module _ (e : Entry) (left behind : List (ℕ × Datum)) (a : ℕ) (v : Datum) (l : Checked Fails (entry_head e) (values_of e.head) left) (n : IsNextOf Pass left (a, v) behind) where
+    joined : values_of e.head ≡ (l.done ++ n.passed) ++ (a, v) ∷ behind
+    joined = l.parts ∙ ap (λ (xs : List (ℕ × Datum)). l.done ++ xs) n.parts ∙ sym (append_assoc l.done n.passed ((a, v) ∷ behind))
+
+    before_none : NoneFails Fails (entry_head e) (l.done ++ n.passed)
+    before_none = none_both Fails (entry_head e) l.done n.passed l.none (passed_none (entry_head e) n.passed n.are_passed)
+
+    -- where a rule fails, that is the first failure
+    pub checked_fails : (rule : Rule) (broken : Broken) → IsLeast (Fails (entry_head e) a v) (Some rule) → broken ≡ record { rule = rule; section = Info; at = e.at; attribute = a } → IsFirst (AtHead Fails e) broken
+    checked_fails rule broken least is =
+        let stands : slice_get (values_of e.head) (length (l.done ++ n.passed)) ≡ Some (a, v) = ap (λ (xs : List (ℕ × Datum)). slice_get xs (length (l.done ++ n.passed))) joined ∙ between_get (l.done ++ n.passed) behind (a, v) in
+        first_of_attributes (λ x. Fails (entry_head x)) e (length (l.done ++ n.passed)) a v rule broken stands
+        (λ j b w lt has. before_none j (b, w) (front_get (l.done ++ n.passed) ((a, v) ∷ behind) j (b, w) lt (ap (λ (xs : List (ℕ × Datum)). slice_get xs j) (sym joined) ∙ has))) least
+        (record { rule = ap (λ (b : Broken). b.rule) is; section = ap (λ (b : Broken). b.section) is; at = ap (λ (b : Broken). b.at) is; attribute = ap (λ (b : Broken). b.attribute) is })
+
+    -- one attribute more, where no rule fails
+    pub checked_more : ((r : Rule) → Fails (entry_head e) a v r → ⊥) → Checked Fails (entry_head e) (values_of e.head) behind
+    checked_more none = record {
+      done = (l.done ++ n.passed) ++ (a, v) ∷ [];
+      parts = joined ∙ sym (append_assoc (l.done ++ n.passed) ((a, v) ∷ []) behind);
+      none = none_both Fails (entry_head e) (l.done ++ n.passed) ((a, v) ∷ []) before_none (none_one Fails (entry_head e) (a, v) none);
+    }

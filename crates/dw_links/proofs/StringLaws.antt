@@ -143,15 +143,6 @@ form_passes texts spec none other =
       | inr p ↦ others_pass texts spec p.0 p.1 (other_class p.0 String p.2 refl) (other_class p.0 Address p.2 refl) (other_class p.0 SectionOffset p.2 refl)
     ]
 
--- the values of such a form take bytes, and a search stops at them
-leads_with_bytes : (f : Form) (a : ℕ) → stops_in f a ≡ false → (may_lead_out f ≡ false) × (f ≡ form.SecOffset → ⊥)
-leads_with_bytes form.FlagPresent a is = (refl, λ e. absurd (let both : form.FlagPresent ≡ form.SecOffset = e in cc))
-leads_with_bytes (form.ImplicitConst number) a is = (refl, λ e. absurd (let both : form.ImplicitConst number ≡ form.SecOffset = e in cc))
-leads_with_bytes f a is = absurd (let both : true ≡ false = is in cc)
-
-pub stops_only : (texts : UnitTexts) → OthersPass (Passes (FailsByTexts texts))
-stops_only texts spec is = let both = leads_with_bytes spec.form spec.attribute is in form_passes texts spec both.0 both.1
-
 -- what holds where an answer is no
 pub where_false : (b c : Bool) (P : Type 0) → b ≡ c → (c ≡ false → P) → OnFalse b P
 where_false true c P is over = tt

@@ -13,7 +13,7 @@ use Rattle.dw_entries.specs.Entries.{entries_of, PlacedUnit, placed}
 use Rattle.dw_entries.specs.Lookups.{unit_head, value_at_entry}
 use Rattle.dw_entries.proofs.Firsts.{same_some}
 use Rattle.dw_entries.proofs.HeadLaws.{all_get}
-use Rattle.dw_entries.proofs.EntryFacts.{placed_get, first_entry}
+use Rattle.dw_entries.proofs.EntryFacts.{placed_get, first_entry, length-placed_from}
 use Rattle.dw_links.specs.Bases.{section_offset_in, base_in}
 use Rattle.dw_links.proofs.Skips.{there}
 use Rattle.dw_links.proofs.ClassLaws.{unit_there}
@@ -30,6 +30,10 @@ sized «abbrev» info us number p spells below is =
 
 pub size_above : (size : ℕ) → IsSize size → 0 < size
 size_above size is = elim is [ inl four ↦ omega (arith, four) | inr eight ↦ omega (arith, eight) ]
+
+-- a unit with a number is one of the units
+pub number_within : (us : List DebugUnit) (number : ℕ) (p : PlacedUnit) → slice_get (placed us) number ≡ Some p → number < length us
+number_within us number p is = omega (arith, slice_get_within (placed us) number p is, length-placed_from 0 0 us)
 
 -- a unit's first entry
 pub first_within : (us : List DebugUnit) (number : ℕ) (told : UnitHead) → number < length us → IfSome (slice_get (placed us) number) (λ p. told ≡ unit_head p) → told.first < length (entries_of us)

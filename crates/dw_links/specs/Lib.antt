@@ -9,6 +9,7 @@ pub mod AttributeTexts
 pub mod Signatures
 pub mod Targets
 pub mod References
+pub mod LinkFaults
 pub mod LinkLaws
 -- State.
 pub mod Ready
@@ -18,4 +19,4 @@ pub mod Linkable
 pub mod Kept
 pub mod DeclaredEntries
 pub mod Tables
-pub mod Sound
+pub mod Linking

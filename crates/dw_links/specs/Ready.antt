@@ -38,6 +38,7 @@ pub record AreTexts (sections : Sections) (entries : List Entry) (units : List P
   pub same_sections : texts.sections ≡ sections
   pub place : PlacedUnit
   pub in_unit : slice_get units texts.unit ≡ Some place
+  pub at : texts.at ≡ place.at
   pub header : texts.header ≡ place.unit.header
   pub strings : base_of texts.strings ≡ base_in entries place DW_AT_str_offsets_base
   pub addresses : base_of texts.addresses ≡ base_in entries place DW_AT_addr_base

@@ -1,16 +1,11 @@
 //! The classes of values (DWARF 5, section 7.5.5), and which attribute may have which.
 
-ghost use Rattle.std.specs.Prelude.{◌≡◌, ◌<◌, length, OnOk, IfErr};
+ghost use Rattle.std.specs.Prelude.{◌≡◌};
 ghost use Rattle.dw_forms.specs.Value.{view};
-ghost use Rattle.dw_entries.specs.Scanned.{all_units, units_of};
-ghost use Rattle.dw_entries.specs.Failures.{HasNone, IsFirst, IsPlainFault};
-ghost use Rattle.dw_links.specs.Classes.{class_of, form_class, allows, allows_in, ClassFailures};
+ghost use Rattle.dw_links.specs.Classes.{class_of, form_class, allows, allows_in};
 
-use crate::rules::{AttributeRules, check_entries, concerns_entries, fault_of};
 use dw_entries::constants::*;
-use dw_entries::{Entries, Fault, Head, Rule};
-use dw_forms::{Attribute, AttributeSpec, Form, Value};
-use std::alloc::Global;
+use dw_forms::{Attribute, Form, Value};
 
 /// A class of values (DWARF 5, section 7.5.5). Values that lead into other sections are told apart by their forms
 /// alone.
@@ -91,7 +86,7 @@ pub fn class_of_form(form: Form) -> Option<Class>
 
 /// Whether an attribute may have a value of this class. This project's choice: attributes without a line here may have
 /// any.
-fn is_allowed(attribute: Attribute, class: Class) -> bool
+pub fn is_allowed(attribute: Attribute, class: Class) -> bool
     ensures { result ≡ allows attribute class }
 {
     match attribute {
@@ -137,54 +132,4 @@ pub fn is_allowed_in(version: u16, attribute: Attribute, class: Class) -> bool
         return true;
     }
     is_allowed(attribute, class)
-}
-
-/// The rule on classes.
-#[derive(Drop)]
-struct Classes<'r, 'a> {
-    entries: &'r Entries<'a>,
-}
-
-impl AttributeRules for Classes<'_, '_> {
-    ghost use Rattle.dw_links.specs.Classes.{ClassFails};
-
-    ghost may_ask = { λ rules head. head.unit < length (units_of rules.entries.now.scanned) };
-
-    ghost fails = { λ rules. ClassFails (all_units rules.entries.now.scanned) };
-
-    fn concerns(&self, spec: &AttributeSpec) -> bool {
-        match class_of_form(spec.form) {
-            Some(class) if is_allowed(spec.attribute, class) => false,
-            _ => true,
-        }
-    }
-
-    // A search stops at values that take no bytes, if `is_allowed` forbids their class.
-    fn keeps_to_stops(&self) {}
-
-    fn ask(&self, head: &Head, attribute: Attribute, value: &Value<'_>) -> Option<Rule> {
-        let unit = self.entries.unit(head.unit);
-        let version = unit.header.kind.version();
-        if is_allowed_in(version, attribute, class_of_value(value)) {
-            None
-        } else {
-            Some(Rule::WrongClass)
-        }
-    }
-}
-
-/// Finds the first attribute whose value has none of its classes: the fault `WrongClass` at the entry's offset.
-/// Nothing grows, so there is no want of memory.
-pub fn check_classes(alloc: Global, entries: &Entries<'_>) -> Result<(), Fault>
-    ensures ok { OnOk result (HasNone (ClassFailures (units_of entries.now.scanned))) }
-    ensures fault { IfErr result (IsPlainFault (IsFirst (ClassFailures (units_of entries.now.scanned)))) }
-{
-    let rules = Classes { entries };
-    if !concerns_entries(&rules, entries) {
-        return Ok(());
-    }
-    match check_entries(&rules, entries) {
-        Ok(()) => Ok(()),
-        Err(broken) => Err(fault_of(alloc, broken)),
-    }
 }

@@ -10,7 +10,7 @@ ghost use Rattle.dw_links.specs.References.{HasType, TypeUnitFails, AtHeader, He
 ghost use Rattle.dw_links.specs.Signatures.{type_in, HasSignature};
 ghost use Rattle.dw_links.specs.SignedTypes.{AreSignedBelow, HasSignedTypes, AreTyped};
 
-use crate::rules::fault_of;
+use crate::faults::fault_of;
 use dw_entries::{Broken, Entries, EntryId, HeaderKind, Rule, Section, Stop};
 use std::alloc::Global;
 use std::collections::BTreeMap;

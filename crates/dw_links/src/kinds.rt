@@ -9,7 +9,7 @@ ghost use Rattle.dw_links.specs.References.{is_signed, is_signature, is_referenc
 
 use crate::declared_entries::DeclaredEntries;
 use dw_entries::constants::*;
-use dw_entries::{Entries, EntryId, Head};
+use dw_entries::{Cursor, EntryAt, EntryId, Head};
 use dw_forms::{Attribute, Value};
 
 /// Whether a value is a reference.
@@ -51,28 +51,40 @@ pub fn is_permitted_form(head: &Head, attribute: Attribute, value: &Value<'_>) -
     !is_signed_by(head, attribute) || matches!(value, Value::RefSig(_))
 }
 
+/// An entry, sooner if it is one of the unit at hand.
+#[inline(always)]
+fn entry_at<'e, 'a>(cursor: &Cursor<'e, 'a>, id: EntryId) -> EntryAt<'e, 'a>
+    requires { id < length (all_entries cursor.now.entries.now.scanned) }
+    ensures { result ≡ slice_get (all_entries cursor.now.entries.now.scanned) id }
+{
+    match cursor.beside(id) {
+        Some(entry) => entry,
+        None => cursor.entries.at(id),
+    }
+}
+
 /// Whether an attribute of an entry may reach a target. This project's choice: the type, the specification, the
 /// signature and the import of a unit have targets of their kinds, and other attributes may reach any entry.
 #[inline(always)]
 pub fn is_permitted(
-    entries: &Entries<'_>,
+    cursor: &Cursor<'_, '_>,
     declared: &mut DeclaredEntries,
     head: &Head,
     attribute: Attribute,
     id: EntryId,
 ) -> bool
-    requires id { id < length (all_entries entries.now.scanned) }
-    requires kept { KeepsDeclared (all_entries entries.now.scanned) declared.old }
-    ensures kept { KeepsDeclared (all_entries entries.now.scanned) declared.new }
-    ensures exact { (target : Entry) → slice_get (all_entries entries.now.scanned) id ≡ Some target
+    requires id { id < length (all_entries cursor.now.entries.now.scanned) }
+    requires kept { KeepsDeclared (all_entries cursor.now.entries.now.scanned) declared.old }
+    ensures kept { KeepsDeclared (all_entries cursor.now.entries.now.scanned) declared.new }
+    ensures exact { (target : Entry) → slice_get (all_entries cursor.now.entries.now.scanned) id ≡ Some target
         → result ≡ permits head.now attribute target }
 {
-    let target = entries.at(id);
+    let target = entry_at(cursor, id);
     if attribute == DW_AT_type {
         return target.is_type();
     }
     if attribute == DW_AT_specification {
-        return target.offset() != head.offset && declared.has(entries, id);
+        return target.offset() != head.offset && declared.has(cursor.entries, id);
     }
     if is_signed_by(head, attribute) {
         return target.tag() == head.tag;

@@ -1,30 +1,47 @@
-//! The rules on references, asked of all entries, and the entries that the types of entries reach.
+//! The rules on strings, addresses and references, checked in one pass over the values of all entries, and the entries
+//! that their types reach.
 
-ghost use Rattle.std.specs.Prelude.{ℕ, ◌≡◌, ◌<◌, length, map, None, Some, slice_get, IfSome, IsSome, OnOk, IfOk, IfErr};
-ghost use Rattle.dw_entries.specs.Entries.{Entry};
-ghost use Rattle.dw_entries.specs.Scanned.{all_entries, all_units};
-ghost use Rattle.dw_entries.specs.Lookups.{entry_head};
-ghost use Rattle.dw_entries.specs.Failures.{HasNone, IsFirst, IsLeast};
+ghost use Rattle.std.specs.Prelude.{ℕ, ◌≡◌, ◌<◌, length, map, None, Some, IfSome, IsSome, OnOk, IfOk, IfErr};
 ghost use Rattle.dw_forms.specs.Value.{view};
-ghost use Rattle.dw_links.specs.Targets.{reach_of};
+ghost use Rattle.dw_entries.specs.Entries.{Entry};
+ghost use Rattle.dw_entries.specs.Scanned.{all_entries, all_units, units_of};
+ghost use Rattle.dw_entries.specs.Views.{sections_of};
+ghost use Rattle.dw_entries.specs.Lookups.{entry_head};
+ghost use Rattle.dw_entries.specs.Leading.{next_form, leading_left};
+ghost use Rattle.dw_entries.specs.Failures.{HasNone, IsFirst, IsLeast};
 ghost use Rattle.dw_entries.specs.Stopped.{IfFault};
-ghost use Rattle.dw_links.specs.Concerns.{AtHead, PassesAt, FailsAt};
-ghost use Rattle.dw_links.specs.References.{ReferenceFails, AttributeFailures};
 ghost use Rattle.dw_links.specs.DeclaredEntries.{KeepsDeclared};
-ghost use Rattle.dw_links.specs.Linkable.{MayAsk};
-ghost use Rattle.dw_links.specs.Tables.{type_target};
 ghost use Rattle.dw_links.specs.Kept.{kept_after};
+ghost use Rattle.dw_links.specs.Linkable.{entries_in, FailsByTarget, reached_by, MayAsk};
+ghost use Rattle.dw_links.specs.LinkFaults.{IsFirstOfTargets};
+ghost use Rattle.dw_links.specs.Linking.{LinksNext, HasFailedNext, IsLinked, HasFailed, IsFirstOfGroup};
+ghost use Rattle.dw_links.specs.References.{HeaderFailures, ReferenceFailures};
+ghost use Rattle.dw_links.specs.SignedTypes.{HasSignedTypes, AreTyped};
+ghost use Rattle.dw_links.specs.Strings.{StringFailures};
+ghost use Rattle.dw_links.specs.Tables.{type_target};
 
 use crate::declared_entries::DeclaredEntries;
+use crate::faults::{broken_at, fault_of};
 use crate::references::References;
-use crate::rules::{broken_at, fault_of};
-use crate::targets::reach;
+use crate::string_checks::{check_strings, keep_texts, read_texts};
+use crate::string_rules::string_ends;
 use dw_entries::constants::*;
-use dw_entries::{Broken, Entries, EntryAt, EntryId, Head, OptionalId, Rule, Stop};
-use dw_forms::{Attribute, Value};
+use dw_entries::{Broken, Entries, EntryAt, EntryId, Head, Hints, Leading, OptionalId, Rule, Stop};
+use dw_forms::{Attribute, Form, Value};
 use std::alloc::Global;
+use std::collections::BTreeMap;
+
+/// A failure at an entry, by the group of its rule.
+#[derive(Drop)]
+pub enum Failed {
+    /// Of a rule on strings and addresses.
+    String(Broken),
+    /// Of a rule on references.
+    Reference(Broken),
+}
 
 /// The number of an entry, or none.
+#[inline(always)]
 fn number_of(entries: &Entries<'_>, id: &Option<EntryId>) -> OptionalId
     requires { IfSome id.now (λ t. t < length (all_entries entries.now.scanned)) }
     ensures { result ≡ id.now }
@@ -35,7 +52,8 @@ fn number_of(entries: &Entries<'_>, id: &Option<EntryId>) -> OptionalId
     }
 }
 
-/// What is kept of an entry's type behind one attribute more: what the first type reaches.
+/// What is kept of an entry's type after one attribute more: what the first type reaches.
+#[inline(always)]
 fn keep(kept: Option<OptionalId>, attribute: Attribute, reached: OptionalId) -> Option<OptionalId>
     ensures { result ≡ kept_after kept attribute reached }
 {
@@ -51,8 +69,9 @@ fn keep(kept: Option<OptionalId>, attribute: Attribute, reached: OptionalId) -> 
     }
 }
 
-impl References<'_, '_> {
-    /// The entry that a value reaches, or the rule that fails there.
+impl References<'_, '_, '_> {
+    /// The entry that a value reaches, or the rule on references that fails there.
+    #[inline(always)]
     fn link_value(
         &self,
         declared: &mut DeclaredEntries,
@@ -61,88 +80,161 @@ impl References<'_, '_> {
         value: &Value<'_>,
     ) -> Result<OptionalId, Rule>
         requires may { MayAsk self.now head.now }
-        requires kept { KeepsDeclared (all_entries self.now.entries.now.scanned) declared.old }
-        ensures kept { KeepsDeclared (all_entries self.now.entries.now.scanned) declared.new }
-        ensures ok { OnOk result
-            (IsLeast (ReferenceFails (all_entries self.now.entries.now.scanned) (all_units self.now.entries.now.scanned)
-            head.now attribute (view value.now)) None) }
-        ensures reached { IfOk result
-            (λ target. target ≡ reach_of (all_entries self.now.entries.now.scanned)
-            (all_units self.now.entries.now.scanned) head.now.unit (view value.now)) }
+        requires kept { KeepsDeclared (entries_in self.now) declared.old }
+        ensures kept { KeepsDeclared (entries_in self.now) declared.new }
+        ensures ok { OnOk result (IsLeast (FailsByTarget self.now head.now attribute (view value.now)) None) }
+        ensures reached { IfOk result (λ target. target ≡ reached_by self.now (view value.now)) }
         ensures err { IfErr result
-            (λ rule. IsLeast (ReferenceFails (all_entries self.now.entries.now.scanned)
-            (all_units self.now.entries.now.scanned) head.now attribute (view value.now)) (Some rule)) }
+            (λ rule. IsLeast (FailsByTarget self.now head.now attribute (view value.now)) (Some rule)) }
     {
-        let reached = reach(self.entries, self.signatures, head.unit, value);
-        let target = number_of(self.entries, &reached);
+        let reached = self.reach(value);
+        let target = number_of(self.cursor.entries, &reached);
         match self.ask(declared, head, attribute, value, reached) {
             None => Ok(target),
             Some(rule) => Err(rule),
         }
     }
 
-    /// The entry that an entry's type reaches, or the first failure at the entry's references. Each is decoded and
-    /// searched once.
-    pub fn link_entry(
+    /// The next attribute, whose form is this one, and the entry that it reaches, or the rule that fails there.
+    #[inline(always)]
+    fn link_in(
+        &self,
+        declared: &mut DeclaredEntries,
+        head: &Head,
+        leading: &mut Leading<'_, '_>,
+        form: Form,
+    ) -> Result<(Attribute, OptionalId), Failed>
+        requires may { MayAsk self.now head.now }
+        requires kept { KeepsDeclared (entries_in self.now) declared.old }
+        requires form { next_form leading.old ≡ Some form }
+        ensures kept { KeepsDeclared (entries_in self.now) declared.new }
+        ensures ok { IfOk result (LinksNext self.now head.now (leading_left leading.old) (leading_left leading.new)) }
+        ensures err { IfErr result (HasFailedNext self.now head.now (leading_left leading.old)) }
+    {
+        let (attribute, value) = leading.next_in(form);
+        if let Some(rule) = self.texts.ask(head, attribute, &value) {
+            return Err(Failed::String(broken_at(head, attribute, rule)));
+        }
+        match self.link_value(declared, head, attribute, &value) {
+            Ok(reached) => Ok((attribute, reached)),
+            Err(rule) => Err(Failed::Reference(broken_at(head, attribute, rule))),
+        }
+    }
+
+    /// The same. Most values have one of two forms, and each of these is read by code of its own.
+    #[inline(always)]
+    fn link_next(
+        &self,
+        declared: &mut DeclaredEntries,
+        head: &Head,
+        leading: &mut Leading<'_, '_>,
+        form: Form,
+    ) -> Result<(Attribute, OptionalId), Failed>
+        requires may { MayAsk self.now head.now }
+        requires kept { KeepsDeclared (entries_in self.now) declared.old }
+        requires form { next_form leading.old ≡ Some form }
+        ensures kept { KeepsDeclared (entries_in self.now) declared.new }
+        ensures ok { IfOk result (LinksNext self.now head.now (leading_left leading.old) (leading_left leading.new)) }
+        ensures err { IfErr result (HasFailedNext self.now head.now (leading_left leading.old)) }
+    {
+        match form {
+            Form::Strp => self.link_in(declared, head, leading, Form::Strp),
+            Form::Ref4 => self.link_in(declared, head, leading, Form::Ref4),
+            form => self.link_in(declared, head, leading, form),
+        }
+    }
+
+    /// The entry that an entry's type reaches, or the first failure at the entry. Each value is decoded once.
+    #[inline(always)]
+    fn link_entry(
         &self,
         declared: &mut DeclaredEntries,
         entry: &EntryAt<'_, '_>,
-    ) -> Result<OptionalId, Broken>
+    ) -> Result<OptionalId, Failed>
         requires found { IsSome entry.now }
         requires may { (e : Entry) → entry.now ≡ Some e → MayAsk self.now (entry_head e) }
-        requires kept { KeepsDeclared (all_entries self.now.entries.now.scanned) declared.old }
-        ensures kept { KeepsDeclared (all_entries self.now.entries.now.scanned) declared.new }
-        ensures ok { OnOk result
-            (PassesAt entry.now (AtHead
-            (ReferenceFails (all_entries self.now.entries.now.scanned) (all_units self.now.entries.now.scanned)))) }
-        ensures target { IfOk result
-            (λ target. IfSome entry.now
-            (λ e. target ≡ type_target (all_entries self.now.entries.now.scanned)
-            (all_units self.now.entries.now.scanned) e)) }
-        ensures err { IfErr result
-            (FailsAt entry.now (AtHead
-            (ReferenceFails (all_entries self.now.entries.now.scanned) (all_units self.now.entries.now.scanned)))) }
+        requires kept { KeepsDeclared (entries_in self.now) declared.old }
+        ensures kept { KeepsDeclared (entries_in self.now) declared.new }
+        ensures ok { IfOk result (λ target. (e : Entry) → entry.now ≡ Some e → IsLinked self.now e target) }
+        ensures err { IfErr result (λ failed. (e : Entry) → entry.now ≡ Some e → HasFailed self.now e failed) }
     {
         let head = entry.head();
-        let mut values = entry.values();
+        let mut leading = entry.leading();
         let mut kept = None;
-        while let Some(item) = values.next_reference() {
-            match self.link_value(declared, &head, item.0, &item.1) {
-                Ok(target) => kept = keep(kept, item.0, target),
-                Err(rule) => return Err(broken_at(&head, item.0, rule)),
-            }
+        while let Some(form) = leading.form() {
+            let (attribute, reached) = self.link_next(declared, &head, &mut leading, form)?;
+            kept = keep(kept, attribute, reached);
         }
         match kept {
             Some(target) => Ok(target),
             None => Ok(OptionalId::none()),
         }
     }
+}
 
-    /// The entries that the types of all entries reach, in their order, or the first failure at a reference.
-    pub fn link_entries(&self, alloc: Global) -> Result<Vec<OptionalId>, Stop>
-        requires { (id : ℕ) (e : Entry) → slice_get (all_entries self.now.entries.now.scanned) id ≡ Some e
-            → MayAsk self.now (entry_head e) }
-        ensures ok { OnOk result
-            (HasNone (AttributeFailures (all_entries self.now.entries.now.scanned)
-            (all_units self.now.entries.now.scanned))) }
-        ensures types { IfOk result
-            (λ types. types.items ≡ map
-            (type_target (all_entries self.now.entries.now.scanned) (all_units self.now.entries.now.scanned))
-            (all_entries self.now.entries.now.scanned)) }
-        ensures fault { IfErr result
-            (IfFault (IsFirst (AttributeFailures (all_entries self.now.entries.now.scanned)
-            (all_units self.now.entries.now.scanned)))) }
-    {
-        let count = self.entries.count();
-        let mut types = Vec::with_capacity(alloc, count)?;
-        let mut declared = DeclaredEntries::new(alloc, self.entries)?;
-        for number in 0..count {
-            let entry = self.entries.at(self.entries.id(number));
-            match self.link_entry(&mut declared, &entry) {
-                Ok(target) => types.push(target)?,
-                Err(broken) => return Err(Stop::Fault(fault_of(alloc, broken))),
-            }
-        }
-        Ok(types)
+/// The fault of a reference, or of a string or an address, if there is one in any entry. These come first.
+#[inline(never)]
+pub(crate) fn strings_first(alloc: Global, entries: &Entries<'_>, reference: Stop) -> Stop
+    requires { IfFault (IsFirst (ReferenceFailures (units_of entries.now.scanned))) reference }
+    ensures { IfFault (IsFirstOfTargets (sections_of entries.now) (units_of entries.now.scanned)) result }
+{
+    match check_strings(alloc, entries) {
+        Ok(()) => reference,
+        Err(fault) => Stop::Fault(fault),
     }
+}
+
+/// The fault of a failure, if it is the first of its group.
+fn stop_of(alloc: Global, entries: &Entries<'_>, failed: Failed) -> Stop
+    requires { IsFirstOfGroup (sections_of entries.now) (units_of entries.now.scanned) failed }
+    ensures { IfFault (IsFirstOfTargets (sections_of entries.now) (units_of entries.now.scanned)) result }
+{
+    match failed {
+        Failed::String(broken) => Stop::Fault(fault_of(alloc, broken)),
+        Failed::Reference(broken) => {
+            strings_first(alloc, entries, Stop::Fault(fault_of(alloc, broken)))
+        }
+    }
+}
+
+/// The entries that the types of all entries reach, in their order, or the first failure at a string or an address, or
+/// if there is none, at a reference.
+pub(crate) fn link_entries<'t>(
+    alloc: Global,
+    entries: &Entries<'_>,
+    signatures: &'t BTreeMap<u64, EntryId>,
+    hints: &'t Hints,
+) -> Result<Vec<OptionalId>, Stop>
+    requires types { HasSignedTypes (all_entries entries.now.scanned) (all_units entries.now.scanned) signatures.now }
+    requires typed { AreTyped (all_entries entries.now.scanned) (all_units entries.now.scanned) }
+    requires headers { HasNone (HeaderFailures (all_entries entries.now.scanned) (all_units entries.now.scanned)) }
+    ensures strings { OnOk result (HasNone (StringFailures (sections_of entries.now) (units_of entries.now.scanned))) }
+    ensures references { OnOk result (HasNone (ReferenceFailures (units_of entries.now.scanned))) }
+    ensures types { IfOk result (λ types. types.items
+        ≡ map (type_target (all_entries entries.now.scanned) (all_units entries.now.scanned))
+        (all_entries entries.now.scanned)) }
+    ensures fault { IfErr result
+        (IfFault (IsFirstOfTargets (sections_of entries.now) (units_of entries.now.scanned))) }
+{
+    let mut types = Vec::with_capacity(alloc, entries.count())?;
+    if entries.unit_count() == 0 {
+        return Ok(types);
+    }
+    let ends = string_ends(entries.sections());
+    let mut declared = DeclaredEntries::new(alloc, entries)?;
+    let mut references = References {
+        cursor: entries.cursor(),
+        texts: read_texts(entries, ends, 0),
+        signatures,
+        hints,
+    };
+    for number in 0..entries.count() {
+        let entry = references.cursor.at(entries.id(number));
+        keep_texts(&mut references.texts, entries, ends, entry.unit());
+        match references.link_entry(&mut declared, &entry) {
+            Ok(target) => types.push(target)?,
+            Err(failed) => return Err(stop_of(alloc, entries, failed)),
+        }
+    }
+    Ok(types)
 }

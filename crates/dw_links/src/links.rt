@@ -4,17 +4,19 @@ ghost use Rattle.std.specs.Prelude.{◌≡◌, ◌<◌, length, slice_get, optio
 ghost use Rattle.dw_entries.specs.Scanned.{all_entries, all_units, units_of};
 ghost use Rattle.dw_entries.specs.Views.{sections_of};
 ghost use Rattle.dw_entries.specs.Stopped.{IfFault};
-ghost use Rattle.dw_entries.specs.Failures.{HasNone, IsFirst};
+ghost use Rattle.dw_entries.specs.Failures.{HasNone};
 ghost use Rattle.dw_links.specs.Classes.{ClassFailures};
+ghost use Rattle.dw_links.specs.LinkFaults.{IsFirstOfLinks};
 ghost use Rattle.dw_links.specs.Strings.{StringFailures};
 ghost use Rattle.dw_links.specs.References.{ReferenceFailures};
 ghost use Rattle.dw_links.specs.Tables.{AreTables};
 ghost use Rattle.dw_links.specs.Targets.{target_of};
 ghost use Rattle.dw_links.specs.AttributeTexts.{text_at, address_at};
 
+use crate::class_checks::check_classes;
 use crate::headers::read_signatures;
 use crate::link_tables::{LinkTables, read_bases};
-use crate::references::References;
+use crate::linking::{link_entries, strings_first};
 use dw_entries::{Entries, EntryId, Stop};
 use dw_forms::Attribute;
 use std::alloc::Global;
@@ -30,23 +32,23 @@ pub struct Links<'r, 'a> {
     pub ghost references: { HasNone (ReferenceFailures (units_of entries.now.scanned)) },
 }
 
-/// Links entries whose classes and strings hold. Else finds the first header of a type unit whose signature or type
-/// offset does not hold, else the first reference that does not (DWARF 5, sections 2.3 and 7.5.5). Want of memory
-/// comes where a table can't grow.
+/// Links entries, or finds the first value whose class is wrong; else the first string or address that leads nowhere;
+/// else the first header of a type unit whose signature or type offset is wrong, or if there is none, the first
+/// reference (DWARF 5, sections 2.3, 7.5.5, 7.26 and 7.27). Runs out of memory if a table cannot grow.
 pub fn link<'r, 'a>(alloc: Global, entries: &'r Entries<'a>) -> Result<Links<'r, 'a>, Stop>
-    requires classes { HasNone (ClassFailures (units_of entries.now.scanned)) }
-    requires strings { HasNone (StringFailures (sections_of entries.now) (units_of entries.now.scanned)) }
     ensures ok { OnOk result (HasNone (ReferenceFailures (units_of entries.now.scanned))) }
     ensures entries { IfOk result (λ links. links.entries ≡ entries.entry) }
-    ensures fault { IfErr result (IfFault (IsFirst (ReferenceFailures (units_of entries.now.scanned)))) }
+    ensures fault { IfErr result
+        (IfFault (IsFirstOfLinks (sections_of entries.now) (units_of entries.now.scanned))) }
 {
-    let signatures = read_signatures(alloc, entries)?;
-    let bases = read_bases(alloc, entries)?;
-    let references = References {
-        entries,
-        signatures: &signatures,
+    check_classes(alloc, entries)?;
+    let signatures = match read_signatures(alloc, entries) {
+        Ok(signatures) => signatures,
+        Err(stop) => return Err(strings_first(alloc, entries, stop)),
     };
-    let types = references.link_entries(alloc)?;
+    let bases = read_bases(alloc, entries)?;
+    let hints = entries.hints(alloc)?;
+    let types = link_entries(alloc, entries, &signatures, &hints)?;
     let tables = LinkTables {
         signatures,
         bases,

@@ -1,27 +1,33 @@
 //! The rules on references (DWARF 5, section 7.5.5).
 
-ghost use Rattle.std.specs.Prelude.{true, ◌≡◌, ◌<◌, length, None, Some};
+ghost use Rattle.std.specs.Prelude.{true, ◌≡◌, ◌<◌, length, None, Some, IfSome};
 ghost use Rattle.std.specs.Bool.{OnTrue, OnFalse};
 ghost use Rattle.dw_forms.specs.Value.{view};
-ghost use Rattle.dw_entries.specs.Scanned.{all_entries, all_units};
 ghost use Rattle.dw_entries.specs.Failures.{IsLeast};
-ghost use Rattle.dw_links.specs.References.{is_reference_value, IsWrongKind, ReferenceFails};
-ghost use Rattle.dw_links.specs.Targets.{reach_of};
 ghost use Rattle.dw_links.specs.DeclaredEntries.{KeepsDeclared};
-ghost use Rattle.dw_links.specs.Linkable.{MayAsk};
+ghost use Rattle.dw_links.specs.Linkable.{entries_in, FailsByTarget, reached_in, reached_by, IsLinkable, MayAsk};
+ghost use Rattle.dw_links.specs.References.{is_reference_value, IsWrongKind};
 
 use crate::declared_entries::DeclaredEntries;
 use crate::kinds::{is_permitted, is_permitted_form, is_reference, is_sig8};
+use crate::string_rules::UnitTexts;
+use crate::targets::{entry_from_header, reach};
 use dw_entries::constants::*;
-use dw_entries::{Entries, EntryId, Head, Rule};
+use dw_entries::{Cursor, EntryId, Head, Hints, Rule};
 use dw_forms::{Attribute, Value};
 use std::collections::BTreeMap;
 
-/// What the rules on references are asked with: the entries, and the type of each signature.
+/// What the values of one unit after another are followed and checked with.
 #[derive(Drop)]
-pub struct References<'r, 'd> {
-    pub entries: &'r Entries<'d>,
-    pub signatures: &'r BTreeMap<u64, EntryId>,
+pub struct References<'e, 'd, 't> {
+    /// Looks up entries, sooner those of the unit at hand.
+    pub cursor: Cursor<'e, 'd>,
+    /// What is read once of the unit at hand.
+    pub texts: UnitTexts<'d>,
+    /// The type of each signature.
+    pub signatures: &'t BTreeMap<u64, EntryId>,
+    /// Guesses at the entry that starts at an offset.
+    pub hints: &'t Hints,
 }
 
 /// Whether the next sibling is this entry.
@@ -36,16 +42,53 @@ fn is_next(next: Option<EntryId>, id: EntryId) -> bool
     }
 }
 
-impl References<'_, '_> {
+impl References<'_, '_, '_> {
+    /// The entry of the unit at hand that starts so many bytes after the unit's header, if a guess finds it.
+    #[inline(always)]
+    fn guess_in_unit(&self, offset: u64) -> Option<EntryId>
+        requires { IsLinkable self.now }
+        ensures { IfSome result (λ id. reached_in self.now offset ≡ Some id) }
+    {
+        let at = offset.checked_add(u64::from(self.texts.at))?;
+        let id = self.cursor.entries.nth(self.hints.guess(at)?)?;
+        let entry = self.cursor.beside(id)?;
+        if u64::from(entry.offset()) != at || entry.unit() != self.texts.unit {
+            return None;
+        }
+        Some(id)
+    }
+
+    /// The entry of the unit at hand that starts so many bytes after the unit's header.
+    #[inline(always)]
+    fn find_in_unit(&self, offset: u64) -> Option<EntryId>
+        requires { IsLinkable self.now }
+        ensures { result ≡ reached_in self.now offset }
+    {
+        match self.guess_in_unit(offset) {
+            Some(id) => Some(id),
+            None => entry_from_header(self.cursor.entries, self.texts.unit, offset),
+        }
+    }
+
+    /// The entry that a value of the unit at hand reaches.
+    #[inline(always)]
+    pub fn reach(&self, value: &Value<'_>) -> Option<EntryId>
+        requires { IsLinkable self.now }
+        ensures { result ≡ reached_by self.now (view value.now) }
+    {
+        match *value {
+            Value::RefUnit(offset) => self.find_in_unit(offset),
+            _ => reach(self.cursor.entries, self.signatures, self.texts.unit, value),
+        }
+    }
+
     /// The rule at a reference that reaches no entry.
     #[tactic(auto, using(crate::proofs::Asked::no_signature))]
     fn ask_unreached(&self, head: &Head, attribute: Attribute, value: &Value<'_>) -> Option<Rule>
         requires may { MayAsk self.now head.now }
         requires reference { is_reference_value (view value.now) ≡ true }
-        requires none { reach_of (all_entries self.now.entries.now.scanned) (all_units self.now.entries.now.scanned)
-            head.now.unit (view value.now) ≡ None }
-        ensures { IsLeast (ReferenceFails (all_entries self.now.entries.now.scanned)
-            (all_units self.now.entries.now.scanned) head.now attribute (view value.now)) result }
+        requires none { reached_by self.now (view value.now) ≡ None }
+        ensures { IsLeast (FailsByTarget self.now head.now attribute (view value.now)) result }
     {
         if !is_sig8(value) {
             return Some(Rule::NoEntry);
@@ -66,18 +109,17 @@ impl References<'_, '_> {
         value: &Value<'_>,
         id: EntryId,
     ) -> bool
-        requires id { id < length (all_entries self.now.entries.now.scanned) }
-        requires kept { KeepsDeclared (all_entries self.now.entries.now.scanned) declared.old }
-        ensures kept { KeepsDeclared (all_entries self.now.entries.now.scanned) declared.new }
-        ensures yes { OnTrue result
-            (IsWrongKind (all_entries self.now.entries.now.scanned) head.now attribute (view value.now) (Some id)) }
+        requires id { id < length (entries_in self.now) }
+        requires kept { KeepsDeclared (entries_in self.now) declared.old }
+        ensures kept { KeepsDeclared (entries_in self.now) declared.new }
+        ensures yes { OnTrue result (IsWrongKind (entries_in self.now) head.now attribute (view value.now) (Some id)) }
         ensures otherwise { OnFalse result
-            (IsWrongKind (all_entries self.now.entries.now.scanned) head.now attribute (view value.now) (Some id) → ⊥) }
+            (IsWrongKind (entries_in self.now) head.now attribute (view value.now) (Some id) → ⊥) }
     {
         if !is_permitted_form(head, attribute, value) {
             return true;
         }
-        if !is_permitted(self.entries, declared, head, attribute, id) {
+        if !is_permitted(&self.cursor, declared, head, attribute, id) {
             return true;
         }
         false
@@ -95,12 +137,10 @@ impl References<'_, '_> {
     ) -> Option<Rule>
         requires may { MayAsk self.now head.now }
         requires reference { is_reference_value (view value.now) ≡ true }
-        requires reaches { reach_of (all_entries self.now.entries.now.scanned) (all_units self.now.entries.now.scanned)
-            head.now.unit (view value.now) ≡ Some id }
-        requires kept { KeepsDeclared (all_entries self.now.entries.now.scanned) declared.old }
-        ensures kept { KeepsDeclared (all_entries self.now.entries.now.scanned) declared.new }
-        ensures rule { IsLeast (ReferenceFails (all_entries self.now.entries.now.scanned)
-            (all_units self.now.entries.now.scanned) head.now attribute (view value.now)) result }
+        requires reaches { reached_by self.now (view value.now) ≡ Some id }
+        requires kept { KeepsDeclared (entries_in self.now) declared.old }
+        ensures kept { KeepsDeclared (entries_in self.now) declared.new }
+        ensures rule { IsLeast (FailsByTarget self.now head.now attribute (view value.now)) result }
     {
         if self.is_wrong(declared, head, attribute, value, id) {
             return Some(Rule::WrongKind);
@@ -125,12 +165,10 @@ impl References<'_, '_> {
         reached: Option<EntryId>,
     ) -> Option<Rule>
         requires may { MayAsk self.now head.now }
-        requires reached { reached ≡ reach_of (all_entries self.now.entries.now.scanned)
-            (all_units self.now.entries.now.scanned) head.now.unit (view value.now) }
-        requires kept { KeepsDeclared (all_entries self.now.entries.now.scanned) declared.old }
-        ensures kept { KeepsDeclared (all_entries self.now.entries.now.scanned) declared.new }
-        ensures rule { IsLeast (ReferenceFails (all_entries self.now.entries.now.scanned)
-            (all_units self.now.entries.now.scanned) head.now attribute (view value.now)) result }
+        requires reached { reached ≡ reached_by self.now (view value.now) }
+        requires kept { KeepsDeclared (entries_in self.now) declared.old }
+        ensures kept { KeepsDeclared (entries_in self.now) declared.new }
+        ensures rule { IsLeast (FailsByTarget self.now head.now attribute (view value.now)) result }
     {
         if !is_reference(value) {
             return None;

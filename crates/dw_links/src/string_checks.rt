@@ -1,70 +1,23 @@
 //! The search for the first failure of the rules on strings and addresses (DWARF 5, sections 7.26 and 7.27), unit by
 //! unit.
 
-ghost use Rattle.std.specs.Prelude.{ℕ, ◌≡◌, ◌⊎◌, ◌<◌, length, Some, slice_get, OnOk, IfErr};
-ghost use Rattle.std.specs.Bool.{OnFalse};
-ghost use Rattle.dw_forms.specs.Codes.{DW_AT_str_offsets_base, DW_AT_addr_base};
+ghost use Rattle.std.specs.Prelude.{◌≡◌, ◌<◌, length, Some, slice_get, IsSome, OnOk, IfErr};
 ghost use Rattle.dw_entries.specs.Entries.{PlacedUnit};
 ghost use Rattle.dw_entries.specs.Scanned.{all_entries, all_units, units_of};
 ghost use Rattle.dw_entries.specs.Views.{sections_of};
 ghost use Rattle.dw_entries.specs.Failures.{HasNone, IsFirst, IsPlainFault};
 ghost use Rattle.dw_links.specs.Bases.{base_in};
-ghost use Rattle.dw_links.specs.Ready.{AreEnds, AreTexts};
+ghost use Rattle.dw_links.specs.Concerns.{AtHead, PassesAt, FailsAt};
+ghost use Rattle.dw_links.specs.Ready.{AreEnds, AreTexts, IsReady, FailsByTexts};
 ghost use Rattle.dw_links.specs.Strings.{StringFailures};
 
 use crate::contribution::named_contribution;
-use crate::rules::{AttributeRules, check_entry, fault_of};
-use crate::string_rules::{StringEnds, UnitTexts, ask_offset, string_ends};
+use crate::faults::{broken_at, fault_of};
+use crate::string_rules::{StringEnds, UnitTexts, string_ends};
 use dw_entries::constants::*;
-use dw_entries::{Broken, Entries, Fault, Head, Rule};
-use dw_forms::{Attribute, AttributeSpec, Form, Value};
+use dw_entries::{Broken, Entries, EntryAt, Fault};
+use dw_forms::{Attribute, Value};
 use std::alloc::Global;
-
-/// Whether an attribute is the base of a contribution.
-#[inline]
-fn is_base(attribute: Attribute) -> bool
-    ensures { OnFalse result ((attribute ≡ DW_AT_str_offsets_base) ⊎ (attribute ≡ DW_AT_addr_base) → ⊥) }
-{
-    attribute == DW_AT_str_offsets_base || attribute == DW_AT_addr_base
-}
-
-impl AttributeRules for UnitTexts<'_> {
-    ghost use Rattle.dw_links.specs.Ready.{IsReady, FailsByTexts};
-
-    ghost may_ask = { λ texts _. IsReady texts };
-
-    ghost fails = { FailsByTexts };
-
-    #[inline]
-    fn concerns(&self, spec: &AttributeSpec) -> bool {
-        match spec.form {
-            Form::SecOffset => is_base(spec.attribute),
-            form => form.may_lead_out(),
-        }
-    }
-
-    // Strings, addresses and bases take bytes.
-    #[tactic(auto, using(crate::proofs::StringLaws::stops_only))]
-    fn keeps_to_stops(&self) {}
-
-    #[inline(always)]
-    fn ask(&self, head: &Head, attribute: Attribute, value: &Value<'_>) -> Option<Rule> {
-        match *value {
-            Value::Str(offset) => ask_offset(self.sections.str, self.ends.str, offset),
-            Value::LineStr(offset) => ask_offset(
-                self.sections.line_str,
-                self.ends.line_str,
-                offset,
-            ),
-            Value::StrIndex(index) => self.ask_string(index),
-            Value::AddrIndex(index) => self.ask_address(index),
-            Value::SecOffset(base) if head.parent.is_none() && self.header.kind.version() != 4 => {
-                self.ask_base(attribute, base)
-            }
-            _ => None,
-        }
-    }
-}
 
 /// The base that a unit's first entry gives to a contribution.
 pub(crate) fn base_in_unit(
@@ -95,12 +48,14 @@ pub fn read_texts<'a>(entries: &Entries<'a>, ends: StringEnds, number: usize) ->
     ensures unit { result.unit ≡ number }
 {
     let sections = *entries.sections();
-    let header = entries.unit(number).header;
+    let unit = entries.unit(number);
+    let header = unit.header;
     let strings = base_in_unit(entries, number, DW_AT_str_offsets_base);
     let addresses = base_in_unit(entries, number, DW_AT_addr_base);
     let size = header.address_size;
     UnitTexts {
         unit: number,
+        at: unit.offset,
         sections,
         header,
         strings: named_contribution(sections.str_offsets, 4, 0, strings),
@@ -127,6 +82,24 @@ pub fn keep_texts<'a>(
     if next != texts.unit {
         *texts = read_texts(entries, ends, next);
     }
+}
+
+/// The first failure of the rules on strings and addresses at an entry.
+fn check_entry(texts: &UnitTexts<'_>, entry: &EntryAt<'_, '_>) -> Result<(), Broken>
+    requires found { IsSome entry.now }
+    requires ready { IsReady texts.now }
+    ensures ok { OnOk result (PassesAt entry.now (AtHead (FailsByTexts texts.now))) }
+    ensures err { IfErr result (FailsAt entry.now (AtHead (FailsByTexts texts.now))) }
+{
+    let head = entry.head();
+    let mut leading = entry.leading();
+    while let Some(form) = leading.form() {
+        let item = leading.next_in(form);
+        if let Some(rule) = texts.ask(&head, item.0, &item.1) {
+            return Err(broken_at(&head, item.0, rule));
+        }
+    }
+    Ok(())
 }
 
 /// The first failure of the rules on strings and addresses.

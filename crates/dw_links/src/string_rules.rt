@@ -2,13 +2,14 @@
 
 ghost use Rattle.dw_links.specs.Contributions.{IsEndOfStrings, base_of};
 ghost use Rattle.dw_links.specs.Strings.{OffsetFails, BaseFails, StringIndexFails, AddressIndexFails};
-ghost use Rattle.dw_links.specs.Ready.{AreEnds, IsReady};
+ghost use Rattle.dw_forms.specs.Value.{view};
+ghost use Rattle.dw_links.specs.Ready.{AreEnds, IsReady, FailsByTexts};
 ghost use Rattle.dw_entries.specs.Failures.{IsLeast};
 
 use crate::contribution::{Contribution, end_of_strings, number, read_contribution};
 use dw_elf::Sections;
 use dw_entries::constants::*;
-use dw_entries::{Attribute, Rule, UnitHeader};
+use dw_entries::{Attribute, Head, Rule, UnitHeader, Value};
 
 /// Where the strings of the two sections end.
 #[derive(Clone, Copy)]
@@ -47,6 +48,8 @@ pub fn ask_offset(section: &[u8], end: usize, offset: u32) -> Option<Rule>
 pub struct UnitTexts<'a> {
     /// The number of the unit.
     pub unit: usize,
+    /// Where its header starts in .debug_info.
+    pub at: u32,
     pub sections: Sections<'a>,
     pub header: UnitHeader,
     pub strings: Contribution,
@@ -120,6 +123,28 @@ impl UnitTexts<'_> {
                     Some(Rule::AddrIndex)
                 }
             }
+        }
+    }
+
+    /// The rule on strings and addresses that fails at an attribute.
+    #[inline(always)]
+    pub fn ask(&self, head: &Head, attribute: Attribute, value: &Value<'_>) -> Option<Rule>
+        requires { IsReady self.now }
+        ensures { IsLeast (FailsByTexts self.now head.now attribute (view value.now)) result }
+    {
+        match *value {
+            Value::Str(offset) => ask_offset(self.sections.str, self.ends.str, offset),
+            Value::LineStr(offset) => ask_offset(
+                self.sections.line_str,
+                self.ends.line_str,
+                offset,
+            ),
+            Value::StrIndex(index) => self.ask_string(index),
+            Value::AddrIndex(index) => self.ask_address(index),
+            Value::SecOffset(base) if head.parent.is_none() && self.header.kind.version() != 4 => {
+                self.ask_base(attribute, base)
+            }
+            _ => None,
         }
     }
 }

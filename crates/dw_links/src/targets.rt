@@ -20,7 +20,7 @@ fn entry_from_start(entries: &Entries<'_>, offset: u32) -> Option<EntryId>
 
 /// The entry that begins so far behind the first byte of a unit's header.
 #[inline(always)]
-fn entry_from_header(entries: &Entries<'_>, unit: usize, offset: u64) -> Option<EntryId>
+pub(crate) fn entry_from_header(entries: &Entries<'_>, unit: usize, offset: u64) -> Option<EntryId>
     requires { unit < length (units_of entries.now.scanned) }
     ensures { result ≡ reach_in_unit (all_entries entries.now.scanned) (all_units entries.now.scanned) unit offset }
 {

@@ -4,7 +4,7 @@ use dw_elf::Sections;
 use dw_entries::constants::*;
 use dw_entries::{EntryId, scan};
 use dw_forms::Attribute;
-use dw_links::{Links, check_classes, check_strings, link};
+use dw_links::{Links, link};
 use std::test::Fail;
 
 /// A compile_unit with both bases, and entries with values in each form of a reference, a string and an address.
@@ -108,12 +108,6 @@ fn values_lead_somewhere(rt: HostRuntime) -> Result<(), Fail> {
     };
     let Ok(entries) = scan(rt.alloc(), &sections) else {
         return Err("no entries".into());
-    };
-    let Ok(()) = check_classes(rt.alloc(), &entries) else {
-        return Err("a class".into());
-    };
-    let Ok(()) = check_strings(rt.alloc(), &entries) else {
-        return Err("a string".into());
     };
     let Ok(links) = link(rt.alloc(), &entries) else {
         return Err("a fault".into());

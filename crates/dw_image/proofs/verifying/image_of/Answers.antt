@@ -1,17 +1,13 @@
-use Rattle.std.proofs.Common.{subst}
 use Rattle.std.proofs.lemmas.Result.{err_from_is_err_and}
 use Rattle.dw_entries.proofs.StopLaws.{faulty_weaker}
-use Rattle.dw_image.specs.Headline.{IsFaultOf}
-use Rattle.dw_image.proofs.AskLemmas.{wrong_type}
+use Rattle.dw_image.proofs.AskLemmas.{wrong_link, wrong_type}
 use Rattle.dw_image.proofs.JoinLemmas.{image_of}
 use Rattle.dw_image.proofs.verifying.image_of.Goals as goal
 
 pub returns-in_err-links-clause-fault : goal.returns-in_err-links-clause-fault
 returns-in_err-links-clause-fault c =
     let p = err_from_is_err_and c.from_residual-in_err-links.result c.from_residual-in_err-links.ensures.1 in
-    rw (p.1, p.2) (faulty_weaker c.in_err-links.field-0.0
-    (λ fault. subst (λ s. IsFaultOf s fault) c.in_ok-entries.ensures.same)
-    c.in_err-links.ensures.fault)
+    rw (p.1, p.2) (faulty_weaker c.in_err-links.field-0.0 (λ fault. wrong_link c.args.sections c.in_ok-entries.entries fault c.in_ok-entries.ensures.same) c.in_err-links.ensures.fault)
 
 pub returns-in_err-sizes-clause-fault : goal.returns-in_err-sizes-clause-fault
 returns-in_err-sizes-clause-fault c =

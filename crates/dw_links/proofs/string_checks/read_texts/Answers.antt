@@ -11,14 +11,14 @@ use Rattle.dw_links.proofs.string_checks.read_texts.Goals as goal
 pub named_contribution-requires-2 : goal.named_contribution-requires-2
 named_contribution-requires-2 c =
     let us = units_of c.args.entries.now.scanned in
-    let (p, is, told) = unit_there us c.args.number c.unit.result c.requires.number c.unit.ensures in
+    let (p, is, told) = unit_there us c.args.number c.unit-unit.result c.requires.number c.unit-unit.ensures in
     let same = ap (λ (x : UnitHead). x.header.address_size) told in
     omega (arith, same, size_above _ (sized _ _ us c.args.number p c.args.entries.now.scanned.1.spells c.requires.number is))
 
 pub returns-clause-texts : goal.returns-clause-texts
 returns-clause-texts c =
     let us = units_of c.args.entries.now.scanned in
-    let (p, is, told) = unit_there us c.args.number c.unit.result c.requires.number c.unit.ensures in
+    let (p, is, told) = unit_there us c.args.number c.unit-unit.result c.requires.number c.unit-unit.ensures in
     let same = ap (λ (x : UnitHead). x.header.address_size) told in
     record {
       ready = record {
@@ -31,6 +31,7 @@ returns-clause-texts c =
       same_sections = c.sections-sections.ensures;
       place = p;
       in_unit = is;
+      at = ap (λ (x : UnitHead). x.offset) told;
       header = ap (λ (x : UnitHead). x.header) told;
       strings = c.named_contribution.ensures.base ∙ c.base_in_unit-strings.ensures p is;
       addresses = c.named_contribution-2.ensures.base ∙ c.base_in_unit-addresses.ensures p is;

@@ -1,0 +1,19 @@
+use Rattle.std.proofs.Common.{inl, sym, subst}
+use Rattle.dw_entries.specs.Failures.{IsFirst}
+use Rattle.dw_entries.specs.Scanned.{units_of}
+use Rattle.dw_entries.specs.Views.{sections_of}
+use Rattle.dw_links.specs.References.{ReferenceFailures}
+use Rattle.dw_links.specs.Strings.{StringFailures}
+use Rattle.dw_links.proofs.linking.stop_of.Goals as goal
+
+pub returns-in-String : goal.returns-in-String
+returns-in-String c = record {
+  holds = inl (subst (IsFirst (StringFailures (sections_of c.args.entries.now) (units_of c.args.entries.now.scanned))) (sym c.fault_of.ensures.broken) (rw c.in-String.is at c.requires));
+  cycle = c.fault_of.ensures.cycle;
+}
+
+pub strings_first-requires : goal.strings_first-requires
+strings_first-requires c = record {
+  holds = subst (IsFirst (ReferenceFailures (units_of c.args.entries.now.scanned))) (sym c.fault_of-in-Reference.ensures.broken) (rw c.in-Reference.is at c.requires);
+  cycle = c.fault_of-in-Reference.ensures.cycle;
+}

@@ -1,0 +1,126 @@
+//! The rule on classes: by declarations, and where one of these leaves a class open, by values.
+
+ghost use Rattle.std.specs.Prelude.{◌≡◌, ◌<◌, List, Some, length, slice_get, IsSome, OnOk, IfErr};
+ghost use Rattle.std.specs.Bool.{OnFalse};
+ghost use Rattle.dw_forms.specs.Value.{view};
+ghost use Rattle.dw_entries.specs.Entries.{Entry, PlacedUnit};
+ghost use Rattle.dw_entries.specs.Scanned.{all_entries, all_units, units_of};
+ghost use Rattle.dw_entries.specs.Lookups.{entry_head};
+ghost use Rattle.dw_entries.specs.Failures.{HasNone, IsFirst, IsLeast, IsPlainFault};
+ghost use Rattle.dw_links.specs.Classes.{ClassFails, ClassFailures};
+ghost use Rattle.dw_links.specs.Concerns.{AtHead, Passes, AllPass, PassesAt, FailsAt};
+
+use crate::class::{class_of_form, class_of_value, is_allowed, is_allowed_in};
+use crate::faults::{broken_at, fault_of};
+use dw_entries::{Broken, Entries, EntryAt, EntryId, Fault, Head, Rule};
+use dw_forms::{Attribute, AttributeSpec, Value};
+use std::alloc::Global;
+
+/// Whether a value that is declared so may have none of its attribute's classes.
+fn is_open(spec: &AttributeSpec) -> bool
+    ensures { OnFalse result ((units : List PlacedUnit) → Passes (ClassFails units) spec.now) }
+{
+    match class_of_form(spec.form) {
+        Some(class) if is_allowed(spec.attribute, class) => false,
+        _ => true,
+    }
+}
+
+/// Whether a value of a declaration's attributes may have none of its classes.
+fn is_any_open(specs: &[AttributeSpec]) -> bool
+    ensures { OnFalse result ((units : List PlacedUnit) → AllPass (ClassFails units) specs.now) }
+{
+    for spec in specs {
+        if is_open(spec) {
+            return true;
+        }
+    }
+    false
+}
+
+/// Whether a value of any entry may have none of its classes, by the declarations alone.
+fn leave_open(entries: &Entries<'_>) -> bool
+    ensures { OnFalse result (HasNone (ClassFailures (units_of entries.now.scanned))) }
+{
+    for kept in entries.decls() {
+        if is_any_open(kept.decl.attributes.as_slice()) {
+            return true;
+        }
+    }
+    false
+}
+
+/// The rule on classes, if it fails at an attribute.
+fn ask_class(
+    entries: &Entries<'_>,
+    head: &Head,
+    attribute: Attribute,
+    value: &Value<'_>,
+) -> Option<Rule>
+    requires { head.now.unit < length (units_of entries.now.scanned) }
+    ensures { IsLeast (ClassFails (all_units entries.now.scanned) head.now attribute (view value.now)) result }
+{
+    let version = entries.unit(head.unit).header.kind.version();
+    if is_allowed_in(version, attribute, class_of_value(value)) {
+        None
+    } else {
+        Some(Rule::WrongClass)
+    }
+}
+
+/// The first attribute of an entry whose value has none of its classes.
+fn check_values(entries: &Entries<'_>, entry: &EntryAt<'_, '_>) -> Result<(), Broken>
+    requires found { IsSome entry.now }
+    requires in_unit { (e : Entry) → entry.now ≡ Some e → e.unit < length (units_of entries.now.scanned) }
+    ensures ok { OnOk result (PassesAt entry.now (AtHead (ClassFails (all_units entries.now.scanned)))) }
+    ensures err { IfErr result (FailsAt entry.now (AtHead (ClassFails (all_units entries.now.scanned)))) }
+{
+    let head = entry.head();
+    let mut values = entry.values();
+    while let Some(item) = values.next() {
+        if let Some(rule) = ask_class(entries, &head, item.0, &item.1) {
+            return Err(broken_at(&head, item.0, rule));
+        }
+    }
+    Ok(())
+}
+
+/// The same of the entry with this number. Its values are read only if its declaration leaves their classes open.
+fn check_entry(entries: &Entries<'_>, id: EntryId) -> Result<(), Broken>
+    requires { id < length (all_entries entries.now.scanned) }
+    ensures ok { OnOk result (PassesAt (slice_get (all_entries entries.now.scanned) id)
+        (AtHead (ClassFails (all_units entries.now.scanned)))) }
+    ensures err { IfErr result (FailsAt (slice_get (all_entries entries.now.scanned) id)
+        (AtHead (ClassFails (all_units entries.now.scanned)))) }
+{
+    if !is_any_open(entries.decl(id).attributes.as_slice()) {
+        return Ok(());
+    }
+    check_values(entries, &entries.at(id))
+}
+
+/// The first attribute of all entries whose value has none of its classes.
+fn first_failure(entries: &Entries<'_>) -> Result<(), Broken>
+    ensures ok { OnOk result (HasNone (ClassFailures (units_of entries.now.scanned))) }
+    ensures err { IfErr result (IsFirst (ClassFailures (units_of entries.now.scanned))) }
+{
+    for number in 0..entries.count() {
+        check_entry(entries, entries.id(number))?;
+    }
+    Ok(())
+}
+
+/// Finds the first attribute whose value has none of its classes: the fault `WrongClass` at the entry's offset.
+/// Nothing grows, so there is no want of memory.
+pub fn check_classes(alloc: Global, entries: &Entries<'_>) -> Result<(), Fault>
+    ensures ok { OnOk result (HasNone (ClassFailures (units_of entries.now.scanned))) }
+    ensures fault { IfErr result (IsPlainFault (IsFirst (ClassFailures (units_of entries.now.scanned)))) }
+{
+    if !leave_open(entries) {
+        return Ok(());
+    }
+    match first_failure(entries) {
+        Ok(()) => Ok(()),
+        Err(broken) => Err(fault_of(alloc, broken)),
+    }
+}
