@@ -20,8 +20,6 @@ pub mod EndLemmas
 pub mod PackingLemmas
 pub mod CapLemmas
 pub mod StepLemmas
-pub mod StepListLemmas
-pub mod StepPlaceLemmas
 pub mod RowLemmas
 pub mod RoleLemmas
 pub mod UnaskedLemmas

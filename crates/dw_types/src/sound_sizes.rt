@@ -2,10 +2,7 @@
 
 ghost use Rattle.std.specs.Prelude.{◌≡◌, ◌<◌, ◌≤◌, ◌^◌, ℕ, true, Some, length, All, IfOk, IfSome, OnOk};
 ghost use Rattle.dw_entries.specs.Failures.{HasNone};
-ghost use Rattle.dw_entries.specs.Scanned.{all_entries, units_of};
-ghost use Rattle.dw_links.specs.Tables.{AreTables};
 ghost use Rattle.dw_types.specs.Entries.{ParentsComeFirst, TargetsAreEntries};
-ghost use Rattle.dw_types.specs.FactsOf.{facts_in};
 ghost use Rattle.dw_types.specs.Graphs.{HasNoCycle};
 ghost use Rattle.dw_types.specs.Measuring.{AreMeasured, IsMeasurable, IsMeasured, KeepsMeasured};
 ghost use Rattle.dw_types.specs.Shapes.{ShapeFailures};
@@ -13,7 +10,6 @@ ghost use Rattle.dw_types.specs.SizeFaults.{SizeFailures};
 ghost use Rattle.dw_types.specs.Sizes.{IsSizeTable};
 ghost use Rattle.dw_types.specs.SizeTables.{size_at};
 ghost use Rattle.dw_types.specs.Steps.{by_value};
-ghost use Rattle.dw_types.specs.UnitsRead.{all_unit_facts};
 
 use crate::facts_at::FactsAt;
 use crate::facts_list::{FactsCursor, FactsList};
@@ -22,9 +18,6 @@ use crate::measured::MeasuredSizes;
 use crate::parts::{elements_of, members_fit, passes_alone};
 use crate::size_line::capped_size;
 use crate::size_table::SizeTable;
-use crate::unit_facts::UnitFacts;
-use dw_entries::Entries;
-use dw_links::LinkTables;
 use std::alloc::{AllocError, Global};
 
 /// The size of an entry, or none.
@@ -233,27 +226,3 @@ fn measure_all(alloc: Global, entries: &FactsList<'_, '_>) -> Result<Option<Size
     Ok(Some(done.into_sizes()))
 }
 
-/// The one table of sizes, if a walk finds that no rule on types fails. The tables and what is read of units are those
-/// of the same entries.
-pub fn sizes_if_sound(
-    alloc: Global,
-    entries: &Entries<'_>,
-    tables: &LinkTables,
-    units: &[UnitFacts],
-) -> Result<Option<SizeTable>, AllocError>
-    requires tables { AreTables entries.now tables.now }
-    requires units { units.now ≡ all_unit_facts (units_of entries.now.scanned) }
-    ensures shapes { IfOk result (λ found. IfSome found
-        (λ _. HasNone (ShapeFailures (facts_in (units_of entries.now.scanned))))) }
-    ensures contained { IfOk result (λ found. IfSome found
-        (λ _. HasNoCycle (by_value (facts_in (units_of entries.now.scanned))))) }
-    ensures long { IfOk result (λ found. IfSome found
-        (λ table. length table ≡ length (all_entries entries.now.scanned))) }
-    ensures only { IfOk result (λ found. IfSome found
-        (λ table. IsSizeTable (facts_in (units_of entries.now.scanned)) (size_at table))) }
-    ensures sizes { IfOk result (λ found. IfSome found
-        (λ table. HasNone (SizeFailures (facts_in (units_of entries.now.scanned)) (size_at table)))) }
-{
-    let facts = FactsList::new(entries, tables, units);
-    measure_all(alloc, &facts)
-}
