@@ -29,4 +29,4 @@ pub mod RanksListed
 pub mod ElementCounts
 pub mod CappedSizes
 pub mod StoredSizes
-pub mod Measuring
+pub mod Noted
