@@ -24,11 +24,11 @@ pub mod RowLemmas
 pub mod RoleLemmas
 pub mod UnaskedLemmas
 pub mod FirstLemmas
+pub mod NotedLemmas
 pub mod ElementCountLemmas
 pub mod TableLemmas
 pub mod SizeLineLemmas
 pub mod SizeFaultLemmas
-pub mod MeasuredLemmas
 pub mod OneTableLemmas
-pub mod SoundLemmas
+pub mod SizingLemmas
 pub mod PartStepLemmas

@@ -31,5 +31,4 @@ pub mod RanksListed
 pub mod ElementCounts
 pub mod CappedSizes
 pub mod StoredSizes
-pub mod Measuring
 pub mod Noted

@@ -12,25 +12,3 @@ size_in (suc n) = Some n
 -- the sizes that numbers represent
 abbrev pub sizes_in : List ℕ → List Size
 sizes_in numbers = map size_in numbers
-
--- the count of elements that is stored in the place of a size
-abbrev pub count_at_size : Size → ElementCount
-count_at_size None = NoDimension
-count_at_size (Some zero) = Unknown
-count_at_size (Some (suc n)) = Known n
-
--- the count of elements that a number represents
-abbrev pub count_in : ℕ → ElementCount
-count_in zero = NoDimension
-count_in (suc zero) = Unknown
-count_in (suc (suc n)) = Known n
-
--- the counts that numbers represent
-abbrev pub counts_in : List ℕ → List ElementCount
-counts_in numbers = map count_in numbers
-
--- a count that a number of 64 bits represents
-abbrev pub IsStorable : ElementCount → Type 0
-IsStorable NoDimension = Unit {0}
-IsStorable (Known n) = n < 2 ^ 64 - 2
-IsStorable Unknown = Unit {0}

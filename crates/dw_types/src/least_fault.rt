@@ -1,12 +1,10 @@
 //! The failing entry of the least number among those that a pass over entries finds.
 
-ghost use Rattle.std.specs.Prelude.{◌≡◌, ◌<◌, ◌⊎◌, ℕ, Bool, true, None, length, IfErr, IfSome, IsSomeAnd, OnOk};
+ghost use Rattle.std.specs.Prelude.{◌≡◌, ◌<◌, None, length, IfErr, IfSome, IsSomeAnd, OnOk};
 ghost use Rattle.dw_entries.specs.declared.fault.Section.TheVariants.{Info as InInfo};
-ghost use Rattle.dw_entries.specs.declared.rule.Rule.{Rule as RuleOf};
-ghost use Rattle.dw_entries.specs.Failures.{IsLeast};
 ghost use Rattle.dw_entries.specs.Stopped.{IfFault};
 ghost use Rattle.dw_types.specs.Entries.{entry_of};
-ghost use Rattle.dw_types.specs.Noted.{IsNoted};
+ghost use Rattle.dw_types.specs.Noted.{with_rule};
 
 use crate::facts_list::FactsList;
 use crate::fault::fault_at_entry;
@@ -30,8 +28,7 @@ impl LeastFault {
     /// Notes the least rule that an entry breaks, if it breaks one.
     #[inline(always)]
     pub(crate) fn note(&mut self, node: usize, rule: Option<Rule>)
-        ensures { (fails : ℕ → RuleOf → Bool) (Seen : ℕ → Type 0) → IsLeast (λ r. fails node r ≡ true) rule
-            → IsNoted fails Seen self.old.found → IsNoted fails (λ k. Seen k ⊎ (k ≡ node)) self.new.found }
+        ensures { self.new.found ≡ with_rule self.old.found node rule }
     {
         let Some(rule) = rule else {
             return;
