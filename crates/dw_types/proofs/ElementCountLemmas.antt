@@ -9,15 +9,11 @@ use Rattle.std.proofs.Math.Nat.{mul_assoc}
 use Rattle.dw_types.specs.declared.facts.Facts.{Facts}
 use Rattle.dw_types.specs.declared.element_count.ElementCount.{ElementCount}
 use Rattle.dw_types.specs.declared.element_count.ElementCount.TheVariants.{NoDimension, Known, Unknown}
-use Rattle.dw_types.specs.ElementCounts.{element_count_by, element_count_from, grown, is_index, with_child, children_before}
+use Rattle.dw_types.specs.ElementCounts.{element_count_by, element_count_from, grown, with_child}
 use Rattle.dw_types.specs.Entries.{entry_of, is_parent, is_child, children}
-use Rattle.dw_types.specs.Orders.{Ranking}
 use Rattle.dw_types.specs.SizeTables.{Size, cap_size, size_at}
-use Rattle.dw_types.specs.StoredSizes.{count_at_size}
 use Rattle.dw_types.specs.Sizes.{is_subrange, is_other_index, has_stride, factor_of, product_of, times, has_elements}
 use Rattle.dw_types.proofs.CapLemmas.{cap-product}
-use Rattle.dw_types.proofs.ListLemmas.{at_set}
-use Rattle.dw_types.proofs.RowLemmas.{range-more}
 
 times-assoc : (a b c : Size) → times (times a b) c ≡ times a (times b c)
 times-assoc None b c = refl

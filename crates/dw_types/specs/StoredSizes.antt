@@ -1,7 +1,5 @@
--- State: sizes and counts of elements as they are stored, in one number each.
-use Rattle.std.specs.Prelude.{ℕ, ◌^◌, ◌-◌, ◌<◌, suc, zero, List, None, Some, map}
-use Rattle.dw_types.specs.declared.element_count.ElementCount.{ElementCount}
-use Rattle.dw_types.specs.declared.element_count.ElementCount.TheVariants.{NoDimension, Known, Unknown}
+-- State: sizes as they are stored, in one number each.
+use Rattle.std.specs.Prelude.{ℕ, suc, zero, List, None, Some, map}
 use Rattle.dw_types.specs.SizeTables.{Size}
 
 -- the size that a number represents: none for 0, or the number before it
