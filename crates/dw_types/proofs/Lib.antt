@@ -21,7 +21,6 @@ pub mod PackingLemmas
 pub mod CapLemmas
 pub mod StepLemmas
 pub mod RowLemmas
-pub mod RoleLemmas
 pub mod UnaskedLemmas
 pub mod FirstLemmas
 pub mod NotedLemmas
@@ -32,3 +31,4 @@ pub mod SizeFaultLemmas
 pub mod OneTableLemmas
 pub mod SizingLemmas
 pub mod PartStepLemmas
+pub mod ShapeLemmas

@@ -22,7 +22,6 @@ pub mod Held
 -- State.
 pub mod FactsAsked
 pub mod UnitsRead
-pub mod Roles
 pub mod Packing
 pub mod ShapesSeen
 pub mod WalkStates

@@ -21,7 +21,6 @@ mod numbers;
 mod ordering;
 mod packed;
 mod ranking;
-mod roles;
 mod shapes;
 mod size_fault;
 mod size_line;

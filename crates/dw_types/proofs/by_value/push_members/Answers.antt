@@ -3,8 +3,8 @@ use Rattle.std.specs.List.{flat_map}
 use Rattle.dw_types.specs.Steps.{part_step}
 use Rattle.dw_types.proofs.PartStepLemmas.{part-none, part-some, parts-push}
 use Rattle.dw_types.proofs.PassedLemmas.{HasPassed, passed-more, passed-none}
-use Rattle.dw_types.proofs.step_rows.push_parts.Goals as goal
-use Rattle.dw_types.proofs.step_rows.push_parts.Goals.{then-is_plain+in_ok-push_to, else-is_plain}
+use Rattle.dw_types.proofs.by_value.push_members.Goals as goal
+use Rattle.dw_types.proofs.by_value.push_members.Goals.{then-is_plain+in_ok-push_to, else-is_plain}
 
 pub loop-next-init : goal.loop-next-init
 loop-next-init c =

@@ -5,7 +5,7 @@ use Rattle.dw_types.specs.Entries.{entry_of}
 use Rattle.dw_types.specs.Kinds.{has_members}
 use Rattle.dw_types.specs.Steps.{steps_by_value}
 use Rattle.dw_types.proofs.PartStepLemmas.{members-row, own-row, untyped-row}
-use Rattle.dw_types.proofs.step_rows.push_row.Goals as goal
+use Rattle.dw_types.proofs.by_value.push_row.Goals as goal
 
 pub returns-then-not-is_type-clause-steps : goal.returns-then-not-is_type-clause-steps
 returns-then-not-is_type-clause-steps c =

@@ -4,7 +4,7 @@ use Rattle.dw_types.specs.Steps.{by_value}
 use Rattle.dw_types.proofs.PackingLemmas.{packs-more}
 use Rattle.dw_types.proofs.PartStepLemmas.{leads-row}
 use Rattle.dw_types.proofs.StepLemmas.{by_value-at, length-by_value}
-use Rattle.dw_types.proofs.step_rows.pack_rows.Goals as goal
+use Rattle.dw_types.proofs.by_value.ByValue.of_facts.Goals as goal
 
 pub loop-node-preserved : goal.loop-node-preserved
 loop-node-preserved c =
