@@ -1,24 +1,29 @@
 -- The entries whose shapes a pass over entries has seen, and what is noted of them.
 use Rattle.std.proofs.Common.{◌≡◌, ◌≢◌, ℕ, suc, zero, ◌+◌, ◌<◌, ◌≤◌, ◌⊎◌, inl, inr, Bool, true, false, ◌||◌, List, [], ◌∷◌, ◌++◌, Option, Some, None, length, refl, sym, subst, ap, ◌∙◌, arith, append-nil}
-use Rattle.std.specs.Prelude.{All, Contains}
+use Rattle.std.specs.Prelude.{All, Contains, IfSome, IsSomeAnd}
 use Rattle.std.proofs.lemmas.Bool.{cases_lt, eqb-true, false≢true, or_parts, true≢false}
+use Rattle.std.proofs.lemmas.List.{get_or_past}
 use Rattle.std.proofs.lemmas.List.Elements.{All-contains, Contains-append_cases, Contains-append_left, Contains-append_right}
 use Rattle.dw_entries.specs.declared.rule.Rule.{Rule}
 use Rattle.dw_entries.specs.declared.rule.Rule.TheVariants.{MissingType, BadCount}
-use Rattle.dw_entries.specs.Failures.{IsLeast}
+use Rattle.dw_entries.specs.Failures.{HasNone, IsFirst, IsLeast}
+use Rattle.dw_entries.specs.declared.fault.Stop.{Stop}
+use Rattle.dw_entries.specs.declared.fault.Stop.TheVariants.{Fault, Memory}
+use Rattle.dw_entries.specs.Stopped.{IfFault}
 use Rattle.dw_forms.specs.Codes.{DW_TAG_array_type, is_type_tag}
 use Rattle.dw_types.specs.declared.facts.Facts.{Facts}
 use Rattle.dw_types.specs.declared.kind.Role.{Role}
 use Rattle.dw_types.specs.declared.kind.Role.TheVariants.{Other}
 use Rattle.dw_types.specs.Children.{IsChildOf}
-use Rattle.dw_types.specs.Entries.{children, entry_of, ParentsComeFirst}
+use Rattle.dw_types.specs.Entries.{children, entry_of, no_entry, OffsetsRise, ParentsComeFirst}
 use Rattle.dw_types.specs.Kinds.{has_members, is_array, parent_role, role_in, role_of}
 use Rattle.dw_types.specs.Noted.{IsNoted, with_rule}
-use Rattle.dw_types.specs.Shapes.{breaks_shape, fails_shape}
+use Rattle.dw_types.specs.Shapes.{breaks_shape, fails_shape, ShapeFailures}
 use Rattle.dw_types.specs.ShapesSeen.{has_parts, HasSeenArray, HasSeenShapes, array, part}
 use Rattle.dw_types.specs.TypeFailures.{PassesAt}
+use Rattle.dw_types.proofs.FirstLemmas.{broken_at, first-of_entries, none-of_entries}
 use Rattle.dw_types.proofs.MeasurableLemmas.{child-in, counted-other, other-role, plain-other}
-use Rattle.dw_types.proofs.NotedLemmas.{noted-more, noted-same}
+use Rattle.dw_types.proofs.NotedLemmas.{noted-first, noted-more, noted-none, noted-pass, noted-same}
 use Rattle.dw_types.proofs.UnaskedLemmas.{untyped-array, untyped-members}
 
 -- the least rule that fails
@@ -53,14 +58,25 @@ other-shape entry array _ breaks = false≢true breaks
 other-passes : (entries : List Facts) (node : ℕ) → is_array (entry_of entries node) ≡ false → parent_role entries node ≡ Other → PassesAt (fails_shape entries) node
 other-passes entries node array role = λ rule breaks. other-shape (entry_of entries node) array rule (rw role at breaks)
 
+-- an array has no members
+
+pub array-no_members : (entry : Facts) → is_array entry ≡ true → has_members entry ≡ false
+array-no_members entry is = let tag : entry.tag ≡ DW_TAG_array_type = eqb-true entry.tag DW_TAG_array_type is in rw tag refl
+
+pub members-no_array : (entry : Facts) → has_members entry ≡ true → is_array entry ≡ true → ⊥
+members-no_array entry has is = true≢false (sym has ∙ array-no_members entry is)
+
 -- what has been seen
 
 module _ (entries : List Facts) (count : ℕ) where
-  pub seen-inside : count ≤ length entries → (k : ℕ) → HasSeenShapes entries count k → k < length entries
-  seen-inside within k (array below is) = omega arith
-  seen-inside within k (part parent below has of) = of.inside
+  pub seen-inside : (k : ℕ) → HasSeenShapes entries count k → k < length entries
+  seen-inside k (array below is) = elim (cases_lt k (length entries)) [
+    | inl inside ↦ inside
+    | inr past ↦ let none = get_or_past entries k no_entry past in absurd (false≢true (rw none at is))
+  ]
+  seen-inside k (part parent below has of) = of.inside
 
-  seen-later : (k : ℕ) → HasSeenShapes entries count k → HasSeenShapes entries (count + 1) k
+  pub seen-later : (k : ℕ) → HasSeenShapes entries count k → HasSeenShapes entries (count + 1) k
   seen-later k (array below is) = array (omega arith) is
   seen-later k (part parent below has of) = part parent (omega arith) has of
 
@@ -128,25 +144,46 @@ module _ (fails : ℕ → Rule → Bool) (Before : ℕ → Type 0) where
 
 -- all entries
 
-module _ (entries : List Facts) (parents : ParentsComeFirst entries) where
-  seen-by_parent : (node : ℕ) → node < length entries → is_array (entry_of entries node) ≡ false → (parent : Option ℕ) → (entry_of entries node).parent ≡ parent
-      → HasSeenShapes entries (length entries) node ⊎ PassesAt (fails_shape entries) node
-  seen-by_parent node below array None is = inr (other-passes entries node array (ap (role_in entries) is))
-  seen-by_parent node below array (Some p) is = go (has_parts (entry_of entries p)) refl
+module _ (entries : List Facts) (parents : ParentsComeFirst entries) (count : ℕ) (over : length entries ≤ count) where
+  abbrev Covers : ℕ → Type 0
+  Covers node = HasSeenShapes entries count node ⊎ PassesAt (fails_shape entries) node
+
+  covers-by_parent : (node : ℕ) → node < length entries → is_array (entry_of entries node) ≡ false → (parent : Option ℕ) → (entry_of entries node).parent ≡ parent → Covers node
+  covers-by_parent node below array None is = inr (other-passes entries node array (ap (role_in entries) is))
+  covers-by_parent node below array (Some p) is = go (has_parts (entry_of entries p)) refl
     where
-      go : (has : Bool) → has_parts (entry_of entries p) ≡ has → HasSeenShapes entries (length entries) node ⊎ PassesAt (fails_shape entries) node
+      go : (has : Bool) → has_parts (entry_of entries p) ≡ has → Covers node
       go true has = let before = parents node p is in inl (part p (omega arith) has record { inside = below; parent_is = is })
       go false has =
           let none = or_parts (has_members (entry_of entries p)) (is_array (entry_of entries p)) has in
           inr (other-passes entries node array (ap (role_in entries) is ∙ other-role (entry_of entries p) none.0 none.1))
 
   -- each entry is seen, or passes in any case
-  pub seen-all : (node : ℕ) → node < length entries → HasSeenShapes entries (length entries) node ⊎ PassesAt (fails_shape entries) node
-  seen-all node below = go (is_array (entry_of entries node)) refl
+  covers-all : (node : ℕ) → node < length entries → Covers node
+  covers-all node below = go (is_array (entry_of entries node)) refl
     where
-      go : (is : Bool) → is_array (entry_of entries node) ≡ is → HasSeenShapes entries (length entries) node ⊎ PassesAt (fails_shape entries) node
-      go true is = inl (array below is)
-      go false is = seen-by_parent node below is (entry_of entries node).parent refl
+      go : (is : Bool) → is_array (entry_of entries node) ≡ is → Covers node
+      go true is = inl (array (omega arith) is)
+      go false is = covers-by_parent node below is (entry_of entries node).parent refl
+
+  covered : (found : Option (ℕ × Rule)) → IsNoted (fails_shape entries) (HasSeenShapes entries count) found → IsNoted (fails_shape entries) Covers found
+  covered found = noted-pass (fails_shape entries) (HasSeenShapes entries count) (PassesAt (fails_shape entries)) found (λ k passes. passes)
+
+  pub shapes-inside : (found : Option (ℕ × Rule)) → IsNoted (fails_shape entries) (HasSeenShapes entries count) found → IfSome found (λ first. first.0 < length entries)
+  shapes-inside None noted = tt
+  shapes-inside (Some first) noted = seen-inside entries count first.0 noted.seen
+
+  pub shapes-sound : (found : Option (ℕ × Rule)) → found ≡ None → IsNoted (fails_shape entries) (HasSeenShapes entries count) found → HasNone (ShapeFailures entries)
+  shapes-sound None none noted = none-of_entries entries (fails_shape entries) (noted-none (fails_shape entries) Covers entries covers-all (covered None noted))
+  shapes-sound (Some first) none noted = absurd cc
+
+  pub shapes-fault : OffsetsRise entries → (found : Option (ℕ × Rule)) (stop : Stop) → IsNoted (fails_shape entries) (HasSeenShapes entries count) found
+      → IsSomeAnd found (λ first. IfFault (λ broken. broken ≡ broken_at first.1 (entry_of entries first.0).offset) stop) → IfFault (IsFirst (ShapeFailures entries)) stop
+  shapes-fault rise None stop noted fault = absurd cc
+  shapes-fault rise (Some first) Memory noted fault = tt
+  shapes-fault rise (Some first) (Fault f) noted fault =
+      let is = noted-first (fails_shape entries) Covers entries covers-all first (seen-inside entries count first.0 noted.seen) (covered (Some first) noted) in
+      record { holds = rw fault.holds (first-of_entries entries rise (fails_shape entries) first.0 first.1 is); cycle = fault.cycle }
 
 -- an entry that is no type has no parts
 pub untyped-parts : (entry : Facts) → is_type_tag entry.tag ≡ false → has_parts entry ≡ false

@@ -1,6 +1,7 @@
 //! The graph of steps by value: what an entry holds, and so may not hold itself (DWARF 5, chapter 5).
 
-ghost use Rattle.std.specs.Prelude.{◌≡◌, ◌++◌, ◌+◌, ℕ, ◌^◌, ◌<◌, ◌↔◌, true, Some, length, slice_index, IfOk, IfErr, OnOk};
+ghost use Rattle.std.specs.Prelude.{◌≡◌, ◌++◌, ◌+◌, ℕ, ◌^◌, ◌<◌, ◌↔◌, true, false, Some, length, IfOk, IfErr};
+ghost use Rattle.std.specs.Prelude.{OnOk};
 ghost use Rattle.std.specs.List.{flat_map};
 ghost use Rattle.std.specs.Option.{option_to_list};
 ghost use Rattle.dw_entries.specs.Failures.{HasNone, IsFirst};
@@ -109,7 +110,7 @@ fn note_dimensions(cursor: &mut FactsCursor<'_, '_>, least: &mut LeastFault, nod
     }
 }
 
-/// Notes the shape of an array that is no dimension itself, and those of its dimensions.
+/// Notes the shape of an array and those of its dimensions, as far as they fail.
 fn note_array(
     cursor: &mut FactsCursor<'_, '_>,
     least: &mut LeastFault,
@@ -123,10 +124,11 @@ fn note_array(
     ensures same { cursor.new ≡ cursor.old }
     ensures noted { IsNoted (fails_shape cursor.old) (HasSeenShapes cursor.old (node + 1)) least.new.found }
 {
-    if entry.is_array() {
-        least.note(node, entry.broken_shape(Role::Other));
-        note_dimensions(cursor, least, node);
+    if !entry.is_array() {
+        return;
     }
+    least.note(node, entry.broken_shape(Role::Other));
+    note_dimensions(cursor, least, node);
 }
 
 /// Adds the steps of an entry, and notes its shape and those of its members or dimensions, as far as they fail.
@@ -183,6 +185,8 @@ impl ByValue {
         requires rising { OffsetsRise entries.now }
         requires few { length entries.now < 2 ^ 32 }
         ensures graph { IfOk result (λ it. ⟦<ByValue as StepGraph>⟧.graph it ≡ by_value entries.now) }
+        ensures steps { IfOk result (λ it. (from to : ℕ)
+            → IsStep (⟦<ByValue as StepGraph>⟧.graph it) from to ↔ IsStepByValue entries.now from to) }
         ensures types { IfOk result (λ it. it.types ≡ type_count entries.now) }
         ensures sound { OnOk result (HasNone (ShapeFailures entries.now)) }
         ensures fault { IfErr result (IfFault (IsFirst (ShapeFailures entries.now))) }

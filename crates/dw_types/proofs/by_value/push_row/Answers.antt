@@ -1,23 +1,16 @@
 use Rattle.std.proofs.Common.{◌≡◌, ◌++◌, ℕ, List, true, false, append-nil, append_assoc, sym, ap, ◌∙◌}
 use Rattle.std.specs.Option.{option_to_list}
-use Rattle.dw_forms.specs.Codes.{is_type_tag}
 use Rattle.dw_types.specs.Entries.{entry_of}
 use Rattle.dw_types.specs.Kinds.{has_members}
 use Rattle.dw_types.specs.Steps.{steps_by_value}
-use Rattle.dw_types.proofs.PartStepLemmas.{members-row, own-row, untyped-row}
+use Rattle.dw_types.proofs.PartStepLemmas.{members-row, own-row}
 use Rattle.dw_types.proofs.by_value.push_row.Goals as goal
-
-pub returns-then-not-is_type-clause-steps : goal.returns-then-not-is_type-clause-steps
-returns-then-not-is_type-clause-steps c =
-    let entries = c.args.cursor.now in
-    let untyped : is_type_tag (entry_of entries c.args.node).tag ≡ false = rw c.at-entry.ensures.found at (sym c.is_type.ensures ∙ c.if-not-is_type.true) in
-    sym (append-nil c.args.steps.now) ∙ ap (λ (row : List ℕ). c.args.steps.now ++ row) (untyped-row entries c.args.node untyped)
 
 pub returns-then-has_members-clause-steps : goal.returns-then-has_members-clause-steps
 returns-then-has_members-clause-steps c =
     let entries = c.args.cursor.now in
     let members : has_members (entry_of entries c.args.node) ≡ true = rw c.at-entry.ensures.found at (sym c.has_members.ensures ∙ c.if-has_members.true) in
-    rw (← members-row entries c.args.node members) (rw c.at-entry.ensures.same at c.push_parts.ensures.steps)
+    rw (← members-row entries c.args.node members) (rw c.at-entry.ensures.same at c.push_members.ensures.steps)
 
 pub returns-clause-steps : goal.returns-clause-steps
 returns-clause-steps c =
