@@ -40,7 +40,7 @@ use Rattle.dw_types.proofs.SizeFaultLemmas.{and-same}
 use Rattle.dw_types.proofs.SizeLineLemmas.{capped_line, capped_line-local, to-same}
 use Rattle.dw_types.proofs.StepLemmas.{length-by_value, step-from_by_value}
 use Rattle.dw_types.proofs.TableLemmas.{HasFilled, has-filled_all, has-filled_more}
-use Rattle.dw_types.proofs.UnaskedLemmas.{untyped-enumeration, untyped-kind, untyped-size_none}
+use Rattle.dw_types.proofs.UnaskedLemmas.{untyped-enumeration, untyped-kind, untyped-members, untyped-size_none}
 
 -- where the rules are checked at an entry
 
@@ -71,7 +71,7 @@ module _ (entries : List Facts) (k : ℕ) where
 member-untyped : (tag : ℕ) → nat_eq tag DW_TAG_member ≡ true → is_type_tag tag ≡ false
 member-untyped tag is = let same : tag ≡ DW_TAG_member = eqb-true tag DW_TAG_member is in ap is_type_tag same
 
-type-unmember : (tag : ℕ) → is_type_tag tag ≡ true → nat_eq tag DW_TAG_member ≡ false
+pub type-unmember : (tag : ℕ) → is_type_tag tag ≡ true → nat_eq tag DW_TAG_member ≡ false
 type-unmember tag is = false_from_ne_true (nat_eq tag DW_TAG_member) (λ member. false≢true (sym (member-untyped tag member) ∙ is))
 
 unmember-plain : (role : Role) (entry : Facts) → nat_eq entry.tag DW_TAG_member ≡ false → is_plain role entry ≡ false
@@ -273,6 +273,36 @@ asked-noted entries fails Seen node found plain h =
       ]
     ]) h
 
+-- the same, where the members are noted after the others
+
+either-of : (a b : Bool) → (a || b) ≡ true → (a ≡ true) ⊎ (b ≡ true)
+either-of true b is = inl refl
+either-of false b is = inr is
+
+or-left : (a b : Bool) → a ≡ true → (a || b) ≡ true
+or-left true b is = refl
+or-left false b is = absurd (false≢true is)
+
+or-right : (a b : Bool) → b ≡ true → (a || b) ≡ true
+or-right true b is = refl
+or-right false b is = is
+
+pub holder-noted : (entries : List Facts) (fails : ℕ → Rule → Bool) (seen : ℕ → Bool) (node : ℕ) (found new : Option (ℕ × Rule)) → nat_eq (entry_of entries node).tag DW_TAG_member ≡ false
+    → ((other : ℕ → Bool) → IsNoted fails (λ k. other k ≡ true) found → IsNoted fails (λ k. (other k ≡ true) ⊎ (is_member_of entries node k ≡ true)) new)
+    → IsNoted fails (λ k. (seen k ≡ true) ⊎ (k ≡ node)) found → IsNoted fails (λ k. (seen k ≡ true) ⊎ (asked_at entries k ≡ node)) new
+holder-noted entries fails seen node found new plain more h =
+    let both : ℕ → Bool = λ k. seen k || nat_eq k node in
+    let to : (k : ℕ) → (seen k ≡ true) ⊎ (k ≡ node) → both k ≡ true = λ k is. elim is [
+      | inl old ↦ or-left (seen k) (nat_eq k node) old
+      | inr here ↦ or-right (seen k) (nat_eq k node) (eq-eqb k node here)
+    ] in
+    let back : (k : ℕ) → both k ≡ true → (seen k ≡ true) ⊎ (k ≡ node) = λ k is. elim (either-of (seen k) (nat_eq k node) is) [ inl old ↦ inl old | inr here ↦ inr (eqb-true k node here) ] in
+    let after = more both (noted-same fails (λ k. (seen k ≡ true) ⊎ (k ≡ node)) (λ k. both k ≡ true) found to back h) in
+    asked-noted entries fails (λ k. seen k ≡ true) node new plain
+    (noted-same fails (λ k. (both k ≡ true) ⊎ (is_member_of entries node k ≡ true)) (λ k. ((seen k ≡ true) ⊎ (k ≡ node)) ⊎ (is_member_of entries node k ≡ true)) new
+    (λ k is. elim is [ inl before ↦ inl (back k before) | inr member ↦ inr member ])
+    (λ k is. elim is [ inl before ↦ inl (to k before) | inr member ↦ inr member ]) after)
+
 -- a type without plain members was noted: all that is checked at it
 pub alone-noted : (entries : List Facts) (table : ℕ → Size) (Seen : ℕ → Type 0) (node : ℕ) (found : Option (ℕ × Rule)) → OnlyTypesAreSized entries table → has_members (entry_of entries node) ≡ false
     → nat_eq (entry_of entries node).tag DW_TAG_member ≡ false
@@ -290,6 +320,37 @@ alone-noted entries table Seen node found sized not plain h =
       | inl old ↦ inl (inl old)
       | inr asked ↦ elim (asked-of entries k node asked) [ inl here ↦ inl (inr here.0) | inr above ↦ inr above ]
     ]) more
+
+-- all that is checked at an entry that is no type passes
+pub untyped-noted : (entries : List Facts) (table : ℕ → Size) (Seen : ℕ → Type 0) (node : ℕ) (found : Option (ℕ × Rule)) → OnlyTypesAreSized entries table → is_type_tag (entry_of entries node).tag ≡ false
+    → IsNoted (fails_size entries table) Seen found → IsNoted (fails_size entries table) (λ k. Seen k ⊎ (asked_at entries k ≡ node)) found
+untyped-noted entries table Seen node found sized untyped h =
+    noted-pass (fails_size entries table) Seen (λ k. asked_at entries k ≡ node) found
+    (untyped-asked entries table sized node untyped (untyped-members (entry_of entries node) untyped)) h
+
+-- a type was noted, with the least rule that it violates
+pub type-noted : (entries : List Facts) (table : ℕ → Size) (Seen : ℕ → Type 0) (node : ℕ) (size : Size) (found : Option (ℕ × Rule)) (rule : Option Rule) → is_type_tag (entry_of entries node).tag ≡ true → table node ≡ size
+    → IsLeast (λ r. breaks_size Other (entry_of entries node) size None (size_to table (entry_of entries node).type_target) r ≡ true) rule
+    → IsNoted (fails_size entries table) Seen found → IsNoted (fails_size entries table) (λ k. Seen k ⊎ (k ≡ node)) (with_rule found node rule)
+type-noted entries table Seen node size found rule is sized least h = noted-more (fails_size entries table) Seen node found rule (type-least entries table node size is sized rule least) h
+
+-- the table with the size of a type
+pub typed-set : (entries : List Facts) (sizes : List Size) (node : ℕ) (size : Size) → node < length sizes → is_type_tag (entry_of entries node).tag ≡ true → OnlyTypesAreSized entries (size_at sizes) → OnlyTypesAreSized entries (size_at (set sizes node size))
+typed-set entries sizes node size inside is typed k untyped = elim (at_set sizes node k size None inside) [
+  | inl here ↦ absurd (false≢true (sym untyped ∙ (ap (λ (n : ℕ). is_type_tag (entry_of entries n).tag) here.0 ∙ is)))
+  | inr apart ↦ apart.1 ∙ typed k untyped
+]
+
+-- an entry that is no type has no size in the table already
+pub untyped-set : (entries : List Facts) (sizes : List Size) (node : ℕ) → OnlyTypesAreSized entries (size_at sizes) → is_type_tag (entry_of entries node).tag ≡ false → sizes ≡ set sizes node (capped_line entries (size_at sizes) node)
+untyped-set entries sizes node typed untyped =
+    let none : capped_line entries (size_at sizes) node ≡ None = ap (λ (kind : Kind). cap_size (2 ^ 63) (size_of_kind kind entries (size_at sizes) node)) (untyped-kind (entry_of entries node) untyped) in
+    sym (ap (set sizes node) (none ∙ sym (typed node untyped)) ∙ set-itself sizes node)
+  where
+    set-itself : (xs : List Size) (k : ℕ) → set xs k (get_or xs k None) ≡ xs
+    set-itself [] k = refl
+    set-itself (x ∷ xs) zero = refl
+    set-itself (x ∷ xs) (suc k) = ap (λ (rest : List Size). x ∷ rest) (set-itself xs k)
 
 -- by rank
 
