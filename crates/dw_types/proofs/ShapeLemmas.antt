@@ -114,7 +114,7 @@ module _ (entries : List Facts) (count : ℕ) where
         → IsNoted (fails_shape entries) (HasSeenShapes entries (count + 1)) found
     noted-parts found visited whole passed =
         noted-same (fails_shape entries) (λ k. Before k ⊎ Contains visited k) (HasSeenShapes entries (count + 1)) found
-        (λ k is. elim is [ inl before ↦ then k before | inr in ↦ part count (omega arith) has (All-contains (IsChildOf entries count) visited k passed in) ])
+        (λ k is. elim is [ inl before ↦ then k before | inr there ↦ part count (omega arith) has (All-contains (IsChildOf entries count) visited k passed there) ])
         (parts-back visited (sym (append-nil visited) ∙ whole))
 
 -- one more child
@@ -125,7 +125,7 @@ contains-one child k (suc j, below, is) = absurd (omega arith)
 
 module _ (fails : ℕ → Rule → Bool) (Before : ℕ → Type 0) where
   pub noted-no_child : (found : Option (ℕ × Rule)) → IsNoted fails Before found → IsNoted fails (λ k. Before k ⊎ Contains [] k) found
-  noted-no_child found = noted-same fails Before (λ k. Before k ⊎ Contains [] k) found (λ k is. inl is) (λ k is. elim is [ inl before ↦ before | inr in ↦ absurd (let below = in.1.0 in omega arith) ])
+  noted-no_child found = noted-same fails Before (λ k. Before k ⊎ Contains [] k) found (λ k is. inl is) (λ k is. elim is [ inl before ↦ before | inr there ↦ absurd (let below = there.1.0 in omega arith) ])
 
   pub noted-child : (visited : List ℕ) (child : ℕ) (found : Option (ℕ × Rule)) (rule : Option Rule) → IsLeast (λ r. fails child r ≡ true) rule → IsNoted fails (λ k. Before k ⊎ Contains visited k) found
       → IsNoted fails (λ k. Before k ⊎ Contains (visited ++ child ∷ []) k) (with_rule found child rule)
@@ -133,12 +133,12 @@ module _ (fails : ℕ → Rule → Bool) (Before : ℕ → Type 0) where
       let Seen : ℕ → Type 0 = λ k. Before k ⊎ Contains visited k in
       noted-same fails (λ k. Seen k ⊎ (k ≡ child)) (λ k. Before k ⊎ Contains (visited ++ child ∷ []) k) (with_rule found child rule)
       (λ k is. elim is [
-        | inl old ↦ elim old [ inl before ↦ inl before | inr in ↦ inr (Contains-append_left visited (child ∷ []) k in) ]
+        | inl old ↦ elim old [ inl before ↦ inl before | inr there ↦ inr (Contains-append_left visited (child ∷ []) k there) ]
         | inr same ↦ inr (Contains-append_right visited (child ∷ []) k (0, (omega arith), sym same))
       ])
       (λ k is. elim is [
         | inl before ↦ inl (inl before)
-        | inr in ↦ elim (Contains-append_cases visited (child ∷ []) k in) [ inl old ↦ inl (inr old) | inr one ↦ inr (contains-one child k one) ]
+        | inr there ↦ elim (Contains-append_cases visited (child ∷ []) k there) [ inl old ↦ inl (inr old) | inr one ↦ inr (contains-one child k one) ]
       ])
       (noted-more fails Seen child found rule least h)
 

@@ -1,38 +1,46 @@
 -- The rules on sizes by rank: which entries were checked, and what a size that is written later leaves as it was.
-use Rattle.std.proofs.Common.{◌≡◌, ◌≢◌, ℕ, ◌+◌, ◌^◌, ◌<◌, ◌≤◌, nat_lt, Bool, true, false, ◌&&◌, ◌||◌, not, if◌then◌else◌, List, [], ◌∷◌, ◌++◌, Option, Some, None, length, get_or, set, replicate, nat_eq, ◌⊎◌, inl, inr, refl, sym, ap, ◌∙◌, arith, get_or-set_same, get_or-set_other}
+use Rattle.std.proofs.Common.{◌≡◌, ◌≢◌, ℕ, ◌+◌, ◌^◌, ◌<◌, ◌≤◌, nat_lt, Bool, true, false, ◌&&◌, ◌||◌, not, if◌then◌else◌, List, [], ◌∷◌, ◌++◌, Option, Some, None, length, get_or, set, replicate, nat_eq, ◌⊎◌, inl, inr, refl, sym, ap, ◌∙◌, arith, suc, zero, get_or-set_same, get_or-set_other}
 use Rattle.std.specs.Option.{option_map_or}
 use Rattle.std.specs.List.{Contains}
-use Rattle.std.specs.Prelude.{All, IfSome}
+use Rattle.std.specs.Prelude.{All, IfSome, IsSomeAnd}
 use Rattle.std.proofs.lemmas.Bool.{and_parts, cases_lt, eqb-true, eq-eqb, false_from_ne_true, false≢true, lt-ltb, ltb-true}
 use Rattle.std.proofs.lemmas.List.{get_or_past}
 use Rattle.std.proofs.lemmas.List.Elements.{All-contains, Contains-append_cases, Contains-append_left, Contains-append_right}
 use Rattle.dw_entries.specs.declared.rule.Rule.{Rule}
 use Rattle.dw_entries.specs.declared.rule.Rule.TheVariants.{NoSize, SizeTooGreat, MemberOutside, EnumSize}
-use Rattle.dw_entries.specs.Failures.{IsLeast}
+use Rattle.dw_entries.specs.declared.fault.Stop.{Stop}
+use Rattle.dw_entries.specs.declared.fault.Stop.TheVariants.{Fault, Memory}
+use Rattle.dw_entries.specs.Failures.{HasNone, IsLeast}
+use Rattle.dw_entries.specs.Stopped.{IfFault}
+use Rattle.dw_types.specs.CappedSizes.{ObeysCappedLines}
 use Rattle.dw_forms.specs.Codes.{DW_TAG_member, is_type_tag}
 use Rattle.dw_types.specs.declared.facts.Facts.{Facts}
 use Rattle.dw_types.specs.declared.kind.Kind.{Kind}
 use Rattle.dw_types.specs.declared.kind.Role.{Role}
 use Rattle.dw_types.specs.declared.kind.Role.TheVariants.{Members, Dimensions, Other}
 use Rattle.dw_types.specs.Children.{IsChildOf}
-use Rattle.dw_types.specs.Entries.{children, entry_of, no_entry, is_child, is_parent, ParentsComeFirst, TargetsAreEntries}
+use Rattle.dw_types.specs.Entries.{children, entry_of, no_entry, is_child, is_parent, OffsetsRise, ParentsComeFirst, TargetsAreEntries}
 use Rattle.dw_types.specs.Extents.{ends_past_container}
 use Rattle.dw_types.specs.Graphs.{steps_of, step_at}
 use Rattle.dw_types.specs.Kinds.{has_members, is_array, is_enumeration, is_members, parent_role, passes_type_on, role_in, role_of}
 use Rattle.dw_types.specs.Noted.{asked_at, is_member_of, IsNoted, with_rule}
 use Rattle.dw_types.specs.Orders.{Ranking, IsOrderOf}
 use Rattle.dw_types.specs.Shapes.{is_plain}
-use Rattle.dw_types.specs.SizeFaults.{breaks_size, fails_size, is_too_great, has_wrong_size}
+use Rattle.dw_types.specs.SizeFaults.{breaks_size, fails_size, is_too_great, has_wrong_size, IsFirstSizeFault, SizeFailures}
 use Rattle.dw_types.specs.SizeTables.{Size, cap_size, size_at, OnlyTypesAreSized}
-use Rattle.dw_types.specs.Sizes.{size_line, size_of_kind, size_to}
+use Rattle.dw_types.specs.Sizes.{size_line, size_of_kind, size_to, IsSizeTable}
 use Rattle.dw_types.specs.Steps.{by_value, is_plain_member, IsStepByValue, by_type, by_member}
-use Rattle.dw_types.specs.TypeFailures.{PassesAt}
+use Rattle.dw_types.specs.TypeFailures.{PassAll, PassesAt}
 use Rattle.dw_types.proofs.MeasurableLemmas.{child-in, members-role, parent-true, plain-other}
-use Rattle.dw_types.proofs.NotedLemmas.{noted-more, noted-pass, noted-rules, noted-same}
+use Rattle.dw_types.proofs.FirstLemmas.{broken_at, none-of_entries}
+use Rattle.dw_types.proofs.ListLemmas.{at_set}
+use Rattle.dw_types.proofs.NotedLemmas.{noted-first, noted-more, noted-none, noted-pass, noted-rules, noted-same}
+use Rattle.dw_types.proofs.OneTableLemmas.{first-is_first, found-is_table}
 use Rattle.dw_types.proofs.SizeFaultLemmas.{and-same}
-use Rattle.dw_types.proofs.SizeLineLemmas.{to-same}
+use Rattle.dw_types.proofs.SizeLineLemmas.{capped_line, capped_line-local, to-same}
 use Rattle.dw_types.proofs.StepLemmas.{length-by_value, step-from_by_value}
-use Rattle.dw_types.proofs.UnaskedLemmas.{untyped-enumeration, untyped-kind, untyped-size_none}
+use Rattle.dw_types.proofs.TableLemmas.{HasFilled, has-filled_all, has-filled_more}
+use Rattle.dw_types.proofs.UnaskedLemmas.{untyped-enumeration, untyped-kind, untyped-members, untyped-size_none}
 
 -- where the rules are checked at an entry
 
@@ -63,7 +71,7 @@ module _ (entries : List Facts) (k : ℕ) where
 member-untyped : (tag : ℕ) → nat_eq tag DW_TAG_member ≡ true → is_type_tag tag ≡ false
 member-untyped tag is = let same : tag ≡ DW_TAG_member = eqb-true tag DW_TAG_member is in ap is_type_tag same
 
-type-unmember : (tag : ℕ) → is_type_tag tag ≡ true → nat_eq tag DW_TAG_member ≡ false
+pub type-unmember : (tag : ℕ) → is_type_tag tag ≡ true → nat_eq tag DW_TAG_member ≡ false
 type-unmember tag is = false_from_ne_true (nat_eq tag DW_TAG_member) (λ member. false≢true (sym (member-untyped tag member) ∙ is))
 
 unmember-plain : (role : Role) (entry : Facts) → nat_eq entry.tag DW_TAG_member ≡ false → is_plain role entry ≡ false
@@ -124,7 +132,7 @@ module _ (entries : List Facts) (table : ℕ → Size) where
   ]
 
   least-same : (f g : Rule → Bool) → ((r : Rule) → f r ≡ g r) → (rule : Option Rule) → IsLeast (λ r. f r ≡ true) rule → IsLeast (λ r. g r ≡ true) rule
-  least-same f g same None none r breaks = none r (same r ∙ breaks)
+  least-same f g same None none = λ r breaks. none r (same r ∙ breaks)
   least-same f g same (Some least) is = (sym (same least) ∙ is.0, λ r breaks lower. is.1 r (same r ∙ breaks) lower)
 
   -- a type is no member
@@ -195,6 +203,11 @@ module _ (entries : List Facts) (Seen : ℕ → Type 0) (visited : List ℕ) (ch
         ]
       ]) h
 
+-- no child was passed
+pub none-visited : (entries : List Facts) (fails : ℕ → Rule → Bool) (Seen : ℕ → Type 0) (found : Option (ℕ × Rule)) → IsNoted fails Seen found → IsNoted fails (λ k. Seen k ⊎ IsVisited entries [] k) found
+none-visited entries fails Seen found h =
+    noted-same fails Seen (λ k. Seen k ⊎ IsVisited entries [] k) found (λ k old. inl old) (λ k is. elim is [ inl old ↦ old | inr there ↦ absurd (let below = there.0.1 in omega arith) ]) h
+
 -- one more child of a structure or union, with the rule that it violates if it is a member
 pub child-noted : (entries : List Facts) (table : ℕ → Size) (Seen : ℕ → Type 0) (visited : List ℕ) (node child : ℕ) (size : Size) (found : Option (ℕ × Rule)) (rule : Option Rule)
     → has_members (entry_of entries node) ≡ true → (entry_of entries child).parent ≡ Some node → OnlyTypesAreSized entries table → table node ≡ size
@@ -260,6 +273,36 @@ asked-noted entries fails Seen node found plain h =
       ]
     ]) h
 
+-- the same, where the members are noted after the others
+
+either-of : (a b : Bool) → (a || b) ≡ true → (a ≡ true) ⊎ (b ≡ true)
+either-of true b is = inl refl
+either-of false b is = inr is
+
+or-left : (a b : Bool) → a ≡ true → (a || b) ≡ true
+or-left true b is = refl
+or-left false b is = absurd (false≢true is)
+
+or-right : (a b : Bool) → b ≡ true → (a || b) ≡ true
+or-right true b is = refl
+or-right false b is = is
+
+pub holder-noted : (entries : List Facts) (fails : ℕ → Rule → Bool) (seen : ℕ → Bool) (node : ℕ) (found new : Option (ℕ × Rule)) → nat_eq (entry_of entries node).tag DW_TAG_member ≡ false
+    → ((other : ℕ → Bool) → IsNoted fails (λ k. other k ≡ true) found → IsNoted fails (λ k. (other k ≡ true) ⊎ (is_member_of entries node k ≡ true)) new)
+    → IsNoted fails (λ k. (seen k ≡ true) ⊎ (k ≡ node)) found → IsNoted fails (λ k. (seen k ≡ true) ⊎ (asked_at entries k ≡ node)) new
+holder-noted entries fails seen node found new plain more h =
+    let both : ℕ → Bool = λ k. seen k || nat_eq k node in
+    let to : (k : ℕ) → (seen k ≡ true) ⊎ (k ≡ node) → both k ≡ true = λ k is. elim is [
+      | inl old ↦ or-left (seen k) (nat_eq k node) old
+      | inr here ↦ or-right (seen k) (nat_eq k node) (eq-eqb k node here)
+    ] in
+    let back : (k : ℕ) → both k ≡ true → (seen k ≡ true) ⊎ (k ≡ node) = λ k is. elim (either-of (seen k) (nat_eq k node) is) [ inl old ↦ inl old | inr here ↦ inr (eqb-true k node here) ] in
+    let after = more both (noted-same fails (λ k. (seen k ≡ true) ⊎ (k ≡ node)) (λ k. both k ≡ true) found to back h) in
+    asked-noted entries fails (λ k. seen k ≡ true) node new plain
+    (noted-same fails (λ k. (both k ≡ true) ⊎ (is_member_of entries node k ≡ true)) (λ k. ((seen k ≡ true) ⊎ (k ≡ node)) ⊎ (is_member_of entries node k ≡ true)) new
+    (λ k is. elim is [ inl before ↦ inl (back k before) | inr member ↦ inr member ])
+    (λ k is. elim is [ inl before ↦ inl (to k before) | inr member ↦ inr member ]) after)
+
 -- a type without plain members was noted: all that is checked at it
 pub alone-noted : (entries : List Facts) (table : ℕ → Size) (Seen : ℕ → Type 0) (node : ℕ) (found : Option (ℕ × Rule)) → OnlyTypesAreSized entries table → has_members (entry_of entries node) ≡ false
     → nat_eq (entry_of entries node).tag DW_TAG_member ≡ false
@@ -277,6 +320,37 @@ alone-noted entries table Seen node found sized not plain h =
       | inl old ↦ inl (inl old)
       | inr asked ↦ elim (asked-of entries k node asked) [ inl here ↦ inl (inr here.0) | inr above ↦ inr above ]
     ]) more
+
+-- all that is checked at an entry that is no type passes
+pub untyped-noted : (entries : List Facts) (table : ℕ → Size) (Seen : ℕ → Type 0) (node : ℕ) (found : Option (ℕ × Rule)) → OnlyTypesAreSized entries table → is_type_tag (entry_of entries node).tag ≡ false
+    → IsNoted (fails_size entries table) Seen found → IsNoted (fails_size entries table) (λ k. Seen k ⊎ (asked_at entries k ≡ node)) found
+untyped-noted entries table Seen node found sized untyped h =
+    noted-pass (fails_size entries table) Seen (λ k. asked_at entries k ≡ node) found
+    (untyped-asked entries table sized node untyped (untyped-members (entry_of entries node) untyped)) h
+
+-- a type was noted, with the least rule that it violates
+pub type-noted : (entries : List Facts) (table : ℕ → Size) (Seen : ℕ → Type 0) (node : ℕ) (size : Size) (found : Option (ℕ × Rule)) (rule : Option Rule) → is_type_tag (entry_of entries node).tag ≡ true → table node ≡ size
+    → IsLeast (λ r. breaks_size Other (entry_of entries node) size None (size_to table (entry_of entries node).type_target) r ≡ true) rule
+    → IsNoted (fails_size entries table) Seen found → IsNoted (fails_size entries table) (λ k. Seen k ⊎ (k ≡ node)) (with_rule found node rule)
+type-noted entries table Seen node size found rule is sized least h = noted-more (fails_size entries table) Seen node found rule (type-least entries table node size is sized rule least) h
+
+-- the table with the size of a type
+pub typed-set : (entries : List Facts) (sizes : List Size) (node : ℕ) (size : Size) → node < length sizes → is_type_tag (entry_of entries node).tag ≡ true → OnlyTypesAreSized entries (size_at sizes) → OnlyTypesAreSized entries (size_at (set sizes node size))
+typed-set entries sizes node size inside is typed k untyped = elim (at_set sizes node k size None inside) [
+  | inl here ↦ absurd (false≢true (sym untyped ∙ (ap (λ (n : ℕ). is_type_tag (entry_of entries n).tag) here.0 ∙ is)))
+  | inr apart ↦ apart.1 ∙ typed k untyped
+]
+
+-- an entry that is no type has no size in the table already
+pub untyped-set : (entries : List Facts) (sizes : List Size) (node : ℕ) → OnlyTypesAreSized entries (size_at sizes) → is_type_tag (entry_of entries node).tag ≡ false → sizes ≡ set sizes node (capped_line entries (size_at sizes) node)
+untyped-set entries sizes node typed untyped =
+    let none : capped_line entries (size_at sizes) node ≡ None = ap (λ (kind : Kind). cap_size (2 ^ 63) (size_of_kind kind entries (size_at sizes) node)) (untyped-kind (entry_of entries node) untyped) in
+    sym (ap (set sizes node) (none ∙ sym (typed node untyped)) ∙ set-itself sizes node)
+  where
+    set-itself : (xs : List Size) (k : ℕ) → set xs k (get_or xs k None) ≡ xs
+    set-itself [] k = refl
+    set-itself (x ∷ xs) zero = refl
+    set-itself (x ∷ xs) (suc k) = ap (λ (rest : List Size). x ∷ rest) (set-itself xs k)
 
 -- by rank
 
@@ -399,3 +473,86 @@ module _ (entries : List Facts) (parents : ParentsComeFirst entries) (order : Ra
     fails-kept k is MemberOutside = and-same (is_plain (parent_role entries k) (entry_of entries k)) _ _ (outside-kept k is)
     fails-kept k is EnumSize = wrong-kept k is
     fails-kept k is _ = refl
+
+-- the table of the next place
+
+module _ (entries : List Facts) (parents : ParentsComeFirst entries) (targets : TargetsAreEntries entries) (order : Ranking) (h : IsOrderOf (by_value entries) order) where
+  untyped-line : (table : ℕ → Size) (k : ℕ) → is_type_tag (entry_of entries k).tag ≡ false → capped_line entries table k ≡ None
+  untyped-line table k untyped = ap (λ (kind : Kind). cap_size (2 ^ 63) (size_of_kind kind entries table k)) (untyped-kind (entry_of entries k) untyped)
+
+  pub node-in : (place : ℕ) → place < length order.by_rank → get_or order.by_rank place 0 < length entries
+  node-in place below = let here = h.ranked place below in let long = length-by_value entries in let p = here.0 in omega arith
+
+  module _ (sizes : List Size) (place : ℕ) (below : place < length order.by_rank) (long : length sizes ≡ length entries) (typed : OnlyTypesAreSized entries (size_at sizes)) where
+    abbrev next_node : ℕ
+    next_node = get_or order.by_rank place 0
+
+    abbrev pub next_sizes : List Size
+    next_sizes = set sizes next_node (capped_line entries (size_at sizes) next_node)
+
+    next-in : next_node < length sizes
+    next-in = let inside = node-in place below in omega arith
+
+    pub next-typed : OnlyTypesAreSized entries (size_at next_sizes)
+    next-typed k untyped = elim (at_set sizes next_node k (capped_line entries (size_at sizes) next_node) None next-in) [
+      | inl here ↦ here.1 ∙ (ap (λ (n : ℕ). capped_line entries (size_at sizes) n) (sym here.0) ∙ untyped-line (size_at sizes) k untyped)
+      | inr apart ↦ apart.1 ∙ typed k untyped
+    ]
+
+    next-same : (k : ℕ) → get_or order.ranks k 0 < place → size_at sizes k ≡ size_at next_sizes k
+    next-same k rank =
+        let here = (h.ranked place below).1 in
+        let other : k ≢ next_node = λ same. (let e : get_or order.ranks k 0 ≡ place = ap (λ (n : ℕ). get_or order.ranks n 0) same ∙ here in omega arith) in
+        sym (get_or-set_other sizes next_node k (capped_line entries (size_at sizes) next_node) None other)
+
+    pub next-noted : (found new : Option (ℕ × Rule)) → IsNoted (fails_size entries (size_at sizes)) (λ k. seen_before entries order place k ≡ true) found
+        → ((seen : ℕ → Bool) → IsNoted (fails_size entries (size_at next_sizes)) (λ k. seen k ≡ true) found → IsNoted (fails_size entries (size_at next_sizes)) (λ k. (seen k ≡ true) ⊎ (asked_at entries k ≡ next_node)) new)
+        → IsNoted (fails_size entries (size_at next_sizes)) (λ k. seen_before entries order (place + 1) k ≡ true) new
+    next-noted found new old more =
+        let seen : ℕ → Bool = seen_before entries order place in
+        let kept = noted-rules (fails_size entries (size_at sizes)) (λ k. seen k ≡ true) (fails_size entries (size_at next_sizes)) found
+        (fails-kept entries parents order h targets (size_at sizes) (size_at next_sizes) place next-same (λ k untyped. typed k untyped ∙ sym (next-typed k untyped))) old in
+        noted-same (fails_size entries (size_at next_sizes)) (λ k. (seen k ≡ true) ⊎ (asked_at entries k ≡ next_node)) (λ k. seen_before entries order (place + 1) k ≡ true) new
+        (seen-more entries parents order h place below) (seen-less entries parents order h place below) (more seen kept)
+
+    pub next-filled : HasFilled (by_value entries) order (capped_line entries) sizes place → HasFilled (by_value entries) order (capped_line entries) next_sizes (place + 1)
+    next-filled filled = has-filled_more (by_value entries) order h (capped_line entries) (capped_line-local entries) sizes place (long ∙ sym (length-by_value entries)) below filled
+
+  -- before the first place
+
+  pub none-at : (count k : ℕ) → get_or (replicate count None) k None ≡ None {A = ℕ}
+  none-at zero k = refl
+  none-at (suc count) zero = refl
+  none-at (suc count) (suc k) = none-at count k
+
+  pub first-noted : (table : ℕ → Size) → IsNoted (fails_size entries table) (λ k. seen_before entries order 0 k ≡ true) None
+  first-noted table k is = absurd (let rank = seen-rank entries parents order h 0 k is in omega arith)
+
+  -- past the last place
+
+  module _ (sizes : List Size) (place : ℕ) (over : length order.by_rank ≤ place) (filled : HasFilled (by_value entries) order (capped_line entries) sizes place) where
+    last-obeys : ObeysCappedLines entries (size_at sizes)
+    last-obeys node below = has-filled_all (by_value entries) order h (capped_line entries) (capped_line-local entries) sizes place over filled node (let long = length-by_value entries in omega arith)
+
+    last-pass : IsNoted (fails_size entries (size_at sizes)) (λ k. seen_before entries order place k ≡ true) None → PassAll entries (fails_size entries (size_at sizes))
+    last-pass noted = noted-none (fails_size entries (size_at sizes)) (λ k. seen_before entries order place k ≡ true) entries (seen-all entries parents order h place over) noted
+
+    module _ (noted : IsNoted (fails_size entries (size_at sizes)) (λ k. seen_before entries order place k ≡ true) None) where
+      pub last-table : IsSizeTable entries (size_at sizes)
+      last-table = found-is_table entries targets order.ranks h.falls (size_at sizes) last-obeys (last-pass noted)
+
+      pub last-sound : HasNone (SizeFailures entries (size_at sizes))
+      last-sound = none-of_entries entries (fails_size entries (size_at sizes)) (last-pass noted)
+
+    pub found-inside : (found : Option (ℕ × Rule)) → IsNoted (fails_size entries (size_at sizes)) (λ k. seen_before entries order place k ≡ true) found → IfSome found (λ first. first.0 < length entries)
+    found-inside None noted = tt
+    found-inside (Some first) noted = seen-inside entries parents order h place first.0 noted.seen
+
+    pub last-fault : OffsetsRise entries → (found : Option (ℕ × Rule)) (stop : Stop) → IsNoted (fails_size entries (size_at sizes)) (λ k. seen_before entries order place k ≡ true) found
+        → IsSomeAnd found (λ first. IfFault (λ broken. broken ≡ broken_at first.1 (entry_of entries first.0).offset) stop) → IfFault (IsFirstSizeFault entries) stop
+    last-fault rise None stop noted fault = absurd cc
+    last-fault rise (Some first) Memory noted fault = tt
+    last-fault rise (Some first) (Fault f) noted fault =
+        let is = noted-first (fails_size entries (size_at sizes)) (λ k. seen_before entries order place k ≡ true) entries (seen-all entries parents order h place over) first
+        (seen-inside entries parents order h place first.0 noted.seen) noted in
+        record { holds = rw fault.holds (first-is_first entries targets order.ranks h.falls parents rise (size_at sizes) last-obeys first.0 first.1 is); cycle = fault.cycle }

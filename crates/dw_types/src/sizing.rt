@@ -1,7 +1,6 @@
 //! The one table of sizes, filled in the order of the ranks, and the rules on sizes.
 
-ghost use Rattle.std.specs.Prelude.{◌≡◌, ◌<◌, ◌^◌, ◌||◌, ℕ, Bool, true, nat_eq, length, IfOk, IfErr, OnOk};
-ghost use Rattle.std.specs.Prelude.{slice_set};
+ghost use Rattle.std.specs.Prelude.{◌≡◌, ◌<◌, ◌^◌, ◌⊎◌, ℕ, Bool, true, length, slice_set, IfOk, IfErr, OnOk};
 ghost use Rattle.dw_types.specs.declared.kind.Kind.TheVariants.{Array};
 ghost use Rattle.dw_types.specs.ElementCounts.{element_count_by};
 ghost use Rattle.dw_types.specs.Entries.{children, entry_of, OffsetsRise, ParentsComeFirst, TargetsAreEntries};
@@ -63,9 +62,10 @@ fn note_members(
     requires targets { TargetsAreEntries cursor.old }
     requires untyped { OnlyTypesAreSized cursor.old (size_at sizes.now) }
     ensures same { cursor.new ≡ cursor.old }
-    ensures noted { (seen : ℕ → Bool) → IsNoted (fails_size cursor.old (size_at sizes.now)) seen least.old.found
-        → IsNoted (fails_size cursor.old (size_at sizes.now)) (λ k. seen k || is_member_of cursor.old node k)
-        least.new.found }
+    ensures noted { (seen : ℕ → Bool)
+        → IsNoted (fails_size cursor.old (size_at sizes.now)) (λ k. seen k ≡ true) least.old.found
+        → IsNoted (fails_size cursor.old (size_at sizes.now))
+        (λ k. (seen k ≡ true) ⊎ (is_member_of cursor.old node k ≡ true)) least.new.found }
 {
     let mut next = cursor.first_child(node);
     while let Some(child) = next {
@@ -93,9 +93,9 @@ fn measure(
     ensures size { OnOk result (sizes.new
         ≡ slice_set sizes.old node (cap_size (2 ^ 63) (size_line cursor.old (size_at sizes.old) node))) }
     ensures noted { OnOk result ((seen : ℕ → Bool)
-        → IsNoted (fails_size cursor.old (size_at sizes.new)) seen least.old.found
-        → IsNoted (fails_size cursor.old (size_at sizes.new)) (λ k. seen k || nat_eq (asked_at cursor.old k) node)
-        least.new.found) }
+        → IsNoted (fails_size cursor.old (size_at sizes.new)) (λ k. seen k ≡ true) least.old.found
+        → IsNoted (fails_size cursor.old (size_at sizes.new))
+        (λ k. (seen k ≡ true) ⊎ (asked_at cursor.old k ≡ node)) least.new.found) }
 {
     let entry = cursor.at(node);
     if !entry.is_type() {
