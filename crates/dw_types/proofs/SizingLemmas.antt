@@ -520,11 +520,6 @@ module _ (entries : List Facts) (parents : ParentsComeFirst entries) (targets : 
 
   -- before the first place
 
-  pub none-at : (count k : ℕ) → get_or (replicate count None) k None ≡ None {A = ℕ}
-  none-at zero k = refl
-  none-at (suc count) zero = refl
-  none-at (suc count) (suc k) = none-at count k
-
   pub first-noted : (table : ℕ → Size) → IsNoted (fails_size entries table) (λ k. seen_before entries order 0 k ≡ true) None
   first-noted table k is = absurd (let rank = seen-rank entries parents order h 0 k is in omega arith)
 
@@ -550,7 +545,7 @@ module _ (entries : List Facts) (parents : ParentsComeFirst entries) (targets : 
 
     pub last-fault : OffsetsRise entries → (found : Option (ℕ × Rule)) (stop : Stop) → IsNoted (fails_size entries (size_at sizes)) (λ k. seen_before entries order place k ≡ true) found
         → IsSomeAnd found (λ first. IfFault (λ broken. broken ≡ broken_at first.1 (entry_of entries first.0).offset) stop) → IfFault (IsFirstSizeFault entries) stop
-    last-fault rise None stop noted fault = absurd cc
+    last-fault rise None stop noted fault = absurd fault
     last-fault rise (Some first) Memory noted fault = tt
     last-fault rise (Some first) (Fault f) noted fault =
         let is = noted-first (fails_size entries (size_at sizes)) (λ k. seen_before entries order place k ≡ true) entries (seen-all entries parents order h place over) first
