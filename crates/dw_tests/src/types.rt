@@ -1,7 +1,6 @@
-//! The order of graphs, the counts of dimensions, and the sizes that one walk finds.
+//! The order of graphs, and the counts of dimensions.
 
 mod graphs;
-mod one_walk;
 mod rows;
 
 use dw_entries::{Sections, scan};

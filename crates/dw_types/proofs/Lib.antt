@@ -20,10 +20,7 @@ pub mod EndLemmas
 pub mod PackingLemmas
 pub mod CapLemmas
 pub mod StepLemmas
-pub mod StepListLemmas
-pub mod StepPlaceLemmas
 pub mod RowLemmas
-pub mod RoleLemmas
 pub mod UnaskedLemmas
 pub mod FirstLemmas
 pub mod NotedLemmas
@@ -34,3 +31,4 @@ pub mod SizeFaultLemmas
 pub mod OneTableLemmas
 pub mod SizingLemmas
 pub mod PartStepLemmas
+pub mod ShapeLemmas

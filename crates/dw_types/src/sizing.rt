@@ -1,13 +1,11 @@
 //! The one table of sizes, filled in the order of the ranks, and the rules on sizes.
 
 ghost use Rattle.std.specs.Prelude.{◌≡◌, ◌<◌, ◌^◌, ◌⊎◌, ℕ, Bool, true, length, slice_set, IfOk, IfErr, OnOk};
-ghost use Rattle.dw_entries.specs.Scanned.{all_entries, units_of};
-ghost use Rattle.dw_links.specs.Tables.{AreTables};
 ghost use Rattle.dw_types.specs.declared.kind.Kind.TheVariants.{Array};
 ghost use Rattle.dw_types.specs.ElementCounts.{element_count_by};
 ghost use Rattle.dw_types.specs.Entries.{children, entry_of, OffsetsRise, ParentsComeFirst, TargetsAreEntries};
 ghost use Rattle.dw_entries.specs.Failures.{HasNone};
-ghost use Rattle.dw_types.specs.FactsOf.{facts_in};
+ghost use Rattle.dw_types.specs.Held.{all_facts, entries_held};
 ghost use Rattle.dw_types.specs.Kinds.{has_members, kind_of};
 ghost use Rattle.dw_types.specs.Noted.{asked_at, is_member_of, IsNoted};
 ghost use Rattle.dw_types.specs.Orders.{IsOrderOf};
@@ -16,7 +14,6 @@ ghost use Rattle.dw_types.specs.Sizes.{size_line, IsSizeTable};
 ghost use Rattle.dw_types.specs.SizeTables.{cap_size, size_at, OnlyTypesAreSized};
 ghost use Rattle.dw_types.specs.Steps.{by_value};
 ghost use Rattle.dw_entries.specs.Stopped.{IfFault};
-ghost use Rattle.dw_types.specs.UnitsRead.{all_unit_facts};
 
 use crate::element_count::{ElementCount, count_elements};
 use crate::facts_at::FactsAt;
@@ -26,8 +23,8 @@ use crate::ranking::Order;
 use crate::size_line::capped_size;
 use crate::size_table::SizeTable;
 use crate::unit_facts::UnitFacts;
-use dw_entries::{Entries, Stop};
-use dw_links::LinkTables;
+use dw_entries::Stop;
+use dw_links::Links;
 use std::alloc::{AllocError, Global};
 
 /// How many elements an array has. Any other entry has no dimension.
@@ -147,24 +144,15 @@ fn sizes_of_facts(
     Ok(sizes)
 }
 
-/// The one table of sizes, or the first fault of sizes. The tables and what is read of units are those of the
-/// entries, and the order is that of their graph of steps by value, or of its packed form.
-pub fn sizes(
-    alloc: Global,
-    entries: &Entries<'_>,
-    tables: &LinkTables,
-    units: &[UnitFacts],
-    order: &Order,
-) -> Result<SizeTable, Stop>
-    requires tables { AreTables entries.now tables.now }
-    requires units { units.now ≡ all_unit_facts (units_of entries.now.scanned) }
-    requires order { IsOrderOf (by_value (facts_in (units_of entries.now.scanned))) order.now }
-    ensures long { IfOk result (λ table. length table ≡ length (all_entries entries.now.scanned)) }
-    ensures only { IfOk result (λ table. IsSizeTable (facts_in (units_of entries.now.scanned)) (size_at table)) }
-    ensures sound { IfOk result (λ table. HasNone
-        (SizeFailures (facts_in (units_of entries.now.scanned)) (size_at table))) }
-    ensures fault { IfErr result (IfFault (IsFirstSizeFault (facts_in (units_of entries.now.scanned)))) }
+/// The one table of sizes, or the first fault of sizes. The order is that of the graph of the entries' steps by value.
+pub fn sizes(alloc: Global, links: &Links<'_, '_>, order: &Order) -> Result<SizeTable, Stop>
+    requires order { IsOrderOf (by_value (all_facts links.now)) order.now }
+    ensures long { IfOk result (λ table. length table ≡ length (entries_held links.now)) }
+    ensures only { IfOk result (λ table. IsSizeTable (all_facts links.now) (size_at table)) }
+    ensures sound { IfOk result (λ table. HasNone (SizeFailures (all_facts links.now) (size_at table))) }
+    ensures fault { IfErr result (IfFault (IsFirstSizeFault (all_facts links.now))) }
 {
-    let facts = FactsList::new(entries, tables, units);
+    let units = UnitFacts::read_all(alloc, links.entries)?;
+    let facts = FactsList::new(links, &units);
     sizes_of_facts(alloc, &facts, order)
 }
