@@ -1,4 +1,4 @@
--- An entry that can be measured: what it holds by value, and the rules at it and at its children.
+-- The children of an entry, and what it is to them.
 use Rattle.std.proofs.Common.{◌≡◌, ℕ, zero, suc, ◌+◌, ◌<◌, Bool, true, false, ◌&&◌, not, List, [], ◌∷◌, Option, Some, None, length, refl, ap, ◌∙◌, arith, eq-eqb, eqb-true, nat_eq}
 use Rattle.std.specs.Prelude.{All}
 use Rattle.std.specs.List.{Contains, filter}
@@ -21,16 +21,6 @@ use Rattle.dw_types.specs.SizeFaults.{breaks_size}
 use Rattle.dw_types.specs.SizeTables.{Size}
 use Rattle.dw_types.specs.Steps.{is_plain_member, IsStepByValue, by_type, by_member, by_signature, targets_if}
 
-single : (found : Option ℕ) (to : ℕ) → option_to_list found ≡ to ∷ [] → found ≡ Some to
-single None to is = absurd cc
-single (Some y) to is = let same : y ≡ to = cc in ap Some same
-
--- the step that an entry makes by itself
-pub own-step : (test : Bool) (target found : Option ℕ) (to : ℕ) → option_to_list found ≡ targets_if test target → test ≡ true → target ≡ Some to → found ≡ Some to
-own-step false target found to is passes named = absurd cc
-own-step true None found to is passes named = absurd cc
-own-step true (Some x) found to is passes named = let same : x ≡ to = cc in single found to (is ∙ ap (λ (n : ℕ). n ∷ []) same)
-
 -- a child is among the children
 
 kept-more : (p : ℕ → Bool) (y : ℕ) (xs : List ℕ) (x : ℕ) (b : Bool) → p y ≡ b → Contains (filter p xs) x → Contains (filter p (y ∷ xs)) x
@@ -51,37 +41,11 @@ child-in entries parent child h =
     let test : is_child entries parent child ≡ true = rw h.parent_is (eq-eqb parent parent refl) in
     kept (is_child entries parent) (entry_numbers entries) child (child, (omega arith), at ∙ plain) test
 
--- what is true of each of the children
-pub each-child : (entries : List Facts) (parent : ℕ) (P : ℕ → Type 0) → All P (children entries parent) → (child : ℕ) → IsChildOf entries parent child → P child
-each-child entries parent P all child h = All-contains P (children entries parent) child all (child-in entries parent child h)
-
 -- plain members
 
 pub parent-true : (parent : Option ℕ) (node : ℕ) → is_parent parent node ≡ true → parent ≡ Some node
 parent-true None node is = absurd cc
 parent-true (Some q) node is = ap Some (eqb-true q node is)
-
-module _ (entries : List Facts) (node member : ℕ) (plain : is_plain_member entries node member ≡ true) where
-  pub plain-holder : has_members (entry_of entries node) ≡ true
-  plain-holder = (and_parts (has_members (entry_of entries node)) _ plain).0
-
-  own-tests : (nat_eq (entry_of entries member).tag DW_TAG_member && (not (entry_of entries member).declared && is_parent (entry_of entries member).parent node)) ≡ true
-  own-tests = (and_parts (has_members (entry_of entries node)) _ plain).1
-
-  tag-test : nat_eq (entry_of entries member).tag DW_TAG_member ≡ true
-  tag-test = (and_parts (nat_eq (entry_of entries member).tag DW_TAG_member) _ own-tests).0
-
-  last-tests : (not (entry_of entries member).declared && is_parent (entry_of entries member).parent node) ≡ true
-  last-tests = (and_parts (nat_eq (entry_of entries member).tag DW_TAG_member) _ own-tests).1
-
-  pub plain-child : member < length entries → IsChildOf entries node member
-  plain-child inside = record {
-    inside = inside;
-    parent_is = parent-true (entry_of entries member).parent node (and_parts (not (entry_of entries member).declared) _ last-tests).1;
-  }
-
-  pub plain-part : is_plain Members (entry_of entries member) ≡ true
-  plain-part = rw (tag-test, (and_parts (not (entry_of entries member).declared) _ last-tests).0) refl
 
 -- the rules at the children
 

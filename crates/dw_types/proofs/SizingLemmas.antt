@@ -105,19 +105,6 @@ module _ (entries : List Facts) (table : ℕ → Size) where
     members-pass : (k : ℕ) → nat_eq (entry_of entries k).tag DW_TAG_member ≡ true → (entry_of entries k).parent ≡ Some node → PassesAt (fails_size entries table) k
     members-pass k member above = let untyped = member-untyped (entry_of entries k).tag member in untyped-passes k untyped (child-plain k node above not) (sized k untyped)
 
-    -- what is checked at an entry without plain members passes, if the entry itself does
-    pub asked-passes : PassesAt (fails_size entries table) node → (k : ℕ) → asked_at entries k ≡ node → PassesAt (fails_size entries table) k
-    asked-passes pass k is rule breaks = elim (asked-of entries k node is) [
-      | inl here ↦ pass rule (ap (λ (n : ℕ). fails_size entries table n rule) (sym here.0) ∙ breaks)
-      | inr above ↦ members-pass k above.0 above.1 rule breaks
-    ]
-
-    pub asked-here : (k : ℕ) → asked_at entries k ≡ node → (k ≡ node → ⊥) → PassesAt (fails_size entries table) k
-    asked-here k is other rule breaks = elim (asked-of entries k node is) [
-      | inl here ↦ absurd (other here.0)
-      | inr above ↦ members-pass k above.0 above.1 rule breaks
-    ]
-
   -- all that is checked at an entry that is no type passes
   pub untyped-asked : OnlyTypesAreSized entries table → (node : ℕ) → is_type_tag (entry_of entries node).tag ≡ false → has_members (entry_of entries node) ≡ false → (k : ℕ) → asked_at entries k ≡ node → PassesAt (fails_size entries table) k
   untyped-asked sized node untyped not k is rule breaks = elim (asked-of entries k node is) [
@@ -341,11 +328,14 @@ typed-set entries sizes node size inside is typed k untyped = elim (at_set sizes
   | inr apart ↦ apart.1 ∙ typed k untyped
 ]
 
+-- the line of an entry that is no type
+untyped-line : (entries : List Facts) (table : ℕ → Size) (k : ℕ) → is_type_tag (entry_of entries k).tag ≡ false → capped_line entries table k ≡ None
+untyped-line entries table k untyped = ap (λ (kind : Kind). cap_size (2 ^ 63) (size_of_kind kind entries table k)) (untyped-kind (entry_of entries k) untyped)
+
 -- an entry that is no type has no size in the table already
 pub untyped-set : (entries : List Facts) (sizes : List Size) (node : ℕ) → OnlyTypesAreSized entries (size_at sizes) → is_type_tag (entry_of entries node).tag ≡ false → sizes ≡ set sizes node (capped_line entries (size_at sizes) node)
 untyped-set entries sizes node typed untyped =
-    let none : capped_line entries (size_at sizes) node ≡ None = ap (λ (kind : Kind). cap_size (2 ^ 63) (size_of_kind kind entries (size_at sizes) node)) (untyped-kind (entry_of entries node) untyped) in
-    sym (ap (set sizes node) (none ∙ sym (typed node untyped)) ∙ set-itself sizes node)
+    sym (ap (set sizes node) (untyped-line entries (size_at sizes) node untyped ∙ sym (typed node untyped)) ∙ set-itself sizes node)
   where
     set-itself : (xs : List Size) (k : ℕ) → set xs k (get_or xs k None) ≡ xs
     set-itself [] k = refl
@@ -477,9 +467,6 @@ module _ (entries : List Facts) (parents : ParentsComeFirst entries) (order : Ra
 -- the table of the next place
 
 module _ (entries : List Facts) (parents : ParentsComeFirst entries) (targets : TargetsAreEntries entries) (order : Ranking) (h : IsOrderOf (by_value entries) order) where
-  untyped-line : (table : ℕ → Size) (k : ℕ) → is_type_tag (entry_of entries k).tag ≡ false → capped_line entries table k ≡ None
-  untyped-line table k untyped = ap (λ (kind : Kind). cap_size (2 ^ 63) (size_of_kind kind entries table k)) (untyped-kind (entry_of entries k) untyped)
-
   pub node-in : (place : ℕ) → place < length order.by_rank → get_or order.by_rank place 0 < length entries
   node-in place below = let here = h.ranked place below in let long = length-by_value entries in let p = here.0 in omega arith
 
@@ -495,7 +482,7 @@ module _ (entries : List Facts) (parents : ParentsComeFirst entries) (targets : 
 
     pub next-typed : OnlyTypesAreSized entries (size_at next_sizes)
     next-typed k untyped = elim (at_set sizes next_node k (capped_line entries (size_at sizes) next_node) None next-in) [
-      | inl here ↦ here.1 ∙ (ap (λ (n : ℕ). capped_line entries (size_at sizes) n) (sym here.0) ∙ untyped-line (size_at sizes) k untyped)
+      | inl here ↦ here.1 ∙ (ap (λ (n : ℕ). capped_line entries (size_at sizes) n) (sym here.0) ∙ untyped-line entries (size_at sizes) k untyped)
       | inr apart ↦ apart.1 ∙ typed k untyped
     ]
 
@@ -520,11 +507,6 @@ module _ (entries : List Facts) (parents : ParentsComeFirst entries) (targets : 
 
   -- before the first place
 
-  pub none-at : (count k : ℕ) → get_or (replicate count None) k None ≡ None {A = ℕ}
-  none-at zero k = refl
-  none-at (suc count) zero = refl
-  none-at (suc count) (suc k) = none-at count k
-
   pub first-noted : (table : ℕ → Size) → IsNoted (fails_size entries table) (λ k. seen_before entries order 0 k ≡ true) None
   first-noted table k is = absurd (let rank = seen-rank entries parents order h 0 k is in omega arith)
 
@@ -544,13 +526,9 @@ module _ (entries : List Facts) (parents : ParentsComeFirst entries) (targets : 
       pub last-sound : HasNone (SizeFailures entries (size_at sizes))
       last-sound = none-of_entries entries (fails_size entries (size_at sizes)) (last-pass noted)
 
-    pub found-inside : (found : Option (ℕ × Rule)) → IsNoted (fails_size entries (size_at sizes)) (λ k. seen_before entries order place k ≡ true) found → IfSome found (λ first. first.0 < length entries)
-    found-inside None noted = tt
-    found-inside (Some first) noted = seen-inside entries parents order h place first.0 noted.seen
-
     pub last-fault : OffsetsRise entries → (found : Option (ℕ × Rule)) (stop : Stop) → IsNoted (fails_size entries (size_at sizes)) (λ k. seen_before entries order place k ≡ true) found
         → IsSomeAnd found (λ first. IfFault (λ broken. broken ≡ broken_at first.1 (entry_of entries first.0).offset) stop) → IfFault (IsFirstSizeFault entries) stop
-    last-fault rise None stop noted fault = absurd cc
+    last-fault rise None stop noted fault = absurd fault
     last-fault rise (Some first) Memory noted fault = tt
     last-fault rise (Some first) (Fault f) noted fault =
         let is = noted-first (fails_size entries (size_at sizes)) (λ k. seen_before entries order place k ≡ true) entries (seen-all entries parents order h place over) first

@@ -1,4 +1,4 @@
-use Rattle.std.proofs.Common.{◌≡◌, ◌^◌, ◌⊎◌, ℕ, Bool, true, false, None, List, length, set, sym, ap, ◌∙◌, length-set, get_or-set_same, arith}
+use Rattle.std.proofs.Common.{◌≡◌, ◌<◌, ◌^◌, ◌⊎◌, ℕ, Bool, true, false, None, List, length, set, sym, ap, ◌∙◌, length-set, get_or-set_same, arith}
 use Rattle.std.specs.Prelude.{IfSome}
 use Rattle.dw_entries.specs.Failures.{IsLeast}
 use Rattle.dw_entries.specs.declared.rule.Rule.{Rule}
