@@ -96,10 +96,10 @@ fn levels_of(alloc: Global, image: &Image<'_>) -> Result<Vec<usize>, NoMemory>
     ensures entries { IfOk result (λ levels. length levels.items ≡ length (entries_in image.now)) }
     ensures levels { IfOk result (λ levels. AreLevels image.now (slice_index levels.items)) }
 {
-    let steps = image.by_value(alloc)?;
-    match order(alloc, &steps) {
+    let steps = image.by_value();
+    match order(alloc, steps) {
         Ok(order) => {
-            let levels = longest_by_rank(alloc, &steps, &order)?;
+            let levels = longest_by_rank(alloc, steps, &order)?;
             Ok(levels)
         }
         Err(OrderFault::Cycle(_)) => unreachable!(),

@@ -1,16 +1,24 @@
--- State: the sizes of the entries of which no rule on types fails, and the first fault of the groups on types.
+-- State: the steps by value and the sizes of the entries of which no rule on types fails, and the first fault of the groups on types.
 use Rattle.std.specs.Prelude.{◌≡◌, ◌<◌, List, length}
 use Rattle.dw_elf.specs.declared.sections.Sections.{Sections}
 use Rattle.dw_entries.specs.declared.fault.Fault.{Fault}
 use Rattle.dw_entries.specs.Failures.{HasNone}
 use Rattle.dw_entries.specs.Units.{DebugUnit}
+use Rattle.dw_types.specs.declared.by_value.ByValue.{ByValue}
 use Rattle.dw_types.specs.declared.facts.Facts.{Facts}
 use Rattle.dw_types.specs.Graphs.{HasNoCycle}
+use Rattle.dw_types.specs.Kinds.{type_count}
+use Rattle.dw_types.specs.Packing.{cut}
 use Rattle.dw_types.specs.Shapes.{ShapeFailures}
 use Rattle.dw_types.specs.Steps.{by_value}
 use Rattle.dw_types.specs.SizeTables.{Size, size_at}
 use Rattle.dw_image.specs.First.{Group, turn_of, failures_of, IsFirstIn}
 use Rattle.dw_image.specs.Valid.{HasSizes}
+
+-- these are the steps by value, and this is how many entries are types
+pub record AreSteps (facts : List Facts) (steps : ByValue) : Type 0 where
+  pub graph : cut steps.packed.steps 0 steps.packed.ends ≡ by_value facts
+  pub types : steps.types ≡ type_count facts
 
 -- no rule on types fails, and these are the sizes
 pub record AreMeasures (facts : List Facts) (table : List Size) : Type 0 where

@@ -10,12 +10,12 @@ ghost use Rattle.dw_links.specs.References.{ReferenceFailures};
 ghost use Rattle.dw_links.specs.Tables.{AreTables};
 ghost use Rattle.dw_types.specs.FactsOf.{facts_in};
 ghost use Rattle.dw_types.specs.UnitsRead.{all_unit_facts};
-ghost use Rattle.dw_image.specs.Measures.{AreMeasures};
+ghost use Rattle.dw_image.specs.Measures.{AreMeasures, AreSteps};
 
 use dw_elf::Sections;
 use dw_entries::Entries;
 use dw_links::LinkTables;
-use dw_types::{SizeTable, UnitFacts};
+use dw_types::{ByValue, SizeTable, UnitFacts};
 
 /// The image of valid sections. Only `verify` makes one.
 #[derive(Drop)]
@@ -24,12 +24,15 @@ pub struct Image<'a> {
     pub(crate) tables: LinkTables,
     /// What is read of each unit.
     pub(crate) units: Vec<UnitFacts>,
+    /// What each entry holds by value.
+    pub(crate) steps: ByValue,
     pub(crate) sizes: SizeTable,
     ghost linked: { AreTables entries tables },
     ghost classes: { HasNone (ClassFailures (units_of entries.scanned)) },
     ghost strings: { HasNone (StringFailures (sections_of entries) (units_of entries.scanned)) },
     ghost references: { HasNone (ReferenceFailures (units_of entries.scanned)) },
     ghost units_read: { units.items ≡ all_unit_facts (units_of entries.scanned) },
+    ghost stepped: { AreSteps (facts_in (units_of entries.scanned)) steps },
     ghost measured: { AreMeasures (facts_in (units_of entries.scanned)) sizes },
 }
 
@@ -64,12 +67,6 @@ impl<'a> Image<'a> {
     pub fn types(&self) -> usize
         ensures { result ≡ type_count self.now }
     {
-        let mut count = 0;
-        let mut cursor = self.entries.cursor();
-        for k in 0..self.entries.count() {
-            let entry = cursor.at(self.entries.id(k));
-            count += usize::from(entry.is_type());
-        }
-        count
+        self.steps.types()
     }
 }

@@ -4,17 +4,16 @@ ghost use Rattle.std.specs.Prelude.{◌≡◌, ◌<◌, length, map, IfOk, IfErr
 ghost use Rattle.dw_entries.specs.Scanned.{all_entries, units_of};
 ghost use Rattle.dw_entries.specs.Stopped.{IfFaulty};
 ghost use Rattle.dw_entries.specs.Views.{sections_of};
-ghost use Rattle.dw_links.specs.Tables.{AreTables};
 ghost use Rattle.dw_types.specs.FactsOf.{facts_in};
 ghost use Rattle.dw_types.specs.Graphs.{IsCycle};
+ghost use Rattle.dw_types.specs.Held.{all_facts, units_held};
 ghost use Rattle.dw_types.specs.Steps.{by_value};
-ghost use Rattle.dw_types.specs.UnitsRead.{all_unit_facts};
 ghost use Rattle.dw_image.specs.First.{offset_at, NamesCycle};
-ghost use Rattle.dw_image.specs.Measures.{AreMeasures, FailsInTypes};
+ghost use Rattle.dw_image.specs.Measures.{AreMeasures, AreSteps, FailsInTypes};
 
 use dw_entries::{Entries, Fault, Rule, Section, Stop};
-use dw_links::LinkTables;
-use dw_types::{ByValue, OrderFault, SizeTable, UnitFacts, order, sizes, sizes_if_sound};
+use dw_links::Links;
+use dw_types::{ByValue, OrderFault, SizeTable, order, sizes};
 use std::alloc::{AllocError, Global};
 
 /// The offset of the entry with a number.
@@ -60,48 +59,23 @@ fn cycle_fault(alloc: Global, entries: &Entries<'_>, numbers: &[usize]) -> Resul
     })
 }
 
-/// Follows the steps by value of entries, orders them and measures the entries by that order, or finds the first fault
-/// of the rules on types.
-fn measure_in_order(
-    alloc: Global,
-    entries: &Entries<'_>,
-    tables: &LinkTables,
-    units: &[UnitFacts],
-) -> Result<SizeTable, Stop>
-    requires tables { AreTables entries.now tables.now }
-    requires units { units.now ≡ all_unit_facts (units_of entries.now.scanned) }
-    ensures sound { IfOk result (AreMeasures (facts_in (units_of entries.now.scanned))) }
-    ensures fault { IfErr result (IfFaulty (FailsInTypes (sections_of entries.now) (units_of entries.now.scanned))) }
+/// The steps by value of entries and their sizes, or the first fault of the rules on types.
+pub fn measure(alloc: Global, links: &Links<'_, '_>) -> Result<(ByValue, SizeTable), Stop>
+    ensures steps { IfOk result (λ found. AreSteps (all_facts links.now) found.0) }
+    ensures sizes { IfOk result (λ found. AreMeasures (all_facts links.now) found.1) }
+    ensures fault { IfErr result (IfFaulty
+        (FailsInTypes (sections_of links.now.entries.now) (units_held links.now))) }
 {
-    let steps = ByValue::new(alloc, entries, tables, units)?;
+    let steps = ByValue::new(alloc, links)?;
     match order(alloc, &steps) {
         Ok(order) => {
-            let sizes = sizes(alloc, entries, tables, units, &order)?;
-            Ok(sizes)
+            let sizes = sizes(alloc, links, &order)?;
+            Ok((steps, sizes))
         }
         Err(OrderFault::Cycle(nodes)) => {
-            Err(Stop::Fault(cycle_fault(alloc, entries, nodes.as_slice())?))
+            let fault = cycle_fault(alloc, links.entries, nodes.as_slice())?;
+            Err(Stop::Fault(fault))
         }
         Err(OrderFault::Memory) => Err(Stop::Memory),
     }
-}
-
-/// The sizes of entries, or the first fault of the rules on types. One walk measures sound entries; what it does not
-/// measure is measured in order, which finds the fault. `units` is what is read of the entries' units.
-pub fn measure(
-    alloc: Global,
-    entries: &Entries<'_>,
-    tables: &LinkTables,
-    units: &[UnitFacts],
-) -> Result<SizeTable, Stop>
-    requires tables { AreTables entries.now tables.now }
-    requires units { units.now ≡ all_unit_facts (units_of entries.now.scanned) }
-    ensures sound { IfOk result (AreMeasures (facts_in (units_of entries.now.scanned))) }
-    ensures fault { IfErr result (IfFaulty (FailsInTypes (sections_of entries.now) (units_of entries.now.scanned))) }
-{
-    let found = sizes_if_sound(alloc, entries, tables, units)?;
-    if let Some(sizes) = found {
-        return Ok(sizes);
-    }
-    measure_in_order(alloc, entries, tables, units)
 }

@@ -1,6 +1,6 @@
 //! Look-ups of types in an image: what holds which by value, how large they are, how many elements a dimension has.
 
-ghost use Rattle.std.specs.Prelude.{◌≡◌, ◌<◌, length, slice_get, IfOk, IfSome};
+ghost use Rattle.std.specs.Prelude.{◌≡◌, ◌<◌, length, slice_get, IfSome};
 ghost use Rattle.dw_types.specs.Counts.{count_at};
 ghost use Rattle.dw_types.specs.FactsOf.{facts_in};
 ghost use Rattle.dw_types.specs.Graphs.{steps_of};
@@ -11,8 +11,7 @@ use crate::id::TypeId;
 use crate::image::Image;
 use dw_entries::EntryId;
 use dw_entries::constants::DW_AT_type;
-use dw_types::{Packed, StepGraph, count_at, pack_by_value, step_by_value};
-use std::alloc::{AllocError, Global};
+use dw_types::{ByValue, StepGraph, count_at};
 
 impl Image<'_> {
     /// The type at an entry. None if its tag is not a type's.
@@ -60,23 +59,27 @@ impl Image<'_> {
         count_at(&self.entries, &self.units, id)
     }
 
-    /// The steps by value of all entries, which are found at each call. An entry is the node of its number. The error
-    /// is that an allocation failed.
+    /// The steps by value of all entries. An entry is the node of its number.
     #[tactic(auto, unfolding(crate::specs::Images::units_in, crate::specs::Images::steps_in))]
-    pub fn by_value(&self, alloc: Global) -> Result<Packed, AllocError>
-        ensures { IfOk result (λ steps. ⟦<Packed as StepGraph>⟧.graph steps ≡ steps_in self.now) }
+    pub fn by_value(&self) -> &ByValue
+        ensures { ⟦<ByValue as StepGraph>⟧.graph result.now ≡ steps_in self.now }
     {
-        pack_by_value(alloc, &self.entries, &self.tables, &self.units)
+        &self.steps
     }
 
     /// The k-th entry, from 0, that an entry holds by value: its type, the types of its plain members in their order,
-    /// what its signature names. None past the last. Each call goes over the entry's children, up to that step.
+    /// what its signature names. None past the last.
     #[tactic(auto, unfolding(crate::specs::Images::units_in, crate::specs::Images::steps_in))]
     pub fn step(&self, id: EntryId, k: usize) -> Option<EntryId>
         requires { id < length (entries_in self.now) }
         ensures exact { result ≡ slice_get (steps_of (steps_in self.now) id) k }
         ensures within { IfSome result (λ to. to < length (entries_in self.now)) }
     {
-        step_by_value(&self.entries, &self.tables, &self.units, id, k)
+        let node = id.number();
+        if k < self.steps.steps(node) {
+            Some(self.entries.id(self.steps.step(node, k)))
+        } else {
+            None
+        }
     }
 }

@@ -28,13 +28,14 @@ fn image_of<'a>(alloc: Global, sections: Sections<'a>) -> Result<Image<'a>, Stop
 {
     let entries = scan(alloc, &sections)?;
     let links = link(alloc, &entries)?;
+    let (steps, sizes) = measure(alloc, &links)?;
     let units = UnitFacts::read_all(alloc, &entries)?;
     let tables = links.into_tables();
-    let sizes = measure(alloc, &entries, &tables, &units)?;
     Ok(Image {
         entries,
         tables,
         units,
+        steps,
         sizes,
     })
 }

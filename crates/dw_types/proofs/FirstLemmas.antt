@@ -65,12 +65,3 @@ module _ (entries : List Facts) (rise : OffsetsRise entries) where
 -- where no entry breaks a rule there is no failure
 pub none-of_entries : (entries : List Facts) (fails : ℕ → Rule → Bool) → PassAll entries fails → HasNone (EntryFailures entries fails)
 none-of_entries entries fails pass f failing = pass failing.number (slice_get_within entries failing.number failing.item failing.is_item) f.rule failing.fails.fails
-
--- the entry after some that pass breaks a rule, and none of a lower number
-pub first-here : (entries : List Facts) (fails : ℕ → Rule → Bool) (node : ℕ) (rule : Rule) → node < length entries → ((k : ℕ) → k < node → PassesAt fails k)
-    → IsLeast (λ r. fails node r ≡ true) (Some rule) → IsFirstAt entries fails node rule
-first-here entries fails node rule inside before least = record { inside = inside; breaks = least.0; least = least.1; before = before }
-
--- one more entry passes
-pub passes-more : (fails : ℕ → Rule → Bool) (node : ℕ) → ((k : ℕ) → k < node → PassesAt fails k) → PassesAt fails node → (k : ℕ) → k < node + 1 → PassesAt fails k
-passes-more fails node before here k below = elim (cases_lt k node) [ inl earlier ↦ before k earlier | inr late ↦ let same : k ≡ node = omega arith in rw same here ]

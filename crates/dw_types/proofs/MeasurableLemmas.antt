@@ -1,4 +1,4 @@
--- An entry that can be measured: what it holds by value, and the rules at it and at its children.
+-- The children of an entry, and what it is to them.
 use Rattle.std.proofs.Common.{◌≡◌, ℕ, zero, suc, ◌+◌, ◌<◌, Bool, true, false, ◌&&◌, not, List, [], ◌∷◌, Option, Some, None, length, refl, ap, ◌∙◌, arith, eq-eqb, eqb-true, nat_eq}
 use Rattle.std.specs.Prelude.{All}
 use Rattle.std.specs.List.{Contains, filter}
@@ -12,26 +12,14 @@ use Rattle.dw_forms.specs.Codes.{DW_TAG_member}
 use Rattle.dw_types.specs.declared.facts.Facts.{Facts}
 use Rattle.dw_types.specs.declared.kind.Role.{Role}
 use Rattle.dw_types.specs.declared.kind.Role.TheVariants.{Members, Dimensions, Other}
-use Rattle.dw_types.specs.declared.measured.Stage.{Stage}
 use Rattle.dw_types.specs.Children.{IsChildOf}
 use Rattle.dw_types.specs.Counts.{is_dimension, is_subrange_tag}
 use Rattle.dw_types.specs.Entries.{entry_of, entry_numbers, is_child, is_parent, children}
 use Rattle.dw_types.specs.Kinds.{has_members, is_array, is_declared_type, is_dimensions, is_members, passes_type_on, role_of}
-use Rattle.dw_types.specs.Measuring.{FitsIn, IsMeasured, PassesAsPart, PassesIn}
 use Rattle.dw_types.specs.Shapes.{has_bad_count, is_plain}
 use Rattle.dw_types.specs.SizeFaults.{breaks_size}
 use Rattle.dw_types.specs.SizeTables.{Size}
 use Rattle.dw_types.specs.Steps.{is_plain_member, IsStepByValue, by_type, by_member, by_signature, targets_if}
-
-single : (found : Option ℕ) (to : ℕ) → option_to_list found ≡ to ∷ [] → found ≡ Some to
-single None to is = absurd cc
-single (Some y) to is = let same : y ≡ to = cc in ap Some same
-
--- the step that an entry makes by itself
-pub own-step : (test : Bool) (target found : Option ℕ) (to : ℕ) → option_to_list found ≡ targets_if test target → test ≡ true → target ≡ Some to → found ≡ Some to
-own-step false target found to is passes named = absurd cc
-own-step true None found to is passes named = absurd cc
-own-step true (Some x) found to is passes named = let same : x ≡ to = cc in single found to (is ∙ ap (λ (n : ℕ). n ∷ []) same)
 
 -- a child is among the children
 
@@ -44,7 +32,7 @@ kept p [] x (k, below, is) passes = absurd (omega arith)
 kept p (y ∷ xs) x (zero, below, is) passes = let same : p y ≡ true = ap p is ∙ passes in rw same (0, (omega arith), is)
 kept p (y ∷ xs) x (suc k, below, is) passes = kept-more p y xs x (p y) refl (kept p xs x (k, (omega arith), is) passes)
 
-child-in : (entries : List Facts) (parent child : ℕ) → IsChildOf entries parent child → Contains (children entries parent) child
+pub child-in : (entries : List Facts) (parent child : ℕ) → IsChildOf entries parent child → Contains (children entries parent) child
 child-in entries parent child h =
     let inside = h.inside in
     let long = length-range_with_len 0 (length entries) in
@@ -53,52 +41,11 @@ child-in entries parent child h =
     let test : is_child entries parent child ≡ true = rw h.parent_is (eq-eqb parent parent refl) in
     kept (is_child entries parent) (entry_numbers entries) child (child, (omega arith), at ∙ plain) test
 
--- what is true of each of the children
-pub each-child : (entries : List Facts) (parent : ℕ) (P : ℕ → Type 0) → All P (children entries parent) → (child : ℕ) → IsChildOf entries parent child → P child
-each-child entries parent P all child h = All-contains P (children entries parent) child all (child-in entries parent child h)
-
 -- plain members
 
-parent-true : (parent : Option ℕ) (node : ℕ) → is_parent parent node ≡ true → parent ≡ Some node
+pub parent-true : (parent : Option ℕ) (node : ℕ) → is_parent parent node ≡ true → parent ≡ Some node
 parent-true None node is = absurd cc
 parent-true (Some q) node is = ap Some (eqb-true q node is)
-
-module _ (entries : List Facts) (node member : ℕ) (plain : is_plain_member entries node member ≡ true) where
-  pub plain-holder : has_members (entry_of entries node) ≡ true
-  plain-holder = (and_parts (has_members (entry_of entries node)) _ plain).0
-
-  own-tests : (nat_eq (entry_of entries member).tag DW_TAG_member && (not (entry_of entries member).declared && is_parent (entry_of entries member).parent node)) ≡ true
-  own-tests = (and_parts (has_members (entry_of entries node)) _ plain).1
-
-  tag-test : nat_eq (entry_of entries member).tag DW_TAG_member ≡ true
-  tag-test = (and_parts (nat_eq (entry_of entries member).tag DW_TAG_member) _ own-tests).0
-
-  last-tests : (not (entry_of entries member).declared && is_parent (entry_of entries member).parent node) ≡ true
-  last-tests = (and_parts (nat_eq (entry_of entries member).tag DW_TAG_member) _ own-tests).1
-
-  pub plain-child : member < length entries → IsChildOf entries node member
-  plain-child inside = record {
-    inside = inside;
-    parent_is = parent-true (entry_of entries member).parent node (and_parts (not (entry_of entries member).declared) _ last-tests).1;
-  }
-
-  pub plain-part : is_plain Members (entry_of entries member) ≡ true
-  plain-part = rw (tag-test, (and_parts (not (entry_of entries member).declared) _ last-tests).0) refl
-
--- what an entry holds by value
-
-module _ (entries : List Facts) (stages : List Stage) (table : ℕ → Size) (node : ℕ) (size : Size) where
-  pub steps-measured : (type signature : Option ℕ)
-      → option_to_list type ≡ targets_if (passes_type_on (entry_of entries node)) (entry_of entries node).type_target
-      → option_to_list signature ≡ targets_if (is_declared_type (entry_of entries node)) (entry_of entries node).signature_target
-      → ((to : ℕ) → type ≡ Some to → IsMeasured stages to) → ((to : ℕ) → signature ≡ Some to → IsMeasured stages to)
-      → (has_members (entry_of entries node) ≡ true → All (FitsIn entries stages table size) (children entries node))
-      → (to : ℕ) → IsStepByValue entries node to → IsMeasured stages to
-  steps-measured type signature type_is signature_is typed signed fit to (by_type passes is) = typed to (own-step _ _ type to type_is passes is)
-  steps-measured type signature type_is signature_is typed signed fit to (by_member member below plain is) =
-      let fits = each-child entries node (FitsIn entries stages table size) (fit (plain-holder entries node member plain)) member (plain-child entries node member plain below) in
-      fits.measured to (plain-part entries node member plain) is
-  steps-measured type signature type_is signature_is typed signed fit to (by_signature declared is) = signed to (own-step _ _ signature to signature_is declared is)
 
 -- the rules at the children
 
@@ -108,16 +55,6 @@ plain-other role entry other = and_right (nat_eq entry.tag DW_TAG_member && not 
 pub counted-other : (role : Role) (entry : Facts) → is_dimensions role ≡ false → has_bad_count role entry ≡ false
 counted-other role entry other = let dimension : is_dimension role entry ≡ false = and_right (is_subrange_tag entry.tag) (is_dimensions role) other in rw dimension refl
 
-not-plain : (role : Role) (entry : Facts) (container type_size : Size) → is_plain role entry ≡ false → has_bad_count role entry ≡ false → PassesAsPart role entry container type_size
-not-plain role entry container type_size plain counted = record { typed = rw plain refl; counted = counted; inside = rw plain refl }
-
--- the children of an entry that is neither structure nor array
-pub other-part : (entry : Facts) (container type_size : Size) → PassesAsPart Other entry container type_size
-other-part entry container type_size = not-plain Other entry container type_size (plain-other Other entry refl) (counted-other Other entry refl)
-
-dimension-part : (entry : Facts) (container type_size : Size) → has_bad_count Dimensions entry ≡ false → PassesAsPart Dimensions entry container type_size
-dimension-part entry container type_size counted = not-plain Dimensions entry container type_size (plain-other Dimensions entry refl) counted
-
 pub members-role : (entry : Facts) → has_members entry ≡ true → role_of entry ≡ Members
 members-role entry is = rw is refl
 
@@ -126,26 +63,3 @@ dimensions-role entry not is = rw (not, is) refl
 
 pub other-role : (entry : Facts) → has_members entry ≡ false → is_array entry ≡ false → role_of entry ≡ Other
 other-role entry not nor = rw (not, nor) refl
-
-pub parts-pass : (entries : List Facts) (stages : List Stage) (table : ℕ → Size) (node : ℕ) (size : Size)
-    → (has_members (entry_of entries node) ≡ true → All (FitsIn entries stages table size) (children entries node))
-    → (is_array (entry_of entries node) ≡ true → All (λ child. has_bad_count Dimensions (entry_of entries child) ≡ false) (children entries node))
-    → (child : ℕ) → IsChildOf entries node child → PassesIn entries table (role_of (entry_of entries node)) size child
-parts-pass entries stages table node size fit counted child h = go (has_members (entry_of entries node)) refl (is_array (entry_of entries node)) refl
-  where
-    go : (a : Bool) → has_members (entry_of entries node) ≡ a → (b : Bool) → is_array (entry_of entries node) ≡ b → PassesIn entries table (role_of (entry_of entries node)) size child
-    go true is b or =
-        rw (members-role (entry_of entries node) is) (each-child entries node (FitsIn entries stages table size) (fit is) child h).passes
-    go false not true is =
-        rw (dimensions-role (entry_of entries node) not is)
-        (dimension-part (entry_of entries child) size _ (each-child entries node (λ k. has_bad_count Dimensions (entry_of entries k) ≡ false) (counted is) child h))
-    go false not false nor = rw (other-role (entry_of entries node) not nor) (other-part (entry_of entries child) size _)
-
--- without a parent that has members no container is asked
-pub alone-sized : (entry : Facts) (size container type_size : Size) → ((rule : Rule) → breaks_size Other entry size container type_size rule ≡ true → ⊥)
-    → (rule : Rule) → breaks_size Other entry size None type_size rule ≡ true → ⊥
-alone-sized entry size container type_size none NoSize breaks = none NoSize breaks
-alone-sized entry size container type_size none SizeTooGreat breaks = none SizeTooGreat breaks
-alone-sized entry size container type_size none MemberOutside breaks = let plain = plain-other Other entry refl in let no : false ≡ true = rw plain at breaks in cc
-alone-sized entry size container type_size none EnumSize breaks = none EnumSize breaks
-alone-sized entry size container type_size none _ breaks = cc

@@ -36,44 +36,6 @@ parts-push entries child visited steps first is =
     flat_map-append (part_step entries) visited (child ∷ []) ∙ ap (λ (last : List ℕ). flat_map (part_step entries) visited ++ last) (append-nil part) in
     ap (λ (xs : List ℕ). xs ++ part) is ∙ (append_assoc first (flat_map (part_step entries) visited) part ∙ ap (λ (xs : List ℕ). first ++ xs) (sym more))
 
--- the k-th step through the children, of which some are passed and so many of the steps are left
-
-pub kth-init : (entries : List Facts) (k : ℕ) → length (flat_map (part_step entries) []) + k ≡ k
-kth-init entries k = omega arith
-
-pub kth-here : (entries : List Facts) (visited rest all : List ℕ) (child k to left : ℕ) → visited ++ child ∷ rest ≡ all → option_to_list (Some to) ≡ part_step entries child → left ≡ 0
-    → length (flat_map (part_step entries) visited) + left ≡ k → Some to ≡ slice_get (flat_map (part_step entries) all) k
-kth-here entries visited rest all child k to left whole is none at =
-    let f = part_step entries in
-    let before = flat_map f visited in
-    let here : flat_map f (visited ++ child ∷ rest) ≡ before ++ to ∷ flat_map f rest =
-    flat_map-append f visited (child ∷ rest) ∙ ap (λ (part : List ℕ). before ++ (part ++ flat_map f rest)) (sym is) in
-    let same : flat_map f all ≡ before ++ to ∷ flat_map f rest = ap (flat_map f) (sym whole) ∙ here in
-    let place : k ≡ length before = omega arith in
-    let value : get_or (flat_map f all) k 0 ≡ to = rw (same, place) (get_or-append_seam before to (flat_map f rest) 0) in
-    let long : length (before ++ to ∷ flat_map f rest) ≡ length before + suc (length (flat_map f rest)) = length-append before (to ∷ flat_map f rest) in
-    let inside : k < length (flat_map f all) = rw same (omega arith) in
-    sym (slice_get-get_or (flat_map f all) k 0 inside ∙ ap Some value)
-
-length-more : (entries : List Facts) (visited : List ℕ) (child : ℕ) → length (flat_map (part_step entries) (visited ++ child ∷ [])) ≡ length (flat_map (part_step entries) visited) + length (part_step entries child)
-length-more entries visited child =
-    let f = part_step entries in
-    ap (λ (xs : List ℕ). length xs) (flat_map-append f visited (child ∷ []) ∙ ap (λ (last : List ℕ). flat_map f visited ++ last) (append-nil (f child)))
-    ∙ length-append (flat_map f visited) (f child)
-
-pub kth-after : (entries : List Facts) (child k left more : ℕ) (step : Option ℕ) → option_to_list step ≡ part_step entries child → more + length (option_to_list step) ≡ left → (visited : List ℕ)
-    → length (flat_map (part_step entries) visited) + left ≡ k → length (flat_map (part_step entries) (visited ++ child ∷ [])) + more ≡ k
-kth-after entries child k left more step is fewer visited at =
-    let long = length-more entries visited child in
-    let same : length (option_to_list step) ≡ length (part_step entries child) = ap (λ (xs : List ℕ). length xs) is in
-    omega arith
-
-pub kth-past : (entries : List Facts) (visited all : List ℕ) (k left : ℕ) → visited ++ [] ≡ all → length (flat_map (part_step entries) visited) + left ≡ k → None ≡ slice_get (flat_map (part_step entries) all) k
-kth-past entries visited all k left whole at =
-    let f = part_step entries in
-    let same : flat_map f visited ≡ flat_map f all = ap (flat_map f) (sym (append-nil visited) ∙ whole) in
-    sym (slice_get_past (flat_map f all) k (rw (← same) (omega arith)))
-
 -- pieces that come from the elements that pass a test
 
 by-test : (f g : ℕ → List ℕ) (p : ℕ → Bool) (x : ℕ) (xs : List ℕ) (b : Bool) → p x ≡ b → (p x ≡ true → f x ≡ g x) → (p x ≡ false → f x ≡ []) → flat_map f xs ≡ flat_map g (filter p xs)
@@ -143,16 +105,3 @@ leads-row entries targets node steps leads k within =
           let there = get_or-append_right steps row k 0 above in
           rw there (step-to_entry entries targets node (get_or row (k - length steps) 0) (steps-from entries node (get_or row (k - length steps) 0) (Contains-get_or row (k - length steps) 0 inside)))
     ]
-
--- the k-th step of an entry, in the graph
-
-pub kth-is : (entries : List Facts) (node id k : ℕ) (found : Option ℕ) → node ≡ id → id < length entries → found ≡ slice_get (steps_by_value entries node) k → found ≡ slice_get (steps_of (by_value entries) id) k
-kth-is entries node id k found same below is =
-    is ∙ (ap (λ (n : ℕ). slice_get (steps_by_value entries n) k) same ∙ ap (λ (row : List ℕ). slice_get row k) (sym (by_value-at entries id below)))
-
-pub kth-within : (entries : List Facts) → TargetsAreEntries entries → (node k to : ℕ) → Some to ≡ slice_get (steps_by_value entries node) k → to < length entries
-kth-within entries targets node k to is =
-    let row = steps_by_value entries node in
-    let inside = slice_get_within row k to (sym is) in
-    let value : get_or row k 0 ≡ to = get_or_from_slice_get row k to 0 (sym is) in
-    step-to_entry entries targets node to (steps-from entries node to (rw value at (Contains-get_or row k 0 inside)))

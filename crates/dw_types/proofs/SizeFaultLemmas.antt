@@ -260,7 +260,3 @@ cap-some (Some n) found is holds = rw is (holds n refl)
 -- so the capped size of an entry tells whether its byte size is not to be asked again
 pub sized-line : (entries : List Facts) (table : ℕ → Size) (node : ℕ) (size : Size) → size ≡ cap_size (2 ^ 63) (size_line entries table node) → IfSome size (λ _. has_no_size (entry_of entries node) ≡ false)
 sized-line entries table node size is = cap-some (size_line entries table node) size is (λ n sized. sized-kind entries table node (kind_of (entry_of entries node)) refl n sized)
-
--- and so does a table that obeys the capped lines
-pub sized-own : (entries : List Facts) (table : ℕ → Size) (node : ℕ) → table node ≡ cap_size (2 ^ 63) (size_line entries table node) → IfSome (table node) (λ _. has_no_size (entry_of entries node) ≡ false)
-sized-own entries table node obeys = sized-line entries table node (table node) obeys

@@ -168,10 +168,6 @@ capped_line entries table node = cap_size (2 ^ 63) (size_line entries table node
 pub capped_line-local : (entries : List Facts) → IsLocal (by_value entries) (capped_line entries)
 capped_line-local entries table other node in_graph same = ap (cap_size (2 ^ 63)) (size_line-local entries table other node in_graph same)
 
--- the node of a rank is an entry
-pub ranked-in : (entries : List Facts) (order : Ranking) → IsOrderOf (by_value entries) order → (rank node : ℕ) → rank < length order.by_rank → node ≡ get_or order.by_rank rank 0 → node < length entries
-ranked-in entries order h rank node below is = let here = h.ranked rank below in let long = length-by_value entries in rw is (let p = here.0 in omega arith)
-
 -- a structure or union that is not declared has a size of its own
 
 container-tag : (tag : ℕ) → is_one_of container_tags tag ≡ true → (tag ≡ DW_TAG_structure_type) ⊎ (tag ≡ DW_TAG_union_type)

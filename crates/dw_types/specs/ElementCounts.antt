@@ -1,12 +1,9 @@
 -- State: how many elements an array has, as a product that grows child by child (DWARF 5, 5.5).
-use Rattle.std.specs.Prelude.{ℕ, ◌*◌, ◌^◌, Bool, ◌||◌, List, [], ◌∷◌, None, Some, map, filter, min, if◌then◌else◌}
-use Rattle.std.specs.List.{list_any, range_with_len}
+use Rattle.std.specs.Prelude.{ℕ, ◌*◌, ◌^◌, ◌||◌, List, None, Some, map, filter, min, if◌then◌else◌}
+use Rattle.std.specs.List.{list_any}
 use Rattle.dw_types.specs.declared.facts.Facts.{Facts}
 use Rattle.dw_types.specs.declared.element_count.ElementCount.{ElementCount}
 use Rattle.dw_types.specs.declared.element_count.ElementCount.TheVariants.{NoDimension, Known, Unknown}
-use Rattle.dw_forms.specs.Codes.{DW_TAG_enumeration_type, DW_TAG_generic_subrange, DW_TAG_subrange_type}
-use Rattle.dw_types.specs.Entries.{is_child}
-use Rattle.dw_links.specs.Classes.{is_one_of}
 use Rattle.dw_types.specs.SizeTables.{Size, cap_size}
 use Rattle.dw_types.specs.Sizes.{is_subrange, is_other_index, has_stride, factor_of, product_of, has_elements}
 
@@ -34,10 +31,6 @@ grown (Known p) None = Unknown
 grown (Known p) (Some n) = Known (min (2 ^ 63) (p * n))
 grown Unknown n = Unknown
 
--- a subrange, an enumeration or a generic subrange
-abbrev pub is_index : Facts → Bool
-is_index entry = is_one_of (DW_TAG_subrange_type ∷ DW_TAG_enumeration_type ∷ DW_TAG_generic_subrange ∷ []) entry.tag
-
 -- one more child
 abbrev pub with_child : List Facts → ElementCount → ℕ → ElementCount
 with_child entries elements child =
@@ -45,10 +38,6 @@ with_child entries elements child =
     else if is_subrange entries child
     then (if has_stride entries child then Unknown else grown elements (factor_of entries child))
     else elements
-
--- the children of an entry that are among the first entries
-abbrev pub children_before : List Facts → ℕ → ℕ → List ℕ
-children_before entries node count = filter (is_child entries node) (range_with_len 0 count)
 
 -- the number of elements, if it is known
 abbrev pub size_from : ElementCount → Size

@@ -1,5 +1,6 @@
 -- Chapter: the kinds of entries that the rules on types, counts and sizes distinguish (DWARF 5, chapter 5).
 use Rattle.std.specs.Prelude.{ℕ, Bool, true, false, ◌&&◌, not, List, [], ◌∷◌, Option, None, Some, if◌then◌else◌, nat_eq}
+use Rattle.std.specs.List.{count_by}
 use Rattle.dw_types.specs.declared.facts.Facts.{Facts}
 use Rattle.dw_types.specs.declared.kind.Kind.{Kind}
 use Rattle.dw_types.specs.declared.kind.Kind.TheVariants.{Declared, OwnSized, Pointer, Alias, Enumeration, Array}
@@ -14,6 +15,7 @@ use Rattle.dw_forms.specs.Codes.{DW_TAG_file_type, DW_TAG_packed_type, DW_TAG_vo
 use Rattle.dw_forms.specs.Codes.{DW_TAG_interface_type, DW_TAG_unspecified_type, DW_TAG_shared_type}
 use Rattle.dw_forms.specs.Codes.{DW_TAG_rvalue_reference_type, DW_TAG_template_alias, DW_TAG_coarray_type}
 use Rattle.dw_forms.specs.Codes.{DW_TAG_dynamic_type, DW_TAG_atomic_type, DW_TAG_immutable_type}
+use Rattle.dw_forms.specs.Codes.{is_type_tag}
 use Rattle.dw_links.specs.Classes.{is_one_of}
 use Rattle.dw_types.specs.Entries.{entry_of}
 
@@ -71,6 +73,10 @@ kind_of entry =
     else if nat_eq entry.tag DW_TAG_subroutine_type then Subroutine
     else if is_one_of own_sized_tags entry.tag then OwnSized
     else NoType
+
+-- how many of these entries are types
+abbrev pub type_count : List Facts → ℕ
+type_count entries = count_by (λ (entry : Facts). is_type_tag entry.tag) entries
 
 -- what an entry is to its children: it has plain members, dimensions, or neither
 abbrev pub role_of : Facts → Role

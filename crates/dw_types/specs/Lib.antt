@@ -17,16 +17,17 @@ pub mod Extents
 pub mod SizeFaults
 -- Laws.
 pub mod PackingLaws
+-- Words.
+pub mod Held
 -- State.
 pub mod FactsAsked
 pub mod UnitsRead
-pub mod Roles
 pub mod Packing
-pub mod StepLists
+pub mod ShapesSeen
 pub mod WalkStates
 pub mod Walks
 pub mod RanksListed
 pub mod ElementCounts
 pub mod CappedSizes
 pub mod StoredSizes
-pub mod Measuring
+pub mod Noted

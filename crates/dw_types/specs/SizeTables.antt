@@ -1,5 +1,8 @@
 -- Chapter: tables with a size or none for each entry.
-use Rattle.std.specs.Prelude.{ℕ, List, Option, None, Some, min, slice_index_or}
+use Rattle.std.specs.Prelude.{◌≡◌, ℕ, false, List, Option, None, Some, min, slice_index_or}
+use Rattle.dw_forms.specs.Codes.{is_type_tag}
+use Rattle.dw_types.specs.declared.facts.Facts.{Facts}
+use Rattle.dw_types.specs.Entries.{entry_of}
 
 -- a size or none
 abbrev pub Size : Type 0
@@ -13,3 +16,7 @@ size_at sizes node = slice_index_or sizes node None
 abbrev pub cap_size : ℕ → Size → Size
 cap_size limit None = None
 cap_size limit (Some size) = Some (min limit size)
+
+-- an entry that is no type has no size
+abbrev pub OnlyTypesAreSized : List Facts → (ℕ → Size) → Type 0
+OnlyTypesAreSized entries table = (node : ℕ) → is_type_tag (entry_of entries node).tag ≡ false → table node ≡ None

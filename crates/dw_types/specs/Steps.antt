@@ -35,11 +35,6 @@ targets_if test target = if test then option_to_list target else []
 abbrev pub member_step : List Facts → ℕ → ℕ → List ℕ
 member_step entries node child = targets_if (is_plain_member entries node child) (entry_of entries child).type_target
 
--- the steps that an entry makes by itself: to its type, and by its signature
-abbrev pub own_steps : Facts → List ℕ
-own_steps entry =
-    targets_if (passes_type_on entry) entry.type_target ++ targets_if (is_declared_type entry) entry.signature_target
-
 -- the steps of an entry in their order: its type, the types of its plain members, its signature
 abbrev pub steps_by_value : List Facts → ℕ → List ℕ
 steps_by_value entries node =
@@ -50,24 +45,6 @@ steps_by_value entries node =
 -- the graph of steps by value, with the entries as nodes
 abbrev pub by_value : List Facts → Graph
 by_value entries = map (steps_by_value entries) (entry_numbers entries)
-
--- the steps of an entry through those of its members that are among the first entries
-abbrev pub member_steps : List Facts → ℕ → ℕ → List ℕ
-member_steps entries node count = flat_map (member_step entries node) (range_with_len 0 count)
-
--- the steps of an entry, with only those members that are among the first entries
-abbrev pub row_so_far : List Facts → ℕ → ℕ → List ℕ
-row_so_far entries node count =
-    targets_if (passes_type_on (entry_of entries node)) (entry_of entries node).type_target
-    ++ member_steps entries node count
-    ++ targets_if (is_declared_type (entry_of entries node)) (entry_of entries node).signature_target
-
--- the child is a plain member of the parent alone, and its type is the target
-pub record IsMemberOf (entries : List Facts) (child parent to : ℕ) : Type 0 where
-  pub before : parent < child
-  pub parent_has : has_members (entry_of entries parent) ≡ true
-  pub step : member_step entries parent child ≡ to ∷ []
-  pub others : (node : ℕ) → node ≢ parent → member_step entries node child ≡ []
 
 -- the step through a child, were its parent a structure
 abbrev pub part_step : List Facts → ℕ → List ℕ

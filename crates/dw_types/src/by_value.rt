@@ -1,32 +1,31 @@
 //! The graph of steps by value: what an entry holds, and so may not hold itself (DWARF 5, chapter 5).
 
-ghost use Rattle.std.specs.Prelude.{◌≡◌, ℕ, ◌^◌, ◌<◌, ◌↔◌, [], Some, length, All, IfNone, IfSome, IfOk, IfErr, OnOk};
+ghost use Rattle.std.specs.Prelude.{◌≡◌, ◌++◌, ◌+◌, ℕ, ◌^◌, ◌<◌, ◌↔◌, true, false, Some, length, IfOk, IfErr};
+ghost use Rattle.std.specs.Prelude.{OnOk};
+ghost use Rattle.std.specs.List.{flat_map};
 ghost use Rattle.std.specs.Option.{option_to_list};
-ghost use Rattle.dw_entries.specs.Scanned.{units_of};
-ghost use Rattle.dw_links.specs.Tables.{AreTables};
-ghost use Rattle.dw_types.specs.Entries.{entry_of, ParentsComeFirst, TargetsAreEntries, OffsetsRise};
 ghost use Rattle.dw_entries.specs.Failures.{HasNone, IsFirst};
-ghost use Rattle.dw_types.specs.FactsOf.{facts_in};
-ghost use Rattle.dw_types.specs.Graphs.{IsStep};
-ghost use Rattle.dw_types.specs.Kinds.{is_declared_type, parent_role, passes_type_on};
-ghost use Rattle.dw_types.specs.Shapes.{ShapeFailures};
-ghost use Rattle.dw_types.specs.StepLists.{rows_of, to_of};
-ghost use Rattle.dw_types.specs.Steps.{by_value, member_step, targets_if, IsMemberOf, IsStepByValue};
-ghost use Rattle.dw_types.specs.UnitsRead.{all_unit_facts};
 ghost use Rattle.dw_entries.specs.Stopped.{IfFault};
+ghost use Rattle.dw_types.specs.Entries.{children, entry_of, ParentsComeFirst, TargetsAreEntries, OffsetsRise};
+ghost use Rattle.dw_types.specs.Graphs.{IsStep};
+ghost use Rattle.dw_types.specs.Held.{all_facts};
+ghost use Rattle.dw_types.specs.Kinds.{has_members, is_array, is_declared_type, passes_type_on, type_count};
+ghost use Rattle.dw_types.specs.Noted.{IsNoted};
+ghost use Rattle.dw_types.specs.Shapes.{fails_shape, ShapeFailures};
+ghost use Rattle.dw_types.specs.ShapesSeen.{HasSeenArray, HasSeenShapes};
+ghost use Rattle.dw_types.specs.Steps.{by_value, part_step, steps_by_value, targets_if, IsStepByValue};
 
 use crate::facts_at::FactsAt;
-use crate::facts_list::FactsList;
-use crate::fault::fault_at_entry;
+use crate::facts_list::{FactsCursor, FactsList};
 use crate::graph::StepGraph;
 use crate::kind::Role;
+use crate::least_fault::LeastFault;
+use crate::numbers::Numbers;
 use crate::packed::Packed;
-use crate::roles::Roles;
-use crate::step_list::Step;
 use crate::unit_facts::UnitFacts;
-use dw_entries::{Entries, Stop};
-use dw_links::LinkTables;
-use std::alloc::Global;
+use dw_entries::Stop;
+use dw_links::Links;
+use std::alloc::{AllocError, Global};
 
 impl FactsAt<'_, '_> {
     /// The step that the entry makes to its type.
@@ -56,84 +55,126 @@ impl FactsAt<'_, '_> {
     }
 }
 
-/// The structure or union of which an entry is a plain member, and the entry's type.
-fn member_of(
-    entries: &FactsList<'_, '_>,
-    child: usize,
+/// Adds the step to an entry, if one is named.
+#[inline(always)]
+fn push_to(steps: &mut Numbers, to: Option<usize>) -> Result<(), AllocError>
+    ensures { OnOk result (steps.new ≡ steps.old ++ option_to_list to) }
+{
+    match to {
+        Some(to) => steps.push(to)?,
+        None => {}
+    }
+    Ok(())
+}
+
+/// Adds the steps of a structure or union that is not declared, and notes the members whose shapes fail.
+fn push_members(
+    cursor: &mut FactsCursor<'_, '_>,
+    steps: &mut Numbers,
+    least: &mut LeastFault,
+    node: usize,
+) -> Result<(), AllocError>
+    requires node { node < length cursor.old }
+    requires members { has_members (entry_of cursor.old node) ≡ true }
+    requires noted { IsNoted (fails_shape cursor.old) (HasSeenShapes cursor.old node) least.old.found }
+    ensures same { OnOk result (cursor.new ≡ cursor.old) }
+    ensures steps { OnOk result (steps.new ≡ steps.old ++ flat_map (part_step cursor.old) (children cursor.old node)) }
+    ensures noted { OnOk result
+        (IsNoted (fails_shape cursor.old) (HasSeenShapes cursor.old (node + 1)) least.new.found) }
+{
+    let mut next = cursor.first_child(node);
+    while let Some(child) = next {
+        let member = cursor.at(child);
+        least.note(child, member.broken_shape(Role::Members));
+        if member.is_plain(Role::Members) {
+            push_to(steps, member.type_target())?;
+        }
+        next = cursor.next_sibling(child);
+    }
+    Ok(())
+}
+
+/// Notes the dimensions of an array whose shapes fail.
+fn note_dimensions(cursor: &mut FactsCursor<'_, '_>, least: &mut LeastFault, node: usize)
+    requires node { node < length cursor.old }
+    requires array { is_array (entry_of cursor.old node) ≡ true }
+    requires noted { IsNoted (fails_shape cursor.old) (HasSeenArray cursor.old node) least.old.found }
+    ensures same { cursor.new ≡ cursor.old }
+    ensures noted { IsNoted (fails_shape cursor.old) (HasSeenShapes cursor.old (node + 1)) least.new.found }
+{
+    let mut next = cursor.first_child(node);
+    while let Some(child) = next {
+        let dimension = cursor.at(child);
+        least.note(child, dimension.broken_shape(Role::Dimensions));
+        next = cursor.next_sibling(child);
+    }
+}
+
+/// Notes the shape of an array and those of its dimensions, as far as they fail.
+fn note_array(
+    cursor: &mut FactsCursor<'_, '_>,
+    least: &mut LeastFault,
+    node: usize,
     entry: &FactsAt<'_, '_>,
-    parent: Role,
-) -> Option<(usize, usize)>
-    requires entry { entry.now ≡ entry_of entries.now child }
-    requires parent { parent ≡ parent_role entries.now child }
-    requires parents { ParentsComeFirst entries.now }
-    ensures none { IfNone result ((node : ℕ) → member_step entries.now node child ≡ []) }
-    ensures some { IfSome result (λ member. IsMemberOf entries.now child member.0 member.1) }
+)
+    requires node { node < length cursor.old }
+    requires entry { entry.now ≡ entry_of cursor.old node }
+    requires noted { IsNoted (fails_shape cursor.old) (HasSeenShapes cursor.old node) least.old.found }
+    requires none { has_members (entry_of cursor.old node) ≡ false }
+    ensures same { cursor.new ≡ cursor.old }
+    ensures noted { IsNoted (fails_shape cursor.old) (HasSeenShapes cursor.old (node + 1)) least.new.found }
 {
-    if !entry.is_plain(parent) {
-        return None;
+    if !entry.is_array() {
+        return;
     }
-    Some((entry.parent()?, entry.type_target()?))
+    least.note(node, entry.broken_shape(Role::Other));
+    note_dimensions(cursor, least, node);
 }
 
-/// The steps by value of all entries, by the members that make them, or the first fault of their shapes.
-fn steps_of(alloc: Global, entries: &FactsList<'_, '_>) -> Result<Vec<Step>, Stop>
-    requires parents { ParentsComeFirst entries.now }
-    requires targets { TargetsAreEntries entries.now }
-    requires rising { OffsetsRise entries.now }
-    requires few { length entries.now < 2 ^ 32 }
-    ensures rows { IfOk result (λ steps. rows_of steps.items (length entries.now) ≡ by_value entries.now) }
-    ensures leads { IfOk result (λ steps. All (λ step. to_of step < length entries.now) steps.items) }
-    ensures sound { OnOk result (HasNone (ShapeFailures entries.now)) }
-    ensures fault { IfErr result (IfFault (IsFirst (ShapeFailures entries.now))) }
+/// Adds the steps of an entry, and notes its shape and those of its members or dimensions, as far as they fail.
+#[inline(always)]
+fn push_row(
+    cursor: &mut FactsCursor<'_, '_>,
+    steps: &mut Numbers,
+    least: &mut LeastFault,
+    node: usize,
+) -> Result<(), AllocError>
+    requires node { node < length cursor.old }
+    requires noted { IsNoted (fails_shape cursor.old) (HasSeenShapes cursor.old node) least.old.found }
+    ensures same { OnOk result (cursor.new ≡ cursor.old) }
+    ensures steps { OnOk result (steps.new ≡ steps.old ++ steps_by_value cursor.old node) }
+    ensures noted { OnOk result
+        (IsNoted (fails_shape cursor.old) (HasSeenShapes cursor.old (node + 1)) least.new.found) }
 {
-    let mut steps: Vec<Step> = Vec::with_capacity(alloc, entries.count())?;
-    let mut roles = Roles::with_room(alloc, entries.count())?;
-    for child in 0..entries.count() {
-        let entry = entries.at(child);
-        if !entry.is_type_or_member() {
-            roles.push_other()?;
-            continue;
-        }
-        let parent = roles.of_parent(entry.parent());
-        if let Some(rule) = entry.broken_shape(parent) {
-            return Err(Stop::Fault(fault_at_entry(alloc, rule, entry.offset())));
-        }
-        roles.push(&entry)?;
-        Step::add(&mut steps, child, entry.type_step())?;
-        Step::add(&mut steps, child, entry.signature_step())?;
-        if let Some((holder, to)) = member_of(entries, child, &entry, parent) {
-            Step::add(&mut steps, holder, Some(to))?;
-        }
+    let entry = cursor.at(node);
+    if entry.has_members() {
+        return push_members(cursor, steps, least, node);
     }
-    Ok(steps)
+    note_array(cursor, least, node, &entry);
+    push_to(steps, entry.type_step())?;
+    push_to(steps, entry.signature_step())
 }
 
-/// The steps by value of each entry.
+/// The steps by value of each entry, and how many entries are types.
 #[derive(Drop)]
 pub struct ByValue {
     packed: Packed,
+    types: usize,
 }
 
 impl ByValue {
-    /// The graph of the steps by value of entries, or the first fault of their shapes. The nodes are the
-    /// numbers of the entries; the tables and what is read of units are those of the same entries.
-    pub fn new(
-        alloc: Global,
-        entries: &Entries<'_>,
-        tables: &LinkTables,
-        units: &[UnitFacts],
-    ) -> Result<Self, Stop>
-        requires tables { AreTables entries.now tables.now }
-        requires units { units.now ≡ all_unit_facts (units_of entries.now.scanned) }
-        ensures graph { IfOk result (λ it. ⟦<ByValue as StepGraph>⟧.graph it
-            ≡ by_value (facts_in (units_of entries.now.scanned))) }
+    /// The graph of the steps by value of entries, or the first fault of their shapes. The nodes are the numbers of the
+    /// entries.
+    pub fn new(alloc: Global, links: &Links<'_, '_>) -> Result<Self, Stop>
+        ensures graph { IfOk result (λ it. ⟦<ByValue as StepGraph>⟧.graph it ≡ by_value (all_facts links.now)) }
         ensures steps { IfOk result (λ it. (from to : ℕ)
-            → IsStep (⟦<ByValue as StepGraph>⟧.graph it) from to
-            ↔ IsStepByValue (facts_in (units_of entries.now.scanned)) from to) }
-        ensures sound { OnOk result (HasNone (ShapeFailures (facts_in (units_of entries.now.scanned)))) }
-        ensures fault { IfErr result (IfFault (IsFirst (ShapeFailures (facts_in (units_of entries.now.scanned))))) }
+            → IsStep (⟦<ByValue as StepGraph>⟧.graph it) from to ↔ IsStepByValue (all_facts links.now) from to) }
+        ensures types { IfOk result (λ it. it.types ≡ type_count (all_facts links.now)) }
+        ensures sound { OnOk result (HasNone (ShapeFailures (all_facts links.now))) }
+        ensures fault { IfErr result (IfFault (IsFirst (ShapeFailures (all_facts links.now)))) }
     {
-        let facts = FactsList::new(entries, tables, units);
+        let units = UnitFacts::read_all(alloc, links.entries)?;
+        let facts = FactsList::new(links, &units);
         ByValue::of_facts(alloc, &facts)
     }
 
@@ -146,12 +187,33 @@ impl ByValue {
         ensures graph { IfOk result (λ it. ⟦<ByValue as StepGraph>⟧.graph it ≡ by_value entries.now) }
         ensures steps { IfOk result (λ it. (from to : ℕ)
             → IsStep (⟦<ByValue as StepGraph>⟧.graph it) from to ↔ IsStepByValue entries.now from to) }
+        ensures types { IfOk result (λ it. it.types ≡ type_count entries.now) }
         ensures sound { OnOk result (HasNone (ShapeFailures entries.now)) }
         ensures fault { IfErr result (IfFault (IsFirst (ShapeFailures entries.now))) }
     {
-        let steps = steps_of(alloc, entries)?;
-        let packed = Packed::of_steps(alloc, entries.count(), steps.as_slice())?;
-        Ok(ByValue { packed })
+        let count = entries.count();
+        let mut cursor = entries.cursor();
+        let mut steps = Numbers::with_room(alloc, count / 2)?;
+        let mut ends = Numbers::with_room(alloc, count)?;
+        let mut least = LeastFault::none();
+        let mut types = 0;
+        for node in 0..count {
+            if cursor.is_type(node) {
+                types += 1;
+                push_row(&mut cursor, &mut steps, &mut least, node)?;
+            }
+            ends.push(steps.len())?;
+        }
+        least.check(alloc, entries)?;
+        let packed = Packed::from_rows(steps, ends);
+        Ok(ByValue { packed, types })
+    }
+
+    /// How many entries are types.
+    pub fn types(&self) -> usize
+        ensures { result ≡ self.now.types }
+    {
+        self.types
     }
 }
 

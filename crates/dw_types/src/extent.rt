@@ -1,14 +1,9 @@
 //! Whether a plain member ends inside its container (DWARF 5, 5.7.6).
 
-ghost use Rattle.std.specs.Prelude.{◌≡◌, ◌^◌, ◌<◌, ℕ, pos, ◌≤ℤ◌, Some, length, IfSome};
-ghost use Rattle.dw_types.specs.Extents.{bits_end_past, end_past, ends_past, is_outside, start_of};
-ghost use Rattle.dw_types.specs.Sizes.{size_to};
-ghost use Rattle.dw_types.specs.SizeTables.{size_at};
+ghost use Rattle.std.specs.Prelude.{◌≡◌, ◌^◌, pos, ◌≤ℤ◌, IfSome};
+ghost use Rattle.dw_types.specs.Extents.{bits_end_past, end_past, ends_past, start_of};
 
 use crate::facts_at::FactsAt;
-use crate::kind::Role;
-use crate::size_table::SizeTable;
-use dw_entries::constants::*;
 
 /// Whether so many bits from a bit on end past some bytes, or one of the numbers is negative.
 fn bits_end_past(bytes: u64, size: Option<u64>, start: Option<u64>) -> bool
@@ -65,25 +60,6 @@ impl FactsAt<'_, '_> {
         match (self.start(), size) {
             (Some(start), Some(size)) => end_past(bytes, start, size),
             _ => false,
-        }
-    }
-
-    /// Whether the entry, whose parent is this to it, is a plain member that ends outside its container,
-    /// by the sizes of the container and of the entry's type. Whether it is declared is asked last.
-    #[inline(always)]
-    pub(crate) fn is_outside(&self, parent: Role, sizes: &SizeTable) -> bool
-        requires container_in { (node : ℕ) → self.now.parent ≡ Some node → node < length sizes.now }
-        requires type_in { (node : ℕ) → self.now.type_target ≡ Some node → node < length sizes.now }
-        ensures { result ≡ is_outside parent self.now (size_to (size_at sizes.now) self.now.parent)
-            (size_to (size_at sizes.now) self.now.type_target) }
-    {
-        if !matches!(self.tag(), DW_TAG_member) || !parent.is_members() {
-            return false;
-        }
-        match sizes.get_to(self.parent()) {
-            Some(bytes) => self.ends_past(bytes, sizes.get_to(self.type_target()))
-                && !self.declared(),
-            None => false,
         }
     }
 }

@@ -4,21 +4,20 @@ ghost use Rattle.std.specs.Prelude.{◌≡◌, ◌<◌, ℕ, Bool, Option, None,
 ghost use Rattle.std.specs.Prelude.{if◌then◌else◌};
 ghost use Rattle.dw_forms.specs.Codes.{is_type_tag};
 ghost use Rattle.dw_forms.specs.Value.{view};
-ghost use Rattle.dw_entries.specs.Scanned.{all_entries, units_of};
 ghost use Rattle.dw_links.specs.References.{is_true};
-ghost use Rattle.dw_links.specs.Tables.{AreTables};
 ghost use Rattle.dw_types.specs.declared.constant.Constant.{Constant as ConstantOf};
 ghost use Rattle.dw_types.specs.declared.facts.Facts.{Facts as FactsOf};
 ghost use Rattle.dw_types.specs.Entries.{entry_of};
 ghost use Rattle.dw_types.specs.FactsAsked.{IsConstantAt, IsPresenceOf, IsTargetOf, asked_value};
-ghost use Rattle.dw_types.specs.FactsOf.{facts_in, is_type_or_member};
+ghost use Rattle.dw_types.specs.FactsOf.{is_type_or_member};
+ghost use Rattle.dw_types.specs.Held.{all_facts, entries_held, units_held};
 ghost use Rattle.dw_types.specs.UnitsRead.{all_unit_facts};
 
 use crate::constant::Constant;
 use crate::unit_facts::{UnitFacts, number_of, unit_at};
 use dw_entries::constants::*;
-use dw_entries::{Attribute, Cursor, Entries, EntryAt, EntryId, Value};
-use dw_links::LinkTables;
+use dw_entries::{Attribute, EntryAt, EntryId, Value};
+use dw_links::Links;
 use std::marker::Model;
 
 /// Whether the rules on types look at an entry: a type or a member.
@@ -75,8 +74,7 @@ fn is_true(value: Option<Value<'_>>) -> bool
 #[derive(Drop)]
 pub(crate) struct FactsAt<'e, 'a> {
     entry: EntryAt<'e, 'a>,
-    entries: &'e Entries<'a>,
-    tables: &'e LinkTables,
+    links: &'e Links<'e, 'a>,
     units: &'e [UnitFacts],
     id: EntryId,
 }
@@ -84,34 +82,30 @@ pub(crate) struct FactsAt<'e, 'a> {
 impl<'e, 'a> Model for FactsAt<'e, 'a> {
     ghost Value = { FactsOf };
 
-    ghost view = { λ it. entry_of (facts_in (units_of it.entries.now.scanned)) it.id };
+    ghost view = { λ it. entry_of (all_facts it.links.now) it.id };
 
-    ghost invariant = { λ it. (it.id < length (all_entries it.entries.now.scanned))
-        × (it.entry ≡ slice_get (all_entries it.entries.now.scanned) it.id)
-        × (it.units.now ≡ all_unit_facts (units_of it.entries.now.scanned))
-        × AreTables it.entries.now it.tables.now };
+    ghost invariant = { λ it. (it.id < length (entries_held it.links.now))
+        × (it.entry ≡ slice_get (entries_held it.links.now) it.id)
+        × (it.units.now ≡ all_unit_facts (units_held it.links.now)) };
 }
 
 impl<'e, 'a> FactsAt<'e, 'a> {
-    /// The entry with this number. The tables and what is read of units are those of the cursor's entries.
+    /// The entry with this number, by what is read of it and of its units.
     #[inline(always)]
     pub(crate) fn new(
-        cursor: &mut Cursor<'e, 'a>,
-        tables: &'e LinkTables,
+        entry: EntryAt<'e, 'a>,
+        links: &'e Links<'e, 'a>,
         units: &'e [UnitFacts],
         id: EntryId,
     ) -> Self
-        requires id { id < length (all_entries cursor.old.entries.now.scanned) }
-        requires units { units.now ≡ all_unit_facts (units_of cursor.old.entries.now.scanned) }
-        requires tables { AreTables cursor.old.entries.now tables.now }
-        ensures same { cursor.new.entries.now ≡ cursor.old.entries.now }
-        ensures found { result ≡ entry_of (facts_in (units_of cursor.old.entries.now.scanned)) id }
+        requires id { id < length (entries_held links.now) }
+        requires entry { entry ≡ slice_get (entries_held links.now) id }
+        requires units { units.now ≡ all_unit_facts (units_held links.now) }
+        ensures { result ≡ entry_of (all_facts links.now) id }
     {
-        let entries = cursor.entries;
         FactsAt {
-            entry: cursor.at(id),
-            entries,
-            tables,
+            entry,
+            links,
             units,
             id,
         }
@@ -177,10 +171,7 @@ impl<'e, 'a> FactsAt<'e, 'a> {
     fn target(&self, attribute: Attribute) -> Option<usize>
         ensures { (fact : FactsOf → Option ℕ) → IsTargetOf attribute fact → result ≡ fact self.now }
     {
-        asked_target(
-            &self.entry,
-            self.tables.target(self.entries, self.id, attribute),
-        )
+        asked_target(&self.entry, self.links.target(self.id, attribute))
     }
 
     /// What is read of its unit, and nothing at an entry that is no type and no member.

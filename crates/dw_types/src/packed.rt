@@ -1,14 +1,12 @@
 //! A graph in two vectors.
 
-ghost use Rattle.std.specs.Prelude.{◌≡◌, ◌+◌, ◌<◌, ◌≤◌, [], length, slice_index, All, IfOk, OnOk};
+ghost use Rattle.std.specs.Prelude.{◌≡◌, ◌<◌, length, IfOk};
 ghost use Rattle.dw_types.specs.Packing.{cut, begin_of, CutsInOrder, LeadsBelow};
-ghost use Rattle.dw_types.specs.StepLists.{rows_of, to_of, BeginsRows, CountsRows, HasPlaced};
 
 use crate::graph::StepGraph;
 use crate::memory::NoMemory;
 use crate::numbers::Numbers;
-use crate::step_list::Step;
-use std::alloc::{AllocError, Global};
+use std::alloc::Global;
 
 /// How many steps a graph has, where they can be counted.
 fn step_count<G: StepGraph>(graph: &G) -> usize {
@@ -17,58 +15,6 @@ fn step_count<G: StepGraph>(graph: &G) -> usize {
         count = count.saturating_add(graph.steps(node));
     }
     count
-}
-
-/// How many of the steps come from each of so many nodes.
-fn count_rows(alloc: Global, nodes: usize, steps: &[Step]) -> Result<Numbers, AllocError>
-    ensures { IfOk result (CountsRows steps.now nodes) }
-{
-    let mut counts = Numbers::zeros(alloc, nodes)?;
-    for step in steps {
-        let from = step.from as usize;
-        if from < nodes {
-            let count = counts.get(from) + 1;
-            counts.set(alloc, from, count)?;
-        }
-    }
-    Ok(counts)
-}
-
-/// The place of the first step of each of so many nodes, where those of one node stand behind another's.
-fn begin_rows(alloc: Global, nodes: usize, steps: &[Step]) -> Result<Numbers, AllocError>
-    ensures { IfOk result (BeginsRows steps.now nodes) }
-{
-    let mut begins = count_rows(alloc, nodes, steps)?;
-    let mut begin = 0;
-    for node in 0..nodes {
-        let count = begins.get(node);
-        begins.set(alloc, node, begin)?;
-        begin += count;
-    }
-    Ok(begins)
-}
-
-/// Puts each step in its place, behind those of its node that came before.
-fn place_rows(
-    alloc: Global,
-    nodes: usize,
-    steps: &[Step],
-    kept: &mut Numbers,
-    ends: &mut Numbers,
-) -> Result<(), AllocError>
-    requires leads { All (λ step. to_of step < nodes) steps.now }
-    requires none { HasPlaced steps.now [] nodes kept.old ends.old }
-    ensures { OnOk result (HasPlaced steps.now steps.now nodes kept.new ends.new) }
-{
-    for step in steps {
-        let from = step.from as usize;
-        if from < nodes {
-            let place = ends.get(from);
-            kept.set(alloc, place, step.to as usize)?;
-            ends.set(alloc, from, place + 1)?;
-        }
-    }
-    Ok(())
 }
 
 /// A graph in two vectors: the steps of all nodes, one node after another, and where those of each node end.
@@ -105,17 +51,6 @@ impl Packed {
         ensures { ⟦<Packed as StepGraph>⟧.graph result ≡ cut steps 0 ends }
     {
         Packed { steps, ends }
-    }
-
-    /// The graph of so many nodes with these steps, in any order. Those of one node keep theirs.
-    pub(crate) fn of_steps(alloc: Global, nodes: usize, steps: &[Step]) -> Result<Self, AllocError>
-        requires { All (λ step. to_of step < nodes) steps.now }
-        ensures { IfOk result (λ packed. ⟦<Packed as StepGraph>⟧.graph packed ≡ rows_of steps.now nodes) }
-    {
-        let mut ends = begin_rows(alloc, nodes, steps)?;
-        let mut kept = Numbers::zeros(alloc, steps.len())?;
-        place_rows(alloc, nodes, steps, &mut kept, &mut ends)?;
-        Ok(Packed { steps: kept, ends })
     }
 
     /// The place of a node's first step among all.

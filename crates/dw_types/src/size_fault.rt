@@ -1,14 +1,16 @@
 //! Which sizes are wrong (DWARF 5, 5.1, 5.5, 5.7 and 5.8).
 
-ghost use Rattle.std.specs.Prelude.{◌≡◌, ◌<◌, ℕ, Some, false, true, length, IfSome};
+ghost use Rattle.std.specs.Prelude.{◌≡◌, ◌<◌, ℕ, None, Some, false, true, length, nat_eq, IfSome};
+ghost use Rattle.dw_forms.specs.Codes.{DW_TAG_member as MemberTag};
 ghost use Rattle.dw_entries.specs.Failures.{IsLeast};
+ghost use Rattle.dw_types.specs.declared.kind.Role.TheVariants.{Members, Other};
 ghost use Rattle.dw_types.specs.SizeFaults.{breaks_size, differ, has_no_size, has_wrong_size, is_too_great, reads_own};
 ghost use Rattle.dw_types.specs.SizeFaults.{wants_own};
 ghost use Rattle.dw_types.specs.Sizes.{size_to};
 ghost use Rattle.dw_types.specs.SizeTables.{size_at};
 
 use crate::facts_at::FactsAt;
-use crate::kind::{Kind, Role};
+use crate::kind::Kind;
 use crate::size_table::SizeTable;
 use dw_entries::Rule;
 use dw_entries::constants::*;
@@ -85,19 +87,13 @@ impl FactsAt<'_, '_> {
         differ(own.natural(), sizes.get_to(self.type_target()))
     }
 
-    /// The rule on sizes that the entry breaks, whose parent is this to it and whose size is this: the one with
-    /// the least number. Where it has a size, its byte size is not asked again.
+    /// The rule on sizes that an entry of this size breaks, whatever its parent is: the one with the least number.
+    /// Where it has a size, its byte size is not checked again.
     #[inline(always)]
-    pub(crate) fn broken_size(
-        &self,
-        parent: Role,
-        size: Option<u64>,
-        sizes: &SizeTable,
-    ) -> Option<Rule>
+    pub(crate) fn broken_size(&self, size: Option<u64>, sizes: &SizeTable) -> Option<Rule>
         requires own { IfSome size (λ _. has_no_size self.now ≡ false) }
-        requires container_in { (node : ℕ) → self.now.parent ≡ Some node → node < length sizes.now }
         requires type_in { (node : ℕ) → self.now.type_target ≡ Some node → node < length sizes.now }
-        ensures { IsLeast (λ rule. breaks_size parent self.now size (size_to (size_at sizes.now) self.now.parent)
+        ensures { IsLeast (λ rule. breaks_size Other self.now size None
             (size_to (size_at sizes.now) self.now.type_target) rule ≡ true) result }
     {
         if size.is_none() && self.has_no_size() {
@@ -106,11 +102,30 @@ impl FactsAt<'_, '_> {
         if is_too_great(size) {
             return Some(Rule::SizeTooGreat);
         }
-        if self.is_outside(parent, sizes) {
-            return Some(Rule::MemberOutside);
-        }
         if self.has_wrong_size(sizes) {
             return Some(Rule::EnumSize);
+        }
+        None
+    }
+
+    /// The rule on sizes that a child of a structure or union of this size breaks, if it is a member.
+    #[inline(always)]
+    pub(crate) fn broken_as_member(
+        &self,
+        container: Option<u64>,
+        sizes: &SizeTable,
+    ) -> Option<Rule>
+        requires { (node : ℕ) → self.now.type_target ≡ Some node → node < length sizes.now }
+        ensures member { self.now.tag ≡ MemberTag → IsLeast (λ rule. breaks_size Members self.now None container
+            (size_to (size_at sizes.now) self.now.type_target) rule ≡ true) result }
+        ensures other { nat_eq self.now.tag MemberTag ≡ false → result ≡ None }
+    {
+        let bytes = container?;
+        if matches!(self.tag(), DW_TAG_member)
+            && self.ends_past(bytes, sizes.get_to(self.type_target()))
+            && !self.declared()
+        {
+            return Some(Rule::MemberOutside);
         }
         None
     }

@@ -1,6 +1,7 @@
 //! The table of sizes.
 
-ghost use Rattle.std.specs.Prelude.{◌≡◌, ◌<◌, ◌≤◌, ◌^◌, ℕ, Some, length, IfSome, List, OnOk, slice_set};
+ghost use Rattle.std.specs.Prelude.{◌≡◌, ◌<◌, ◌≤◌, ◌^◌, ℕ, None, Some, length, replicate, IfOk, IfSome, List, OnOk};
+ghost use Rattle.std.specs.Prelude.{slice_set};
 ghost use Rattle.dw_types.specs.Sizes.{size_to};
 ghost use Rattle.dw_types.specs.SizeTables.{Size, size_at};
 ghost use Rattle.dw_types.specs.StoredSizes.{size_in, sizes_in};
@@ -24,15 +25,17 @@ impl Model for SizeTable {
 }
 
 impl SizeTable {
-    /// The sizes that numbers stand for.
-    pub(crate) fn from_numbers(sizes: Numbers) -> Self
-        ensures { result ≡ sizes_in sizes }
+    /// No size at each of so many entries.
+    pub(crate) fn none(alloc: Global, count: usize) -> Result<Self, AllocError>
+        ensures { IfOk result (λ table. table ≡ replicate count None) }
     {
-        SizeTable { sizes }
+        Ok(SizeTable {
+            sizes: Numbers::zeros(alloc, count)?,
+        })
     }
 
     /// The number that stands for the size of an entry.
-    pub(crate) fn number(&self, node: usize) -> usize
+    fn number(&self, node: usize) -> usize
         requires { node < length self.now }
         ensures { size_in result ≡ size_at self.now node }
     {

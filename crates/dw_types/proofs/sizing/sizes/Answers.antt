@@ -5,7 +5,7 @@ use Rattle.dw_types.proofs.sizing.sizes.Goals as goal
 
 pub returns-clause-long : goal.returns-clause-long
 returns-clause-long c =
-    let us = units_of c.args.entries.now.scanned in
+    let us = units_of c.args.links.now.entries.now.scanned in
     rw (c.new-facts.ensures.same, length-facts_of (entries_of us) (placed us)) at c.sizes_of_facts.ensures.long
 
 pub returns-clause-sound : goal.returns-clause-sound

@@ -17,7 +17,7 @@ some-same f (Some x) = refl
 pub returns : goal.returns
 returns c = λ fact is.
     let it = c.self.inside in
-    let us = units_of it.entries.now.scanned in
+    let us = units_of it.links.now.entries.now.scanned in
     rw (← c.self.view_is)
     (fact-here us it.id it.entry c.self.invariant.0 c.self.invariant.1 fact (λ e. asked_presence e c.args.attribute) (is (entries_of us) (placed us)) c.is_some.result
     (IfSome_then it.entry c.asked_value.ensures

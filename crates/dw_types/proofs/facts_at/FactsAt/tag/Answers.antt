@@ -8,6 +8,6 @@ use Rattle.dw_types.proofs.facts_at.FactsAt.tag.Goals as goal
 pub returns : goal.returns
 returns c =
     let it = c.self.inside in
-    let us = units_of it.entries.now.scanned in
+    let us = units_of it.links.now.entries.now.scanned in
     rw (← c.self.view_is)
     (fact-here us it.id it.entry c.self.invariant.0 c.self.invariant.1 (λ (facts : Facts). facts.tag) (λ (e : Entry). e.head.decl.tag) (facts-tag (entries_of us) (placed us)) c.tag.result c.tag.ensures)

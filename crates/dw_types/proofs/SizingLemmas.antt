@@ -1,0 +1,536 @@
+-- The rules on sizes by rank: which entries were checked, and what a size that is written later leaves as it was.
+use Rattle.std.proofs.Common.{◌≡◌, ◌≢◌, ℕ, ◌+◌, ◌^◌, ◌<◌, ◌≤◌, nat_lt, Bool, true, false, ◌&&◌, ◌||◌, not, if◌then◌else◌, List, [], ◌∷◌, ◌++◌, Option, Some, None, length, get_or, set, replicate, nat_eq, ◌⊎◌, inl, inr, refl, sym, ap, ◌∙◌, arith, suc, zero, get_or-set_same, get_or-set_other}
+use Rattle.std.specs.Option.{option_map_or}
+use Rattle.std.specs.List.{Contains}
+use Rattle.std.specs.Prelude.{All, IfSome, IsSomeAnd}
+use Rattle.std.proofs.lemmas.Bool.{and_parts, cases_lt, eqb-true, eq-eqb, false_from_ne_true, false≢true, lt-ltb, ltb-true}
+use Rattle.std.proofs.lemmas.List.{get_or_past}
+use Rattle.std.proofs.lemmas.List.Elements.{All-contains, Contains-append_cases, Contains-append_left, Contains-append_right}
+use Rattle.dw_entries.specs.declared.rule.Rule.{Rule}
+use Rattle.dw_entries.specs.declared.rule.Rule.TheVariants.{NoSize, SizeTooGreat, MemberOutside, EnumSize}
+use Rattle.dw_entries.specs.declared.fault.Stop.{Stop}
+use Rattle.dw_entries.specs.declared.fault.Stop.TheVariants.{Fault, Memory}
+use Rattle.dw_entries.specs.Failures.{HasNone, IsLeast}
+use Rattle.dw_entries.specs.Stopped.{IfFault}
+use Rattle.dw_types.specs.CappedSizes.{ObeysCappedLines}
+use Rattle.dw_forms.specs.Codes.{DW_TAG_member, is_type_tag}
+use Rattle.dw_types.specs.declared.facts.Facts.{Facts}
+use Rattle.dw_types.specs.declared.kind.Kind.{Kind}
+use Rattle.dw_types.specs.declared.kind.Role.{Role}
+use Rattle.dw_types.specs.declared.kind.Role.TheVariants.{Members, Dimensions, Other}
+use Rattle.dw_types.specs.Children.{IsChildOf}
+use Rattle.dw_types.specs.Entries.{children, entry_of, no_entry, is_child, is_parent, OffsetsRise, ParentsComeFirst, TargetsAreEntries}
+use Rattle.dw_types.specs.Extents.{ends_past_container}
+use Rattle.dw_types.specs.Graphs.{steps_of, step_at}
+use Rattle.dw_types.specs.Kinds.{has_members, is_array, is_enumeration, is_members, parent_role, passes_type_on, role_in, role_of}
+use Rattle.dw_types.specs.Noted.{asked_at, is_member_of, IsNoted, with_rule}
+use Rattle.dw_types.specs.Orders.{Ranking, IsOrderOf}
+use Rattle.dw_types.specs.Shapes.{is_plain}
+use Rattle.dw_types.specs.SizeFaults.{breaks_size, fails_size, is_too_great, has_wrong_size, IsFirstSizeFault, SizeFailures}
+use Rattle.dw_types.specs.SizeTables.{Size, cap_size, size_at, OnlyTypesAreSized}
+use Rattle.dw_types.specs.Sizes.{size_line, size_of_kind, size_to, IsSizeTable}
+use Rattle.dw_types.specs.Steps.{by_value, is_plain_member, IsStepByValue, by_type, by_member}
+use Rattle.dw_types.specs.TypeFailures.{PassAll, PassesAt}
+use Rattle.dw_types.proofs.MeasurableLemmas.{child-in, members-role, parent-true, plain-other}
+use Rattle.dw_types.proofs.FirstLemmas.{broken_at, none-of_entries}
+use Rattle.dw_types.proofs.ListLemmas.{at_set}
+use Rattle.dw_types.proofs.NotedLemmas.{noted-first, noted-more, noted-none, noted-pass, noted-rules, noted-same}
+use Rattle.dw_types.proofs.OneTableLemmas.{first-is_first, found-is_table}
+use Rattle.dw_types.proofs.SizeFaultLemmas.{and-same}
+use Rattle.dw_types.proofs.SizeLineLemmas.{capped_line, capped_line-local, to-same}
+use Rattle.dw_types.proofs.StepLemmas.{length-by_value, step-from_by_value}
+use Rattle.dw_types.proofs.TableLemmas.{HasFilled, has-filled_all, has-filled_more}
+use Rattle.dw_types.proofs.UnaskedLemmas.{untyped-enumeration, untyped-kind, untyped-members, untyped-size_none}
+
+-- where the rules are checked at an entry
+
+at-parent : (member : Bool) (parent : Option ℕ) (k node : ℕ) → (if member then option_map_or (λ (p : ℕ). p) parent k else k) ≡ node → ((k ≡ node) × ((member ≡ false) ⊎ (parent ≡ None))) ⊎ ((member ≡ true) × (parent ≡ Some node))
+at-parent true None k node is = inl (is, inr refl)
+at-parent true (Some p) k node is = inr (refl, ap Some is)
+at-parent false parent k node is = inl (is, inl refl)
+
+module _ (entries : List Facts) (k : ℕ) where
+  -- at itself, if it is no member or has no parent, or at its parent, if it is a member
+  asked-of : (node : ℕ) → asked_at entries k ≡ node → ((k ≡ node) × ((nat_eq (entry_of entries k).tag DW_TAG_member ≡ false) ⊎ ((entry_of entries k).parent ≡ None))) ⊎ ((nat_eq (entry_of entries k).tag DW_TAG_member ≡ true) × ((entry_of entries k).parent ≡ Some node))
+  asked-of node is = at-parent (nat_eq (entry_of entries k).tag DW_TAG_member) (entry_of entries k).parent k node is
+
+  asked-itself : nat_eq (entry_of entries k).tag DW_TAG_member ≡ false → asked_at entries k ≡ k
+  asked-itself is = rw is refl
+
+  asked-member : (parent : ℕ) → nat_eq (entry_of entries k).tag DW_TAG_member ≡ true → (entry_of entries k).parent ≡ Some parent → asked_at entries k ≡ parent
+  asked-member parent is above = rw (is, above) refl
+
+  pub asked-in : ParentsComeFirst entries → k < length entries → asked_at entries k < length entries
+  asked-in parents below = elim (asked-of (asked_at entries k) refl) [
+    | inl here ↦ let same = here.0 in omega arith
+    | inr above ↦ let first = parents k (asked_at entries k) above.1 in omega arith
+  ]
+
+-- an entry that is no type
+
+member-untyped : (tag : ℕ) → nat_eq tag DW_TAG_member ≡ true → is_type_tag tag ≡ false
+member-untyped tag is = let same : tag ≡ DW_TAG_member = eqb-true tag DW_TAG_member is in ap is_type_tag same
+
+pub type-unmember : (tag : ℕ) → is_type_tag tag ≡ true → nat_eq tag DW_TAG_member ≡ false
+type-unmember tag is = false_from_ne_true (nat_eq tag DW_TAG_member) (λ member. false≢true (sym (member-untyped tag member) ∙ is))
+
+unmember-plain : (role : Role) (entry : Facts) → nat_eq entry.tag DW_TAG_member ≡ false → is_plain role entry ≡ false
+unmember-plain role entry is = rw is refl
+
+module _ (entries : List Facts) (table : ℕ → Size) where
+  -- it passes, if it has no size and is no plain member
+  pub untyped-passes : (k : ℕ) → is_type_tag (entry_of entries k).tag ≡ false → is_plain (parent_role entries k) (entry_of entries k) ≡ false → table k ≡ None → PassesAt (fails_size entries table) k
+  untyped-passes k untyped plain none NoSize breaks = untyped-size_none (entry_of entries k) untyped breaks
+  untyped-passes k untyped plain none SizeTooGreat breaks = false≢true (ap is_too_great (sym none) ∙ breaks)
+  untyped-passes k untyped plain none MemberOutside breaks = false≢true (rw plain at breaks)
+  untyped-passes k untyped plain none EnumSize breaks = let enumeration = untyped-enumeration (entry_of entries k) untyped in false≢true (rw enumeration at breaks)
+  untyped-passes k untyped plain none _ breaks = false≢true breaks
+
+  not-members : (array : Bool) → is_members (if array then Dimensions else Other) ≡ false
+  not-members true = refl
+  not-members false = refl
+
+  role-not : (entry : Facts) → has_members entry ≡ false → is_members (role_of entry) ≡ false
+  role-not entry not = rw not (not-members (is_array entry))
+
+  -- the members of an entry that has no plain members pass
+  child-plain : (k node : ℕ) → (entry_of entries k).parent ≡ Some node → has_members (entry_of entries node) ≡ false → is_plain (parent_role entries k) (entry_of entries k) ≡ false
+  child-plain k node above not =
+      plain-other (parent_role entries k) (entry_of entries k) (ap (λ (parent : Option ℕ). is_members (role_in entries parent)) above ∙ role-not (entry_of entries node) not)
+
+  alone-plain : (k : ℕ) → (entry_of entries k).parent ≡ None → is_plain (parent_role entries k) (entry_of entries k) ≡ false
+  alone-plain k above = plain-other (parent_role entries k) (entry_of entries k) (ap (λ (parent : Option ℕ). is_members (role_in entries parent)) above)
+
+  module _ (sized : OnlyTypesAreSized entries table) (node : ℕ) (not : has_members (entry_of entries node) ≡ false) where
+    members-pass : (k : ℕ) → nat_eq (entry_of entries k).tag DW_TAG_member ≡ true → (entry_of entries k).parent ≡ Some node → PassesAt (fails_size entries table) k
+    members-pass k member above = let untyped = member-untyped (entry_of entries k).tag member in untyped-passes k untyped (child-plain k node above not) (sized k untyped)
+
+  -- all that is checked at an entry that is no type passes
+  pub untyped-asked : OnlyTypesAreSized entries table → (node : ℕ) → is_type_tag (entry_of entries node).tag ≡ false → has_members (entry_of entries node) ≡ false → (k : ℕ) → asked_at entries k ≡ node → PassesAt (fails_size entries table) k
+  untyped-asked sized node untyped not k is rule breaks = elim (asked-of entries k node is) [
+    | inl here ↦
+        let same : k ≡ node = here.0 in
+        let own : is_type_tag (entry_of entries k).tag ≡ false = ap (λ (n : ℕ). is_type_tag (entry_of entries n).tag) same ∙ untyped in
+        elim here.1 [
+          | inl other ↦ untyped-passes k own (unmember-plain (parent_role entries k) (entry_of entries k) other) (sized k own) rule breaks
+          | inr alone ↦ untyped-passes k own (alone-plain k alone) (sized k own) rule breaks
+        ]
+    | inr above ↦ members-pass sized node not k above.0 above.1 rule breaks
+  ]
+
+  least-same : (f g : Rule → Bool) → ((r : Rule) → f r ≡ g r) → (rule : Option Rule) → IsLeast (λ r. f r ≡ true) rule → IsLeast (λ r. g r ≡ true) rule
+  least-same f g same None none = λ r breaks. none r (same r ∙ breaks)
+  least-same f g same (Some least) is = (sym (same least) ∙ is.0, λ r breaks lower. is.1 r (same r ∙ breaks) lower)
+
+  -- a type is no member
+  type-same : (node : ℕ) (size : Size) → is_type_tag (entry_of entries node).tag ≡ true → table node ≡ size → (rule : Rule)
+      → breaks_size Other (entry_of entries node) size None (size_to table (entry_of entries node).type_target) rule ≡ fails_size entries table node rule
+  type-same node size is sized NoSize = refl
+  type-same node size is sized SizeTooGreat = ap is_too_great (sym sized)
+  type-same node size is sized MemberOutside = let other = type-unmember (entry_of entries node).tag is in rw other refl
+  type-same node size is sized EnumSize = refl
+  type-same node size is sized _ = refl
+
+  pub type-least : (node : ℕ) (size : Size) → is_type_tag (entry_of entries node).tag ≡ true → table node ≡ size → (rule : Option Rule)
+      → IsLeast (λ r. breaks_size Other (entry_of entries node) size None (size_to table (entry_of entries node).type_target) r ≡ true) rule
+      → IsLeast (λ r. fails_size entries table node r ≡ true) rule
+  type-least node size is sized rule least = least-same _ (fails_size entries table node) (type-same node size is sized) rule least
+
+  -- a member of a structure or union
+  pub member-least : (node k : ℕ) (size : Size) → has_members (entry_of entries node) ≡ true → (entry_of entries k).parent ≡ Some node → nat_eq (entry_of entries k).tag DW_TAG_member ≡ true
+      → OnlyTypesAreSized entries table → table node ≡ size → (rule : Option Rule)
+      → IsLeast (λ r. breaks_size Members (entry_of entries k) None size (size_to table (entry_of entries k).type_target) r ≡ true) rule
+      → IsLeast (λ r. fails_size entries table k r ≡ true) rule
+  member-least node k size members above member sized is rule least =
+      let role : parent_role entries k ≡ Members = ap (role_in entries) above ∙ members-role (entry_of entries node) members in
+      let none : table k ≡ None = sized k (member-untyped (entry_of entries k).tag member) in
+      let container : size_to table (entry_of entries k).parent ≡ size = ap (size_to table) above ∙ is in
+      least-same _ (fails_size entries table k) (λ r. sym (λ i. breaks_size (role i) (entry_of entries k) (none i) (container i) (size_to table (entry_of entries k).type_target) r)) rule least
+
+-- going over the members
+
+-- a child that was passed, with tag member
+abbrev pub IsVisited : List Facts → List ℕ → ℕ → Type 0
+IsVisited entries visited k = Contains visited k × (nat_eq (entry_of entries k).tag DW_TAG_member ≡ true)
+
+module _ (entries : List Facts) (Seen : ℕ → Type 0) (visited : List ℕ) (child : ℕ) where
+  abbrev Before : ℕ → Type 0
+  Before k = Seen k ⊎ IsVisited entries visited k
+
+  abbrev After : ℕ → Type 0
+  After k = Seen k ⊎ IsVisited entries (visited ++ child ∷ []) k
+
+  visited-keeps : (k : ℕ) → Before k → After k
+  visited-keeps k is = elim is [ inl old ↦ inl old | inr there ↦ inr (Contains-append_left visited (child ∷ []) k there.0, there.1) ]
+
+  one : (k : ℕ) → Contains (child ∷ []) k → k ≡ child
+  one k (zero, below, is) = sym is
+  one k (suc i, below, is) = absurd (omega arith)
+
+  visited-member : (fails : ℕ → Rule → Bool) (found : Option (ℕ × Rule)) → nat_eq (entry_of entries child).tag DW_TAG_member ≡ true → IsNoted fails (λ k. Before k ⊎ (k ≡ child)) found → IsNoted fails After found
+  visited-member fails found member h =
+      noted-same fails (λ k. Before k ⊎ (k ≡ child)) After found
+      (λ k is. elim is [
+        | inl old ↦ visited-keeps k old
+        | inr new ↦ inr (Contains-append_right visited (child ∷ []) k (0, (omega arith), sym new), ap (λ (n : ℕ). nat_eq (entry_of entries n).tag DW_TAG_member) new ∙ member)
+      ])
+      (λ k is. elim is [
+        | inl old ↦ inl (inl old)
+        | inr there ↦ elim (Contains-append_cases visited (child ∷ []) k there.0) [ inl before ↦ inl (inr (before, there.1)) | inr last ↦ inr (one k last) ]
+      ]) h
+
+  visited-other : (fails : ℕ → Rule → Bool) (found : Option (ℕ × Rule)) → nat_eq (entry_of entries child).tag DW_TAG_member ≡ false → IsNoted fails Before found → IsNoted fails After found
+  visited-other fails found other h =
+      noted-same fails Before After found visited-keeps
+      (λ k is. elim is [
+        | inl old ↦ inl old
+        | inr there ↦ elim (Contains-append_cases visited (child ∷ []) k there.0) [
+          | inl before ↦ inr (before, there.1)
+          | inr last ↦ absurd (false≢true (sym other ∙ (ap (λ (n : ℕ). nat_eq (entry_of entries n).tag DW_TAG_member) (sym (one k last)) ∙ there.1)))
+        ]
+      ]) h
+
+-- no child was passed
+pub none-visited : (entries : List Facts) (fails : ℕ → Rule → Bool) (Seen : ℕ → Type 0) (found : Option (ℕ × Rule)) → IsNoted fails Seen found → IsNoted fails (λ k. Seen k ⊎ IsVisited entries [] k) found
+none-visited entries fails Seen found h =
+    noted-same fails Seen (λ k. Seen k ⊎ IsVisited entries [] k) found (λ k old. inl old) (λ k is. elim is [ inl old ↦ old | inr there ↦ absurd (let below = there.0.1 in omega arith) ]) h
+
+-- one more child of a structure or union, with the rule that it violates if it is a member
+pub child-noted : (entries : List Facts) (table : ℕ → Size) (Seen : ℕ → Type 0) (visited : List ℕ) (node child : ℕ) (size : Size) (found : Option (ℕ × Rule)) (rule : Option Rule)
+    → has_members (entry_of entries node) ≡ true → (entry_of entries child).parent ≡ Some node → OnlyTypesAreSized entries table → table node ≡ size
+    → ((entry_of entries child).tag ≡ DW_TAG_member → IsLeast (λ r. breaks_size Members (entry_of entries child) None size (size_to table (entry_of entries child).type_target) r ≡ true) rule)
+    → (nat_eq (entry_of entries child).tag DW_TAG_member ≡ false → rule ≡ None)
+    → IsNoted (fails_size entries table) (λ k. Seen k ⊎ IsVisited entries visited k) found
+    → IsNoted (fails_size entries table) (λ k. Seen k ⊎ IsVisited entries (visited ++ child ∷ []) k) (with_rule found child rule)
+child-noted entries table Seen visited node child size found rule members above sized is least other h = by-tag (nat_eq (entry_of entries child).tag DW_TAG_member) refl
+  where
+    fails : ℕ → Rule → Bool
+    fails = fails_size entries table
+
+    by-tag : (member : Bool) → nat_eq (entry_of entries child).tag DW_TAG_member ≡ member → IsNoted fails (λ k. Seen k ⊎ IsVisited entries (visited ++ child ∷ []) k) (with_rule found child rule)
+    by-tag true member =
+        let here = member-least entries table node child size members above member sized is rule (least (eqb-true (entry_of entries child).tag DW_TAG_member member)) in
+        visited-member entries Seen visited child fails (with_rule found child rule) member (noted-more fails (Before entries Seen visited child) child found rule here h)
+    by-tag false not =
+        let same : found ≡ with_rule found child rule = ap (with_rule found child) (sym (other not)) in
+        visited-other entries Seen visited child fails (with_rule found child rule) not (rw (← same) h)
+
+-- all children were passed
+pub members-noted : (entries : List Facts) (fails : ℕ → Rule → Bool) (Seen : ℕ → Type 0) (visited : List ℕ) (node : ℕ) (found : Option (ℕ × Rule)) → All (IsChildOf entries node) visited → visited ≡ children entries node
+    → IsNoted fails (λ k. Seen k ⊎ IsVisited entries visited k) found → IsNoted fails (λ k. Seen k ⊎ (is_member_of entries node k ≡ true)) found
+members-noted entries fails Seen visited node found each all h =
+    noted-same fails (λ k. Seen k ⊎ IsVisited entries visited k) (λ k. Seen k ⊎ (is_member_of entries node k ≡ true)) found
+    (λ k is. elim is [
+      | inl old ↦ inl old
+      | inr there ↦ inr (both k there.1 (All-contains (IsChildOf entries node) visited k each there.0).parent_is)
+    ])
+    (λ k is. elim is [
+      | inl old ↦ inl old
+      | inr member ↦
+          let parts = and_parts (nat_eq (entry_of entries k).tag DW_TAG_member) (is_child entries node k) member in
+          let above = parent-true (entry_of entries k).parent node parts.1 in
+          inr (rw all (child-in entries node k record { inside = child-inside k above; parent_is = above }), parts.0)
+    ]) h
+  where
+    both : (k : ℕ) → nat_eq (entry_of entries k).tag DW_TAG_member ≡ true → (entry_of entries k).parent ≡ Some node → is_member_of entries node k ≡ true
+    both k member above = rw (member, above) (eq-eqb node node refl)
+
+    child-inside : (k : ℕ) → (entry_of entries k).parent ≡ Some node → k < length entries
+    child-inside k above = elim (cases_lt k (length entries)) [
+      | inl inside ↦ inside
+      | inr past ↦ let none : (entry_of entries k).parent ≡ None = ap (λ (entry : Facts). entry.parent) (get_or_past entries k no_entry past) in let no : None ≡ Some node = sym none ∙ above in cc
+    ]
+
+-- a structure or union was noted, and then its members: all that is checked at it
+pub asked-noted : (entries : List Facts) (fails : ℕ → Rule → Bool) (Seen : ℕ → Type 0) (node : ℕ) (found : Option (ℕ × Rule)) → nat_eq (entry_of entries node).tag DW_TAG_member ≡ false
+    → IsNoted fails (λ k. (Seen k ⊎ (k ≡ node)) ⊎ (is_member_of entries node k ≡ true)) found → IsNoted fails (λ k. Seen k ⊎ (asked_at entries k ≡ node)) found
+asked-noted entries fails Seen node found plain h =
+    noted-same fails (λ k. (Seen k ⊎ (k ≡ node)) ⊎ (is_member_of entries node k ≡ true)) (λ k. Seen k ⊎ (asked_at entries k ≡ node)) found
+    (λ k is. elim is [
+      | inl before ↦ elim before [ inl old ↦ inl old | inr here ↦ inr (ap (asked_at entries) here ∙ asked-itself entries node plain) ]
+      | inr member ↦
+          let parts = and_parts (nat_eq (entry_of entries k).tag DW_TAG_member) (is_child entries node k) member in
+          inr (asked-member entries k node parts.0 (parent-true (entry_of entries k).parent node parts.1))
+    ])
+    (λ k is. elim is [
+      | inl old ↦ inl (inl old)
+      | inr asked ↦ elim (asked-of entries k node asked) [
+        | inl here ↦ inl (inr here.0)
+        | inr above ↦ let member = above.0 in let parent = above.1 in inr (rw (member, parent) (eq-eqb node node refl))
+      ]
+    ]) h
+
+-- the same, where the members are noted after the others
+
+either-of : (a b : Bool) → (a || b) ≡ true → (a ≡ true) ⊎ (b ≡ true)
+either-of true b is = inl refl
+either-of false b is = inr is
+
+or-left : (a b : Bool) → a ≡ true → (a || b) ≡ true
+or-left true b is = refl
+or-left false b is = absurd (false≢true is)
+
+or-right : (a b : Bool) → b ≡ true → (a || b) ≡ true
+or-right true b is = refl
+or-right false b is = is
+
+pub holder-noted : (entries : List Facts) (fails : ℕ → Rule → Bool) (seen : ℕ → Bool) (node : ℕ) (found new : Option (ℕ × Rule)) → nat_eq (entry_of entries node).tag DW_TAG_member ≡ false
+    → ((other : ℕ → Bool) → IsNoted fails (λ k. other k ≡ true) found → IsNoted fails (λ k. (other k ≡ true) ⊎ (is_member_of entries node k ≡ true)) new)
+    → IsNoted fails (λ k. (seen k ≡ true) ⊎ (k ≡ node)) found → IsNoted fails (λ k. (seen k ≡ true) ⊎ (asked_at entries k ≡ node)) new
+holder-noted entries fails seen node found new plain more h =
+    let both : ℕ → Bool = λ k. seen k || nat_eq k node in
+    let to : (k : ℕ) → (seen k ≡ true) ⊎ (k ≡ node) → both k ≡ true = λ k is. elim is [
+      | inl old ↦ or-left (seen k) (nat_eq k node) old
+      | inr here ↦ or-right (seen k) (nat_eq k node) (eq-eqb k node here)
+    ] in
+    let back : (k : ℕ) → both k ≡ true → (seen k ≡ true) ⊎ (k ≡ node) = λ k is. elim (either-of (seen k) (nat_eq k node) is) [ inl old ↦ inl old | inr here ↦ inr (eqb-true k node here) ] in
+    let after = more both (noted-same fails (λ k. (seen k ≡ true) ⊎ (k ≡ node)) (λ k. both k ≡ true) found to back h) in
+    asked-noted entries fails (λ k. seen k ≡ true) node new plain
+    (noted-same fails (λ k. (both k ≡ true) ⊎ (is_member_of entries node k ≡ true)) (λ k. ((seen k ≡ true) ⊎ (k ≡ node)) ⊎ (is_member_of entries node k ≡ true)) new
+    (λ k is. elim is [ inl before ↦ inl (back k before) | inr member ↦ inr member ])
+    (λ k is. elim is [ inl before ↦ inl (to k before) | inr member ↦ inr member ]) after)
+
+-- a type without plain members was noted: all that is checked at it
+pub alone-noted : (entries : List Facts) (table : ℕ → Size) (Seen : ℕ → Type 0) (node : ℕ) (found : Option (ℕ × Rule)) → OnlyTypesAreSized entries table → has_members (entry_of entries node) ≡ false
+    → nat_eq (entry_of entries node).tag DW_TAG_member ≡ false
+    → IsNoted (fails_size entries table) (λ k. Seen k ⊎ (k ≡ node)) found → IsNoted (fails_size entries table) (λ k. Seen k ⊎ (asked_at entries k ≡ node)) found
+alone-noted entries table Seen node found sized not plain h =
+    let fails : ℕ → Rule → Bool = fails_size entries table in
+    let Other : ℕ → Type 0 = λ k. (nat_eq (entry_of entries k).tag DW_TAG_member ≡ true) × ((entry_of entries k).parent ≡ Some node) in
+    let more = noted-pass fails (λ k. Seen k ⊎ (k ≡ node)) Other found (λ k is. members-pass entries table sized node not k is.0 is.1) h in
+    noted-same fails (λ k. (Seen k ⊎ (k ≡ node)) ⊎ Other k) (λ k. Seen k ⊎ (asked_at entries k ≡ node)) found
+    (λ k is. elim is [
+      | inl before ↦ elim before [ inl old ↦ inl old | inr here ↦ inr (ap (asked_at entries) here ∙ asked-itself entries node plain) ]
+      | inr member ↦ inr (asked-member entries k node member.0 member.1)
+    ])
+    (λ k is. elim is [
+      | inl old ↦ inl (inl old)
+      | inr asked ↦ elim (asked-of entries k node asked) [ inl here ↦ inl (inr here.0) | inr above ↦ inr above ]
+    ]) more
+
+-- all that is checked at an entry that is no type passes
+pub untyped-noted : (entries : List Facts) (table : ℕ → Size) (Seen : ℕ → Type 0) (node : ℕ) (found : Option (ℕ × Rule)) → OnlyTypesAreSized entries table → is_type_tag (entry_of entries node).tag ≡ false
+    → IsNoted (fails_size entries table) Seen found → IsNoted (fails_size entries table) (λ k. Seen k ⊎ (asked_at entries k ≡ node)) found
+untyped-noted entries table Seen node found sized untyped h =
+    noted-pass (fails_size entries table) Seen (λ k. asked_at entries k ≡ node) found
+    (untyped-asked entries table sized node untyped (untyped-members (entry_of entries node) untyped)) h
+
+-- a type was noted, with the least rule that it violates
+pub type-noted : (entries : List Facts) (table : ℕ → Size) (Seen : ℕ → Type 0) (node : ℕ) (size : Size) (found : Option (ℕ × Rule)) (rule : Option Rule) → is_type_tag (entry_of entries node).tag ≡ true → table node ≡ size
+    → IsLeast (λ r. breaks_size Other (entry_of entries node) size None (size_to table (entry_of entries node).type_target) r ≡ true) rule
+    → IsNoted (fails_size entries table) Seen found → IsNoted (fails_size entries table) (λ k. Seen k ⊎ (k ≡ node)) (with_rule found node rule)
+type-noted entries table Seen node size found rule is sized least h = noted-more (fails_size entries table) Seen node found rule (type-least entries table node size is sized rule least) h
+
+-- the table with the size of a type
+pub typed-set : (entries : List Facts) (sizes : List Size) (node : ℕ) (size : Size) → node < length sizes → is_type_tag (entry_of entries node).tag ≡ true → OnlyTypesAreSized entries (size_at sizes) → OnlyTypesAreSized entries (size_at (set sizes node size))
+typed-set entries sizes node size inside is typed k untyped = elim (at_set sizes node k size None inside) [
+  | inl here ↦ absurd (false≢true (sym untyped ∙ (ap (λ (n : ℕ). is_type_tag (entry_of entries n).tag) here.0 ∙ is)))
+  | inr apart ↦ apart.1 ∙ typed k untyped
+]
+
+-- the line of an entry that is no type
+untyped-line : (entries : List Facts) (table : ℕ → Size) (k : ℕ) → is_type_tag (entry_of entries k).tag ≡ false → capped_line entries table k ≡ None
+untyped-line entries table k untyped = ap (λ (kind : Kind). cap_size (2 ^ 63) (size_of_kind kind entries table k)) (untyped-kind (entry_of entries k) untyped)
+
+-- an entry that is no type has no size in the table already
+pub untyped-set : (entries : List Facts) (sizes : List Size) (node : ℕ) → OnlyTypesAreSized entries (size_at sizes) → is_type_tag (entry_of entries node).tag ≡ false → sizes ≡ set sizes node (capped_line entries (size_at sizes) node)
+untyped-set entries sizes node typed untyped =
+    sym (ap (set sizes node) (untyped-line entries (size_at sizes) node untyped ∙ sym (typed node untyped)) ∙ set-itself sizes node)
+  where
+    set-itself : (xs : List Size) (k : ℕ) → set xs k (get_or xs k None) ≡ xs
+    set-itself [] k = refl
+    set-itself (x ∷ xs) zero = refl
+    set-itself (x ∷ xs) (suc k) = ap (λ (rest : List Size). x ∷ rest) (set-itself xs k)
+
+-- by rank
+
+-- the entries that were checked before a place of the order
+abbrev pub seen_before : List Facts → Ranking → ℕ → ℕ → Bool
+seen_before entries order place k = nat_lt k (length entries) && nat_lt (get_or order.ranks (asked_at entries k) 0) place
+
+module _ (entries : List Facts) (parents : ParentsComeFirst entries) (order : Ranking) (h : IsOrderOf (by_value entries) order) where
+  seen-inside : (place k : ℕ) → seen_before entries order place k ≡ true → k < length entries
+  seen-inside place k is = ltb-true k (length entries) (and_parts (nat_lt k (length entries)) _ is).0
+
+  seen-rank : (place k : ℕ) → seen_before entries order place k ≡ true → get_or order.ranks (asked_at entries k) 0 < place
+  seen-rank place k is = ltb-true _ place (and_parts (nat_lt k (length entries)) _ is).1
+
+  seen-back : (place k : ℕ) → k < length entries → get_or order.ranks (asked_at entries k) 0 < place → seen_before entries order place k ≡ true
+  seen-back place k inside below = rw (lt-ltb k (length entries) inside, lt-ltb (get_or order.ranks (asked_at entries k) 0) place below) refl
+
+  -- at the end each entry was checked
+  pub seen-all : (place : ℕ) → length order.by_rank ≤ place → (k : ℕ) → k < length entries → seen_before entries order place k ≡ true
+  seen-all place over k inside =
+      let within = asked-in entries k parents inside in
+      let long = length-by_value entries in
+      let rank = (h.listed (asked_at entries k) (omega arith)).0 in
+      seen-back place k inside (omega arith)
+
+  -- at the next place those are checked that are checked at its entry
+  pub seen-more : (place : ℕ) → place < length order.by_rank → (k : ℕ) → (seen_before entries order place k ≡ true) ⊎ (asked_at entries k ≡ get_or order.by_rank place 0) → seen_before entries order (place + 1) k ≡ true
+  seen-more place below k is = elim is [
+    | inl old ↦ let rank = seen-rank place k old in seen-back (place + 1) k (seen-inside place k old) (omega arith)
+    | inr asked ↦
+        let here = h.ranked place below in
+        let rank : get_or order.ranks (asked_at entries k) 0 ≡ place = ap (λ (n : ℕ). get_or order.ranks n 0) asked ∙ here.1 in
+        seen-back (place + 1) k (inside-asked k (get_or order.by_rank place 0) asked (let long = length-by_value entries in let p = here.0 in omega arith)) (omega arith)
+  ]
+    where
+      past-asked : (k : ℕ) → length entries ≤ k → asked_at entries k ≡ k
+      past-asked k past = let none = get_or_past entries k no_entry past in rw none refl
+
+      inside-asked : (k node : ℕ) → asked_at entries k ≡ node → node < length entries → k < length entries
+      inside-asked k node asked within = elim (cases_lt k (length entries)) [ inl inside ↦ inside | inr past ↦ let same : k ≡ node = sym (past-asked k past) ∙ asked in absurd (omega arith) ]
+
+  pub seen-less : (place : ℕ) → place < length order.by_rank → (k : ℕ) → seen_before entries order (place + 1) k ≡ true → (seen_before entries order place k ≡ true) ⊎ (asked_at entries k ≡ get_or order.by_rank place 0)
+  seen-less place below k is =
+      let inside = seen-inside (place + 1) k is in
+      let rank = seen-rank (place + 1) k is in
+      elim (cases_lt (get_or order.ranks (asked_at entries k) 0) place) [
+        | inl lower ↦ inl (seen-back place k inside lower)
+        | inr last ↦
+            let same : get_or order.ranks (asked_at entries k) 0 ≡ place = omega arith in
+            let within = asked-in entries k parents inside in
+            let there = (h.listed (asked_at entries k) (let long = length-by_value entries in omega arith)).1 in
+            inr (sym there ∙ ap (λ (n : ℕ). get_or order.by_rank n 0) same)
+      ]
+
+  -- a step leads to an entry of smaller rank
+  step-falls : (node to : ℕ) → IsStepByValue entries node to → get_or order.ranks to 0 < get_or order.ranks node 0
+  step-falls node to is = let step = step-from_by_value entries node to is in let fall = h.falls node step.0 step.1 in rw step.2 at fall
+
+  -- two tables that are the same below a place, and where no type is
+
+  module _ (targets : TargetsAreEntries entries) (table other : ℕ → Size) (place : ℕ) (same : (k : ℕ) → get_or order.ranks k 0 < place → table k ≡ other k)
+      (untyped : (k : ℕ) → is_type_tag (entry_of entries k).tag ≡ false → table k ≡ other k) where
+    own-same : (k : ℕ) → seen_before entries order place k ≡ true → table k ≡ other k
+    own-same k is = elim (asked-of entries k (asked_at entries k) refl) [
+      | inl here ↦ same k (let rank = seen-rank place k is in let one : get_or order.ranks k 0 ≡ get_or order.ranks (asked_at entries k) 0 = ap (λ (n : ℕ). get_or order.ranks n 0) here.0 in omega arith)
+      | inr above ↦ untyped k (member-untyped (entry_of entries k).tag above.0)
+    ]
+
+    plain-parts : (role : Role) (entry : Facts) → is_plain role entry ≡ true → (nat_eq entry.tag DW_TAG_member ≡ true) × (not entry.declared ≡ true) × (is_members role ≡ true)
+    plain-parts role entry is =
+        let parts = and_parts (nat_eq entry.tag DW_TAG_member && not entry.declared) (is_members role) is in
+        let own = and_parts (nat_eq entry.tag DW_TAG_member) (not entry.declared) parts.0 in
+        (own.0, own.1, parts.1)
+
+    members-entry : (members array : Bool) → is_members (if members then Members else if array then Dimensions else Other) ≡ true → members ≡ true
+    members-entry true array is = refl
+    members-entry false true is = absurd (false≢true is)
+    members-entry false false is = absurd (false≢true is)
+
+    member-of : (k : ℕ) (parent : Option ℕ) → (entry_of entries k).parent ≡ parent → is_members (role_in entries parent) ≡ true → nat_eq (entry_of entries k).tag DW_TAG_member ≡ true → not (entry_of entries k).declared ≡ true
+        → (q : ℕ) × (parent ≡ Some q) × (is_plain_member entries q k ≡ true)
+    member-of k None above members tag declared = absurd (false≢true members)
+    member-of k (Some q) above members tag declared =
+        let has : has_members (entry_of entries q) ≡ true = members-entry (has_members (entry_of entries q)) (is_array (entry_of entries q)) members in
+        (q, refl, rw (has, tag, declared, above) (eq-eqb q q refl))
+
+    outside-kept : (k : ℕ) → seen_before entries order place k ≡ true → is_plain (parent_role entries k) (entry_of entries k) ≡ true
+        → ends_past_container (size_to table (entry_of entries k).parent) (entry_of entries k) (size_to table (entry_of entries k).type_target)
+        ≡ ends_past_container (size_to other (entry_of entries k).parent) (entry_of entries k) (size_to other (entry_of entries k).type_target)
+    outside-kept k is plain =
+        let parts = plain-parts (parent_role entries k) (entry_of entries k) plain in
+        let holder = member-of k (entry_of entries k).parent refl parts.2 parts.0 parts.1 in
+        let q = holder.0 in
+        let rank : get_or order.ranks q 0 < place = rw (asked-member entries k q parts.0 holder.1) at (seen-rank place k is) in
+        let container : size_to table (entry_of entries k).parent ≡ size_to other (entry_of entries k).parent =
+        to-same table other (entry_of entries k).parent (λ to above. same to (let one : Some to ≡ Some q = sym above ∙ holder.1 in let e : to ≡ q = cc in rw e rank)) in
+        let type = to-same table other (entry_of entries k).type_target (λ to target.
+        same to (let fall = step-falls q to (by_member k (seen-inside place k is) holder.2 target) in omega arith)) in
+        λ i. ends_past_container (container i) (entry_of entries k) (type i)
+
+    enumeration-passes : (entry : Facts) → is_enumeration entry ≡ true → passes_type_on entry ≡ true
+    enumeration-passes entry is = grind arith
+
+    enumeration-unmember : (entry : Facts) → is_enumeration entry ≡ true → nat_eq entry.tag DW_TAG_member ≡ false
+    enumeration-unmember entry is = grind arith
+
+    wrong-kept : (k : ℕ) → seen_before entries order place k ≡ true
+        → has_wrong_size (entry_of entries k) (size_to table (entry_of entries k).type_target) ≡ has_wrong_size (entry_of entries k) (size_to other (entry_of entries k).type_target)
+    wrong-kept k is = and-same (is_enumeration (entry_of entries k)) _ _ (λ enumeration.
+        let itself = asked-itself entries k (enumeration-unmember (entry_of entries k) enumeration) in
+        let rank : get_or order.ranks k 0 < place = rw itself at (seen-rank place k is) in
+        let type = to-same table other (entry_of entries k).type_target (λ to target.
+        same to (let fall = step-falls k to (by_type (enumeration-passes (entry_of entries k) enumeration) target) in omega arith)) in
+        rw type refl)
+
+    -- the rules fail in the same way at each entry that was checked
+    pub fails-kept : (k : ℕ) → seen_before entries order place k ≡ true → (rule : Rule) → fails_size entries table k rule ≡ fails_size entries other k rule
+    fails-kept k is NoSize = refl
+    fails-kept k is SizeTooGreat = ap is_too_great (own-same k is)
+    fails-kept k is MemberOutside = and-same (is_plain (parent_role entries k) (entry_of entries k)) _ _ (outside-kept k is)
+    fails-kept k is EnumSize = wrong-kept k is
+    fails-kept k is _ = refl
+
+-- the table of the next place
+
+module _ (entries : List Facts) (parents : ParentsComeFirst entries) (targets : TargetsAreEntries entries) (order : Ranking) (h : IsOrderOf (by_value entries) order) where
+  pub node-in : (place : ℕ) → place < length order.by_rank → get_or order.by_rank place 0 < length entries
+  node-in place below = let here = h.ranked place below in let long = length-by_value entries in let p = here.0 in omega arith
+
+  module _ (sizes : List Size) (place : ℕ) (below : place < length order.by_rank) (long : length sizes ≡ length entries) (typed : OnlyTypesAreSized entries (size_at sizes)) where
+    abbrev next_node : ℕ
+    next_node = get_or order.by_rank place 0
+
+    abbrev pub next_sizes : List Size
+    next_sizes = set sizes next_node (capped_line entries (size_at sizes) next_node)
+
+    next-in : next_node < length sizes
+    next-in = let inside = node-in place below in omega arith
+
+    pub next-typed : OnlyTypesAreSized entries (size_at next_sizes)
+    next-typed k untyped = elim (at_set sizes next_node k (capped_line entries (size_at sizes) next_node) None next-in) [
+      | inl here ↦ here.1 ∙ (ap (λ (n : ℕ). capped_line entries (size_at sizes) n) (sym here.0) ∙ untyped-line entries (size_at sizes) k untyped)
+      | inr apart ↦ apart.1 ∙ typed k untyped
+    ]
+
+    next-same : (k : ℕ) → get_or order.ranks k 0 < place → size_at sizes k ≡ size_at next_sizes k
+    next-same k rank =
+        let here = (h.ranked place below).1 in
+        let other : k ≢ next_node = λ same. (let e : get_or order.ranks k 0 ≡ place = ap (λ (n : ℕ). get_or order.ranks n 0) same ∙ here in omega arith) in
+        sym (get_or-set_other sizes next_node k (capped_line entries (size_at sizes) next_node) None other)
+
+    pub next-noted : (found new : Option (ℕ × Rule)) → IsNoted (fails_size entries (size_at sizes)) (λ k. seen_before entries order place k ≡ true) found
+        → ((seen : ℕ → Bool) → IsNoted (fails_size entries (size_at next_sizes)) (λ k. seen k ≡ true) found → IsNoted (fails_size entries (size_at next_sizes)) (λ k. (seen k ≡ true) ⊎ (asked_at entries k ≡ next_node)) new)
+        → IsNoted (fails_size entries (size_at next_sizes)) (λ k. seen_before entries order (place + 1) k ≡ true) new
+    next-noted found new old more =
+        let seen : ℕ → Bool = seen_before entries order place in
+        let kept = noted-rules (fails_size entries (size_at sizes)) (λ k. seen k ≡ true) (fails_size entries (size_at next_sizes)) found
+        (fails-kept entries parents order h targets (size_at sizes) (size_at next_sizes) place next-same (λ k untyped. typed k untyped ∙ sym (next-typed k untyped))) old in
+        noted-same (fails_size entries (size_at next_sizes)) (λ k. (seen k ≡ true) ⊎ (asked_at entries k ≡ next_node)) (λ k. seen_before entries order (place + 1) k ≡ true) new
+        (seen-more entries parents order h place below) (seen-less entries parents order h place below) (more seen kept)
+
+    pub next-filled : HasFilled (by_value entries) order (capped_line entries) sizes place → HasFilled (by_value entries) order (capped_line entries) next_sizes (place + 1)
+    next-filled filled = has-filled_more (by_value entries) order h (capped_line entries) (capped_line-local entries) sizes place (long ∙ sym (length-by_value entries)) below filled
+
+  -- before the first place
+
+  pub first-noted : (table : ℕ → Size) → IsNoted (fails_size entries table) (λ k. seen_before entries order 0 k ≡ true) None
+  first-noted table k is = absurd (let rank = seen-rank entries parents order h 0 k is in omega arith)
+
+  -- past the last place
+
+  module _ (sizes : List Size) (place : ℕ) (over : length order.by_rank ≤ place) (filled : HasFilled (by_value entries) order (capped_line entries) sizes place) where
+    last-obeys : ObeysCappedLines entries (size_at sizes)
+    last-obeys node below = has-filled_all (by_value entries) order h (capped_line entries) (capped_line-local entries) sizes place over filled node (let long = length-by_value entries in omega arith)
+
+    last-pass : IsNoted (fails_size entries (size_at sizes)) (λ k. seen_before entries order place k ≡ true) None → PassAll entries (fails_size entries (size_at sizes))
+    last-pass noted = noted-none (fails_size entries (size_at sizes)) (λ k. seen_before entries order place k ≡ true) entries (seen-all entries parents order h place over) noted
+
+    module _ (noted : IsNoted (fails_size entries (size_at sizes)) (λ k. seen_before entries order place k ≡ true) None) where
+      pub last-table : IsSizeTable entries (size_at sizes)
+      last-table = found-is_table entries targets order.ranks h.falls (size_at sizes) last-obeys (last-pass noted)
+
+      pub last-sound : HasNone (SizeFailures entries (size_at sizes))
+      last-sound = none-of_entries entries (fails_size entries (size_at sizes)) (last-pass noted)
+
+    pub last-fault : OffsetsRise entries → (found : Option (ℕ × Rule)) (stop : Stop) → IsNoted (fails_size entries (size_at sizes)) (λ k. seen_before entries order place k ≡ true) found
+        → IsSomeAnd found (λ first. IfFault (λ broken. broken ≡ broken_at first.1 (entry_of entries first.0).offset) stop) → IfFault (IsFirstSizeFault entries) stop
+    last-fault rise None stop noted fault = absurd fault
+    last-fault rise (Some first) Memory noted fault = tt
+    last-fault rise (Some first) (Fault f) noted fault =
+        let is = noted-first (fails_size entries (size_at sizes)) (λ k. seen_before entries order place k ≡ true) entries (seen-all entries parents order h place over) first
+        (seen-inside entries parents order h place first.0 noted.seen) noted in
+        record { holds = rw fault.holds (first-is_first entries targets order.ranks h.falls parents rise (size_at sizes) last-obeys first.0 first.1 is); cycle = fault.cycle }

@@ -1,0 +1,19 @@
+use Rattle.std.proofs.Common.{◌≡◌, ◌++◌, ◌⊎◌, length}
+use Rattle.std.specs.List.{flat_map}
+use Rattle.std.specs.Prelude.{Contains}
+use Rattle.dw_types.specs.Children.{rest_of_children, IsChildOf}
+use Rattle.dw_types.specs.Noted.{IsNoted}
+use Rattle.dw_types.specs.Shapes.{fails_shape}
+use Rattle.dw_types.specs.ShapesSeen.{HasSeenShapes}
+use Rattle.dw_types.specs.Steps.{part_step}
+use Rattle.dw_types.proofs.PassedLemmas.{HasPassed}
+use Rattle.dw_types.proofs.by_value.push_members.Given as goal
+
+abbrev pub invariant-loop-next : goal.invariant-loop-next
+invariant-loop-next l =
+    HasPassed l.fn.cursor l.node (IsChildOf l.fn.cursor l.node)
+    (λ visited. (l.steps ≡ l.fn.steps ++ flat_map (part_step l.fn.cursor) visited) × IsNoted (fails_shape l.fn.cursor) (λ k. HasSeenShapes l.fn.cursor l.node k ⊎ Contains visited k) l.least.found) l.next
+    × (l.cursor ≡ l.fn.cursor)
+
+abbrev pub decreases-loop-next : goal.decreases-loop-next
+decreases-loop-next l = length (rest_of_children l.fn.cursor l.node l.next)

@@ -1,0 +1,16 @@
+use Rattle.std.proofs.Common.{◌≡◌, ap, ◌∙◌}
+use Rattle.dw_entries.specs.Entries.{Entry}
+use Rattle.dw_forms.specs.Codes.{is_type_tag}
+use Rattle.dw_types.specs.declared.facts.Facts.{Facts}
+use Rattle.dw_types.specs.Held.{units_held}
+use Rattle.dw_types.proofs.FactsLemmas.{facts-below, type-known}
+use Rattle.dw_types.proofs.facts_list.FactsCursor.is_type.Goals as goal
+
+pub id-id-requires : goal.id-id-requires
+id-id-requires c = rw c.self.invariant.0 (facts-below (units_held c.self.inside.links.now) c.args.self.now c.self.view_is c.args.node c.requires)
+
+pub at-requires : goal.at-requires
+at-requires c = rw (c.id-id.ensures, c.self.invariant.0) (facts-below (units_held c.self.inside.links.now) c.args.self.now c.self.view_is c.args.node c.requires)
+
+pub returns-clause-is : goal.returns-clause-is
+returns-clause-is c = type-known (units_held c.self.inside.links.now) c.args.self.now c.self.view_is c.is_type.result c.id-id.result c.args.node c.id-id.ensures c.requires (rw (c.at.ensures.found, c.self.invariant.0) at c.is_type.ensures)
