@@ -8,7 +8,7 @@ use dw_forms::KeptDecl;
 pub fn table_size(decls: &[KeptDecl]) -> usize {
     let mut size: usize = 0;
     for kept in decls {
-        let attributes = kept.decl.attributes.len();
+        let attributes = kept.decl.attributes.as_slice().len();
         size = size.saturating_add(attributes.saturating_mul(2).saturating_add(5));
     }
     size
