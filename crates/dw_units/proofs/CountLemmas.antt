@@ -1,6 +1,6 @@
 -- One unit alone among the sections, and one more unit behind those so far.
-use Rattle.std.proofs.Common.{◌≡◌, ℕ, ◌+◌, ◌-◌, zero, suc, ◌<◌, ◌≤◌, Bool, true, false, List, [], ◌∷◌, ◌++◌, length, map, take, drop, Option, Some, None, refl, sym, ap, subst, ◌∙◌, inl, inr, ◌⊎◌, arith, append_assoc, append-nil, length-append, take-append-drop}
-use Rattle.std.specs.Prelude.{slice_get, ◌≢◌}
+use Rattle.std.proofs.Common.{◌≡◌, ℕ, ◌+◌, suc, ◌<◌, ◌≤◌, List, [], ◌∷◌, ◌++◌, length, map, take, drop, Option, Some, None, refl, sym, ap, subst, ◌∙◌, inl, inr, arith, append_assoc, append-nil, length-append, take-append-drop}
+use Rattle.std.specs.Prelude.{slice_get}
 use Rattle.std.specs.List.{AllByRecursion, count_by}
 use Rattle.std.specs.Prelude.{cond}
 use Rattle.std.proofs.lemmas.List.Sums.{sum_by-append, sum_by-cons}
@@ -15,16 +15,18 @@ use Rattle.dw_entries.specs.declared.lookup.Head.{Head}
 use Rattle.dw_entries.specs.Units.{DebugUnit, IsUnit, unit_bytes, units_bytes}
 use Rattle.dw_entries.specs.Header.{header_size}
 use Rattle.dw_entries.specs.Entries.{Entry, node_count, node_entries, entries_from, entries_of, PlacedUnit, placed}
-use Rattle.dw_entries.specs.Failures.{Failure, HasNone}
+use Rattle.dw_entries.specs.Failures.{HasNone}
 use Rattle.dw_entries.proofs.HeadLaws.{all-append}
 use Rattle.dw_links.specs.Bases.{base_in}
 use Rattle.dw_entries.specs.Lookups.{entry_head}
 use Rattle.dw_links.specs.Contributions.{IsContribution, slot_count, slot_at, Ends}
-use Rattle.dw_links.specs.Strings.{StringIndexFails, AddressIndexFails, OffsetFails, BaseFails, StringFailsIn, StringFails, StringFailures}
+use Rattle.dw_links.specs.Strings.{StringIndexFails, AddressIndexFails, OffsetFails, BaseFails, StringFailsIn, StringFailures}
 use Rattle.dw_units.specs.declared.counts.Counts.{Counts}
 use Rattle.dw_image.specs.declared.image.Image.{Image}
 use Rattle.dw_image.specs.Lookups.{is_type_entry}
-use Rattle.dw_image.specs.Images.{units_in, entries_in, entry_count, type_count}
+use Rattle.dw_entries.specs.Scanned.{all_entries, units_of}
+use Rattle.dw_entries.specs.declared.entries.Entries.{Entries}
+use Rattle.dw_image.specs.Images.{units_in, entry_count, type_count}
 use Rattle.dw_image.specs.Headline.{IsImageOf}
 use Rattle.dw_image.specs.Valid.{IsValidBy}
 use Rattle.dw_image.proofs.JoinLemmas.{sound_by}
@@ -59,11 +61,11 @@ one_unit [] is = absurd (omega (arith, is))
 one_unit (u ∷ []) is = (u, refl)
 one_unit (u ∷ v ∷ us) is = absurd (omega (arith, is))
 
-pub one_alone : (image : Image) → length (units_in image) ≡ 1
-    → ((p : PlacedUnit) → slice_get (placed (units_in image)) 0 ≡ Some p → type_in p.unit.header.kind ≡ None)
-    → EachEntry StaysInside (entries_in image) → IsOneAlone image
-one_alone image one kind stays =
-    let (u, is) = one_unit (units_in image) one in
+pub one_alone : (entries : Entries) → length (units_of entries.scanned) ≡ 1
+    → ((p : PlacedUnit) → slice_get (placed (units_of entries.scanned)) 0 ≡ Some p → type_in p.unit.header.kind ≡ None)
+    → EachEntry StaysInside (all_entries entries.scanned) → IsOneAlone entries
+one_alone entries one kind stays =
+    let (u, is) = one_unit (units_of entries.scanned) one in
     record {
       unit = u;
       one = is;
@@ -135,9 +137,9 @@ module _ (s own : Sections) (shares : Shares s own) where
       })
 
   -- the image of one unit as sections of its own
-  pub alone_of : (image : Image) (part : List ℕ) (a : Alone) → own.info.now ≡ part → IsImageOf own image → IsOneAlone image
+  pub alone_of : (image : Image) (part : List ℕ) (a : Alone) → own.info.now ≡ part → IsImageOf own image → IsOneAlone image.entries
       → a.entries ≡ entry_count image → a.types ≡ type_count image → IsAlone s part a
-  unfolding type_count
+  unfolding type_count units_in
   alone_of image part a info is one entries_is types_is =
       let sound = is.sound in
       let units_same : sound.valid.0 ≡ one.unit ∷ [] = sound.trees.only sound.valid.0 sound.valid.1.trees ∙ one.one in

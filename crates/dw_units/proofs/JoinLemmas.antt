@@ -1,25 +1,24 @@
 -- Sizes: one table for all, made of those of the units, and no rule on sizes fails.
-use Rattle.std.proofs.Common.{◌≡◌, ℕ, ◌+◌, ◌-◌, ◌<◌, ◌≤◌, zero, suc, Bool, true, false, List, [], ◌∷◌, length, Option, Some, None, refl, sym, ap, subst, ◌∙◌, inl, inr, ◌⊎◌, arith, nat_lt, lt-ltb, append-nil}
+use Rattle.std.proofs.Common.{◌≡◌, ℕ, ◌+◌, ◌-◌, ◌<◌, ◌≤◌, zero, suc, Bool, true, false, List, [], ◌∷◌, length, Option, Some, None, refl, sym, ap, subst, ◌∙◌, arith, nat_lt, lt-ltb, append-nil}
 use Rattle.std.specs.Prelude.{slice_get, if◌then◌else◌}
 use Rattle.std.specs.List.{AllByRecursion}
 use Rattle.std.proofs.lemmas.Option.{slice_get_within}
 use Rattle.dw_elf.specs.declared.sections.Sections.{Sections}
-use Rattle.dw_entries.specs.Units.{DebugUnit, unit_bytes, units_bytes}
+use Rattle.dw_entries.specs.Units.{DebugUnit, unit_bytes}
 use Rattle.dw_entries.specs.Header.{header_size}
-use Rattle.dw_entries.specs.Entries.{Entry, node_count, node_entries, entries_of, PlacedUnit, placed_from, placed}
+use Rattle.dw_entries.specs.Entries.{node_count, node_entries, entries_of, PlacedUnit, placed_from, placed}
 use Rattle.dw_entries.specs.Places.{at_entry}
-use Rattle.dw_entries.specs.Failures.{Failure, HasNone}
+use Rattle.dw_entries.specs.Failures.{HasNone}
 use Rattle.dw_entries.proofs.EntryFacts.{length-node_entries}
 use Rattle.dw_links.proofs.Skips.{there}
-use Rattle.dw_types.specs.declared.facts.Facts.{Facts}
 use Rattle.dw_types.specs.FactsOf.{facts_in}
 use Rattle.dw_types.specs.SizeTables.{Size}
-use Rattle.dw_types.specs.Sizes.{IsSizeTable, ObeysSizeLines, size_line}
+use Rattle.dw_types.specs.Sizes.{ObeysSizeLines, size_line}
 use Rattle.dw_types.specs.SizeFaults.{fails_size, SizeFailures}
 use Rattle.dw_types.proofs.FactsLemmas.{length-facts_of}
-use Rattle.dw_image.specs.Valid.{HasSizes, IsValidBy}
+use Rattle.dw_image.specs.Valid.{HasSizes}
 use Rattle.dw_units.specs.Alone.{StandsAlone, JoinsUnits}
-use Rattle.dw_units.proofs.TypeLemmas.{IsInWindow, in_window, shapes_join, contained_join}
+use Rattle.dw_units.proofs.TypeLemmas.{in_window, shapes_join, contained_join}
 use Rattle.dw_units.proofs.WindowSizes.{line_moved, fails_moved}
 use Rattle.dw_units.proofs.TreeLemmas.{trees_join}
 use Rattle.dw_units.proofs.TextLemmas.{classes_join, strings_join}

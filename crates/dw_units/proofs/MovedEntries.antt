@@ -1,13 +1,13 @@
 -- The entries of units, each unit's those of the unit alone in their place.
-use Rattle.std.proofs.Common.{◌≡◌, ℕ, zero, suc, ◌+◌, ◌-◌, ◌<◌, ◌≤◌, ◌⊎◌, List, [], ◌∷◌, ◌++◌, length, map, Option, Some, None, refl, sym, ap, subst, ◌∙◌, inl, inr, arith, length-append, append-nil}
+use Rattle.std.proofs.Common.{◌≡◌, ℕ, zero, suc, ◌+◌, ◌-◌, ◌<◌, ◌≤◌, ◌⊎◌, List, [], ◌∷◌, ◌++◌, length, map, Option, Some, None, refl, sym, ap, subst, ◌∙◌, inl, inr, arith, append-nil}
 use Rattle.std.specs.Prelude.{slice_get, option_map}
-use Rattle.std.proofs.lemmas.List.{map-append, length-map}
+use Rattle.std.proofs.lemmas.List.{map-append}
 use Rattle.std.proofs.lemmas.Option.{slice_get-map, slice_get_within}
 use Rattle.dw_entries.specs.Grammar.{Head, head_bytes}
 use Rattle.dw_entries.specs.Header.{header_size}
 use Rattle.dw_entries.specs.Tree.{Node, Nodes, leaf, parent, none, ◌then◌, node_bytes}
 use Rattle.dw_entries.specs.Units.{DebugUnit, unit_bytes}
-use Rattle.dw_entries.specs.Entries.{Entry, node_count, nodes_count, first_id, node_entries, nodes_entries, entries_from, entries_of, PlacedUnit, placed_from, placed}
+use Rattle.dw_entries.specs.Entries.{Entry, node_count, first_id, node_entries, nodes_entries, entries_from, entries_of, PlacedUnit, placed_from, placed}
 use Rattle.dw_types.specs.declared.facts.Facts.{Facts}
 use Rattle.dw_entries.proofs.EntryFacts.{length-node_entries}
 use Rattle.dw_entries.proofs.UnitRanges.{get_front, get_behind}

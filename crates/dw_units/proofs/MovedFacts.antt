@@ -1,10 +1,10 @@
 -- The facts of an entry in its place are those of the entry alone, moved.
-use Rattle.std.proofs.Common.{◌≡◌, ℕ, ◌+◌, zero, suc, ◌==◌, Bool, true, false, List, [], ◌∷◌, length, Option, Some, None, refl, sym, ap, subst, ◌∙◌, arith}
+use Rattle.std.proofs.Common.{◌≡◌, ℕ, ◌+◌, suc, ◌==◌, Bool, true, false, List, [], ◌∷◌, Option, Some, None, refl, sym, ap, ◌∙◌}
 use Rattle.std.specs.Prelude.{slice_get, if◌then◌else◌, is_some, option_and_then}
 use Rattle.std.specs.Option.{option_map_or}
 use Rattle.std.specs.List.{AllByRecursion}
 use Rattle.dw_elf.specs.declared.sections.Sections.{Sections}
-use Rattle.dw_forms.specs.Codes.{DW_AT_abstract_origin, DW_AT_bit_size, DW_AT_bit_stride, DW_AT_byte_size, DW_AT_byte_stride, DW_AT_count, DW_AT_data_bit_offset, DW_AT_data_member_location, DW_AT_language, DW_AT_lower_bound, DW_AT_signature, DW_AT_specification, DW_AT_type, DW_AT_upper_bound}
+use Rattle.dw_forms.specs.Codes.{DW_AT_abstract_origin, DW_AT_bit_size, DW_AT_bit_stride, DW_AT_byte_size, DW_AT_byte_stride, DW_AT_count, DW_AT_data_bit_offset, DW_AT_data_member_location, DW_AT_lower_bound, DW_AT_signature, DW_AT_specification, DW_AT_type, DW_AT_upper_bound}
 use Rattle.dw_forms.specs.Value.{Datum}
 use Rattle.dw_entries.specs.Units.{DebugUnit}
 use Rattle.dw_entries.specs.Entries.{Entry, entries_of, PlacedUnit, placed}
@@ -19,7 +19,7 @@ use Rattle.dw_types.specs.declared.constant.Constant.TheVariants.{Absent}
 use Rattle.dw_types.specs.Entries.{entry_of}
 use Rattle.dw_types.specs.FactsOf.{facts_in, facts_at, facts_read, facts_unread, constant_at, address_size_of, language_of, is_type_or_member}
 use Rattle.dw_types.proofs.FactsLemmas.{facts-get}
-use Rattle.dw_units.specs.Alone.{leads_out, StaysInside, StandsAlone}
+use Rattle.dw_units.specs.Alone.{StaysInside, StandsAlone}
 use Rattle.dw_units.proofs.MovedEntries.{moved_number, moved, moved_facts, get}
 use Rattle.dw_units.proofs.TextLemmas.{lone, unit_zero, alone_at}
 use Rattle.dw_units.proofs.ReachLemmas.{reach_moved}

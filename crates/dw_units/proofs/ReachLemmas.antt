@@ -1,20 +1,15 @@
 -- References inside a unit: what is reached in the unit's place, and the rules on references.
-use Rattle.std.proofs.Common.{◌≡◌, ℕ, ◌+◌, zero, suc, Bool, true, false, List, [], ◌∷◌, length, Option, Some, None, refl, sym, ap, subst, ◌∙◌, inl, inr, arith}
-use Rattle.std.specs.Prelude.{slice_get, option_and_then, ◌==◌, ◌≢◌, ◌⊎◌, ◌&&◌, not, if◌then◌else◌}
-use Rattle.std.specs.List.{AllByRecursion}
-use Rattle.dw_elf.specs.declared.sections.Sections.{Sections}
+use Rattle.std.proofs.Common.{◌≡◌, ℕ, ◌+◌, false, List, [], ◌∷◌, Option, Some, None, refl, sym, ap, subst, ◌∙◌, arith}
+use Rattle.std.specs.Prelude.{slice_get}
 use Rattle.dw_forms.specs.Value.{Datum, ref_unit, ref_info, ref_sig, address, block, unsigned, signed, wide, text, flag, str, line_str, str_index, sec_offset, expr, addr_index, loc_index, rng_index}
-use Rattle.dw_entries.specs.declared.rule.Rule.{Rule}
-use Rattle.dw_entries.specs.Units.{DebugUnit, AreUnits}
+use Rattle.dw_entries.specs.Units.{DebugUnit}
 use Rattle.dw_entries.specs.Entries.{Entry, entries_of, PlacedUnit, placed}
-use Rattle.dw_entries.specs.Asked.{OffsetsRise, HasAttribute}
-use Rattle.dw_entries.specs.Runs.{IsEntryIn, ReachesInUnit}
-use Rattle.dw_entries.proofs.EntryFacts.{entries_rise}
+use Rattle.dw_entries.specs.Asked.{OffsetsRise}
 use Rattle.dw_entries.proofs.Firsts.{same_some}
 use Rattle.dw_links.specs.Targets.{reach_in_unit, reach_of}
 use Rattle.dw_links.proofs.TargetLaws.{reach_in_unit_is, at_reach_in_unit}
-use Rattle.dw_units.specs.Alone.{leads_out, StaysInside, StandsAlone}
-use Rattle.dw_units.proofs.MovedEntries.{moved_number, moved, IsOf, found, get}
+use Rattle.dw_units.specs.Alone.{leads_out}
+use Rattle.dw_units.proofs.MovedEntries.{moved_number, moved, found, get}
 use Rattle.dw_units.proofs.TextLemmas.{lone, unit_zero}
 
 -- an entry of this unit, in its place

@@ -1,30 +1,27 @@
 -- The rules on references: none fails.
-use Rattle.std.proofs.Common.{◌≡◌, ℕ, ◌+◌, ◌<◌, ◌==◌, ◌&&◌, not, Bool, true, false, List, [], ◌∷◌, length, Option, Some, None, refl, sym, ap, subst, ◌∙◌, inl, inr, ◌⊎◌, arith, eq-eqb, ne_eqb}
+use Rattle.std.proofs.Common.{◌≡◌, ℕ, ◌+◌, ◌<◌, ◌==◌, ◌&&◌, not, Bool, true, false, List, [], ◌∷◌, length, Option, Some, None, refl, sym, ap, subst, ◌∙◌, inl, inr, arith, eq-eqb, ne_eqb}
 use Rattle.std.proofs.lemmas.Bool.{eqb-true}
-use Rattle.std.specs.Prelude.{slice_get, ◌≢◌, if◌then◌else◌}
+use Rattle.std.specs.Prelude.{slice_get, if◌then◌else◌}
 use Rattle.std.specs.List.{AllByRecursion}
 use Rattle.dw_elf.specs.declared.sections.Sections.{Sections}
 use Rattle.dw_forms.specs.Codes.{DW_AT_import, DW_AT_specification, DW_AT_type, DW_TAG_imported_unit, DW_TAG_compile_unit, DW_TAG_partial_unit, is_type_tag}
 use Rattle.dw_forms.specs.Value.{Datum, ref_unit, ref_info, ref_sig}
 use Rattle.dw_entries.specs.declared.rule.Rule.{Rule}
 use Rattle.dw_entries.specs.declared.rule.Rule.TheVariants.{NoEntry, WrongKind, NotNextSibling, NoSignature}
-use Rattle.dw_entries.specs.declared.lookup.Head.{Head}
 use Rattle.dw_entries.specs.Units.{DebugUnit, AreUnits}
 use Rattle.dw_entries.specs.Lookups.{entry_head}
 use Rattle.dw_entries.specs.Entries.{Entry, entries_of, PlacedUnit, placed}
-use Rattle.dw_entries.specs.Failures.{Failure, HasNone}
-use Rattle.dw_entries.specs.Asked.{OffsetsRise, AtPlace}
-use Rattle.dw_entries.specs.Places.{at_header}
+use Rattle.dw_entries.specs.Failures.{HasNone}
+use Rattle.dw_entries.specs.Asked.{OffsetsRise}
 use Rattle.dw_entries.proofs.EntryFacts.{entries_rise}
 use Rattle.dw_entries.proofs.Firsts.{same_some}
 use Rattle.dw_links.specs.Classes.{is_one_of}
-use Rattle.dw_links.specs.Signatures.{type_in}
 use Rattle.dw_links.specs.Targets.{reach_of}
-use Rattle.dw_links.specs.References.{permits, is_declared, is_signed, NoSignatureThere, IsOtherThan, ReachesWrong, IsWrongKind, ReferenceFailsBy, ReferenceFails, HeaderFails, HeaderFailures, AttributeFailures, ReferenceFailures}
+use Rattle.dw_links.specs.References.{permits, is_declared, is_signed, NoSignatureThere, IsOtherThan, ReachesWrong, ReferenceFailsBy, ReferenceFails, HeaderFails, HeaderFailures, AttributeFailures, ReferenceFailures}
 use Rattle.dw_links.proofs.Skips.{there}
 use Rattle.std.proofs.lemmas.Option.{slice_get_within}
 use Rattle.dw_links.proofs.TargetLaws.{at_reach_in_unit}
-use Rattle.dw_units.specs.Alone.{leads_out, StaysInside, StandsAlone}
+use Rattle.dw_units.specs.Alone.{leads_out, StandsAlone}
 use Rattle.dw_units.proofs.MovedEntries.{moved_number, moved, get}
 use Rattle.dw_units.proofs.TextLemmas.{unit_zero, alone_at, heads_join}
 use Rattle.dw_units.proofs.ReachLemmas.{reach_moved}

@@ -1,5 +1,5 @@
 -- Classes, strings and addresses: a failure among all is one of a unit alone.
-use Rattle.std.proofs.Common.{◌≡◌, ℕ, ◌+◌, zero, suc, Bool, true, false, List, [], ◌∷◌, ◌++◌, length, Option, Some, None, refl, sym, ap, subst, ◌∙◌, inl, inr, arith, append-nil}
+use Rattle.std.proofs.Common.{◌≡◌, ℕ, ◌+◌, zero, suc, false, List, [], ◌∷◌, length, Option, Some, None, refl, sym, ap, subst, ◌∙◌, arith, append-nil}
 use Rattle.std.specs.Prelude.{slice_get, if◌then◌else◌, ◌==◌, option_and_then}
 use Rattle.std.proofs.lemmas.Option.{slice_get_within}
 use Rattle.std.specs.List.{AllByRecursion}
@@ -12,7 +12,7 @@ use Rattle.dw_entries.specs.Units.{DebugUnit, unit_bytes}
 use Rattle.dw_entries.specs.Entries.{Entry, node_entries, entries_of, PlacedUnit, node_count, placed_from, placed}
 use Rattle.dw_entries.specs.Places.{at_attribute}
 use Rattle.dw_entries.specs.Failures.{Failure, HasNone}
-use Rattle.dw_entries.specs.Asked.{HasAttribute, AtAttributes, AtEntries, values_of}
+use Rattle.dw_entries.specs.Asked.{HasAttribute, AtEntries, values_of}
 use Rattle.dw_entries.specs.Lookups.{entry_head, value_in}
 use Rattle.dw_entries.proofs.Firsts.{same_some}
 use Rattle.dw_entries.proofs.EntryFacts.{first_entry, length-node_entries}
@@ -24,7 +24,7 @@ use Rattle.dw_links.specs.Classes.{class_of, allows_in, ClassFails, ClassFailure
 use Rattle.dw_links.specs.Strings.{StringFailsIn, StringFails, StringFailures}
 use Rattle.dw_links.specs.Bases.{base_in, section_offset_in, section_offset_of}
 use Rattle.dw_units.specs.Alone.{StandsAlone}
-use Rattle.dw_units.proofs.MovedEntries.{moved_number, moved, IsOf, found, get}
+use Rattle.dw_units.proofs.MovedEntries.{moved_number, moved, found}
 
 -- a unit alone, in its place
 abbrev pub lone : DebugUnit → PlacedUnit

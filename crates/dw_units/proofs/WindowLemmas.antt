@@ -1,14 +1,13 @@
 -- The facts of a unit among all, as a window: shapes and steps there are those of the unit alone.
-use Rattle.std.proofs.Common.{◌≡◌, ℕ, ◌+◌, ◌-◌, zero, suc, ◌<◌, ◌≤◌, ◌==◌, Bool, true, false, List, [], ◌∷◌, length, map, Option, Some, None, refl, sym, ap, subst, ◌∙◌, inl, inr, ◌⊎◌, arith, ne_eqb, eq-eqb}
+use Rattle.std.proofs.Common.{◌≡◌, ℕ, ◌+◌, ◌-◌, zero, suc, ◌<◌, ◌≤◌, Bool, true, false, List, [], ◌∷◌, length, map, Option, Some, None, refl, sym, ap, subst, ◌∙◌, arith}
 use Rattle.std.proofs.lemmas.Bool.{eqb-true}
-use Rattle.std.specs.Prelude.{slice_get, slice_index, is_some, nat_eq, not, ◌&&◌, ◌||◌}
+use Rattle.std.specs.Prelude.{slice_index, is_some, nat_eq, not, ◌&&◌, ◌||◌}
 use Rattle.dw_entries.specs.declared.rule.Rule.{Rule}
 use Rattle.dw_entries.specs.declared.rule.Rule.TheVariants.{MissingType, BadCount}
 use Rattle.dw_types.specs.declared.facts.Facts.{Facts}
 use Rattle.dw_types.specs.declared.kind.Role.{Role}
-use Rattle.dw_types.specs.Counts.{is_dimension, count_of}
 use Rattle.dw_types.specs.Entries.{entry_of, is_parent, ParentsComeFirst, TargetsAreEntries}
-use Rattle.dw_types.specs.Graphs.{Graph, IsStep, IsClosed, HasNoCycle}
+use Rattle.dw_types.specs.Graphs.{IsStep, IsClosed}
 use Rattle.dw_types.specs.Kinds.{role_of, role_in, parent_role, is_array, has_members, passes_type_on, is_declared_type}
 use Rattle.dw_forms.specs.Codes.{DW_TAG_member}
 use Rattle.std.proofs.lemmas.List.{length-map}

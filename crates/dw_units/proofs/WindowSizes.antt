@@ -1,10 +1,10 @@
 -- Children and sizes in a window are those of the entries alone.
-use Rattle.std.proofs.Common.{◌≡◌, ℕ, ◌+◌, ◌-◌, zero, suc, ◌<◌, ◌≤◌, Bool, true, false, List, [], ◌∷◌, ◌++◌, length, map, filter, Option, Some, None, refl, sym, ap, subst, ◌∙◌, inl, inr, ◌⊎◌, arith, append-nil}
-use Rattle.std.specs.Prelude.{is_some, nat_eq, not, ◌&&◌, ◌||◌, if◌then◌else◌}
+use Rattle.std.proofs.Common.{◌≡◌, ℕ, ◌+◌, ◌-◌, zero, suc, ◌<◌, ◌≤◌, Bool, true, false, List, [], ◌∷◌, ◌++◌, length, map, filter, Option, Some, None, refl, ap, ◌∙◌, arith, append-nil}
+use Rattle.std.specs.Prelude.{nat_eq, not, ◌&&◌, ◌||◌, if◌then◌else◌}
 use Rattle.std.specs.List.{AllByRecursion, list_any, range_with_len}
 use Rattle.std.proofs.lemmas.List.Elements.{filter-append}
 use Rattle.dw_entries.specs.declared.rule.Rule.{Rule}
-use Rattle.dw_entries.specs.declared.rule.Rule.TheVariants.{NoSize, SizeTooGreat, MemberOutside, EnumSize}
+use Rattle.dw_entries.specs.declared.rule.Rule.TheVariants.{MemberOutside, EnumSize}
 use Rattle.dw_types.specs.declared.facts.Facts.{Facts}
 use Rattle.dw_types.specs.declared.kind.Kind.{Kind}
 use Rattle.dw_types.specs.declared.kind.Kind.TheVariants.{Declared, OwnSized, Pointer, Alias, Enumeration, Array, Subroutine, NoType}
@@ -20,7 +20,6 @@ use Rattle.dw_types.specs.SizeTables.{Size}
 use Rattle.dw_types.specs.Sizes.{is_subrange, dimensions, times, product_of, factor_of, has_stride, is_other_index, has_elements, is_regular, size_to, constant_or, array_size, size_of_kind, size_line}
 use Rattle.dw_types.specs.SizeFaults.{breaks_size, fails_size, differ}
 use Rattle.dw_units.proofs.MovedEntries.{moved_number, moved_facts}
-use Rattle.dw_units.proofs.ReferenceLemmas.{some_moved}
 use Rattle.dw_units.proofs.WindowLemmas.{IsWindow, role_same, parent_of_moved, parent_is, some_of_moved}
 
 -- ---- lists of numbers

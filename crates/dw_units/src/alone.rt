@@ -5,15 +5,15 @@ ghost use Rattle.std.specs.Bool.{OnTrue, OnFalse};
 ghost use Rattle.dw_entries.specs.Asked.{EachEntry};
 ghost use Rattle.dw_links.specs.Concerns.{AllPass};
 ghost use Rattle.dw_links.specs.Signatures.{type_in};
-ghost use Rattle.dw_image.specs.Images.{entries_in};
+ghost use Rattle.dw_entries.specs.Scanned.{all_entries};
 ghost use Rattle.dw_units.specs.Alone.{may_leave, Leaves, StaysInside};
 ghost use Rattle.dw_units.specs.Parts.{IsOneAlone, IsAlone};
 
 use crate::budget::table_size;
 use dw_elf::Sections;
-use dw_entries::HeaderKind;
+use dw_entries::{Entries, HeaderKind};
 use dw_forms::{AttributeSpec, Form};
-use dw_image::{Image, NoMemory, Verdict, verify};
+use dw_image::{NoMemory, Verdict, verify};
 use std::alloc::Global;
 
 /// What is counted of a unit that is valid alone and refers to no other unit.
@@ -45,10 +45,10 @@ fn any_leaves(specs: &[AttributeSpec]) -> bool
 }
 
 /// Whether no form of the abbreviation tables lets a value refer to another unit.
-fn stays_inside(image: &Image<'_>) -> bool
-    ensures { OnTrue result (EachEntry StaysInside (entries_in image.now)) }
+fn stays_inside(entries: &Entries<'_>) -> bool
+    ensures { OnTrue result (EachEntry StaysInside (all_entries entries.now.scanned)) }
 {
-    for kept in image.scanned().decls() {
+    for kept in entries.decls() {
         if any_leaves(kept.decl.attributes.as_slice()) {
             return false;
         }
@@ -63,18 +63,18 @@ fn is_type_unit(kind: HeaderKind) -> bool
     matches!(kind, HeaderKind::TypeUnit { .. })
 }
 
-/// Whether the image has one unit, which is no type unit and refers to no other unit.
-fn is_one_alone(image: &Image<'_>) -> bool
-    ensures { OnTrue result (IsOneAlone image.now) }
+/// Whether the entries are those of one unit, which is no type unit and refers to no other unit.
+fn is_one_alone(entries: &Entries<'_>) -> bool
+    ensures { OnTrue result (IsOneAlone entries.now) }
 {
-    if image.units() != 1 {
+    if entries.unit_count() != 1 {
         return false;
     }
-    let unit = image.scanned().unit(0);
+    let unit = entries.unit(0);
     if is_type_unit(unit.header.kind) {
         return false;
     }
-    stays_inside(image)
+    stays_inside(entries)
 }
 
 /// Verifies the bytes of one unit as the whole .debug_info. None if they are not valid so, or are not one unit, or the
@@ -100,13 +100,14 @@ pub fn verify_alone<'a>(
     match verify(alloc, own)? {
         Verdict::Fault(_) => Ok(None),
         Verdict::Sound(image) => {
-            if !is_one_alone(&image) {
+            let scanned = image.scanned();
+            if !is_one_alone(scanned) {
                 return Ok(None);
             }
             Ok(Some(Alone {
                 entries: image.entries(),
                 types: image.types(),
-                table_size: table_size(image.scanned().decls()),
+                table_size: table_size(scanned.decls()),
             }))
         }
     }

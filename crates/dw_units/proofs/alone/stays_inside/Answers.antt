@@ -5,7 +5,6 @@ use Rattle.dw_forms.specs.declared.abbrev_tables.KeptDecl.{KeptDecl}
 use Rattle.dw_links.specs.Concerns.{AllPass}
 use Rattle.dw_links.proofs.Skips.{one_more}
 use Rattle.dw_units.specs.Alone.{Leaves}
-use Rattle.dw_image.specs.Images.{units_in}
 use Rattle.dw_units.proofs.FormLemmas.{none_leaves}
 use Rattle.dw_units.proofs.alone.stays_inside.Goals as goal
 
@@ -16,7 +15,6 @@ loop-kept-preserved c =
     (subst (AllPass Leaves) c.as_slice.ensures (rw c.if-any_leaves.false at c.any_leaves.ensures))
 
 pub returns : goal.returns
-unfolding units_in
 returns c =
-    none_leaves _ _ (units_of c.args.image.now.entries.scanned) c.decls-kept-items.result.now c.args.image.now.entries.scanned.1.spells c.decls-kept-items.ensures
+    none_leaves _ _ (units_of c.args.entries.now.scanned) c.decls-kept-items.result.now c.args.entries.now.scanned.1.spells c.decls-kept-items.ensures
     (λ k x is. c.loop-kept.invariant k x (omega (arith, slice_get_within c.decls-kept-items.result.now k x is, c.loop-kept-test.false)) is)

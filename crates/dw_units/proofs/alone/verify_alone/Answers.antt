@@ -1,4 +1,4 @@
-use Rattle.std.proofs.Common.{arith, sym, ap, ◌∙◌, subst, List, ℕ, Bor}
+use Rattle.std.proofs.Common.{ap, subst, List, ℕ, Bor}
 use Rattle.dw_units.specs.Parts.{IsOneAlone}
 use Rattle.dw_units.proofs.CountLemmas.{alone_of}
 use Rattle.dw_units.proofs.alone.verify_alone.Goals as goal
@@ -13,5 +13,5 @@ returns c =
       str_offsets_same = ap (λ (b : Bor (List ℕ)). b.now) c.in-Ok.ensures.str_offsets;
       addr_same = ap (λ (b : Bor (List ℕ)). b.now) c.in-Ok.ensures.addr;
     })
-    c.in-Sound.image c.args.part.now c.entries.result c.types.result (ap (λ (b : Bor (List ℕ)). b.now) c.in-Ok.ensures.info) (rw c.in-Sound.is at c.in_ok-verify.ensures)
-    (rw c.if-not-is_one_alone.false at c.is_one_alone.ensures) c.entries.ensures c.types.ensures
+    c.in-Sound.image c.args.part.now _ (ap (λ (b : Bor (List ℕ)). b.now) c.in-Ok.ensures.info) (rw c.in-Sound.is at c.in_ok-verify.ensures)
+    (subst IsOneAlone c.scanned-scanned.ensures (rw c.if-not-is_one_alone.false at c.is_one_alone.ensures)) c.entries.ensures c.types.ensures

@@ -1,4 +1,3 @@
-use Rattle.std.proofs.Common.{◌∙◌}
 use Rattle.dw_image.specs.Images.{units_in, type_count}
 use Rattle.dw_image.proofs.JoinLemmas.{sound_image}
 use Rattle.dw_units.proofs.counts.Counts.of.Goals as goal
