@@ -48,9 +48,13 @@ entries_more unit id at [] u =
     (unit, id, at, append-nil (node_entries unit None 0 None id (at + header_size u.header.kind) u.root) ∙ unit_moved unit id at u)
 entries_more unit id at (v ∷ us) u =
     let (n, first, place, same) = entries_more (suc unit) (id + node_count v.root) (at + length (unit_bytes v)) us u in
-    let es : List Entry = node_entries unit None 0 None id (at + header_size v.header.kind) v.root in
-    (n, first, place, ap (λ (xs : List Entry). es ++ xs) same
-    ∙ sym (append_assoc es (entries_from (suc unit) (id + node_count v.root) (at + length (unit_bytes v)) us) (map (moved n first place) (entries_of (u ∷ [])))))
+    let es : List Entry = node_entries unit None 0 None id (at + header_size v.header.kind) v.root in (
+      n,
+      first,
+      place,
+      ap (λ (xs : List Entry). es ++ xs) same
+          ∙ sym (append_assoc es (entries_from (suc unit) (id + node_count v.root) (at + length (unit_bytes v)) us) (map (moved n first place) (entries_of (u ∷ [])))),
+    )
 
 length_moved : (n first place : ℕ) (es : List Entry) → length (map (moved n first place) es) ≡ length es
 length_moved n first place [] = refl
@@ -197,14 +201,21 @@ so_far_next s rest size units entries types units_to entries_to types_to a so on
       so_far = us ++ u ∷ [];
       alone = all-append (StandsAlone s) us (u ∷ []) so.alone (one.alone, tt);
       bytes = so.bytes ∙ ap (λ (xs : List ℕ). units_bytes us ++ xs) split ∙ sym (append_assoc (units_bytes us) (unit_bytes u) (drop size rest))
-      ∙ ap (λ (xs : List ℕ). (units_bytes us ++ xs) ++ drop size rest) (sym (append-nil (unit_bytes u)))
-      ∙ ap (λ (xs : List ℕ). xs ++ drop size rest) (sym (flat_map-append unit_bytes us (u ∷ [])));
+          ∙ ap (λ (xs : List ℕ). (units_bytes us ++ xs) ++ drop size rest) (sym (append-nil (unit_bytes u)))
+          ∙ ap (λ (xs : List ℕ). xs ++ drop size rest) (sym (flat_map-append unit_bytes us (u ∷ [])));
       unit_count = omega (arith, p, unit_count, length-append us (u ∷ []));
-      entry_count = omega (arith, q, entry_count, one_entries, ap length same, length-append (entries_of us) (map (moved n first place) (entries_of (u ∷ []))),
-          length_moved n first place (entries_of (u ∷ [])));
+      entry_count = omega (
+        arith,
+        q,
+        entry_count,
+        one_entries,
+        ap length same,
+        length-append (entries_of us) (map (moved n first place) (entries_of (u ∷ []))),
+        length_moved n first place (entries_of (u ∷ [])),
+      );
       type_count = r ∙ ap (λ (k : ℕ). k + a.types) so.type_count ∙ ap (λ (k : ℕ). count_by is_type_entry (entries_of us) + k) (one.type_count ∙ sym (types_moved n first place (entries_of (u ∷ []))))
-      ∙ sym (sum_by-append (λ (x : Entry). cond (is_type_entry x) 1 0) (entries_of us) (map (moved n first place) (entries_of (u ∷ []))))
-      ∙ sym (ap (count_by is_type_entry) same);
+          ∙ sym (sum_by-append (λ (x : Entry). cond (is_type_entry x) 1 0) (entries_of us) (map (moved n first place) (entries_of (u ∷ []))))
+          ∙ sym (ap (count_by is_type_entry) same);
     }
 
 pub so_far_all : (s : Sections) (c : Counts) → AreSoFar s [] c.units c.entries c.types → AreCounts s c

@@ -68,17 +68,23 @@ table_join s at first (u ∷ us) (one, more) =
     go rest agrees zero p is =
         let some : ◌≡◌ {A = Option PlacedUnit} (Some (record { at = at; first = first; unit = u })) (Some p) = is in
         let same : ◌≡◌ {A = PlacedUnit} (record { at = at; first = first; unit = u }) p = cc in
-        subst (Agrees (λ n. if nat_lt n (first + node_count u.root) then one.sizes.0 (n - first) else rest n)) same
-        (one.sizes.0, one.sizes.1, λ k below.
-        let here = lt-ltb (first + k) (first + node_count u.root) (omega (arith, below)) in
-        let number : first + k - first ≡ k = omega arith in
-        ap (λ (b : Bool). if b then one.sizes.0 (first + k - first) else rest (first + k)) here ∙ ap one.sizes.0 number)
+        subst (Agrees (λ n. if nat_lt n (first + node_count u.root) then one.sizes.0 (n - first) else rest n)) same (
+          one.sizes.0,
+          one.sizes.1,
+          λ k below.
+              let here = lt-ltb (first + k) (first + node_count u.root) (omega (arith, below)) in
+              let number : first + k - first ≡ k = omega arith in
+              ap (λ (b : Bool). if b then one.sizes.0 (first + k - first) else rest (first + k)) here ∙ ap one.sizes.0 number,
+        )
     go rest agrees (suc j) p is =
         let (lone, has, same) = agrees j p is in
-        let low = first_low (at + length (unit_bytes u)) (first + node_count u.root) us j p is in
-        (lone, has, λ k below.
-        let behind = not_below (p.first + k) (first + node_count u.root) (omega (arith, low)) in
-        ap (λ (b : Bool). if b then one.sizes.0 (p.first + k - first) else rest (p.first + k)) behind ∙ same k below)
+        let low = first_low (at + length (unit_bytes u)) (first + node_count u.root) us j p is in (
+          lone,
+          has,
+          λ k below.
+              let behind = not_below (p.first + k) (first + node_count u.root) (omega (arith, low)) in
+              ap (λ (b : Bool). if b then one.sizes.0 (p.first + k - first) else rest (p.first + k)) behind ∙ same k below,
+        )
 
 pub sizes_join : (s : Sections) (us : List DebugUnit) → AllByRecursion (StandsAlone s) us → (table : ℕ → Size) × HasSizes (facts_in us) table
 sizes_join s us all =
@@ -103,8 +109,8 @@ sizes_join s us all =
         let inside = w.window.within in
         let mine : ℕ → Size = λ k. other (w.p.first + k) in
         let lines : ObeysSizeLines (facts_in (w.p.unit ∷ [])) mine = λ k k_in.
-            right (w.p.first + k) (omega (arith, k_in, inside))
-            ∙ line_moved (facts_in us) (facts_in (w.p.unit ∷ [])) w.p.first w.p.at w.window other mine (λ j j_in. refl) k k_in in
+        right (w.p.first + k) (omega (arith, k_in, inside))
+        ∙ line_moved (facts_in us) (facts_in (w.p.unit ∷ [])) w.p.first w.p.at w.window other mine (λ j j_in. refl) k k_in in
         let agree = same w.inner (let p = w.inside in omega (arith, p, count)) in
         ap other w.begins ∙ has.one.only mine lines w.inner w.inside ∙ sym agree ∙ ap table (sym w.begins)
 
@@ -124,7 +130,7 @@ sizes_join s us all =
             stands = refl;
             attribute = refl;
             fails = sym (fails_moved (facts_in us) (facts_in (w.p.unit ∷ [])) w.p.first w.p.at w.window table lone agree w.inner w.inside f.rule)
-            ∙ ap (λ (n : ℕ). fails_size (facts_in us) table n f.rule) (sym w.begins) ∙ fails.fails.fails;
+                ∙ ap (λ (n : ℕ). fails_size (facts_in us) table n f.rule) (sym w.begins) ∙ fails.fails.fails;
           };
         })
 

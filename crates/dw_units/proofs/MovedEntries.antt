@@ -151,7 +151,7 @@ found_from unit id at (u ∷ us) i e is =
     go in_rest (inr behind) =
         let count = length-node_entries unit None 0 None id (at + header_size u.header.kind) u.root in
         let rest : slice_get fs (i - node_count u.root) ≡ Some e =
-            ap (λ (n : ℕ). slice_get fs (i - n)) (sym count) ∙ sym (get_behind es fs i (omega (arith, count, behind))) ∙ is in
+        ap (λ (n : ℕ). slice_get fs (i - n)) (sym count) ∙ sym (get_behind es fs i (omega (arith, count, behind))) ∙ is in
         let f = in_rest (i - node_count u.root) rest in
         let begins = f.begins in
         let number : unit + suc f.number ≡ suc unit + f.number = omega arith in
@@ -175,7 +175,7 @@ get_from unit id at (u ∷ us) zero p inner d is is_d =
     let some : ◌≡◌ {A = Option PlacedUnit} (Some (record { at = at; first = id; unit = u })) (Some p) = is in
     let same : ◌≡◌ {A = PlacedUnit} (record { at = at; first = id; unit = u }) p = cc in
     let P : PlacedUnit → Type 0 = λ q. slice_get (entries_of (q.unit ∷ [])) inner ≡ Some d
-        → (i : ℕ) × (id + i ≡ q.first + inner) × (slice_get (entries_from unit id at (u ∷ us)) i ≡ Some (moved (unit + 0) q.first q.at d)) in
+    → (i : ℕ) × (id + i ≡ q.first + inner) × (slice_get (entries_from unit id at (u ∷ us)) i ≡ Some (moved (unit + 0) q.first q.at d)) in
     subst P same (λ here. (inner, refl, in_front here)) is_d
   where
     in_front : slice_get (entries_of (u ∷ [])) inner ≡ Some d
@@ -193,9 +193,11 @@ get_from unit id at (u ∷ us) (suc number) p inner d is is_d =
     let fs : List Entry = entries_from (suc unit) (id + node_count u.root) (at + length (unit_bytes u)) us in
     let count = length-node_entries unit None 0 None id (at + header_size u.header.kind) u.root in
     let behind : length es + i - length es ≡ i = omega arith in
-    let same : suc unit + number ≡ unit + suc number = omega arith in
-    (length es + i, omega (arith, begins, count),
-    get_behind es fs (length es + i) (omega arith) ∙ ap (slice_get fs) behind ∙ got ∙ ap (λ (n : ℕ). Some (moved n p.first p.at d)) same)
+    let same : suc unit + number ≡ unit + suc number = omega arith in (
+      length es + i,
+      omega (arith, begins, count),
+      get_behind es fs (length es + i) (omega arith) ∙ ap (slice_get fs) behind ∙ got ∙ ap (λ (n : ℕ). Some (moved n p.first p.at d)) same,
+    )
 
 -- ---- the same of all entries
 

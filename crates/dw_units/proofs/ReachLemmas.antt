@@ -26,7 +26,7 @@ found_in us number p is i e is_e of =
     let f = found us i e is_e in
     let n : f.number ≡ number = ap (λ (d : Entry). d.unit) f.same ∙ of in
     let P : PlacedUnit → Type 0 = λ q. (d : Entry) × (slice_get (entries_of (q.unit ∷ [])) f.inner ≡ Some d) × (i ≡ q.first + f.inner)
-        × (moved number q.first q.at d ≡ e) in
+    × (moved number q.first q.at d ≡ e) in
     let q : f.place ≡ p = same_some (slice_get (placed us) number) f.place p (ap (slice_get (placed us)) (sym n) ∙ f.is_place) is in
     let (d, is_d, begins, same) = subst P q (f.entry, f.is_entry, f.begins, ap (λ (k : ℕ). moved k f.place.first f.place.at f.entry) (sym n) ∙ f.same) in
     record { inner = f.inner; entry = d; is_entry = is_d; begins = begins; same = same }
@@ -64,16 +64,16 @@ module _ (us : List DebugUnit) (rise : OffsetsRise (entries_of us)) (number : �
       let at : p.at + i.entry.at ≡ t.entry.at = ap (λ (d : Entry). d.at) i.same in
       let begins = t.begins in
       let there = reach_in_unit_is (entries_of (p.unit ∷ [])) (placed (p.unit ∷ [])) 0 offset i.inner alone_rise
-          (record {
-            unit = lone p.unit;
-            is_unit = refl;
-            target = record {
-              entry = i.entry;
-              is_entry = i.is_entry;
-              begins = omega (arith, begins, at, same_at);
-              in_unit = unit_zero p.unit i.inner i.entry i.is_entry;
-            };
-          }) in
+      (record {
+        unit = lone p.unit;
+        is_unit = refl;
+        target = record {
+          entry = i.entry;
+          is_entry = i.is_entry;
+          begins = omega (arith, begins, at, same_at);
+          in_unit = unit_zero p.unit i.inner i.entry i.is_entry;
+        };
+      }) in
       let both : ◌≡◌ {A = Option ℕ} (Some i.inner) None = sym there ∙ none in
       cc
 

@@ -77,15 +77,15 @@ module _ (us : List DebugUnit) (rise : OffsetsRise (entries_of us)) (number : �
       let (k, is_k, same) = some_moved p.first alone wrong.id wrong.reaches in
       let (t, is_t) = there (entries_of (p.unit ∷ [])) k (below k is_k) in
       let target : wrong.target ≡ moved number p.first p.at t =
-          same_some (slice_get (entries_of us) wrong.id) wrong.target (moved number p.first p.at t) wrong.is_target
-          (ap (slice_get (entries_of us)) (sym same) ∙ get us number p k t is is_t) in
+      same_some (slice_get (entries_of us) wrong.id) wrong.target (moved number p.first p.at t) wrong.is_target
+      (ap (slice_get (entries_of us)) (sym same) ∙ get us number p k t is is_t) in
       record {
         id = k;
         reaches = is_k;
         target = t;
         is_target = is_t;
         wrong = sym (permits_moved number p.first p.at e t attribute)
-        ∙ ap (permits (entry_head (moved number p.first p.at e)) attribute) (sym target) ∙ wrong.wrong;
+            ∙ ap (permits (entry_head (moved number p.first p.at e)) attribute) (sym target) ∙ wrong.wrong;
       }
 
   by_alone : (e : Entry) → (attribute : ℕ) (v : Datum) (rule : Rule) → leads_out v ≡ false
@@ -99,19 +99,23 @@ module _ (us : List DebugUnit) (rise : OffsetsRise (entries_of us)) (number : �
       inr (wrong_alone e attribute (reach_of (entries_of (p.unit ∷ [])) (placed (p.unit ∷ [])) e.unit v)
       (λ k is_k. reached_below (entries_of (p.unit ∷ [])) (placed (p.unit ∷ [])) e.unit v k stays is_k)
       (subst (ReachesWrong (entries_of us) (entry_head (moved number p.first p.at e)) attribute) reached wrong))
-  by_alone e attribute v NotNextSibling stays reached (sibling, other) =
-      (sibling, other_alone p.first e.next (reach_of (entries_of (p.unit ∷ [])) (placed (p.unit ∷ [])) e.unit v)
-      (subst (IsOtherThan (moved_number p.first e.next)) reached other))
+  by_alone e attribute v NotNextSibling stays reached (sibling, other) = (
+    sibling,
+    other_alone p.first e.next (reach_of (entries_of (p.unit ∷ [])) (placed (p.unit ∷ [])) e.unit v)
+        (subst (IsOtherThan (moved_number p.first e.next)) reached other),
+  )
   by_alone e attribute v NoSignature stays reached fails = absurd (no_signature (placed us) v stays fails)
   by_alone e attribute v rule stays reached fails = absurd fails
 
   pub reference_alone : (e : Entry) → e.unit ≡ 0 → (attribute : ℕ) (v : Datum) (rule : Rule) → leads_out v ≡ false
       → ReferenceFails (entries_of us) (placed us) (entry_head (moved number p.first p.at e)) attribute v rule
       → ReferenceFails (entries_of (p.unit ∷ [])) (placed (p.unit ∷ [])) (entry_head e) attribute v rule
-  reference_alone e of attribute v rule stays (reference, fails) =
-      (reference, by_alone e attribute v rule stays
-      (reach_moved us rise number p is alone_rise v stays ∙ ap (λ (n : ℕ). moved_number p.first (reach_of (entries_of (p.unit ∷ [])) (placed (p.unit ∷ [])) n v)) (sym of))
-      fails)
+  reference_alone e of attribute v rule stays (reference, fails) = (
+    reference,
+    by_alone e attribute v rule stays
+        (reach_moved us rise number p is alone_rise v stays ∙ ap (λ (n : ℕ). moved_number p.first (reach_of (entries_of (p.unit ∷ [])) (placed (p.unit ∷ [])) n v)) (sym of))
+        fails,
+  )
 
 pub all_units : (s : Sections) (us : List DebugUnit) → AllByRecursion (StandsAlone s) us → AreUnits s.«abbrev».now us
 all_units s [] all = tt

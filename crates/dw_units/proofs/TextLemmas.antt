@@ -50,15 +50,16 @@ pub at_alone : (Fails Alone : Rules) (number first at : ℕ) (e : Entry) (f : Fa
     → ((position attribute : ℕ) (v : Datum) (rule : Rule) → HasAttribute e position attribute v
     → Fails (entry_head (moved number first at e)) attribute v rule → Alone (entry_head e) attribute v rule)
     → AtHead Fails (moved number first at e) f → (g : Failure) × AtHead Alone e g
-at_alone Fails Alone number first at e f follows fails =
-    (record { rule = f.rule; place = at_attribute e.at fails.position; attribute = f.attribute },
-    record {
-      position = fails.position;
-      value = fails.value;
-      has = fails.has;
-      place = refl;
-      fails = follows fails.position f.attribute fails.value f.rule fails.has fails.fails;
-    })
+at_alone Fails Alone number first at e f follows fails = (
+  record { rule = f.rule; place = at_attribute e.at fails.position; attribute = f.attribute },
+  record {
+    position = fails.position;
+    value = fails.value;
+    has = fails.has;
+    place = refl;
+    fails = follows fails.position f.attribute fails.value f.rule fails.has fails.fails;
+  },
+)
 
 -- so no rule fails among all, if none fails at each unit alone
 pub heads_join : (us : List DebugUnit) (Fails : Rules) (Alone : DebugUnit → Rules)
@@ -73,7 +74,7 @@ heads_join us Fails Alone none follows f fails =
     let i = found us fails.number fails.item fails.is_item in
     let here = subst (λ (e : Entry). AtHead Fails e f) (sym i.same) fails.fails in
     let (g, at) = at_alone Fails (Alone i.place.unit) i.number i.place.first i.place.at i.entry f
-        (follows i.number i.place i.is_place i.inner i.entry i.is_entry) here in
+    (follows i.number i.place i.is_place i.inner i.entry i.is_entry) here in
     none i.number i.place i.is_place g (record { number = i.inner; item = i.entry; is_item = i.is_entry; fails = at })
 
 -- ---- classes
@@ -119,9 +120,9 @@ base_same us number p attribute is =
     let alone = first_entry (p.unit ∷ []) 0 (lone p.unit) refl in
     let heads : all.entry.head ≡ alone.entry.head = all.is_first.head ∙ sym alone.is_first.head in
     let F : Option Entry → Option ℕ = λ o. if version_of p.unit.header.kind == 4 then None else option_and_then
-        (λ (first : Entry). section_offset_of first attribute) o in
+    (λ (first : Entry). section_offset_of first attribute) o in
     let G : Head → Option ℕ = λ h. if version_of p.unit.header.kind == 4 then None
-        else option_and_then section_offset_in (value_in (values_of h) attribute) in
+    else option_and_then section_offset_in (value_in (values_of h) attribute) in
     ap F all.is_entry ∙ ap G heads ∙ sym (ap F alone.is_entry)
 
 no_parent : (first : ℕ) (parent : Option ℕ) → moved_number first parent ≡ None → parent ≡ None
@@ -144,11 +145,11 @@ string_alone s us number p is e of attribute v rule fails =
     let same : fails.unit ≡ p = same_some (slice_get (placed us) number) fails.unit p fails.in_unit is in
     let head = entry_head (moved number p.first p.at e) in
     let here = subst (λ (q : PlacedUnit). StringFailsIn s q.unit.header (base_in (entries_of us) q DW_AT_str_offsets_base)
-        (base_in (entries_of us) q DW_AT_addr_base) head attribute v rule) same fails.fails in
+    (base_in (entries_of us) q DW_AT_addr_base) head attribute v rule) same fails.fails in
     let strings = subst (λ (b : Option ℕ). StringFailsIn s p.unit.header b (base_in (entries_of us) p DW_AT_addr_base) head attribute v rule)
-        (base_same us number p DW_AT_str_offsets_base is) here in
+    (base_same us number p DW_AT_str_offsets_base is) here in
     let both = subst (λ (b : Option ℕ). StringFailsIn s p.unit.header (base_in (entries_of (p.unit ∷ [])) (lone p.unit) DW_AT_str_offsets_base) b head attribute v rule)
-        (base_same us number p DW_AT_addr_base is) strings in
+    (base_same us number p DW_AT_addr_base is) strings in
     record {
       unit = lone p.unit;
       in_unit = ap (slice_get (placed (p.unit ∷ []))) of;

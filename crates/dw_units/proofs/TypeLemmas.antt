@@ -48,7 +48,7 @@ window s us all number p is some = record {
         let last : length (entries_of (p.unit ∷ [])) - 1 < length (entries_of (p.unit ∷ [])) = omega (arith, some) in
         let (e, is_e) = there (entries_of (p.unit ∷ [])) (length (entries_of (p.unit ∷ [])) - 1) last in
         let below = slice_get_within (entries_of us) (p.first + (length (entries_of (p.unit ∷ [])) - 1)) (moved number p.first p.at e)
-            (get us number p (length (entries_of (p.unit ∷ [])) - 1) e is is_e) in
+        (get us number p (length (entries_of (p.unit ∷ [])) - 1) e is is_e) in
         omega (arith, below, count, count_facts us, some)
 
     facts : (inner : ℕ) → inner < length (facts_in (p.unit ∷ []))
@@ -64,7 +64,7 @@ window s us all number p is some = record {
         let f = found us i e is_e in
         let moved_f = facts_get s us all f.number f.place f.is_place f.inner f.entry f.is_entry in
         let parent_f : moved_number f.place.first (entry_of (facts_in (f.place.unit ∷ [])) f.inner).parent ≡ Some (p.first + inner) =
-            sym (ap (λ (x : Facts). x.parent) moved_f) ∙ ap (λ (n : ℕ). (entry_of (facts_in us) n).parent) (sym f.begins) ∙ parent in
+        sym (ap (λ (x : Facts). x.parent) moved_f) ∙ ap (λ (n : ℕ). (entry_of (facts_in us) n).parent) (sym f.begins) ∙ parent in
         let (k, is_k, same) = some_moved f.place.first (entry_of (facts_in (f.place.unit ∷ [])) f.inner).parent (p.first + inner) parent_f in
         let before = facts-parents_first (f.place.unit ∷ []) f.inner k is_k in
         let in_f = slice_get_within (entries_of (f.place.unit ∷ [])) f.inner f.entry f.is_entry in
@@ -73,8 +73,8 @@ window s us all number p is some = record {
         let one = get us f.number f.place k d f.is_place is_d in
         let two = get us number p inner c is is_c in
         let entry_same : moved f.number f.place.first f.place.at d ≡ moved number p.first p.at c =
-            same_some (slice_get (entries_of us) (p.first + inner)) (moved f.number f.place.first f.place.at d) (moved number p.first p.at c)
-            (ap (slice_get (entries_of us)) (sym same) ∙ one) two in
+        same_some (slice_get (entries_of us) (p.first + inner)) (moved f.number f.place.first f.place.at d) (moved number p.first p.at c)
+        (ap (slice_get (entries_of us)) (sym same) ∙ one) two in
         let n : f.number ≡ number = ap (λ (x : Entry). x.unit) entry_same in
         let of : e.unit ≡ number = sym (ap (λ (x : Entry). x.unit) f.same) ∙ n in
         let g = found_in us number p is i e is_e of in
@@ -121,7 +121,7 @@ shapes_join s us all f fails =
         stands = refl;
         attribute = refl;
         fails = sym (shape_same (facts_in us) (facts_in (w.p.unit ∷ [])) w.p.first w.p.at w.window w.inner w.inside f.rule)
-        ∙ ap (λ (n : ℕ). fails_shape (facts_in us) n f.rule) (sym w.begins) ∙ fails.fails.fails;
+            ∙ ap (λ (n : ℕ). fails_shape (facts_in us) n f.rule) (sym w.begins) ∙ fails.fails.fails;
       };
     })
 

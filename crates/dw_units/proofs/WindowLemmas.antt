@@ -92,9 +92,12 @@ module _ (all alone : List Facts) (first at : ℕ) (w : IsWindow all alone first
       let (m, within, there) = w.children member inner below inside (parent_is (entry_of all member).parent (first + inner) child) in
       let f = w.facts m within in
       let target_is : (entry_of all (first + m)).type_target ≡ Some to = ap (λ (n : ℕ). (entry_of all n).type_target) (sym there) ∙ is in
-      let (k, target, same) = some_moved first (entry_of alone m).type_target to (sym (ap (λ (x : Facts). x.type_target) f) ∙ target_is) in
-      (k, (w.targets m k).0 target, sym same,
-      by_member m within (sym (plain_member_same inner m inside within) ∙ ap (is_plain_member all (first + inner)) (sym there) ∙ plain) target)
+      let (k, target, same) = some_moved first (entry_of alone m).type_target to (sym (ap (λ (x : Facts). x.type_target) f) ∙ target_is) in (
+        k,
+        (w.targets m k).0 target,
+        sym same,
+        by_member m within (sym (plain_member_same inner m inside within) ∙ ap (is_plain_member all (first + inner)) (sym there) ∙ plain) target,
+      )
   step_alone inner to inside (by_signature declared is) =
       let f = w.facts inner inside in
       let (k, target, same) = some_moved first (entry_of alone inner).signature_target to (sym (ap (λ (x : Facts). x.signature_target) f) ∙ is) in
@@ -127,7 +130,7 @@ module _ (all alone : List Facts) (first at : ℕ) (w : IsWindow all alone first
         two = omega (arith, two, long);
         steps = λ k next. step_at k (omega (arith, next, long));
         closed = lowered nodes 0 (omega (arith, two)) ∙ ap (λ (n : ℕ). n - first) closed.closed
-        ∙ sym (lowered nodes (length nodes - 1) (omega (arith, two))) ∙ ap (λ (n : ℕ). slice_index (map (λ (m : ℕ). m - first) nodes) (n - 1)) (sym long);
+            ∙ sym (lowered nodes (length nodes - 1) (omega (arith, two))) ∙ ap (λ (n : ℕ). slice_index (map (λ (m : ℕ). m - first) nodes) (n - 1)) (sym long);
       }
     where
       step_at : (k : ℕ) → k + 1 < length nodes
@@ -138,8 +141,8 @@ module _ (all alone : List Facts) (first at : ℕ) (w : IsWindow all alone first
           let from_here = subst (λ (n : ℕ). IsStepByValue all n (slice_index nodes (k + 1))) here step in
           let (j, inner_j, to, alone_step) = step_alone m (slice_index nodes (k + 1)) within from_here in
           let low_from : m ≡ slice_index (map (λ (n : ℕ). n - first) nodes) k =
-              (let e : m ≡ slice_index nodes k - first = omega (arith, here) in e) ∙ sym (lowered nodes k (omega (arith, next))) in
+          (let e : m ≡ slice_index nodes k - first = omega (arith, here) in e) ∙ sym (lowered nodes k (omega (arith, next))) in
           let low_to : j ≡ slice_index (map (λ (n : ℕ). n - first) nodes) (k + 1) =
-              (let e : j ≡ slice_index nodes (k + 1) - first = omega (arith, to) in e) ∙ sym (lowered nodes (k + 1) next) in
+          (let e : j ≡ slice_index nodes (k + 1) - first = omega (arith, to) in e) ∙ sym (lowered nodes (k + 1) next) in
           subst (λ (n : ℕ). IsStep (by_value alone) n (slice_index (map (λ (x : ℕ). x - first) nodes) (k + 1))) low_from
           (subst (IsStep (by_value alone) m) low_to (step-from_by_value alone m j alone_step))

@@ -113,12 +113,12 @@ module _ (all alone : List Facts) (first at : ℕ) (w : IsWindow all alone first
       let rest : ℕ = length all - (first + length alone) in
       let P : ℕ → Bool = is_child all (first + inner) in
       let before : filter P (range_with_len 0 first) ≡ [] =
-          filter_none P first 0 (λ k low high. no_child inner k inside (omega (arith, high, within)) (λ j j_in is. omega (arith, is, high))) in
+      filter_none P first 0 (λ k low high. no_child inner k inside (omega (arith, high, within)) (λ j j_in is. omega (arith, is, high))) in
       let behind : filter P (range_with_len (0 + first + n) rest) ≡ [] =
-          filter_none P rest (0 + first + n) (λ k low high. no_child inner k inside (omega (arith, high, within)) (λ j j_in is. omega (arith, is, low, j_in))) in
+      filter_none P rest (0 + first + n) (λ k low high. no_child inner k inside (omega (arith, high, within)) (λ j j_in is. omega (arith, is, low, j_in))) in
       let middle : filter P (range_with_len (0 + first) n) ≡ map (λ (k : ℕ). first + k) (children alone inner) =
-          ap (filter P) (range_moved first n 0 (0 + first) (omega arith))
-          ∙ filter_moved first n P (is_child alone inner) (range_with_len 0 n) (all_range n 0 n (omega arith)) (λ k k_in. child_moved inner k k_in) in
+      ap (filter P) (range_moved first n 0 (0 + first) (omega arith))
+      ∙ filter_moved first n P (is_child alone inner) (range_with_len 0 n) (all_range n 0 n (omega arith)) (λ k k_in. child_moved inner k k_in) in
       ap (filter P) (range_split first (n + rest) 0 (length all) (omega (arith, within))
       ∙ ap (λ (xs : List ℕ). range_with_len 0 first ++ xs) (range_split n rest (0 + first) (n + rest) refl))
       ∙ filter-append P (range_with_len 0 first) (range_with_len (0 + first) n ++ range_with_len (0 + first + n) rest)
@@ -143,17 +143,17 @@ module _ (all alone : List Facts) (first at : ℕ) (w : IsWindow all alone first
   regular_moved inner inside =
       let R : Bool → Bool → Bool → Bool → Bool = λ elements other stride any. (elements && not other) && (not stride && not any) in
       let elements : has_elements (dimensions all (first + inner)) ≡ has_elements (dimensions alone inner) =
-          ap has_elements (dimensions_moved inner inside) ∙ elements_moved first (dimensions alone inner) in
+      ap has_elements (dimensions_moved inner inside) ∙ elements_moved first (dimensions alone inner) in
       let other : list_any (is_other_index all) (children all (first + inner)) ≡ list_any (is_other_index alone) (children alone inner) =
-          ap (list_any (is_other_index all)) (children_moved inner inside)
-          ∙ any_moved first (length alone) (is_other_index all) (is_other_index alone) (children alone inner) (children_below inner)
-          (λ k within. ap (λ (f : Facts). is_one_of (DW_TAG_enumeration_type ∷ DW_TAG_generic_subrange ∷ []) f.tag) (w.facts k within)) in
+      ap (list_any (is_other_index all)) (children_moved inner inside)
+      ∙ any_moved first (length alone) (is_other_index all) (is_other_index alone) (children alone inner) (children_below inner)
+      (λ k within. ap (λ (f : Facts). is_one_of (DW_TAG_enumeration_type ∷ DW_TAG_generic_subrange ∷ []) f.tag) (w.facts k within)) in
       let stride : is_present (entry_of all (first + inner)).bit_stride ≡ is_present (entry_of alone inner).bit_stride =
-          ap (λ (f : Facts). is_present f.bit_stride) (w.facts inner inside) in
+      ap (λ (f : Facts). is_present f.bit_stride) (w.facts inner inside) in
       let any : list_any (has_stride all) (dimensions all (first + inner)) ≡ list_any (has_stride alone) (dimensions alone inner) =
-          ap (list_any (has_stride all)) (dimensions_moved inner inside)
-          ∙ any_moved first (length alone) (has_stride all) (has_stride alone) (dimensions alone inner) (dimensions_below inner)
-          (λ k within. ap (λ (f : Facts). is_present f.bit_stride || is_present f.byte_stride) (w.facts k within)) in
+      ap (list_any (has_stride all)) (dimensions_moved inner inside)
+      ∙ any_moved first (length alone) (has_stride all) (has_stride alone) (dimensions alone inner) (dimensions_below inner)
+      (λ k within. ap (λ (f : Facts). is_present f.bit_stride || is_present f.byte_stride) (w.facts k within)) in
       ap (λ (b : Bool). R b (list_any (is_other_index all) (children all (first + inner))) (is_present (entry_of all (first + inner)).bit_stride)
       (list_any (has_stride all) (dimensions all (first + inner)))) elements
       ∙ ap (λ (b : Bool). R (has_elements (dimensions alone inner)) b (is_present (entry_of all (first + inner)).bit_stride)
