@@ -31,7 +31,7 @@ fn ends_with_zero(strings: &[u8]) -> bool {
 }
 
 /// The counts of sound sections, if each unit is valid alone and refers to no other unit. None if that is not so, or if
-/// `verify` would take less: for one unit, and for units whose abbreviation tables are large. None says nothing.
+/// the units' abbreviation tables take longer to read than `verify` takes: nothing is said of the sections then.
 pub fn count_by_unit<'a>(alloc: Global, sections: &Sections<'a>) -> Result<Option<Counts>, NoMemory>
     ensures { IfOk result (λ found. IfSome found (AreCounts sections.now)) }
 {
@@ -50,9 +50,6 @@ pub fn count_by_unit<'a>(alloc: Global, sections: &Sections<'a>) -> Result<Optio
             Some(size) => size,
             None => return Ok(None),
         };
-        if size == sections.info.len() {
-            return Ok(None);
-        }
         let found = match verify_alone(alloc, sections, &rest[..size])? {
             Some(found) => found,
             None => return Ok(None),
