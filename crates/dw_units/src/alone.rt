@@ -9,7 +9,6 @@ ghost use Rattle.dw_entries.specs.Scanned.{all_entries};
 ghost use Rattle.dw_units.specs.Alone.{may_leave, Leaves, StaysInside};
 ghost use Rattle.dw_units.specs.Parts.{IsOneAlone, IsAlone};
 
-use crate::budget::table_size;
 use dw_elf::Sections;
 use dw_entries::{Entries, HeaderKind};
 use dw_forms::{AttributeSpec, Form};
@@ -21,12 +20,10 @@ use std::alloc::Global;
 pub struct Alone {
     pub entries: usize,
     pub types: usize,
-    /// A lower bound for the bytes of its abbreviation table.
-    pub table_size: usize,
 }
 
 /// Whether a value in this form may refer to another unit, or its entry names the form.
-fn may_leave(form: Form) -> bool
+pub(crate) fn may_leave(form: Form) -> bool
     ensures { result ≡ may_leave form }
 {
     matches!(form, Form::RefAddr | Form::RefSig8 | Form::Indirect)
@@ -100,14 +97,12 @@ pub fn verify_alone<'a>(
     match verify(alloc, own)? {
         Verdict::Fault(_) => Ok(None),
         Verdict::Sound(image) => {
-            let scanned = image.scanned();
-            if !is_one_alone(scanned) {
+            if !is_one_alone(image.scanned()) {
                 return Ok(None);
             }
             Ok(Some(Alone {
                 entries: image.entries(),
                 types: image.types(),
-                table_size: table_size(scanned.decls()),
             }))
         }
     }

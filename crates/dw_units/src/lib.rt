@@ -2,10 +2,10 @@
 #![tactic(auto)]
 
 mod alone;
-mod budget;
 mod counting;
 mod counts;
 mod laws;
+mod tables;
 
 pub use counting::count_by_unit;
 pub use counts::Counts;
