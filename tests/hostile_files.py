@@ -211,6 +211,27 @@ def files():
            "sound: 1 units, 1 entries, 0 types")
 
     yield from wide_files()
+    yield from apart()
+
+
+def apart():
+    """Files of many units that refer to no other one, or only the last does."""
+    row = uleb(1) + b"\x11\0\0\0" + b"".join(uleb(n + 2) + b"\x34\0\x03\x08\x3b\x0b\0\0" for n in range(MANY)) + b"\0"
+    units = unit(b"\x01") * TABLES
+    yield (f"{TABLES:,} units of one table of {MANY:,} declarations", [(".debug_abbrev", row), (".debug_info", units)],
+           f"sound: {TABLES} units, {TABLES} entries, 0 types")
+
+    # A declaration of a variable whose type is a reference to another unit.
+    table = TABLE[:-1] + bytes.fromhex("0b340049100000" "00")
+    types = unit(b"\x01" + INT + b"\0") * TABLES
+    last = unit(b"\x01\x0b" + struct.pack("<I", FIRST) + b"\0", table=len(TABLE))
+    yield (f"{TABLES:,} units, and one that refers to the first",
+           [(".debug_abbrev", TABLE + table), (".debug_info", types + last)],
+           f"sound: {TABLES + 1} units, {2 * TABLES + 2} entries, {TABLES} types")
+
+    yield (f"{TABLES:,} units, and 4 MB of strings without a zero byte",
+           [(".debug_abbrev", TABLE), (".debug_info", types), (".debug_str", b"a" * (4 << 20))],
+           f"sound: {TABLES} units, {2 * TABLES} entries, {TABLES} types")
 
 
 def orders(units):

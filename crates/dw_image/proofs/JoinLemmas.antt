@@ -16,7 +16,7 @@ use Rattle.dw_image.specs.declared.image.Image.{Image}
 use Rattle.dw_image.specs.Images.{sections_in, units_in, size_table_in}
 use Rattle.dw_image.specs.Valid.{SpellsInfo, HasSizes, IsValidBy, IsValid}
 use Rattle.dw_image.specs.First.{Group, classes, strings, references, shapes, cycles, sizes, turn_of, failures_of, FailsInTrees, IsFirstIn, FailsInGroup, IsFirstFault, in_trees, in_group, IsOneFault}
-use Rattle.dw_image.specs.Headline.{IsSpelled, IsImageOf, IsFaultOf}
+use Rattle.dw_image.specs.Headline.{IsSpelled, IsSoundBy, IsImageOf, IsFaultOf}
 use Rattle.dw_entries.proofs.NumberOrder.{three_ways}
 use Rattle.dw_image.proofs.OneFirst.{one_first}
 use Rattle.dw_image.proofs.GroupLaws.{one_group, one_at_place}
@@ -131,28 +131,32 @@ sizes_of : (image : Image) → HasSizes (facts_in (units_in image)) (size_table_
 unfolding units_in size_table_in
 sizes_of image = image.measured.sizes
 
--- each image is one of its sections
-pub sound_image : (image : Image) → IsImageOf (sections_in image) image
-sound_image image =
-    let s = sections_in image in
-    let us = units_in image in
-    let holds = valid_by image in
-    let valid : IsValid s = (us, holds) in
+-- sections that are valid by these units are sound by them
+pub sound_by : (s : Sections) (units : List DebugUnit) → IsValidBy s units → IsSoundBy s units
+sound_by s units holds =
+    let valid : IsValid s = (units, holds) in
     record {
-      sections = refl;
       trees = record {
         spelled = holds.trees;
-        only = λ others spells. one_list_of s others us spells holds.trees;
-        entries = spelled_of s us holds.trees;
+        only = λ others spells. one_list_of s others units spells holds.trees;
+        entries = spelled_of s units holds.trees;
       };
-      classes = classes_of us holds.classes;
-      texts = texts_of s us holds.strings;
-      references = references_of s us holds.trees holds.references;
-      contained = contained_of us holds.shapes holds.contained;
-      sizes = sizes_of image;
+      classes = classes_of units holds.classes;
+      texts = texts_of s units holds.strings;
+      references = references_of s units holds.trees holds.references;
+      contained = contained_of units holds.shapes holds.contained;
+      sizes = holds.sizes;
       valid = valid;
       faultless = λ fault first. no_fault_of s fault valid first;
     }
+
+-- each image is one of its sections
+pub sound_image : (image : Image) → IsImageOf (sections_in image) image
+sound_image image = record {
+  sections = refl;
+  sound = sound_by (sections_in image) (units_in image) (valid_by image);
+  sizes = sizes_of image;
+}
 
 -- the image of entries that were scanned in these sections
 pub image_of : (s : Sections) (image : Image) → image.entries.sections ≡ s → IsImageOf s image

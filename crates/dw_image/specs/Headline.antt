@@ -20,6 +20,7 @@ use Rattle.dw_links.specs.LinkLaws.{HaveTargets, HaveTypes}
 use Rattle.dw_types.specs.FactsOf.{facts_in}
 use Rattle.dw_types.specs.Graphs.{IsStep, HasNoCycle}
 use Rattle.dw_types.specs.Shapes.{ShapeFailures}
+use Rattle.dw_types.specs.SizeTables.{Size}
 use Rattle.dw_types.specs.Steps.{by_value, IsStepByValue}
 use Rattle.dw_image.specs.declared.image.Image.{Image}
 use Rattle.dw_image.specs.declared.verifying.Verdict.{Verdict}
@@ -96,17 +97,22 @@ pub record HoldsNoneOfItself (units : List DebugUnit) : Type 0 where
   pub steps : (from to : ℕ) → IsStep (by_value (facts_in units)) from to ↔ IsStepByValue (facts_in units) from to
   pub none : HasNoCycle (by_value (facts_in units))
 
--- sound: the image is of these sections, which are valid and have no fault; and what each group of rules promises
-pub record IsImageOf (s : Sections) (image : Image) : Type 0 where
-  pub sections : sections_in image ≡ s
-  pub trees : HasTrees s (units_in image)
-  pub classes : HasClasses (units_in image)
-  pub texts : HasTexts s (units_in image)
-  pub references : HasReferences (units_in image)
-  pub contained : HoldsNoneOfItself (units_in image)
-  pub sizes : HasSizes (facts_in (units_in image)) (size_table_in image)
+-- sound: the sections are valid, of these units, and have no fault; and what each group of rules promises
+pub record IsSoundBy (s : Sections) (units : List DebugUnit) : Type 0 where
+  pub trees : HasTrees s units
+  pub classes : HasClasses units
+  pub texts : HasTexts s units
+  pub references : HasReferences units
+  pub contained : HoldsNoneOfItself units
+  pub sizes : (table : ℕ → Size) × HasSizes (facts_in units) table
   pub valid : IsValid s
   pub faultless : (fault : FirstFault) → IsFirstFault s fault → ⊥
+
+-- the image is of these sections, which are sound by its units, and its sizes are theirs
+pub record IsImageOf (s : Sections) (image : Image) : Type 0 where
+  pub sections : sections_in image ≡ s
+  pub sound : IsSoundBy s (units_in image)
+  pub sizes : HasSizes (facts_in (units_in image)) (size_table_in image)
 
 -- not sound: the named rule fails at the named place, which is the first, and the sections are not valid
 pub record IsFaultOf (s : Sections) (fault : FirstFault) : Type 0 where

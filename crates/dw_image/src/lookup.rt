@@ -12,10 +12,17 @@ ghost use Rattle.dw_image.specs.Lookups.{entry_at};
 
 use crate::image::Image;
 use dw_entries::constants::DW_AT_name;
-use dw_entries::{Attribute, EntryId, Head, Value};
+use dw_entries::{Attribute, Entries, EntryId, Head, Value};
 use dw_links::TextPlace;
 
 impl<'a> Image<'a> {
+    /// The entries of the image, as they were scanned.
+    pub fn scanned(&self) -> &Entries<'a>
+        ensures { result.now ≡ self.now.entries }
+    {
+        &self.entries
+    }
+
     /// The entry that starts at this offset of .debug_info.
     #[tactic(auto, unfolding(crate::specs::Images::units_in))]
     pub fn entry(&self, offset: u32) -> Option<EntryId>

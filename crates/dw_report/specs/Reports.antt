@@ -1,5 +1,5 @@
 -- Chapter: the report of a request over the bytes of a file.
-use Rattle.std.specs.Prelude.{◌≡◌, ℕ, ◌<◌, ◌≤◌, true, false, List, length}
+use Rattle.std.specs.Prelude.{◌≡◌, ℕ, ◌<◌, ◌≤◌, Bool, true, false, List, length}
 use Rattle.dw_elf.specs.declared.fault.ElfRule.TheVariants as elf_rules
 use Rattle.dw_elf.specs.declared.fault.ElfFault.{ElfFault}
 use Rattle.dw_elf.specs.declared.sections.Sections.{Sections}
@@ -11,7 +11,8 @@ use Rattle.dw_cprint.specs.Listings.{IsListing, listing_text}
 use Rattle.dw_cprint.specs.declared.fault.PrintFault.{PrintFault}
 use Rattle.dw_image.specs.declared.image.Image.{Image}
 use Rattle.dw_image.specs.Headline.{IsImageOf, IsFaultOf}
-use Rattle.dw_image.specs.Images.{unit_count, entry_count, type_count}
+use Rattle.dw_units.specs.declared.counts.Counts.{Counts}
+use Rattle.dw_units.specs.Counted.{AreCounts}
 use Rattle.dw_report.specs.Lines.{sound_line, elf_fault_line, fault_lines}
 use Rattle.dw_report.specs.Shown.{show_lines, size_text, size_status, type_at_offset}
 use Rattle.dw_report.specs.Objects.{sound_object, fault_object, elf_fault_object, object_line}
@@ -41,18 +42,18 @@ pub record AreTypeLines (i : Image) (text : List ℕ) : Type 0 where
   pub listing : IsListing i order refused
   pub lines : text ≡ listing_text i order refused
 
--- what is written if the sections are sound
-abbrev pub IsSoundText : Request → Image → List ℕ → Type 0
-IsSoundText (Check true) i text = text ≡ object_line (sound_object (unit_count i) (entry_count i) (type_count i))
-IsSoundText (Check false) i text = text ≡ sound_line (unit_count i) (entry_count i) (type_count i)
-IsSoundText Show i text = text ≡ show_lines i
-IsSoundText Types i text = AreTypeLines i text
-IsSoundText (Size offset) i text = text ≡ size_text i (type_at_offset i offset)
+-- the counts of sound sections: an object in JSON if `--json` was given, else a line
+abbrev pub counts_text : (json : Bool) → Counts → List ℕ
+counts_text true c = object_line (sound_object c.units c.entries c.types)
+counts_text false c = sound_line c.units c.entries c.types
 
--- the status that goes with it
-abbrev pub sound_status : Request → Image → Status
-sound_status (Size offset) i = size_status (type_at_offset i offset)
-sound_status _ i = Sound
+-- what is returned and written of sound sections: their counts, or what is asked of an image of them
+pub data SoundReport (s : Sections) : Request → Status → List ℕ → Type 0 where
+  counted : (json : Bool) (c : Counts) → AreCounts s c → SoundReport s (Check json) Sound (counts_text json c)
+  shown : (i : Image) → IsImageOf s i → SoundReport s Show Sound (show_lines i)
+  listed : (i : Image) (text : List ℕ) → IsImageOf s i → AreTypeLines i text → SoundReport s Types Sound text
+  sized : (i : Image) (offset : ℕ) → IsImageOf s i
+      → SoundReport s (Size offset) (size_status (type_at_offset i offset)) (size_text i (type_at_offset i offset))
 
 -- the exit status of the program
 abbrev pub status_code : Status → ℕ
@@ -72,5 +73,5 @@ pub data Report (limit : ℕ) (request : Request) (bytes : List ℕ) : Status �
       → Report limit request bytes Fault (elf_fault_text request f)
   fault : (s : Sections) (f : FirstFault) → length bytes ≤ limit → ChecksPass bytes → AreSections bytes s
       → IsFaultOf s f → Report limit request bytes Fault (fault_text request f)
-  sound : (s : Sections) (i : Image) (text : List ℕ) → length bytes ≤ limit → ChecksPass bytes → AreSections bytes s
-      → IsImageOf s i → IsSoundText request i text → Report limit request bytes (sound_status request i) text
+  sound : (s : Sections) (status : Status) (text : List ℕ) → length bytes ≤ limit → ChecksPass bytes
+      → AreSections bytes s → SoundReport s request status text → Report limit request bytes status text

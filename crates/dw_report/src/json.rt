@@ -3,12 +3,12 @@
 ghost use Rattle.std.specs.Prelude.{◌≡◌, ◌++◌, OnOk, IfOk, false};
 ghost use Rattle.serde_json.specs.View.{view};
 ghost use Rattle.serde_json.specs.Written.{has_float};
-ghost use Rattle.dw_image.specs.Images.{unit_count, entry_count, type_count};
 ghost use Rattle.dw_report.specs.Objects.{cycle_array as array_of, sound_object, fault_members, fault_object};
 ghost use Rattle.dw_report.specs.Objects.{elf_fault_object, object_line};
 
 use dw_elf::ElfFault;
-use dw_image::{Fault, Image};
+use dw_image::Fault;
+use dw_units::Counts;
 use serde_json::{Map, Value, json, put};
 use std::alloc::{AllocError, Global};
 
@@ -79,19 +79,14 @@ fn put_object_line(text: &mut Vec<u8>, alloc: Global, value: &Value) -> Result<(
     text.extend_from_slice(b"\n")
 }
 
-/// The counts of an image as an object.
-pub fn put_sound_object(
-    text: &mut Vec<u8>,
-    alloc: Global,
-    image: &Image<'_>,
-) -> Result<(), AllocError>
+/// The counts of sound sections as an object.
+pub fn put_sound_object(text: &mut Vec<u8>, alloc: Global, counts: Counts) -> Result<(), AllocError>
     ensures ok { OnOk result (text.new.items
-        ≡ text.old.items
-        ++ object_line (sound_object (unit_count image.now) (entry_count image.now) (type_count image.now))) }
+        ≡ text.old.items ++ object_line (sound_object counts.units counts.entries counts.types)) }
 {
-    let units = image.units() as u64;
-    let entries = image.entries() as u64;
-    let types = image.types() as u64;
+    let units = counts.units as u64;
+    let entries = counts.entries as u64;
+    let types = counts.types as u64;
     let value = sound_value(alloc, units, entries, types)?;
     put_object_line(text, alloc, &value)
 }

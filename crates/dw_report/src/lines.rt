@@ -2,14 +2,14 @@
 
 ghost use Rattle.std.specs.Prelude.{◌≡◌, ◌++◌, OnOk};
 ghost use Rattle.std.specs.List.{flat_map};
-ghost use Rattle.dw_image.specs.Images.{unit_count, entry_count, type_count};
 ghost use Rattle.dw_report.specs.Lines.{offset_text, sound_line, elf_fault_line, fault_lines, cycle_line, cycle_offset};
 ghost use Rattle.dw_report.specs.Lines.{rule_part, place_part};
 
 use crate::digits::{put_decimal, put_hex};
 use dw_cprint::put_eight_digits;
 use dw_elf::ElfFault;
-use dw_image::{Fault, Image};
+use dw_image::Fault;
+use dw_units::Counts;
 use std::alloc::AllocError;
 
 /// An offset: `0x` and eight digits.
@@ -36,13 +36,13 @@ fn put_counts(text: &mut Vec<u8>, units: u64, entries: u64, types: u64) -> Resul
 }
 
 /// The line of sound sections.
-pub fn put_sound_line(text: &mut Vec<u8>, image: &Image<'_>) -> Result<(), AllocError>
+pub fn put_sound_line(text: &mut Vec<u8>, counts: Counts) -> Result<(), AllocError>
     ensures ok { OnOk result (text.new.items
-        ≡ text.old.items ++ sound_line (unit_count image.now) (entry_count image.now) (type_count image.now)) }
+        ≡ text.old.items ++ sound_line counts.units counts.entries counts.types) }
 {
-    let units = image.units() as u64;
-    let entries = image.entries() as u64;
-    let types = image.types() as u64;
+    let units = counts.units as u64;
+    let entries = counts.entries as u64;
+    let types = counts.types as u64;
     put_counts(text, units, entries, types)
 }
 

@@ -1,8 +1,10 @@
 //! The text for a request over the bytes of a file.
 
 ghost use Rattle.std.specs.Prelude.{◌≡◌, IfOk};
-ghost use Rattle.dw_report.specs.Reports.{file_limit, fault_text, elf_fault_text, AreTypeLines, IsSoundText};
-ghost use Rattle.dw_report.specs.Reports.{sound_status, Report};
+ghost use Rattle.dw_image.specs.Images.{sections_in};
+ghost use Rattle.dw_report.specs.Reports.{file_limit, fault_text, elf_fault_text, counts_text, AreTypeLines};
+ghost use Rattle.dw_report.specs.Reports.{SoundReport, Report};
+ghost use Rattle.dw_report.specs.Shown.{show_lines, size_text, size_status, type_at_offset};
 
 use crate::json::{put_elf_fault_object, put_fault_object, put_sound_object};
 use crate::lines::{put_elf_fault_line, put_fault_lines, put_sound_line};
@@ -11,6 +13,7 @@ use crate::shown::{put_show_lines, put_size_at};
 use dw_cprint::declare_all;
 use dw_elf::{ElfFault, ElfRule, find};
 use dw_image::{Fault, Image, NoMemory, Verdict, verify};
+use dw_units::{Counts, count_by_unit};
 use std::alloc::{AllocError, Global};
 
 /// How many bytes the longest file has that is read as one.
@@ -61,6 +64,28 @@ fn text_of_fault(alloc: Global, request: Request, fault: &Fault) -> Result<Vec<u
     Ok(text)
 }
 
+/// What is written of sound sections with these counts.
+fn text_of_counts(alloc: Global, json: bool, counts: Counts) -> Result<Vec<u8>, AllocError>
+    ensures { IfOk result (λ text. text.items ≡ counts_text json counts) }
+{
+    let mut text = Vec::new(alloc);
+    if json {
+        put_sound_object(&mut text, alloc, counts)?;
+    } else {
+        put_sound_line(&mut text, counts)?;
+    }
+    Ok(text)
+}
+
+/// The line of each entry.
+fn text_of_entries(alloc: Global, image: &Image<'_>) -> Result<Vec<u8>, AllocError>
+    ensures { IfOk result (λ text. text.items ≡ show_lines image.now) }
+{
+    let mut text = Vec::new(alloc);
+    put_show_lines(&mut text, image)?;
+    Ok(text)
+}
+
 /// The lines of all named types.
 fn text_of_types(alloc: Global, image: &Image<'_>) -> Result<Vec<u8>, NoMemory>
     ensures { IfOk result (λ text. AreTypeLines image.now text.items) }
@@ -69,21 +94,43 @@ fn text_of_types(alloc: Global, image: &Image<'_>) -> Result<Vec<u8>, NoMemory>
     Ok(listing.text)
 }
 
-/// The result if the sections are sound.
-fn answer_of_sound(alloc: Global, request: Request, image: &Image<'_>) -> Result<Answer, NoMemory>
-    ensures text { IfOk result (λ answer. IsSoundText request image.now answer.text.items) }
-    ensures status { IfOk result (λ answer. answer.status ≡ sound_status request image.now) }
+/// The size of the type whose entry starts at an offset.
+fn answer_of_size(alloc: Global, image: &Image<'_>, offset: u32) -> Result<Answer, AllocError>
+    ensures text { IfOk result (λ answer.
+        answer.text.items ≡ size_text image.now (type_at_offset image.now offset)) }
+    ensures status { IfOk result (λ answer. answer.status ≡ size_status (type_at_offset image.now offset)) }
 {
     let mut text = Vec::new(alloc);
-    let mut status = Status::Sound;
-    match request {
-        Request::Check { json: true } => put_sound_object(&mut text, alloc, image)?,
-        Request::Check { json: false } => put_sound_line(&mut text, image)?,
-        Request::Show => put_show_lines(&mut text, image)?,
-        Request::Types => text = text_of_types(alloc, image)?,
-        Request::Size(offset) => status = put_size_at(&mut text, image, offset)?,
-    }
+    let status = put_size_at(&mut text, image, offset)?;
     Ok(Answer { status, text })
+}
+
+/// The result if the sections are sound.
+fn answer_of_sound(alloc: Global, request: Request, image: &Image<'_>) -> Result<Answer, NoMemory>
+    ensures { IfOk result (λ answer.
+        SoundReport (sections_in image.now) request answer.status answer.text.items) }
+{
+    match request {
+        Request::Check { json } => {
+            let text = text_of_counts(alloc, json, Counts::of(image))?;
+            let status = Status::Sound;
+            Ok(Answer { status, text })
+        }
+        Request::Show => {
+            let text = text_of_entries(alloc, image)?;
+            let status = Status::Sound;
+            Ok(Answer { status, text })
+        }
+        Request::Types => {
+            let text = text_of_types(alloc, image)?;
+            let status = Status::Sound;
+            Ok(Answer { status, text })
+        }
+        Request::Size(offset) => {
+            let answer = answer_of_size(alloc, image, offset)?;
+            Ok(answer)
+        }
+    }
 }
 
 /// The result of a request over the bytes of a file.
@@ -112,6 +159,13 @@ pub fn report(
             return Ok(Answer { status, text });
         }
     };
+    if let Request::Check { json } = request {
+        if let Some(counts) = count_by_unit(alloc, &sections)? {
+            let text = text_of_counts(alloc, json, counts)?;
+            let status = Status::Sound;
+            return Ok(Answer { status, text });
+        }
+    }
     match verify(alloc, sections)? {
         Verdict::Fault(fault) => {
             let text = text_of_fault(alloc, request, &fault)?;

@@ -29,10 +29,10 @@ Report-of_read limit request input bytes status text e (fails f le x) =
 Report-of_read limit request input bytes status text e (fault s f le p are x) =
     let all = read_all limit input bytes e le in
     fault s f (subst (λ xs. length xs ≤ limit) all le) (subst ChecksPass all p) (subst (λ xs. AreSections xs s) all are) x
-Report-of_read limit request input bytes status text e (sound s i _ le p are x writes) =
+Report-of_read limit request input bytes status text e (sound s _ _ le p are x) =
     let all = read_all limit input bytes e le in
-    sound s i text (subst (λ xs. length xs ≤ limit) all le) (subst ChecksPass all p)
-    (subst (λ xs. AreSections xs s) all are) x writes
+    sound s status text (subst (λ xs. length xs ≤ limit) all le) (subst ChecksPass all p)
+    (subst (λ xs. AreSections xs s) all are) x
 
 pub WritesReport-of_read : (limit : ℕ) (request : Request) (bytes : List ℕ) (status : Status) (text : List ℕ) (remaining old new : Option (List ℕ)) → IfSome remaining (λ input. bytes ≡ take (limit + 1) input) → Report limit request bytes status text → Appends old new text → IfSome remaining (λ input. WritesReport limit request input status old new)
 WritesReport-of_read limit request bytes status text None old new read r a = tt

@@ -1,7 +1,9 @@
 use Rattle.std.proofs.Common.{sym, subst}
-use Rattle.dw_report.specs.declared.request.Status.TheVariants.{Fault}
+use Rattle.dw_report.specs.declared.request.Status.TheVariants.{Sound, Fault}
+use Rattle.dw_report.specs.declared.request.Request.TheVariants.{Check}
 use Rattle.dw_image.specs.Headline.{IsFaultOf, IsImageOf}
-use Rattle.dw_report.specs.Reports.{Report, large, fails, fault, sound}
+use Rattle.dw_units.specs.Counted.{AreCounts}
+use Rattle.dw_report.specs.Reports.{Report, SoundReport, counts_text, counted, large, fails, fault, sound}
 use Rattle.dw_report.proofs.reporting.report.Goals as goal
 
 pub returns-then-bytes-limit : goal.returns-then-bytes-limit
@@ -18,11 +20,18 @@ returns-in_ok-text-in-Fault c =
     subst (λ t. Report c.args.limit c.args.request c.args.bytes.now Fault t) (sym c.in_ok-text-in-Fault.ensures)
     (fault c.in-Ok.sections c.in-Fault.fault c.if-bytes-limit.false c.in-Ok.ensures.passes c.in-Ok.ensures.sections judged)
 
+pub returns-in-Some : goal.returns-in-Some
+returns-in-Some c =
+    let counts = c.in-Some.counts in
+    let counted : AreCounts c.in-Ok.sections counts = rw c.in-Some.is at c.in_ok-count_by_unit.ensures in
+    subst (λ t. Report c.args.limit (Check c.in-Check.json) c.args.bytes.now Sound t) (sym c.in_ok-text-in-Some.ensures)
+    (sound c.in-Ok.sections Sound (counts_text c.in-Check.json counts) c.if-bytes-limit.false c.in-Ok.ensures.passes
+    c.in-Ok.ensures.sections (counted c.in-Check.json counts counted))
+
 pub returns-in_ok-answer-in-Sound : goal.returns-in_ok-answer-in-Sound
 returns-in_ok-answer-in-Sound c =
     let judged : IsImageOf c.in-Ok.sections c.in-Sound.image = rw c.in-Sound.is at c.in_ok-fault.ensures in
     let answer = c.in_ok-answer-in-Sound.answer in
-    subst (λ s. Report c.args.limit c.args.request c.args.bytes.now s answer.text.items)
-    (sym c.in_ok-answer-in-Sound.ensures.status)
-    (sound c.in-Ok.sections c.in-Sound.image answer.text.items c.if-bytes-limit.false c.in-Ok.ensures.passes
-    c.in-Ok.ensures.sections judged c.in_ok-answer-in-Sound.ensures.text)
+    sound c.in-Ok.sections answer.status answer.text.items c.if-bytes-limit.false c.in-Ok.ensures.passes
+    c.in-Ok.ensures.sections
+    (subst (λ s. SoundReport s c.args.request answer.status answer.text.items) judged.sections c.in_ok-answer-in-Sound.ensures)

@@ -1,0 +1,12 @@
+pub mod TreeLemmas
+pub mod MovedEntries
+pub mod TextLemmas
+pub mod ReachLemmas
+pub mod ReferenceLemmas
+pub mod MovedFacts
+pub mod WindowLemmas
+pub mod TypeLemmas
+pub mod WindowSizes
+pub mod JoinLemmas
+pub mod FormLemmas
+pub mod CountLemmas

@@ -1,0 +1,123 @@
+-- The facts of an entry in its place are those of the entry alone, moved.
+use Rattle.std.proofs.Common.{◌≡◌, ℕ, ◌+◌, suc, ◌==◌, Bool, true, false, List, [], ◌∷◌, Option, Some, None, refl, sym, ap, ◌∙◌}
+use Rattle.std.specs.Prelude.{slice_get, if◌then◌else◌, is_some, option_and_then}
+use Rattle.std.specs.Option.{option_map_or}
+use Rattle.std.specs.List.{AllByRecursion}
+use Rattle.dw_elf.specs.declared.sections.Sections.{Sections}
+use Rattle.dw_forms.specs.Codes.{DW_AT_abstract_origin, DW_AT_bit_size, DW_AT_bit_stride, DW_AT_byte_size, DW_AT_byte_stride, DW_AT_count, DW_AT_data_bit_offset, DW_AT_data_member_location, DW_AT_lower_bound, DW_AT_signature, DW_AT_specification, DW_AT_type, DW_AT_upper_bound}
+use Rattle.dw_forms.specs.Value.{Datum}
+use Rattle.dw_entries.specs.Units.{DebugUnit}
+use Rattle.dw_entries.specs.Entries.{Entry, entries_of, PlacedUnit, placed}
+use Rattle.dw_entries.specs.Asked.{OffsetsRise, values_of}
+use Rattle.dw_entries.specs.Lookups.{value_at_entry, value_in}
+use Rattle.dw_entries.proofs.EntryFacts.{entries_rise}
+use Rattle.dw_links.specs.References.{is_declared}
+use Rattle.dw_links.specs.Targets.{reach_of, target_of}
+use Rattle.dw_types.specs.declared.facts.Facts.{Facts}
+use Rattle.dw_types.specs.declared.constant.Constant.{Constant}
+use Rattle.dw_types.specs.declared.constant.Constant.TheVariants.{Absent}
+use Rattle.dw_types.specs.Entries.{entry_of}
+use Rattle.dw_types.specs.FactsOf.{facts_in, facts_at, facts_read, facts_unread, constant_at, address_size_of, language_of, is_type_or_member}
+use Rattle.dw_types.proofs.FactsLemmas.{facts-get}
+use Rattle.dw_units.specs.Alone.{StaysInside, StandsAlone}
+use Rattle.dw_units.proofs.MovedEntries.{moved_number, moved, moved_facts, get}
+use Rattle.dw_units.proofs.TextLemmas.{lone, unit_zero, alone_at}
+use Rattle.dw_units.proofs.ReachLemmas.{reach_moved}
+use Rattle.dw_units.proofs.ReferenceLemmas.{all_units}
+
+-- a value that an attribute has stands among the values
+value_has : (values : List (ℕ × Datum)) (attribute : ℕ) (v : Datum) → value_in values attribute ≡ Some v
+    → (position : ℕ) × (code : ℕ) × (slice_get values position ≡ Some (code, v))
+value_has [] attribute v is = absurd cc
+value_has (a ∷ values) attribute v is = go (a.0 == attribute) refl (value_has values attribute v)
+  where
+    go : (b : Bool) → (a.0 == attribute) ≡ b
+        → (value_in values attribute ≡ Some v → (position : ℕ) × (code : ℕ) × (slice_get values position ≡ Some (code, v)))
+        → (position : ℕ) × (code : ℕ) × (slice_get (a ∷ values) position ≡ Some (code, v))
+    go true same more = let here : Some a.1 ≡ Some v = rw same at is in let v_is : a.1 ≡ v = cc in (0, a.0, ap (λ (w : Datum). Some (a.0, w)) v_is)
+    go false apart more =
+        let behind : value_in values attribute ≡ Some v = rw apart at is in
+        let (position, code, at) = more behind in (suc position, code, at)
+
+module _ (us : List DebugUnit) (rise : OffsetsRise (entries_of us)) (number : ℕ) (p : PlacedUnit) (is : slice_get (placed us) number ≡ Some p)
+    (alone_rise : OffsetsRise (entries_of (p.unit ∷ []))) where
+  target_moved : (e : Entry) → e.unit ≡ 0 → StaysInside e → (attribute : ℕ)
+      → target_of (entries_of us) (placed us) (moved number p.first p.at e) attribute
+      ≡ moved_number p.first (target_of (entries_of (p.unit ∷ [])) (placed (p.unit ∷ [])) e attribute)
+  unfolding target_of
+  target_moved e of stays attribute = go (value_at_entry e attribute) refl
+    where
+      go : (o : Option Datum) → value_at_entry e attribute ≡ o → option_and_then (reach_of (entries_of us) (placed us) number) o
+          ≡ moved_number p.first (option_and_then (reach_of (entries_of (p.unit ∷ [])) (placed (p.unit ∷ [])) e.unit) o)
+      go None at = refl
+      go (Some v) at =
+          let (position, code, has) = value_has (values_of e.head) attribute v at in
+          reach_moved us rise number p is alone_rise v (stays position code v has)
+          ∙ ap (λ (n : ℕ). moved_number p.first (reach_of (entries_of (p.unit ∷ [])) (placed (p.unit ∷ [])) n v)) (sym of)
+
+  of_unit : {X : Type 0} (f : PlacedUnit → X) (d : X) (e : Entry) → e.unit ≡ 0 → f (lone p.unit) ≡ f p
+      → option_map_or f (slice_get (placed us) number) d ≡ option_map_or f (slice_get (placed (p.unit ∷ [])) e.unit) d
+  of_unit f d e of same =
+      ap (λ (o : Option PlacedUnit). option_map_or f o d) is ∙ sym same
+      ∙ sym (ap (λ (n : ℕ). option_map_or f (slice_get (placed (p.unit ∷ [])) n) d) of)
+
+  read_moved : (e : Entry) → e.unit ≡ 0 → StaysInside e → facts_read (entries_of us) (placed us) (moved number p.first p.at e)
+      ≡ moved_facts p.first p.at (facts_read (entries_of (p.unit ∷ [])) (placed (p.unit ∷ [])) e)
+  unfolding facts_read
+  read_moved e of stays =
+      let F : Option ℕ → Option ℕ → ℕ → Constant → Facts = λ type signature size language. record {
+        offset = p.at + e.at;
+        tag = e.head.decl.tag;
+        declared = is_declared e;
+        parent = moved_number p.first e.parent;
+        type_target = type;
+        signature_target = signature;
+        has_specification = is_some (value_at_entry e DW_AT_specification);
+        has_abstract_origin = is_some (value_at_entry e DW_AT_abstract_origin);
+        address_size = size;
+        language = language;
+        byte_size = constant_at e DW_AT_byte_size;
+        bit_size = constant_at e DW_AT_bit_size;
+        byte_stride = constant_at e DW_AT_byte_stride;
+        bit_stride = constant_at e DW_AT_bit_stride;
+        count = constant_at e DW_AT_count;
+        lower_bound = constant_at e DW_AT_lower_bound;
+        upper_bound = constant_at e DW_AT_upper_bound;
+        data_member_location = constant_at e DW_AT_data_member_location;
+        data_bit_offset = constant_at e DW_AT_data_bit_offset;
+      } in
+      let type = target_moved e of stays DW_AT_type in
+      let signature = target_moved e of stays DW_AT_signature in
+      let size = of_unit address_size_of 0 e of refl in
+      let language = of_unit language_of Absent e of refl in
+      ap (λ (t : Option ℕ). F t (target_of (entries_of us) (placed us) (moved number p.first p.at e) DW_AT_signature)
+      (option_map_or address_size_of (slice_get (placed us) number) 0) (option_map_or language_of (slice_get (placed us) number) Absent)) type
+      ∙ ap (λ (g : Option ℕ). F (moved_number p.first (target_of (entries_of (p.unit ∷ [])) (placed (p.unit ∷ [])) e DW_AT_type)) g
+      (option_map_or address_size_of (slice_get (placed us) number) 0) (option_map_or language_of (slice_get (placed us) number) Absent)) signature
+      ∙ ap (λ (n : ℕ). F (moved_number p.first (target_of (entries_of (p.unit ∷ [])) (placed (p.unit ∷ [])) e DW_AT_type))
+      (moved_number p.first (target_of (entries_of (p.unit ∷ [])) (placed (p.unit ∷ [])) e DW_AT_signature)) n
+      (option_map_or language_of (slice_get (placed us) number) Absent)) size
+      ∙ ap (λ (c : Constant). F (moved_number p.first (target_of (entries_of (p.unit ∷ [])) (placed (p.unit ∷ [])) e DW_AT_type))
+      (moved_number p.first (target_of (entries_of (p.unit ∷ [])) (placed (p.unit ∷ [])) e DW_AT_signature))
+      (option_map_or address_size_of (slice_get (placed (p.unit ∷ [])) e.unit) 0) c) language
+
+  facts_moved : (e : Entry) → e.unit ≡ 0 → StaysInside e → facts_at (entries_of us) (placed us) (moved number p.first p.at e)
+      ≡ moved_facts p.first p.at (facts_at (entries_of (p.unit ∷ [])) (placed (p.unit ∷ [])) e)
+  unfolding facts_at facts_unread
+  facts_moved e of stays = go (is_type_or_member e.head.decl.tag)
+    where
+      go : (b : Bool) → (if b then facts_read (entries_of us) (placed us) (moved number p.first p.at e) else facts_unread (moved number p.first p.at e))
+          ≡ moved_facts p.first p.at (if b then facts_read (entries_of (p.unit ∷ [])) (placed (p.unit ∷ [])) e else facts_unread e)
+      go true = read_moved e of stays
+      go false = refl
+
+-- the facts of an entry of a unit alone, in the unit's place
+pub facts_get : (s : Sections) (us : List DebugUnit) → AllByRecursion (StandsAlone s) us → (number : ℕ) (p : PlacedUnit)
+    → slice_get (placed us) number ≡ Some p → (inner : ℕ) (e : Entry) → slice_get (entries_of (p.unit ∷ [])) inner ≡ Some e
+    → entry_of (facts_in us) (p.first + inner) ≡ moved_facts p.first p.at (entry_of (facts_in (p.unit ∷ [])) inner)
+facts_get s us all number p is inner e is_e =
+    let alone = alone_at s us number p all is in
+    facts-get (entries_of us) (placed us) (p.first + inner) (moved number p.first p.at e) (get us number p inner e is is_e)
+    ∙ facts_moved us (entries_rise s.«abbrev».now us (all_units s us all)) number p is (entries_rise s.«abbrev».now (p.unit ∷ []) (alone.is_unit, tt))
+    e (unit_zero p.unit inner e is_e) (alone.stays inner e is_e)
+    ∙ ap (moved_facts p.first p.at) (sym (facts-get (entries_of (p.unit ∷ [])) (placed (p.unit ∷ [])) inner e is_e))

@@ -1,0 +1,140 @@
+-- The rules on references: none fails.
+use Rattle.std.proofs.Common.{◌≡◌, ℕ, ◌+◌, ◌<◌, ◌==◌, ◌&&◌, not, Bool, true, false, List, [], ◌∷◌, length, Option, Some, None, refl, sym, ap, subst, ◌∙◌, inl, inr, arith, eq-eqb, ne_eqb}
+use Rattle.std.proofs.lemmas.Bool.{eqb-true}
+use Rattle.std.specs.Prelude.{slice_get, if◌then◌else◌}
+use Rattle.std.specs.List.{AllByRecursion}
+use Rattle.dw_elf.specs.declared.sections.Sections.{Sections}
+use Rattle.dw_forms.specs.Codes.{DW_AT_import, DW_AT_specification, DW_AT_type, DW_TAG_imported_unit, DW_TAG_compile_unit, DW_TAG_partial_unit, is_type_tag}
+use Rattle.dw_forms.specs.Value.{Datum, ref_unit, ref_info, ref_sig}
+use Rattle.dw_entries.specs.declared.rule.Rule.{Rule}
+use Rattle.dw_entries.specs.declared.rule.Rule.TheVariants.{NoEntry, WrongKind, NotNextSibling, NoSignature}
+use Rattle.dw_entries.specs.Units.{DebugUnit, AreUnits}
+use Rattle.dw_entries.specs.Lookups.{entry_head}
+use Rattle.dw_entries.specs.Entries.{Entry, entries_of, PlacedUnit, placed}
+use Rattle.dw_entries.specs.Failures.{HasNone}
+use Rattle.dw_entries.specs.Asked.{OffsetsRise}
+use Rattle.dw_entries.proofs.EntryFacts.{entries_rise}
+use Rattle.dw_entries.proofs.Firsts.{same_some}
+use Rattle.dw_links.specs.Classes.{is_one_of}
+use Rattle.dw_links.specs.Targets.{reach_of}
+use Rattle.dw_links.specs.References.{permits, is_declared, is_signed, NoSignatureThere, IsOtherThan, ReachesWrong, ReferenceFailsBy, ReferenceFails, HeaderFails, HeaderFailures, AttributeFailures, ReferenceFailures}
+use Rattle.dw_links.proofs.Skips.{there}
+use Rattle.std.proofs.lemmas.Option.{slice_get_within}
+use Rattle.dw_links.proofs.TargetLaws.{at_reach_in_unit}
+use Rattle.dw_units.specs.Alone.{leads_out, StandsAlone}
+use Rattle.dw_units.proofs.MovedEntries.{moved_number, moved, get}
+use Rattle.dw_units.proofs.TextLemmas.{unit_zero, alone_at, heads_join}
+use Rattle.dw_units.proofs.ReachLemmas.{reach_moved}
+
+pub none_moved : (first : ℕ) (o : Option ℕ) → moved_number first o ≡ None → o ≡ None
+none_moved first None is = refl
+none_moved first (Some id) is = absurd cc
+
+pub some_moved : (first : ℕ) (o : Option ℕ) (id : ℕ) → moved_number first o ≡ Some id → (k : ℕ) × (o ≡ Some k) × (first + k ≡ id)
+some_moved first None id is = absurd cc
+some_moved first (Some k) id is = (k, refl, cc)
+
+pub eqb_moved : (at a b : ℕ) → (at + a == at + b) ≡ (a == b)
+eqb_moved at a b = go (a == b) refl
+  where
+    go : (x : Bool) → (a == b) ≡ x → (at + a == at + b) ≡ (a == b)
+    go true same = let e = eqb-true a b same in eq-eqb (at + a) (at + b) (omega (arith, e)) ∙ sym same
+    go false apart = ne_eqb (at + a) (at + b) (λ e. let no : true ≡ false = sym (eq-eqb a b (omega (arith, e))) ∙ apart in cc) ∙ sym apart
+
+-- a target is permitted in its place as alone
+permits_moved : (number first at : ℕ) (e t : Entry) (attribute : ℕ) → permits (entry_head (moved number first at e)) attribute (moved number first at t)
+    ≡ permits (entry_head e) attribute t
+permits_moved number first at e t attribute =
+    ap (λ (b : Bool). if attribute == DW_AT_type then is_type_tag t.head.decl.tag
+    else (if attribute == DW_AT_specification then not b && is_declared t
+    else (if is_signed (entry_head e) attribute then t.head.decl.tag == e.head.decl.tag
+    else (if attribute == DW_AT_import && e.head.decl.tag == DW_TAG_imported_unit then is_one_of (DW_TAG_compile_unit ∷ DW_TAG_partial_unit ∷ []) t.head.decl.tag
+    else true)))) (eqb_moved at t.at e.at)
+
+reached_below : (entries : List Entry) (units : List PlacedUnit) (unit : ℕ) (v : Datum) (k : ℕ) → leads_out v ≡ false
+    → reach_of entries units unit v ≡ Some k → k < length entries
+reached_below entries units unit (ref_unit offset) k stays is =
+    let r = at_reach_in_unit entries units unit offset k is in slice_get_within entries k r.target.entry r.target.is_entry
+reached_below entries units unit (ref_info offset) k stays is = let no : true ≡ false = stays in absurd cc
+reached_below entries units unit (ref_sig signature) k stays is = let no : true ≡ false = stays in absurd cc
+reached_below entries units unit v k stays is = absurd cc
+
+no_signature : (units : List PlacedUnit) (v : Datum) → leads_out v ≡ false → NoSignatureThere units v → ⊥
+no_signature units (ref_sig signature) stays fails = let no : true ≡ false = stays in cc
+no_signature units v stays fails = fails
+
+other_alone : (first : ℕ) (next alone : Option ℕ) → IsOtherThan (moved_number first next) (moved_number first alone) → IsOtherThan next alone
+other_alone first None alone other = tt
+other_alone first (Some n) alone (id, reached, apart) =
+    let (k, is, same) = some_moved first alone id reached in (k, is, λ e. apart (omega (arith, same, e)))
+
+module _ (us : List DebugUnit) (rise : OffsetsRise (entries_of us)) (number : ℕ) (p : PlacedUnit) (is : slice_get (placed us) number ≡ Some p)
+    (alone_rise : OffsetsRise (entries_of (p.unit ∷ []))) where
+  wrong_alone : (e : Entry) (attribute : ℕ) (alone : Option ℕ) → ((k : ℕ) → alone ≡ Some k → k < length (entries_of (p.unit ∷ [])))
+      → ReachesWrong (entries_of us) (entry_head (moved number p.first p.at e)) attribute (moved_number p.first alone)
+      → ReachesWrong (entries_of (p.unit ∷ [])) (entry_head e) attribute alone
+  wrong_alone e attribute alone below wrong =
+      let (k, is_k, same) = some_moved p.first alone wrong.id wrong.reaches in
+      let (t, is_t) = there (entries_of (p.unit ∷ [])) k (below k is_k) in
+      let target : wrong.target ≡ moved number p.first p.at t =
+      same_some (slice_get (entries_of us) wrong.id) wrong.target (moved number p.first p.at t) wrong.is_target
+      (ap (slice_get (entries_of us)) (sym same) ∙ get us number p k t is is_t) in
+      record {
+        id = k;
+        reaches = is_k;
+        target = t;
+        is_target = is_t;
+        wrong = sym (permits_moved number p.first p.at e t attribute)
+            ∙ ap (permits (entry_head (moved number p.first p.at e)) attribute) (sym target) ∙ wrong.wrong;
+      }
+
+  by_alone : (e : Entry) → (attribute : ℕ) (v : Datum) (rule : Rule) → leads_out v ≡ false
+      → reach_of (entries_of us) (placed us) number v ≡ moved_number p.first (reach_of (entries_of (p.unit ∷ [])) (placed (p.unit ∷ [])) e.unit v)
+      → ReferenceFailsBy (entries_of us) (placed us) (entry_head (moved number p.first p.at e)) attribute v rule
+      → ReferenceFailsBy (entries_of (p.unit ∷ [])) (placed (p.unit ∷ [])) (entry_head e) attribute v rule
+  by_alone e attribute v NoEntry stays reached (by_offset, none) =
+      (by_offset, none_moved p.first (reach_of (entries_of (p.unit ∷ [])) (placed (p.unit ∷ [])) e.unit v) (sym reached ∙ none))
+  by_alone e attribute v WrongKind stays reached (inl form) = inl form
+  by_alone e attribute v WrongKind stays reached (inr wrong) =
+      inr (wrong_alone e attribute (reach_of (entries_of (p.unit ∷ [])) (placed (p.unit ∷ [])) e.unit v)
+      (λ k is_k. reached_below (entries_of (p.unit ∷ [])) (placed (p.unit ∷ [])) e.unit v k stays is_k)
+      (subst (ReachesWrong (entries_of us) (entry_head (moved number p.first p.at e)) attribute) reached wrong))
+  by_alone e attribute v NotNextSibling stays reached (sibling, other) = (
+    sibling,
+    other_alone p.first e.next (reach_of (entries_of (p.unit ∷ [])) (placed (p.unit ∷ [])) e.unit v)
+        (subst (IsOtherThan (moved_number p.first e.next)) reached other),
+  )
+  by_alone e attribute v NoSignature stays reached fails = absurd (no_signature (placed us) v stays fails)
+  by_alone e attribute v rule stays reached fails = absurd fails
+
+  pub reference_alone : (e : Entry) → e.unit ≡ 0 → (attribute : ℕ) (v : Datum) (rule : Rule) → leads_out v ≡ false
+      → ReferenceFails (entries_of us) (placed us) (entry_head (moved number p.first p.at e)) attribute v rule
+      → ReferenceFails (entries_of (p.unit ∷ [])) (placed (p.unit ∷ [])) (entry_head e) attribute v rule
+  reference_alone e of attribute v rule stays (reference, fails) = (
+    reference,
+    by_alone e attribute v rule stays
+        (reach_moved us rise number p is alone_rise v stays ∙ ap (λ (n : ℕ). moved_number p.first (reach_of (entries_of (p.unit ∷ [])) (placed (p.unit ∷ [])) n v)) (sym of))
+        fails,
+  )
+
+pub all_units : (s : Sections) (us : List DebugUnit) → AllByRecursion (StandsAlone s) us → AreUnits s.«abbrev».now us
+all_units s [] all = tt
+all_units s (u ∷ us) (one, more) = (one.is_unit, all_units s us more)
+
+no_header_fails : (s : Sections) (us : List DebugUnit) → AllByRecursion (StandsAlone s) us → HasNone (HeaderFailures (entries_of us) (placed us))
+no_header_fails s us all f fails =
+    subst (λ (o : Option (ℕ × ℕ)). HeaderFails (entries_of us) (placed us) fails.number fails.item.at o f.rule)
+    (alone_at s us fails.number fails.item all fails.is_item).no_type_unit fails.fails.fails
+
+no_attribute_fails : (s : Sections) (us : List DebugUnit) → AllByRecursion (StandsAlone s) us → HasNone (AttributeFailures (entries_of us) (placed us))
+no_attribute_fails s us all =
+    heads_join us (ReferenceFails (entries_of us) (placed us)) (λ u. ReferenceFails (entries_of (u ∷ [])) (placed (u ∷ [])))
+    (λ number p is f fails. (alone_at s us number p all is).references f (inr fails))
+    (λ number p is inner e is_e position attribute v rule has fails.
+    let alone = alone_at s us number p all is in
+    reference_alone us (entries_rise s.«abbrev».now us (all_units s us all)) number p is (entries_rise s.«abbrev».now (p.unit ∷ []) (alone.is_unit, tt))
+    e (unit_zero p.unit inner e is_e) attribute v rule (alone.stays inner e is_e position attribute v has) fails)
+
+pub references_join : (s : Sections) (us : List DebugUnit) → AllByRecursion (StandsAlone s) us → HasNone (ReferenceFailures us)
+references_join s us all f (inl header) = no_header_fails s us all f header
+references_join s us all f (inr attribute) = no_attribute_fails s us all f attribute

@@ -1,0 +1,148 @@
+-- The facts of a unit among all, as a window: shapes and steps there are those of the unit alone.
+use Rattle.std.proofs.Common.{◌≡◌, ℕ, ◌+◌, ◌-◌, zero, suc, ◌<◌, ◌≤◌, Bool, true, false, List, [], ◌∷◌, length, map, Option, Some, None, refl, sym, ap, subst, ◌∙◌, arith}
+use Rattle.std.proofs.lemmas.Bool.{eqb-true}
+use Rattle.std.specs.Prelude.{slice_index, is_some, nat_eq, not, ◌&&◌, ◌||◌}
+use Rattle.dw_entries.specs.declared.rule.Rule.{Rule}
+use Rattle.dw_entries.specs.declared.rule.Rule.TheVariants.{MissingType, BadCount}
+use Rattle.dw_types.specs.declared.facts.Facts.{Facts}
+use Rattle.dw_types.specs.declared.kind.Role.{Role}
+use Rattle.dw_types.specs.Entries.{entry_of, is_parent, ParentsComeFirst, TargetsAreEntries}
+use Rattle.dw_types.specs.Graphs.{IsStep, IsClosed}
+use Rattle.dw_types.specs.Kinds.{role_of, role_in, parent_role, is_array, has_members, passes_type_on, is_declared_type}
+use Rattle.dw_forms.specs.Codes.{DW_TAG_member}
+use Rattle.std.proofs.lemmas.List.{length-map}
+use Rattle.dw_types.specs.Shapes.{is_plain, stands_alone, breaks_shape, fails_shape}
+use Rattle.dw_types.specs.Steps.{by_value, IsStepByValue, by_type, by_member, by_signature, is_plain_member}
+use Rattle.dw_types.proofs.StepLemmas.{by_value-from_step, step-from_by_value}
+use Rattle.dw_units.proofs.MovedEntries.{moved_number, moved_facts}
+use Rattle.dw_units.proofs.ReferenceLemmas.{some_moved, eqb_moved}
+
+-- these entries among all: the entries alone, moved; and no child of one of them is elsewhere
+pub record IsWindow (all alone : List Facts) (first at : ℕ) : Type 0 where
+  pub within : first + length alone ≤ length all
+  pub facts : (inner : ℕ) → inner < length alone → entry_of all (first + inner) ≡ moved_facts first at (entry_of alone inner)
+  pub children : (i inner : ℕ) → i < length all → inner < length alone → (entry_of all i).parent ≡ Some (first + inner)
+      → (k : ℕ) × (k < length alone) × (i ≡ first + k)
+  pub parents : ParentsComeFirst alone
+  pub targets : TargetsAreEntries alone
+
+pub some_of_moved : (first : ℕ) (o : Option ℕ) → is_some (moved_number first o) ≡ is_some o
+some_of_moved first None = refl
+some_of_moved first (Some k) = refl
+
+pub parent_of_moved : (first : ℕ) (o : Option ℕ) (node : ℕ) → is_parent (moved_number first o) (first + node) ≡ is_parent o node
+parent_of_moved first None node = refl
+parent_of_moved first (Some k) node = eqb_moved first k node
+
+pub parent_is : (o : Option ℕ) (node : ℕ) → is_parent o node ≡ true → o ≡ Some node
+parent_is None node is = absurd cc
+parent_is (Some k) node is = ap Some (eqb-true k node is)
+
+both_are : (a b : Bool) → (a && b) ≡ true → (a ≡ true) × (b ≡ true)
+both_are true b is = (refl, is)
+both_are false b is = absurd cc
+
+-- a plain member, by its container, itself and whether the one is the parent of the other
+abbrev has_and : Facts → Facts → Bool → Bool
+has_and container member child = has_members container && (nat_eq member.tag DW_TAG_member && (not member.declared && child))
+
+abbrev has_members_and : Facts → Facts → ℕ → Bool
+has_members_and container member node = has_and container member (is_parent member.parent node)
+
+module _ (all alone : List Facts) (first at : ℕ) (w : IsWindow all alone first at) where
+  role_moved : (o : Option ℕ) → ((k : ℕ) → o ≡ Some k → k < length alone) → role_in all (moved_number first o) ≡ role_in alone o
+  role_moved None below = refl
+  role_moved (Some k) below = ap role_of (w.facts k (below k refl))
+
+  pub role_same : (inner : ℕ) → inner < length alone → parent_role all (first + inner) ≡ parent_role alone inner
+  role_same inner inside =
+      ap (λ (f : Facts). role_in all f.parent) (w.facts inner inside)
+      ∙ role_moved (entry_of alone inner).parent (λ k is. let before = w.parents inner k is in omega (arith, before, inside))
+
+  shape_moved : (role : Role) (f : Facts) (rule : Rule) → breaks_shape role (moved_facts first at f) rule ≡ breaks_shape role f rule
+  shape_moved role f MissingType =
+      ap (λ (b : Bool). (is_array f || is_plain role f) && (not b && stands_alone f)) (some_of_moved first f.type_target)
+  shape_moved role f BadCount = refl
+  shape_moved role f rule = refl
+
+  pub shape_same : (inner : ℕ) → inner < length alone → (rule : Rule) → fails_shape all (first + inner) rule ≡ fails_shape alone inner rule
+  shape_same inner inside rule =
+      ap (λ (role : Role). breaks_shape role (entry_of all (first + inner)) rule) (role_same inner inside)
+      ∙ ap (λ (f : Facts). breaks_shape (parent_role alone inner) f rule) (w.facts inner inside)
+      ∙ shape_moved (parent_role alone inner) (entry_of alone inner) rule
+
+  plain_member_same : (inner k : ℕ) → inner < length alone → k < length alone
+      → is_plain_member all (first + inner) (first + k) ≡ is_plain_member alone inner k
+  plain_member_same inner k inside within =
+      ap (λ (f : Facts). has_members_and f (entry_of all (first + k)) (first + inner)) (w.facts inner inside)
+      ∙ ap (λ (f : Facts). has_members_and (entry_of alone inner) f (first + inner)) (w.facts k within)
+      ∙ ap (λ (b : Bool). has_and (entry_of alone inner) (entry_of alone k) b) (parent_of_moved first (entry_of alone k).parent inner)
+
+  -- a step from an entry of the window is one of the entry alone
+  pub step_alone : (inner to : ℕ) → inner < length alone → IsStepByValue all (first + inner) to
+      → (k : ℕ) × (k < length alone) × (to ≡ first + k) × IsStepByValue alone inner k
+  step_alone inner to inside (by_type passes is) =
+      let f = w.facts inner inside in
+      let (k, target, same) = some_moved first (entry_of alone inner).type_target to (sym (ap (λ (x : Facts). x.type_target) f) ∙ is) in
+      (k, (w.targets inner k).0 target, sym same, by_type (sym (ap passes_type_on f) ∙ passes) target)
+  step_alone inner to inside (by_member member below plain is) =
+      let (has, rest) = both_are (has_members (entry_of all (first + inner))) (nat_eq (entry_of all member).tag DW_TAG_member && (not (entry_of all member).declared && is_parent (entry_of all member).parent (first + inner))) plain in
+      let (tag, more) = both_are (nat_eq (entry_of all member).tag DW_TAG_member) (not (entry_of all member).declared && is_parent (entry_of all member).parent (first + inner)) rest in
+      let (kept, child) = both_are (not (entry_of all member).declared) (is_parent (entry_of all member).parent (first + inner)) more in
+      let (m, within, there) = w.children member inner below inside (parent_is (entry_of all member).parent (first + inner) child) in
+      let f = w.facts m within in
+      let target_is : (entry_of all (first + m)).type_target ≡ Some to = ap (λ (n : ℕ). (entry_of all n).type_target) (sym there) ∙ is in
+      let (k, target, same) = some_moved first (entry_of alone m).type_target to (sym (ap (λ (x : Facts). x.type_target) f) ∙ target_is) in (
+        k,
+        (w.targets m k).0 target,
+        sym same,
+        by_member m within (sym (plain_member_same inner m inside within) ∙ ap (is_plain_member all (first + inner)) (sym there) ∙ plain) target,
+      )
+  step_alone inner to inside (by_signature declared is) =
+      let f = w.facts inner inside in
+      let (k, target, same) = some_moved first (entry_of alone inner).signature_target to (sym (ap (λ (x : Facts). x.signature_target) f) ∙ is) in
+      (k, (w.targets inner k).1 target, sym same, by_signature (sym (ap is_declared_type f) ∙ declared) target)
+
+  -- a closed list that begins in the window stays there
+  stays_in : (nodes : List ℕ) → IsClosed (by_value all) nodes → (inner : ℕ) → inner < length alone → slice_index nodes 0 ≡ first + inner
+      → (k : ℕ) → k < length nodes → (m : ℕ) × (m < length alone) × (slice_index nodes k ≡ first + m)
+  stays_in nodes closed inner inside begins zero below = (inner, inside, begins)
+  stays_in nodes closed inner inside begins (suc k) below =
+      let (m, within, here) = stays_in nodes closed inner inside begins k (omega (arith, below)) in
+      let next : k + 1 < length nodes = omega (arith, below) in
+      let number : k + 1 ≡ suc k = omega arith in
+      let step = by_value-from_step all (slice_index nodes k) (slice_index nodes (k + 1)) (closed.steps k next) in
+      let from_here = subst (λ (n : ℕ). IsStepByValue all n (slice_index nodes (k + 1))) here step in
+      let (j, inner_j, to, alone_step) = step_alone m (slice_index nodes (k + 1)) within from_here in
+      (j, inner_j, ap (slice_index nodes) (sym number) ∙ to)
+
+  lowered : (nodes : List ℕ) (k : ℕ) → k < length nodes → slice_index (map (λ (n : ℕ). n - first) nodes) k ≡ slice_index nodes k - first
+  lowered [] k below = absurd (omega arith)
+  lowered (n ∷ nodes) zero below = refl
+  lowered (n ∷ nodes) (suc k) below = lowered nodes k (omega arith)
+
+  pub closed_alone : (nodes : List ℕ) → IsClosed (by_value all) nodes → (inner : ℕ) → inner < length alone → slice_index nodes 0 ≡ first + inner
+      → IsClosed (by_value alone) (map (λ (n : ℕ). n - first) nodes)
+  closed_alone nodes closed inner inside begins =
+      let two = closed.two in
+      let long : length (map (λ (n : ℕ). n - first) nodes) ≡ length nodes = length-map nodes (λ (n : ℕ). n - first) in
+      record {
+        two = omega (arith, two, long);
+        steps = λ k next. step_at k (omega (arith, next, long));
+        closed = lowered nodes 0 (omega (arith, two)) ∙ ap (λ (n : ℕ). n - first) closed.closed
+            ∙ sym (lowered nodes (length nodes - 1) (omega (arith, two))) ∙ ap (λ (n : ℕ). slice_index (map (λ (m : ℕ). m - first) nodes) (n - 1)) (sym long);
+      }
+    where
+      step_at : (k : ℕ) → k + 1 < length nodes
+          → IsStep (by_value alone) (slice_index (map (λ (n : ℕ). n - first) nodes) k) (slice_index (map (λ (n : ℕ). n - first) nodes) (k + 1))
+      step_at k next =
+          let (m, within, here) = stays_in nodes closed inner inside begins k (omega (arith, next)) in
+          let step = by_value-from_step all (slice_index nodes k) (slice_index nodes (k + 1)) (closed.steps k next) in
+          let from_here = subst (λ (n : ℕ). IsStepByValue all n (slice_index nodes (k + 1))) here step in
+          let (j, inner_j, to, alone_step) = step_alone m (slice_index nodes (k + 1)) within from_here in
+          let low_from : m ≡ slice_index (map (λ (n : ℕ). n - first) nodes) k =
+          (let e : m ≡ slice_index nodes k - first = omega (arith, here) in e) ∙ sym (lowered nodes k (omega (arith, next))) in
+          let low_to : j ≡ slice_index (map (λ (n : ℕ). n - first) nodes) (k + 1) =
+          (let e : j ≡ slice_index nodes (k + 1) - first = omega (arith, to) in e) ∙ sym (lowered nodes (k + 1) next) in
+          subst (λ (n : ℕ). IsStep (by_value alone) n (slice_index (map (λ (x : ℕ). x - first) nodes) (k + 1))) low_from
+          (subst (IsStep (by_value alone) m) low_to (step-from_by_value alone m j alone_step))

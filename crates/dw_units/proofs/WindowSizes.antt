@@ -1,0 +1,250 @@
+-- Children and sizes in a window are those of the entries alone.
+use Rattle.std.proofs.Common.{◌≡◌, ℕ, ◌+◌, ◌-◌, zero, suc, ◌<◌, ◌≤◌, Bool, true, false, List, [], ◌∷◌, ◌++◌, length, map, filter, Option, Some, None, refl, ap, ◌∙◌, arith, append-nil}
+use Rattle.std.specs.Prelude.{nat_eq, not, ◌&&◌, ◌||◌, if◌then◌else◌}
+use Rattle.std.specs.List.{AllByRecursion, list_any, range_with_len}
+use Rattle.std.proofs.lemmas.List.Elements.{filter-append}
+use Rattle.dw_entries.specs.declared.rule.Rule.{Rule}
+use Rattle.dw_entries.specs.declared.rule.Rule.TheVariants.{MemberOutside, EnumSize}
+use Rattle.dw_types.specs.declared.facts.Facts.{Facts}
+use Rattle.dw_types.specs.declared.kind.Kind.{Kind}
+use Rattle.dw_types.specs.declared.kind.Kind.TheVariants.{Declared, OwnSized, Pointer, Alias, Enumeration, Array, Subroutine, NoType}
+use Rattle.dw_types.specs.declared.kind.Role.{Role}
+use Rattle.dw_types.specs.Constants.{is_present, natural_of}
+use Rattle.dw_types.specs.Counts.{count_of, known_natural}
+use Rattle.dw_types.specs.Entries.{entry_of, is_parent, is_child, children, entry_numbers}
+use Rattle.dw_types.specs.Kinds.{kind_of, parent_role, is_enumeration}
+use Rattle.dw_types.specs.Shapes.{stands_alone}
+use Rattle.dw_links.specs.Classes.{is_one_of}
+use Rattle.dw_forms.specs.Codes.{DW_TAG_enumeration_type, DW_TAG_generic_subrange, DW_TAG_subrange_type}
+use Rattle.dw_types.specs.SizeTables.{Size}
+use Rattle.dw_types.specs.Sizes.{is_subrange, dimensions, times, product_of, factor_of, has_stride, is_other_index, has_elements, is_regular, size_to, constant_or, array_size, size_of_kind, size_line}
+use Rattle.dw_types.specs.SizeFaults.{breaks_size, fails_size, differ}
+use Rattle.dw_units.proofs.MovedEntries.{moved_number, moved_facts}
+use Rattle.dw_units.proofs.WindowLemmas.{IsWindow, role_same, parent_of_moved, parent_is, some_of_moved}
+
+-- ---- lists of numbers
+
+range_split : (n m a k : ℕ) → k ≡ n + m → range_with_len a k ≡ range_with_len a n ++ range_with_len (a + n) m
+range_split zero m a k is =
+    let here : a ≡ a + 0 = omega arith in
+    let all : k ≡ m = omega (arith, is) in
+    ap (range_with_len a) all ∙ ap (λ (b : ℕ). range_with_len b m) here
+range_split (suc n) m a k is =
+    let all : k ≡ suc (n + m) = omega (arith, is) in
+    let next : a + 1 + n ≡ a + suc n = omega arith in
+    ap (range_with_len a) all
+    ∙ ap (λ (xs : List ℕ). a ∷ xs) (range_split n m (a + 1) (n + m) refl ∙ ap (λ (b : ℕ). range_with_len (a + 1) n ++ range_with_len b m) next)
+
+range_moved : (first n a b : ℕ) → b ≡ first + a → range_with_len b n ≡ map (λ (k : ℕ). first + k) (range_with_len a n)
+range_moved first zero a b is = refl
+range_moved first (suc n) a b is =
+    ap (λ (x : ℕ). x ∷ range_with_len (b + 1) n) is
+    ∙ ap (λ (xs : List ℕ). (first + a) ∷ xs) (range_moved first n (a + 1) (b + 1) (omega (arith, is)))
+
+filter_none : (P : ℕ → Bool) (n a : ℕ) → ((k : ℕ) → a ≤ k → k < a + n → P k ≡ false) → filter P (range_with_len a n) ≡ []
+filter_none P zero a none = refl
+filter_none P (suc n) a none =
+    let here = none a (omega arith) (omega arith) in
+    let rest = filter_none P n (a + 1) (λ k low high. none k (omega (arith, low)) (omega (arith, high))) in
+    rw here rest
+
+all_range : (n a m : ℕ) → a + n ≤ m → AllByRecursion (λ (k : ℕ). k < m) (range_with_len a n)
+all_range zero a m within = tt
+all_range (suc n) a m within = (omega (arith, within), all_range n (a + 1) m (omega (arith, within)))
+
+all_filter : (P : ℕ → Bool) (m : ℕ) (xs : List ℕ) → AllByRecursion (λ (k : ℕ). k < m) xs → AllByRecursion (λ (k : ℕ). k < m) (filter P xs)
+all_filter P m [] all = tt
+all_filter P m (x ∷ xs) (one, more) = go (P x) refl (all_filter P m xs more)
+  where
+    go : (b : Bool) → P x ≡ b → AllByRecursion (λ (k : ℕ). k < m) (filter P xs) → AllByRecursion (λ (k : ℕ). k < m) (filter P (x ∷ xs))
+    go true is rest = rw is (one, rest)
+    go false is rest = rw is rest
+
+module _ (first m : ℕ) where
+  filter_moved : (P Q : ℕ → Bool) (xs : List ℕ) → AllByRecursion (λ (k : ℕ). k < m) xs → ((k : ℕ) → k < m → P (first + k) ≡ Q k)
+      → filter P (map (λ (k : ℕ). first + k) xs) ≡ map (λ (k : ℕ). first + k) (filter Q xs)
+  filter_moved P Q [] all same = refl
+  filter_moved P Q (x ∷ xs) (one, more) same = go (Q x) refl (filter_moved P Q xs more same)
+    where
+      go : (b : Bool) → Q x ≡ b → filter P (map (λ (k : ℕ). first + k) xs) ≡ map (λ (k : ℕ). first + k) (filter Q xs)
+          → filter P (map (λ (k : ℕ). first + k) (x ∷ xs)) ≡ map (λ (k : ℕ). first + k) (filter Q (x ∷ xs))
+      go true is rest = let there = same x one ∙ is in rw there (rw is (ap (λ (ys : List ℕ). (first + x) ∷ ys) rest))
+      go false is rest = let there = same x one ∙ is in rw there (rw is rest)
+
+  any_moved : (P Q : ℕ → Bool) (xs : List ℕ) → AllByRecursion (λ (k : ℕ). k < m) xs → ((k : ℕ) → k < m → P (first + k) ≡ Q k)
+      → list_any P (map (λ (k : ℕ). first + k) xs) ≡ list_any Q xs
+  any_moved P Q [] all same = refl
+  any_moved P Q (x ∷ xs) (one, more) same =
+      ap (λ (b : Bool). b || list_any P (map (λ (k : ℕ). first + k) xs)) (same x one)
+      ∙ ap (λ (b : Bool). Q x || b) (any_moved P Q xs more same)
+
+  map_moved : {X : Type 0} (f g : ℕ → X) (xs : List ℕ) → AllByRecursion (λ (k : ℕ). k < m) xs → ((k : ℕ) → k < m → f (first + k) ≡ g k)
+      → map f (map (λ (k : ℕ). first + k) xs) ≡ map g xs
+  map_moved f g [] all same = refl
+  map_moved f g (x ∷ xs) (one, more) same =
+      ap (λ y. y ∷ map f (map (λ (k : ℕ). first + k) xs)) (same x one)
+      ∙ ap (λ ys. g x ∷ ys) (map_moved f g xs more same)
+
+elements_moved : (first : ℕ) (xs : List ℕ) → has_elements (map (λ (k : ℕ). first + k) xs) ≡ has_elements xs
+elements_moved first [] = refl
+elements_moved first (x ∷ xs) = refl
+
+false_unless : (b : Bool) → (b ≡ true → ⊥) → b ≡ false
+false_unless true never = absurd (never refl)
+false_unless false never = refl
+
+-- ---- children
+
+module _ (all alone : List Facts) (first at : ℕ) (w : IsWindow all alone first at) where
+  child_moved : (inner k : ℕ) → k < length alone → is_child all (first + inner) (first + k) ≡ is_child alone inner k
+  child_moved inner k within =
+      ap (λ (f : Facts). is_parent f.parent (first + inner)) (w.facts k within) ∙ parent_of_moved first (entry_of alone k).parent inner
+
+  no_child : (inner k : ℕ) → inner < length alone → k < length all → ((j : ℕ) → j < length alone → k ≡ first + j → ⊥)
+      → is_child all (first + inner) k ≡ false
+  no_child inner k inside below outside =
+      false_unless (is_child all (first + inner) k) (λ yes.
+      let (j, within, here) = w.children k inner below inside (parent_is (entry_of all k).parent (first + inner) yes) in outside j within here)
+
+  pub children_moved : (inner : ℕ) → inner < length alone → children all (first + inner) ≡ map (λ (k : ℕ). first + k) (children alone inner)
+  children_moved inner inside =
+      let within = w.within in
+      let n : ℕ = length alone in
+      let rest : ℕ = length all - (first + length alone) in
+      let P : ℕ → Bool = is_child all (first + inner) in
+      let before : filter P (range_with_len 0 first) ≡ [] =
+      filter_none P first 0 (λ k low high. no_child inner k inside (omega (arith, high, within)) (λ j j_in is. omega (arith, is, high))) in
+      let behind : filter P (range_with_len (0 + first + n) rest) ≡ [] =
+      filter_none P rest (0 + first + n) (λ k low high. no_child inner k inside (omega (arith, high, within)) (λ j j_in is. omega (arith, is, low, j_in))) in
+      let middle : filter P (range_with_len (0 + first) n) ≡ map (λ (k : ℕ). first + k) (children alone inner) =
+      ap (filter P) (range_moved first n 0 (0 + first) (omega arith))
+      ∙ filter_moved first n P (is_child alone inner) (range_with_len 0 n) (all_range n 0 n (omega arith)) (λ k k_in. child_moved inner k k_in) in
+      ap (filter P) (range_split first (n + rest) 0 (length all) (omega (arith, within))
+      ∙ ap (λ (xs : List ℕ). range_with_len 0 first ++ xs) (range_split n rest (0 + first) (n + rest) refl))
+      ∙ filter-append P (range_with_len 0 first) (range_with_len (0 + first) n ++ range_with_len (0 + first + n) rest)
+      ∙ ap (λ (xs : List ℕ). xs ++ filter P (range_with_len (0 + first) n ++ range_with_len (0 + first + n) rest)) before
+      ∙ filter-append P (range_with_len (0 + first) n) (range_with_len (0 + first + n) rest)
+      ∙ ap (λ (xs : List ℕ). filter P (range_with_len (0 + first) n) ++ xs) behind
+      ∙ append-nil (filter P (range_with_len (0 + first) n)) ∙ middle
+
+  children_below : (inner : ℕ) → AllByRecursion (λ (k : ℕ). k < length alone) (children alone inner)
+  children_below inner = all_filter (is_child alone inner) (length alone) (entry_numbers alone) (all_range (length alone) 0 (length alone) (omega arith))
+
+  dimensions_moved : (inner : ℕ) → inner < length alone → dimensions all (first + inner) ≡ map (λ (k : ℕ). first + k) (dimensions alone inner)
+  dimensions_moved inner inside =
+      ap (filter (is_subrange all)) (children_moved inner inside)
+      ∙ filter_moved first (length alone) (is_subrange all) (is_subrange alone) (children alone inner) (children_below inner)
+      (λ k within. ap (λ (f : Facts). nat_eq f.tag DW_TAG_subrange_type) (w.facts k within))
+
+  dimensions_below : (inner : ℕ) → AllByRecursion (λ (k : ℕ). k < length alone) (dimensions alone inner)
+  dimensions_below inner = all_filter (is_subrange alone) (length alone) (children alone inner) (children_below inner)
+
+  regular_moved : (inner : ℕ) → inner < length alone → is_regular all (first + inner) ≡ is_regular alone inner
+  regular_moved inner inside =
+      let R : Bool → Bool → Bool → Bool → Bool = λ elements other stride any. (elements && not other) && (not stride && not any) in
+      let elements : has_elements (dimensions all (first + inner)) ≡ has_elements (dimensions alone inner) =
+      ap has_elements (dimensions_moved inner inside) ∙ elements_moved first (dimensions alone inner) in
+      let other : list_any (is_other_index all) (children all (first + inner)) ≡ list_any (is_other_index alone) (children alone inner) =
+      ap (list_any (is_other_index all)) (children_moved inner inside)
+      ∙ any_moved first (length alone) (is_other_index all) (is_other_index alone) (children alone inner) (children_below inner)
+      (λ k within. ap (λ (f : Facts). is_one_of (DW_TAG_enumeration_type ∷ DW_TAG_generic_subrange ∷ []) f.tag) (w.facts k within)) in
+      let stride : is_present (entry_of all (first + inner)).bit_stride ≡ is_present (entry_of alone inner).bit_stride =
+      ap (λ (f : Facts). is_present f.bit_stride) (w.facts inner inside) in
+      let any : list_any (has_stride all) (dimensions all (first + inner)) ≡ list_any (has_stride alone) (dimensions alone inner) =
+      ap (list_any (has_stride all)) (dimensions_moved inner inside)
+      ∙ any_moved first (length alone) (has_stride all) (has_stride alone) (dimensions alone inner) (dimensions_below inner)
+      (λ k within. ap (λ (f : Facts). is_present f.bit_stride || is_present f.byte_stride) (w.facts k within)) in
+      ap (λ (b : Bool). R b (list_any (is_other_index all) (children all (first + inner))) (is_present (entry_of all (first + inner)).bit_stride)
+      (list_any (has_stride all) (dimensions all (first + inner)))) elements
+      ∙ ap (λ (b : Bool). R (has_elements (dimensions alone inner)) b (is_present (entry_of all (first + inner)).bit_stride)
+      (list_any (has_stride all) (dimensions all (first + inner)))) other
+      ∙ ap (λ (b : Bool). R (has_elements (dimensions alone inner)) (list_any (is_other_index alone) (children alone inner)) b
+      (list_any (has_stride all) (dimensions all (first + inner)))) stride
+      ∙ ap (λ (b : Bool). R (has_elements (dimensions alone inner)) (list_any (is_other_index alone) (children alone inner))
+      (is_present (entry_of alone inner).bit_stride) b) any
+
+  product_moved : (inner : ℕ) → inner < length alone → product_of (map (factor_of all) (dimensions all (first + inner)))
+      ≡ product_of (map (factor_of alone) (dimensions alone inner))
+  product_moved inner inside =
+      ap (λ (xs : List ℕ). product_of (map (factor_of all) xs)) (dimensions_moved inner inside)
+      ∙ ap product_of (map_moved first (length alone) (factor_of all) (factor_of alone) (dimensions alone inner) (dimensions_below inner)
+      (λ k within. ap (λ (f : Facts). known_natural (count_of f)) (w.facts k within)))
+
+  -- ---- sizes, by a table of all and one of the entries alone that agree
+
+  module _ (table lone : ℕ → Size) (agree : (k : ℕ) → k < length alone → table (first + k) ≡ lone k) where
+    to_moved : (o : Option ℕ) → ((k : ℕ) → o ≡ Some k → k < length alone) → size_to table (moved_number first o) ≡ size_to lone o
+    to_moved None below = refl
+    to_moved (Some k) below = agree k (below k refl)
+
+    type_moved : (inner : ℕ) → inner < length alone → size_to table (entry_of all (first + inner)).type_target
+        ≡ size_to lone (entry_of alone inner).type_target
+    type_moved inner inside =
+        ap (λ (f : Facts). size_to table f.type_target) (w.facts inner inside)
+        ∙ to_moved (entry_of alone inner).type_target (λ k is. (w.targets inner k).0 is)
+
+    signature_moved : (inner : ℕ) → inner < length alone → size_to table (entry_of all (first + inner)).signature_target
+        ≡ size_to lone (entry_of alone inner).signature_target
+    signature_moved inner inside =
+        ap (λ (f : Facts). size_to table f.signature_target) (w.facts inner inside)
+        ∙ to_moved (entry_of alone inner).signature_target (λ k is. (w.targets inner k).1 is)
+
+    parent_moved : (inner : ℕ) → inner < length alone → size_to table (entry_of all (first + inner)).parent
+        ≡ size_to lone (entry_of alone inner).parent
+    parent_moved inner inside =
+        ap (λ (f : Facts). size_to table f.parent) (w.facts inner inside)
+        ∙ to_moved (entry_of alone inner).parent (λ k is. let before = w.parents inner k is in omega (arith, before, inside))
+
+    array_moved : (inner : ℕ) → inner < length alone → array_size all table (first + inner) ≡ array_size alone lone inner
+    array_moved inner inside =
+        ap (λ (b : Bool). if b then times (constant_or (entry_of all (first + inner)).byte_stride (size_to table (entry_of all (first + inner)).type_target))
+        (product_of (map (factor_of all) (dimensions all (first + inner)))) else None) (regular_moved inner inside)
+        ∙ ap (λ (f : Facts). if is_regular alone inner then times (constant_or f.byte_stride (size_to table (entry_of all (first + inner)).type_target))
+        (product_of (map (factor_of all) (dimensions all (first + inner)))) else None) (w.facts inner inside)
+        ∙ ap (λ (z : Size). if is_regular alone inner then times (constant_or (entry_of alone inner).byte_stride z)
+        (product_of (map (factor_of all) (dimensions all (first + inner)))) else None) (type_moved inner inside)
+        ∙ ap (λ (z : Size). if is_regular alone inner then times (constant_or (entry_of alone inner).byte_stride (size_to lone (entry_of alone inner).type_target))
+        z else None) (product_moved inner inside)
+
+    kind_moved : (kind : Kind) (inner : ℕ) → inner < length alone → size_of_kind kind all table (first + inner) ≡ size_of_kind kind alone lone inner
+    kind_moved Declared inner inside = signature_moved inner inside
+    kind_moved OwnSized inner inside = ap (λ (f : Facts). natural_of f.byte_size) (w.facts inner inside)
+    kind_moved Pointer inner inside = ap (λ (f : Facts). constant_or f.byte_size (Some f.address_size)) (w.facts inner inside)
+    kind_moved Alias inner inside = type_moved inner inside
+    kind_moved Enumeration inner inside =
+        ap (λ (f : Facts). constant_or f.byte_size (size_to table (entry_of all (first + inner)).type_target)) (w.facts inner inside)
+        ∙ ap (constant_or (entry_of alone inner).byte_size) (type_moved inner inside)
+    kind_moved Array inner inside =
+        ap (λ (f : Facts). constant_or f.byte_size (array_size all table (first + inner))) (w.facts inner inside)
+        ∙ ap (constant_or (entry_of alone inner).byte_size) (array_moved inner inside)
+    kind_moved Subroutine inner inside = refl
+    kind_moved NoType inner inside = refl
+
+    pub line_moved : (inner : ℕ) → inner < length alone → size_line all table (first + inner) ≡ size_line alone lone inner
+    line_moved inner inside =
+        ap (λ (f : Facts). size_of_kind (kind_of f) all table (first + inner)) (w.facts inner inside)
+        ∙ kind_moved (kind_of (entry_of alone inner)) inner inside
+
+    breaks_moved : (role : Role) (f : Facts) (size container type : Size) (rule : Rule)
+        → breaks_size role (moved_facts first at f) size container type rule ≡ breaks_size role f size container type rule
+    breaks_moved role f size container type EnumSize =
+        ap (λ (b : Bool). is_enumeration f && ((not (is_present f.byte_size) && (not b && stands_alone f)) || differ (natural_of f.byte_size) type))
+        (some_of_moved first f.type_target)
+    breaks_moved role f size None type MemberOutside = refl
+    breaks_moved role f size (Some n) type MemberOutside = refl
+    breaks_moved role f size container type rule = refl
+
+    pub fails_moved : (inner : ℕ) → inner < length alone → (rule : Rule) → fails_size all table (first + inner) rule ≡ fails_size alone lone inner rule
+    fails_moved inner inside rule =
+        ap (λ (role : Role). breaks_size role (entry_of all (first + inner)) (table (first + inner)) (size_to table (entry_of all (first + inner)).parent)
+        (size_to table (entry_of all (first + inner)).type_target) rule) (role_same all alone first at w inner inside)
+        ∙ ap (λ (z : Size). breaks_size (parent_role alone inner) (entry_of all (first + inner)) z (size_to table (entry_of all (first + inner)).parent)
+        (size_to table (entry_of all (first + inner)).type_target) rule) (agree inner inside)
+        ∙ ap (λ (z : Size). breaks_size (parent_role alone inner) (entry_of all (first + inner)) (lone inner) z
+        (size_to table (entry_of all (first + inner)).type_target) rule) (parent_moved inner inside)
+        ∙ ap (λ (z : Size). breaks_size (parent_role alone inner) (entry_of all (first + inner)) (lone inner) (size_to lone (entry_of alone inner).parent)
+        z rule) (type_moved inner inside)
+        ∙ ap (λ (f : Facts). breaks_size (parent_role alone inner) f (lone inner) (size_to lone (entry_of alone inner).parent)
+        (size_to lone (entry_of alone inner).type_target) rule) (w.facts inner inside)
+        ∙ breaks_moved (parent_role alone inner) (entry_of alone inner) (lone inner) (size_to lone (entry_of alone inner).parent)
+        (size_to lone (entry_of alone inner).type_target) rule

@@ -1,0 +1,17 @@
+-- Chapter: how many units, entries and types sound sections have.
+use Rattle.std.specs.Prelude.{◌≡◌, List, length}
+use Rattle.std.specs.List.{count_by}
+use Rattle.dw_elf.specs.declared.sections.Sections.{Sections}
+use Rattle.dw_entries.specs.Units.{DebugUnit}
+use Rattle.dw_entries.specs.Entries.{entries_of}
+use Rattle.dw_image.specs.Headline.{IsSoundBy}
+use Rattle.dw_image.specs.Lookups.{is_type_entry}
+use Rattle.dw_units.specs.declared.counts.Counts.{Counts}
+
+-- the sections are sound, and these are the counts of their units, entries and types
+pub record AreCounts (s : Sections) (c : Counts) : Type 0 where
+  pub units : List DebugUnit
+  pub sound : IsSoundBy s units
+  pub unit_count : c.units ≡ length units
+  pub entry_count : c.entries ≡ length (entries_of units)
+  pub type_count : c.types ≡ count_by is_type_entry (entries_of units)

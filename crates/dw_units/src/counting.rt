@@ -1,0 +1,43 @@
+//! The counts of sound sections, unit after unit.
+
+ghost use Rattle.std.specs.Prelude.{IfOk, IfSome};
+ghost use Rattle.dw_units.specs.Counted.{AreCounts};
+
+use crate::alone::verify_alone;
+use crate::counts::Counts;
+use crate::tables::{are_apart, unit_size};
+use dw_elf::Sections;
+use dw_image::NoMemory;
+use std::alloc::Global;
+
+/// The counts of sound sections, if each unit is valid alone and refers to no other unit. None if that is not so, or if
+/// `verify` costs less: for one unit, and for units whose abbreviation tables are large. None says nothing.
+pub fn count_by_unit<'a>(alloc: Global, sections: &Sections<'a>) -> Result<Option<Counts>, NoMemory>
+    ensures { IfOk result (λ found. IfSome found (AreCounts sections.now)) }
+{
+    if !are_apart(sections) {
+        return Ok(None);
+    }
+    let mut rest = sections.info;
+    let mut counts = Counts {
+        units: 0,
+        entries: 0,
+        types: 0,
+    };
+    while !rest.is_empty() {
+        let size = match unit_size(rest) {
+            Some(size) => size,
+            None => return Ok(None),
+        };
+        let found = match verify_alone(alloc, sections, &rest[..size])? {
+            Some(found) => found,
+            None => return Ok(None),
+        };
+        counts = match counts.with_unit(found.entries, found.types) {
+            Some(counts) => counts,
+            None => return Ok(None),
+        };
+        rest = &rest[size..];
+    }
+    Ok(Some(counts))
+}
