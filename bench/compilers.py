@@ -1,8 +1,8 @@
 #!/usr/bin/env python3
 """Runs `dwv check` and `dwv types` on what the installed compilers make of small programs, for docs/COMPILERS.md.
 
-Each row of the table is a command that compiles a program of one of the languages below. If a tool is not installed, its
-rows stay as they are. DWV is the path of `dwv`, if it is not the one that `make` built.
+Each row of the table is a command that compiles a program of one of the languages below. If a tool is not installed,
+its rows stay as they are. DWV is the path of `dwv`, if it is not the one that `make` built.
 """
 import collections
 import datetime

@@ -1,5 +1,5 @@
-/* library DWV FILE: how many calls of dwv_check a second of processor time has, and how many runs of `DWV check`. Each
-   is repeated for at least two seconds. It prints both numbers, and the status of each. */
+/* library DWV FILE: the processor time of a call of dwv_check and of a run of `DWV check`, in microseconds. Each is
+   repeated for at least two seconds. It prints both times with three digits or more, and the status of each. */
 #define _GNU_SOURCE
 #include <fcntl.h>
 #include <spawn.h>
@@ -33,6 +33,12 @@ static int run(char **argv) {
     return WEXITSTATUS(status);
 }
 
+/* Prints a time of some seconds in microseconds, with three digits or more. */
+static void print_time(double seconds) {
+    double time = seconds * 1e6;
+    printf("%.*f ", time < 10 ? 2 : time < 100 ? 1 : 0, time);
+}
+
 int main(int argc, char **argv) {
     FILE *opened = argc == 3 ? fopen(argv[2], "rb") : NULL;
     if (!opened || fseek(opened, 0, SEEK_END))
@@ -53,6 +59,8 @@ int main(int argc, char **argv) {
     for (; used(RUSAGE_CHILDREN) - start < SECONDS; runs++)
         ran = run(argv);
     double as_program = used(RUSAGE_CHILDREN) - start;
-    printf("%.0f %.0f %u %d\n", calls / in_process, runs / as_program, (unsigned)called, ran);
+    print_time(in_process / calls);
+    print_time(as_program / runs);
+    printf("%u %d\n", (unsigned)called, ran);
     return 0;
 }

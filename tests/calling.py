@@ -1,7 +1,8 @@
 #!/usr/bin/env python3
 """Compares the code on the pages crates/*/CALLING.md with the code that the tests compile.
 
-Each part of a block of code, up to an empty line, must be in `src/` of a crate, most of them in `calling.rt` of `dw_tests`.
+Each part of a block of code, up to an empty line, must be in `src/` of a crate, most of them in `calling.rt` of
+`dw_tests`.
 It prints each part that is not, and ends with status 1 if there is one.
 """
 import pathlib

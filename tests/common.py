@@ -1,4 +1,4 @@
-"""What the scripts of this folder share: where the program is, runs of it with limits, files made of bytes, counting."""
+"""What the scripts of this folder share: where the program is, limits of runs, files made of bytes, counts of tests."""
 import os
 import pathlib
 import resource

@@ -457,7 +457,7 @@ COLLISIONS_TIME = 2
 
 
 def hashed(number):
-    """The hash of the number of an entry in a table of the toolchain, whose seed is fixed: of four bytes, read twice."""
+    """The hash of an entry's number in a table of the toolchain, whose seed is fixed: of four bytes, read twice."""
     product = (0x243f_6a88_85a3_08d3 ^ (number | number << 32)) * (0x9e37_79b9_7f4a_7c15 ^ 8)
     hash = (product ^ product >> 64) % (1 << 64)
     return (hash ^ hash >> 32) % (1 << 32)

@@ -181,8 +181,8 @@ KNOWN = [
     )),
     ("U7", None, Cause(
         "file",
-        "The unit has a header and no entry, so it describes nothing. gcc, clang, GNU as, llvm-mc, nasm and yasm write no"
-        " such unit, not even for a source file without code.",
+        "The unit has a header and no entry, so it describes nothing. gcc, clang, GNU as, llvm-mc, nasm and yasm write"
+        " no such unit, not even for a source file without code.",
         "Compile the source file that the unit is made of without -g, or leave it out of the program.",
     )),
 ]
