@@ -99,17 +99,6 @@ fn check_entry(entries: &Entries<'_>, id: EntryId) -> Result<(), Broken>
     check_values(entries, &entries.at(id))
 }
 
-/// The first attribute of all entries whose value has none of its classes.
-fn first_failure(entries: &Entries<'_>) -> Result<(), Broken>
-    ensures ok { OnOk result (HasNone (ClassFailures (units_of entries.now.scanned))) }
-    ensures err { IfErr result (IsFirst (ClassFailures (units_of entries.now.scanned))) }
-{
-    for number in 0..entries.count() {
-        check_entry(entries, entries.id(number))?;
-    }
-    Ok(())
-}
-
 /// Finds the first attribute whose value has none of its classes: the fault `WrongClass` at the entry's offset.
 /// Nothing grows, so there is no want of memory.
 pub fn check_classes(alloc: Global, entries: &Entries<'_>) -> Result<(), Fault>
@@ -119,8 +108,10 @@ pub fn check_classes(alloc: Global, entries: &Entries<'_>) -> Result<(), Fault>
     if !leave_open(entries) {
         return Ok(());
     }
-    match first_failure(entries) {
-        Ok(()) => Ok(()),
-        Err(broken) => Err(fault_of(alloc, broken)),
+    for number in 0..entries.count() {
+        if let Err(broken) = check_entry(entries, entries.id(number)) {
+            return Err(fault_of(alloc, broken));
+        }
     }
+    Ok(())
 }
