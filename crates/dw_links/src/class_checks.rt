@@ -81,7 +81,6 @@ impl Choice for Open {
 
     // A search stops at values that take no bytes, if `is_allowed` forbids their class.
     #[inline]
-    #[tactic(auto, using(crate::proofs::ClassLaws::others_pass))]
     fn keeps_to_stops(&self) {}
 }
 
