@@ -6,9 +6,10 @@ use Rattle.dw_entries.specs.declared.rule.Rule.{Rule}
 use Rattle.dw_entries.specs.declared.rule.Rule.TheVariants as rule
 use Rattle.dw_entries.specs.declared.lookup.Head.{Head}
 use Rattle.dw_entries.specs.Entries.{Entry, PlacedUnit}
+use Rattle.dw_entries.specs.Failures.{IsLeast}
 use Rattle.dw_entries.specs.Rules.{number_of}
 use Rattle.dw_entries.proofs.Firsts.{same_some}
-use Rattle.dw_links.specs.References.{permits, permits_form, is_signature, NoEntryThere, IsWrongKind, IsOtherThan, NoSignatureThere, ReferenceFails}
+use Rattle.dw_links.specs.References.{permits, permits_form, is_signature, is_reference_value, NoEntryThere, IsWrongKind, IsOtherThan, NoSignatureThere, ReferenceFails}
 use Rattle.dw_links.specs.SignedTypes.{AreTyped}
 use Rattle.dw_links.specs.Targets.{reach_of}
 use Rattle.dw_links.proofs.TargetLaws.{at_type}
@@ -59,43 +60,7 @@ by_rule entries units entry a v P p q s t rule.NoEntry fails = p fails
 by_rule entries units entry a v P p q s t rule.WrongKind fails = q fails
 by_rule entries units entry a v P p q s t rule.NotNextSibling fails = s fails
 by_rule entries units entry a v P p q s t rule.NoSignature fails = t fails
-by_rule entries units entry a v P p q s t rule.AbbrevCut fails = absurd fails.1
-by_rule entries units entry a v P p q s t rule.AbbrevNumber fails = absurd fails.1
-by_rule entries units entry a v P p q s t rule.CodeTwice fails = absurd fails.1
-by_rule entries units entry a v P p q s t rule.BadTag fails = absurd fails.1
-by_rule entries units entry a v P p q s t rule.BadChildren fails = absurd fails.1
-by_rule entries units entry a v P p q s t rule.BadPair fails = absurd fails.1
-by_rule entries units entry a v P p q s t rule.UnknownForm fails = absurd fails.1
-by_rule entries units entry a v P p q s t rule.AttributeTwice fails = absurd fails.1
-by_rule entries units entry a v P p q s t rule.UnitCut fails = absurd fails.1
-by_rule entries units entry a v P p q s t rule.Not32Bit fails = absurd fails.1
-by_rule entries units entry a v P p q s t rule.BadVersion fails = absurd fails.1
-by_rule entries units entry a v P p q s t rule.BadUnitType fails = absurd fails.1
-by_rule entries units entry a v P p q s t rule.BadAddressSize fails = absurd fails.1
-by_rule entries units entry a v P p q s t rule.BadAbbrevOffset fails = absurd fails.1
-by_rule entries units entry a v P p q s t rule.NoUnitEntry fails = absurd fails.1
-by_rule entries units entry a v P p q s t rule.WrongUnitTag fails = absurd fails.1
-by_rule entries units entry a v P p q s t rule.LeftOver fails = absurd fails.1
-by_rule entries units entry a v P p q s t rule.UndeclaredCode fails = absurd fails.1
-by_rule entries units entry a v P p q s t rule.Cut fails = absurd fails.1
-by_rule entries units entry a v P p q s t rule.BadNumber fails = absurd fails.1
-by_rule entries units entry a v P p q s t rule.BadIndirect fails = absurd fails.1
-by_rule entries units entry a v P p q s t rule.FormVersion fails = absurd fails.1
-by_rule entries units entry a v P p q s t rule.WrongClass fails = absurd fails.1
-by_rule entries units entry a v P p q s t rule.BadStrBase fails = absurd fails.1
-by_rule entries units entry a v P p q s t rule.StrIndex fails = absurd fails.1
-by_rule entries units entry a v P p q s t rule.StringEnd fails = absurd fails.1
-by_rule entries units entry a v P p q s t rule.BadAddrBase fails = absurd fails.1
-by_rule entries units entry a v P p q s t rule.AddrIndex fails = absurd fails.1
-by_rule entries units entry a v P p q s t rule.SignatureTwice fails = absurd fails.1
-by_rule entries units entry a v P p q s t rule.BadTypeOffset fails = absurd fails.1
-by_rule entries units entry a v P p q s t rule.MissingType fails = absurd fails.1
-by_rule entries units entry a v P p q s t rule.BadCount fails = absurd fails.1
-by_rule entries units entry a v P p q s t rule.ContainsItself fails = absurd fails.1
-by_rule entries units entry a v P p q s t rule.NoSize fails = absurd fails.1
-by_rule entries units entry a v P p q s t rule.SizeTooGreat fails = absurd fails.1
-by_rule entries units entry a v P p q s t rule.MemberOutside fails = absurd fails.1
-by_rule entries units entry a v P p q s t rule.EnumSize fails = absurd fails.1
+by_rule entries units entry a v P p q s t _ fails = absurd fails.1
 
 pub least_other : (entries : List Entry) (units : List PlacedUnit) (head : Head) (a : ℕ) (v : Datum) (id : ℕ) → reach_of entries units head.unit v ≡ Some id → (IsWrongKind entries head a v (Some id) → ⊥)
     → (r : Rule) → ReferenceFails entries units head a v r → number_of r < 3 → ⊥
@@ -109,3 +74,9 @@ pub least_none : (entries : List Entry) (units : List PlacedUnit) (head : Head) 
 least_none entries units head a v id reaches right next =
     by_rule entries units head a v (λ r. ⊥) (λ fails. no_entry_not entries units head.unit v id reaches fails.1) (λ fails. right (subst (IsWrongKind entries head a v) reaches fails.1)) (λ fails. next fails.1)
     (λ fails. not_unsigned entries units head.unit v id reaches fails.1)
+
+pub wrong_first : (entries : List Entry) (units : List PlacedUnit) (head : Head) (a : ℕ) (v : Datum) (id : ℕ) → is_reference_value v ≡ true → reach_of entries units head.unit v ≡ Some id → IsWrongKind entries head a v (Some id) → IsLeast (ReferenceFails entries units head a v) (Some rule.WrongKind)
+wrong_first entries units head a v id reference reaches wrong = (
+  (reference, subst (IsWrongKind entries head a v) (sym reaches) wrong),
+  by_rule entries units head a v (λ r. number_of r < 2 → ⊥) (λ fails less. no_entry_not entries units head.unit v id reaches fails.1) (λ fails less. omega (arith, less)) (λ fails less. omega (arith, less)) (λ fails less. omega (arith, less)),
+)

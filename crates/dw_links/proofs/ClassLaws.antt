@@ -49,6 +49,54 @@ class_passes units spec c form ok x a is head rule fails =
     ∙ ap (λ (code : ℕ). allows_in (version_of fails.unit.unit.header.kind) code (class_of a.value)) (sym is.code) ∙ fails.class in
     let no : true ≡ false = sym (allowed_in (version_of fails.unit.unit.header.kind) spec.attribute c ok) ∙ both in cc)
 
+-- ---- a search stops at values that take no bytes, if their class is none of the attribute's
+
+no_one : (all codes : List ℕ) (a : ℕ) → is_one_of all a ≡ false → list_all (is_one_of all) codes ≡ true → is_one_of codes a ≡ false
+no_one all [] a none within = refl
+no_one all (code ∷ codes) a none within = by_code (is_one_of all code) refl within (λ others. no_one all codes a none others)
+  where
+    by_code : (b : Bool) → is_one_of all code ≡ b → (b && list_all (is_one_of all) codes) ≡ true → (list_all (is_one_of all) codes ≡ true → is_one_of codes a ≡ false) → is_one_of (code ∷ codes) a ≡ false
+    by_code true is others rest = rw (ne_eqb a code (λ same. let both : true ≡ false = sym is ∙ ap (is_one_of all) (sym same) ∙ none in cc)) (rest others)
+    by_code false is others rest = absurd (let both : false ≡ true = others in cc)
+
+or_else : (b x y : Bool) → b ≡ false → y ≡ true → (if b then x else y) ≡ true
+or_else b x y is not = rw is not
+
+either : (b x y : Bool) → x ≡ true → y ≡ true → (if b then x else y) ≡ true
+either true x y first is = first
+either false x y first is = is
+
+allows_flag : (a : ℕ) → is_one_of not_flags a ≡ false → allows a Flag ≡ true
+allows_flag a none =
+    or_else _ _ _ (no_one not_flags (DW_AT_sibling ∷ DW_AT_import ∷ DW_AT_abstract_origin ∷ DW_AT_specification ∷ DW_AT_type ∷ DW_AT_signature ∷ []) a none refl)
+    (or_else _ _ _ (no_one not_flags (DW_AT_name ∷ []) a none refl)
+    (or_else _ _ _ (no_one not_flags (DW_AT_byte_size ∷ DW_AT_bit_size ∷ DW_AT_count ∷ DW_AT_byte_stride ∷ DW_AT_data_bit_offset ∷ []) a none refl)
+    (or_else _ _ _ (no_one not_flags (DW_AT_lower_bound ∷ DW_AT_upper_bound ∷ DW_AT_bit_stride ∷ []) a none refl)
+    (or_else _ _ _ (no_one not_flags (DW_AT_data_member_location ∷ []) a none refl)
+    (or_else _ _ _ (no_one not_flags (DW_AT_encoding ∷ []) a none refl)
+    (either _ _ _ refl (or_else _ _ _ (no_one not_flags (DW_AT_str_offsets_base ∷ DW_AT_addr_base ∷ []) a none refl) refl)))))))
+
+allows_constant : (a : ℕ) → is_one_of not_constants a ≡ false → allows a Constant ≡ true
+allows_constant a none =
+    or_else _ _ _ (no_one not_constants (DW_AT_sibling ∷ DW_AT_import ∷ DW_AT_abstract_origin ∷ DW_AT_specification ∷ DW_AT_type ∷ DW_AT_signature ∷ []) a none refl)
+    (or_else _ _ _ (no_one not_constants (DW_AT_name ∷ []) a none refl)
+    (either (is_one_of (DW_AT_byte_size ∷ DW_AT_bit_size ∷ DW_AT_count ∷ DW_AT_byte_stride ∷ DW_AT_data_bit_offset ∷ []) a) _ _ refl
+    (either (is_one_of (DW_AT_lower_bound ∷ DW_AT_upper_bound ∷ DW_AT_bit_stride ∷ []) a) _ _ refl
+    (either (is_one_of (DW_AT_data_member_location ∷ []) a) _ _ refl
+    (either (is_one_of (DW_AT_encoding ∷ []) a) _ _ refl
+    (or_else _ (is_flag Constant) _ (no_one not_constants (DW_AT_prototyped ∷ DW_AT_declaration ∷ []) a none refl)
+    (or_else _ (is_section_offset Constant) _ (no_one not_constants (DW_AT_str_offsets_base ∷ DW_AT_addr_base ∷ []) a none refl) refl)))))))
+
+byteless_class : (f : Form) (a : ℕ) → stops_in f a ≡ false → (c : Class) × (form_class f ≡ Some c) × (allows a c ≡ true)
+byteless_class form.FlagPresent a is = (Flag, refl, allows_flag a is)
+byteless_class (form.ImplicitConst number) a is = (Constant, refl, allows_constant a is)
+byteless_class f a is = absurd (let both : true ≡ false = is in cc)
+
+pub others_pass : OthersPass (λ spec. (units : List PlacedUnit) → Passes (ClassFails units) spec)
+others_pass spec is units =
+    let (c, class, ok) = byteless_class spec.form spec.attribute is in
+    class_passes units spec c class ok
+
 -- a value of another class
 pub class_least : (units : List PlacedUnit) (head : Head) (a : ℕ) (v : Datum) (p : PlacedUnit) → slice_get units head.unit ≡ Some p → allows_in (version_of p.unit.header.kind) a (class_of v) ≡ false
     → IsLeast (ClassFails units head a v) (Some WrongClass)

@@ -1,97 +1,107 @@
--- The class of a value is that of its form.
-use Rattle.std.proofs.Common.{◌≡◌, ℕ, true, false, List, Some, refl, ap, ◌∙◌}
+-- What the form of a value says of it.
+use Rattle.std.proofs.Common.{◌≡◌, ℕ, ◌||◌, Bool, true, false, List, Some, refl, ap, sym, ◌∙◌, ◌⊎◌, inl, inr, subst}
+use Rattle.std.specs.Prelude.{◌==◌}
+use Rattle.std.proofs.lemmas.Bool.{eq-eqb}
+use mathlib.Core.Logic.{∥∥₁_elim}
+use Rattle.dw_forms.specs.Codes.{DW_AT_type, DW_AT_str_offsets_base, DW_AT_addr_base}
+use Rattle.dw_forms.specs.declared.decl.AttributeSpec.{AttributeSpec}
 use Rattle.dw_forms.specs.declared.form.Form.{Form}
 use Rattle.dw_forms.specs.declared.form.Form.TheVariants as form
+use Rattle.dw_forms.specs.FormCodes.{may_lead_out, may_refer}
 use Rattle.dw_forms.specs.Value.{Datum, Val}
-use Rattle.dw_forms.specs.FormCodes.{may_refer}
+use Rattle.dw_forms.specs.Walks.{may_lead}
+use Rattle.dw_entries.specs.declared.lookup.Head.{Head}
+use Rattle.dw_entries.specs.declared.rule.Rule.{Rule}
+use Rattle.dw_entries.specs.Entries.{Entry, PlacedUnit}
+use Rattle.dw_entries.specs.Leading.{DoesNotLead}
 use Rattle.dw_links.specs.declared.class.Class.{Class}
-use Rattle.dw_links.specs.declared.class.Class.TheVariants.{Address, Block, Constant, WideConstant, Exprloc, Flag, ListIndex, Reference, SectionOffset, String}
+use Rattle.dw_links.specs.declared.class.Class.TheVariants.{Constant, Flag}
+use Rattle.dw_links.specs.declared.string_rules.UnitTexts.{UnitTexts}
 use Rattle.dw_links.specs.Classes.{class_of, form_class}
+use Rattle.dw_links.specs.Concerns.{Passes}
+use Rattle.dw_links.specs.Ready.{FailsByTexts}
+use Rattle.dw_links.specs.References.{is_reference_value, ReferenceFails}
+
+-- ---- its class
 
 the_same : (a c : Class) → Some a ≡ Some c → a ≡ c
 the_same a c is = cc
 
 pub class_by_form : (version size : ℕ) (f : Form) (bytes : List ℕ) (v : Datum) (c : Class) → form_class f ≡ Some c → Val version f size bytes v → class_of v ≡ c
-class_by_form version size form.Addr bytes v c is p = ap class_of p.2 ∙ the_same Address c is
-class_by_form version size form.Block2 bytes v c is p = ap class_of p.2 ∙ the_same Block c is
-class_by_form version size form.Block4 bytes v c is p = ap class_of p.2 ∙ the_same Block c is
-class_by_form version size form.Data2 bytes v c is p = ap class_of p.2 ∙ the_same Constant c is
-class_by_form version size form.Data4 bytes v c is p = ap class_of p.2 ∙ the_same Constant c is
-class_by_form version size form.Data8 bytes v c is p = ap class_of p.2 ∙ the_same Constant c is
-class_by_form version size form.Text bytes v c is p = ap class_of p.2 ∙ the_same String c is
-class_by_form version size form.Block bytes v c is p = ap class_of p.2 ∙ the_same Block c is
-class_by_form version size form.Block1 bytes v c is p = ap class_of p.2 ∙ the_same Block c is
-class_by_form version size form.Data1 bytes v c is p = ap class_of p.2 ∙ the_same Constant c is
-class_by_form version size form.Flag bytes v c is p = ap class_of p.2 ∙ the_same Flag c is
-class_by_form version size form.Sdata bytes v c is p = ap class_of p.2 ∙ the_same Constant c is
-class_by_form version size form.Strp bytes v c is p = ap class_of p.2 ∙ the_same String c is
-class_by_form version size form.Udata bytes v c is p = ap class_of p.2 ∙ the_same Constant c is
-class_by_form version size form.RefAddr bytes v c is p = ap class_of p.2 ∙ the_same Reference c is
-class_by_form version size form.Ref1 bytes v c is p = ap class_of p.2 ∙ the_same Reference c is
-class_by_form version size form.Ref2 bytes v c is p = ap class_of p.2 ∙ the_same Reference c is
-class_by_form version size form.Ref4 bytes v c is p = ap class_of p.2 ∙ the_same Reference c is
-class_by_form version size form.Ref8 bytes v c is p = ap class_of p.2 ∙ the_same Reference c is
-class_by_form version size form.RefUdata bytes v c is p = ap class_of p.2 ∙ the_same Reference c is
 class_by_form version size form.Indirect bytes v c is p = absurd cc
-class_by_form version size form.SecOffset bytes v c is p = ap class_of p.2 ∙ the_same SectionOffset c is
-class_by_form version size form.Exprloc bytes v c is p = ap class_of p.2 ∙ the_same Exprloc c is
 class_by_form version size form.FlagPresent bytes v c is p = ap class_of p.1 ∙ the_same Flag c is
-class_by_form version size form.Strx bytes v c is p = ap class_of p.2 ∙ the_same String c is
-class_by_form version size form.Addrx bytes v c is p = ap class_of p.2 ∙ the_same Address c is
-class_by_form version size form.Data16 bytes v c is p = ap class_of p.2 ∙ the_same WideConstant c is
-class_by_form version size form.LineStrp bytes v c is p = ap class_of p.2 ∙ the_same String c is
-class_by_form version size form.RefSig8 bytes v c is p = ap class_of p.2 ∙ the_same Reference c is
 class_by_form version size (form.ImplicitConst number) bytes v c is p = ap class_of p.1 ∙ the_same Constant c is
-class_by_form version size form.Loclistx bytes v c is p = ap class_of p.2 ∙ the_same ListIndex c is
-class_by_form version size form.Rnglistx bytes v c is p = ap class_of p.2 ∙ the_same ListIndex c is
-class_by_form version size form.Strx1 bytes v c is p = ap class_of p.2 ∙ the_same String c is
-class_by_form version size form.Strx2 bytes v c is p = ap class_of p.2 ∙ the_same String c is
-class_by_form version size form.Strx3 bytes v c is p = ap class_of p.2 ∙ the_same String c is
-class_by_form version size form.Strx4 bytes v c is p = ap class_of p.2 ∙ the_same String c is
-class_by_form version size form.Addrx1 bytes v c is p = ap class_of p.2 ∙ the_same Address c is
-class_by_form version size form.Addrx2 bytes v c is p = ap class_of p.2 ∙ the_same Address c is
-class_by_form version size form.Addrx3 bytes v c is p = ap class_of p.2 ∙ the_same Address c is
-class_by_form version size form.Addrx4 bytes v c is p = ap class_of p.2 ∙ the_same Address c is
+class_by_form version size _ bytes v c is p = ap class_of p.2 ∙ the_same _ c is
 
--- a form that has no references has a class of its own
-pub plain_form : (f : Form) → may_refer f ≡ false → (c : Class) × (form_class f ≡ Some c) × (c ≡ Reference → ⊥)
-plain_form form.Addr is = (Address, refl, λ e. absurd (let both : Address ≡ Reference = e in cc))
-plain_form form.Block2 is = (Block, refl, λ e. absurd (let both : Block ≡ Reference = e in cc))
-plain_form form.Block4 is = (Block, refl, λ e. absurd (let both : Block ≡ Reference = e in cc))
-plain_form form.Data2 is = (Constant, refl, λ e. absurd (let both : Constant ≡ Reference = e in cc))
-plain_form form.Data4 is = (Constant, refl, λ e. absurd (let both : Constant ≡ Reference = e in cc))
-plain_form form.Data8 is = (Constant, refl, λ e. absurd (let both : Constant ≡ Reference = e in cc))
-plain_form form.Text is = (String, refl, λ e. absurd (let both : String ≡ Reference = e in cc))
-plain_form form.Block is = (Block, refl, λ e. absurd (let both : Block ≡ Reference = e in cc))
-plain_form form.Block1 is = (Block, refl, λ e. absurd (let both : Block ≡ Reference = e in cc))
-plain_form form.Data1 is = (Constant, refl, λ e. absurd (let both : Constant ≡ Reference = e in cc))
-plain_form form.Flag is = (Flag, refl, λ e. absurd (let both : Flag ≡ Reference = e in cc))
-plain_form form.Sdata is = (Constant, refl, λ e. absurd (let both : Constant ≡ Reference = e in cc))
-plain_form form.Strp is = (String, refl, λ e. absurd (let both : String ≡ Reference = e in cc))
-plain_form form.Udata is = (Constant, refl, λ e. absurd (let both : Constant ≡ Reference = e in cc))
-plain_form form.RefAddr is = absurd (let both : true ≡ false = is in cc)
-plain_form form.Ref1 is = absurd (let both : true ≡ false = is in cc)
-plain_form form.Ref2 is = absurd (let both : true ≡ false = is in cc)
-plain_form form.Ref4 is = absurd (let both : true ≡ false = is in cc)
-plain_form form.Ref8 is = absurd (let both : true ≡ false = is in cc)
-plain_form form.RefUdata is = absurd (let both : true ≡ false = is in cc)
-plain_form form.Indirect is = absurd (let both : true ≡ false = is in cc)
-plain_form form.SecOffset is = (SectionOffset, refl, λ e. absurd (let both : SectionOffset ≡ Reference = e in cc))
-plain_form form.Exprloc is = (Exprloc, refl, λ e. absurd (let both : Exprloc ≡ Reference = e in cc))
-plain_form form.FlagPresent is = (Flag, refl, λ e. absurd (let both : Flag ≡ Reference = e in cc))
-plain_form form.Strx is = (String, refl, λ e. absurd (let both : String ≡ Reference = e in cc))
-plain_form form.Addrx is = (Address, refl, λ e. absurd (let both : Address ≡ Reference = e in cc))
-plain_form form.Data16 is = (WideConstant, refl, λ e. absurd (let both : WideConstant ≡ Reference = e in cc))
-plain_form form.LineStrp is = (String, refl, λ e. absurd (let both : String ≡ Reference = e in cc))
-plain_form form.RefSig8 is = absurd (let both : true ≡ false = is in cc)
-plain_form (form.ImplicitConst number) is = (Constant, refl, λ e. absurd (let both : Constant ≡ Reference = e in cc))
-plain_form form.Loclistx is = (ListIndex, refl, λ e. absurd (let both : ListIndex ≡ Reference = e in cc))
-plain_form form.Rnglistx is = (ListIndex, refl, λ e. absurd (let both : ListIndex ≡ Reference = e in cc))
-plain_form form.Strx1 is = (String, refl, λ e. absurd (let both : String ≡ Reference = e in cc))
-plain_form form.Strx2 is = (String, refl, λ e. absurd (let both : String ≡ Reference = e in cc))
-plain_form form.Strx3 is = (String, refl, λ e. absurd (let both : String ≡ Reference = e in cc))
-plain_form form.Strx4 is = (String, refl, λ e. absurd (let both : String ≡ Reference = e in cc))
-plain_form form.Addrx1 is = (Address, refl, λ e. absurd (let both : Address ≡ Reference = e in cc))
-plain_form form.Addrx2 is = (Address, refl, λ e. absurd (let both : Address ≡ Reference = e in cc))
-plain_form form.Addrx3 is = (Address, refl, λ e. absurd (let both : Address ≡ Reference = e in cc))
-plain_form form.Addrx4 is = (Address, refl, λ e. absurd (let both : Address ≡ Reference = e in cc))
+-- ---- that it does not lead elsewhere
+
+neither : (a b : Bool) → (a || b) ≡ false → (a ≡ false) × (b ≡ false)
+neither true b is = absurd cc
+neither false b is = (refl, is)
+
+-- what an attribute that does not lead elsewhere is not
+pub record Leads (spec : AttributeSpec) : Type 0 where
+  pub no_way_out : may_lead_out spec.form ≡ false
+  pub no_reference : may_refer spec.form ≡ false
+  pub no_type : (spec.attribute == DW_AT_type) ≡ false
+  pub no_str_base : (spec.attribute == DW_AT_str_offsets_base) ≡ false
+  pub no_addr_base : (spec.attribute == DW_AT_addr_base) ≡ false
+
+pub leads : (spec : AttributeSpec) → DoesNotLead spec → Leads spec
+leads spec not =
+    let first = neither (may_lead spec.form || spec.attribute == DW_AT_type || spec.attribute == DW_AT_str_offsets_base) (spec.attribute == DW_AT_addr_base) not in
+    let second = neither (may_lead spec.form || spec.attribute == DW_AT_type) (spec.attribute == DW_AT_str_offsets_base) first.0 in
+    let third = neither (may_lead spec.form) (spec.attribute == DW_AT_type) second.0 in
+    let form = neither (may_lead_out spec.form) (may_refer spec.form) third.0 in
+    record { no_way_out = form.0; no_reference = form.1; no_type = third.1; no_str_base = second.1; no_addr_base = first.1 }
+
+other_code : (a b : ℕ) → (a == b) ≡ false → a ≡ b → ⊥
+other_code a b not same = let both : (a == b) ≡ true = ap (λ (n : ℕ). n == b) same ∙ eq-eqb b b refl in let no : true ≡ false = sym both ∙ not in cc
+
+-- it is no string, no address and no base
+no_text : (texts : UnitTexts) (head : Head) (a : ℕ) (rule : Rule) (version size : ℕ) (f : Form) (bytes : List ℕ) (v : Datum) → may_lead_out f ≡ false → ((a ≡ DW_AT_str_offsets_base) ⊎ (a ≡ DW_AT_addr_base) → ⊥) → Val version f size bytes v → FailsByTexts texts head a v rule → ⊥
+no_text texts head a rule version size form.Strp bytes v none no_base p fails = let both : true ≡ false = none in cc
+no_text texts head a rule version size form.LineStrp bytes v none no_base p fails = let both : true ≡ false = none in cc
+no_text texts head a rule version size form.Strx bytes v none no_base p fails = let both : true ≡ false = none in cc
+no_text texts head a rule version size form.Strx1 bytes v none no_base p fails = let both : true ≡ false = none in cc
+no_text texts head a rule version size form.Strx2 bytes v none no_base p fails = let both : true ≡ false = none in cc
+no_text texts head a rule version size form.Strx3 bytes v none no_base p fails = let both : true ≡ false = none in cc
+no_text texts head a rule version size form.Strx4 bytes v none no_base p fails = let both : true ≡ false = none in cc
+no_text texts head a rule version size form.Addrx bytes v none no_base p fails = let both : true ≡ false = none in cc
+no_text texts head a rule version size form.Addrx1 bytes v none no_base p fails = let both : true ≡ false = none in cc
+no_text texts head a rule version size form.Addrx2 bytes v none no_base p fails = let both : true ≡ false = none in cc
+no_text texts head a rule version size form.Addrx3 bytes v none no_base p fails = let both : true ≡ false = none in cc
+no_text texts head a rule version size form.Addrx4 bytes v none no_base p fails = let both : true ≡ false = none in cc
+no_text texts head a rule version size form.Indirect bytes v none no_base p fails = let both : true ≡ false = none in cc
+no_text texts head a rule version size form.SecOffset bytes v none no_base p fails =
+    let P : Datum → Type 0 = λ d. FailsByTexts texts head a d rule in
+    elim (subst P p.2 fails).2 [ inl str ↦ no_base (inl str.0) | inr addr ↦ no_base (inr addr.0) ]
+no_text texts head a rule version size form.FlagPresent bytes v none no_base p fails = let P : Datum → Type 0 = λ d. FailsByTexts texts head a d rule in subst P p.1 fails
+no_text texts head a rule version size (form.ImplicitConst number) bytes v none no_base p fails = let P : Datum → Type 0 = λ d. FailsByTexts texts head a d rule in subst P p.1 fails
+no_text texts head a rule version size _ bytes v none no_base p fails = let P : Datum → Type 0 = λ d. FailsByTexts texts head a d rule in subst P p.2 fails
+
+pub passes_texts : (texts : UnitTexts) (spec : AttributeSpec) → DoesNotLead spec → Passes (FailsByTexts texts) spec
+passes_texts texts spec not x a is head rule fails =
+    let l = leads spec not in
+    ∥∥₁_elim is.value (λ p q. absurd p)
+    (λ v. no_text texts head a.code rule x.version x.address_size spec.form a.bytes a.value l.no_way_out
+    (λ base. elim base [ inl str ↦ other_code _ _ l.no_str_base (sym is.code ∙ str) | inr addr ↦ other_code _ _ l.no_addr_base (sym is.code ∙ addr) ]) v fails)
+
+-- it is no reference
+no_reference : (version size : ℕ) (f : Form) (bytes : List ℕ) (v : Datum) → may_refer f ≡ false → Val version f size bytes v → is_reference_value v ≡ false
+no_reference version size form.RefAddr bytes v none p = absurd (let both : true ≡ false = none in cc)
+no_reference version size form.Ref1 bytes v none p = absurd (let both : true ≡ false = none in cc)
+no_reference version size form.Ref2 bytes v none p = absurd (let both : true ≡ false = none in cc)
+no_reference version size form.Ref4 bytes v none p = absurd (let both : true ≡ false = none in cc)
+no_reference version size form.Ref8 bytes v none p = absurd (let both : true ≡ false = none in cc)
+no_reference version size form.RefUdata bytes v none p = absurd (let both : true ≡ false = none in cc)
+no_reference version size form.RefSig8 bytes v none p = absurd (let both : true ≡ false = none in cc)
+no_reference version size form.Indirect bytes v none p = absurd (let both : true ≡ false = none in cc)
+no_reference version size form.FlagPresent bytes v none p = ap is_reference_value p.1
+no_reference version size (form.ImplicitConst number) bytes v none p = ap is_reference_value p.1
+no_reference version size _ bytes v none p = ap is_reference_value p.2
+
+pub passes_targets : (entries : List Entry) (units : List PlacedUnit) (spec : AttributeSpec) → DoesNotLead spec → Passes (ReferenceFails entries units) spec
+passes_targets entries units spec not x a is head rule fails =
+    ∥∥₁_elim is.value (λ p q. absurd p)
+    (λ v. let both : true ≡ false = sym fails.0 ∙ no_reference x.version x.address_size spec.form a.bytes a.value (leads spec not).no_reference v in cc)

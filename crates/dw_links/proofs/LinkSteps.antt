@@ -1,78 +1,25 @@
 -- The values of an entry that may lead elsewhere, one behind the other: at which no rule fails, and the entry that the
 -- entry's type reaches.
-use Rattle.std.proofs.Common.{◌≡◌, ℕ, suc, ◌||◌, Bool, true, false, List, [], ◌∷◌, ◌++◌, Option, Some, None, refl, sym, ap, ◌∙◌, append_assoc, inl, inr}
+use Rattle.std.proofs.Common.{◌≡◌, ℕ, suc, Bool, true, false, List, [], ◌∷◌, ◌++◌, Option, Some, None, refl, sym, ap, ◌∙◌, append_assoc}
 use Rattle.std.specs.Prelude.{◌==◌, option_map}
 use Rattle.std.specs.Option.{option_flatten, option_and_then}
-use Rattle.std.proofs.lemmas.Bool.{eq-eqb}
-use Rattle.dw_elf.specs.declared.sections.Sections.{Sections}
 use Rattle.dw_forms.specs.Codes.{DW_AT_type, DW_AT_str_offsets_base, DW_AT_addr_base}
-use Rattle.dw_forms.specs.declared.decl.AttributeSpec.{AttributeSpec}
-use Rattle.dw_forms.specs.declared.form.Form.{Form}
-use Rattle.dw_forms.specs.declared.form.Form.TheVariants as form
 use Rattle.dw_forms.specs.Value.{Datum}
-use Rattle.dw_forms.specs.FormCodes.{may_lead_out, may_refer}
-use Rattle.dw_forms.specs.Walks.{may_lead}
-use Rattle.dw_entries.specs.declared.lookup.Head.{Head}
-use Rattle.dw_entries.specs.declared.fault.Broken.{Broken}
-use Rattle.dw_entries.specs.declared.fault.Section.TheVariants.{Info}
-use Rattle.dw_entries.specs.declared.rule.Rule.{Rule}
 use Rattle.dw_entries.specs.Asked.{values_of}
-use Rattle.dw_entries.specs.Chosen.{IsPassed, ArePassed, IsNextOf}
-use Rattle.dw_entries.specs.Entries.{Entry, PlacedUnit}
-use Rattle.dw_entries.specs.Failures.{HasNone, IsFirst, IsLeast}
+use Rattle.dw_entries.specs.Chosen.{ArePassed, IsNextOf}
+use Rattle.dw_entries.specs.Entries.{Entry}
 use Rattle.dw_entries.specs.Leading.{DoesNotLead}
 use Rattle.dw_entries.specs.Lookups.{entry_head, value_in}
 use Rattle.dw_links.specs.declared.linking.Failed.{Failed}
 use Rattle.dw_links.specs.declared.linking.Failed.TheVariants.{String, Reference}
 use Rattle.dw_links.specs.declared.references.References.{References}
-use Rattle.dw_links.specs.declared.string_rules.UnitTexts.{UnitTexts}
-use Rattle.dw_links.specs.Classes.{form_class}
-use Rattle.dw_links.specs.Concerns.{Rules, AtHead, Passes}
 use Rattle.dw_links.specs.Kept.{kept_after}
 use Rattle.dw_links.specs.Linkable.{entries_in, units_in, reached_by, FailsByTarget}
-use Rattle.dw_links.specs.Linking.{LinksNext, FailsNext, HasFailedNext, IsLinked, HasFailed}
+use Rattle.dw_links.specs.Linking.{LinksNext, HasFailedNext, IsLinked, HasFailed}
 use Rattle.dw_links.specs.Ready.{FailsByTexts}
-use Rattle.dw_links.specs.References.{ReferenceFails}
 use Rattle.dw_links.specs.Targets.{reach_of, target_of}
-use Rattle.dw_links.proofs.FormClasses.{plain_form}
-use Rattle.dw_links.proofs.ReferenceLaws.{others_pass}
+use Rattle.dw_links.proofs.FormClasses.{leads, passes_texts, passes_targets}
 use Rattle.dw_links.proofs.RuleSteps.{Checked, none_checked, checked_more, checked_fails, checked_all}
-use Rattle.dw_links.proofs.StringLaws.{form_passes, no_base_passes}
-
--- ---- what does not lead elsewhere
-
-neither : (a b : Bool) → (a || b) ≡ false → (a ≡ false) × (b ≡ false)
-neither true b is = absurd cc
-neither false b is = (refl, is)
-
--- what an attribute that does not lead elsewhere is not
-record Leads (spec : AttributeSpec) : Type 0 where
-  no_way_out : may_lead_out spec.form ≡ false
-  no_reference : may_refer spec.form ≡ false
-  no_type : (spec.attribute == DW_AT_type) ≡ false
-  no_str_base : (spec.attribute == DW_AT_str_offsets_base) ≡ false
-  no_addr_base : (spec.attribute == DW_AT_addr_base) ≡ false
-
-leads : (spec : AttributeSpec) → DoesNotLead spec → Leads spec
-leads spec not =
-    let first = neither (may_lead spec.form || spec.attribute == DW_AT_type || spec.attribute == DW_AT_str_offsets_base) (spec.attribute == DW_AT_addr_base) not in
-    let second = neither (may_lead spec.form || spec.attribute == DW_AT_type) (spec.attribute == DW_AT_str_offsets_base) first.0 in
-    let third = neither (may_lead spec.form) (spec.attribute == DW_AT_type) second.0 in
-    let form = neither (may_lead_out spec.form) (may_refer spec.form) third.0 in
-    record { no_way_out = form.0; no_reference = form.1; no_type = third.1; no_str_base = second.1; no_addr_base = first.1 }
-
-other_code : (a b : ℕ) → (a == b) ≡ false → a ≡ b → ⊥
-other_code a b not same = let both : (a == b) ≡ true = ap (λ (n : ℕ). n == b) same ∙ eq-eqb b b refl in let no : true ≡ false = sym both ∙ not in cc
-
-pub passes_texts : (texts : UnitTexts) (spec : AttributeSpec) → DoesNotLead spec → Passes (FailsByTexts texts) spec
-passes_texts texts spec not = by_form spec.form refl (leads spec not)
-  where
-    by_form : (f : Form) → spec.form ≡ f → Leads spec → Passes (FailsByTexts texts) spec
-    by_form form.SecOffset is l = no_base_passes texts spec (ap form_class is) (λ p. elim p [ inl s ↦ other_code _ _ l.no_str_base s | inr s ↦ other_code _ _ l.no_addr_base s ])
-    by_form f is l = form_passes texts spec l.no_way_out (λ same. let both : f ≡ form.SecOffset = sym is ∙ same in cc)
-
-passes_targets : (entries : List Entry) (units : List PlacedUnit) (spec : AttributeSpec) → DoesNotLead spec → Passes (ReferenceFails entries units) spec
-passes_targets entries units spec not = let form = plain_form spec.form (leads spec not).no_reference in others_pass entries units spec form.0 form.1 form.2
 
 -- ---- the first type
 

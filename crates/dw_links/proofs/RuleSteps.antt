@@ -58,10 +58,6 @@ none_checked Fails head items left same = record { done = []; parts = sym same; 
 pub fewer : (Pass : AttributeSpec → Type 0) (left : List (ℕ × Datum)) (x : ℕ × Datum) (behind : List (ℕ × Datum)) → IsNextOf Pass left x behind → length behind < length left
 fewer Pass left x behind n = omega (arith, ap length n.parts, length-append n.passed (x ∷ behind))
 
--- the next attribute is the first that is left, and none is passed
-pub next_at_once : (Pass : AttributeSpec → Type 0) (left : List (ℕ × Datum)) (x : ℕ × Datum) (behind : List (ℕ × Datum)) → left ≡ x ∷ behind → IsNextOf Pass left x behind
-next_at_once Pass left x behind parts = record { passed = []; parts = parts; are_passed = λ k item is. absurd cc }
-
 -- of attributes that are passed none fails
 module _ (Fails : Rules) (Pass : AttributeSpec → Type 0) (over : (spec : AttributeSpec) → Pass spec → Passes Fails spec) where
   passed_none : (head : Head) (items : List (ℕ × Datum)) → ArePassed Pass items → NoneFails Fails head items

@@ -12,10 +12,11 @@ use Rattle.dw_links.specs.References.{ReferenceFails}
 use Rattle.dw_links.specs.SignedTypes.{HasSignedTypes, AreTyped}
 use Rattle.dw_links.specs.Targets.{reach_in_unit, reach_of}
 
--- the entries and the units whose references are followed
+-- all entries
 abbrev pub entries_in : References → List Entry
 entries_in it = all_entries it.cursor.entries.now.scanned
 
+-- all units
 abbrev pub units_in : References → List PlacedUnit
 units_in it = all_units it.cursor.entries.now.scanned
 

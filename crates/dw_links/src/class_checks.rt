@@ -1,18 +1,17 @@
 //! The rule on classes: by declarations, and where one of these leaves a class open, by values.
 
-ghost use Rattle.std.specs.Prelude.{◌≡◌, ◌<◌, List, Some, length, slice_get, IsSome, OnOk, IfErr};
+ghost use Rattle.std.specs.Prelude.{◌≡◌, ◌<◌, List, Some, length, IsSome, OnOk, IfErr};
 ghost use Rattle.std.specs.Bool.{OnFalse};
 ghost use Rattle.dw_forms.specs.Value.{view};
 ghost use Rattle.dw_entries.specs.Entries.{Entry, PlacedUnit};
-ghost use Rattle.dw_entries.specs.Scanned.{all_entries, all_units, units_of};
-ghost use Rattle.dw_entries.specs.Lookups.{entry_head};
+ghost use Rattle.dw_entries.specs.Scanned.{all_units, units_of};
 ghost use Rattle.dw_entries.specs.Failures.{HasNone, IsFirst, IsLeast, IsPlainFault};
 ghost use Rattle.dw_links.specs.Classes.{ClassFails, ClassFailures};
 ghost use Rattle.dw_links.specs.Concerns.{AtHead, Passes, AllPass, PassesAt, FailsAt};
 
 use crate::class::{class_of_form, class_of_value, is_allowed, is_allowed_in};
 use crate::faults::{broken_at, fault_of};
-use dw_entries::{Broken, Entries, EntryAt, EntryId, Fault, Head, Rule};
+use dw_entries::{Broken, Choice, Entries, EntryAt, Fault, Head, Rule};
 use dw_forms::{Attribute, AttributeSpec, Value};
 use std::alloc::Global;
 
@@ -68,8 +67,25 @@ fn ask_class(
     }
 }
 
-/// The first attribute of an entry whose value has none of its classes.
-fn check_values(entries: &Entries<'_>, entry: &EntryAt<'_, '_>) -> Result<(), Broken>
+/// The attributes that are open, by how they are declared.
+#[derive(Drop)]
+struct Open;
+
+impl Choice for Open {
+    ghost passes = { λ _ spec. (units : List PlacedUnit) → Passes (ClassFails units) spec };
+
+    #[inline]
+    fn asks(&self, spec: &AttributeSpec) -> bool {
+        is_open(spec)
+    }
+
+    // A search stops at values that take no bytes, if `is_allowed` forbids their class.
+    #[inline]
+    fn keeps_to_stops(&self) {}
+}
+
+/// The first attribute of an entry whose value has none of its classes. Only those that are open are decoded.
+fn check_entry(entries: &Entries<'_>, entry: &EntryAt<'_, '_>) -> Result<(), Broken>
     requires found { IsSome entry.now }
     requires in_unit { (e : Entry) → entry.now ≡ Some e → e.unit < length (units_of entries.now.scanned) }
     ensures ok { OnOk result (PassesAt entry.now (AtHead (ClassFails (all_units entries.now.scanned)))) }
@@ -77,35 +93,10 @@ fn check_values(entries: &Entries<'_>, entry: &EntryAt<'_, '_>) -> Result<(), Br
 {
     let head = entry.head();
     let mut values = entry.values();
-    while let Some(item) = values.next() {
+    while let Some(item) = values.next_by(&Open) {
         if let Some(rule) = ask_class(entries, &head, item.0, &item.1) {
             return Err(broken_at(&head, item.0, rule));
         }
-    }
-    Ok(())
-}
-
-/// The same of the entry with this number. Its values are read only if its declaration leaves their classes open.
-fn check_entry(entries: &Entries<'_>, id: EntryId) -> Result<(), Broken>
-    requires { id < length (all_entries entries.now.scanned) }
-    ensures ok { OnOk result (PassesAt (slice_get (all_entries entries.now.scanned) id)
-        (AtHead (ClassFails (all_units entries.now.scanned)))) }
-    ensures err { IfErr result (FailsAt (slice_get (all_entries entries.now.scanned) id)
-        (AtHead (ClassFails (all_units entries.now.scanned)))) }
-{
-    if !is_any_open(entries.decl(id).attributes.as_slice()) {
-        return Ok(());
-    }
-    check_values(entries, &entries.at(id))
-}
-
-/// The first attribute of all entries whose value has none of its classes.
-fn first_failure(entries: &Entries<'_>) -> Result<(), Broken>
-    ensures ok { OnOk result (HasNone (ClassFailures (units_of entries.now.scanned))) }
-    ensures err { IfErr result (IsFirst (ClassFailures (units_of entries.now.scanned))) }
-{
-    for number in 0..entries.count() {
-        check_entry(entries, entries.id(number))?;
     }
     Ok(())
 }
@@ -119,8 +110,11 @@ pub fn check_classes(alloc: Global, entries: &Entries<'_>) -> Result<(), Fault>
     if !leave_open(entries) {
         return Ok(());
     }
-    match first_failure(entries) {
-        Ok(()) => Ok(()),
-        Err(broken) => Err(fault_of(alloc, broken)),
+    for number in 0..entries.count() {
+        let entry = entries.at(entries.id(number));
+        if let Err(broken) = check_entry(entries, &entry) {
+            return Err(fault_of(alloc, broken));
+        }
     }
+    Ok(())
 }

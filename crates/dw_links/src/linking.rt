@@ -57,15 +57,10 @@ fn number_of(entries: &Entries<'_>, id: &Option<EntryId>) -> OptionalId
 fn keep(kept: Option<OptionalId>, attribute: Attribute, reached: OptionalId) -> Option<OptionalId>
     ensures { result ≡ kept_after kept attribute reached }
 {
-    match kept {
-        Some(target) => Some(target),
-        None => {
-            if attribute == DW_AT_type {
-                Some(reached)
-            } else {
-                None
-            }
-        }
+    if kept.is_none() && attribute == DW_AT_type {
+        Some(reached)
+    } else {
+        kept
     }
 }
 

@@ -1,12 +1,12 @@
 //! The rules on references (DWARF 5, section 7.5.5).
 
-ghost use Rattle.std.specs.Prelude.{true, ◌≡◌, ◌<◌, length, None, Some, IfSome};
+ghost use Rattle.std.specs.Prelude.{true, ◌≡◌, None, Some, IfSome};
 ghost use Rattle.std.specs.Bool.{OnTrue, OnFalse};
 ghost use Rattle.dw_forms.specs.Value.{view};
 ghost use Rattle.dw_entries.specs.Failures.{IsLeast};
 ghost use Rattle.dw_links.specs.DeclaredEntries.{KeepsDeclared};
 ghost use Rattle.dw_links.specs.Linkable.{entries_in, FailsByTarget, reached_in, reached_by, IsLinkable, MayAsk};
-ghost use Rattle.dw_links.specs.References.{is_reference_value, IsWrongKind};
+ghost use Rattle.dw_links.specs.References.{is_reference_value};
 
 use crate::declared_entries::DeclaredEntries;
 use crate::kinds::{is_permitted, is_permitted_form, is_reference, is_sig8};
@@ -99,32 +99,6 @@ impl References<'_, '_, '_> {
         Some(Rule::NoSignature)
     }
 
-    /// Whether a reference may not have its form, or not reach its target.
-    #[inline(always)]
-    fn is_wrong(
-        &self,
-        declared: &mut DeclaredEntries,
-        head: &Head,
-        attribute: Attribute,
-        value: &Value<'_>,
-        id: EntryId,
-    ) -> bool
-        requires id { id < length (entries_in self.now) }
-        requires kept { KeepsDeclared (entries_in self.now) declared.old }
-        ensures kept { KeepsDeclared (entries_in self.now) declared.new }
-        ensures yes { OnTrue result (IsWrongKind (entries_in self.now) head.now attribute (view value.now) (Some id)) }
-        ensures otherwise { OnFalse result
-            (IsWrongKind (entries_in self.now) head.now attribute (view value.now) (Some id) → ⊥) }
-    {
-        if !is_permitted_form(head, attribute, value) {
-            return true;
-        }
-        if !is_permitted(&self.cursor, declared, head, attribute, id) {
-            return true;
-        }
-        false
-    }
-
     /// The rule at a reference that reaches an entry.
     #[inline(always)]
     fn ask_reached(
@@ -142,7 +116,10 @@ impl References<'_, '_, '_> {
         ensures kept { KeepsDeclared (entries_in self.now) declared.new }
         ensures rule { IsLeast (FailsByTarget self.now head.now attribute (view value.now)) result }
     {
-        if self.is_wrong(declared, head, attribute, value, id) {
+        if !is_permitted_form(head, attribute, value) {
+            return Some(Rule::WrongKind);
+        }
+        if !is_permitted(&self.cursor, declared, head, attribute, id) {
             return Some(Rule::WrongKind);
         }
         if attribute != DW_AT_sibling {

@@ -102,10 +102,13 @@ fn check_entry(texts: &UnitTexts<'_>, entry: &EntryAt<'_, '_>) -> Result<(), Bro
     Ok(())
 }
 
-/// The first failure of the rules on strings and addresses.
-fn first_failure(entries: &Entries<'_>) -> Result<(), Broken>
+/// Finds the first base, index or offset of a string or address that leads nowhere: one of the faults `BadStrBase`,
+/// `StrIndex`, `StringEnd`, `BadAddrBase` and `AddrIndex` at the entry's offset. Nothing grows, so there is no want of
+/// memory.
+pub fn check_strings(alloc: Global, entries: &Entries<'_>) -> Result<(), Fault>
     ensures ok { OnOk result (HasNone (StringFailures (sections_of entries.now) (units_of entries.now.scanned))) }
-    ensures err { IfErr result (IsFirst (StringFailures (sections_of entries.now) (units_of entries.now.scanned))) }
+    ensures fault { IfErr result
+        (IsPlainFault (IsFirst (StringFailures (sections_of entries.now) (units_of entries.now.scanned)))) }
 {
     if entries.unit_count() == 0 {
         return Ok(());
@@ -115,21 +118,9 @@ fn first_failure(entries: &Entries<'_>) -> Result<(), Broken>
     for number in 0..entries.count() {
         let entry = entries.at(entries.id(number));
         keep_texts(&mut texts, entries, ends, entry.unit());
-        check_entry(&texts, &entry)?;
+        if let Err(broken) = check_entry(&texts, &entry) {
+            return Err(fault_of(alloc, broken));
+        }
     }
     Ok(())
-}
-
-/// Finds the first base, index or offset of a string or address that leads nowhere: one of the faults `BadStrBase`,
-/// `StrIndex`, `StringEnd`, `BadAddrBase` and `AddrIndex` at the entry's offset. Nothing grows, so there is no want of
-/// memory.
-pub fn check_strings(alloc: Global, entries: &Entries<'_>) -> Result<(), Fault>
-    ensures ok { OnOk result (HasNone (StringFailures (sections_of entries.now) (units_of entries.now.scanned))) }
-    ensures fault { IfErr result
-        (IsPlainFault (IsFirst (StringFailures (sections_of entries.now) (units_of entries.now.scanned)))) }
-{
-    match first_failure(entries) {
-        Ok(()) => Ok(()),
-        Err(broken) => Err(fault_of(alloc, broken)),
-    }
 }

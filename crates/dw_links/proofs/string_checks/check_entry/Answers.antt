@@ -8,7 +8,7 @@ use Rattle.dw_entries.specs.Asked.{values_of}
 use Rattle.dw_entries.specs.Leading.{DoesNotLead, leading_left}
 use Rattle.dw_entries.specs.Lookups.{entry_head}
 use Rattle.dw_links.specs.Ready.{FailsByTexts}
-use Rattle.dw_links.proofs.LinkSteps.{passes_texts}
+use Rattle.dw_links.proofs.FormClasses.{passes_texts}
 use Rattle.dw_links.proofs.RuleSteps.{none_checked, checked_fails, checked_more, checked_all, fewer}
 use Rattle.dw_links.proofs.string_checks.check_entry.Goals as goal
 

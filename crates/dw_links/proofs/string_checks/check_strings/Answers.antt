@@ -1,18 +1,18 @@
 use Rattle.std.proofs.Common.{◌≡◌, ℕ, Some, arith, refl, sym, subst, ◌∙◌}
 use Rattle.std.specs.Prelude.{slice_get}
-use Rattle.std.proofs.lemmas.Result.{err_from_is_err_and}
 use Rattle.dw_entries.specs.Entries.{entries_of, placed}
 use Rattle.dw_entries.specs.Scanned.{units_of}
+use Rattle.dw_entries.specs.Failures.{IsFirst}
 use Rattle.dw_entries.specs.Lookups.{entry_head}
 use Rattle.dw_entries.proofs.EntryFacts.{entries_rise}
 use Rattle.dw_entries.proofs.Firsts.{first_of_entries, none_of_entries, more_entries, attributes_stand}
 use Rattle.dw_links.specs.Concerns.{AtHead}
-use Rattle.dw_links.specs.Strings.{StringFails}
+use Rattle.dw_links.specs.Strings.{StringFails, StringFailures}
 use Rattle.dw_links.specs.Ready.{FailsByTexts}
 use Rattle.dw_links.proofs.Skips.{there}
 use Rattle.dw_links.proofs.ClassLaws.{in_units}
 use Rattle.dw_links.proofs.Transfers.{first_carried, none_carried, texts_over, texts_back}
-use Rattle.dw_links.proofs.string_checks.first_failure.Goals as goal
+use Rattle.dw_links.proofs.string_checks.check_strings.Goals as goal
 
 pub at-entry-requires : goal.at-entry-requires
 at-entry-requires c = omega (arith, c.id.ensures, c.loop-number-test.true, c.count-number-end.ensures)
@@ -32,21 +32,21 @@ check_entry-requires-clause-found c =
     let (e, is) = there (entries_of (units_of c.args.entries.now.scanned)) c.id.result (omega (arith, c.id.ensures, c.loop-number-test.true, c.count-number-end.ensures)) in
     rw (c.at-entry.ensures ∙ is) refl
 
-pub returns-in_err-check_entry-clause-err : goal.returns-in_err-check_entry-clause-err
-returns-in_err-check_entry-clause-err c =
+pub returns-in-Err-clause-fault : goal.returns-in-Err-clause-fault
+returns-in-Err-clause-fault c =
     let us = units_of c.args.entries.now.scanned in
     let es = entries_of us in
     let sections = c.args.entries.now.sections in
     let Fails = StringFails sections es (placed us) in
-    let p = err_from_is_err_and c.from_residual.result c.from_residual.ensures.1 in
     let (e, is) = there es c.loop-number.number (omega (arith, c.loop-number-test.true, c.count-number-end.ensures)) in
     let P : ℕ → Type 0 = λ n. slice_get es n ≡ Some e in
     let at_id : c.at-entry.result ≡ Some e = c.at-entry.ensures ∙ subst P (sym c.id.ensures) is in
     let unit : c.unit.result ≡ e.unit = rw at_id at c.unit.ensures in
     let over = texts_over sections es (placed us) c.keep_texts.new.texts (entry_head e) c.keep_texts.ensures.texts (sym unit ∙ sym c.keep_texts.ensures.unit) in
     let back = texts_back sections es (placed us) c.keep_texts.new.texts (entry_head e) c.keep_texts.ensures.texts (sym unit ∙ sym c.keep_texts.ensures.unit) in
-    rw (p.1, p.2) (first_of_entries es (AtHead Fails) c.loop-number.number e _ (entries_rise _ us c.args.entries.now.scanned.1.spells.are) (attributes_stand (λ x. Fails (entry_head x))) is c.loop-number.invariant.passed
-    (first_carried (FailsByTexts c.keep_texts.new.texts) Fails e _ over back (c.in_err-check_entry.ensures.err e at_id)))
+    let first = first_of_entries es (AtHead Fails) c.loop-number.number e c.in-Err.broken (entries_rise _ us c.args.entries.now.scanned.1.spells.are) (attributes_stand (λ x. Fails (entry_head x))) is c.loop-number.invariant.passed
+    (first_carried (FailsByTexts c.keep_texts.new.texts) Fails e c.in-Err.broken over back (c.in-Err.ensures.err e at_id)) in
+    record { holds = subst (IsFirst (StringFailures sections us)) (sym c.fault_of.ensures.broken) first; cycle = c.fault_of.ensures.cycle }
 
 pub loop-number-preserved : goal.loop-number-preserved
 loop-number-preserved c =
@@ -61,7 +61,7 @@ loop-number-preserved c =
     let back = texts_back sections es (placed us) c.keep_texts.new.texts (entry_head e) c.keep_texts.ensures.texts (sym unit ∙ sym c.keep_texts.ensures.unit) in
     record {
       texts = c.keep_texts.ensures.texts;
-      passed = more_entries es (AtHead Fails) c.loop-number.number e is c.loop-number.invariant.passed (none_carried (FailsByTexts c.keep_texts.new.texts) Fails e back (c.in_ok-check_entry.ensures.ok e at_id));
+      passed = more_entries es (AtHead Fails) c.loop-number.number e is c.loop-number.invariant.passed (none_carried (FailsByTexts c.keep_texts.new.texts) Fails e back (c.in_default.ensures.ok e at_id));
     }
 
 pub returns-clause-ok : goal.returns-clause-ok

@@ -7,7 +7,7 @@ use Rattle.dw_entries.specs.Failures.{HasNone}
 use Rattle.dw_links.specs.Concerns.{AtHead}
 use Rattle.dw_links.specs.Ready.{AreTexts}
 use Rattle.dw_links.specs.Strings.{StringFails}
-use Rattle.dw_links.proofs.string_checks.first_failure.Given as goal
+use Rattle.dw_links.proofs.string_checks.check_strings.Given as goal
 
 abbrev pub invariant-loop-number : goal.invariant-loop-number
 invariant-loop-number l = record {
