@@ -59,9 +59,9 @@ wrong_link s entries fault same first =
     elim first.holds [
       | inl class ↦ wrong_class s entries fault same (record { holds = class; cycle = first.cycle })
       | inr targets ↦ elim targets.1 [
-          | inl string ↦ wrong_string s entries fault same targets.0 (record { holds = string; cycle = first.cycle })
-          | inr reference ↦ wrong_reference s entries fault same targets.0 reference.0 (record { holds = reference.1; cycle = first.cycle })
-        ]
+        | inl string ↦ wrong_string s entries fault same targets.0 (record { holds = string; cycle = first.cycle })
+        | inr reference ↦ wrong_reference s entries fault same targets.0 reference.0 (record { holds = reference.1; cycle = first.cycle })
+      ]
     ]
 
 pub wrong_type : (s : Sections) (entries : Entries) (fault : Fault) → entries.sections ≡ s → ClassesHold entries → StringsHold entries → HasNone (ReferenceFailures (units_of entries.scanned))
