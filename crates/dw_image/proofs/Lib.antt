@@ -12,3 +12,4 @@ pub mod OneFirst
 pub mod JoinLemmas
 pub mod LookupLemmas
 pub mod CountLemmas
+pub mod HeldSteps

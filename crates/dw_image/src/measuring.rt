@@ -73,8 +73,7 @@ pub fn measure(alloc: Global, links: &Links<'_, '_>) -> Result<(ByValue, SizeTab
             Ok((steps, sizes))
         }
         Err(OrderFault::Cycle(nodes)) => {
-            let fault = cycle_fault(alloc, links.entries, nodes.as_slice())?;
-            Err(Stop::Fault(fault))
+            Err(Stop::Fault(cycle_fault(alloc, links.entries, nodes.as_slice())?))
         }
         Err(OrderFault::Memory) => Err(Stop::Memory),
     }

@@ -76,10 +76,10 @@ impl Image<'_> {
         ensures within { IfSome result (λ to. to < length (entries_in self.now)) }
     {
         let node = id.number();
-        if k < self.steps.steps(node) {
-            Some(self.entries.id(self.steps.step(node, k)))
-        } else {
-            None
+        if k >= self.steps.steps(node) {
+            return None;
         }
+        let to = self.steps.step(node, k);
+        Some(self.entries.id(to))
     }
 }

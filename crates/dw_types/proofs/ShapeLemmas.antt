@@ -35,10 +35,10 @@ part-least entries node child role rule same is least =
     rw whole least
 
 -- an array fails in one way, whatever its parent is to it
-array-same : (entry : Facts) (role other : Role) → is_array entry ≡ true → (r : Rule) → breaks_shape role entry r ≡ breaks_shape other entry r
-array-same entry role other is MissingType = rw is refl
-array-same entry role other is BadCount = let tag : entry.tag ≡ DW_TAG_array_type = eqb-true entry.tag DW_TAG_array_type is in rw tag refl
-array-same entry role other is _ = refl
+array-same : (entry : Facts) (role another : Role) → is_array entry ≡ true → (r : Rule) → breaks_shape role entry r ≡ breaks_shape another entry r
+array-same entry role another is MissingType = rw is refl
+array-same entry role another is BadCount = let tag : entry.tag ≡ DW_TAG_array_type = eqb-true entry.tag DW_TAG_array_type is in rw tag refl
+array-same entry role another is _ = refl
 
 least-same : (P Q : Rule → Bool) → ((r : Rule) → P r ≡ Q r) → (rule : Option Rule) → IsLeast (λ r. P r ≡ true) rule → IsLeast (λ r. Q r ≡ true) rule
 least-same P Q same None none = λ r breaks. none r (same r ∙ breaks)
@@ -51,12 +51,12 @@ array-least entries node rule is = least-same (breaks_shape Other (entry_of entr
 -- an entry that is no array passes, if its parent is nothing to it
 
 other-shape : (entry : Facts) → is_array entry ≡ false → (rule : Rule) → breaks_shape Other entry rule ≡ true → ⊥
-other-shape entry array MissingType breaks = let plain = plain-other Other entry refl in false≢true (rw (array, plain) at breaks)
-other-shape entry array BadCount breaks = let counted = counted-other Other entry refl in false≢true (rw counted at breaks)
-other-shape entry array _ breaks = false≢true breaks
+other-shape entry isnt MissingType breaks = let plain = plain-other Other entry refl in false≢true (rw (isnt, plain) at breaks)
+other-shape entry isnt BadCount breaks = let counted = counted-other Other entry refl in false≢true (rw counted at breaks)
+other-shape entry isnt _ breaks = false≢true breaks
 
 other-passes : (entries : List Facts) (node : ℕ) → is_array (entry_of entries node) ≡ false → parent_role entries node ≡ Other → PassesAt (fails_shape entries) node
-other-passes entries node array role = λ rule breaks. other-shape (entry_of entries node) array rule (rw role at breaks)
+other-passes entries node isnt role = λ rule breaks. other-shape (entry_of entries node) isnt rule (rw role at breaks)
 
 -- an array has no members
 
@@ -125,7 +125,7 @@ contains-one child k (suc j, below, is) = absurd (omega arith)
 
 module _ (fails : ℕ → Rule → Bool) (Before : ℕ → Type 0) where
   pub noted-no_child : (found : Option (ℕ × Rule)) → IsNoted fails Before found → IsNoted fails (λ k. Before k ⊎ Contains [] k) found
-  noted-no_child found = noted-same fails Before (λ k. Before k ⊎ Contains [] k) found (λ k is. inl is) (λ k is. elim is [ inl before ↦ before | inr there ↦ absurd (let below = there.1.0 in omega arith) ])
+  noted-no_child found = noted-same fails Before (λ k. Before k ⊎ Contains [] k) found (λ k is. inl is) (λ k is. elim is [ inl before ↦ before | inr there ↦ absurd (let below : there.0 < 0 = there.1 in omega arith) ])
 
   pub noted-child : (visited : List ℕ) (child : ℕ) (found : Option (ℕ × Rule)) (rule : Option Rule) → IsLeast (λ r. fails child r ≡ true) rule → IsNoted fails (λ k. Before k ⊎ Contains visited k) found
       → IsNoted fails (λ k. Before k ⊎ Contains (visited ++ child ∷ []) k) (with_rule found child rule)
@@ -149,14 +149,14 @@ module _ (entries : List Facts) (parents : ParentsComeFirst entries) (count : �
   Covers node = HasSeenShapes entries count node ⊎ PassesAt (fails_shape entries) node
 
   covers-by_parent : (node : ℕ) → node < length entries → is_array (entry_of entries node) ≡ false → (parent : Option ℕ) → (entry_of entries node).parent ≡ parent → Covers node
-  covers-by_parent node below array None is = inr (other-passes entries node array (ap (role_in entries) is))
-  covers-by_parent node below array (Some p) is = go (has_parts (entry_of entries p)) refl
+  covers-by_parent node below isnt None is = inr (other-passes entries node isnt (ap (role_in entries) is))
+  covers-by_parent node below isnt (Some p) is = go (has_parts (entry_of entries p)) refl
     where
       go : (has : Bool) → has_parts (entry_of entries p) ≡ has → Covers node
       go true has = let before = parents node p is in inl (part p (omega arith) has record { inside = below; parent_is = is })
       go false has =
           let none = or_parts (has_members (entry_of entries p)) (is_array (entry_of entries p)) has in
-          inr (other-passes entries node array (ap (role_in entries) is ∙ other-role (entry_of entries p) none.0 none.1))
+          inr (other-passes entries node isnt (ap (role_in entries) is ∙ other-role (entry_of entries p) none.0 none.1))
 
   -- each entry is seen, or passes in any case
   covers-all : (node : ℕ) → node < length entries → Covers node
@@ -179,7 +179,7 @@ module _ (entries : List Facts) (parents : ParentsComeFirst entries) (count : �
 
   pub shapes-fault : OffsetsRise entries → (found : Option (ℕ × Rule)) (stop : Stop) → IsNoted (fails_shape entries) (HasSeenShapes entries count) found
       → IsSomeAnd found (λ first. IfFault (λ broken. broken ≡ broken_at first.1 (entry_of entries first.0).offset) stop) → IfFault (IsFirst (ShapeFailures entries)) stop
-  shapes-fault rise None stop noted fault = absurd cc
+  shapes-fault rise None stop noted fault = absurd fault
   shapes-fault rise (Some first) Memory noted fault = tt
   shapes-fault rise (Some first) (Fault f) noted fault =
       let is = noted-first (fails_shape entries) Covers entries covers-all first (seen-inside entries count first.0 noted.seen) (covered (Some first) noted) in

@@ -1,5 +1,6 @@
 use Rattle.std.proofs.Common.{◌≡◌, ℕ, Bool, ◌+◌, ◌<◌, ◌≤◌, ◌++◌, [], true, false, List, length, get_or, take, sym, ap, ◌∙◌, arith, append-nil}
 use Rattle.std.proofs.lemmas.List.{take_all}
+use Rattle.std.proofs.lemmas.Result.{err_from_is_err_and}
 use Rattle.std.proofs.lemmas.List.Sums.{count_by_more_no, count_by_more_yes}
 use Rattle.dw_forms.specs.Codes.{is_type_tag}
 use Rattle.dw_types.specs.declared.facts.Facts.{Facts}
@@ -44,7 +45,7 @@ loop-node-preserved c =
           )
     ] in
     let at : get_or (by_value entries) node [] ≡ row = by_value-at entries node below in
-    let more = rw at at packs-more (by_value entries) steps c.loop-node.ends node (let long = length-by_value entries in omega arith) c.loop-node.invariant.0 in
+    let more = rw at at (packs-more (by_value entries) steps c.loop-node.ends node (let long = length-by_value entries in omega arith) c.loop-node.invariant.0) in
     let end : c.len.result ≡ length (steps ++ row) = c.len.ensures ∙ ap (λ (xs : List ℕ). length xs) turn.0 in (
       rw (c.in_ok-push.ensures, end, turn.0) more,
       rw turn.0 (leads-row entries c.requires.targets node steps c.loop-node.invariant.1),
@@ -61,7 +62,8 @@ check-requires c =
 pub returns-in_err-check-clause-fault : goal.returns-in_err-check-clause-fault
 returns-in_err-check-clause-fault c =
     let over : length c.args.entries.now ≤ c.loop-node.node = rw (← c.count-count.ensures) c.loop-node-test.false in
-    rw c.from_residual-in_err-check.ensures (shapes-fault c.args.entries.now c.requires.parents c.loop-node.node over c.requires.rising c.loop-node.least.found c.in_err-check.field-0.0 c.loop-node.invariant.3 c.in_err-check.ensures.fault)
+    let p = err_from_is_err_and c.from_residual-in_err-check.result c.from_residual-in_err-check.ensures.1 in
+    rw (p.1, p.2) (shapes-fault c.args.entries.now c.requires.parents c.loop-node.node over c.requires.rising c.loop-node.least.found c.in_err-check.field-0.0 c.loop-node.invariant.3 c.in_err-check.ensures.fault)
 
 pub returns-clause-graph : goal.returns-clause-graph
 returns-clause-graph c =
