@@ -30,5 +30,6 @@ pub mod SizeLineLemmas
 pub mod SizeFaultLemmas
 pub mod OneTableLemmas
 pub mod SizingLemmas
+pub mod SizeRankLemmas
 pub mod PartStepLemmas
 pub mod ShapeLemmas

@@ -44,10 +44,10 @@ impl LeastFault {
         requires { IfSome self.found (λ first. first.0 < length entries.now) }
         ensures none { OnOk result (self.found ≡ None) }
         ensures fault { IfErr result (λ stop. IsSomeAnd self.found (λ first. IfFault (λ broken. broken ≡ record {
-            rule = first.1;
-            section = InInfo;
-            at = (entry_of entries.now first.0).offset;
-            attribute = 0;
+          rule = first.1;
+          section = InInfo;
+          at = (entry_of entries.now first.0).offset;
+          attribute = 0;
         }) stop)) }
     {
         match self.found {

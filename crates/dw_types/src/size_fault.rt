@@ -110,11 +110,7 @@ impl FactsAt<'_, '_> {
 
     /// The rule on sizes that a child of a structure or union of this size breaks, if it is a member.
     #[inline(always)]
-    pub(crate) fn broken_as_member(
-        &self,
-        container: Option<u64>,
-        sizes: &SizeTable,
-    ) -> Option<Rule>
+    pub(crate) fn broken_as_member(&self, container: Option<u64>, sizes: &SizeTable) -> Option<Rule>
         requires { (node : ℕ) → self.now.type_target ≡ Some node → node < length sizes.now }
         ensures member { self.now.tag ≡ MemberTag → IsLeast (λ rule. breaks_size Members self.now None container
             (size_to (size_at sizes.now) self.now.type_target) rule ≡ true) result }

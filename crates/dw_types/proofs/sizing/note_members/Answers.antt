@@ -16,9 +16,11 @@ loop-next-init c =
     let entries = c.args.cursor.now in
     let fails : ℕ → Rule → Bool = fails_size entries (size_at c.args.sizes.now) in
     let found = c.args.least.now.found in
-    let Q : List ℕ → Type 0 = λ visited. (seen : ℕ → Bool) → IsNoted fails (λ k. seen k ≡ true) found → IsNoted fails (λ k. (seen k ≡ true) ⊎ IsVisited entries visited k) found in
-    (passed-none entries c.args.node (IsChildOf entries c.args.node) Q c.first_child-next.result c.first_child-next.ensures.children c.first_child-next.ensures.child
-    (λ seen h. none-visited entries fails (λ k. seen k ≡ true) found h), refl)
+    let Q : List ℕ → Type 0 = λ visited. (seen : ℕ → Bool) → IsNoted fails (λ k. seen k ≡ true) found → IsNoted fails (λ k. (seen k ≡ true) ⊎ IsVisited entries visited k) found in (
+      passed-none entries c.args.node (IsChildOf entries c.args.node) Q c.first_child-next.result c.first_child-next.ensures.children c.first_child-next.ensures.child
+          (λ seen h. none-visited entries fails (λ k. seen k ≡ true) found h),
+      refl,
+    )
 
 pub broken_as_member-requires : goal.broken_as_member-requires
 broken_as_member-requires c = rw (c.at-entry.ensures.found, c.loop-next.invariant.1) (type-in c.args.cursor.now c.args.sizes.now c.in-Some.child c.requires.targets c.requires.sizes_in)

@@ -4,7 +4,7 @@ use Rattle.dw_types.specs.SizeFaults.{fails_size}
 use Rattle.dw_types.specs.SizeTables.{size_at, OnlyTypesAreSized}
 use Rattle.dw_types.specs.Steps.{by_value}
 use Rattle.dw_types.proofs.SizeLineLemmas.{capped_line}
-use Rattle.dw_types.proofs.SizingLemmas.{seen_before}
+use Rattle.dw_types.proofs.SizeRankLemmas.{seen_before}
 use Rattle.dw_types.proofs.TableLemmas.{HasFilled}
 use Rattle.dw_types.proofs.sizing.sizes_of_facts.Given as goal
 
