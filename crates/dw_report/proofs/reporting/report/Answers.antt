@@ -23,10 +23,12 @@ returns-in_ok-text-in-Fault c =
 pub returns-in-Some : goal.returns-in-Some
 returns-in-Some c =
     let counts = c.in-Some.counts in
-    let counted : AreCounts c.in-Ok.sections counts = rw c.in-Some.is at c.in_ok-count_by_unit.ensures in
-    subst (λ t. Report c.args.limit (Check c.in-Check.json) c.args.bytes.now Sound t) (sym c.in_ok-text-in-Some.ensures)
-    (sound c.in-Ok.sections Sound (counts_text c.in-Check.json counts) c.if-bytes-limit.false c.in-Ok.ensures.passes
-    c.in-Ok.ensures.sections (counted c.in-Check.json counts counted))
+    let json = c.in-Check.json in
+    let are : AreCounts c.in-Ok.sections counts = rw c.in-Some.is at c.in_ok-counts.ensures in
+    subst (λ r. Report c.args.limit r c.args.bytes.now Sound c.in_ok-text-in-Some.text.items) (sym c.in-Check.is)
+    (subst (λ t. Report c.args.limit (Check json) c.args.bytes.now Sound t) (sym c.in_ok-text-in-Some.ensures)
+    (sound c.in-Ok.sections Sound (counts_text json counts) c.if-bytes-limit.false c.in-Ok.ensures.passes
+    c.in-Ok.ensures.sections (counted json counts are)))
 
 pub returns-in_ok-answer-in-Sound : goal.returns-in_ok-answer-in-Sound
 returns-in_ok-answer-in-Sound c =
