@@ -1,4 +1,4 @@
--- Words: the entries and units that links hold, and the facts of these entries.
+-- State: the entries and units that links hold, and the facts of these entries.
 use Rattle.std.specs.Prelude.{List}
 use Rattle.dw_entries.specs.Entries.{Entry}
 use Rattle.dw_entries.specs.Scanned.{all_entries, units_of}

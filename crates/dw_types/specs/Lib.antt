@@ -17,9 +17,8 @@ pub mod Extents
 pub mod SizeFaults
 -- Laws.
 pub mod PackingLaws
--- Words.
-pub mod Held
 -- State.
+pub mod Held
 pub mod FactsAsked
 pub mod UnitsRead
 pub mod Packing
