@@ -9,13 +9,13 @@ returns-in_err-links-clause-fault c =
     let p = err_from_is_err_and c.from_residual-in_err-links.result c.from_residual-in_err-links.ensures.1 in
     rw (p.1, p.2) (faulty_weaker c.in_err-links.field-0.0 (λ fault. wrong_link c.args.sections c.in_ok-entries.entries fault c.in_ok-entries.ensures.same) c.in_err-links.ensures.fault)
 
-pub returns-in_err-measure-clause-fault : goal.returns-in_err-measure-clause-fault
-returns-in_err-measure-clause-fault c =
-    let p = err_from_is_err_and c.from_residual-in_err-measure.result c.from_residual-in_err-measure.ensures.1 in
+pub returns-in_err-steps-clause-fault : goal.returns-in_err-steps-clause-fault
+returns-in_err-steps-clause-fault c =
+    let p = err_from_is_err_and c.from_residual-in_err-steps.result c.from_residual-in_err-steps.ensures.1 in
     let entries = c.in_ok-entries in
     let links = c.in_ok-links in
-    let fault = rw links.ensures.entries at c.in_err-measure.ensures.fault in
-    rw (p.1, p.2) (faulty_weaker c.in_err-measure.field-0.0
+    let fault = rw links.ensures.entries at c.in_err-steps.ensures.fault in
+    rw (p.1, p.2) (faulty_weaker c.in_err-steps.field-0.0
     (λ fault. wrong_type c.args.sections entries.entries fault entries.ensures.same (rw links.ensures.entries at links.links.classes) (rw links.ensures.entries at links.links.strings) (rw links.ensures.entries at links.links.references))
     fault)
 
@@ -31,6 +31,6 @@ invariant_of-result c =
       strings = rw links.ensures.entries at links.links.strings;
       references = rw links.ensures.entries at links.links.references;
       units_read = c.in_ok-units.ensures;
-      stepped = rw links.ensures.entries at c.in_ok-measure.ensures.steps;
-      measured = rw links.ensures.entries at c.in_ok-measure.ensures.sizes;
+      stepped = rw links.ensures.entries at c.in_ok-steps.ensures.steps;
+      measured = rw links.ensures.entries at c.in_ok-steps.ensures.sizes;
     }
