@@ -10,10 +10,6 @@ use Rattle.dw_links.specs.Classes.{is_one_of}
 use Rattle.dw_types.specs.Steps.{IsStepByValue, by_type, by_member, by_signature, targets_if, by_value}
 use Rattle.dw_types.proofs.StepLemmas.{by_value-from_step, length-by_value}
 
-pub range-more : (from n : ℕ) → range_with_len from (suc n) ≡ range_with_len from n ++ (from + n) ∷ []
-range-more from zero = let e : from + 0 ≡ from = omega arith in rw e refl
-range-more from (suc n) = let e : (from + 1) + n ≡ from + suc n = omega arith in ap (λ (rest : List ℕ). from ∷ rest) (range-more (from + 1) n ∙ rw e refl)
-
 pub flat_map-none : (f : ℕ → List ℕ) (xs : List ℕ) → ((k : ℕ) → k < length xs → f (get_or xs k 0) ≡ []) → flat_map f xs ≡ []
 flat_map-none f [] none = refl
 flat_map-none f (x ∷ xs) none = rw (none 0 (omega arith), flat_map-none f xs (λ k below. none (suc k) (omega arith))) refl

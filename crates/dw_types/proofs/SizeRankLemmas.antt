@@ -198,11 +198,6 @@ module _ (entries : List Facts) (parents : ParentsComeFirst entries) (targets : 
     pub next-filled : HasFilled (by_value entries) order (capped_line entries) sizes place → HasFilled (by_value entries) order (capped_line entries) next_sizes (place + 1)
     next-filled filled = has-filled_more (by_value entries) order h (capped_line entries) (capped_line-local entries) sizes place (long ∙ sym (length-by_value entries)) below filled
 
-  -- before the first place
-
-  pub first-noted : (table : ℕ → Size) → IsNoted (fails_size entries table) (λ k. seen_before entries order 0 k ≡ true) None
-  first-noted table k is = absurd (let rank = seen-rank entries parents order h 0 k is in omega arith)
-
   -- past the last place
 
   module _ (sizes : List Size) (place : ℕ) (over : length order.by_rank ≤ place) (filled : HasFilled (by_value entries) order (capped_line entries) sizes place) where

@@ -48,17 +48,11 @@ module _ (entry : Facts) (untyped : is_type_tag entry.tag ≡ false) where
   pub untyped-array : is_array entry ≡ false
   untyped-array = not-tag DW_TAG_array_type refl
 
-  pub untyped-subrange : nat_eq entry.tag DW_TAG_subrange_type ≡ false
-  untyped-subrange = not-tag DW_TAG_subrange_type refl
-
   pub untyped-enumeration : nat_eq entry.tag DW_TAG_enumeration_type ≡ false
   untyped-enumeration = not-tag DW_TAG_enumeration_type refl
 
   pub untyped-declared : is_declared_type entry ≡ false
   untyped-declared = rw (not-one declarable_tags (refl, (refl, (refl, tt)))) refl
-
-  pub untyped-role : role_of entry ≡ Other
-  untyped-role = rw (not-one container_tags (refl, (refl, tt)), not-tag DW_TAG_array_type refl) refl
 
   pub untyped-kind : kind_of entry ≡ NoType
   untyped-kind =

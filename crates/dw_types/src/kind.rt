@@ -2,7 +2,7 @@
 
 ghost use Rattle.std.specs.Prelude.{◌≡◌};
 ghost use Rattle.dw_types.specs.Kinds.{has_members, is_array, is_declared_type, is_dimensions, is_enumeration};
-ghost use Rattle.dw_types.specs.Kinds.{is_members, kind_of, passes_type_on, role_of};
+ghost use Rattle.dw_types.specs.Kinds.{is_members, kind_of, passes_type_on};
 
 use crate::facts_at::FactsAt;
 use dw_entries::constants::*;
@@ -91,20 +91,6 @@ impl FactsAt<'_, '_> {
             | DW_TAG_dynamic_type
             | DW_TAG_immutable_type => Kind::OwnSized,
             _ => Kind::NoType,
-        }
-    }
-
-    /// What the entry is to its children.
-    #[inline(always)]
-    pub(crate) fn role(&self) -> Role
-        ensures { result ≡ role_of self.now }
-    {
-        if self.has_members() {
-            Role::Members
-        } else if self.is_array() {
-            Role::Dimensions
-        } else {
-            Role::Other
         }
     }
 

@@ -31,11 +31,11 @@ loop-node-preserved c =
     let turn : (c.if-is_type.steps ≡ steps ++ row) × (c.if-is_type.cursor ≡ entries) × IsNoted (fails_shape entries) (HasSeenShapes entries (node + 1)) c.if-is_type.least.found
     × (c.if-is_type.types ≡ type_count (take (node + 1) entries)) = elim c.if-is_type.branch [
       | then-is_type+in_ok-push_row w ↦ (
-          w.steps-is ∙ (rw same at w.in_ok-push_row.ensures.steps),
-          w.cursor-is ∙ (w.in_ok-push_row.ensures.same ∙ same),
-          rw w.least-is (rw same at w.in_ok-push_row.ensures.noted),
-          w.types-is ∙ (ap (λ (n : ℕ). n + 1) c.loop-node.invariant.4 ∙ sym (count_by_more_yes test entries node no_entry below (sym is ∙ w.if-is_type.true))),
-        )
+        w.steps-is ∙ (rw same at w.in_ok-push_row.ensures.steps),
+        w.cursor-is ∙ (w.in_ok-push_row.ensures.same ∙ same),
+        rw w.least-is (rw same at w.in_ok-push_row.ensures.noted),
+        w.types-is ∙ (ap (λ (n : ℕ). n + 1) c.loop-node.invariant.4 ∙ sym (count_by_more_yes test entries node no_entry below (sym is ∙ w.if-is_type.true))),
+      )
       | else-is_type w ↦
           let untyped : is_type_tag (entry_of entries node).tag ≡ false = sym is ∙ w.if-is_type.false in (
             w.steps-is ∙ (sym (append-nil steps) ∙ ap (λ (xs : List ℕ). steps ++ xs) (untyped-row entries node untyped)),
