@@ -4,7 +4,7 @@ use Rattle.dw_types.specs.SizeFaults.{fails_size}
 use Rattle.dw_types.specs.SizeTables.{size_at}
 use Rattle.dw_types.specs.Noted.{IsNoted}
 use Rattle.dw_types.proofs.SizeLineLemmas.{capped_line}
-use Rattle.dw_types.proofs.SizeRankLemmas.{first-noted, last-fault, last-sound, last-table, next-filled, next-noted, next-typed, next_sizes, node-in, seen_before}
+use Rattle.dw_types.proofs.SizeRankLemmas.{last-fault, last-sound, last-table, next-filled, next-noted, next-typed, next_sizes, node-in, seen_before}
 use Rattle.dw_types.proofs.sizing.sizes_of_facts.Goals as goal
 
 pub measure-requires-clause-targets : goal.measure-requires-clause-targets
