@@ -1,6 +1,7 @@
 -- How many entries are types.
-use Rattle.std.proofs.Common.{◌≡◌, ℕ, Bool, List, [], ◌∷◌, map, refl, ap}
-use Rattle.std.specs.List.{count_by}
+use Rattle.std.proofs.Common.{◌≡◌, ◌∙◌, ◌+◌, ℕ, Bool, List, [], ◌∷◌, map, refl, ap}
+use Rattle.std.specs.Prelude.{cond}
+use Rattle.std.specs.List.{count_by, fold}
 use Rattle.dw_forms.specs.Codes.{is_type_tag}
 use Rattle.dw_entries.specs.Entries.{entries_of, placed}
 use Rattle.dw_entries.specs.Units.{DebugUnit}
@@ -10,9 +11,13 @@ use Rattle.dw_types.specs.Kinds.{type_count}
 use Rattle.dw_types.proofs.FactsLemmas.{facts-tag}
 use Rattle.dw_image.specs.Lookups.{is_type_entry}
 
-count-map : {X Y : Type 0} (p : Y → Bool) (q : X → Bool) (f : X → Y) → ((x : X) → p (f x) ≡ q x) → (xs : List X) → count_by p (map f xs) ≡ count_by q xs
-count-map p q f same [] = refl
-count-map p q f same (x ∷ xs) = rw (same x, count-map p q f same xs) refl
+module _ {X Y : Type 0} (p : Y → Bool) (q : X → Bool) (f : X → Y) (same : (x : X) → p (f x) ≡ q x) where
+  count-along : (a : ℕ) (xs : List X) → fold (λ s y. s + cond (p y) 1 0) a (map f xs) ≡ fold (λ s x. s + cond (q x) 1 0) a xs
+  count-along a [] = refl
+  count-along a (x ∷ xs) = ap (λ (b : Bool). fold (λ s y. s + cond (p y) 1 0) (a + cond b 1 0) (map f xs)) (same x) ∙ count-along (a + cond (q x) 1 0) xs
+
+  count-map : (xs : List X) → count_by p (map f xs) ≡ count_by q xs
+  count-map xs = count-along 0 xs
 
 -- by their facts as by themselves
 pub types-counted : (us : List DebugUnit) → type_count (facts_in us) ≡ count_by is_type_entry (entries_of us)
