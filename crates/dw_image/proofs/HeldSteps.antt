@@ -27,3 +27,6 @@ module _ (us : List DebugUnit) (graph : Graph) (is : graph ≡ by_value (facts_i
   -- the k-th step, or none past the last
   pub step-there : (node k : ℕ) → k < length (steps_of graph node) → Some (step_at graph node k) ≡ slice_get (steps_of (by_value (facts_in us)) node) k
   step-there node k within = rw (← is) (sym (slice_get-get_or (steps_of graph node) k 0 within))
+
+  pub step-past : (node k : ℕ) → length (steps_of graph node) ≤ k → None ≡ slice_get (steps_of (by_value (facts_in us)) node) k
+  step-past node k past = rw (← is) (sym (slice_get_past (steps_of graph node) k past))
