@@ -1,6 +1,6 @@
 //! The text for a request over the bytes of a file.
 
-ghost use Rattle.std.specs.Prelude.{◌≡◌, IfOk};
+ghost use Rattle.std.specs.Prelude.{◌≡◌, IfOk, IfSome};
 ghost use Rattle.dw_image.specs.Images.{sections_in};
 ghost use Rattle.dw_report.specs.Reports.{file_limit, fault_text, elf_fault_text, counts_text, AreTypeLines};
 ghost use Rattle.dw_report.specs.Reports.{SoundReport, Report};
@@ -11,7 +11,7 @@ use crate::lines::{put_elf_fault_line, put_fault_lines, put_sound_line};
 use crate::request::{Request, Status};
 use crate::shown::{put_show_lines, put_size_at};
 use dw_cprint::declare_all;
-use dw_elf::{ElfFault, ElfRule, find};
+use dw_elf::{ElfFault, ElfRule, Sections, find};
 use dw_image::{Fault, Image, NoMemory, Verdict, verify};
 use dw_units::{Counts, count_by_unit};
 use std::alloc::{AllocError, Global};
@@ -133,6 +133,31 @@ fn answer_of_sound(alloc: Global, request: Request, image: &Image<'_>) -> Result
     }
 }
 
+/// The result if `check` finds the sections sound unit after unit. None for the other requests, and if nothing follows
+/// from the units alone.
+fn answer_by_unit(
+    alloc: Global,
+    request: Request,
+    sections: &Sections<'_>,
+) -> Result<Option<Answer>, NoMemory>
+    ensures { IfOk result (λ found. IfSome found (λ answer.
+        SoundReport sections.now request answer.status answer.text.items)) }
+{
+    match request {
+        Request::Check { json } => match count_by_unit(alloc, sections)? {
+            Some(counts) => {
+                let text = text_of_counts(alloc, json, counts)?;
+                let status = Status::Sound;
+                Ok(Some(Answer { status, text }))
+            }
+            None => Ok(None),
+        },
+        Request::Show => Ok(None),
+        Request::Types => Ok(None),
+        Request::Size(_) => Ok(None),
+    }
+}
+
 /// The result of a request over the bytes of a file.
 pub fn report(
     alloc: Global,
@@ -159,12 +184,8 @@ pub fn report(
             return Ok(Answer { status, text });
         }
     };
-    if let Request::Check { json } = request {
-        if let Some(counts) = count_by_unit(alloc, &sections)? {
-            let text = text_of_counts(alloc, json, counts)?;
-            let status = Status::Sound;
-            return Ok(Answer { status, text });
-        }
+    if let Some(answer) = answer_by_unit(alloc, request, &sections)? {
+        return Ok(answer);
     }
     match verify(alloc, sections)? {
         Verdict::Fault(fault) => {

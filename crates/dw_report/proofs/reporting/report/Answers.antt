@@ -1,9 +1,7 @@
 use Rattle.std.proofs.Common.{sym, subst}
 use Rattle.dw_report.specs.declared.request.Status.TheVariants.{Sound, Fault}
-use Rattle.dw_report.specs.declared.request.Request.TheVariants.{Check}
 use Rattle.dw_image.specs.Headline.{IsFaultOf, IsImageOf}
-use Rattle.dw_units.specs.Counted.{AreCounts}
-use Rattle.dw_report.specs.Reports.{Report, SoundReport, counts_text, counted, large, fails, fault, sound}
+use Rattle.dw_report.specs.Reports.{Report, SoundReport, large, fails, fault, sound}
 use Rattle.dw_report.proofs.reporting.report.Goals as goal
 
 pub returns-then-bytes-limit : goal.returns-then-bytes-limit
@@ -22,13 +20,10 @@ returns-in_ok-text-in-Fault c =
 
 pub returns-in-Some : goal.returns-in-Some
 returns-in-Some c =
-    let counts = c.in-Some.counts in
-    let json = c.in-Check.json in
-    let are : AreCounts c.in-Ok.sections counts = rw c.in-Some.is at c.in_ok-counts.ensures in
-    subst (λ r. Report c.args.limit r c.args.bytes.now Sound c.in_ok-text-in-Some.text.items) (sym c.in-Check.is)
-    (subst (λ t. Report c.args.limit (Check json) c.args.bytes.now Sound t) (sym c.in_ok-text-in-Some.ensures)
-    (sound c.in-Ok.sections Sound (counts_text json counts) c.if-bytes-limit.false c.in-Ok.ensures.passes
-    c.in-Ok.ensures.sections (counted json counts are)))
+    let answer = c.in-Some.answer in
+    let found : SoundReport c.in-Ok.sections c.args.request answer.status answer.text.items = rw c.in-Some.is at c.in_ok-answer.ensures in
+    sound c.in-Ok.sections answer.status answer.text.items c.if-bytes-limit.false c.in-Ok.ensures.passes
+    c.in-Ok.ensures.sections found
 
 pub returns-in_ok-answer-in-Sound : goal.returns-in_ok-answer-in-Sound
 returns-in_ok-answer-in-Sound c =
