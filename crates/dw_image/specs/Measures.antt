@@ -1,4 +1,4 @@
--- State: the steps by value and the sizes of the entries of which no rule on types fails, and the first fault of the groups on types.
+-- State: the steps by value and the sizes, if no rule on types fails, or the first fault of these rules.
 use Rattle.std.specs.Prelude.{◌≡◌, ◌<◌, List, length}
 use Rattle.dw_elf.specs.declared.sections.Sections.{Sections}
 use Rattle.dw_entries.specs.declared.fault.Fault.{Fault}
