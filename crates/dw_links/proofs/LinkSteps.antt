@@ -4,7 +4,7 @@ use Rattle.std.specs.Prelude.{slice_get, ◌==◌, option_map}
 use Rattle.std.specs.Option.{option_flatten, option_and_then}
 use Rattle.dw_forms.specs.Codes.{DW_AT_type}
 use Rattle.dw_forms.specs.Value.{Datum}
-use Rattle.dw_entries.specs.declared.lookup.Head.{Head}
+use Rattle.dw_entries.specs.declared.lookup.EntryHead.{EntryHead}
 use Rattle.dw_entries.specs.declared.rule.Rule.{Rule}
 use Rattle.dw_entries.specs.Asked.{values_of}
 use Rattle.dw_entries.specs.Entries.{Entry, PlacedUnit}
@@ -32,7 +32,7 @@ neither true b is = absurd cc
 neither false b is = (refl, is)
 
 -- at what is passed no rule fails
-passed_none : (entries : List Entry) (units : List PlacedUnit) (head : Head) (attribute : ℕ) (items : List (ℕ × Datum)) → ArePassed (IsOther attribute) items → NoneFails (ReferenceFails entries units) head items
+passed_none : (entries : List Entry) (units : List PlacedUnit) (head : EntryHead) (attribute : ℕ) (items : List (ℕ × Datum)) → ArePassed (IsOther attribute) items → NoneFails (ReferenceFails entries units) head items
 passed_none entries units head attribute items passed k item is r fails =
     let p = passed k item is in
     let form = plain_form p.spec.form (neither (may_refer p.spec.form) (p.spec.attribute == attribute) p.not_asked).0 in
@@ -81,16 +81,16 @@ kept_next reach done passed a v are None is =
 -- ---- the loop
 
 -- no rule fails so far, and this is kept
-pub record Linked (entries : List Entry) (units : List PlacedUnit) (head : Head) (items left : List (ℕ × Datum)) (kept : Option (Option ℕ)) : Type 0 where
+pub record Linked (entries : List Entry) (units : List PlacedUnit) (head : EntryHead) (items left : List (ℕ × Datum)) (kept : Option (Option ℕ)) : Type 0 where
   pub done : List (ℕ × Datum)
   pub parts : items ≡ done ++ left
   pub none : NoneFails (ReferenceFails entries units) head done
   pub is_kept : kept ≡ option_map (reach_of entries units head.unit) (value_in done DW_AT_type)
 
-pub linked_none : (entries : List Entry) (units : List PlacedUnit) (head : Head) (items left : List (ℕ × Datum)) → left ≡ items → Linked entries units head items left None
+pub linked_none : (entries : List Entry) (units : List PlacedUnit) (head : EntryHead) (items left : List (ℕ × Datum)) → left ≡ items → Linked entries units head items left None
 linked_none entries units head items left same = record { done = []; parts = sym same; none = λ k item is. absurd cc; is_kept = refl }
 
-module _ (entries : List Entry) (units : List PlacedUnit) (head : Head) (items left behind : List (ℕ × Datum)) (kept : Option (Option ℕ)) (a : ℕ) (v : Datum) (l : Linked entries units head items left kept) (n : IsNextOf (IsOther DW_AT_type) left (a, v) behind) where
+module _ (entries : List Entry) (units : List PlacedUnit) (head : EntryHead) (items left behind : List (ℕ × Datum)) (kept : Option (Option ℕ)) (a : ℕ) (v : Datum) (l : Linked entries units head items left kept) (n : IsNextOf (IsOther DW_AT_type) left (a, v) behind) where
   joined : items ≡ (l.done ++ n.passed) ++ (a, v) ∷ behind
   joined = l.parts ∙ ap (λ (xs : List (ℕ × Datum)). l.done ++ xs) n.parts ∙ sym (append_assoc l.done n.passed ((a, v) ∷ behind))
 

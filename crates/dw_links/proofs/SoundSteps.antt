@@ -11,7 +11,7 @@ use Rattle.dw_forms.specs.declared.form.Form.TheVariants as form
 use Rattle.dw_forms.specs.Value.{Datum, ref_unit}
 use Rattle.dw_forms.specs.FormCodes.{may_lead_out, may_refer}
 use Rattle.dw_forms.specs.Walks.{may_lead}
-use Rattle.dw_entries.specs.declared.lookup.Head.{Head}
+use Rattle.dw_entries.specs.declared.lookup.EntryHead.{EntryHead}
 use Rattle.dw_entries.specs.Asked.{values_of}
 use Rattle.dw_entries.specs.Chosen.{ArePassed, IsNextOf}
 use Rattle.dw_entries.specs.Entries.{Entry, PlacedUnit}
@@ -53,18 +53,18 @@ nth_is entries k id is = by_test (ltb k (length entries)) is
     by_test false e = absurd cc
 
 -- a plain attribute may reach any entry, but that of a type only types
-permitted : (head : Head) (a : ℕ) (e : Entry) → IsPlain a → (a ≡ DW_AT_type → is_type_tag e.head.decl.tag ≡ true) → permits head a e ≡ true
+permitted : (head : EntryHead) (a : ℕ) (e : Entry) → IsPlain a → (a ≡ DW_AT_type → is_type_tag e.head.decl.tag ≡ true) → permits head a e ≡ true
 permitted head a e plain typed = by_type (a == DW_AT_type) refl
   where
     by_type : (b : Bool) → (a == DW_AT_type) ≡ b → permits head a e ≡ true
     by_type true q = rw q (typed (eqb-true _ _ q))
     by_type false q = rw (q, ne_eqb a DW_AT_specification plain.0, ne_eqb a DW_AT_signature plain.1, ne_eqb a DW_AT_import plain.2) refl
 
-permitted_form : (head : Head) (a : ℕ) (v : Datum) → IsPlain a → permits_form head a v ≡ true
+permitted_form : (head : EntryHead) (a : ℕ) (v : Datum) → IsPlain a → permits_form head a v ≡ true
 permitted_form head a v plain = rw (ne_eqb a DW_AT_signature plain.1) refl
 
 -- no rule fails at a plain attribute that reaches an entry
-pub none_in_unit : (entries : List Entry) (units : List PlacedUnit) (head : Head) (a offset id : ℕ) (e : Entry) → slice_get entries id ≡ Some e → reach_in_unit entries units head.unit offset ≡ Some id → IsPlain a
+pub none_in_unit : (entries : List Entry) (units : List PlacedUnit) (head : EntryHead) (a offset id : ℕ) (e : Entry) → slice_get entries id ≡ Some e → reach_in_unit entries units head.unit offset ≡ Some id → IsPlain a
     → (a ≡ DW_AT_type → is_type_tag e.head.decl.tag ≡ true) → (a ≡ DW_AT_sibling → head.next_sibling ≡ Some id) → IsLeast (ReferenceFails entries units head a (ref_unit offset)) None
 none_in_unit entries units head a offset id e is reaches plain typed next =
     least_none entries units head a (ref_unit offset) id reaches
@@ -76,7 +76,7 @@ nothing_of None is = refl
 nothing_of (Some x) is = absurd cc
 
 -- what is reached, if anything, is linked
-pub linked_in_unit : (texts : UnitTexts) (entries : List Entry) (units : List PlacedUnit) (head : Head) (a offset : ℕ) (v : Datum) (reached : Option (Option ℕ)) → v ≡ ref_unit offset → IsLeast (FailsByTexts texts head a v) None → IfSome reached (λ t. IsSome t)
+pub linked_in_unit : (texts : UnitTexts) (entries : List Entry) (units : List PlacedUnit) (head : EntryHead) (a offset : ℕ) (v : Datum) (reached : Option (Option ℕ)) → v ≡ ref_unit offset → IsLeast (FailsByTexts texts head a v) None → IfSome reached (λ t. IsSome t)
     → IfSome reached (λ _. IsLeast (ReferenceFails entries units head a (ref_unit offset)) None) → IfSome reached (λ t. t ≡ reach_of entries units head.unit (ref_unit offset)) → IfSome reached (IsSoundValue texts entries units head a v)
 linked_in_unit texts entries units head a offset v None is strings some none same = tt
 linked_in_unit texts entries units head a offset v (Some t) is strings some none same = record {
@@ -181,7 +181,7 @@ more_so_far texts entries units e left behind kept linked s n = record {
 }
 
 -- fewer are left
-pub fewer_left : (texts : UnitTexts) (entries : List Entry) (units : List PlacedUnit) (head : Head) (left behind : List (ℕ × Datum)) (linked : ℕ × Option ℕ) → LinksNext texts entries units head left behind linked → length behind < length left
+pub fewer_left : (texts : UnitTexts) (entries : List Entry) (units : List PlacedUnit) (head : EntryHead) (left behind : List (ℕ × Datum)) (linked : ℕ × Option ℕ) → LinksNext texts entries units head left behind linked → length behind < length left
 fewer_left texts entries units head left behind linked n = fewer DoesNotLead left (linked.0, n.value) behind n.next
 
 -- at the end

@@ -9,7 +9,7 @@ use Rattle.dw_forms.specs.declared.decl.AttributeSpec.{AttributeSpec}
 use Rattle.dw_forms.specs.Plans.{stops_in}
 use Rattle.dw_forms.specs.Value.{Datum, Val, address, block, unsigned, signed, wide, text, flag, str, line_str, str_index, ref_info, ref_unit, ref_sig, sec_offset, expr, addr_index, loc_index, rng_index}
 use Rattle.dw_entries.specs.declared.rule.Rule.{Rule}
-use Rattle.dw_entries.specs.declared.lookup.Head.{Head}
+use Rattle.dw_entries.specs.declared.lookup.EntryHead.{EntryHead}
 use Rattle.dw_entries.specs.Failures.{IsLeast}
 use Rattle.dw_entries.specs.Chosen.{OthersPass}
 use Rattle.dw_links.specs.declared.class.Class.{Class}
@@ -25,7 +25,7 @@ use Rattle.dw_links.proofs.FormClasses.{class_by_form}
 abbrev Asked : ℕ → Datum → Type 0
 Asked a v = ((class_of v ≡ String) ⊎ (class_of v ≡ Address)) ⊎ ((class_of v ≡ SectionOffset) × ((a ≡ 114) ⊎ (a ≡ 115)))
 
-asked : (texts : UnitTexts) (head : Head) (a : ℕ) (v : Datum) (rule : Rule) → FailsByTexts texts head a v rule → Asked a v
+asked : (texts : UnitTexts) (head : EntryHead) (a : ℕ) (v : Datum) (rule : Rule) → FailsByTexts texts head a v rule → Asked a v
 asked texts head a (address n) rule fails = absurd fails
 asked texts head a (block n) rule fails = absurd fails
 asked texts head a (unsigned n) rule fails = absurd fails

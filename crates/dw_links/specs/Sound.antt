@@ -3,7 +3,7 @@ use Rattle.std.specs.Prelude.{◌≡◌, ◌≢◌, ◌==◌, ℕ, List, Option,
 use Rattle.dw_elf.specs.declared.sections.Sections.{Sections}
 use Rattle.dw_forms.specs.Codes.{DW_AT_type, DW_AT_specification, DW_AT_signature, DW_AT_import}
 use Rattle.dw_forms.specs.Value.{Datum}
-use Rattle.dw_entries.specs.declared.lookup.Head.{Head}
+use Rattle.dw_entries.specs.declared.lookup.EntryHead.{EntryHead}
 use Rattle.dw_entries.specs.Chosen.{IsNextOf}
 use Rattle.dw_entries.specs.Entries.{Entry, PlacedUnit}
 use Rattle.dw_entries.specs.Failures.{HasNone, IsLeast}
@@ -28,7 +28,7 @@ abbrev pub IsPlain : ℕ → Type 0
 IsPlain attribute = (attribute ≢ DW_AT_specification) × (attribute ≢ DW_AT_signature) × (attribute ≢ DW_AT_import)
 
 -- no rule fails at a value of an attribute, and it reaches this entry, if any; a type reaches one
-pub record IsSoundValue (texts : UnitTexts) (entries : List Entry) (units : List PlacedUnit) (head : Head)
+pub record IsSoundValue (texts : UnitTexts) (entries : List Entry) (units : List PlacedUnit) (head : EntryHead)
     (attribute : ℕ) (v : Datum) (reached : Option ℕ) : Type 0 where
   pub strings : IsLeast (FailsByTexts texts head attribute v) None
   pub references : IsLeast (ReferenceFails entries units head attribute v) None
@@ -36,7 +36,7 @@ pub record IsSoundValue (texts : UnitTexts) (entries : List Entry) (units : List
   pub typed : attribute ≡ DW_AT_type → IsSome reached
 
 -- the next attribute of an entry is linked so, and those behind it are left
-pub record LinksNext (texts : UnitTexts) (entries : List Entry) (units : List PlacedUnit) (head : Head)
+pub record LinksNext (texts : UnitTexts) (entries : List Entry) (units : List PlacedUnit) (head : EntryHead)
     (left behind : List (ℕ × Datum)) (linked : ℕ × Option ℕ) : Type 0 where
   pub value : Datum
   pub next : IsNextOf DoesNotLead left (linked.0, value) behind

@@ -8,7 +8,7 @@ ghost use Rattle.dw_links.specs.Classes.{class_of, form_class, allows, allows_in
 
 use crate::rules::{AttributeRules, check_entries, concerns_entries, fault_of};
 use dw_entries::constants::*;
-use dw_entries::{Entries, Fault, Head, Rule};
+use dw_entries::{Entries, Fault, EntryHead, Rule};
 use dw_forms::{Attribute, AttributeSpec, Form, Value};
 use std::alloc::Global;
 
@@ -162,7 +162,7 @@ impl AttributeRules for Classes<'_, '_> {
     // A search stops at values that take no bytes, if `is_allowed` forbids their class.
     fn keeps_to_stops(&self) {}
 
-    fn ask(&self, head: &Head, attribute: Attribute, value: &Value<'_>) -> Option<Rule> {
+    fn ask(&self, head: &EntryHead, attribute: Attribute, value: &Value<'_>) -> Option<Rule> {
         let unit = self.entries.unit(head.unit);
         let version = unit.header.kind.version();
         if is_allowed_in(version, attribute, class_of_value(value)) {

@@ -20,7 +20,7 @@ use crate::references::References;
 use crate::rules::{broken_at, fault_of};
 use crate::targets::reach;
 use dw_entries::constants::*;
-use dw_entries::{Broken, Entries, EntryAt, EntryId, Head, OptionalId, Rule, Stop};
+use dw_entries::{Broken, Entries, EntryAt, EntryId, EntryHead, OptionalId, Rule, Stop};
 use dw_forms::{Attribute, Value};
 use std::alloc::Global;
 
@@ -56,7 +56,7 @@ impl References<'_, '_> {
     fn link_value(
         &self,
         declared: &mut DeclaredEntries,
-        head: &Head,
+        head: &EntryHead,
         attribute: Attribute,
         value: &Value<'_>,
     ) -> Result<OptionalId, Rule>

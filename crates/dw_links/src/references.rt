@@ -13,7 +13,7 @@ ghost use Rattle.dw_links.specs.Linkable.{MayAsk};
 use crate::declared_entries::DeclaredEntries;
 use crate::kinds::{is_permitted, is_permitted_form, is_reference, is_sig8};
 use dw_entries::constants::*;
-use dw_entries::{Entries, EntryId, Head, Rule};
+use dw_entries::{Entries, EntryId, EntryHead, Rule};
 use dw_forms::{Attribute, Value};
 use std::collections::BTreeMap;
 
@@ -39,7 +39,7 @@ fn is_next(next: Option<EntryId>, id: EntryId) -> bool
 impl References<'_, '_> {
     /// The rule at a reference that reaches no entry.
     #[tactic(auto, using(crate::proofs::Asked::no_signature))]
-    fn ask_unreached(&self, head: &Head, attribute: Attribute, value: &Value<'_>) -> Option<Rule>
+    fn ask_unreached(&self, head: &EntryHead, attribute: Attribute, value: &Value<'_>) -> Option<Rule>
         requires may { MayAsk self.now head.now }
         requires reference { is_reference_value (view value.now) ≡ true }
         requires none { reach_of (all_entries self.now.entries.now.scanned) (all_units self.now.entries.now.scanned)
@@ -61,7 +61,7 @@ impl References<'_, '_> {
     fn is_wrong(
         &self,
         declared: &mut DeclaredEntries,
-        head: &Head,
+        head: &EntryHead,
         attribute: Attribute,
         value: &Value<'_>,
         id: EntryId,
@@ -88,7 +88,7 @@ impl References<'_, '_> {
     fn ask_reached(
         &self,
         declared: &mut DeclaredEntries,
-        head: &Head,
+        head: &EntryHead,
         attribute: Attribute,
         value: &Value<'_>,
         id: EntryId,
@@ -119,7 +119,7 @@ impl References<'_, '_> {
     pub fn ask(
         &self,
         declared: &mut DeclaredEntries,
-        head: &Head,
+        head: &EntryHead,
         attribute: Attribute,
         value: &Value<'_>,
         reached: Option<EntryId>,

@@ -3,7 +3,7 @@
 ghost use Rattle.std.specs.Prelude.{ℕ, ◌≡◌, [], Some, slice_get, IsSome, OnOk, IfErr};
 ghost use Rattle.std.specs.Bool.{OnFalse};
 ghost use Rattle.dw_forms.specs.Value.{Datum, view};
-ghost use Rattle.dw_entries.specs.declared.lookup.Head.{Head as HeadData};
+ghost use Rattle.dw_entries.specs.declared.lookup.EntryHead.{EntryHead as HeadData};
 ghost use Rattle.dw_entries.specs.declared.rule.Rule.{Rule as RuleName};
 ghost use Rattle.dw_entries.specs.declared.fault.Section.TheVariants.{Info};
 ghost use Rattle.dw_entries.specs.Entries.{Entry};
@@ -14,7 +14,7 @@ ghost use Rattle.dw_entries.specs.Asked.{AtEntries};
 ghost use Rattle.dw_entries.specs.Chosen.{OthersPass};
 ghost use Rattle.dw_links.specs.Concerns.{AtHead, Passes, AllPass, PassesAt, FailsAt};
 
-use dw_entries::{Broken, Choice, Entries, EntryAt, Fault, Head, Rule, Section};
+use dw_entries::{Broken, Choice, Entries, EntryAt, Fault, EntryHead, Rule, Section};
 use dw_forms::{Attribute, AttributeSpec, Value};
 use std::alloc::Global;
 
@@ -35,7 +35,7 @@ pub trait AttributeRules {
         ensures { OthersPass (Passes (fails self.now)) };
 
     /// The rule with the least number that fails at an attribute.
-    fn ask(&self, head: &Head, attribute: Attribute, value: &Value<'_>) -> Option<Rule>
+    fn ask(&self, head: &EntryHead, attribute: Attribute, value: &Value<'_>) -> Option<Rule>
         requires { may_ask self.now head.now }
         ensures { IsLeast (fails self.now head.now attribute (view value.now)) result };
 }
@@ -75,7 +75,7 @@ pub fn fault_of(alloc: Global, broken: Broken) -> Fault
 }
 
 /// A rule that fails at an attribute of an entry.
-pub fn broken_at(head: &Head, attribute: Attribute, rule: Rule) -> Broken
+pub fn broken_at(head: &EntryHead, attribute: Attribute, rule: Rule) -> Broken
     ensures { result ≡ record { rule = rule; section = Info; at = head.now.offset; attribute = attribute } }
 {
     Broken {

@@ -30,7 +30,7 @@ use crate::rules::{AttributeRules, check_entry};
 use crate::string_checks::read_texts;
 use crate::string_rules::{StringEnds, UnitTexts, string_ends};
 use dw_entries::constants::*;
-use dw_entries::{Cursor, Entries, EntryAt, EntryId, Head, Hints, Leading, OptionalId, Stop};
+use dw_entries::{Cursor, Entries, EntryAt, EntryId, EntryHead, Hints, Leading, OptionalId, Stop};
 use dw_forms::{Attribute, Form, Value};
 use std::alloc::{AllocError, Global};
 
@@ -93,7 +93,7 @@ impl<'d> Linker<'_, 'd> {
         &self,
         cursor: &Cursor<'_, '_>,
         basis: &UnitBasis<'_>,
-        head: &Head,
+        head: &EntryHead,
         attribute: Attribute,
         offset: u64,
     ) -> Option<OptionalId>
@@ -133,7 +133,7 @@ impl<'d> Linker<'_, 'd> {
         &self,
         cursor: &Cursor<'_, '_>,
         basis: &UnitBasis<'_>,
-        head: &Head,
+        head: &EntryHead,
         attribute: Attribute,
         value: &Value<'_>,
     ) -> Option<OptionalId>
@@ -169,7 +169,7 @@ impl<'d> Linker<'_, 'd> {
         &self,
         cursor: &Cursor<'_, '_>,
         basis: &UnitBasis<'_>,
-        head: &Head,
+        head: &EntryHead,
         leading: &mut Leading<'_, '_>,
         form: Form,
     ) -> Option<(Attribute, OptionalId)>

@@ -16,7 +16,7 @@ use crate::contribution::named_contribution;
 use crate::rules::{AttributeRules, check_entry, fault_of};
 use crate::string_rules::{StringEnds, UnitTexts, ask_offset, string_ends};
 use dw_entries::constants::*;
-use dw_entries::{Broken, Entries, Fault, Head, Rule};
+use dw_entries::{Broken, Entries, Fault, EntryHead, Rule};
 use dw_forms::{Attribute, AttributeSpec, Form, Value};
 use std::alloc::Global;
 
@@ -48,7 +48,7 @@ impl AttributeRules for UnitTexts<'_> {
     fn keeps_to_stops(&self) {}
 
     #[inline(always)]
-    fn ask(&self, head: &Head, attribute: Attribute, value: &Value<'_>) -> Option<Rule> {
+    fn ask(&self, head: &EntryHead, attribute: Attribute, value: &Value<'_>) -> Option<Rule> {
         match *value {
             Value::Str(offset) => ask_offset(self.sections.str, self.ends.str, offset),
             Value::LineStr(offset) => ask_offset(

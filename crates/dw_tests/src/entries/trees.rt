@@ -87,11 +87,11 @@ fn heads(rt: HostRuntime) -> Result<(), Fail> {
             offset: *offset,
             tag: *tag,
             unit: 0,
+            depth: *depth,
             parent: found(&entries, *parent),
             next_sibling: found(&entries, *next_sibling),
         };
         assert_eq!(rt; entries.head(id), want);
-        assert_eq!(rt; entries.depth(id), *depth);
     }
     for offset in [0, 0x0b, 0x0d, 0x1f, 0x27, 0x28] {
         assert!(rt; entries.find(offset).is_none(), "at {offset}");
@@ -116,6 +116,6 @@ fn a_deep_tree(rt: HostRuntime) -> Result<(), Fail> {
     let Some(last) = entries.find(300_012) else {
         return Err("no entry".into());
     };
-    assert_eq!(rt; entries.depth(last), 100_000);
+    assert_eq!(rt; entries.head(last).depth, 100_000);
     Ok(())
 }

@@ -2,7 +2,7 @@ use Rattle.std.proofs.Common.{◌≡◌, Some, ap, sym, ◌∙◌, subst}
 use Rattle.dw_forms.specs.Value.{view}
 use Rattle.dw_entries.specs.declared.fault.Section.TheVariants.{Info}
 use Rattle.dw_entries.specs.declared.rule.Rule.{Rule}
-use Rattle.dw_entries.specs.declared.lookup.Head.{Head}
+use Rattle.dw_entries.specs.declared.lookup.EntryHead.{EntryHead}
 use Rattle.dw_entries.specs.Failures.{IsLeast}
 use Rattle.dw_entries.specs.Asked.{values_of}
 use Rattle.dw_entries.specs.Lookups.{entry_head}
@@ -24,15 +24,15 @@ pub returns-in-Some-ask-clause-err : goal.returns-in-Some-ask-clause-err
 returns-in-Some-ask-clause-err g c = λ e is.
     let Fails = g.R.AttributeRules.fails c.args.rules.now in
     let head : c.head-head.result ≡ entry_head e = rw is at c.head-head.ensures in
-    let P : Head → Type 0 = λ h. IsLeast (Fails h c.in-Some.item.0 (view c.in-Some.item.1)) (Some c.in-Some-ask.rule) in
+    let P : EntryHead → Type 0 = λ h. IsLeast (Fails h c.in-Some.item.0 (view c.in-Some.item.1)) (Some c.in-Some-ask.rule) in
     checked_fails Fails e (values_left c.loop-item.values) (values_left c.next_by.new.self) c.in-Some.item.0 (view c.in-Some.item.1) (c.loop-item.invariant e is) c.in-Some.ensures.some c.in-Some-ask.rule c.broken_at.result
-    (subst P head c.in-Some-ask.ensures) (c.broken_at.ensures ∙ ap (λ (h : Head). record { rule = c.in-Some-ask.rule; section = Info; at = h.offset; attribute = c.in-Some.item.0 }) head)
+    (subst P head c.in-Some-ask.ensures) (c.broken_at.ensures ∙ ap (λ (h : EntryHead). record { rule = c.in-Some-ask.rule; section = Info; at = h.offset; attribute = c.in-Some.item.0 }) head)
 
 pub loop-item-preserved : goal.loop-item-preserved
 loop-item-preserved g c = λ e is.
     let Fails = g.R.AttributeRules.fails c.args.rules.now in
     let head : c.head-head.result ≡ entry_head e = rw is at c.head-head.ensures in
-    let P : Head → Type 0 = λ h. (r : Rule) → Fails h c.in-Some.item.0 (view c.in-Some.item.1) r → ⊥ in
+    let P : EntryHead → Type 0 = λ h. (r : Rule) → Fails h c.in-Some.item.0 (view c.in-Some.item.1) r → ⊥ in
     checked_more Fails e (values_left c.loop-item.values) (values_left c.next_by.new.self) c.in-Some.item.0 (view c.in-Some.item.1) (c.loop-item.invariant e is) c.in-Some.ensures.some (subst P head c.in_default-ask.ensures)
 
 pub loop-item-smaller : goal.loop-item-smaller

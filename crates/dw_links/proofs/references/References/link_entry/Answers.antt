@@ -1,7 +1,7 @@
 use Rattle.std.proofs.Common.{◌≡◌, Some, None, sym, ap, ◌∙◌, subst}
 use Rattle.std.specs.Option.{option_flatten}
 use Rattle.dw_forms.specs.Value.{view}
-use Rattle.dw_entries.specs.declared.lookup.Head.{Head}
+use Rattle.dw_entries.specs.declared.lookup.EntryHead.{EntryHead}
 use Rattle.dw_entries.specs.declared.fault.Section.TheVariants.{Info}
 use Rattle.dw_entries.specs.Failures.{IsLeast}
 use Rattle.dw_entries.specs.Entries.{entries_of, placed}
@@ -35,9 +35,9 @@ pub returns-in-Err-clause-err : goal.returns-in-Err-clause-err
 returns-in-Err-clause-err c = λ e is.
     let us = units_of c.args.self.now.entries.now.scanned in
     let head : c.head-head.result ≡ entry_head e = rw is at c.head-head.ensures in
-    let P : Head → Type 0 = λ h. IsLeast (ReferenceFails (entries_of us) (placed us) h c.in-Some.item.0 (view c.in-Some.item.1)) (Some c.in-Err.rule) in
+    let P : EntryHead → Type 0 = λ h. IsLeast (ReferenceFails (entries_of us) (placed us) h c.in-Some.item.0 (view c.in-Some.item.1)) (Some c.in-Err.rule) in
     linked_fails (entries_of us) (placed us) e (values_left c.loop-item.values) (values_left c.next_reference.new.self) c.loop-item.kept c.in-Some.item.0 (view c.in-Some.item.1) (c.loop-item.invariant.linked e is) c.in-Some.ensures.some c.in-Err.rule c.broken_at.result
-    (subst P head c.in-Err.ensures.err) (c.broken_at.ensures ∙ ap (λ (h : Head). record { rule = c.in-Err.rule; section = Info; at = h.offset; attribute = c.in-Some.item.0 }) head)
+    (subst P head c.in-Err.ensures.err) (c.broken_at.ensures ∙ ap (λ (h : EntryHead). record { rule = c.in-Err.rule; section = Info; at = h.offset; attribute = c.in-Some.item.0 }) head)
 
 pub loop-item-preserved : goal.loop-item-preserved
 loop-item-preserved c =
@@ -45,10 +45,10 @@ loop-item-preserved c =
     record {
       linked = λ e is.
           let head : c.head-head.result ≡ entry_head e = rw is at c.head-head.ensures in
-          let P : Head → Type 0 = λ h. IsLeast (ReferenceFails (entries_of us) (placed us) h c.in-Some.item.0 (view c.in-Some.item.1)) None in
+          let P : EntryHead → Type 0 = λ h. IsLeast (ReferenceFails (entries_of us) (placed us) h c.in-Some.item.0 (view c.in-Some.item.1)) None in
           rw c.keep-kept.ensures
           (linked_more (entries_of us) (placed us) (entry_head e) (values_of e.head) (values_left c.loop-item.values) (values_left c.next_reference.new.self) c.loop-item.kept c.in-Some.item.0 (view c.in-Some.item.1) (c.loop-item.invariant.linked e is) c.in-Some.ensures.some
-          c.in-Ok.target (c.in-Ok.ensures.reached ∙ ap (λ (h : Head). reach_of (entries_of us) (placed us) h.unit (view c.in-Some.item.1)) head) (subst P head c.in-Ok.ensures.ok));
+          c.in-Ok.target (c.in-Ok.ensures.reached ∙ ap (λ (h : EntryHead). reach_of (entries_of us) (placed us) h.unit (view c.in-Some.item.1)) head) (subst P head c.in-Ok.ensures.ok));
       kept = c.in-Ok.ensures.kept;
     }
 

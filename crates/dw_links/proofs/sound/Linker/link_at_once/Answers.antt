@@ -1,5 +1,5 @@
 use Rattle.std.proofs.Common.{◌≡◌, subst}
-use Rattle.dw_entries.specs.declared.lookup.Head.{Head}
+use Rattle.dw_entries.specs.declared.lookup.EntryHead.{EntryHead}
 use Rattle.dw_entries.specs.Entries.{entries_of, placed}
 use Rattle.dw_entries.specs.Scanned.{units_of}
 use Rattle.dw_entries.specs.Leading.{leading_left}
@@ -23,7 +23,7 @@ loop-form-preserved c = λ e is.
       | in-Ref4+in_ok-link_next-in-Ref4 w ↦ rw (w.leading-is, w.attribute-is) w.in_ok-link_next-in-Ref4.ensures
       | in_default-form+in_ok-attribute-in_default-form w ↦ rw (w.leading-is, w.attribute-is) w.in_ok-attribute-in_default-form.ensures
     ] in
-    let P : Head → Type 0 = λ h. LinksNext c.args.basis.now.texts (entries_of us) (placed us) h (leading_left c.loop-form.leading) (leading_left c.match-form-2.leading) c.match-form-2.attribute in
+    let P : EntryHead → Type 0 = λ h. LinksNext c.args.basis.now.texts (entries_of us) (placed us) h (leading_left c.loop-form.leading) (leading_left c.match-form-2.leading) c.match-form-2.attribute in
     rw c.keep_first-kept.ensures
     (more_so_far c.args.basis.now.texts (entries_of us) (placed us) e (leading_left c.loop-form.leading) (leading_left c.match-form-2.leading) c.loop-form.kept c.match-form-2.attribute (c.loop-form.invariant e is) (subst P head next))
 
