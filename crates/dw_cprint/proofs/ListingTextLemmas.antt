@@ -24,8 +24,6 @@ use Rattle.dw_cprint.proofs.KeptLemmas.{declaration-kept}
 use Rattle.dw_cprint.proofs.ListingLemmas.{subject-mapped}
 use Rattle.std.specs.Option.{option_map_or}
 use Rattle.dw_entries.specs.Entries.{Entry}
-use Rattle.dw_entries.specs.Lookups.{entry_head}
-use Rattle.dw_entries.specs.declared.lookup.Head.{Head}
 
 -- the line of one more
 pub lines-more : {X : Type 0} (f : X → List ℕ) (out out' all : List ℕ) (xs : List X) (i : ℕ) (x : X) → out' ≡ out ++ f x
@@ -47,14 +45,14 @@ some-within (e ∷ es) zero w none = absurd (cc)
 some-within (e ∷ es) (suc id) w none = some-within es id (omega arith) none
 
 -- the offset that is told of an entry
-pub offset-told : (image : Image) (id : ℕ) (head : Head) → id < length (entries_in image)
-    → IfSome (slice_get (entries_in image) id) (λ e. head ≡ entry_head e) → head.offset ≡ offset_in image id
-offset-told image id head within told = go (slice_get (entries_in image) id) (some-within (entries_in image) id within) told
+pub offset-told : (image : Image) (id offset : ℕ) → id < length (entries_in image)
+    → IfSome (slice_get (entries_in image) id) (λ e. offset ≡ e.at) → offset ≡ offset_in image id
+offset-told image id offset within told = go (slice_get (entries_in image) id) (some-within (entries_in image) id within) told
   where
-    go : (found : Option Entry) → (found ≡ None → ⊥) → IfSome found (λ e. head ≡ entry_head e)
-        → head.offset ≡ option_map_or (λ (e : Entry). e.at) found 0
+    go : (found : Option Entry) → (found ≡ None → ⊥) → IfSome found (λ e. offset ≡ e.at)
+        → offset ≡ option_map_or (λ (e : Entry). e.at) found 0
     go None some is = absurd (some refl)
-    go (Some e) some is = ap (λ (h : Head). h.offset) is
+    go (Some e) some is = is
 
 -- lines that are the same one by one
 lines-same : {X : Type 0} (f : X → List ℕ) (g : ℕ → List ℕ) (number : X → ℕ) (xs : List X)

@@ -3,9 +3,7 @@ use Rattle.std.proofs.Common.{suc, ◌+◌, true, false, Bool, [], ◌∷◌, �
 use Rattle.std.specs.Prelude.{slice_get, option_and_then, All, if◌then◌else◌}
 use Rattle.std.specs.Option.{option_map_or}
 use Rattle.std.proofs.lemmas.Option.{slice_get_cases}
-use Rattle.dw_entries.specs.declared.lookup.Head.{Head}
 use Rattle.dw_entries.specs.Entries.{Entry}
-use Rattle.dw_entries.specs.Lookups.{entry_head}
 use Rattle.dw_image.specs.Lookups.{is_number, children_from, children_of}
 use Rattle.std.proofs.lemmas.List.Elements.{All-nil, All-cons}
 
@@ -23,13 +21,13 @@ read_there {X = X} es id f r within says = go (slice_get es id) (λ gone. none_p
     go None past says = absurd (omega (arith, past refl))
     go (Some e) past says = says
 
--- the tag of an entry, by what is told of it
-pub tag_there : (es : List Entry) (id : ℕ) (head : Head) → id < length es → IfSome (slice_get es id) (λ e. head ≡ entry_head e) → head.tag ≡ option_map_or (λ (e : Entry). e.head.decl.tag) (slice_get es id) 0
-tag_there es id head within says = go (slice_get es id) (λ gone. none_past es id gone) says
+-- the tag of an entry, as it is told
+pub tag_there : (es : List Entry) (id tag : ℕ) → id < length es → IfSome (slice_get es id) (λ e. tag ≡ e.head.decl.tag) → tag ≡ option_map_or (λ (e : Entry). e.head.decl.tag) (slice_get es id) 0
+tag_there es id tag within says = go (slice_get es id) (λ gone. none_past es id gone) says
   where
-    go : (found : Option Entry) → (found ≡ None → length es ≤ id) → IfSome found (λ e. head ≡ entry_head e) → head.tag ≡ option_map_or (λ (e : Entry). e.head.decl.tag) found 0
+    go : (found : Option Entry) → (found ≡ None → length es ≤ id) → IfSome found (λ e. tag ≡ e.head.decl.tag) → tag ≡ option_map_or (λ (e : Entry). e.head.decl.tag) found 0
     go None past says = absurd (omega (arith, past refl))
-    go (Some e) past says = ap (λ (h : Head). h.tag) says
+    go (Some e) past says = says
 
 within_one : (b : Bool) (k n : ℕ) (ids : List ℕ) → k < n → All (λ child. child < n) ids → All (λ child. child < n) (if b then k ∷ ids else ids)
 within_one true k n ids below all = All-cons (λ child. child < n) k ids below all

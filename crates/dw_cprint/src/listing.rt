@@ -152,7 +152,7 @@ fn put_all_refused(
     ensures { OnOk result (out.new.items ≡ out.old.items ++ flat_map (refused_line_in image.now) refused.now) }
 {
     for (entry, fault) in refused {
-        put_refused(out, image.head(*entry).offset, *fault)?;
+        put_refused(out, image.offset(*entry), *fault)?;
     }
     Ok(())
 }

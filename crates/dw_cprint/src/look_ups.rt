@@ -19,7 +19,7 @@ pub fn tag_at(image: &Image<'_>, id: EntryId) -> Tag
     requires { id < length (entries_in image.now) }
     ensures { result ≡ tag_at image.now id }
 {
-    image.head(id).tag
+    image.tag(id)
 }
 
 /// The value of an entry's attribute.

@@ -7,6 +7,7 @@ use Rattle.dw_forms.specs.declared.abbrev_tables.KeptDecl.{KeptDecl}
 use Rattle.dw_forms.specs.Abbrev.{Declaration}
 use Rattle.dw_forms.specs.KeptDecls.{decl_of}
 use Rattle.dw_forms.specs.Value.{Datum}
+use Rattle.dw_entries.specs.declared.lookup.EntryHead.{EntryHead}
 use Rattle.dw_entries.specs.declared.lookup.Head.{Head}
 use Rattle.dw_entries.specs.declared.lookup.UnitHead.{UnitHead}
 use Rattle.dw_entries.specs.Header.{type_of}
@@ -23,7 +24,18 @@ abbrev pub nth_of : List Entry → ℕ → Option ℕ
 nth_of entries k = if nat_lt k (length entries) then Some k else None
 
 -- what is told of an entry besides its attributes
-abbrev pub entry_head : Entry → Head
+abbrev pub full_head : Entry → Head
+full_head e = record {
+  offset = e.at;
+  tag = e.head.decl.tag;
+  unit = e.unit;
+  depth = e.depth;
+  parent = e.parent;
+  next_sibling = e.next;
+}
+
+-- what is told of an entry besides its attributes and its depth
+abbrev pub entry_head : Entry → EntryHead
 entry_head e = record {
   offset = e.at;
   tag = e.head.decl.tag;

@@ -21,7 +21,7 @@ use crate::entries::Entries;
 use crate::header::UnitHeader;
 use crate::id::{EntryId, OptionalId};
 use crate::leading::Leading;
-use crate::lookup::Head;
+use crate::lookup::EntryHead;
 use crate::reading::read_code;
 use crate::record::Record;
 use crate::values::Values;
@@ -170,12 +170,12 @@ impl<'e, 'a> EntryAt<'e, 'a> {
         self.decl
     }
 
-    /// What is told of the entry besides its attributes.
+    /// What is told of the entry besides its attributes and its depth.
     #[inline(always)]
-    pub fn head(&self) -> Head
+    pub fn head(&self) -> EntryHead
         ensures { IfSome self.now (λ e. result ≡ entry_head e) }
     {
-        Head {
+        EntryHead {
             offset: self.kept.at,
             tag: self.decl.tag,
             unit: self.unit as usize,

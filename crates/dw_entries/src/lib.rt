@@ -35,7 +35,7 @@ pub use hints::Hints;
 pub use id::{EntryId, OptionalId};
 pub use laws::{no_list, offsets_rise, one_fault, one_list};
 pub use leading::Leading;
-pub use lookup::{Head, UnitHead};
+pub use lookup::{EntryHead, Head, UnitHead};
 pub use rule::Rule;
 pub use scanning::scan;
 pub use units::Units;

@@ -7,7 +7,7 @@ ghost use Rattle.dw_entries.specs.Entries.{Entry};
 ghost use Rattle.dw_entries.specs.Scanned.{all_entries, all_units, units_of};
 ghost use Rattle.dw_entries.specs.Asked.{values_of};
 ghost use Rattle.dw_entries.specs.ValuesLeft.{values_left};
-ghost use Rattle.dw_entries.specs.Lookups.{IsKeptIn, nth_of, entry_head, unit_head, value_at_entry};
+ghost use Rattle.dw_entries.specs.Lookups.{IsKeptIn, nth_of, full_head, unit_head, value_at_entry};
 
 use crate::entries::Entries;
 use crate::header::{UnitHeader, UnitType};
@@ -18,6 +18,20 @@ use dw_forms::{Attribute, Decl, KeptDecl, Tag, Value};
 /// An entry without its attributes.
 #[derive(Clone, Copy, Debug, PartialEq, Eq)]
 pub struct Head {
+    /// Where the entry begins in .debug_info.
+    pub offset: u32,
+    pub tag: Tag,
+    /// The number of its unit.
+    pub unit: usize,
+    /// How many entries are above it.
+    pub depth: usize,
+    pub parent: Option<EntryId>,
+    pub next_sibling: Option<EntryId>,
+}
+
+/// An entry without its attributes and its depth, as it is read from its record, its declaration and its unit.
+#[derive(Clone, Copy, Debug, PartialEq, Eq)]
+pub struct EntryHead {
     /// Where the entry begins in .debug_info.
     pub offset: u32,
     pub tag: Tag,
@@ -47,21 +61,53 @@ impl<'a> Entries<'a> {
         &self.decls
     }
 
-    /// The declaration of an entry.
+    /// The declaration of an entry. Its unit is not looked up.
     pub fn decl(&self, id: EntryId) -> &Decl
         requires { id < length (all_entries self.now.scanned) }
         ensures { IfSome (slice_get (all_entries self.now.scanned) id)
             (λ e. decl_view result.now ≡ e.head.decl) }
     {
-        self.at(id).decl()
+        let kept = self.record(id);
+        &self.decls[(kept.decl - 1) as usize].decl
     }
 
-    /// What is told of an entry besides its attributes.
+    /// The tag of an entry, as its declaration says it. Its unit is not looked up.
+    pub fn tag(&self, id: EntryId) -> Tag
+        requires { id < length (all_entries self.now.scanned) }
+        ensures { IfSome (slice_get (all_entries self.now.scanned) id) (λ e. result ≡ e.head.decl.tag) }
+    {
+        self.decl(id).tag
+    }
+
+    /// The offset of an entry in .debug_info, in bytes. Its unit is not looked up.
+    #[inline(always)]
+    pub fn offset(&self, id: EntryId) -> u32
+        requires { id < length (all_entries self.now.scanned) }
+        ensures { IfSome (slice_get (all_entries self.now.scanned) id) (λ e. result ≡ e.at) }
+    {
+        self.record(id).at
+    }
+
+    /// What is told of an entry besides its attributes. Its depth is counted: each entry above it is looked at.
     pub fn head(&self, id: EntryId) -> Head
         requires { id < length (all_entries self.now.scanned) }
-        ensures { IfSome (slice_get (all_entries self.now.scanned) id) (λ e. result ≡ entry_head e) }
+        ensures { IfSome (slice_get (all_entries self.now.scanned) id) (λ e. result ≡ full_head e) }
     {
-        self.at(id).head()
+        let EntryHead {
+            offset,
+            tag,
+            unit,
+            parent,
+            next_sibling,
+        } = self.at(id).head();
+        Head {
+            offset,
+            tag,
+            unit,
+            depth: self.depth(id),
+            parent,
+            next_sibling,
+        }
     }
 
     /// The entry with this number. Entries are numbered from 0 in rising offset.

@@ -28,7 +28,7 @@ impl Entries<'_> {
     }
 
     /// How many entries are above an entry. Each of them is looked at.
-    pub fn depth(&self, id: EntryId) -> usize
+    pub(crate) fn depth(&self, id: EntryId) -> usize
         requires { id < length (all_entries self.now.scanned) }
         ensures { IfSome (slice_get (all_entries self.now.scanned) id) (λ e. result ≡ e.depth) }
     {

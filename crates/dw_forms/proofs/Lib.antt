@@ -12,8 +12,10 @@ pub mod TableLaws
 pub mod NumberFaults
 pub mod TableFaults
 pub mod TailLaws
-pub mod MapLaws
+pub mod BitLaws
 pub mod KeptLaws
+pub mod SearchLaws
+pub mod BranchLaws
 pub mod StartLaws
 pub mod StartCounts
 pub mod RemainderLaws

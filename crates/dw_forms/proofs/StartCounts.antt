@@ -8,7 +8,7 @@ use Rattle.std.proofs.lemmas.Bool.{cases_eq}
 use Rattle.dw_forms.specs.declared.front_reader.Started.{Started}
 use Rattle.dw_forms.specs.Abbrev.{view}
 use Rattle.dw_forms.specs.TableStarts.{AreBehind, AreNew, starts_below}
-use Rattle.dw_forms.proofs.MapLaws.{differ, eq_true}
+use Rattle.dw_forms.proofs.BitLaws.{differ, eq_true}
 use Rattle.dw_forms.proofs.TailLaws.{decl_takes, behind_on}
 
 one_more : (b : Bool) (m n : ℕ) → m ≤ n → cond b 1 0 + m ≤ suc n

@@ -11,7 +11,7 @@ tables_in t = tables_of t.kept.items
 
 -- codes are found in the tables
 abbrev pub AreSearchable : AbbrevTables → Type 0
-AreSearchable t = AreKept t.maps.nodes.items t.kept.items
+AreSearchable t = AreKept t.branches.items t.kept.items
 
 -- the tables are those of this section
 pub record AreTablesOf (section : List ℕ) (t : AbbrevTables) : Type 0 where

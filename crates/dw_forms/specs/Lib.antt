@@ -31,7 +31,7 @@ pub mod Places
 pub mod Walks
 pub mod FirstPlaces
 pub mod Planned
-pub mod CodeMaps
+pub mod CodeBits
 pub mod KeptDecls
 pub mod TableStarts
 pub mod AbbrevTables

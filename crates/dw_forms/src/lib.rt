@@ -7,7 +7,6 @@ mod abbrev_reader;
 mod abbrev_tables;
 mod attribute_index;
 mod attributes;
-mod code_maps;
 pub mod constants;
 mod decl;
 mod form;

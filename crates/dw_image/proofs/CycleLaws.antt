@@ -2,9 +2,7 @@
 use Rattle.std.proofs.Common.{◌≡◌, ℕ, ◌+◌, ◌-◌, ◌<◌, ◌≤◌, ◌⊎◌, List, [], length, refl, sym, ap, ◌∙◌, subst, arith, inl, inr}
 use Rattle.std.specs.Prelude.{slice_index, slice_get, IfSome}
 use Rattle.std.proofs.lemmas.List.{get_or_past}
-use Rattle.dw_entries.specs.declared.lookup.Head.{Head}
 use Rattle.dw_entries.specs.Entries.{entries_of, placed}
-use Rattle.dw_entries.specs.Lookups.{entry_head}
 use Rattle.dw_links.proofs.Skips.{there}
 use Rattle.dw_types.proofs.FactsLemmas.{facts-get, facts-offset, length-facts_of}
 use Rattle.dw_types.specs.Graphs.{Graph, IsStep, steps_of}
@@ -76,9 +74,9 @@ entry_below units nodes cycle k within =
     omega (arith, p, long, same)
 
 -- where an entry begins
-pub offset_told : (units : List DebugUnit) (number : ℕ) (head : Head) → number < length (entries_of units) → IfSome (slice_get (entries_of units) number) (λ e. head ≡ entry_head e)
-    → head.offset ≡ offset_at (facts_in units) number
-offset_told units number head below tells =
+pub offset_told : (units : List DebugUnit) (number offset : ℕ) → number < length (entries_of units) → IfSome (slice_get (entries_of units) number) (λ e. offset ≡ e.at)
+    → offset ≡ offset_at (facts_in units) number
+offset_told units number offset below tells =
     let (e, is) = there (entries_of units) number below in
-    let same : head ≡ entry_head e = rw is at tells in
-    ap (λ (h : Head). h.offset) same ∙ sym (ap (λ (f : Facts). f.offset) (facts-get (entries_of units) (placed units) number e is) ∙ facts-offset (entries_of units) (placed units) e)
+    let same : offset ≡ e.at = rw is at tells in
+    same ∙ sym (ap (λ (f : Facts). f.offset) (facts-get (entries_of units) (placed units) number e is) ∙ facts-offset (entries_of units) (placed units) e)

@@ -5,7 +5,7 @@ use Rattle.dw_forms.specs.Value.{Datum, str, line_str, str_index, sec_offset, ad
 use Rattle.dw_entries.specs.declared.header.UnitHeader.{UnitHeader}
 use Rattle.dw_entries.specs.declared.rule.Rule.{Rule}
 use Rattle.dw_entries.specs.declared.rule.Rule.TheVariants.{BadStrBase, StrIndex, StringEnd, BadAddrBase, AddrIndex, NoEntry, WrongKind, NotNextSibling, NoSignature, MissingType, BadCount, NoSize, SizeTooGreat, MemberOutside, EnumSize}
-use Rattle.dw_entries.specs.declared.lookup.Head.{Head}
+use Rattle.dw_entries.specs.declared.lookup.EntryHead.{EntryHead}
 use Rattle.dw_entries.specs.Units.{DebugUnit, AreUnits}
 use Rattle.dw_entries.specs.Entries.{Entry, entries_of, PlacedUnit, placed}
 use Rattle.dw_entries.specs.Lookups.{entry_head}
@@ -52,7 +52,7 @@ address_index_group s h (Some base) index _ fails = absurd fails
 base_group : (s : Sections) (h : UnitHeader) (attribute base : ℕ) (rule : Rule) → BaseFails s h attribute base rule → group_of rule ≡ 3
 base_group s h attribute base rule fails = elim fails [ inl p ↦ ap group_of p.1 | inr p ↦ ap group_of p.1 ]
 
-string_group : (s : Sections) (h : UnitHeader) (b c : Option ℕ) (head : Head) (a : ℕ) (v : Datum) (rule : Rule) → StringFailsIn s h b c head a v rule → group_of rule ≡ 3
+string_group : (s : Sections) (h : UnitHeader) (b c : Option ℕ) (head : EntryHead) (a : ℕ) (v : Datum) (rule : Rule) → StringFailsIn s h b c head a v rule → group_of rule ≡ 3
 string_group s h b c head a (str offset) rule fails = offset_group s.str.now offset rule fails
 string_group s h b c head a (line_str offset) rule fails = offset_group s.line_str.now offset rule fails
 string_group s h b c head a (str_index index) rule fails = string_index_group s b index rule fails
@@ -62,7 +62,7 @@ string_group s h b c head a _ rule fails = absurd fails
 
 -- ---- references
 
-reference_group : (es : List Entry) (us : List PlacedUnit) (head : Head) (a : ℕ) (v : Datum) (rule : Rule) → ReferenceFailsBy es us head a v rule → group_of rule ≡ 4
+reference_group : (es : List Entry) (us : List PlacedUnit) (head : EntryHead) (a : ℕ) (v : Datum) (rule : Rule) → ReferenceFailsBy es us head a v rule → group_of rule ≡ 4
 reference_group es us head a v NoEntry fails = refl
 reference_group es us head a v WrongKind fails = refl
 reference_group es us head a v NotNextSibling fails = refl

@@ -11,7 +11,7 @@ mod types;
 mod verifying;
 
 pub use children::Children;
-pub use dw_entries::{EntryId, Fault, Head, Rule, Section};
+pub use dw_entries::{EntryId, Fault, Head, Rule, Section, Tag};
 pub use dw_types::NoMemory;
 pub use id::TypeId;
 pub use image::Image;

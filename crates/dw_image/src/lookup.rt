@@ -2,7 +2,7 @@
 
 ghost use Rattle.std.specs.Prelude.{◌≡◌, ◌<◌, length, slice_get, IfSome, option_map, option_copied};
 ghost use Rattle.dw_forms.specs.Value.{view};
-ghost use Rattle.dw_entries.specs.Lookups.{nth_of, entry_head, value_at_entry};
+ghost use Rattle.dw_entries.specs.Lookups.{nth_of, full_head, value_at_entry};
 ghost use Rattle.dw_entries.specs.Entries.{placed};
 ghost use Rattle.dw_links.specs.Slots.{IsPlace};
 ghost use Rattle.dw_links.specs.Targets.{target_of};
@@ -12,7 +12,7 @@ ghost use Rattle.dw_image.specs.Lookups.{entry_at};
 
 use crate::image::Image;
 use dw_entries::constants::DW_AT_name;
-use dw_entries::{Attribute, Entries, EntryId, Head, Value};
+use dw_entries::{Attribute, Entries, EntryId, Head, Tag, Value};
 use dw_links::TextPlace;
 
 impl<'a> Image<'a> {
@@ -41,22 +41,40 @@ impl<'a> Image<'a> {
         self.entries.nth(k)
     }
 
-    /// What is known of an entry besides its attributes.
+    /// What is known of an entry besides its attributes. Its depth is counted: each entry above it is looked at.
     #[tactic(auto, unfolding(crate::specs::Images::units_in))]
     pub fn head(&self, id: EntryId) -> Head
         requires { id < length (entries_in self.now) }
-        ensures { IfSome (slice_get (entries_in self.now) id) (λ e. result ≡ entry_head e) }
+        ensures { IfSome (slice_get (entries_in self.now) id) (λ e. result ≡ full_head e) }
     {
         self.entries.head(id)
     }
 
-    /// How many entries are above an entry. Each of them is looked at.
+    /// The offset of an entry in .debug_info, in bytes.
     #[tactic(auto, unfolding(crate::specs::Images::units_in))]
-    pub fn depth(&self, id: EntryId) -> usize
+    pub fn offset(&self, id: EntryId) -> u32
         requires { id < length (entries_in self.now) }
-        ensures { IfSome (slice_get (entries_in self.now) id) (λ e. result ≡ e.depth) }
+        ensures { IfSome (slice_get (entries_in self.now) id) (λ e. result ≡ e.at) }
     {
-        self.entries.depth(id)
+        self.entries.offset(id)
+    }
+
+    /// The tag of an entry.
+    #[tactic(auto, unfolding(crate::specs::Images::units_in))]
+    pub fn tag(&self, id: EntryId) -> Tag
+        requires { id < length (entries_in self.now) }
+        ensures { IfSome (slice_get (entries_in self.now) id) (λ e. result ≡ e.head.decl.tag) }
+    {
+        self.entries.tag(id)
+    }
+
+    /// The parent of an entry. None at the first entry of a unit.
+    #[tactic(auto, unfolding(crate::specs::Images::units_in))]
+    pub fn parent(&self, id: EntryId) -> Option<EntryId>
+        requires { id < length (entries_in self.now) }
+        ensures { IfSome (slice_get (entries_in self.now) id) (λ e. result ≡ e.parent) }
+    {
+        self.entries.parent(id)
     }
 
     /// The value of an entry's attribute, if it has that attribute.

@@ -21,7 +21,7 @@ fn offset_of(entries: &Entries<'_>, number: usize) -> u32
     requires { number < length (all_entries entries.now.scanned) }
     ensures { result ≡ offset_at (facts_in (units_of entries.now.scanned)) number }
 {
-    entries.head(entries.id(number)).offset
+    entries.offset(entries.id(number))
 }
 
 /// The offsets of entries, in their order.

@@ -4,7 +4,7 @@ use Rattle.std.specs.Prelude.{slice_get, IsSome}
 use Rattle.dw_forms.specs.Value.{Datum, ref_sig}
 use Rattle.dw_entries.specs.declared.rule.Rule.{Rule}
 use Rattle.dw_entries.specs.declared.rule.Rule.TheVariants as rule
-use Rattle.dw_entries.specs.declared.lookup.Head.{Head}
+use Rattle.dw_entries.specs.declared.lookup.EntryHead.{EntryHead}
 use Rattle.dw_entries.specs.Entries.{Entry, PlacedUnit}
 use Rattle.dw_entries.specs.Failures.{IsLeast}
 use Rattle.dw_entries.specs.Rules.{number_of}
@@ -24,7 +24,7 @@ not_unsigned : (entries : List Entry) (units : List PlacedUnit) (unit : ℕ) (v 
 not_unsigned entries units unit (ref_sig s) id reaches none = let found = at_type entries units s id reaches in none found.number found.has
 not_unsigned entries units unit _ id reaches none = none
 
-pub not_wrong : (entries : List Entry) (head : Head) (a : ℕ) (v : Datum) (id : ℕ) (target : Entry) → slice_get entries id ≡ Some target → permits_form head a v ≡ true → permits head a target ≡ true → IsWrongKind entries head a v (Some id) → ⊥
+pub not_wrong : (entries : List Entry) (head : EntryHead) (a : ℕ) (v : Datum) (id : ℕ) (target : Entry) → slice_get entries id ≡ Some target → permits_form head a v ≡ true → permits head a target ≡ true → IsWrongKind entries head a v (Some id) → ⊥
 not_wrong entries head a v id target is form right wrong =
     elim wrong [
       | inl w ↦ let both : true ≡ false = sym form ∙ w in cc
@@ -50,7 +50,7 @@ no_entry_not : (entries : List Entry) (units : List PlacedUnit) (unit : ℕ) (v 
 no_entry_not entries units unit v id reaches none = let both : ◌≡◌ {A = Option ℕ} None (Some id) = sym none.1 ∙ reaches in cc
 
 -- four rules are asked of references
-by_rule : (entries : List Entry) (units : List PlacedUnit) (entry : Head) (a : ℕ) (v : Datum) (P : Rule → Type 0)
+by_rule : (entries : List Entry) (units : List PlacedUnit) (entry : EntryHead) (a : ℕ) (v : Datum) (P : Rule → Type 0)
     → (ReferenceFails entries units entry a v rule.NoEntry → P rule.NoEntry)
     → (ReferenceFails entries units entry a v rule.WrongKind → P rule.WrongKind)
     → (ReferenceFails entries units entry a v rule.NotNextSibling → P rule.NotNextSibling)
@@ -62,20 +62,20 @@ by_rule entries units entry a v P p q s t rule.NotNextSibling fails = s fails
 by_rule entries units entry a v P p q s t rule.NoSignature fails = t fails
 by_rule entries units entry a v P p q s t _ fails = absurd fails.1
 
-pub least_other : (entries : List Entry) (units : List PlacedUnit) (head : Head) (a : ℕ) (v : Datum) (id : ℕ) → reach_of entries units head.unit v ≡ Some id → (IsWrongKind entries head a v (Some id) → ⊥)
+pub least_other : (entries : List Entry) (units : List PlacedUnit) (head : EntryHead) (a : ℕ) (v : Datum) (id : ℕ) → reach_of entries units head.unit v ≡ Some id → (IsWrongKind entries head a v (Some id) → ⊥)
     → (r : Rule) → ReferenceFails entries units head a v r → number_of r < 3 → ⊥
 least_other entries units head a v id reaches right =
     by_rule entries units head a v (λ r. number_of r < 3 → ⊥) (λ fails less. no_entry_not entries units head.unit v id reaches fails.1) (λ fails less. right (subst (IsWrongKind entries head a v) reaches fails.1)) (λ fails less. omega (arith, less))
     (λ fails less. omega (arith, less))
 
-pub least_none : (entries : List Entry) (units : List PlacedUnit) (head : Head) (a : ℕ) (v : Datum) (id : ℕ) → reach_of entries units head.unit v ≡ Some id → (IsWrongKind entries head a v (Some id) → ⊥)
+pub least_none : (entries : List Entry) (units : List PlacedUnit) (head : EntryHead) (a : ℕ) (v : Datum) (id : ℕ) → reach_of entries units head.unit v ≡ Some id → (IsWrongKind entries head a v (Some id) → ⊥)
     → ((a ≡ 1) × IsOtherThan head.next_sibling (reach_of entries units head.unit v) → ⊥)
     → (r : Rule) → ReferenceFails entries units head a v r → ⊥
 least_none entries units head a v id reaches right next =
     by_rule entries units head a v (λ r. ⊥) (λ fails. no_entry_not entries units head.unit v id reaches fails.1) (λ fails. right (subst (IsWrongKind entries head a v) reaches fails.1)) (λ fails. next fails.1)
     (λ fails. not_unsigned entries units head.unit v id reaches fails.1)
 
-pub wrong_first : (entries : List Entry) (units : List PlacedUnit) (head : Head) (a : ℕ) (v : Datum) (id : ℕ) → is_reference_value v ≡ true → reach_of entries units head.unit v ≡ Some id → IsWrongKind entries head a v (Some id) → IsLeast (ReferenceFails entries units head a v) (Some rule.WrongKind)
+pub wrong_first : (entries : List Entry) (units : List PlacedUnit) (head : EntryHead) (a : ℕ) (v : Datum) (id : ℕ) → is_reference_value v ≡ true → reach_of entries units head.unit v ≡ Some id → IsWrongKind entries head a v (Some id) → IsLeast (ReferenceFails entries units head a v) (Some rule.WrongKind)
 wrong_first entries units head a v id reference reaches wrong = (
   (reference, subst (IsWrongKind entries head a v) (sym reaches) wrong),
   by_rule entries units head a v (λ r. number_of r < 2 → ⊥) (λ fails less. no_entry_not entries units head.unit v id reaches fails.1) (λ fails less. omega (arith, less)) (λ fails less. omega (arith, less)) (λ fails less. omega (arith, less)),

@@ -12,7 +12,7 @@ use Rattle.dw_forms.specs.declared.decl.AttributeSpec.{AttributeSpec}
 use Rattle.dw_forms.specs.Plans.{not_flags, not_constants, stops_in}
 use Rattle.dw_forms.specs.Codes.{DW_AT_sibling, DW_AT_name, DW_AT_byte_size, DW_AT_bit_size, DW_AT_import, DW_AT_lower_bound, DW_AT_prototyped, DW_AT_bit_stride, DW_AT_upper_bound, DW_AT_abstract_origin, DW_AT_count, DW_AT_data_member_location, DW_AT_declaration, DW_AT_encoding, DW_AT_specification, DW_AT_type, DW_AT_byte_stride, DW_AT_signature, DW_AT_data_bit_offset, DW_AT_str_offsets_base, DW_AT_addr_base}
 use Rattle.dw_entries.specs.declared.rule.Rule.TheVariants.{WrongClass}
-use Rattle.dw_entries.specs.declared.lookup.Head.{Head}
+use Rattle.dw_entries.specs.declared.lookup.EntryHead.{EntryHead}
 use Rattle.dw_entries.specs.declared.lookup.UnitHead.{UnitHead}
 use Rattle.dw_entries.specs.Header.{version_of}
 use Rattle.dw_entries.specs.Units.{DebugUnit, Spells}
@@ -98,7 +98,7 @@ others_pass spec is units =
     class_passes units spec c class ok
 
 -- a value of another class
-pub class_least : (units : List PlacedUnit) (head : Head) (a : ℕ) (v : Datum) (p : PlacedUnit) → slice_get units head.unit ≡ Some p → allows_in (version_of p.unit.header.kind) a (class_of v) ≡ false
+pub class_least : (units : List PlacedUnit) (head : EntryHead) (a : ℕ) (v : Datum) (p : PlacedUnit) → slice_get units head.unit ≡ Some p → allows_in (version_of p.unit.header.kind) a (class_of v) ≡ false
     → IsLeast (ClassFails units head a v) (Some WrongClass)
 class_least units head a v p is not_allowed = (
   record { unit = p; in_unit = is; class = not_allowed; only = refl },

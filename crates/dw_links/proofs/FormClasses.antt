@@ -10,7 +10,7 @@ use Rattle.dw_forms.specs.declared.form.Form.TheVariants as form
 use Rattle.dw_forms.specs.FormCodes.{may_lead_out, may_refer}
 use Rattle.dw_forms.specs.Value.{Datum, Val}
 use Rattle.dw_forms.specs.Walks.{may_lead}
-use Rattle.dw_entries.specs.declared.lookup.Head.{Head}
+use Rattle.dw_entries.specs.declared.lookup.EntryHead.{EntryHead}
 use Rattle.dw_entries.specs.declared.rule.Rule.{Rule}
 use Rattle.dw_entries.specs.Entries.{Entry, PlacedUnit}
 use Rattle.dw_entries.specs.Leading.{DoesNotLead}
@@ -59,7 +59,7 @@ other_code : (a b : ℕ) → (a == b) ≡ false → a ≡ b → ⊥
 other_code a b not same = let both : (a == b) ≡ true = ap (λ (n : ℕ). n == b) same ∙ eq-eqb b b refl in let no : true ≡ false = sym both ∙ not in cc
 
 -- it is no string, no address and no base
-no_text : (texts : UnitTexts) (head : Head) (a : ℕ) (rule : Rule) (version size : ℕ) (f : Form) (bytes : List ℕ) (v : Datum) → may_lead_out f ≡ false → ((a ≡ DW_AT_str_offsets_base) ⊎ (a ≡ DW_AT_addr_base) → ⊥) → Val version f size bytes v → FailsByTexts texts head a v rule → ⊥
+no_text : (texts : UnitTexts) (head : EntryHead) (a : ℕ) (rule : Rule) (version size : ℕ) (f : Form) (bytes : List ℕ) (v : Datum) → may_lead_out f ≡ false → ((a ≡ DW_AT_str_offsets_base) ⊎ (a ≡ DW_AT_addr_base) → ⊥) → Val version f size bytes v → FailsByTexts texts head a v rule → ⊥
 no_text texts head a rule version size form.Strp bytes v none no_base p fails = let both : true ≡ false = none in cc
 no_text texts head a rule version size form.LineStrp bytes v none no_base p fails = let both : true ≡ false = none in cc
 no_text texts head a rule version size form.Strx bytes v none no_base p fails = let both : true ≡ false = none in cc

@@ -3,7 +3,7 @@ use Rattle.std.proofs.Common.{◌≡◌, ℕ, zero, suc, ◌<◌, List, [], ◌�
 use Rattle.std.specs.Prelude.{slice_get}
 use Rattle.dw_forms.specs.declared.decl.AttributeSpec.{AttributeSpec}
 use Rattle.dw_forms.specs.Value.{Datum}
-use Rattle.dw_entries.specs.declared.lookup.Head.{Head}
+use Rattle.dw_entries.specs.declared.lookup.EntryHead.{EntryHead}
 use Rattle.dw_entries.specs.declared.rule.Rule.{Rule}
 use Rattle.dw_entries.specs.declared.fault.Broken.{Broken}
 use Rattle.dw_entries.specs.declared.fault.Section.TheVariants.{Info}
@@ -31,27 +31,27 @@ between_get (y ∷ xs) ys x = between_get xs ys x
 -- ---- the rules
 
 -- no rule fails at these attributes of an entry
-abbrev pub NoneFails : Rules → Head → List (ℕ × Datum) → Type 0
+abbrev pub NoneFails : Rules → EntryHead → List (ℕ × Datum) → Type 0
 NoneFails Fails head items = (k : ℕ) (item : ℕ × Datum) → slice_get items k ≡ Some item → (r : Rule) → Fails head item.0 item.1 r → ⊥
 
-pub none_both : (Fails : Rules) (head : Head) (xs ys : List (ℕ × Datum)) → NoneFails Fails head xs → NoneFails Fails head ys → NoneFails Fails head (xs ++ ys)
+pub none_both : (Fails : Rules) (head : EntryHead) (xs ys : List (ℕ × Datum)) → NoneFails Fails head xs → NoneFails Fails head ys → NoneFails Fails head (xs ++ ys)
 none_both Fails head [] ys before behind k item is = behind k item is
 none_both Fails head (x ∷ xs) ys before behind zero item is = before zero item is
 none_both Fails head (x ∷ xs) ys before behind (suc k) item is = none_both Fails head xs ys (λ j y e. before (suc j) y e) behind k item is
 
-pub none_one : (Fails : Rules) (head : Head) (x : ℕ × Datum) → ((r : Rule) → Fails head x.0 x.1 r → ⊥) → NoneFails Fails head (x ∷ [])
+pub none_one : (Fails : Rules) (head : EntryHead) (x : ℕ × Datum) → ((r : Rule) → Fails head x.0 x.1 r → ⊥) → NoneFails Fails head (x ∷ [])
 none_one Fails head x here zero item is = let e : Some x ≡ Some item = is in let same : x ≡ item = cc in subst (λ (y : ℕ × Datum). (r : Rule) → Fails head y.0 y.1 r → ⊥) same here
 none_one Fails head x here (suc k) item is = absurd cc
 
 -- ---- the loop
 
 -- no rule fails so far, and these are left
-pub record Checked (Fails : Rules) (head : Head) (items left : List (ℕ × Datum)) : Type 0 where
+pub record Checked (Fails : Rules) (head : EntryHead) (items left : List (ℕ × Datum)) : Type 0 where
   pub done : List (ℕ × Datum)
   pub parts : items ≡ done ++ left
   pub none : NoneFails Fails head done
 
-pub none_checked : (Fails : Rules) (head : Head) (items left : List (ℕ × Datum)) → left ≡ items → Checked Fails head items left
+pub none_checked : (Fails : Rules) (head : EntryHead) (items left : List (ℕ × Datum)) → left ≡ items → Checked Fails head items left
 none_checked Fails head items left same = record { done = []; parts = sym same; none = λ k item is. absurd cc }
 
 -- fewer are left
@@ -60,7 +60,7 @@ fewer Pass left x behind n = omega (arith, ap length n.parts, length-append n.pa
 
 -- of attributes that are passed none fails
 module _ (Fails : Rules) (Pass : AttributeSpec → Type 0) (over : (spec : AttributeSpec) → Pass spec → Passes Fails spec) where
-  passed_none : (head : Head) (items : List (ℕ × Datum)) → ArePassed Pass items → NoneFails Fails head items
+  passed_none : (head : EntryHead) (items : List (ℕ × Datum)) → ArePassed Pass items → NoneFails Fails head items
   passed_none head items passed k item is r fails =
       let p = passed k item is in
       over p.spec p.not_asked p.context p.declared p.is_attribute head r (subst (λ (y : ℕ × Datum). Fails head y.0 y.1 r) (sym p.is_item) fails)

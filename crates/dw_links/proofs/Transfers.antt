@@ -5,7 +5,7 @@ use Rattle.dw_elf.specs.declared.sections.Sections.{Sections}
 use Rattle.dw_forms.specs.Value.{Datum}
 use Rattle.dw_entries.specs.declared.rule.Rule.{Rule}
 use Rattle.dw_entries.specs.declared.fault.Broken.{Broken}
-use Rattle.dw_entries.specs.declared.lookup.Head.{Head}
+use Rattle.dw_entries.specs.declared.lookup.EntryHead.{EntryHead}
 use Rattle.dw_entries.specs.Entries.{Entry, PlacedUnit}
 use Rattle.dw_entries.specs.Failures.{Failure, HasNone, IsFirst}
 use Rattle.dw_entries.specs.Lookups.{entry_head}
@@ -38,7 +38,7 @@ pub none_carried : (P Q : Rules) (entry : Entry)
 none_carried P Q entry back none f fails = none f (carried Q P entry f back fails)
 
 -- the rules on a unit's texts are the rules on strings, at the unit's entries
-pub texts_over : (sections : Sections) (entries : List Entry) (units : List PlacedUnit) (texts : UnitTexts) (head : Head)
+pub texts_over : (sections : Sections) (entries : List Entry) (units : List PlacedUnit) (texts : UnitTexts) (head : EntryHead)
     → AreTexts sections entries units texts → head.unit ≡ texts.unit
     → (a : ℕ) (v : Datum) (r : Rule) → FailsByTexts texts head a v r → StringFails sections entries units head a v r
 texts_over sections entries units texts head read same a v r fails = record {
@@ -47,7 +47,7 @@ texts_over sections entries units texts head read same a v r fails = record {
   fails = rw (← read.strings, ← read.addresses, ← read.same_sections, ← read.header) fails;
 }
 
-pub texts_back : (sections : Sections) (entries : List Entry) (units : List PlacedUnit) (texts : UnitTexts) (head : Head)
+pub texts_back : (sections : Sections) (entries : List Entry) (units : List PlacedUnit) (texts : UnitTexts) (head : EntryHead)
     → AreTexts sections entries units texts → head.unit ≡ texts.unit
     → (a : ℕ) (v : Datum) (r : Rule) → StringFails sections entries units head a v r → FailsByTexts texts head a v r
 texts_back sections entries units texts head read same a v r fails =

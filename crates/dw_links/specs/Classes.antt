@@ -9,7 +9,7 @@ use Rattle.dw_forms.specs.Value.{ref_info, ref_unit, ref_sig, sec_offset, expr, 
 use Rattle.dw_entries.specs.declared.rule.Rule.{Rule}
 use Rattle.dw_entries.specs.declared.rule.Rule.TheVariants.{WrongClass}
 use Rattle.dw_entries.specs.Header.{version_of}
-use Rattle.dw_entries.specs.declared.lookup.Head.{Head}
+use Rattle.dw_entries.specs.declared.lookup.EntryHead.{EntryHead}
 use Rattle.dw_entries.specs.Units.{DebugUnit}
 use Rattle.dw_entries.specs.Entries.{entries_of, PlacedUnit, placed}
 use Rattle.dw_entries.specs.Failures.{Failure}
@@ -160,7 +160,7 @@ allows_in version attribute class =
     else allows attribute class
 
 -- WrongClass: the attribute's value has none of its classes
-pub record ClassFails (units : List PlacedUnit) (head : Head) (attribute : ℕ) (v : Datum) (rule : Rule) : Type 0 where
+pub record ClassFails (units : List PlacedUnit) (head : EntryHead) (attribute : ℕ) (v : Datum) (rule : Rule) : Type 0 where
   pub unit : PlacedUnit
   pub in_unit : slice_get units head.unit ≡ Some unit
   pub class : allows_in (version_of unit.unit.header.kind) attribute (class_of v) ≡ false

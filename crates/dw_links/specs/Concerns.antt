@@ -4,7 +4,7 @@ use Rattle.dw_forms.specs.Value.{Datum}
 use Rattle.dw_forms.specs.declared.decl.AttributeSpec.{AttributeSpec}
 use Rattle.dw_entries.specs.declared.rule.Rule.{Rule}
 use Rattle.dw_entries.specs.declared.fault.Broken.{Broken}
-use Rattle.dw_entries.specs.declared.lookup.Head.{Head}
+use Rattle.dw_entries.specs.declared.lookup.EntryHead.{EntryHead}
 use Rattle.dw_entries.specs.Grammar.{Context, Attribute, IsAttribute}
 use Rattle.dw_entries.specs.Entries.{Entry}
 use Rattle.dw_entries.specs.Failures.{Failure, HasNone, IsFirst}
@@ -13,7 +13,7 @@ use Rattle.dw_entries.specs.Lookups.{entry_head}
 
 -- which rules fail at an attribute with a value, by what is told of its entry
 abbrev pub Rules : Type 1
-Rules = Head → ℕ → Datum → Rule → Type 0
+Rules = EntryHead → ℕ → Datum → Rule → Type 0
 
 -- the failures of the rules at the attributes of an entry
 abbrev pub AtHead : Rules → Entry → Failure → Type 0
@@ -21,7 +21,7 @@ AtHead Fails = AtAttributes (λ e. Fails (entry_head e))
 
 -- no rule fails at an attribute that is declared so
 abbrev pub Passes : Rules → AttributeSpec → Type 0
-Passes Fails spec = (x : Context) (a : Attribute) → IsAttribute x spec a → (head : Head) (rule : Rule)
+Passes Fails spec = (x : Context) (a : Attribute) → IsAttribute x spec a → (head : EntryHead) (rule : Rule)
     → Fails head a.code a.value rule → ⊥
 
 -- nor at any of a declaration

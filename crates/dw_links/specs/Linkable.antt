@@ -1,7 +1,7 @@
 -- State: the unit at hand while the values of its entries are followed, and what must be known of it.
 use Rattle.std.specs.Prelude.{◌≡◌, ℕ, List, Option}
 use Rattle.dw_forms.specs.Value.{Datum}
-use Rattle.dw_entries.specs.declared.lookup.Head.{Head}
+use Rattle.dw_entries.specs.declared.lookup.EntryHead.{EntryHead}
 use Rattle.dw_entries.specs.Entries.{Entry, PlacedUnit}
 use Rattle.dw_entries.specs.Scanned.{all_entries, all_units}
 use Rattle.dw_entries.specs.Views.{sections_of}
@@ -40,6 +40,6 @@ pub record IsLinkable (it : References) : Type 0 where
   pub texts : AreTexts (sections_of it.cursor.entries.now) (entries_in it) (units_in it) it.texts
 
 -- the same, and the entry is in the unit at hand
-pub record MayAsk (it : References) (head : Head) : Type 0 where
+pub record MayAsk (it : References) (head : EntryHead) : Type 0 where
   pub linkable : IsLinkable it
   pub in_unit : head.unit ≡ it.texts.unit

@@ -4,7 +4,7 @@ use Rattle.dw_elf.specs.declared.sections.Sections.{Sections}
 use Rattle.dw_forms.specs.Value.{Datum}
 use Rattle.dw_entries.specs.declared.fault.Broken.{Broken}
 use Rattle.dw_entries.specs.declared.fault.Section.TheVariants.{Info}
-use Rattle.dw_entries.specs.declared.lookup.Head.{Head}
+use Rattle.dw_entries.specs.declared.lookup.EntryHead.{EntryHead}
 use Rattle.dw_entries.specs.declared.rule.Rule.{Rule}
 use Rattle.dw_entries.specs.Chosen.{IsNextOf}
 use Rattle.dw_entries.specs.Entries.{Entry}
@@ -22,7 +22,7 @@ use Rattle.dw_links.specs.Strings.{StringFailures}
 use Rattle.dw_links.specs.Tables.{type_target}
 
 -- no rule fails at the next attribute, which reaches this entry, if any; those behind it are left
-pub record LinksNext (it : References) (head : Head) (left behind : List (ℕ × Datum)) (linked : ℕ × Option ℕ)
+pub record LinksNext (it : References) (head : EntryHead) (left behind : List (ℕ × Datum)) (linked : ℕ × Option ℕ)
     : Type 0 where
   pub value : Datum
   pub next : IsNextOf DoesNotLead left (linked.0, value) behind
@@ -31,7 +31,7 @@ pub record LinksNext (it : References) (head : Head) (left behind : List (ℕ ×
   pub is_reached : linked.1 ≡ reached_by it value
 
 -- a rule fails at the next attribute
-pub record FailsNext (Fails : Rules) (head : Head) (left : List (ℕ × Datum)) (broken : Broken) : Type 0 where
+pub record FailsNext (Fails : Rules) (head : EntryHead) (left : List (ℕ × Datum)) (broken : Broken) : Type 0 where
   pub attribute : ℕ
   pub value : Datum
   pub behind : List (ℕ × Datum)
@@ -41,7 +41,7 @@ pub record FailsNext (Fails : Rules) (head : Head) (left : List (ℕ × Datum)) 
   pub named : broken ≡ record { rule = rule; section = Info; at = head.offset; attribute = attribute }
 
 -- the rule is one on strings and addresses, or on references
-abbrev pub HasFailedNext : References → Head → (left : List (ℕ × Datum)) → Failed → Type 0
+abbrev pub HasFailedNext : References → EntryHead → (left : List (ℕ × Datum)) → Failed → Type 0
 HasFailedNext it head left (String broken) = FailsNext (FailsByTexts it.texts) head left broken
 HasFailedNext it head left (Reference broken) = FailsNext (FailsByTarget it) head left broken
 

@@ -3,7 +3,7 @@ use Rattle.std.specs.Prelude.{◌≡◌, ℕ, List, Some, slice_get}
 use Rattle.dw_elf.specs.declared.sections.Sections.{Sections}
 use Rattle.dw_forms.specs.Value.{Datum}
 use Rattle.dw_entries.specs.declared.rule.Rule.{Rule}
-use Rattle.dw_entries.specs.declared.lookup.Head.{Head}
+use Rattle.dw_entries.specs.declared.lookup.EntryHead.{EntryHead}
 use Rattle.dw_entries.specs.Header.{IsSize}
 use Rattle.dw_entries.specs.Entries.{Entry}
 use Rattle.dw_links.specs.declared.string_rules.StringEnds.{StringEnds}
@@ -23,7 +23,7 @@ pub record IsReady (texts : UnitTexts) : Type 0 where
   pub line_str_end : IsEndOfStrings texts.sections.line_str.now texts.ends.line_str
 
 -- the rules on strings and addresses, by what was read of the unit
-abbrev pub FailsByTexts : UnitTexts → Head → ℕ → Datum → Rule → Type 0
+abbrev pub FailsByTexts : UnitTexts → EntryHead → ℕ → Datum → Rule → Type 0
 FailsByTexts texts = StringFailsIn texts.sections texts.header (base_of texts.strings) (base_of texts.addresses)
 
 -- the ends of strings are those of .debug_str and .debug_line_str

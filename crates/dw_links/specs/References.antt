@@ -5,7 +5,7 @@ use Rattle.dw_forms.specs.Value.{Datum, flag, ref_info, ref_unit, ref_sig}
 use Rattle.dw_entries.specs.declared.rule.Rule.{Rule}
 use Rattle.dw_entries.specs.declared.rule.Rule.TheVariants.{NoEntry, WrongKind, NotNextSibling, NoSignature}
 use Rattle.dw_entries.specs.declared.rule.Rule.TheVariants.{SignatureTwice, BadTypeOffset}
-use Rattle.dw_entries.specs.declared.lookup.Head.{Head}
+use Rattle.dw_entries.specs.declared.lookup.EntryHead.{EntryHead}
 use Rattle.dw_entries.specs.Lookups.{value_at_entry}
 use Rattle.dw_entries.specs.Units.{DebugUnit}
 use Rattle.dw_entries.specs.Entries.{Entry, entries_of}
@@ -32,13 +32,13 @@ abbrev pub is_declared : Entry → Bool
 is_declared entry = is_true (value_at_entry entry DW_AT_declaration)
 
 -- a structure, union or enumeration with a signature
-abbrev pub is_signed : Head → ℕ → Bool
+abbrev pub is_signed : EntryHead → ℕ → Bool
 is_signed head attribute =
     attribute == DW_AT_signature
     && is_one_of (DW_TAG_structure_type ∷ DW_TAG_union_type ∷ DW_TAG_enumeration_type ∷ []) head.tag
 
 -- an attribute of the entry may reach the target
-abbrev pub permits : Head → ℕ → Entry → Bool
+abbrev pub permits : EntryHead → ℕ → Entry → Bool
 permits head attribute target =
     if attribute == DW_AT_type then is_type_tag target.head.decl.tag
     else (if attribute == DW_AT_specification then not (target.at == head.offset) && is_declared target
@@ -54,7 +54,7 @@ is_signature (ref_sig signature) = true
 is_signature _ = false
 
 -- a structure, union or enumeration is signed in form ref_sig8
-abbrev pub permits_form : Head → ℕ → Datum → Bool
+abbrev pub permits_form : EntryHead → ℕ → Datum → Bool
 permits_form head attribute v = if is_signed head attribute then is_signature v else true
 
 -- NoEntry: no entry is there, by an offset
@@ -62,7 +62,7 @@ abbrev pub NoEntryThere : Datum → (reached : Option ℕ) → Type 0
 NoEntryThere v reached = (is_signature v ≡ false) × (reached ≡ None)
 
 -- it reaches an entry that is not permitted
-pub record ReachesWrong (entries : List Entry) (head : Head) (attribute : ℕ) (reached : Option ℕ) : Type 0 where
+pub record ReachesWrong (entries : List Entry) (head : EntryHead) (attribute : ℕ) (reached : Option ℕ) : Type 0 where
   pub id : ℕ
   pub reaches : reached ≡ Some id
   pub target : Entry
@@ -70,7 +70,7 @@ pub record ReachesWrong (entries : List Entry) (head : Head) (attribute : ℕ) (
   pub wrong : permits head attribute target ≡ false
 
 -- WrongKind: its form or its target is not permitted
-abbrev pub IsWrongKind : List Entry → Head → ℕ → Datum → (reached : Option ℕ) → Type 0
+abbrev pub IsWrongKind : List Entry → EntryHead → ℕ → Datum → (reached : Option ℕ) → Type 0
 IsWrongKind entries head attribute v reached = (permits_form head attribute v ≡ false)
     ⊎ ReachesWrong entries head attribute reached
 
@@ -92,7 +92,7 @@ is_reference_value (ref_sig signature) = true
 is_reference_value _ = false
 
 -- the rules at an attribute of class reference
-abbrev pub ReferenceFailsBy : List Entry → List PlacedUnit → Head → ℕ → Datum → Rule → Type 0
+abbrev pub ReferenceFailsBy : List Entry → List PlacedUnit → EntryHead → ℕ → Datum → Rule → Type 0
 ReferenceFailsBy entries units head attribute v NoEntry = NoEntryThere v (reach_of entries units head.unit v)
 ReferenceFailsBy entries units head attribute v WrongKind =
     IsWrongKind entries head attribute v (reach_of entries units head.unit v)
@@ -102,7 +102,7 @@ ReferenceFailsBy entries units head attribute v NoSignature = NoSignatureThere u
 ReferenceFailsBy entries units head attribute v _ = ⊥
 
 -- the rules at an attribute of an entry; only values of class reference have any
-abbrev pub ReferenceFails : List Entry → List PlacedUnit → Head → ℕ → Datum → Rule → Type 0
+abbrev pub ReferenceFails : List Entry → List PlacedUnit → EntryHead → ℕ → Datum → Rule → Type 0
 ReferenceFails entries units head attribute v rule = (is_reference_value v ≡ true)
     × ReferenceFailsBy entries units head attribute v rule
 

@@ -5,7 +5,7 @@ use Rattle.dw_forms.specs.Value.{Datum, str, line_str, str_index, addr_index, se
 use Rattle.dw_entries.specs.declared.header.UnitHeader.{UnitHeader}
 use Rattle.dw_entries.specs.declared.rule.Rule.{Rule}
 use Rattle.dw_entries.specs.declared.rule.Rule.TheVariants.{BadStrBase, StrIndex, StringEnd, BadAddrBase, AddrIndex}
-use Rattle.dw_entries.specs.declared.lookup.Head.{Head}
+use Rattle.dw_entries.specs.declared.lookup.EntryHead.{EntryHead}
 use Rattle.dw_entries.specs.Header.{version_of}
 use Rattle.dw_entries.specs.Units.{DebugUnit}
 use Rattle.dw_entries.specs.Entries.{Entry, entries_of}
@@ -56,7 +56,7 @@ OffsetFails section offset StringEnd = Ends section offset → ⊥
 OffsetFails section offset _ = ⊥
 
 -- the rules at an attribute of a unit that has this header and these bases
-abbrev pub StringFailsIn : Sections → UnitHeader → (strings addresses : Option ℕ) → Head → ℕ → Datum → Rule → Type 0
+abbrev pub StringFailsIn : Sections → UnitHeader → (strings addresses : Option ℕ) → EntryHead → ℕ → Datum → Rule → Type 0
 StringFailsIn sections header strings addresses head attribute (str offset) rule =
     OffsetFails sections.str.now offset rule
 StringFailsIn sections header strings addresses head attribute (line_str offset) rule =
@@ -70,7 +70,7 @@ StringFailsIn sections header strings addresses head attribute (sec_offset base)
 StringFailsIn sections header strings addresses head attribute _ rule = ⊥
 
 -- the rules at an attribute of an entry
-pub record StringFails (sections : Sections) (entries : List Entry) (units : List PlacedUnit) (head : Head)
+pub record StringFails (sections : Sections) (entries : List Entry) (units : List PlacedUnit) (head : EntryHead)
     (attribute : ℕ) (v : Datum) (rule : Rule) : Type 0 where
   pub unit : PlacedUnit
   pub in_unit : slice_get units head.unit ≡ Some unit

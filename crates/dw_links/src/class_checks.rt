@@ -11,7 +11,7 @@ ghost use Rattle.dw_links.specs.Concerns.{AtHead, Passes, AllPass, PassesAt, Fai
 
 use crate::class::{class_of_form, class_of_value, is_allowed, is_allowed_in};
 use crate::faults::{broken_at, fault_of};
-use dw_entries::{Broken, Choice, Entries, EntryAt, Fault, Head, Rule};
+use dw_entries::{Broken, Choice, Entries, EntryAt, Fault, EntryHead, Rule};
 use dw_forms::{Attribute, AttributeSpec, Value};
 use std::alloc::Global;
 
@@ -52,7 +52,7 @@ fn leave_open(entries: &Entries<'_>) -> bool
 /// The rule on classes, if it fails at an attribute.
 fn ask_class(
     entries: &Entries<'_>,
-    head: &Head,
+    head: &EntryHead,
     attribute: Attribute,
     value: &Value<'_>,
 ) -> Option<Rule>

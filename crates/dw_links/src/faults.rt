@@ -4,7 +4,7 @@ ghost use Rattle.std.specs.Prelude.{◌≡◌, []};
 ghost use Rattle.dw_entries.specs.declared.fault.Section.TheVariants.{Info};
 ghost use Rattle.dw_entries.specs.Failures.{broken_of};
 
-use dw_entries::{Broken, Fault, Head, Rule, Section};
+use dw_entries::{Broken, Fault, EntryHead, Rule, Section};
 use dw_forms::Attribute;
 use std::alloc::Global;
 
@@ -23,7 +23,7 @@ pub fn fault_of(alloc: Global, broken: Broken) -> Fault
 }
 
 /// A rule that fails at an attribute of an entry.
-pub fn broken_at(head: &Head, attribute: Attribute, rule: Rule) -> Broken
+pub fn broken_at(head: &EntryHead, attribute: Attribute, rule: Rule) -> Broken
     ensures { result ≡ record { rule = rule; section = Info; at = head.now.offset; attribute = attribute } }
 {
     Broken {

@@ -41,7 +41,7 @@ fn find_type(entries: &Entries<'_>, number: usize, type_offset: u32) -> Option<E
     let Some(id) = entries.find_in_unit(number, type_offset as u64) else {
         return None;
     };
-    if entries.head(id).tag.is_type() {
+    if entries.tag(id).is_type() {
         return Some(id);
     }
     None

@@ -9,7 +9,7 @@ ghost use Rattle.dw_links.specs.References.{is_signed, is_signature, is_referenc
 
 use crate::declared_entries::DeclaredEntries;
 use dw_entries::constants::*;
-use dw_entries::{Cursor, EntryAt, EntryId, Head};
+use dw_entries::{Cursor, EntryAt, EntryId, EntryHead};
 use dw_forms::{Attribute, Value};
 
 /// Whether a value is a reference.
@@ -33,7 +33,7 @@ pub fn is_sig8(value: &Value<'_>) -> bool
 
 /// Whether an attribute is the signature of a structure, union or enumeration.
 #[inline(always)]
-fn is_signed_by(head: &Head, attribute: Attribute) -> bool
+fn is_signed_by(head: &EntryHead, attribute: Attribute) -> bool
     ensures { result ≡ is_signed head.now attribute }
 {
     attribute == DW_AT_signature
@@ -45,7 +45,7 @@ fn is_signed_by(head: &Head, attribute: Attribute) -> bool
 
 /// Whether an attribute of an entry may have a value of this form.
 #[inline(always)]
-pub fn is_permitted_form(head: &Head, attribute: Attribute, value: &Value<'_>) -> bool
+pub fn is_permitted_form(head: &EntryHead, attribute: Attribute, value: &Value<'_>) -> bool
     ensures { result ≡ permits_form head.now attribute (view value.now) }
 {
     !is_signed_by(head, attribute) || matches!(value, Value::RefSig(_))
@@ -69,7 +69,7 @@ fn entry_at<'e, 'a>(cursor: &Cursor<'e, 'a>, id: EntryId) -> EntryAt<'e, 'a>
 pub fn is_permitted(
     cursor: &Cursor<'_, '_>,
     declared: &mut DeclaredEntries,
-    head: &Head,
+    head: &EntryHead,
     attribute: Attribute,
     id: EntryId,
 ) -> bool

@@ -26,7 +26,7 @@ use crate::references::References;
 use crate::string_checks::{check_strings, keep_texts, read_texts};
 use crate::string_rules::string_ends;
 use dw_entries::constants::*;
-use dw_entries::{Broken, Entries, EntryAt, EntryId, Head, Hints, Leading, OptionalId, Rule, Stop};
+use dw_entries::{Broken, Entries, EntryAt, EntryId, EntryHead, Hints, Leading, OptionalId, Rule, Stop};
 use dw_forms::{Attribute, Form, Value};
 use std::alloc::Global;
 use std::collections::BTreeMap;
@@ -70,7 +70,7 @@ impl References<'_, '_, '_> {
     fn link_value(
         &self,
         declared: &mut DeclaredEntries,
-        head: &Head,
+        head: &EntryHead,
         attribute: Attribute,
         value: &Value<'_>,
     ) -> Result<OptionalId, Rule>
@@ -95,7 +95,7 @@ impl References<'_, '_, '_> {
     fn link_in(
         &self,
         declared: &mut DeclaredEntries,
-        head: &Head,
+        head: &EntryHead,
         leading: &mut Leading<'_, '_>,
         form: Form,
     ) -> Result<(Attribute, OptionalId), Failed>
@@ -121,7 +121,7 @@ impl References<'_, '_, '_> {
     fn link_next(
         &self,
         declared: &mut DeclaredEntries,
-        head: &Head,
+        head: &EntryHead,
         leading: &mut Leading<'_, '_>,
         form: Form,
     ) -> Result<(Attribute, OptionalId), Failed>

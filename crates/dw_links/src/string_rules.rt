@@ -9,7 +9,7 @@ ghost use Rattle.dw_entries.specs.Failures.{IsLeast};
 use crate::contribution::{Contribution, end_of_strings, number, read_contribution};
 use dw_elf::Sections;
 use dw_entries::constants::*;
-use dw_entries::{Attribute, Head, Rule, UnitHeader, Value};
+use dw_entries::{Attribute, EntryHead, Rule, UnitHeader, Value};
 
 /// Where the strings of the two sections end.
 #[derive(Clone, Copy)]
@@ -128,7 +128,7 @@ impl UnitTexts<'_> {
 
     /// The rule on strings and addresses that fails at an attribute.
     #[inline(always)]
-    pub fn ask(&self, head: &Head, attribute: Attribute, value: &Value<'_>) -> Option<Rule>
+    pub fn ask(&self, head: &EntryHead, attribute: Attribute, value: &Value<'_>) -> Option<Rule>
         requires { IsReady self.now }
         ensures { IsLeast (FailsByTexts self.now head.now attribute (view value.now)) result }
     {

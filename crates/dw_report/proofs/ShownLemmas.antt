@@ -4,21 +4,20 @@ use Rattle.std.specs.Prelude.{slice_get}
 use Rattle.std.specs.List.{enumerate_from, flat_map}
 use Rattle.dw_entries.specs.declared.lookup.Head.{Head}
 use Rattle.dw_entries.specs.Entries.{Entry}
-use Rattle.dw_entries.specs.Lookups.{entry_head}
+use Rattle.dw_entries.specs.Lookups.{full_head}
 use Rattle.dw_image.specs.declared.image.Image.{Image}
 use Rattle.dw_image.specs.Images.{name_in}
 use Rattle.dw_image.proofs.LookupLemmas.{slice_get_none}
 use Rattle.dw_report.specs.Shown.{shown_line, shown_size, entry_line}
 
 -- what the look-ups of an entry tell makes its line
-pub entry_line_told : (i : Image) (number : ℕ) (found : Option Entry) (head : Head) (depth : ℕ) (name : Option (List ℕ)) (size : Option ℕ)
-    (old new : List ℕ) → IfSome found (λ e. head ≡ entry_head e) → IfSome found (λ e. depth ≡ e.depth) → IfSome found (λ e. name ≡ name_in i e) → IfSome found (λ e. size ≡ shown_size i number e)
-    → new ≡ old ++ shown_line head.offset depth head.tag name size → IfSome found (λ e. new ≡ old ++ entry_line i (number, e))
+pub entry_line_told : (i : Image) (number : ℕ) (found : Option Entry) (head : Head) (name : Option (List ℕ)) (size : Option ℕ)
+    (old new : List ℕ) → IfSome found (λ e. head ≡ full_head e) → IfSome found (λ e. name ≡ name_in i e) → IfSome found (λ e. size ≡ shown_size i number e)
+    → new ≡ old ++ shown_line head.offset head.depth head.tag name size → IfSome found (λ e. new ≡ old ++ entry_line i (number, e))
 unfolding entry_line
-entry_line_told i number None head depth name size old new is_head is_depth is_name is_size is = tt
-entry_line_told i number (Some e) head depth name size old new is_head is_depth is_name is_size is =
-    is ∙ ap (λ (h : Head). old ++ shown_line h.offset depth h.tag name size) is_head
-    ∙ ap (λ d. old ++ shown_line e.at d e.head.decl.tag name size) is_depth
+entry_line_told i number None head name size old new is_head is_name is_size is = tt
+entry_line_told i number (Some e) head name size old new is_head is_name is_size is =
+    is ∙ ap (λ (h : Head). old ++ shown_line h.offset h.depth h.tag name size) is_head
     ∙ ap (λ n. old ++ shown_line e.at e.depth e.head.decl.tag n size) is_name
     ∙ ap (λ s. old ++ shown_line e.at e.depth e.head.decl.tag (name_in i e) s) is_size
 

@@ -100,19 +100,18 @@ fn put_size(text: &mut Vec<u8>, size: Option<u64>) -> Result<(), AllocError>
     put_decimal(text, size)
 }
 
-/// An entry's line: its head, its depth, its name and its size.
+/// An entry's line: its head, its name and its size.
 #[tactic(auto, unfolding(crate::specs::Shown::shown_line))]
 fn put_shown_line(
     text: &mut Vec<u8>,
     head: Head,
-    depth: usize,
     name: Option<&[u8]>,
     size: Option<u64>,
 ) -> Result<(), AllocError>
     ensures ok { OnOk result (text.new.items
-        ≡ text.old.items ++ shown_line head.offset depth head.tag (option_copied name.entry) size) }
+        ≡ text.old.items ++ shown_line head.offset head.depth head.tag (option_copied name.entry) size) }
 {
-    put_entry_part(text, head.offset, depth, head.tag.0)?;
+    put_entry_part(text, head.offset, head.depth, head.tag.0)?;
     put_name(text, name)?;
     put_size(text, size)?;
     text.extend_from_slice(b"\n")
@@ -137,10 +136,9 @@ fn put_entry_line(text: &mut Vec<u8>, image: &Image<'_>, id: EntryId) -> Result<
         text.new.items ≡ text.old.items ++ entry_line image.now (id, e))) }
 {
     let head = image.head(id);
-    let depth = image.depth(id);
     let name = image.name_of(id);
     let size = size_of_entry(image, id);
-    put_shown_line(text, head, depth, name, size)
+    put_shown_line(text, head, name, size)
 }
 
 /// The line of the entry with a number.

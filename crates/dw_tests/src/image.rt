@@ -169,7 +169,7 @@ fn row_of<'a>(image: &Image<'a>, offset: u32) -> Option<Row<'a>> {
         number_of(image.step(id, 0)),
         number_of(image.step(id, 1)),
     ];
-    let (depth, name, count) = (image.depth(id), image.name_of(id), image.count_of(id));
+    let (depth, name, count) = (head.depth, image.name_of(id), image.count_of(id));
     Some((
         head.offset,
         head.tag,

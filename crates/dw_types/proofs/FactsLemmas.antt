@@ -5,7 +5,7 @@ use Rattle.std.proofs.lemmas.List.{get_or_past, length-map}
 use Rattle.std.proofs.lemmas.Option.{get_or_from_slice_get, slice_get-map, slice_get_cases, IfSome_then}
 use Rattle.dw_forms.specs.Codes.{is_type_tag}
 use Rattle.dw_entries.specs.Entries.{Entry, PlacedUnit, entries_of, placed}
-use Rattle.dw_entries.specs.declared.lookup.Head.{Head}
+use Rattle.dw_entries.specs.declared.lookup.EntryHead.{EntryHead}
 use Rattle.dw_entries.specs.Lookups.{entry_head}
 use Rattle.dw_entries.specs.Units.{AreUnits, DebugUnit}
 use Rattle.dw_entries.proofs.EntryFacts.{entries_rise}
@@ -138,13 +138,13 @@ module _ (us : List DebugUnit) (facts : List Facts) (same : facts_in us ≡ fact
         rw (← same, ← here, facts-get (entries_of us) (placed us) id there.0 there.2) at
   ]
 
-  pub tag-known : (head : Head) (id node : ℕ) → id ≡ node → node < length facts → IfSome (slice_get (entries_of us) id) (λ e. head ≡ entry_head e) → head.tag ≡ (entry_of facts node).tag
+  pub tag-known : (head : EntryHead) (id node : ℕ) → id ≡ node → node < length facts → IfSome (slice_get (entries_of us) id) (λ e. head ≡ entry_head e) → head.tag ≡ (entry_of facts node).tag
   tag-known head id node here below is =
-      known (λ x. head.tag ≡ x.tag) id node here below (IfSome_then (slice_get (entries_of us) id) is (λ e h. ap (λ (x : Head). x.tag) h ∙ sym (facts-tag (entries_of us) (placed us) e)))
+      known (λ x. head.tag ≡ x.tag) id node here below (IfSome_then (slice_get (entries_of us) id) is (λ e h. ap (λ (x : EntryHead). x.tag) h ∙ sym (facts-tag (entries_of us) (placed us) e)))
 
-  pub parent-known : (head : Head) (id node : ℕ) → id ≡ node → node < length facts → IfSome (slice_get (entries_of us) id) (λ e. head ≡ entry_head e) → head.parent ≡ (entry_of facts node).parent
+  pub parent-known : (head : EntryHead) (id node : ℕ) → id ≡ node → node < length facts → IfSome (slice_get (entries_of us) id) (λ e. head ≡ entry_head e) → head.parent ≡ (entry_of facts node).parent
   parent-known head id node here below is =
-      known (λ x. head.parent ≡ x.parent) id node here below (IfSome_then (slice_get (entries_of us) id) is (λ e h. ap (λ (x : Head). x.parent) h ∙ sym (facts-parent (entries_of us) (placed us) e)))
+      known (λ x. head.parent ≡ x.parent) id node here below (IfSome_then (slice_get (entries_of us) id) is (λ e h. ap (λ (x : EntryHead). x.parent) h ∙ sym (facts-parent (entries_of us) (placed us) e)))
 
   pub type-known : (is : Bool) (id node : ℕ) → id ≡ node → node < length facts → IfSome (slice_get (entries_of us) id) (λ e. is ≡ is_type_tag e.head.decl.tag) → is ≡ is_type_tag (entry_of facts node).tag
   type-known is id node here below same =

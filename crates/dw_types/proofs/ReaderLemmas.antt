@@ -3,7 +3,7 @@ use Rattle.std.proofs.Common.{◌≡◌, ℕ, ◌<◌, Bool, true, false, if◌t
 use Rattle.std.specs.Prelude.{slice_get}
 use Rattle.std.proofs.lemmas.Option.{IfSome_then, slice_get_cases}
 use Rattle.dw_forms.specs.Codes.{DW_AT_abstract_origin, DW_AT_bit_size, DW_AT_bit_stride, DW_AT_byte_size, DW_AT_byte_stride, DW_AT_count, DW_AT_data_bit_offset, DW_AT_data_member_location, DW_AT_lower_bound, DW_AT_signature, DW_AT_specification, DW_AT_type, DW_AT_upper_bound}
-use Rattle.dw_entries.specs.declared.lookup.Head.{Head}
+use Rattle.dw_entries.specs.declared.lookup.EntryHead.{EntryHead}
 use Rattle.dw_entries.specs.Entries.{Entry, PlacedUnit, entries_of, placed}
 use Rattle.dw_entries.specs.Lookups.{entry_head}
 use Rattle.dw_entries.specs.Units.{DebugUnit}
@@ -87,7 +87,7 @@ unfolding facts_at facts_read facts_unread
 declared-is entries units e = by-asked (λ (facts : Facts). facts.declared) (is_type_or_member e.head.decl.tag) (facts_read entries units e) (facts_unread e)
 
 -- what is read of the entry with a number is its fact
-module _ (us : List DebugUnit) (id : ℕ) (head : Head) (below : id < length (entries_of us)) (is_head : IfSome (slice_get (entries_of us) id) (λ e. head ≡ entry_head e)) where
+module _ (us : List DebugUnit) (id : ℕ) (head : EntryHead) (below : id < length (entries_of us)) (is_head : IfSome (slice_get (entries_of us) id) (λ e. head ≡ entry_head e)) where
   -- what holds of the facts of the entry that stands there
   pub of-entry : (P : Facts → Type 0) → ((e : Entry) → slice_get (entries_of us) id ≡ Some e → head ≡ entry_head e → P (facts_at (entries_of us) (placed us) e)) → P (entry_of (facts_in us) id)
   of-entry P holds = elim (slice_get_cases (entries_of us) id).1 [
@@ -101,7 +101,7 @@ module _ (us : List DebugUnit) (id : ℕ) (head : Head) (below : id < length (en
       (is : (e : Entry) → fact (facts_at (entries_of us) (placed us) e) ≡ (if is_type_or_member e.head.decl.tag then read e else none)) where
     pub fact-asked : (found : X) → is_type_or_member head.tag ≡ true → IfSome (slice_get (entries_of us) id) (λ e. found ≡ read e) → found ≡ fact (entry_of (facts_in us) id)
     fact-asked found asked known = of-entry (λ facts. found ≡ fact facts) (λ e at same.
-        let tag : is_type_or_member e.head.decl.tag ≡ true = ap (λ (h : Head). is_type_or_member h.tag) (sym same) ∙ asked in
+        let tag : is_type_or_member e.head.decl.tag ≡ true = ap (λ (h : EntryHead). is_type_or_member h.tag) (sym same) ∙ asked in
         let here : found ≡ read e = rw at at known in
         here ∙ sym (is e ∙ ap (λ (b : Bool). if b then read e else none) tag))
 

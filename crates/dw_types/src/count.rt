@@ -16,7 +16,7 @@ use crate::facts_at::FactsAt;
 use crate::kind::Role;
 use crate::unit_facts::{UnitFacts, unit_at};
 use dw_entries::constants::*;
-use dw_entries::{Entries, EntryId, Head};
+use dw_entries::{Entries, EntryId, EntryHead};
 
 impl Constant {
     /// Whether bounds are read in a unit of this language. This project's choice: they are where no
@@ -143,14 +143,14 @@ fn is_in_array(entries: &Entries<'_>, parent: Option<EntryId>) -> bool
     ensures { result ≡ is_dimensions (role_in (facts_in (units_of entries.now.scanned)) parent) }
 {
     match parent {
-        Some(id) => is_array_tag(entries.head(id).tag),
+        Some(id) => is_array_tag(entries.tag(id)),
         None => false,
     }
 }
 
 /// Whether an entry, of which this is told, is a dimension: a subrange that is a child of an array.
 #[inline(always)]
-fn is_dimension(entries: &Entries<'_>, id: EntryId, head: &Head) -> bool
+fn is_dimension(entries: &Entries<'_>, id: EntryId, head: &EntryHead) -> bool
     requires id { id < length (all_entries entries.now.scanned) }
     requires head { IfSome (slice_get (all_entries entries.now.scanned) id) (λ e. head.now ≡ entry_head e) }
     ensures { result ≡ is_dimension (parent_role (facts_in (units_of entries.now.scanned)) id)
@@ -165,7 +165,7 @@ pub fn count_at(entries: &Entries<'_>, units: &[UnitFacts], id: EntryId) -> Opti
     requires units { units.now ≡ all_unit_facts (units_of entries.now.scanned) }
     ensures { result ≡ count_at (facts_in (units_of entries.now.scanned)) id }
 {
-    let head = entries.head(id);
+    let head = entries.at(id).head();
     if !is_dimension(entries, id, &head) {
         return None;
     }

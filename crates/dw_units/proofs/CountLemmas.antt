@@ -11,7 +11,7 @@ use Rattle.dw_forms.specs.Codes.{DW_AT_str_offsets_base, DW_AT_addr_base}
 use Rattle.dw_entries.specs.declared.header.UnitHeader.{UnitHeader}
 use Rattle.dw_entries.specs.declared.rule.Rule.{Rule}
 use Rattle.dw_entries.specs.declared.rule.Rule.TheVariants.{BadStrBase, StrIndex, StringEnd, BadAddrBase, AddrIndex}
-use Rattle.dw_entries.specs.declared.lookup.Head.{Head}
+use Rattle.dw_entries.specs.declared.lookup.EntryHead.{EntryHead}
 use Rattle.dw_entries.specs.Units.{DebugUnit, IsUnit, unit_bytes, units_bytes}
 use Rattle.dw_entries.specs.Header.{header_size}
 use Rattle.dw_entries.specs.Entries.{Entry, node_count, node_entries, entries_from, entries_of, PlacedUnit, placed}
@@ -111,7 +111,7 @@ module _ (s own : Sections) (shares : Shares s own) where
   base_in_own header attribute base rule (inr (is, only, never)) =
       inr (is, only, λ yes. never (subst (λ (l : List ℕ). IsContribution l header.address_size header.address_size base) shares.addr_same yes))
 
-  string_in_own : (header : UnitHeader) (strings addresses : Option ℕ) (head : Head) (attribute : ℕ) (v : Datum) (rule : Rule)
+  string_in_own : (header : UnitHeader) (strings addresses : Option ℕ) (head : EntryHead) (attribute : ℕ) (v : Datum) (rule : Rule)
       → StringFailsIn s header strings addresses head attribute v rule → StringFailsIn own header strings addresses head attribute v rule
   string_in_own header strings addresses head attribute (str offset) rule fails = subst (λ (l : List ℕ). OffsetFails l offset rule) (sym shares.str_same) fails
   string_in_own header strings addresses head attribute (line_str offset) rule fails = subst (λ (l : List ℕ). OffsetFails l offset rule) (sym shares.line_str_same) fails

@@ -5,9 +5,7 @@ use Rattle.std.specs.List.{enumerate_from}
 use Rattle.std.proofs.lemmas.List.{length-map, length-take-le, take_at}
 use Rattle.std.proofs.lemmas.List.FromFn.{length-enumerate_from}
 use Rattle.std.proofs.Math.Seq.{take_all}
-use Rattle.dw_entries.specs.declared.lookup.Head.{Head}
 use Rattle.dw_entries.specs.Entries.{Entry}
-use Rattle.dw_entries.specs.Lookups.{entry_head}
 use Rattle.dw_entries.proofs.DepthLaws.{no_depth, one_deeper}
 use Rattle.dw_image.specs.declared.image.Image.{Image}
 use Rattle.dw_image.specs.Images.{entries_in, entry_count, units_in}
@@ -80,15 +78,15 @@ depth_told i k e rows d is so_far told = go e.parent refl told
         omega (arith, one, depth, deeper)
 
 -- what the look-ups of an entry tell makes its row
-pub row_told : (i : Image) (k : ℕ) (rows : List EntryRow) (found : Option Entry) (head : Head) (d : ℕ)
+pub row_told : (i : Image) (k : ℕ) (rows : List EntryRow) (found : Option Entry) (offset tag : ℕ) (above : Option ℕ) (d : ℕ)
     (size : Option ℕ) (r : EntryRow) → slice_get (entries_in i) k ≡ found → HasRows i k rows
-    → IfSome found (λ e. head ≡ entry_head e) → depth_under rows head.parent ≡ Some d
-    → IfSome found (λ e. size ≡ entry_size i k e) → r ≡ row head.offset d head.tag size
+    → IfSome found (λ e. offset ≡ e.at) → IfSome found (λ e. tag ≡ e.head.decl.tag) → IfSome found (λ e. above ≡ e.parent)
+    → depth_under rows above ≡ Some d → IfSome found (λ e. size ≡ entry_size i k e) → r ≡ row offset d tag size
     → IfSome found (λ e. r ≡ row_of i (k, e))
-row_told i k rows None head d size r at so_far is_head is_depth is_size is = tt
-row_told i k rows (Some e) head d size r at so_far is_head is_depth is_size is =
-    let told = depth_told i k e rows d at so_far (ap (λ (h : Head). depth_under rows h.parent) (sym is_head) ∙ is_depth) in
-    is ∙ ap (λ (h : Head). row h.offset d h.tag size) is_head
+row_told i k rows None offset tag above d size r at so_far is_offset is_tag is_above is_depth is_size is = tt
+row_told i k rows (Some e) offset tag above d size r at so_far is_offset is_tag is_above is_depth is_size is =
+    let told = depth_told i k e rows d at so_far (ap (depth_under rows) (sym is_above) ∙ is_depth) in
+    is ∙ ap (λ n. row n d tag size) is_offset ∙ ap (λ n. row e.at d n size) is_tag
     ∙ ap (λ n. row e.at n e.head.decl.tag size) told
     ∙ ap (λ s. row e.at (min e.depth greatest) e.head.decl.tag s) is_size
 
@@ -127,13 +125,13 @@ all_rows i n rows old within past is =
     ∙ ap (λ m. rows_of i ++ drop m old) same
 
 -- a parent has an earlier number
-pub parent_before : (i : Image) (k : ℕ) (room : ℕ) (found : Option Entry) (head : Head) → k ≤ room
-    → slice_get (entries_in i) k ≡ found → k < entry_count i → IfSome found (λ e. head ≡ entry_head e)
-    → IfSome head.parent (λ p. p < room)
-parent_before i k room None head le at within is = absurd (omega (arith, within, slice_get_none (entries_in i) k at))
-parent_before i k room (Some e) head le at within is = go e.parent refl
+pub parent_before : (i : Image) (k : ℕ) (room : ℕ) (found : Option Entry) (parent : Option ℕ) → k ≤ room
+    → slice_get (entries_in i) k ≡ found → k < entry_count i → IfSome found (λ e. parent ≡ e.parent)
+    → IfSome parent (λ p. p < room)
+parent_before i k room None parent le at within is = absurd (omega (arith, within, slice_get_none (entries_in i) k at))
+parent_before i k room (Some e) parent le at within is = go e.parent refl
   where
-    go : (above : Option ℕ) → e.parent ≡ above → IfSome head.parent (λ p. p < room)
+    go : (above : Option ℕ) → e.parent ≡ above → IfSome parent (λ p. p < room)
     go None top = rw (is, top) tt
     go (Some p) under =
         let (above, there, deeper, less) = one_deeper (units_in i) k p e at under in

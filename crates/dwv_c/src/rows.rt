@@ -8,7 +8,7 @@ ghost use Rattle.dwv_c.specs.Verdicts.{of_image};
 
 use crate::statuses::{SOUND, TOO_SHORT};
 use crate::verdict::{Verdict, verdict_of_image};
-use dw_image::{EntryId, Head, Image};
+use dw_image::{EntryId, Image, Tag};
 
 /// An entry of a sound file.
 #[repr(C)]
@@ -49,11 +49,10 @@ fn depth_by_rows(rows: &[EntryRow], parent: Option<EntryId>) -> u32
 }
 
 /// The row of what is known of an entry.
-fn row_with(head: Head, depth: u32, size: Option<u64>) -> EntryRow
-    ensures { result ≡ row head.offset depth head.tag size }
+fn row_with(offset: u32, depth: u32, tag: Tag, size: Option<u64>) -> EntryRow
+    ensures { result ≡ row offset depth tag size }
 {
-    let offset = head.offset;
-    let tag = u32::from(head.tag.0);
+    let tag = u32::from(tag.0);
     let (size, has_size) = match size {
         Some(size) => (size, 1),
         None => (0, 0),
@@ -74,10 +73,9 @@ fn row_at(rows: &[EntryRow], image: &Image<'_>, id: EntryId) -> EntryRow
     requires before { HasRows image.now id rows.now }
     ensures { IfSome (slice_get (entries_in image.now) id) (λ e. result ≡ row_of image.now (id, e)) }
 {
-    let head = image.head(id);
-    let depth = depth_by_rows(rows, head.parent);
+    let depth = depth_by_rows(rows, image.parent(id));
     let size = size_of_entry(image, id);
-    row_with(head, depth, size)
+    row_with(image.offset(id), depth, image.tag(id), size)
 }
 
 /// Writes the row of the entry with a number, after the rows of all entries before it.

@@ -5,4 +5,4 @@ use Rattle.dw_cprint.proofs.look_ups.tag_at.Goals as goal
 
 pub returns : goal.returns
 unfolding tag_at
-returns c = tag_there (entries_in c.args.image.now) c.args.id c.head.result c.requires c.head.ensures
+returns c = tag_there (entries_in c.args.image.now) c.args.id c.tag.result c.requires c.tag.ensures

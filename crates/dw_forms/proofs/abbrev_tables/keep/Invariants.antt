@@ -6,7 +6,7 @@ use Rattle.dw_forms.proofs.abbrev_tables.keep.Given as goal
 
 abbrev pub invariant-loop-start : goal.invariant-loop-start
 invariant-loop-start l = record {
-  kept : AreKept l.maps.nodes.items l.kept.items;
+  kept : AreKept l.branches.items l.kept.items;
   starts : AreStarts l.section (tables_of l.kept.items) l.starts;
   few : AreFew l.section l.kept.items l.starts;
   new : AreNew l.starts l.decls.items;

@@ -1,5 +1,4 @@
-use Rattle.std.proofs.Common.{rules, ◌≡◌, ◌+◌, ℕ, suc, length, arith, refl, subst}
-use Rattle.dw_forms.specs.CodeMaps.{Puts}
+use Rattle.std.proofs.Common.{rules, ◌≡◌, ◌+◌, length, arith, refl}
 use Rattle.dw_forms.specs.KeptDecls.{numbered_in, tables_of}
 use Rattle.dw_forms.proofs.KeptLaws.{none_has, some_has, are_numbered, tables_long, tables_more, kept_more}
 use Rattle.dw_forms.proofs.abbrev_tables.push.Goals as goal
@@ -12,13 +11,13 @@ returns-then-find_in-ne0-clause-added c =
 
 pub returns-clause-kept : goal.returns-clause-kept
 returns-clause-kept c =
-    let number : c.len.result + 1 ≡ suc (length c.args.kept.now.items) = omega (arith, c.len.ensures) in
-    rw c.in_ok-push.ensures.items
-    (kept_more c.args.maps.now.nodes.items c.insert.new.self.nodes.items c.args.kept.now.items _ c.requires.kept c.in_ok-codes.ensures.stay
-    c.codes_of-codes.result (search rules) (rw c.deref-2.ensures.value at c.run_before-run.ensures.short)
-    (rw c.deref-2.ensures.value at c.run_before-run.ensures.run) (rw c.deref-3.ensures.value at c.codes_of-codes.ensures)
-    (subst (λ (n : ℕ). Puts c.args.maps.now.nodes.items c.insert.new.self.nodes.items c.codes_of-codes.result c.args.decl.code n c.in_ok-codes.codes) number c.in_ok-codes.ensures.puts)
-    c.in_ok-codes.ensures.nodes)
+    let start : c.len-start.result ≡ length c.args.branches.now.items = search rules in
+    let kept = c.in_ok-branch_count.ensures.kept in
+    let below = c.in_ok-branch_count.ensures.below in
+    let branches = c.in_ok-branch_count.ensures.branches in
+    rw (c.in_ok-push.ensures.items, start)
+    (kept_more c.push_branches.new.branches.items c.args.kept.now.items _ (rw c.deref-5.ensures.value at kept) (search rules) (rw c.deref-3.ensures.value at c.run_before-run.ensures.run)
+    (rw c.deref-5.ensures.value at below) (rw c.deref-5.ensures.value at branches))
 
 pub returns-clause-added : goal.returns-clause-added
 returns-clause-added c =

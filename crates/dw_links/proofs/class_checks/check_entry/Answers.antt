@@ -2,7 +2,7 @@ use Rattle.std.proofs.Common.{◌≡◌, List, Some, None, ap, ◌∙◌, subst}
 use Rattle.dw_forms.specs.declared.decl.AttributeSpec.{AttributeSpec}
 use Rattle.dw_forms.specs.Value.{view}
 use Rattle.dw_entries.specs.declared.fault.Section.TheVariants.{Info}
-use Rattle.dw_entries.specs.declared.lookup.Head.{Head}
+use Rattle.dw_entries.specs.declared.lookup.EntryHead.{EntryHead}
 use Rattle.dw_entries.specs.Asked.{values_of}
 use Rattle.dw_entries.specs.Entries.{PlacedUnit, placed}
 use Rattle.dw_entries.specs.Failures.{IsLeast}
@@ -32,15 +32,15 @@ pub returns-in-Some-ask_class-clause-err : goal.returns-in-Some-ask_class-clause
 returns-in-Some-ask_class-clause-err c = λ e is.
     let us = placed (units_of c.args.entries.now.scanned) in
     let head : c.head-head.result ≡ entry_head e = rw is at c.head-head.ensures in
-    let P : Head → Type 0 = λ h. IsLeast (ClassFails us h c.in-Some.item.0 (view c.in-Some.item.1)) (Some c.in-Some-ask_class.rule) in
+    let P : EntryHead → Type 0 = λ h. IsLeast (ClassFails us h c.in-Some.item.0 (view c.in-Some.item.1)) (Some c.in-Some-ask_class.rule) in
     checked_fails (ClassFails us) Closed (λ spec closed. closed us) e (values_left c.loop-item.values) (values_left c.next_by.new.self) c.in-Some.item.0 (view c.in-Some.item.1) (c.loop-item.invariant e is) c.in-Some.ensures.some c.in-Some-ask_class.rule c.broken_at.result
-    (subst P head c.in-Some-ask_class.ensures) (c.broken_at.ensures ∙ ap (λ (h : Head). record { rule = c.in-Some-ask_class.rule; section = Info; at = h.offset; attribute = c.in-Some.item.0 }) head)
+    (subst P head c.in-Some-ask_class.ensures) (c.broken_at.ensures ∙ ap (λ (h : EntryHead). record { rule = c.in-Some-ask_class.rule; section = Info; at = h.offset; attribute = c.in-Some.item.0 }) head)
 
 pub loop-item-preserved : goal.loop-item-preserved
 loop-item-preserved c = λ e is.
     let us = placed (units_of c.args.entries.now.scanned) in
     let head : c.head-head.result ≡ entry_head e = rw is at c.head-head.ensures in
-    let P : Head → Type 0 = λ h. IsLeast (ClassFails us h c.in-Some.item.0 (view c.in-Some.item.1)) None in
+    let P : EntryHead → Type 0 = λ h. IsLeast (ClassFails us h c.in-Some.item.0 (view c.in-Some.item.1)) None in
     checked_more (ClassFails us) Closed (λ spec closed. closed us) e (values_left c.loop-item.values) (values_left c.next_by.new.self) c.in-Some.item.0 (view c.in-Some.item.1) (c.loop-item.invariant e is) c.in-Some.ensures.some (subst P head c.in_default-ask_class.ensures)
 
 pub loop-item-smaller : goal.loop-item-smaller

@@ -1,9 +1,7 @@
 use Rattle.std.proofs.Common.{◌≡◌, ◌+◌, ◌∙◌, ap, sym, arith}
 use Rattle.std.proofs.lemmas.Option.{slice_get_within}
-use Rattle.dw_entries.specs.declared.lookup.Head.{Head}
 use Rattle.dw_entries.specs.Entries.{entries_of, placed}
 use Rattle.dw_entries.specs.Scanned.{units_of}
-use Rattle.dw_entries.specs.Lookups.{entry_head}
 use Rattle.dw_entries.proofs.EntryFacts.{entries_rise}
 use Rattle.dw_forms.specs.Codes.{is_type_tag}
 use Rattle.dw_links.proofs.Reached.{in_unit, in_place}
@@ -16,8 +14,8 @@ returns-in_default-clause-none c = λ p is has.
     c.in_default.ensures.none has.id
     (in_unit (entries_of us) (placed us) c.args.number c.args.type_offset (p.at + c.args.type_offset) has.id p is (let e : p.at + c.args.type_offset ≡ c.args.type_offset + p.at = omega arith in e) has.is_type)
 
-pub head-requires : goal.head-requires
-head-requires c =
+pub tag-requires : goal.tag-requires
+tag-requires c =
     let reached = c.in-Some.ensures.found in
     slice_get_within (entries_of (units_of c.args.entries.now.scanned)) c.in-Some.id reached.target.entry reached.target.is_entry
 
@@ -25,15 +23,15 @@ pub returns-then-is_type-clause-some : goal.returns-then-is_type-clause-some
 returns-then-is_type-clause-some c = λ p is.
     let us = units_of c.args.entries.now.scanned in
     let reached = c.in-Some.ensures.found in
-    let head : c.head.result ≡ entry_head reached.target.entry = rw reached.target.is_entry at c.head.ensures in
+    let tag : c.tag.result ≡ reached.target.entry.head.decl.tag = rw reached.target.is_entry at c.tag.ensures in
     typed (entries_of us) c.args.number (p.at + c.args.type_offset) c.in-Some.id reached.target.entry (in_place (entries_of us) (placed us) c.args.number c.args.type_offset p c.in-Some.id is reached) reached.target.is_entry
-    (ap (λ (h : Head). is_type_tag h.tag) (sym head) ∙ sym c.if-is_type.ensures)
+    (ap is_type_tag (sym tag) ∙ sym c.if-is_type.ensures)
 
 pub returns-clause-none : goal.returns-clause-none
 returns-clause-none c = λ p is.
     let us = units_of c.args.entries.now.scanned in
     let reached = c.in-Some.ensures.found in
-    let head : c.head.result ≡ entry_head reached.target.entry = rw reached.target.is_entry at c.head.ensures in
+    let tag : c.tag.result ≡ reached.target.entry.head.decl.tag = rw reached.target.is_entry at c.tag.ensures in
     not_typed (entries_of us) c.args.number (p.at + c.args.type_offset) c.in-Some.id reached.target.entry (entries_rise _ us c.args.entries.now.scanned.1.spells.are)
     (in_place (entries_of us) (placed us) c.args.number c.args.type_offset p c.in-Some.id is reached) reached.target.is_entry
-    (ap (λ (h : Head). is_type_tag h.tag) (sym head) ∙ sym c.if-is_type.ensures)
+    (ap is_type_tag (sym tag) ∙ sym c.if-is_type.ensures)

@@ -11,4 +11,4 @@ returns-in-Some c =
     let us = units_of c.args.entries.now.scanned in
     let below : c.in-Some.id < length (entries_of us) = rw c.in-Some.is at c.requires in
     let inside : c.in-Some.id < length (facts_in us) = rw (length-facts_of (entries_of us) (placed us)) below in
-    c.is_array_tag.ensures ∙ in-array us c.args.parent c.in-Some.id c.head.result c.in-Some.is inside c.head.ensures
+    c.is_array_tag.ensures ∙ in-array us c.args.parent c.in-Some.id c.tag.result c.in-Some.is inside c.tag.ensures

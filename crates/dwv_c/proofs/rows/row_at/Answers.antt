@@ -6,10 +6,11 @@ use Rattle.dwv_c.proofs.rows.row_at.Goals as goal
 pub depth_by_rows-depth-requires : goal.depth_by_rows-depth-requires
 depth_by_rows-depth-requires c =
     parent_before c.args.image.now c.args.id (length c.args.rows.now) (slice_get (entries_in c.args.image.now) c.args.id)
-    c.head-head.result c.requires.room refl c.requires.entry c.head-head.ensures
+    c.parent.result c.requires.room refl c.requires.entry c.parent.ensures
 
 pub returns : goal.returns
 returns c =
     row_told c.args.image.now c.args.id c.args.rows.now (slice_get (entries_in c.args.image.now) c.args.id)
-    c.head-head.result c.depth_by_rows-depth.result c.size_of_entry-size.result c.row_with.result refl c.requires.before
-    c.head-head.ensures c.depth_by_rows-depth.ensures c.size_of_entry-size.ensures c.row_with.ensures
+    c.offset.result c.tag.result c.parent.result c.depth_by_rows-depth.result c.size_of_entry-size.result c.row_with.result refl
+    c.requires.before c.offset.ensures c.tag.ensures c.parent.ensures c.depth_by_rows-depth.ensures
+    c.size_of_entry-size.ensures c.row_with.ensures

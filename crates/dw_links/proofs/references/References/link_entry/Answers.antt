@@ -1,7 +1,7 @@
 use Rattle.std.proofs.Common.{◌≡◌, Some, sym, ap, ◌∙◌, subst}
 use Rattle.std.specs.Option.{option_flatten}
 use Rattle.std.proofs.lemmas.Result.{err_from_is_err_and}
-use Rattle.dw_entries.specs.declared.lookup.Head.{Head}
+use Rattle.dw_entries.specs.declared.lookup.EntryHead.{EntryHead}
 use Rattle.dw_entries.specs.Leading.{leading_left}
 use Rattle.dw_entries.specs.Lookups.{entry_head}
 use Rattle.dw_links.specs.Linkable.{MayAsk}
@@ -28,14 +28,14 @@ returns-in_err-attribute-clause-err c =
     let p = err_from_is_err_and c.from_residual.result c.from_residual.ensures.1 in
     rw (p.1, p.2) (λ e is.
     let head : c.head-head.result ≡ entry_head e = rw is at c.head-head.ensures in
-    let P : Head → Type 0 = λ h. HasFailedNext c.args.self.now h (leading_left c.loop-form.leading) c.in_err-attribute.field-0.0 in
+    let P : EntryHead → Type 0 = λ h. HasFailedNext c.args.self.now h (leading_left c.loop-form.leading) c.in_err-attribute.field-0.0 in
     fails_so_far c.args.self.now e (leading_left c.loop-form.leading) c.loop-form.kept c.in_err-attribute.field-0.0 (c.loop-form.invariant.so_far e is) (subst P head c.in_err-attribute.ensures.err))
 
 pub loop-form-preserved : goal.loop-form-preserved
 loop-form-preserved c = record {
   so_far = λ e is.
       let head : c.head-head.result ≡ entry_head e = rw is at c.head-head.ensures in
-      let P : Head → Type 0 = λ h. LinksNext c.args.self.now h (leading_left c.loop-form.leading) (leading_left c.link_next.new.leading) (c.in_ok-attribute.attribute, c.in_ok-attribute.reached) in
+      let P : EntryHead → Type 0 = λ h. LinksNext c.args.self.now h (leading_left c.loop-form.leading) (leading_left c.link_next.new.leading) (c.in_ok-attribute.attribute, c.in_ok-attribute.reached) in
       rw c.keep-kept.ensures (more_so_far c.args.self.now e (leading_left c.loop-form.leading) (leading_left c.link_next.new.leading) c.loop-form.kept (c.in_ok-attribute.attribute, c.in_ok-attribute.reached) (c.loop-form.invariant.so_far e is) (subst P head c.in_ok-attribute.ensures.ok));
   kept = c.in_ok-attribute.ensures.kept;
 }
