@@ -41,6 +41,11 @@ NO_FLAGS = bytes.fromhex("01030b0d18222e2f3137383e474951696b7273")
 SIGNED = 120_000
 DECLARED = 5
 SIGNED_TIME = 5
+# Declarations of one table whose codes do not count up from 1, the bytes of memory for each byte of the table, and for
+# the program itself.
+CODES = 300_000
+CODES_MEMORY = 60
+PROGRAM_MEMORY = 16 << 20
 # Attributes of a declaration that has many.
 WIDE = 50_000
 SECTIONS = 65_000
@@ -273,6 +278,17 @@ def signed():
     count = SIGNED * DECLARED
     users = b"".join(b"\x0b" + struct.pack("<Q", n * 7919 % SIGNED) for n in range(count))
     return [(".debug_abbrev", table), (".debug_info", types + unit(b"\x01" + users + b"\0"))]
+
+
+def coded():
+    """Tables whose codes do not count up from 1: numbers of 63 bits in no order, and those from 2 on; falling ones."""
+    numbers = range(1, CODES)
+    orders = (("of ten bytes in no order", [n * 0x9e3779b97f4a7c15 % 2**63 + 2**63 for n in numbers]),
+              ("from 2 on", [n + 1 for n in numbers]), ("falling", [CODES + 1 - n for n in numbers]))
+    for name, codes in orders:
+        row = b"".join(uleb(code) + b"\x34\0\x03\x08\0\0" for code in codes) + uleb(1) + b"\x11\0\0\0" + b"\0"
+        sections = [(".debug_abbrev", row), (".debug_info", unit(b"\x01"))]
+        yield f"a table of {CODES:,} declarations, codes {name}", sections, len(row) * CODES_MEMORY + PROGRAM_MEMORY
 
 
 # 1 compile unit, 2 base type with a name and a size, 3 typedef with a name and a type, 4 structure with a size,
@@ -553,6 +569,9 @@ def runs():
     for some in (inside(), flagged()):
         for name, sections, want in some:
             yield name, elf(sections), checked_within(SOON_TIME), want
+    for name, sections, memory in coded():
+        yield (name, elf(sections), lambda path: checked(path, limited(memory, SOON_TIME)),
+               "sound: 1 units, 1 entries, 0 types")
     count = SIGNED * DECLARED
     yield (f"{SIGNED:,} type units and {count:,} declared structures", elf(signed()),
            checked_within(SIGNED_TIME),
