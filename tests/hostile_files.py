@@ -7,6 +7,7 @@ declarations, and entries of one byte with many flags, have limits of their own.
 far more bytes than the memory that it may have: it must say so, and write nothing. `types` must print its whole text
 within less memory. The script prints one line a run with the seconds it took, and ends with 'N passed, M failed'.
 """
+import os
 import pathlib
 import struct
 import subprocess
@@ -506,6 +507,18 @@ def checked_within(seconds):
     return lambda path: checked(path, limited(SOON_MEMORY, seconds))
 
 
+def kept_within(memory):
+    """What `check` says of a file, or the bytes of memory that it had, if it had more than these."""
+    def kept_there(path):
+        with subprocess.Popen([DWV, "check", path], stdout=subprocess.PIPE, text=True) as run:
+            text = run.stdout.read()
+            _, run.returncode, used = os.wait4(run.pid, 0)
+        had = used.ru_maxrss << 10
+        return text if had <= memory else f"{had} bytes of memory\n"
+
+    return kept_there
+
+
 def shown(path):
     """How `show` of a file ends under a limit of memory: the status, the bytes written, the line on standard error."""
     status, text, errors = said(limited(MEMORY), "show", path)
@@ -570,8 +583,7 @@ def runs():
         for name, sections, want in some:
             yield name, elf(sections), checked_within(SOON_TIME), want
     for name, sections, memory in coded():
-        yield (name, elf(sections), lambda path: checked(path, limited(memory, SOON_TIME)),
-               "sound: 1 units, 1 entries, 0 types")
+        yield name, elf(sections), kept_within(memory), "sound: 1 units, 1 entries, 0 types"
     count = SIGNED * DECLARED
     yield (f"{SIGNED:,} type units and {count:,} declared structures", elf(signed()),
            checked_within(SIGNED_TIME),
