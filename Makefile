@@ -34,6 +34,7 @@ checks = $(shell printf '%d\n' $$(nproc) $(memory) | sort -n | head -n 1)
 test:
 	tests/dead-names.py
 	tests/reading-order.py
+	tests/indexes.py
 	tests/calling.py
 	tests/toolchain.sh
 	tests/edits.py --apply

@@ -4,9 +4,9 @@
 usage: bench.py [WORD ..]      only the programs whose names have one of the words, as "Rust" or "1 MB"
 
 All tools are measured in one run. Each is run several times on a program, and the least processor time counts. The
-tables are Markdown, as docs/PERFORMANCE.md has them. gnuplot draws the first into docs/performance.svg, if it is
-installed. The walks with gimli are built by cargo from Debian's librust-gimli-dev and librust-object-dev; DEBIAN_CARGO
-is the folder of such packages, if it is another.
+tables are Markdown; docs/PERFORMANCE.md has them joined into one. gnuplot draws the first into docs/performance.svg, if
+it is installed. The walks with gimli are built by cargo from Debian's librust-gimli-dev and librust-object-dev;
+DEBIAN_CARGO is the folder of such packages, if it is another.
 """
 import datetime
 import os

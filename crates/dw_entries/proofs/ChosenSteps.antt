@@ -2,15 +2,14 @@
 use Rattle.std.proofs.Common.{◌≡◌, ℕ, zero, suc, List, [], ◌∷◌, ◌++◌, map, length, take, drop, Option, Some, None, refl, sym, ap, ◌∙◌, subst, ◌+◌, ◌-◌, arith, append-nil}
 use Rattle.std.specs.Prelude.{IfSome, IfNone, MatchOption, slice_get}
 use Rattle.std.proofs.lemmas.List.{take-append-drop, take_all, length-drop}
-use Rattle.std.proofs.lemmas.Option.{slice_get_within, slice_get_past}
+use Rattle.std.proofs.lemmas.Option.{slice_get_past}
 use Rattle.dw_forms.specs.declared.decl.AttributeSpec.{AttributeSpec}
 use Rattle.dw_forms.specs.declared.value.Value.{Value}
 use Rattle.dw_forms.specs.Value.{Datum}
-use Rattle.dw_entries.specs.declared.values.Values.{Values}
 use Rattle.dw_entries.specs.Grammar.{Context, Attribute, AreAttributes}
 use Rattle.dw_entries.specs.Asked.{value_of}
-use Rattle.dw_entries.specs.Chosen.{PassTo, IsFirstAsked, Unasked, IsNextAsked, ArePassed, IsNextOf}
-use Rattle.dw_entries.specs.ValuesLeft.{viewed, specs_left, values_left, FindsFirst}
+use Rattle.dw_entries.specs.Chosen.{PassTo, Unasked, IsNextAsked, ArePassed, IsNextOf}
+use Rattle.dw_entries.specs.ValuesLeft.{viewed}
 
 -- the specifications from a place on
 get_drop : (specs : List AttributeSpec) (from j k : ℕ) → k ≡ from + j → slice_get (drop from specs) j ≡ slice_get specs k
@@ -19,13 +18,8 @@ get_drop [] (suc from) j k e = slice_get_past [] j (omega arith) ∙ sym (slice_
 get_drop (s ∷ specs) (suc from) j zero e = absurd (omega (arith, e))
 get_drop (s ∷ specs) (suc from) j (suc k) e = get_drop specs from j k (omega (arith, e))
 
-pub asked_from : (Passes Asked : AttributeSpec → Type 0) (specs : List AttributeSpec) (from place : ℕ) → IsNextAsked Passes Asked specs from place → IsFirstAsked Passes Asked (drop from specs) (place - from)
-asked_from Passes Asked specs from place p = record {
-  before = λ j spec less here. p.before (from + j) spec (omega arith) (omega (arith, less)) (sym (get_drop specs from j (from + j) refl) ∙ here);
-  spec = p.spec;
-  is_spec = get_drop specs from (place - from) place (omega (arith, p.on)) ∙ p.is_spec;
-  asked = p.asked;
-}
+pub passed_to : (Passes : AttributeSpec → Type 0) (specs : List AttributeSpec) (from place : ℕ) → IsNextAsked Passes specs from place → PassTo Passes (drop from specs) (place - from)
+passed_to Passes specs from place p j spec less here = p.before (from + j) spec (omega arith) (omega (arith, less)) (sym (get_drop specs from j (from + j) refl) ∙ here)
 
 pub none_from : (Passes : AttributeSpec → Type 0) (specs : List AttributeSpec) (from : ℕ) → Unasked Passes specs from (length specs) → PassTo Passes (drop from specs) (length (drop from specs))
 none_from Passes specs from none j spec less here = none (from + j) spec (omega arith) (omega (arith, less, length-drop from specs)) (sym (get_drop specs from j (from + j) refl) ∙ here)
@@ -66,17 +60,3 @@ none_found X Y Passes items left k (Some y) ends rest are = tt
 none_found X Y Passes items left k None ends rest are =
     let parts : take k items ≡ items = sym (append-nil (take k items)) ∙ ap (λ (xs : List (ℕ × Datum)). take k items ++ xs) (sym ends.0 ∙ rest) ∙ take-append-drop k items in
     subst (ArePassed Passes) parts are
-
--- the next one that is given has the first specification that is asked for
-pub first_found : (X : Type 0) (Passes Asked : AttributeSpec → Type 0) (before after : Values) (left : List (ℕ × Datum)) (k : ℕ) (r : Option (ℕ × Value)) → MatchOption r X (λ y. left ≡ viewed y ∷ values_left after) → left ≡ drop k (values_left before)
-    → IsFirstAsked Passes Asked (specs_left before) k → IfSome r (FindsFirst Passes Asked before after)
-first_found X Passes Asked before after left k None steps rest first = tt
-first_found X Passes Asked before after left k (Some y) steps rest first = record { place = k; first = first; is_found = sym rest ∙ steps }
-
--- one that is asked for is given
-pub never_ends : (X : Type 0) (Y : ℕ × Value → Type 0) (Passes Asked : AttributeSpec → Type 0) (x : Context) (specs : List AttributeSpec) (bs : List Attribute) (left : List (ℕ × Datum)) (k : ℕ) (r : Option (ℕ × Value)) → MatchOption r ((left ≡ []) × X) Y → left ≡ drop k (map value_of bs)
-    → AreAttributes x specs bs → IsFirstAsked Passes Asked specs k → IfNone r (PassTo Passes specs (length specs))
-never_ends X Y Passes Asked x specs bs left k (Some y) ends rest are first = tt
-never_ends X Y Passes Asked x specs bs left k None ends rest are first =
-    let within = slice_get_within specs k first.spec first.is_spec in
-    absurd (omega (arith, within, same_length x specs bs are, ap length (sym rest ∙ ends.0), length-drop k (map value_of bs)))

@@ -1,33 +1,11 @@
 -- What is asked for is found among the places at which a search stops.
 use Rattle.std.proofs.Common.{◌≡◌, ℕ, ◌<◌, ◌+◌, ◌≤◌, Bool, true, false, ltb, List, length, get_or, Option, Some, refl, sym, ap, subst, ◌∙◌, arith}
 use Rattle.std.specs.Prelude.{slice_get}
-use Rattle.std.proofs.lemmas.Bool.{ne_eqb, ltb-true, ltb-false}
+use Rattle.std.proofs.lemmas.Bool.{ltb-true, ltb-false}
 use Rattle.std.proofs.lemmas.Option.{slice_get_read}
 use Rattle.dw_forms.specs.declared.decl.AttributeSpec.{AttributeSpec}
-use Rattle.dw_forms.specs.declared.form.Form.{Form}
-use Rattle.dw_forms.specs.declared.form.Form.TheVariants.{FlagPresent, ImplicitConst}
-use Rattle.dw_forms.specs.Codes.{DW_AT_type}
-use Rattle.dw_forms.specs.Plans.{is_one_of, not_flags, not_constants, stops_in, is_stop, IsNext}
+use Rattle.dw_forms.specs.Plans.{is_stop, IsNext}
 use Rattle.dw_entries.specs.Chosen.{OthersPass, Unasked}
-use Rattle.dw_forms.specs.FormCodes.{may_refer}
-use Rattle.dw_entries.specs.Referring.{IsOther}
-
--- ---- DW_AT_type and references are among them
-
-apart : true ≡ false → ⊥
-apart e = cc
-
-no_stop : (form : Form) (code : ℕ) → stops_in form code ≡ false → (may_refer form ≡ false) × (code ≡ DW_AT_type → ⊥)
-no_stop FlagPresent code e = (refl, λ same. apart (sym (ap (is_one_of not_flags) same) ∙ e))
-no_stop (ImplicitConst number) code e = (refl, λ same. apart (sym (ap (is_one_of not_constants) same) ∙ e))
-no_stop form code e = absurd (apart e)
-
-pub others_pass : OthersPass (IsOther DW_AT_type)
-others_pass spec e =
-    let both = no_stop spec.form spec.attribute e in
-    rw (both.0, ne_eqb spec.attribute DW_AT_type both.1) refl
-
--- ---- a loop over the places at which a search stops
 
 module _ (Passes : AttributeSpec → Type 0) (specs : List AttributeSpec) (from : ℕ) (others : OthersPass Passes) where
   -- up to the first such place none is asked for

@@ -1,5 +1,5 @@
 -- State: the attributes of an entry that a search selects, by how they are declared.
-use Rattle.std.specs.Prelude.{◌≡◌, ℕ, ◌<◌, ◌≤◌, List, ◌∷◌, ◌++◌, Some, false, slice_get}
+use Rattle.std.specs.Prelude.{◌≡◌, ℕ, ◌<◌, ◌≤◌, List, length, ◌∷◌, ◌++◌, Some, false, slice_get}
 use Rattle.dw_forms.specs.declared.decl.AttributeSpec.{AttributeSpec}
 use Rattle.dw_forms.specs.Plans.{is_stop}
 use Rattle.dw_forms.specs.Value.{Datum}
@@ -10,13 +10,6 @@ use Rattle.dw_entries.specs.Asked.{value_of}
 abbrev pub PassTo : (AttributeSpec → Type 0) → List AttributeSpec → ℕ → Type 0
 PassTo Passes specs k = (j : ℕ) (spec : AttributeSpec) → j < k → slice_get specs j ≡ Some spec → Passes spec
 
--- the specification at this place is asked for, and none before it
-pub record IsFirstAsked (Passes Asked : AttributeSpec → Type 0) (specs : List AttributeSpec) (place : ℕ) : Type 0 where
-  pub before : PassTo Passes specs place
-  pub spec : AttributeSpec
-  pub is_spec : slice_get specs place ≡ Some spec
-  pub asked : Asked spec
-
 -- none is asked for but those at which a search stops
 abbrev pub OthersPass : (AttributeSpec → Type 0) → Type 0
 OthersPass Passes = (spec : AttributeSpec) → is_stop spec ≡ false → Passes spec
@@ -26,14 +19,11 @@ abbrev pub Unasked : (AttributeSpec → Type 0) → List AttributeSpec → ℕ �
 Unasked Passes specs from to = (j : ℕ) (spec : AttributeSpec) → from ≤ j → j < to → slice_get specs j ≡ Some spec
     → Passes spec
 
--- from a place on, the specification at this place is the first that is asked for
-pub record IsNextAsked (Passes Asked : AttributeSpec → Type 0) (specs : List AttributeSpec)
-    (from place : ℕ) : Type 0 where
+-- there is a specification at this place, and from the other place up to it none is asked for
+pub record IsNextAsked (Passes : AttributeSpec → Type 0) (specs : List AttributeSpec) (from place : ℕ) : Type 0 where
   pub on : from ≤ place
+  pub within : place < length specs
   pub before : Unasked Passes specs from place
-  pub spec : AttributeSpec
-  pub is_spec : slice_get specs place ≡ Some spec
-  pub asked : Asked spec
 
 -- an attribute and its value, with a specification that is not asked for
 pub record IsPassed (Passes : AttributeSpec → Type 0) (item : ℕ × Datum) : Type 0 where

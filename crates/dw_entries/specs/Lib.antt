@@ -36,5 +36,4 @@ pub mod UnitsLeft
 pub mod Chosen
 pub mod Values
 pub mod ValuesLeft
-pub mod Referring
 pub mod Leading

@@ -68,7 +68,8 @@ impl<'a> Entries<'a> {
             (λ e. decl_view result.now ≡ e.head.decl) }
     {
         let kept = self.record(id);
-        &self.decls[(kept.decl - 1) as usize].decl
+        let declared = &self.decls[(kept.decl - 1) as usize];
+        &declared.decl
     }
 
     /// The tag of an entry, as its declaration says it. Its unit is not looked up.

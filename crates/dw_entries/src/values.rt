@@ -1,10 +1,8 @@
 //! The attributes of an entry, each value decoded when it is asked.
 
 ghost use Rattle.std.specs.Prelude.{◌≡◌, ◌≤◌, ◌+◌, ◌-◌, ◌∷◌, List, length, drop, IfSome, IfNone};
-ghost use Rattle.std.specs.Bool.{OnFalse, OnTrue};
-ghost use Rattle.dw_forms.specs.Codes.{DW_AT_type};
+ghost use Rattle.std.specs.Bool.{OnFalse};
 ghost use Rattle.dw_entries.specs.Chosen.{OthersPass, Unasked, IsNextAsked};
-ghost use Rattle.dw_entries.specs.Referring.{is_asked};
 ghost use Rattle.dw_forms.specs.declared.decl.AttributeSpec.{AttributeSpec as SpecData};
 ghost use Rattle.dw_forms.specs.declared.steps.Step.{Step as StepData};
 ghost use Rattle.dw_forms.specs.Walks.{steps_from};
@@ -13,7 +11,6 @@ ghost use Rattle.dw_entries.specs.Values.{value_context, Left};
 ghost use Rattle.dw_entries.specs.Choices.{size_unique};
 ghost use Rattle.dw_entries.specs.ValueLaws.{left_unique};
 
-use dw_forms::constants::DW_AT_type;
 use dw_forms::{Attribute, AttributeSpec, Attributes, Form, Step, Value, read_value};
 
 /// The attributes of an entry that are left, in their order. Its values lie in .debug_info.
@@ -31,51 +28,18 @@ pub struct Values<'e, 'a> {
         bytes.now } by { left_unique (value_context version address_size) (drop at attributes.now) bytes.now },
 }
 
-/// Whether an attribute with this code is declared, or one whose value may be a reference.
-#[inline]
-fn is_asked(spec: AttributeSpec, attribute: Attribute) -> bool
-    ensures { result ≡ is_asked attribute spec }
-{
-    spec.form.may_refer() || spec.attribute == attribute
-}
-
 /// Which attributes are asked for, by how they are declared.
 pub trait Choice {
     /// What holds of a specification that is not asked for.
     ghost passes: { Self → SpecData → Type 0 };
 
-    /// What holds of a specification that is asked for. Where a choice does not say it, it may ask for any.
-    ghost asked: { Self → SpecData → Type 0 } = { λ _ _. Unit {0} };
-
     /// Whether attributes that are declared so are asked for.
     fn asks(&self, spec: &AttributeSpec) -> bool
-        ensures passes { OnFalse result (passes self.now spec.now) }
-        ensures asked { OnTrue result (asked self.now spec.now) };
+        ensures { OnFalse result (passes self.now spec.now) };
 
     /// All that are asked for are among those at which a search stops, so that the others need not be looked at.
     fn keeps_to_stops(&self)
         ensures { OthersPass (passes self.now) };
-}
-
-/// The attribute DW_AT_type, and those whose values may be references.
-#[derive(Drop)]
-struct Referring;
-
-impl Choice for Referring {
-    ghost use Rattle.dw_entries.specs.Referring.{IsAsked, IsOther};
-
-    ghost passes = { λ _. IsOther DW_AT_type };
-
-    ghost asked = { λ _. IsAsked DW_AT_type };
-
-    #[inline]
-    fn asks(&self, spec: &AttributeSpec) -> bool {
-        is_asked(*spec, DW_AT_type)
-    }
-
-    #[inline]
-    #[tactic(auto, using(crate::proofs::StopSteps::others_pass))]
-    fn keeps_to_stops(&self) {}
 }
 
 /// The place of the next attribute that is asked for, from a place on. Only attributes at which a search stops are
@@ -83,7 +47,7 @@ impl Choice for Referring {
 #[inline(always)]
 fn next_asked<C: Choice>(choice: &C, attributes: &Attributes, from: usize) -> Option<usize>
     requires { from ≤ length attributes.now }
-    ensures found { IfSome result (IsNextAsked (C.passes choice.now) (C.asked choice.now) attributes.now from) }
+    ensures found { IfSome result (IsNextAsked (C.passes choice.now) attributes.now from) }
     ensures none { IfNone result (Unasked (C.passes choice.now) attributes.now from (length attributes.now)) }
 {
     choice.keeps_to_stops();
@@ -99,10 +63,9 @@ fn next_asked<C: Choice>(choice: &C, attributes: &Attributes, from: usize) -> Op
 }
 
 impl<'a> Values<'_, 'a> {
-    ghost use Rattle.dw_entries.specs.ValuesLeft.{viewed, values_left, specs_left, FindsFirst, AsksNone};
+    ghost use Rattle.dw_entries.specs.ValuesLeft.{viewed, values_left, specs_left};
     ghost use Rattle.dw_entries.specs.Leading.{DoesNotLead};
     ghost use Rattle.dw_entries.specs.Chosen.{ArePassed, IsNextOf};
-    ghost use Rattle.dw_entries.specs.Referring.{IsAsked, IsOther};
 
     /// Passes the attributes up to this place.
     #[inline(always)]
@@ -155,9 +118,6 @@ impl<'a> Values<'_, 'a> {
         ensures some { IfSome result
             (λ found. IsNextOf (C.passes choice.now) (values_left self.old) (viewed found) (values_left self.new)) }
         ensures none { IfNone result (ArePassed (C.passes choice.now) (values_left self.old)) }
-        // What is found is asked for as it is declared, and what is passed is not.
-        ensures asked { IfSome result (FindsFirst (C.passes choice.now) (C.asked choice.now) self.old self.new) }
-        ensures unasked { IfNone result (AsksNone (C.passes choice.now) self.old) }
     {
         match next_asked(choice, self.attributes, self.at) {
             Some(place) => {
@@ -166,19 +126,6 @@ impl<'a> Values<'_, 'a> {
             }
             None => None,
         }
-    }
-
-    /// The next attribute that is DW_AT_type, or whose value may be a reference. Values before it are skipped.
-    #[inline(always)]
-    pub fn next_reference(&mut self) -> Option<(Attribute, Value<'a>)>
-        ensures some { IfSome result
-            (λ found. IsNextOf (IsOther DW_AT_type) (values_left self.old) (viewed found) (values_left self.new)) }
-        ensures none { IfNone result (ArePassed (IsOther DW_AT_type) (values_left self.old)) }
-        // What is found is asked for as it is declared, and what is passed is not.
-        ensures asked { IfSome result (FindsFirst (IsOther DW_AT_type) (IsAsked DW_AT_type) self.old self.new) }
-        ensures unasked { IfNone result (AsksNone (IsOther DW_AT_type) self.old) }
-    {
-        self.next_by(&Referring)
     }
 }
 

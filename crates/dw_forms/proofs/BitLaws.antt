@@ -27,10 +27,6 @@ not_same c code other false is = refl
 pub differ : (c code : ℕ) → (c ≡ code → ⊥) → (c == code) ≡ false
 differ c code other = not_same c code other (c == code) (eqb-true c code)
 
-not_true : (b : Bool) → not b ≡ true → b ≡ false
-not_true true e = sym e
-not_true false e = refl
-
 -- ---- bits that agree
 
 pub agrees_less : (code bits other : ℕ) → agrees code (suc bits) other ≡ true → agrees code bits other ≡ true

@@ -140,8 +140,3 @@ appended_ends old branches kept rest code bit number are none =
           narrowed (parts code later) (agrees code bit) (λ c e. parts_later code bit later c past e) kept rest
           ∙ ap (λ (n : ℕ). number_where (parts code later) (numbered_in (tables_of kept) n)) (sym are.first ∙ none) ∙ none_where (parts code later) kept;
     }
-
-pub appended_all : (old branches : List ℕ) (kept : List KeptDecl) (rest code number : ℕ) → AreAppended old branches kept rest code 64 number → AreBranches branches (length old) 64 code (numbered_in (tables_of kept) rest)
-appended_all old branches kept rest code number are =
-    let l = are.long in
-    record { within = omega (arith, l); each = are.each; others = λ later past fits. absurd (omega (arith, past, fits)) }

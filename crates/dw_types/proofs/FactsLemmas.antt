@@ -138,9 +138,12 @@ module _ (us : List DebugUnit) (facts : List Facts) (same : facts_in us ≡ fact
         rw (← same, ← here, facts-get (entries_of us) (placed us) id there.0 there.2) at
   ]
 
-  pub tag-known : (head : EntryHead) (id node : ℕ) → id ≡ node → node < length facts → IfSome (slice_get (entries_of us) id) (λ e. head ≡ entry_head e) → head.tag ≡ (entry_of facts node).tag
-  tag-known head id node here below is =
-      known (λ x. head.tag ≡ x.tag) id node here below (IfSome_then (slice_get (entries_of us) id) is (λ e h. ap (λ (x : EntryHead). x.tag) h ∙ sym (facts-tag (entries_of us) (placed us) e)))
+  pub tag-known : (tag id node : ℕ) → id ≡ node → node < length facts → IfSome (slice_get (entries_of us) id) (λ e. tag ≡ e.head.decl.tag) → tag ≡ (entry_of facts node).tag
+  tag-known tag id node here below is =
+      known (λ x. tag ≡ x.tag) id node here below (IfSome_then (slice_get (entries_of us) id) is (λ e h. h ∙ sym (facts-tag (entries_of us) (placed us) e)))
+
+  pub head-tag-known : (head : EntryHead) (id node : ℕ) → id ≡ node → node < length facts → IfSome (slice_get (entries_of us) id) (λ e. head ≡ entry_head e) → head.tag ≡ (entry_of facts node).tag
+  head-tag-known head id node here below is = tag-known head.tag id node here below (IfSome_then (slice_get (entries_of us) id) is (λ e h. ap (λ (x : EntryHead). x.tag) h))
 
   pub parent-known : (head : EntryHead) (id node : ℕ) → id ≡ node → node < length facts → IfSome (slice_get (entries_of us) id) (λ e. head ≡ entry_head e) → head.parent ≡ (entry_of facts node).parent
   parent-known head id node here below is =

@@ -6,7 +6,7 @@ pub mod TargetLemmas
 pub mod FactsLemmas
 pub mod ChildFacts
 pub mod PassedLemmas
-pub mod MeasurableLemmas
+pub mod RoleLemmas
 pub mod UnitLemmas
 pub mod ReaderLemmas
 pub mod CountLemmas
@@ -21,7 +21,7 @@ pub mod PackingLemmas
 pub mod CapLemmas
 pub mod StepLemmas
 pub mod RowLemmas
-pub mod UnaskedLemmas
+pub mod UntypedLemmas
 pub mod FirstLemmas
 pub mod NotedLemmas
 pub mod ElementCountLemmas

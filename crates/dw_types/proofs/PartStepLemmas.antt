@@ -20,7 +20,7 @@ use Rattle.dw_types.specs.Graphs.{steps_of}
 use Rattle.dw_types.specs.Steps.{by_value, is_plain_member, member_step, part_step, steps_by_value, targets_if}
 use Rattle.dw_types.proofs.RowLemmas.{flat_map-none, no-signature_step, step-to_entry}
 use Rattle.dw_types.proofs.StepLemmas.{by_value-at, steps-from}
-use Rattle.dw_types.proofs.UnaskedLemmas.{untyped-declared, untyped-members, untyped-passes}
+use Rattle.dw_types.proofs.UntypedLemmas.{untyped-declared, untyped-members, untyped-passes}
 
 pub part-some : (entries : List Facts) (child : ℕ) (to : Option ℕ) → is_plain Members (entry_of entries child) ≡ true → to ≡ (entry_of entries child).type_target → option_to_list to ≡ part_step entries child
 part-some entries child to plain is = rw plain (ap option_to_list is)

@@ -22,9 +22,9 @@ use Rattle.dw_types.specs.Shapes.{breaks_shape, fails_shape, ShapeFailures}
 use Rattle.dw_types.specs.ShapesSeen.{has_parts, HasSeenArray, HasSeenShapes, array, part}
 use Rattle.dw_types.specs.TypeFailures.{PassesAt}
 use Rattle.dw_types.proofs.FirstLemmas.{broken_at, first-of_entries, none-of_entries}
-use Rattle.dw_types.proofs.MeasurableLemmas.{child-in, counted-other, other-role, plain-other}
+use Rattle.dw_types.proofs.RoleLemmas.{child-in, counted-other, other-role, plain-other}
 use Rattle.dw_types.proofs.NotedLemmas.{noted-first, noted-more, noted-none, noted-pass, noted-same}
-use Rattle.dw_types.proofs.UnaskedLemmas.{untyped-array, untyped-members}
+use Rattle.dw_types.proofs.UntypedLemmas.{untyped-array, untyped-members}
 
 -- the least rule that fails
 

@@ -18,20 +18,13 @@ loop-place-preserved g c =
       on = omega (arith, l.invariant.on, n.ensures.on);
       within = n.ensures.within;
       before = on_to_stop (g.C.Choice.passes c.args.choice.now) c.args.attributes.now c.args.from c.keeps_to_stops.ensures l.place n.result spec
-          (spec_at c.args.attributes.now c.as_slice-specs.result.now l.place spec c.as_slice-specs.ensures c.loop-place-test.true c.index-specs-place.is) c.if-asks.ensures.passes l.invariant.before n.ensures;
+          (spec_at c.args.attributes.now c.as_slice-specs.result.now l.place spec c.as_slice-specs.ensures c.loop-place-test.true c.index-specs-place.is) c.if-asks.ensures l.invariant.before n.ensures;
     }
 
 pub returns-then-asks-clause-found : goal.returns-then-asks-clause-found
 returns-then-asks-clause-found g c =
     let l = c.loop-place in
-    let spec = c.index-specs-place.result in
-    record {
-      on = l.invariant.on;
-      before = l.invariant.before;
-      spec = spec;
-      is_spec = spec_at c.args.attributes.now c.as_slice-specs.result.now l.place spec c.as_slice-specs.ensures c.loop-place-test.true c.index-specs-place.is;
-      asked = c.if-asks.ensures.asked;
-    }
+    record { on = l.invariant.on; within = omega (arith, c.loop-place-test.true, ap length c.as_slice-specs.ensures); before = l.invariant.before }
 
 pub returns-clause-none : goal.returns-clause-none
 returns-clause-none g c = λ j spec on less at. c.loop-place.invariant.before j spec on (omega (arith, less, c.loop-place-test.false, ap length c.as_slice-specs.ensures)) at

@@ -7,7 +7,7 @@ use Rattle.dw_types.specs.Kinds.{is_array}
 use Rattle.dw_types.specs.Noted.{IsNoted}
 use Rattle.dw_types.specs.Shapes.{fails_shape}
 use Rattle.dw_types.specs.ShapesSeen.{HasSeenArray, HasSeenShapes, array}
-use Rattle.dw_types.proofs.MeasurableLemmas.{dimensions-role}
+use Rattle.dw_types.proofs.RoleLemmas.{dimensions-role}
 use Rattle.dw_types.proofs.PassedLemmas.{HasPassed, passed-more, passed-none}
 use Rattle.dw_types.proofs.ShapeLemmas.{array-no_members, noted-child, noted-no_child, noted-parts, part-least, seen-later}
 use Rattle.dw_types.proofs.by_value.note_dimensions.Goals as goal

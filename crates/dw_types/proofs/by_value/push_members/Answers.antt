@@ -8,7 +8,7 @@ use Rattle.dw_types.specs.Noted.{IsNoted}
 use Rattle.dw_types.specs.Shapes.{fails_shape}
 use Rattle.dw_types.specs.ShapesSeen.{HasSeenShapes}
 use Rattle.dw_types.specs.Steps.{part_step}
-use Rattle.dw_types.proofs.MeasurableLemmas.{members-role}
+use Rattle.dw_types.proofs.RoleLemmas.{members-role}
 use Rattle.dw_types.proofs.PartStepLemmas.{part-none, part-some, parts-push}
 use Rattle.dw_types.proofs.PassedLemmas.{HasPassed, passed-more, passed-none}
 use Rattle.dw_types.proofs.ShapeLemmas.{members-no_array, noted-child, noted-no_child, noted-parts, part-least, seen-later}

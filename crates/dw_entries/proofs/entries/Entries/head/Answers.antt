@@ -5,7 +5,7 @@ use Rattle.dw_entries.specs.declared.lookup.EntryHead.{EntryHead}
 use Rattle.dw_entries.specs.Entries.{Entry}
 use Rattle.dw_entries.specs.Scanned.{all_entries}
 use Rattle.dw_entries.specs.Lookups.{entry_head, full_head}
-use Rattle.dw_entries.proofs.lookup.Entries.head.Goals as goal
+use Rattle.dw_entries.proofs.entries.Entries.head.Goals as goal
 
 abbrev with_depth : EntryHead → ℕ → Head
 with_depth head depth = record {
@@ -24,4 +24,4 @@ head_told (Some e) head depth is_head is_depth = ap (λ (h : EntryHead). with_de
 pub returns : goal.returns
 returns c =
     let entries = all_entries c.args.self.now.scanned in
-    head_told (slice_get entries c.args.id) c.head.result c.depth-depth.result (rw c.at.ensures at c.head.ensures) c.depth-depth.ensures
+    head_told (slice_get entries c.args.id) c.head-offset.result c.depth.result (rw c.at.ensures at c.head-offset.ensures) c.depth.ensures

@@ -1,0 +1,39 @@
+#!/usr/bin/env python3
+"""Tests that what the tables of docs/DEFINITIONS.md and docs/PROOFS.md name exists, and prints what does not.
+
+In a section that is named after a crate, words with a capital letter are files of specs/ or proofs/ of this crate, or
+of another one that the cell names; words in backticks are names of the code or of these files; and words with an
+underscore in the last column of PROOFS.md are edits.
+"""
+import pathlib
+import re
+import sys
+
+TOP = pathlib.Path(__file__).resolve().parent.parent
+CRATES = [path.name for path in (TOP / "crates").iterdir()]
+FILES = {crate: {path.stem for path in TOP.glob(f"crates/{crate}/*/*.antt")} for crate in CRATES}
+EDITS = {path.stem for path in TOP.glob("crates/*/*/*.edit")}
+SOURCES = [path.read_text() for path in [*TOP.glob("crates/*/src/**/*.rt"), *TOP.glob("crates/*/*/*.antt")]]
+NAMES = set(re.findall(r"[\w-]+", "\n".join(SOURCES)))
+
+
+def missing(crate, cells):
+    """The names in a row that name nothing. A row of PROOFS.md has five cells, and one of DEFINITIONS.md fewer."""
+    indexed = cells[1:4] if len(cells) == 5 else cells[2:3]
+    quoted = re.findall(r"`([^`]+)`", " ".join(indexed))
+    yield from set(re.findall(r"[\w-]+", " ".join(quoted))) - NAMES
+    for cell in indexed[-2:]:
+        known = FILES[crate].union(*(FILES[it] for it in CRATES if re.search(rf"\b{it}\b", cell)))
+        yield from set(re.findall(r"\b[A-Z]\w+", re.sub(r"`[^`]*`|\([^)]*\)", "", cell))) - known
+    yield from set(re.findall(r"(?<!`)\b\w+_\w+", " ".join(cells[4:]))) - EDITS
+
+
+found, crate = [], None
+for page in ("docs/DEFINITIONS.md", "docs/PROOFS.md"):
+    for number, line in enumerate((TOP / page).read_text().splitlines(), 1):
+        if line.startswith("## "):
+            crate = next((it for it in line.split() if it in CRATES), None)
+        elif crate and line.startswith("| ") and not line.startswith(("| Term ", "| Fact ")):
+            found += [f"{page}:{number}: not there: {name}" for name in sorted(missing(crate, line[2:-2].split(" | ")))]
+print("".join(f"{it}\n" for it in found), end="")
+sys.exit(bool(found))
