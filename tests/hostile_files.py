@@ -1,6 +1,6 @@
 #!/usr/bin/env python3
 """Runs `dwv check` on files that are small and mean work: deep trees, long chains, one string with many names,
-declarations of many attributes whose values take no bytes.
+declarations of many attributes whose values take no bytes, typedefs whose names share their bytes.
 
 For each the program must print the stated line within the time limit, and no run may crash. Tables that begin inside
 declarations, and entries of one byte with many flags, have limits of their own. The lines of `show` of a deep tree are
@@ -468,9 +468,9 @@ def bodies():
 
 # 1 compile unit, 2 typedef with a name, 3 const
 SMALL = bytes.fromhex("0111010000" "02160003080000" "0326000000" "00")
-# Typedefs whose numbers collide, and the seconds of processor time that `types` may take for them.
+# Seconds of processor time that `types` may take for typedefs whose numbers collide, or that share a long name.
+TYPEDEFS_TIME = 2
 COLLISIONS = 125_000
-COLLISIONS_TIME = 2
 
 
 def hashed(number):
@@ -489,6 +489,24 @@ def collisions():
         number, left = number + 1, left - chosen
     file = elf([(".debug_abbrev", SMALL), (".debug_info", unit(bytes(items) + b"\0"))])
     return file, "typedef void t;\n" * COLLISIONS
+
+
+# 1 compile unit, 2 typedef with a name by offset
+SHARED = bytes.fromhex("0111010000" "021600030e0000" "00")
+
+
+def shared_names():
+    """Typedefs whose names are suffixes of one string: the name of each file, the file, and what `types` prints."""
+    text = b"a1" * (1 << 20) + b"-" + b"b2" * (1 << 20) + b"\0"
+    middle = text.index(b"-")
+    for name, starts in ((f"{MANY:,} typedefs of one name of 2 MB", [middle + 1] * MANY),
+                         (f"{MANY:,} typedefs whose names are suffixes of one string of 4 MB",
+                          range(middle - MANY // 2, middle + MANY // 2))):
+        items = b"".join(b"\x02" + struct.pack("<I", start) for start in starts)
+        sections = [(".debug_abbrev", SHARED), (".debug_info", unit(b"\x01" + items + b"\0")), (".debug_str", text)]
+        rules = ["P6 TooLong" if start > middle and text[start:start + 1].isalpha() else "P2 BadName"
+                 for start in starts]
+        yield name, elf(sections), "".join(f"/* 0x{FIRST + 5 * n:08x} {rule} */\n" for n, rule in enumerate(rules))
 
 
 def said(limit, *words):
@@ -533,7 +551,7 @@ def typed(path, limit=limited(TYPES_MEMORY)):
 
 def typed_soon(path):
     """The same with a limit of processor time."""
-    return typed(path, limited(TYPES_MEMORY, COLLISIONS_TIME))
+    return typed(path, limited(TYPES_MEMORY, TYPEDEFS_TIME))
 
 
 def sized(at):
@@ -593,6 +611,8 @@ def runs():
             yield f"types of {name}", types.file(), typed, f"{types.text()}status 0\n"
     file, want = collisions()
     yield f"types of {COLLISIONS:,} typedefs whose numbers collide", file, typed_soon, f"{want}status 0\n"
+    for name, file, want in shared_names():
+        yield f"types of {name}", file, typed_soon, f"{want}status 0\n"
     for name, types, at, size in ends():
         yield f"size of the last in {name}", types.file(), sized(at), f"size {size}\n"
     file, want = nested()

@@ -40,21 +40,21 @@ test-itself b c same = (λ h. sym same ∙ h, λ h. same ∙ h)
 -- ---- a search of a list
 
 -- an element that was found
-pub found-here : {X Y : Type 0} (view : X → Y) (P : Y → Type 0) (xs : List X) (i : ℕ) (d : X) → i < length xs → P (view (get_or xs i d)) → Any P (map view xs)
-found-here view P [] i d within p = absurd (omega arith)
-found-here view P (x ∷ xs) zero d within p = (0, view x, omega arith, refl, p)
-found-here view P (x ∷ xs) (suc i) d within p =
-    let (j, y, w, e, q) = found-here view P xs i d (omega arith) p in
+pub found-here : {X Y : Type 0} (view : X → Y) (P : Y → Type 0) (xs : List X) (i : ℕ) (one : X) → one ≡ get_or xs i one → i < length xs → P (view one) → Any P (map view xs)
+found-here view P [] i one is within p = absurd (omega arith)
+found-here view P (x ∷ xs) zero one is within p = (0, view x, omega arith, refl, subst (λ z. P (view z)) is p)
+found-here view P (x ∷ xs) (suc i) one is within p =
+    let (j, y, w, e, q) = found-here view P xs i one is (omega arith) p in
     (suc j, y, omega arith, e, q)
 
 -- one that is not the one, so that stands further behind
-pub found-later : {X Y : Type 0} (view : X → Y) (P : Y → Type 0) (xs : List X) (i : ℕ) (d : X) → i < length xs → (P (view (get_or xs i d)) → ⊥) → Any P (map view (drop i xs)) → Any P (map view (drop (i + 1) xs))
-found-later {X = X} view P xs i d within unlike some =
+pub found-later : {X Y : Type 0} (view : X → Y) (P : Y → Type 0) (xs : List X) (i : ℕ) (one : X) → one ≡ get_or xs i one → i < length xs → (P (view one) → ⊥) → Any P (map view (drop i xs)) → Any P (map view (drop (i + 1) xs))
+found-later {X = X} view P xs i one is within unlike some =
     let Q : List X → Type 0 = λ ys. Any P (map view ys) in
-    later (subst Q (drop_more xs i d within) some)
+    later (subst Q (drop_more xs i one within) some)
   where
-    later : Any P (map view (get_or xs i d ∷ drop (i + 1) xs)) → Any P (map view (drop (i + 1) xs))
-    later (zero, y, w, e, p) = absurd (unlike (subst P (sym e) p))
+    later : Any P (map view (get_or xs i one ∷ drop (i + 1) xs)) → Any P (map view (drop (i + 1) xs))
+    later (zero, y, w, e, p) = absurd (unlike (subst (λ z. P (view z)) (sym is) (subst P (sym e) p)))
     later (suc j, y, w, e, p) = (j, y, omega arith, e, p)
 
 -- none is left
@@ -70,9 +70,10 @@ all-unmap P f (x ∷ xs) h zero d w = h 0 (f x) (omega arith)
 all-unmap P f (x ∷ xs) h (suc k) d w = all-unmap P f xs (λ i e v. h (suc i) e (omega arith)) k d (omega arith)
 
 -- what is known of each type of some members
-pub of-member : (P : TypeAt → Type 0) (ms : List Member) (i : ℕ) (d : Member) → i < length ms → All P (member_types (map view_member ms)) → P (get_or ms i d).type_at
-of-member P ms i d within all =
-    all-unmap (λ (x : MemberOf). P x.type_at) view_member ms (all-unmap P (λ (x : MemberOf). x.type_at) (map view_member ms) all) i d within
+pub of-member : (P : TypeAt → Type 0) (ms : List Member) (i : ℕ) (m : Member) → m ≡ get_or ms i m → i < length ms → All P (member_types (map view_member ms)) → P m.type_at
+of-member P ms i m is within all =
+    subst (λ (x : Member). P x.type_at) (sym is)
+    (all-unmap (λ (x : MemberOf). P x.type_at) view_member ms (all-unmap P (λ (x : MemberOf). x.type_at) (map view_member ms) all) i m within)
 
 -- ---- what stands under a row of qualifiers
 

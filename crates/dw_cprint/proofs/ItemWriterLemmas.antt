@@ -18,9 +18,9 @@ use Rattle.dw_cprint.proofs.OptionLemmas.{map_inverted, then_inverted}
 use Rattle.dw_cprint.proofs.WriterLemmas.{both, text-append}
 
 -- what is left of a list, one item on
-pub next-of : {X Y : Type 0} (f : X → Y) (xs : List X) (i : ℕ) (d : X) → i < length xs
-    → map f (drop i xs) ≡ f (get_or xs i d) ∷ map f (drop (i + 1) xs)
-next-of f xs i d within = rw (drop_more xs i d within) refl
+pub next-of : {X Y : Type 0} (f : X → Y) (xs : List X) (i : ℕ) (one : X) → one ≡ get_or xs i one → i < length xs
+    → map f (drop i xs) ≡ f one ∷ map f (drop (i + 1) xs)
+next-of f xs i one is within = ap (map f) (drop_more xs i one within) ∙ ap (λ z. f z ∷ map f (drop (i + 1) xs)) (sym is)
 
 -- the members that are left are still to be written
 pub record MembersLeft (term : TypeAt → Option Term) (all : List MemberOf) (old : List ℕ) (left : List MemberOf)

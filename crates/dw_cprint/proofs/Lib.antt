@@ -6,6 +6,7 @@ pub mod HasTermLemmas
 pub mod LegibleLemmas
 pub mod OptionLemmas
 pub mod NameLemmas
+pub mod SpanLemmas
 pub mod SameLemmas
 pub mod WriterLemmas
 pub mod ItemWriterLemmas

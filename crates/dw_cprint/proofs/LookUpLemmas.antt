@@ -1,6 +1,6 @@
 -- What is read of an entry that is there.
-use Rattle.std.proofs.Common.{suc, ◌+◌, true, false, Bool, [], ◌∷◌, ◌≡◌, ℕ, ◌<◌, ◌≤◌, List, Option, Some, None, IfSome, refl, ap, arith, length, inl, inr}
-use Rattle.std.specs.Prelude.{slice_get, option_and_then, All, if◌then◌else◌}
+use Rattle.std.proofs.Common.{suc, ◌+◌, true, false, Bool, [], ◌∷◌, ◌≡◌, ℕ, ◌<◌, ◌≤◌, List, Option, Some, None, IfSome, refl, ap, ◌∙◌, arith, length, inl, inr}
+use Rattle.std.specs.Prelude.{slice_get, option_and_then, option_map, is_some, All, if◌then◌else◌}
 use Rattle.std.specs.Option.{option_map_or}
 use Rattle.std.proofs.lemmas.Option.{slice_get_cases}
 use Rattle.dw_entries.specs.Entries.{Entry}
@@ -41,3 +41,12 @@ within_from (e ∷ es) id k n fits = within_one (is_number id e.parent) k n (chi
 pub children_within : (es : List Entry) (id : ℕ) → All (λ child. child < length es) (children_of es id)
 unfolding children_of
 children_within es id = within_from es id 0 (length es) (omega arith)
+
+-- whether there is a name, by the place of its text
+pub named_there : {P : Type 0} (es : List Entry) (id : ℕ) (text : P → List ℕ) (name : Entry → Option (List ℕ)) (place : Option P) → id < length es
+    → IfSome (slice_get es id) (λ e. option_map text place ≡ name e) → is_some place ≡ is_some (option_and_then name (slice_get es id))
+named_there {P = P} es id text name place within says = mapped place ∙ ap is_some (read_there es id name (option_map text place) within says)
+  where
+    mapped : (o : Option P) → is_some o ≡ is_some (option_map text o)
+    mapped None = refl
+    mapped (Some x) = refl

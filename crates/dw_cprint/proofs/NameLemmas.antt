@@ -1,9 +1,10 @@
 -- The words of a base type's name, and its text.
-use Rattle.std.proofs.Common.{◌≡◌, ℕ, zero, suc, ◌+◌, ◌<◌, ◌≤◌, Bool, true, false, cond, List, [], ◌∷◌, ◌++◌, Option, Some, None, refl, sym, ◌∙◌, ap, subst, length, take, drop, append-nil, arith}
+use Rattle.std.proofs.Common.{◌≡◌, ℕ, zero, suc, ◌+◌, ◌*◌, ◌<◌, ◌≤◌, Bool, true, false, cond, List, [], ◌∷◌, ◌++◌, Option, Some, None, refl, sym, ◌∙◌, ap, subst, length, take, drop, append-nil, arith}
 use Rattle.std.specs.Prelude.{◌==◌, ◌&&◌, ◌-◌, count_by, position, nat_lt, codes, bytes_eq, option_map, option_and_then, is_some, if◌then◌else◌}
 use Rattle.std.specs.List.{slice_split, position_or_len, join_with_byte}
 use Rattle.std.proofs.lemmas.Bool.Decides.{nat_tests}
 use Rattle.std.proofs.lemmas.Option.{cond_some}
+use Rattle.std.proofs.lemmas.List.{length-append}
 use Rattle.std.proofs.lemmas.Slice.Eq.{bytes_eq-Decides}
 use Rattle.std.proofs.lemmas.List.Splits.{slice_split_first, slice_split-cons_no, length-slice_split, join_with_byte-slice_split}
 use Rattle.dw_cprint.specs.Declarations.{parts_of, word_of, words_of}
@@ -126,3 +127,42 @@ words-joined (suc most) (part ∷ parts) ws e =
 -- the text of a name of type words is the name
 pub words-text : (name : List ℕ) (ws : List TypeWord) → words_of 4 (parts_of name) ≡ Some ws → text_of (basic ws) ≡ name
 words-text name ws e = words-joined 4 (parts_of name) ws e ∙ join_with_byte-slice_split 32 name
+
+-- ---- how long type words are
+
+word-bytes : (word : TypeWord) → length (type_word_spelling word) ≤ 8
+word-bytes word = grind arith
+
+words-bytes : (ws : List TypeWord) → length (text_of (basic ws)) ≤ 9 * length ws
+words-bytes [] = omega arith
+words-bytes (w ∷ []) =
+    let long = length-append (type_word_spelling w) [] in
+    let word = word-bytes w in
+    omega arith
+words-bytes (w ∷ v ∷ ws) =
+    let long = length-append (type_word_spelling w) (32 ∷ text_of (basic (v ∷ ws))) in
+    let word = word-bytes w in
+    let others = words-bytes (v ∷ ws) in
+    omega arith
+
+words-few : (most : ℕ) (parts : List (List ℕ)) (ws : List TypeWord) → words_of most parts ≡ Some ws → length ws ≤ most
+words-few most [] ws e = let same : [] ≡ ws = cc in let none = ap length same in omega arith
+words-few zero (part ∷ parts) ws e = absurd (cc)
+words-few (suc most) (part ∷ parts) ws e =
+    let first = then_inverted (λ (w : TypeWord). option_map (λ (us : List TypeWord). w ∷ us) (words_of most parts)) (word_of part) ws e in
+    let others = map_inverted (λ (us : List TypeWord). first.0 ∷ us) (words_of most parts) ws first.2 in
+    let fewer = words-few most parts others.0 others.1 in
+    let more = ap length others.2 in
+    omega arith
+
+-- a name of more bytes is not type words
+pub no-words : (name : List ℕ) → 36 < length name → is_some (words_of 4 (parts_of name)) ≡ false
+no-words name long = by_words (words_of 4 (parts_of name)) refl
+  where
+    by_words : (found : Option (List TypeWord)) → words_of 4 (parts_of name) ≡ found → is_some found ≡ false
+    by_words None is = refl
+    by_words (Some ws) is =
+        let text = ap length (words-text name ws is) in
+        let bytes = words-bytes ws in
+        let few = words-few 4 (parts_of name) ws is in
+        absurd (omega arith)

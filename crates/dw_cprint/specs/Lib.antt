@@ -16,6 +16,7 @@ pub mod Cycles
 pub mod LongestRows
 pub mod Listings
 -- State.
+pub mod StringSpans
 pub mod Declarators
 pub mod Regular
 pub mod SameShapes

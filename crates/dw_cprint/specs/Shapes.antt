@@ -1,6 +1,6 @@
 -- Chapter: the shape of an entry that is reached, and the subject that is declared: all that the printer reads of an
 -- entry.
-use Rattle.std.specs.Prelude.{ℕ, ℤ, Bool, List, Option, map, option_map, option_copied, Vec}
+use Rattle.std.specs.Prelude.{ℕ, ℤ, Bool, List, Option, map, option_map, Vec}
 use Rattle.std.specs.Global.{Global}
 pub use Rattle.dw_cprint.specs.declared.words.Qualifier.{Qualifier}
 pub use Rattle.dw_cprint.specs.declared.words.Qualifier.TheVariants.{Const, Volatile, Restrict, Atomic}
@@ -10,6 +10,7 @@ pub use Rattle.dw_cprint.specs.declared.shape.Bits.{Bits}
 pub use Rattle.dw_cprint.specs.declared.shape.Bits.TheVariants.{Absent, Number, Wrong}
 pub use Rattle.dw_cprint.specs.declared.shape.Parameter.{Parameter}
 pub use Rattle.dw_cprint.specs.declared.shape.Parameter.TheVariants.{Typed, More}
+use Rattle.dw_cprint.specs.declared.text.Text.{Text}
 use Rattle.dw_cprint.specs.declared.shape.Member.{Member}
 use Rattle.dw_cprint.specs.declared.shape.Enumerator.{Enumerator}
 use Rattle.dw_cprint.specs.declared.shape.Shape.{Shape}
@@ -65,13 +66,17 @@ pub data SubjectOf : Type 0 where
 
 -- ---- what the code keeps of them
 
+-- the name that a value of the code represents
+abbrev pub view_name : Option Text → Name
+view_name name = option_map (λ (text : Text). text.bytes.now) name
+
 -- the member that a value of the code represents
 abbrev pub view_member : Member → MemberOf
-view_member m = record { name = option_copied m.name; type_at = m.type_at; bits = m.bits }
+view_member m = record { name = view_name m.name; type_at = m.type_at; bits = m.bits }
 
 -- the enumerator that a value of the code represents
 abbrev pub view_enumerator : Enumerator → EnumeratorOf
-view_enumerator e = record { name = option_copied e.name; value = e.value }
+view_enumerator e = record { name = view_name e.name; value = e.value }
 
 -- the parameters in a vector, if there is one
 abbrev pub parameter_items : Option (Vec Parameter Global) → Option (List Parameter)
@@ -79,13 +84,13 @@ parameter_items parameters = option_map (λ (ps : Vec Parameter Global). ps.item
 
 -- the shape that a value of the code represents
 abbrev pub view_shape : Shape → ShapeOf
-view_shape (shape.Base name) = base (option_copied name)
-view_shape (shape.Typedef name) = typedef (option_copied name)
+view_shape (shape.Base name) = base (view_name name)
+view_shape (shape.Typedef name) = typedef (view_name name)
 view_shape (shape.Qualified q at) = qualified q at
 view_shape (shape.Pointer at) = pointer at
 view_shape (shape.Array counts strange at) = array counts.items strange at
 view_shape (shape.Function at parameters) = function at (parameter_items parameters)
-view_shape (shape.Tagged word name) = tagged word name.now
+view_shape (shape.Tagged word name) = tagged word name.bytes.now
 view_shape (shape.Nameless word) = nameless word
 view_shape (shape.Body word odd members) = body word odd (map view_member members.items)
 view_shape (shape.Enumeration odd enumerators) = enumeration odd (map view_enumerator enumerators.items)
@@ -94,11 +99,11 @@ view_shape shape.Other = other
 
 -- the subject that a value of the code represents
 abbrev pub view_subject : Subject → SubjectOf
-view_subject (subject.Typedef name at) = typedef_subject (option_copied name) at
-view_subject (subject.Variable name at) = variable_subject (option_copied name) at
+view_subject (subject.Typedef name at) = typedef_subject (view_name name) at
+view_subject (subject.Variable name at) = variable_subject (view_name name) at
 view_subject (subject.Aggregate word name odd members) =
-    aggregate_subject word (option_copied name) odd (map view_member members.items)
+    aggregate_subject word (view_name name) odd (map view_member members.items)
 view_subject (subject.Enumeration name odd enumerators) =
-    enumeration_subject (option_copied name) odd (map view_enumerator enumerators.items)
-view_subject (subject.Declared word name) = declared_subject word (option_copied name)
+    enumeration_subject (view_name name) odd (map view_enumerator enumerators.items)
+view_subject (subject.Declared word name) = declared_subject word (view_name name)
 view_subject subject.Other = no_subject

@@ -1,29 +1,29 @@
 //! The second refusal (P2): names that are missing or not valid in C.
 
-ghost use Rattle.std.specs.Prelude.{◌≡◌, ◌↔◌, ℕ, All, IsTrue, map, option_copied};
-ghost use Rattle.dw_cprint.specs.Shapes.{ShapeOf, view_enumerator, view_member, view_shape, view_subject};
+ghost use Rattle.std.specs.Prelude.{◌≡◌, ◌↔◌, ℕ, All, IsTrue, map};
+ghost use Rattle.dw_cprint.specs.Shapes.{ShapeOf, view_enumerator, view_member, view_name, view_shape, view_subject};
 ghost use Rattle.dw_cprint.specs.Steps.{member_types, types_declared, types_reached};
 ghost use Rattle.dw_cprint.specs.Summaries.{Knows};
 ghost use Rattle.dw_cprint.specs.Wrong.{HasBadName, HasBadNameItself, HasWrongEnumeratorName, HasWrongMemberName};
 ghost use Rattle.dw_cprint.specs.Wrong.{LacksBaseName, LacksMemberName, LacksName, is_whole};
 
-use crate::names::{is_base_name, is_name};
+use crate::names::is_base_name;
 use crate::shape::{Bits, Enumerator, Member, Name, Shape, Subject};
 use crate::summary::Summaries;
 
 /// Whether a name is absent, or no identifier.
 fn lacks_name(name: Name<'_>) -> bool
-    ensures { IsTrue result ↔ LacksName (option_copied name.entry) }
+    ensures { IsTrue result ↔ LacksName (view_name name.entry) }
 {
     match name {
         None => true,
-        Some(name) => !is_name(name),
+        Some(name) => !name.is_name,
     }
 }
 
 /// Whether the name of a base type is absent, or no name of C.
 fn lacks_base_name(name: Name<'_>) -> bool
-    ensures { IsTrue result ↔ LacksBaseName (option_copied name.entry) }
+    ensures { IsTrue result ↔ LacksBaseName (view_name name.entry) }
 {
     match name {
         None => true,
@@ -41,10 +41,10 @@ fn is_unsized(bits: Bits) -> bool
 /// Whether a member needs a name and has none, or has one that is no identifier.
 fn lacks_member_name(summaries: &Summaries, member: &Member<'_>) -> bool
     ensures { (shapes : ℕ → ShapeOf) → Knows shapes summaries.now member.now.type_at → IsTrue result
-        ↔ LacksMemberName shapes (view_member member.now) (option_copied member.now.name) }
+        ↔ LacksMemberName shapes (view_member member.now) (view_name member.now.name) }
 {
     match member.name {
-        Some(name) => !is_name(name),
+        Some(name) => !name.is_name,
         None => {
             let unnamed = summaries.of(member.type_at).kind.is_unnamed_aggregate();
             !(unnamed && is_unsized(member.bits))
@@ -85,7 +85,7 @@ pub fn has_bad_name(summaries: &Summaries, shape: &Shape<'_>) -> bool
     match shape {
         Shape::Base(name) => lacks_base_name(*name),
         Shape::Typedef(name) => lacks_name(*name),
-        Shape::Tagged(_, name) => !is_name(name),
+        Shape::Tagged(_, name) => !name.is_name,
         Shape::Nameless(_) => true,
         Shape::Body(_, _, members) => has_wrong_member_name(summaries, members),
         Shape::Enumeration(_, enumerators) => has_wrong_enumerator_name(enumerators),

@@ -6,8 +6,9 @@ ghost use Rattle.dw_image.specs.Images.{entries_in};
 ghost use Rattle.dw_cprint.specs.EntryShapes.{has_tag, is_plain_member, member_at, is_enumerator, enumerator_at};
 ghost use Rattle.dw_cprint.specs.Shapes.{view_member, view_enumerator};
 
-use crate::look_ups::{bits_at, declared_at, integer_at, name_at, tag_at, type_at};
+use crate::look_ups::{bits_at, declared_at, integer_at, tag_at, type_at};
 use crate::shape::{Enumerator, Member};
+use crate::source::Source;
 use dw_entries::Tag;
 use dw_entries::constants::*;
 use dw_image::{EntryId, Image};
@@ -33,14 +34,14 @@ pub fn has_odd_child(image: &Image<'_>, children: &[EntryId]) -> bool
 }
 
 /// A plain member.
-fn member_at<'a>(image: &Image<'a>, id: EntryId) -> Member<'a>
-    requires { id < length (entries_in image.now) }
-    ensures { view_member result ≡ member_at image.now id }
+fn member_at<'a>(source: &Source<'_, 'a>, id: EntryId) -> Member<'a>
+    requires { id < length (entries_in source.now.image.now) }
+    ensures { view_member result ≡ member_at source.now.image.now id }
 {
     Member {
-        name: name_at(image, id),
-        type_at: type_at(image, id),
-        bits: bits_at(image, id),
+        name: source.name(id),
+        type_at: type_at(source.image, id),
+        bits: bits_at(source.image, id),
     }
 }
 
@@ -55,30 +56,30 @@ fn is_plain_member(image: &Image<'_>, id: EntryId) -> bool
 /// The plain members among these children.
 pub fn members_of<'a>(
     alloc: Global,
-    image: &Image<'a>,
+    source: &Source<'_, 'a>,
     children: &[EntryId],
 ) -> Result<Vec<Member<'a>>, AllocError>
-    requires { All (λ child. child < length (entries_in image.now)) children.now }
+    requires { All (λ child. child < length (entries_in source.now.image.now)) children.now }
     ensures { IfOk result (λ members. map view_member members.items
-        ≡ map (member_at image.now) (filter (is_plain_member image.now) children.now)) }
+        ≡ map (member_at source.now.image.now) (filter (is_plain_member source.now.image.now) children.now)) }
 {
     let mut members = Vec::with_capacity(alloc, children.len())?;
     for child in children {
-        if is_plain_member(image, *child) {
-            members.push(member_at(image, *child))?;
+        if is_plain_member(source.image, *child) {
+            members.push(member_at(source, *child))?;
         }
     }
     Ok(members)
 }
 
 /// An enumerator.
-fn enumerator_at<'a>(image: &Image<'a>, id: EntryId) -> Enumerator<'a>
-    requires { id < length (entries_in image.now) }
-    ensures { view_enumerator result ≡ enumerator_at image.now id }
+fn enumerator_at<'a>(source: &Source<'_, 'a>, id: EntryId) -> Enumerator<'a>
+    requires { id < length (entries_in source.now.image.now) }
+    ensures { view_enumerator result ≡ enumerator_at source.now.image.now id }
 {
     Enumerator {
-        name: name_at(image, id),
-        value: integer_at(image, id, DW_AT_const_value),
+        name: source.name(id),
+        value: integer_at(source.image, id, DW_AT_const_value),
     }
 }
 
@@ -93,17 +94,17 @@ fn is_enumerator(image: &Image<'_>, id: EntryId) -> bool
 /// The enumerators among these children.
 pub fn enumerators_of<'a>(
     alloc: Global,
-    image: &Image<'a>,
+    source: &Source<'_, 'a>,
     children: &[EntryId],
 ) -> Result<Vec<Enumerator<'a>>, AllocError>
-    requires { All (λ child. child < length (entries_in image.now)) children.now }
+    requires { All (λ child. child < length (entries_in source.now.image.now)) children.now }
     ensures { IfOk result (λ enumerators. map view_enumerator enumerators.items
-        ≡ map (enumerator_at image.now) (filter (is_enumerator image.now) children.now)) }
+        ≡ map (enumerator_at source.now.image.now) (filter (is_enumerator source.now.image.now) children.now)) }
 {
     let mut enumerators = Vec::with_capacity(alloc, children.len())?;
     for child in children {
-        if is_enumerator(image, *child) {
-            enumerators.push(enumerator_at(image, *child))?;
+        if is_enumerator(source.image, *child) {
+            enumerators.push(enumerator_at(source, *child))?;
         }
     }
     Ok(enumerators)

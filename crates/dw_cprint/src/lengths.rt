@@ -1,13 +1,13 @@
 //! How long the parts of the text of a type are, counted to one past the limit.
 
 ghost use Rattle.std.specs.Prelude.{◌≡◌, ◌+◌, ◌∷◌, ◌++◌, [], false, true, ℕ, ℤ, All, IfOk, IsTrue, List, Option, Some};
-ghost use Rattle.std.specs.Prelude.{flat_map, length, map, option_copied};
+ghost use Rattle.std.specs.Prelude.{flat_map, length, map};
 ghost use Rattle.dw_cprint.specs.Declarations.{bits_of, constants_of, declaration_by, has_more, is_cut_short};
 ghost use Rattle.dw_cprint.specs.Declarations.{is_misplaced, members_by, parameters_by, term_at, term_by};
 ghost use Rattle.dw_cprint.specs.Declarators.{body_tokens, enumeration_tokens};
 ghost use Rattle.dw_cprint.specs.Digits.{numeral};
 ghost use Rattle.dw_cprint.specs.Shapes.{ShapeOf, TypeAt as TypeAtOf, function, parameter_items, view_enumerator};
-ghost use Rattle.dw_cprint.specs.Shapes.{view_member, view_shape, view_subject};
+ghost use Rattle.dw_cprint.specs.Shapes.{view_member, view_name, view_shape, view_subject};
 ghost use Rattle.dw_cprint.specs.Steps.{member_types, parameter_types, types_declared, types_reached};
 ghost use Rattle.dw_cprint.specs.Summaries.{IsCallLength, IsEnumeratorLength, IsLength, IsParameterLength, IsSummary};
 ghost use Rattle.dw_cprint.specs.Summaries.{Knows, KnowsLength, byte_count, counted, member_tokens, text_bytes};
@@ -55,11 +55,11 @@ impl Length {
     /// The bytes with a name as the declarator, or with none.
     pub fn named(self, name: Name<'_>) -> usize
         ensures { (t : Term) → IsLength t self
-            → result ≡ counted (byte_count (spell [] t (name_tokens (option_copied name.entry)))) }
+            → result ≡ counted (byte_count (spell [] t (name_tokens (view_name name.entry)))) }
     {
         match name {
             None => self.bytes,
-            Some(name) => add(self.inside(), name.len()),
+            Some(name) => add(self.inside(), name.bytes.len()),
         }
     }
 
@@ -96,11 +96,11 @@ fn decimal_length(alloc: Global, n: u128) -> Result<usize, AllocError>
 
 /// A name, if there is one.
 pub fn name_length(name: Name<'_>) -> usize
-    ensures { result ≡ byte_count (name_tokens (option_copied name.entry)) }
+    ensures { result ≡ byte_count (name_tokens (view_name name.entry)) }
 {
     match name {
         None => 0,
-        Some(name) => name.len(),
+        Some(name) => name.bytes.len(),
     }
 }
 
@@ -122,7 +122,7 @@ fn member_length(
 ) -> Result<usize, AllocError>
     ensures { IfOk result (λ bytes. (term : TypeAtOf → Option Term) (t : Term)
         → KnowsLength term summaries.now member.now.type_at → term member.now.type_at ≡ Some t
-        → bytes ≡ counted (byte_count (member_tokens t (option_copied member.now.name) member.now.bits))) }
+        → bytes ≡ counted (byte_count (member_tokens t (view_name member.now.name) member.now.bits))) }
 {
     let named = summaries.of(member.type_at).length.named(member.name);
     let bits = bits_length(alloc, member.bits)?;

@@ -17,8 +17,9 @@ ghost use Rattle.dw_cprint.specs.declared.listing.Listed.{Listed as ListedOf};
 use crate::digits::put_eight_digits;
 use crate::fault::PrintFault;
 use crate::longest::longest_by_rank;
-use crate::look_ups::{declared_at, name_at, tag_at};
+use crate::look_ups::{declared_at, has_name, tag_at};
 use crate::shape::Subject;
+use crate::source::{Source, Strings};
 use crate::subject_reader::subject_of;
 use crate::survey::Survey;
 use dw_entries::constants::*;
@@ -52,9 +53,9 @@ fn is_named_type(image: &Image<'_>, id: EntryId) -> bool
     ensures { result ≡ is_named_type (subject_in image.now id) }
 {
     match tag_at(image, id) {
-        DW_TAG_typedef => name_at(image, id).is_some(),
+        DW_TAG_typedef => has_name(image, id),
         DW_TAG_structure_type | DW_TAG_union_type | DW_TAG_enumeration_type => {
-            !declared_at(image, id) && name_at(image, id).is_some()
+            !declared_at(image, id) && has_name(image, id)
         }
         _ => false,
     }
@@ -78,15 +79,16 @@ fn named_types(alloc: Global, image: &Image<'_>) -> Result<Vec<EntryId>, AllocEr
 /// What is declared at each of some entries.
 fn subjects_of<'a>(
     alloc: Global,
-    image: &Image<'a>,
+    source: &Source<'_, 'a>,
     ids: &[EntryId],
 ) -> Result<Vec<Subject<'a>>, AllocError>
-    requires { All (λ id. id < length (entries_in image.now)) ids.now }
-    ensures { IfOk result (λ subjects. map view_subject subjects.items ≡ map (subject_in image.now) ids.now) }
+    requires { All (λ id. id < length (entries_in source.now.image.now)) ids.now }
+    ensures { IfOk result (λ subjects. map view_subject subjects.items
+        ≡ map (subject_in source.now.image.now) ids.now) }
 {
     let mut subjects = Vec::with_capacity(alloc, ids.len())?;
     for id in ids {
-        subjects.push(subject_of(alloc, image, *id)?)?;
+        subjects.push(subject_of(alloc, source, *id)?)?;
     }
     Ok(subjects)
 }
@@ -223,8 +225,12 @@ pub fn declare_all(alloc: Global, image: &Image<'_>) -> Result<Listing, NoMemory
     ensures text { IfOk result (λ it. it.text.items ≡ listing_text image.now it.order.items it.refused.items) }
 {
     let named = named_types(alloc, image)?;
-    let subjects = subjects_of(alloc, image, &named)?;
-    let survey = Survey::new(alloc, image, &subjects)?;
+    let source = Source {
+        image,
+        strings: Strings::read(alloc, image)?,
+    };
+    let subjects = subjects_of(alloc, &source, &named)?;
+    let survey = Survey::new(alloc, &source, &subjects)?;
     let levels = levels_of(alloc, image)?;
     let mut judged = judge(alloc, &survey, &named, &subjects, &levels)?;
     drop(levels);

@@ -1,6 +1,6 @@
 //! What is read of an entry: its tag, its name, its type, its children, flags and numbers.
 
-ghost use Rattle.std.specs.Prelude.{◌≡◌, ◌<◌, length, slice_get, IfSome, IfOk, All, option_map, option_copied};
+ghost use Rattle.std.specs.Prelude.{◌≡◌, ◌<◌, length, slice_get, IfSome, IfOk, All, option_map, is_some};
 ghost use Rattle.dw_forms.specs.Value.{view};
 ghost use Rattle.dw_image.specs.Images.{entries_in};
 ghost use Rattle.dw_cprint.specs.LookUps.{tag_at, value_at, name_at, type_at, children_at, count_in, has_at, flag_at};
@@ -8,7 +8,7 @@ ghost use Rattle.dw_cprint.specs.LookUps.{declared_at, integer_at};
 ghost use Rattle.dw_cprint.specs.EntryShapes.{bits_in};
 ghost use Rattle.dw_forms.specs.Codes.{DW_AT_bit_size};
 
-use crate::shape::{Bits, Name, TypeAt};
+use crate::shape::{Bits, TypeAt};
 use dw_entries::constants::*;
 use dw_entries::{Attribute, Tag, Value};
 use dw_image::{EntryId, Image};
@@ -30,12 +30,12 @@ fn value_at<'a>(image: &Image<'a>, id: EntryId, attribute: Attribute) -> Option<
     image.value(id, attribute)
 }
 
-/// The name of an entry.
-pub fn name_at<'a>(image: &Image<'a>, id: EntryId) -> Name<'a>
+/// Whether an entry has a name. Its text is not read.
+pub fn has_name(image: &Image<'_>, id: EntryId) -> bool
     requires { id < length (entries_in image.now) }
-    ensures { option_copied result ≡ name_at image.now id }
+    ensures { result ≡ is_some (name_at image.now id) }
 {
-    image.name_of(id)
+    image.name_place(id).is_some()
 }
 
 /// The type of an entry.

@@ -6,6 +6,8 @@ ghost use Rattle.dw_cprint.specs.Declarations.{parts_of, word_of, words_of};
 ghost use Rattle.dw_cprint.specs.Legible.{is_identifier, is_keyword, is_word_byte};
 ghost use Rattle.dw_cprint.specs.Wrong.{is_base_name};
 
+use crate::text::Text;
+
 /// The keywords of C11.
 const KEYWORDS: [&str; 44] = [
     "auto",
@@ -56,7 +58,7 @@ const KEYWORDS: [&str; 44] = [
 
 /// Whether the text is a keyword of C.
 #[tactic(auto, unfolding(crate::specs::Legible::is_keyword))]
-pub fn is_keyword_text(word: &[u8]) -> bool
+fn is_keyword_text(word: &[u8]) -> bool
     ensures { result ≡ is_keyword word.now }
 {
     is_one_of(word, &KEYWORDS)
@@ -70,28 +72,29 @@ fn is_one_of(word: &[u8], words: &[&str]) -> bool
 }
 
 /// Whether the byte is a letter, a digit or an underscore.
-pub fn is_word(b: u8) -> bool
+fn is_word(b: u8) -> bool
     ensures { result ≡ is_word_byte b }
 {
     b.is_ascii_alphanumeric() || b == b'_'
 }
 
 /// Whether all bytes are letters, digits or underscores.
-fn are_words(bytes: &[u8]) -> bool
+pub fn are_words(bytes: &[u8]) -> bool
     ensures { result ≡ list_all is_word_byte bytes.now }
 {
     bytes.iter().all(|b| is_word(*b))
 }
 
-/// Whether the name is an identifier of C.
+/// Whether the name is an identifier of C, by whether all its bytes are letters, digits or underscores.
 #[tactic(auto, unfolding(crate::specs::Legible::is_identifier))]
-pub fn is_name(name: &[u8]) -> bool
+pub fn is_name(name: &[u8], words: bool) -> bool
+    requires { words ≡ list_all is_word_byte name.now }
     ensures { result ≡ is_identifier name.now }
 {
     let Some(first) = name.first() else {
         return false;
     };
-    !first.is_ascii_digit() && are_words(name) && !is_keyword_text(name)
+    !first.is_ascii_digit() && words && !is_keyword_text(name)
 }
 
 /// The words of which names of base types are made. This project's choice.
@@ -126,9 +129,12 @@ fn are_type_words(name: &[u8], most: u8) -> bool
     }
 }
 
+/// The most bytes of 4 type words, each with a space.
+const MOST_BYTES: usize = 36;
+
 /// Whether the name is one for a base type: an identifier, or 1 to 4 type words separated by one space each.
-pub fn is_base_name(name: &[u8]) -> bool
-    ensures { result ≡ is_base_name name.now }
+pub fn is_base_name(name: Text<'_>) -> bool
+    ensures { result ≡ is_base_name name.entry.bytes.now }
 {
-    is_name(name) || are_type_words(name, 4)
+    name.is_name || name.bytes.len() <= MOST_BYTES && are_type_words(name.bytes, 4)
 }

@@ -1,11 +1,11 @@
 //! Pieces of a type's text: numbers, names, brackets, qualifiers, enumerators.
 
-ghost use Rattle.std.specs.Prelude.{◌≡◌, ◌++◌, ◌∷◌, [], flat_map, map, option_copied, OnOk};
+ghost use Rattle.std.specs.Prelude.{◌≡◌, ◌++◌, ◌∷◌, [], flat_map, map, OnOk};
 ghost use Rattle.dw_cprint.specs.Declarations.{bits_of};
 ghost use Rattle.dw_cprint.specs.Declarators.{gap, pointer_row};
 ghost use Rattle.dw_cprint.specs.Digits.{numeral};
 ghost use Rattle.dw_cprint.specs.Kept.{Writes, WritesEnumerator, WritesEnumerators};
-ghost use Rattle.dw_cprint.specs.Shapes.{view_enumerator};
+ghost use Rattle.dw_cprint.specs.Shapes.{view_enumerator, view_name};
 ghost use Rattle.dw_cprint.specs.Tokens.{Blank, TagWord};
 ghost use Rattle.dw_cprint.specs.Writing.{count_tokens, qualifying, name_tokens, value_tokens, bits_tokens};
 
@@ -33,11 +33,11 @@ fn put_value(alloc: Global, out: &mut Vec<u8>, value: i128) -> Result<(), AllocE
 
 /// A name, if there is one.
 pub fn put_name(out: &mut Vec<u8>, name: Name<'_>) -> Result<(), AllocError>
-    ensures { OnOk result (Writes (name_tokens (option_copied name.entry)) out.old.items out.new.items) }
+    ensures { OnOk result (Writes (name_tokens (view_name name.entry)) out.old.items out.new.items) }
 {
     match name {
         None => Ok(()),
-        Some(name) => out.extend_from_slice(name),
+        Some(name) => out.extend_from_slice(name.bytes),
     }
 }
 
@@ -101,7 +101,7 @@ pub fn put_gap(out: &mut Vec<u8>, inside: bool) -> Result<(), AllocError>
 /// A word before a tag, and the tag.
 pub fn put_tag(out: &mut Vec<u8>, tag: TagKeyword, name: Name<'_>) -> Result<(), AllocError>
     ensures { OnOk result
-        (Writes (TagWord tag ∷ Blank ∷ name_tokens (option_copied name.entry)) out.old.items out.new.items) }
+        (Writes (TagWord tag ∷ Blank ∷ name_tokens (view_name name.entry)) out.old.items out.new.items) }
 {
     out.extend_from_slice(tag.text())?;
     out.push(b' ')?;

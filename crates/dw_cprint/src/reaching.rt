@@ -12,6 +12,7 @@ ghost use Rattle.dw_cprint.specs.Steps.{member_types, parameter_types, types_dec
 
 use crate::shape::{Member, Parameter, Shape, Subject, TypeAt};
 use crate::shape_reader::shape_of;
+use crate::source::Source;
 use dw_image::Image;
 use dw_types::StepGraph;
 use std::alloc::{AllocError, Global};
@@ -169,13 +170,17 @@ pub fn declared_types(alloc: Global, subject: &Subject<'_>) -> Result<Vec<TypeAt
 }
 
 /// The shape of the entry with a number.
-fn shape_at<'a>(alloc: Global, image: &Image<'a>, entry: usize) -> Result<Shape<'a>, AllocError>
-    requires { entry < length (entries_in image.now) }
-    ensures shape { IfOk result (λ shape. view_shape shape ≡ shape_in image.now entry) }
+fn shape_at<'a>(
+    alloc: Global,
+    source: &Source<'_, 'a>,
+    entry: usize,
+) -> Result<Shape<'a>, AllocError>
+    requires { entry < length (entries_in source.now.image.now) }
+    ensures shape { IfOk result (λ shape. view_shape shape ≡ shape_in source.now.image.now entry) }
     ensures fit { IfOk result (λ shape. IsRegular (view_shape shape)) }
 {
-    match image.nth(entry) {
-        Some(id) => shape_of(alloc, image, id),
+    match source.image.nth(entry) {
+        Some(id) => shape_of(alloc, source, id),
         None => Ok(Shape::Other),
     }
 }
@@ -194,16 +199,17 @@ pub fn all_types<'a>(alloc: Global, subjects: &[Subject<'a>]) -> Result<Vec<Type
 /// Finds the entries that are reached from some types. Looks at no others.
 pub fn reach<'a>(
     alloc: Global,
-    image: &Image<'a>,
+    source: &Source<'_, 'a>,
     types: &[TypeAt],
 ) -> Result<Reached<'a>, AllocError>
-    requires { All (λ to. to < length (entries_in image.now)) (entries_of types.now) }
-    ensures reach { IfOk result (λ r. IsReachOf (shape_in image.now) (entries_of types.now)
+    requires { All (λ to. to < length (entries_in source.now.image.now)) (entries_of types.now) }
+    ensures reach { IfOk result (λ r. IsReachOf (shape_in source.now.image.now) (entries_of types.now)
         r.places.items r.found.items (items_of r.rows.items)) }
-    ensures shapes { IfOk result (λ r. map view_shape r.shapes.items ≡ map (shape_in image.now) r.found.items) }
+    ensures shapes { IfOk result (λ r. map view_shape r.shapes.items
+        ≡ map (shape_in source.now.image.now) r.found.items) }
     ensures fit { IfOk result (λ r. All (λ shape. IsRegular (view_shape shape)) r.shapes.items) }
 {
-    let mut places = vec![in alloc; 0; image.entries()]?;
+    let mut places = vec![in alloc; 0; source.image.entries()]?;
     let mut found = Vec::new(alloc);
     let roots = row_of(alloc, &mut places, &mut found, types)?;
     drop(roots);
@@ -212,7 +218,7 @@ pub fn reach<'a>(
     let mut next = Vec::new(alloc);
     while rows.len() < found.len() {
         let entry = found[rows.len()];
-        let shape = shape_at(alloc, image, entry)?;
+        let shape = shape_at(alloc, source, entry)?;
         next.clear();
         put_reached_types(&mut next, &shape)?;
         shapes.push(shape)?;

@@ -12,10 +12,9 @@ ghost use Rattle.dw_cprint.specs.Regular.{IsRegular};
 ghost use Rattle.dw_cprint.specs.Shapes.{view_shape, array, function, Enum};
 
 use crate::body_reader::{enumerators_of, has_child, has_odd_child, members_of};
-use crate::look_ups::{
-    children_at, count_at, declared_at, flag_at, has_at, name_at, tag_at, type_at,
-};
+use crate::look_ups::{children_at, count_at, declared_at, flag_at, has_at, tag_at, type_at};
 use crate::shape::{Parameter, Shape};
+use crate::source::Source;
 use crate::words::{Qualifier, TagKeyword};
 use dw_entries::Tag;
 use dw_entries::constants::*;
@@ -146,70 +145,78 @@ fn function_shape<'a>(
 /// The shape of a structure or union.
 fn aggregate_shape<'a>(
     alloc: Global,
-    image: &Image<'a>,
+    source: &Source<'_, 'a>,
     id: EntryId,
     word: TagKeyword,
 ) -> Result<Shape<'a>, AllocError>
-    requires { id < length (entries_in image.now) }
-    ensures shape { IfOk result (λ shape. view_shape shape ≡ aggregate_shape image.now id word (name_at image.now id)) }
+    requires { id < length (entries_in source.now.image.now) }
+    ensures shape { IfOk result (λ shape. view_shape shape
+        ≡ aggregate_shape source.now.image.now id word (name_at source.now.image.now id)) }
     ensures fit { IfOk result (λ shape. IsAggregate word → IsRegular (view_shape shape)) }
 {
-    if let Some(name) = name_at(image, id) {
+    if let Some(name) = source.name(id) {
         return Ok(Shape::Tagged(word, name));
     }
-    if declared_at(image, id) {
+    if declared_at(source.image, id) {
         return Ok(Shape::Nameless(word));
     }
-    let children = children_at(alloc, image, id)?;
-    let members = members_of(alloc, image, &children)?;
-    Ok(Shape::Body(word, has_odd_child(image, &children), members))
+    let children = children_at(alloc, source.image, id)?;
+    let members = members_of(alloc, source, &children)?;
+    Ok(Shape::Body(word, has_odd_child(source.image, &children), members))
 }
 
 /// The shape of an enumeration.
 fn enumeration_shape<'a>(
     alloc: Global,
-    image: &Image<'a>,
+    source: &Source<'_, 'a>,
     id: EntryId,
 ) -> Result<Shape<'a>, AllocError>
-    requires { id < length (entries_in image.now) }
-    ensures shape { IfOk result (λ shape. view_shape shape ≡ enumeration_shape image.now id (name_at image.now id)) }
+    requires { id < length (entries_in source.now.image.now) }
+    ensures shape { IfOk result (λ shape. view_shape shape
+        ≡ enumeration_shape source.now.image.now id (name_at source.now.image.now id)) }
     ensures fit { IfOk result (λ shape. IsRegular (view_shape shape)) }
 {
-    if let Some(name) = name_at(image, id) {
+    if let Some(name) = source.name(id) {
         return Ok(Shape::Tagged(TagKeyword::Enum, name));
     }
-    if declared_at(image, id) {
+    if declared_at(source.image, id) {
         return Ok(Shape::Nameless(TagKeyword::Enum));
     }
-    let children = children_at(alloc, image, id)?;
-    let enumerators = enumerators_of(alloc, image, &children)?;
-    Ok(Shape::Enumeration(has_odd_child(image, &children), enumerators))
+    let children = children_at(alloc, source.image, id)?;
+    let enumerators = enumerators_of(alloc, source, &children)?;
+    Ok(Shape::Enumeration(has_odd_child(source.image, &children), enumerators))
 }
 
 /// The shape of an entry with a tag.
 fn shape_by<'a>(
     alloc: Global,
-    image: &Image<'a>,
+    source: &Source<'_, 'a>,
     id: EntryId,
     tag: Tag,
 ) -> Result<Shape<'a>, AllocError>
-    requires { id < length (entries_in image.now) }
-    ensures shape { IfOk result (λ shape. view_shape shape ≡ shape_by image.now id tag) }
+    requires { id < length (entries_in source.now.image.now) }
+    ensures shape { IfOk result (λ shape. view_shape shape ≡ shape_by source.now.image.now id tag) }
     ensures fit { IfOk result (λ shape. IsRegular (view_shape shape)) }
 {
     match tag {
-        DW_TAG_base_type => Ok(Shape::Base(name_at(image, id))),
-        DW_TAG_typedef => Ok(Shape::Typedef(name_at(image, id))),
-        DW_TAG_const_type => Ok(Shape::Qualified(Qualifier::Const, type_at(image, id))),
-        DW_TAG_volatile_type => Ok(Shape::Qualified(Qualifier::Volatile, type_at(image, id))),
-        DW_TAG_restrict_type => Ok(Shape::Qualified(Qualifier::Restrict, type_at(image, id))),
-        DW_TAG_atomic_type => Ok(Shape::Qualified(Qualifier::Atomic, type_at(image, id))),
-        DW_TAG_pointer_type => Ok(Shape::Pointer(type_at(image, id))),
-        DW_TAG_array_type => array_shape(alloc, image, id),
-        DW_TAG_subroutine_type => function_shape(alloc, image, id),
-        DW_TAG_structure_type => aggregate_shape(alloc, image, id, TagKeyword::Struct),
-        DW_TAG_union_type => aggregate_shape(alloc, image, id, TagKeyword::Union),
-        DW_TAG_enumeration_type => enumeration_shape(alloc, image, id),
+        DW_TAG_base_type => Ok(Shape::Base(source.name(id))),
+        DW_TAG_typedef => Ok(Shape::Typedef(source.name(id))),
+        DW_TAG_const_type => Ok(Shape::Qualified(Qualifier::Const, type_at(source.image, id))),
+        DW_TAG_volatile_type => Ok(Shape::Qualified(
+            Qualifier::Volatile,
+            type_at(source.image, id),
+        )),
+        DW_TAG_restrict_type => Ok(Shape::Qualified(
+            Qualifier::Restrict,
+            type_at(source.image, id),
+        )),
+        DW_TAG_atomic_type => Ok(Shape::Qualified(Qualifier::Atomic, type_at(source.image, id))),
+        DW_TAG_pointer_type => Ok(Shape::Pointer(type_at(source.image, id))),
+        DW_TAG_array_type => array_shape(alloc, source.image, id),
+        DW_TAG_subroutine_type => function_shape(alloc, source.image, id),
+        DW_TAG_structure_type => aggregate_shape(alloc, source, id, TagKeyword::Struct),
+        DW_TAG_union_type => aggregate_shape(alloc, source, id, TagKeyword::Union),
+        DW_TAG_enumeration_type => enumeration_shape(alloc, source, id),
         _ => Ok(if tag.is_type() {
             Shape::Foreign
         } else {
@@ -220,10 +227,14 @@ fn shape_by<'a>(
 
 /// The shape of an entry that is reached.
 #[tactic(auto, unfolding(crate::specs::EntryShapes::shape_in))]
-pub fn shape_of<'a>(alloc: Global, image: &Image<'a>, id: EntryId) -> Result<Shape<'a>, AllocError>
-    requires { id < length (entries_in image.now) }
-    ensures shape { IfOk result (λ shape. view_shape shape ≡ shape_in image.now id) }
+pub fn shape_of<'a>(
+    alloc: Global,
+    source: &Source<'_, 'a>,
+    id: EntryId,
+) -> Result<Shape<'a>, AllocError>
+    requires { id < length (entries_in source.now.image.now) }
+    ensures shape { IfOk result (λ shape. view_shape shape ≡ shape_in source.now.image.now id) }
     ensures fit { IfOk result (λ shape. IsRegular (view_shape shape)) }
 {
-    shape_by(alloc, image, id, tag_at(image, id))
+    shape_by(alloc, source, id, tag_at(source.image, id))
 }

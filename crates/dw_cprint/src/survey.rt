@@ -16,6 +16,7 @@ use crate::lengths::LIMIT;
 use crate::longest::longest_rows;
 use crate::reaching::{all_types, declared_types, reach};
 use crate::shape::{Shape, Subject, TypeAt};
+use crate::source::Source;
 use crate::summary::{Summaries, summarize};
 use crate::text_lengths::declaration_length;
 use dw_image::Image;
@@ -37,14 +38,15 @@ impl<'a> Survey<'a> {
     /// Surveys what some declarations reach. Each entry is looked at once, and no path by itself.
     pub fn new(
         alloc: Global,
-        image: &Image<'a>,
+        source: &Source<'_, 'a>,
         subjects: &[Subject<'a>],
     ) -> Result<Survey<'a>, AllocError>
-        requires { All (λ to. to < length (entries_in image.now)) (roots_of (map view_subject subjects.now)) }
-        ensures { IfOk result (IsSurveyOf (shape_in image.now) (roots_of (map view_subject subjects.now))) }
+        requires { All (λ to. to < length (entries_in source.now.image.now))
+            (roots_of (map view_subject subjects.now)) }
+        ensures { IfOk result (IsSurveyOf (shape_in source.now.image.now) (roots_of (map view_subject subjects.now))) }
     {
         let types = all_types(alloc, subjects)?;
-        let reached = reach(alloc, image, &types)?;
+        let reached = reach(alloc, source, &types)?;
         drop(types);
         let clear = clear_nodes(alloc, &reached)?;
         let depths = longest_rows(alloc, &reached, &clear)?;

@@ -70,7 +70,7 @@ pub fn length_of(
             let call = call_length(summaries, parameters);
             Ok(summaries.of(*at).length.behind(call))
         }
-        Shape::Tagged(tag, name) => Ok(word(tagged_length(*tag, name.len()))),
+        Shape::Tagged(tag, name) => Ok(word(tagged_length(*tag, name.bytes.len()))),
         Shape::Body(tag, _, members) => {
             let body = body_length(alloc, summaries, members)?;
             Ok(word(tagged_length(*tag, body)))

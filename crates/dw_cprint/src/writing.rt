@@ -1,11 +1,11 @@
 //! The text of a type: what is before its declarator, and what is after it.
 
-ghost use Rattle.std.specs.Prelude.{◌≡◌, ◌<◌, ◌||◌, Some, None, map, option_copied, OnOk, IfSome, MatchOption};
+ghost use Rattle.std.specs.Prelude.{◌≡◌, ◌<◌, ◌||◌, Some, None, map, OnOk, IfSome, MatchOption};
 ghost use Rattle.dw_cprint.specs.Declarations.{term_by};
 ghost use Rattle.dw_cprint.specs.Kept.{kept, kept_term, WritesBefore, WritesAfter, WritesOpened, WritesClosed};
 ghost use Rattle.dw_cprint.specs.Kept.{WritesNamed, WritesCore, WritesMember, WritesMembers, WritesParameter};
 ghost use Rattle.dw_cprint.specs.Kept.{WritesParameters, WritesDeclaration};
-ghost use Rattle.dw_cprint.specs.Shapes.{other, view_shape, view_subject, view_member};
+ghost use Rattle.dw_cprint.specs.Shapes.{other, view_name, view_shape, view_subject, view_member};
 ghost use Rattle.dw_cprint.specs.Wrong.{is_array, is_function, shape_of};
 
 use crate::pieces::{
@@ -88,7 +88,7 @@ impl<'a> Survey<'a> {
         name: Name<'_>,
         depth: usize,
     ) -> Result<(), AllocError>
-        ensures { OnOk result (WritesNamed self.now depth at (option_copied name.entry) out.old.items out.new.items) }
+        ensures { OnOk result (WritesNamed self.now depth at (view_name name.entry) out.old.items out.new.items) }
     {
         self.put_before(alloc, out, at, Vec::new(alloc), name.is_some(), depth)?;
         put_name(out, name)?;

@@ -4,6 +4,10 @@ pub mod Valid
 pub mod First
 pub mod Lookups
 pub mod Images
+-- What dw_links says of strings, for the crates above.
+pub use Rattle.dw_links.specs.Contributions
+pub use Rattle.dw_links.specs.Slots
+pub use Rattle.dw_links.specs.ValueTexts
 -- State.
 pub mod Measures
 pub mod ChildrenLeft

@@ -12,6 +12,7 @@ mod verifying;
 
 pub use children::Children;
 pub use dw_entries::{EntryId, Fault, Head, Rule, Section, Tag};
+pub use dw_links::{TextPlace, string_from};
 pub use dw_types::NoMemory;
 pub use id::TypeId;
 pub use image::Image;

@@ -11,10 +11,10 @@ use Rattle.dw_cprint.proofs.body_reader.members_of.Goals as goal
 
 pub loop-child-preserved : goal.loop-child-preserved
 loop-child-preserved c =
-    let all = map (member_at c.args.image.now) (filter (is_plain_member c.args.image.now) c.args.children.now) in
+    let all = map (member_at c.args.source.now.image.now) (filter (is_plain_member c.args.source.now.image.now) c.args.children.now) in
     elim c.if-is_plain_member.branch [
-      | then-is_plain_member+in_ok-push w ↦ taken (member_at c.args.image.now) (is_plain_member c.args.image.now) (map view_member c.if-is_plain_member.members.items) (map view_member c.loop-child.members.items) all (view_member w.member_at.result) c.args.children.now c.loop-child.child-index c.child-item.result
+      | then-is_plain_member+in_ok-push w ↦ taken (member_at c.args.source.now.image.now) (is_plain_member c.args.source.now.image.now) (map view_member c.if-is_plain_member.members.items) (map view_member c.loop-child.members.items) all (view_member w.member_at.result) c.args.children.now c.loop-child.child-index c.child-item.result
           (seen view_member c.if-is_plain_member.members.items c.loop-child.members.items w.member_at.result (ap (λ (v : Vec (Member) Global). v.items) w.members-is ∙ w.in_ok-push.ensures.items)) w.member_at.ensures c.loop-child-test.true c.child-item.is (sym w.if-is_plain_member.ensures) c.loop-child.invariant
-      | else-is_plain_member w ↦ passed (member_at c.args.image.now) (is_plain_member c.args.image.now) (map view_member c.if-is_plain_member.members.items) (map view_member c.loop-child.members.items) all c.args.children.now c.loop-child.child-index c.child-item.result
+      | else-is_plain_member w ↦ passed (member_at c.args.source.now.image.now) (is_plain_member c.args.source.now.image.now) (map view_member c.if-is_plain_member.members.items) (map view_member c.loop-child.members.items) all c.args.children.now c.loop-child.child-index c.child-item.result
           (ap (λ (v : Vec (Member) Global). map view_member v.items) w.members-is) c.loop-child-test.true c.child-item.is (sym w.if-is_plain_member.ensures) c.loop-child.invariant
     ]

@@ -1,8 +1,7 @@
-use Rattle.std.proofs.Common.{◌+◌, ◌++◌, ◌∷◌, [], List, None, map, get_or, drop, ap, sym, subst}
+use Rattle.std.proofs.Common.{◌+◌, ◌++◌, ◌∷◌, [], List, map, drop, ap, sym, subst}
 use Rattle.std.proofs.lemmas.List.{drop_all}
 use Rattle.dw_cprint.specs.Kept.{WritesEnumerators}
 use Rattle.dw_cprint.specs.Shapes.{EnumeratorOf, view_enumerator}
-use Rattle.dw_cprint.specs.declared.shape.Enumerator.{Enumerator}
 use Rattle.dw_cprint.proofs.OptionLemmas.{ok_when}
 use Rattle.dw_cprint.proofs.ItemWriterLemmas.{next-of, EnumeratorsLeft, enumerators_next, enumerators_done}
 use Rattle.dw_cprint.proofs.pieces.put_enumerators.Goals as goal
@@ -12,13 +11,13 @@ loop-enumerator-preserved c =
     let others = c.in-Some.others.now in
     let all = map view_enumerator others in
     let i = c.loop-enumerator.enumerator-index in
-    let d : Enumerator = record { name = None; value = None } in
+    let one = c.enumerator-item.result in
     let old = c.put_enumerator.new.out.items in
     let out = c.loop-enumerator.out.items in
     let P : List EnumeratorOf → Type 0 = λ left. EnumeratorsLeft all old left out in
-    enumerators_next all (view_enumerator (get_or others i d)) (map view_enumerator (drop (i + 1) others)) old out
+    enumerators_next all (view_enumerator one) (map view_enumerator (drop (i + 1) others)) old out
     c.extend_from_slice-in-loop-enumerator.new.self.items c.put_enumerator-in-loop-enumerator.new.out.items
-    (subst P (next-of view_enumerator others i d c.loop-enumerator-test.true) c.loop-enumerator.invariant) c.in_ok-extend_from_slice-2.ensures.items c.in_ok-put_enumerator-2.ensures
+    (subst P (next-of view_enumerator others i one c.enumerator-item.is c.loop-enumerator-test.true) c.loop-enumerator.invariant) c.in_ok-extend_from_slice-2.ensures.items c.in_ok-put_enumerator-2.ensures
 
 pub returns : goal.returns
 returns c =

@@ -19,7 +19,7 @@ loop-alloc-init c =
     let P : List ℕ → Type 0 = λ f. FindsAll (entries_of c.args.types.now) c.in_ok-places.places.items c.row_of.new.places.items f c.row_of.new.found.items c.in_ok-roots.roots.items in
     let R : List Shape → Type 0 = λ xs. All (λ (shape : Shape). IsRegular (view_shape shape)) xs in
     let long : length c.in_ok-places.places.items ≡ c.entries.result = search rules in (
-      so_far-start (shape_in c.args.image.now) (entries_of c.args.types.now) c.in_ok-places.places.items c.row_of.new.places.items c.row_of.new.found.items c.new-rows.result.items
+      so_far-start (shape_in c.args.source.now.image.now) (entries_of c.args.types.now) c.in_ok-places.places.items c.row_of.new.places.items c.row_of.new.found.items c.new-rows.result.items
           (map view_shape c.new-shapes.result.items) c.in_ok-roots.roots.items c.new-rows.ensures.items (ap (map view_shape) c.new-shapes.ensures.items)
           (subst P c.new-found.ensures.items c.in_ok-roots.ensures.row),
       c.in_ok-roots.ensures.places ∙ (long ∙ c.entries.ensures),
@@ -29,10 +29,10 @@ loop-alloc-init c =
 pub row_of-requires-clause-few : goal.row_of-requires-clause-few
 row_of-requires-clause-few c =
     let long : length c.in_ok-places.places.items ≡ c.entries.result = search rules in
-    omega (arith, few-entries c.args.image.now, long, c.entries.ensures)
+    omega (arith, few-entries c.args.source.now.image.now, long, c.entries.ensures)
 
 pub row_of-requires-in-loop-alloc-clause-few : goal.row_of-requires-in-loop-alloc-clause-few
-row_of-requires-in-loop-alloc-clause-few c = omega (arith, few-entries c.args.image.now, c.loop-alloc.invariant.1)
+row_of-requires-in-loop-alloc-clause-few c = omega (arith, few-entries c.args.source.now.image.now, c.loop-alloc.invariant.1)
 
 pub shape_at-requires : goal.shape_at-requires
 shape_at-requires c =
@@ -49,7 +49,7 @@ shape_at-requires c =
 
 pub row_of-requires-in-loop-alloc-clause-within : goal.row_of-requires-in-loop-alloc-clause-within
 row_of-requires-in-loop-alloc-clause-within c =
-    let shapes = shape_in c.args.image.now in
+    let shapes = shape_in c.args.source.now.image.now in
     let entry = c.index-entry.result.now in
     let next : c.put_reached_types.new.types.items ≡ types_reached (view_shape c.in_ok-shape.shape) =
     c.in_ok-put_reached_types.ensures ∙ ap (λ (types : List TypeAt). types ++ types_reached (view_shape c.in_ok-shape.shape)) c.clear.ensures.items in
@@ -57,7 +57,7 @@ row_of-requires-in-loop-alloc-clause-within c =
     ap (λ (s : ShapeOf). entries_of (types_reached s)) (sym c.in_ok-shape.ensures.shape) ∙ ap entries_of (sym (c.deref.ensures.value ∙ next)) in
     let P : List ℕ → ℕ → Type 0 = λ xs n. All (λ to. to < n) xs in
     subst (λ (n : ℕ). P (entries_of c.deref.result.now) n) (sym c.loop-alloc.invariant.1)
-    (subst (λ (xs : List ℕ). P xs (length (entries_in c.args.image.now))) steps (shape_within c.args.image.now entry).all.all)
+    (subst (λ (xs : List ℕ). P xs (length (entries_in c.args.source.now.image.now))) steps (shape_within c.args.source.now.image.now entry).all.all)
 
 pub loop-alloc-smaller : goal.loop-alloc-smaller
 loop-alloc-smaller c =
@@ -66,11 +66,11 @@ loop-alloc-smaller c =
     let test = c.loop-alloc-test.true in
     let long = c.loop-alloc.invariant.1 in
     let fits = room c.loop-alloc.places.items c.loop-alloc.found.items c.loop-alloc.invariant.0.placed in
-    fewer-left (length (entries_in c.args.image.now)) c.loop-alloc.rows.items c.push-in-loop-alloc.new.self.items c.in_ok-row_of.field-0 c.in_ok-push-2.ensures.items (omega arith)
+    fewer-left (length (entries_in c.args.source.now.image.now)) c.loop-alloc.rows.items c.push-in-loop-alloc.new.self.items c.in_ok-row_of.field-0 c.in_ok-push-2.ensures.items (omega arith)
 
 pub loop-alloc-preserved : goal.loop-alloc-preserved
 loop-alloc-preserved c =
-    let shapes = shape_in c.args.image.now in
+    let shapes = shape_in c.args.source.now.image.now in
     let found = c.loop-alloc.found.items in
     let places = c.loop-alloc.places.items in
     let old = c.loop-alloc.rows.items in
@@ -105,14 +105,14 @@ returns-clause-reach c =
     let rows : c.len.result ≡ length c.loop-alloc.rows.items = search rules in
     let all : c.len-in-loop-alloc.result ≡ length c.loop-alloc.found.items = search rules in
     let test = c.loop-alloc-test.false in
-    so_far-done (shape_in c.args.image.now) (entries_of c.args.types.now) c.loop-alloc.places.items c.loop-alloc.found.items c.loop-alloc.rows.items (map view_shape c.loop-alloc.shapes.items) c.loop-alloc.invariant.0 (omega arith)
+    so_far-done (shape_in c.args.source.now.image.now) (entries_of c.args.types.now) c.loop-alloc.places.items c.loop-alloc.found.items c.loop-alloc.rows.items (map view_shape c.loop-alloc.shapes.items) c.loop-alloc.invariant.0 (omega arith)
 
 pub returns-clause-shapes : goal.returns-clause-shapes
 returns-clause-shapes c =
     let rows : c.len.result ≡ length c.loop-alloc.rows.items = search rules in
     let all : c.len-in-loop-alloc.result ≡ length c.loop-alloc.found.items = search rules in
     let test = c.loop-alloc-test.false in
-    read-done (shape_in c.args.image.now) (entries_of c.args.types.now) c.loop-alloc.places.items c.loop-alloc.found.items c.loop-alloc.rows.items (map view_shape c.loop-alloc.shapes.items) c.loop-alloc.invariant.0 (omega arith)
+    read-done (shape_in c.args.source.now.image.now) (entries_of c.args.types.now) c.loop-alloc.places.items c.loop-alloc.found.items c.loop-alloc.rows.items (map view_shape c.loop-alloc.shapes.items) c.loop-alloc.invariant.0 (omega arith)
 
 pub invariant_of-result : goal.invariant_of-result
 invariant_of-result c =
@@ -120,5 +120,5 @@ invariant_of-result c =
     let all : c.len-in-loop-alloc.result ≡ length c.loop-alloc.found.items = search rules in
     let test = c.loop-alloc-test.false in
     record {
-      leads = leads-so_far (shape_in c.args.image.now) (entries_of c.args.types.now) c.loop-alloc.places.items c.loop-alloc.found.items c.loop-alloc.rows.items (map view_shape c.loop-alloc.shapes.items) c.loop-alloc.invariant.0 (omega arith);
+      leads = leads-so_far (shape_in c.args.source.now.image.now) (entries_of c.args.types.now) c.loop-alloc.places.items c.loop-alloc.found.items c.loop-alloc.rows.items (map view_shape c.loop-alloc.shapes.items) c.loop-alloc.invariant.0 (omega arith);
     }

@@ -11,8 +11,8 @@ use Rattle.dw_cprint.proofs.reaching.reach.Given as goal
 
 abbrev pub invariant-loop-alloc : goal.invariant-loop-alloc
 invariant-loop-alloc l =
-    IsSoFar (shape_in l.image) (entries_of l.fn.types) l.places.items l.found.items l.rows.items (map view_shape l.shapes.items)
-    × (length l.places.items ≡ length (entries_in l.image)) × All (λ (shape : Shape). IsRegular (view_shape shape)) l.shapes.items
+    IsSoFar (shape_in l.source.image.now) (entries_of l.fn.types) l.places.items l.found.items l.rows.items (map view_shape l.shapes.items)
+    × (length l.places.items ≡ length (entries_in l.source.image.now)) × All (λ (shape : Shape). IsRegular (view_shape shape)) l.shapes.items
 
 abbrev pub decreases-loop-alloc : goal.decreases-loop-alloc
-decreases-loop-alloc l = length (entries_in l.image) - length l.rows.items
+decreases-loop-alloc l = length (entries_in l.source.image.now) - length l.rows.items

@@ -1,16 +1,16 @@
 use Rattle.std.proofs.Common.{◌≡◌, ◌+◌, ◌++◌, [], ◌∷◌, ℕ, Bool, List, Option, Some, None, true, refl, ap, sym, ◌∙◌}
 use Rattle.std.proofs.Common.{subst, get_or, drop, map}
 use Rattle.std.specs.Global.{Global}
-use Rattle.std.specs.Prelude.{Vec, flat_map, is_some, option_copied}
+use Rattle.std.specs.Prelude.{Vec, flat_map, is_some}
 use Rattle.std.proofs.lemmas.List.{drop_more, drop_all}
 use Rattle.dw_cprint.specs.Declarations.{term_at}
 use Rattle.dw_cprint.specs.Declarators.{before, gap, pointer_row}
 use Rattle.dw_cprint.specs.Kept.{kept, Writes, WritesBefore, WritesAfter, WritesNamed, WritesCore, WritesMembers}
 use Rattle.dw_cprint.specs.Kept.{WritesParameters}
-use Rattle.dw_cprint.specs.Shapes.{Qualifier, Absent, Parameter, Typed, MemberOf, ShapeOf, pointer, array, function}
-use Rattle.dw_cprint.specs.Shapes.{view_shape, view_member, parameter_items}
+use Rattle.dw_cprint.specs.Shapes.{Qualifier, Parameter, Typed, MemberOf, ShapeOf, pointer, array, function}
+use Rattle.dw_cprint.specs.Shapes.{view_name, view_shape, view_member, parameter_items}
 use Rattle.dw_cprint.specs.Terms.{Term}
-use Rattle.dw_cprint.specs.declared.shape.Member.{Member}
+use Rattle.dw_cprint.specs.declared.text.Text.{Text}
 use Rattle.dw_cprint.specs.Tokens.{VoidWord, TagWord, spelling}
 use Rattle.dw_cprint.specs.Writing.{count_tokens, qualifying, name_tokens}
 use Rattle.dw_cprint.proofs.OptionLemmas.{ok_then}
@@ -131,7 +131,7 @@ put_core-returns-in-Base t c =
     let s = c.args.self.now in
     let old = c.args.out.now.items in
     let new = c.put_name.new.out.items in
-    let name = option_copied c.in-Base.name in
+    let name = view_name c.in-Base.name in
     let P : ShapeOf → Type 0 = λ shape. WritesCore s c.args.depth shape old new in
     ok_then c.put_name.result (Writes (name_tokens name) old new) (P (view_shape c.args.shape.now))
     (λ word. subst P (sym (ap view_shape c.in-Base.is)) (base_core (term_at c.args.depth (kept s)) old new name word))
@@ -160,9 +160,9 @@ put_named-returns t c =
     let mid = c.put_before.new.out.items in
     let mid2 = c.put_name.new.out.items in
     let new = c.put_after.new.out.items in
-    let name = option_copied c.args.name in
+    let name = view_name c.args.name in
     let P : List Qualifier → Bool → Type 0 = λ us b. WritesBefore s c.args.depth c.args.at us b old mid in
-    let some : c.is_some.result ≡ is_some name = c.is_some.ensures ∙ some-mapped (λ x. x.now) c.args.name in
+    let some : c.is_some.result ≡ is_some name = c.is_some.ensures ∙ some-mapped (λ (text : Text). text.bytes.now) c.args.name in
     let front = subst (P []) some (subst (λ (us : List Qualifier). P us c.is_some.result) c.new.ensures.items c.in_ok-put_before.ensures) in
     ok_then c.put_after.result (WritesAfter s c.args.depth c.args.at mid2 new) (WritesNamed s c.args.depth c.args.at name old new)
     (named_written (term_at c.args.depth (kept s)) c.args.at name old mid mid2 new front c.in_ok-put_name.ensures)
@@ -173,12 +173,12 @@ put_members-loop-member-preserved t c =
     let term = term_at c.args.depth (kept c.args.self.now) in
     let ms = c.args.members.now in
     let i = c.loop-member.member-index in
-    let d : Member = record { name = None; type_at = None; bits = Absent } in
+    let one = c.member-item.result in
     let old = c.extend_from_slice.new.self.items in
     let out = c.loop-member.out.items in
     let P : List MemberOf → Type 0 = λ left. MembersLeft term (map view_member ms) old left out in
-    members_next term (map view_member ms) (view_member (get_or ms i d)) (map view_member (drop (i + 1) ms)) old out c.put_member.new.out.items
-    (subst P (next-of view_member ms i d c.loop-member-test.true) c.loop-member.invariant) c.in_ok-put_member.ensures
+    members_next term (map view_member ms) (view_member one) (map view_member (drop (i + 1) ms)) old out c.put_member.new.out.items
+    (subst P (next-of view_member ms i one c.member-item.is c.loop-member-test.true) c.loop-member.invariant) c.in_ok-put_member.ensures
 
 pub put_parameters-loop-parameter-preserved : goal.put_parameters-loop-parameter-preserved
 put_parameters-loop-parameter-preserved t c =

@@ -22,7 +22,7 @@ pub summarize-requires : goal.summarize-requires
 summarize-requires c =
     let r = c.in_ok-reached.reached in
     let clear = c.in_ok-clear.clear.items in
-    let shapes = shape_in c.args.image.now in
+    let shapes = shape_in c.args.source.now.image.now in
     let P : List ℕ → Type 0 = λ xs. (k d : ℕ) → k < length xs → get_or xs k d < length c.deref-3.result.now in
     subst P (sym c.deref-4.ensures.value) (λ k d below.
     let within = c.in_ok-clear.ensures.within k below in
@@ -34,7 +34,7 @@ summarize-requires c =
 
 pub returns : goal.returns
 returns c =
-    let shapes = shape_in c.args.image.now in
+    let shapes = shape_in c.args.source.now.image.now in
     let roots = roots_of (map view_subject c.args.subjects.now) in
     let r = c.in_ok-reached.reached in
     let graph = items_of r.rows.items in
