@@ -197,11 +197,10 @@ impl<'e, 'a> EntryAt<'e, 'a> {
         }
     }
 
-    /// All its attributes.
+    /// Its attributes in their order, each value decoded when it is asked.
     #[inline(always)]
-    fn all_values(&self) -> Values<'e, 'a>
-        ensures left { IfSome self.now (λ e. values_left result ≡ values_of e.head) }
-        ensures first { result.at ≡ 0 }
+    pub fn values(&self) -> Values<'e, 'a>
+        ensures { IfSome self.now (λ e. values_left result ≡ values_of e.head) }
     {
         Values {
             attributes: &self.decl.attributes,
@@ -212,25 +211,13 @@ impl<'e, 'a> EntryAt<'e, 'a> {
         }
     }
 
-    /// Its attributes in their order, each value decoded when it is asked.
-    #[inline(always)]
-    pub fn values(&self) -> Values<'e, 'a>
-        ensures { IfSome self.now (λ e. values_left result ≡ values_of e.head) }
-    {
-        self.all_values()
-    }
-
     /// Its attributes whose values may lead elsewhere, in their order, each value decoded when it is asked.
     #[inline(always)]
     pub fn leading(&self) -> Leading<'e, 'a>
         ensures { IfSome self.now (λ e. leading_left result ≡ values_of e.head) }
     {
-        let values = self.all_values();
-        let steps = values.attributes.steps();
         Leading {
-            values,
-            steps,
-            made: 0,
+            values: self.values(),
         }
     }
 
