@@ -109,10 +109,12 @@ same_codes a b la lb e =
 pub parts_lowest : (a b : ℕ) → a < 2 ^ 64 → b < 2 ^ 64 → (bit_xor a b ≡ 0 → ⊥)
     → (trailing_zeros w64 (bit_xor a b) < 64) × (parts a (trailing_zeros w64 (bit_xor a b)) b ≡ true)
 parts_lowest a b la lb some =
-    let lowest = bit_at-trailing_zeros w64 (bit_xor a b) (omega (arith, some)) (xor_lt 64 a b la lb) in
-    (lowest.0, parts_from a (trailing_zeros w64 (bit_xor a b)) b
-      (agrees_from a (trailing_zeros w64 (bit_xor a b)) b (λ i less. same_bits (bit_at a i) (bit_at b i) (bit_at-lt a i) (bit_at-lt b i) (sym (bit_at_xor a b i) ∙ lowest.2 i less)))
-      (other_bit (bit_at a (trailing_zeros w64 (bit_xor a b))) (bit_at b (trailing_zeros w64 (bit_xor a b))) (sym (bit_at_xor a b (trailing_zeros w64 (bit_xor a b))) ∙ lowest.1)))
+    let lowest = bit_at-trailing_zeros w64 (bit_xor a b) (omega (arith, some)) (xor_lt 64 a b la lb) in (
+      lowest.0,
+      parts_from a (trailing_zeros w64 (bit_xor a b)) b
+          (agrees_from a (trailing_zeros w64 (bit_xor a b)) b (λ i less. same_bits (bit_at a i) (bit_at b i) (bit_at-lt a i) (bit_at-lt b i) (sym (bit_at_xor a b i) ∙ lowest.2 i less)))
+          (other_bit (bit_at a (trailing_zeros w64 (bit_xor a b))) (bit_at b (trailing_zeros w64 (bit_xor a b))) (sym (bit_at_xor a b (trailing_zeros w64 (bit_xor a b))) ∙ lowest.1)),
+    )
 
 -- whether two codes differ in one bit
 pub bit_same : (a b i : ℕ) → bit_at (bit_xor a b) i ≡ 0 → bit_at a i ≡ bit_at b i

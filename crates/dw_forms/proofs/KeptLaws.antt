@@ -234,7 +234,6 @@ module _ (p q : ℕ → Bool) (narrower : (c : ℕ) → p c ≡ true → q c ≡
             ∙ ap (number_where p) (sym (get_or_append_left tables (new ∷ []) [] (number_where q (numbered_in tables rest)) w) ∙ ap (numbered_in (tables ++ new ∷ [])) (sym (ap (number_where q) here ∙ at)));
       }
 
-
   narrows_from : (tables : List (List Numbered)) (kept : List KeptDecl) → 0 < length tables → numbered_in tables 0 ≡ [] → ((n : ℕ) → Narrows tables n) → (n : ℕ) → Narrows (tables_from tables kept) n
   unfolding tables_from
   narrows_from tables [] some none are n = are n
@@ -347,4 +346,3 @@ decl_read kept zero x some within read = absurd (omega (arith, some))
 decl_read kept (suc n) x some within read =
     let place : suc n - 1 ≡ n = omega arith in
     ap (option_map (λ (y : KeptDecl). view y.decl)) (slice_get-get_or kept n x within ∙ ap (λ (y : KeptDecl). Some y) (sym (read ∙ ap (λ (i : ℕ). get_or kept i x) place)))
-

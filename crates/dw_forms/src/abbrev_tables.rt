@@ -1,6 +1,7 @@
 //! The abbreviation tables of a section (DWARF 5, 7.5.3).
 
-ghost use Rattle.std.specs.Prelude.{◌≡◌, ◌==◌, ◌+◌, ◌-◌, ◌<◌, ◌≤◌, ℕ, suc, [], List, length, find, option_map, IfOk, get_or};
+ghost use Rattle.std.specs.Prelude.{◌≡◌, ◌==◌, ◌+◌, ◌-◌, ◌<◌, ◌≤◌, ℕ, suc, [], List, length};
+ghost use Rattle.std.specs.Prelude.{find, option_map, IfOk, get_or};
 ghost use Rattle.std.specs.Prelude.{IfErr, IfSome, OnOk};
 ghost use Rattle.dw_forms.specs.AbbrevFaults.{IfFault, IfTableFault};
 ghost use Rattle.dw_forms.specs.Abbrev.{view, AreDeclarations, TableFails};

@@ -116,8 +116,8 @@ impl Attributes {
         next_lead(&self.plan, &self.specs, from)
     }
 
-    /// The value of the first attribute with this code, if one is declared. Once its place is known, the work is bounded
-    /// by the bytes before it.
+    /// The value of the first attribute with this code, if one is declared. Once its place is known, the work is
+    /// bounded by the bytes before it.
     #[inline(always)]
     pub fn value<'b>(
         &self,

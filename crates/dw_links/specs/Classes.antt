@@ -160,7 +160,8 @@ allows_in version attribute class =
     else allows attribute class
 
 -- WrongClass: the attribute's value has none of its classes
-pub record ClassFails (units : List PlacedUnit) (head : EntryHead) (attribute : ℕ) (v : Datum) (rule : Rule) : Type 0 where
+pub record ClassFails (units : List PlacedUnit) (head : EntryHead) (attribute : ℕ) (v : Datum) (rule : Rule) :
+    Type 0 where
   pub unit : PlacedUnit
   pub in_unit : slice_get units head.unit ≡ Some unit
   pub class : allows_in (version_of unit.unit.header.kind) attribute (class_of v) ≡ false

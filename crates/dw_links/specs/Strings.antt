@@ -56,7 +56,8 @@ OffsetFails section offset StringEnd = Ends section offset → ⊥
 OffsetFails section offset _ = ⊥
 
 -- the rules at an attribute of a unit that has this header and these bases
-abbrev pub StringFailsIn : Sections → UnitHeader → (strings addresses : Option ℕ) → EntryHead → ℕ → Datum → Rule → Type 0
+abbrev pub StringFailsIn : Sections → UnitHeader → (strings addresses : Option ℕ) → EntryHead → ℕ → Datum → Rule
+    → Type 0
 StringFailsIn sections header strings addresses head attribute (str offset) rule =
     OffsetFails sections.str.now offset rule
 StringFailsIn sections header strings addresses head attribute (line_str offset) rule =

@@ -11,7 +11,7 @@ ghost use Rattle.dw_links.specs.Concerns.{AtHead, Passes, AllPass, PassesAt, Fai
 
 use crate::class::{class_of_form, class_of_value, is_allowed, is_allowed_in};
 use crate::faults::{broken_at, fault_of};
-use dw_entries::{Broken, Choice, Entries, EntryAt, Fault, EntryHead, Rule};
+use dw_entries::{Broken, Choice, Entries, EntryAt, EntryHead, Fault, Rule};
 use dw_forms::{Attribute, AttributeSpec, Value};
 use std::alloc::Global;
 

@@ -4,7 +4,7 @@ ghost use Rattle.std.specs.Prelude.{◌≡◌, []};
 ghost use Rattle.dw_entries.specs.declared.fault.Section.TheVariants.{Info};
 ghost use Rattle.dw_entries.specs.Failures.{broken_of};
 
-use dw_entries::{Broken, Fault, EntryHead, Rule, Section};
+use dw_entries::{Broken, EntryHead, Fault, Rule, Section};
 use dw_forms::Attribute;
 use std::alloc::Global;
 

@@ -9,7 +9,7 @@ ghost use Rattle.dw_links.specs.References.{is_signed, is_signature, is_referenc
 
 use crate::declared_entries::DeclaredEntries;
 use dw_entries::constants::*;
-use dw_entries::{Cursor, EntryAt, EntryId, EntryHead};
+use dw_entries::{Cursor, EntryAt, EntryHead, EntryId};
 use dw_forms::{Attribute, Value};
 
 /// Whether a value is a reference.

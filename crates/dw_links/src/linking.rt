@@ -26,7 +26,9 @@ use crate::references::References;
 use crate::string_checks::{check_strings, keep_texts, read_texts};
 use crate::string_rules::string_ends;
 use dw_entries::constants::*;
-use dw_entries::{Broken, Entries, EntryAt, EntryId, EntryHead, Hints, Leading, OptionalId, Rule, Stop};
+use dw_entries::{
+    Broken, Entries, EntryAt, EntryHead, EntryId, Hints, Leading, OptionalId, Rule, Stop,
+};
 use dw_forms::{Attribute, Form, Value};
 use std::alloc::Global;
 use std::collections::BTreeMap;

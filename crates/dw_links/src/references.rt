@@ -13,7 +13,7 @@ use crate::kinds::{is_permitted, is_permitted_form, is_reference, is_sig8};
 use crate::string_rules::UnitTexts;
 use crate::targets::{entry_from_header, reach};
 use dw_entries::constants::*;
-use dw_entries::{Cursor, EntryId, EntryHead, Hints, Rule};
+use dw_entries::{Cursor, EntryHead, EntryId, Hints, Rule};
 use dw_forms::{Attribute, Value};
 use std::collections::BTreeMap;
 
@@ -84,7 +84,12 @@ impl References<'_, '_, '_> {
 
     /// The rule at a reference that reaches no entry.
     #[tactic(auto, using(crate::proofs::Asked::no_signature))]
-    fn ask_unreached(&self, head: &EntryHead, attribute: Attribute, value: &Value<'_>) -> Option<Rule>
+    fn ask_unreached(
+        &self,
+        head: &EntryHead,
+        attribute: Attribute,
+        value: &Value<'_>,
+    ) -> Option<Rule>
         requires may { MayAsk self.now head.now }
         requires reference { is_reference_value (view value.now) ≡ true }
         requires none { reached_by self.now (view value.now) ≡ None }

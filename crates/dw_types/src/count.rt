@@ -16,7 +16,7 @@ use crate::facts_at::FactsAt;
 use crate::kind::Role;
 use crate::unit_facts::{UnitFacts, unit_at};
 use dw_entries::constants::*;
-use dw_entries::{Entries, EntryId, EntryHead};
+use dw_entries::{Entries, EntryHead, EntryId};
 
 impl Constant {
     /// Whether bounds are read in a unit of this language. This project's choice: they are where no
