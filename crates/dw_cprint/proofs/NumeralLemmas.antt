@@ -1,5 +1,5 @@
 -- What a number in decimal reads as, and that it is std's up to 64 digits.
-use Rattle.std.proofs.Common.{◌≡◌, ℕ, ℤ, pos, negsuc, FitsSigned, append-nil, zero, suc, ◌+◌, ◌*◌, ◌/◌, ◌%◌, ◌^◌, ◌<◌, List, [], ◌∷◌, ◌++◌, refl, sym, ap, ◌∙◌, map, decimal, arith}
+use Rattle.std.proofs.Common.{◌≡◌, ℕ, ℤ, pos, negsuc, FitsSigned, append-nil, zero, suc, ◌+◌, ◌*◌, ◌/◌, ◌%◌, ◌^◌, ◌<◌, ◌≤◌, List, [], ◌∷◌, ◌++◌, refl, sym, ap, ◌∙◌, map, decimal, arith}
 use Rattle.std.specs.Str.Parse.{digits_value, digits_value_after, AllDigits, IsNumeral}
 use Rattle.std.specs.Char.{digit_value}
 use Rattle.std.specs.Int.Digits.{digits_of, number_from_digits_after, AllBelowBase}
@@ -31,6 +31,27 @@ numeral_reads zero = ((omega arith, (omega arith, tt)), refl)
 numeral_reads (suc n) =
     let read = read_after 0 (digits_of 10 (suc n)) (all_below_base_digits_of 10 (suc n) (omega arith)) in
     ((omega (arith, length-map (digits_of 10 (suc n)) (λ digit. 48 + digit), length-digits_of_step 10 (suc n) (omega arith) (omega arith)), read.0), read.1 ∙ number_digits_of 10 (suc n) (omega arith))
+
+-- a number of one digit
+pub numeral_low : (n : ℕ) → n < 10 → numeral n ≡ (48 + n) ∷ []
+unfolding numeral
+numeral_low zero small = refl
+numeral_low (suc n) small =
+    let none : suc n / 10 ≡ 0 = omega arith in
+    let last : suc n % 10 ≡ suc n = omega arith in
+    ap glyphs (digits_of_step 10 (suc n) (omega arith) (omega arith)) ∙ (λ i. glyphs (digits_of 10 (none i) ++ (last i ∷ [])))
+
+numeral-digits : (n : ℕ) → 0 < n → numeral n ≡ glyphs (digits_of 10 n)
+unfolding numeral
+numeral-digits zero positive = absurd (omega arith)
+numeral-digits (suc n) positive = refl
+
+-- a number of more: those of its tenth, and one more
+pub numeral_step : (n : ℕ) → 10 ≤ n → numeral n ≡ numeral (n / 10) ++ (48 + n % 10) ∷ []
+numeral_step n large =
+    numeral-digits n (omega arith) ∙ ap glyphs (digits_of_step 10 n (omega arith) (omega arith))
+    ∙ map_push (λ d. 48 + d) (digits_of 10 (n / 10)) (n % 10)
+    ∙ ap (λ (ds : List ℕ). ds ++ (48 + n % 10) ∷ []) (sym (numeral-digits (n / 10) (omega arith)))
 
 pub numeral_is_decimal : (n : ℕ) → n < 10 ^ 64 → numeral n ≡ decimal n
 unfolding numeral

@@ -11,24 +11,31 @@ ghost use Rattle.dw_cprint.specs.Writing.{count_tokens, qualifying, name_tokens,
 
 use crate::shape::{Bits, Enumerator, Name};
 use crate::words::{Qualifier, TagKeyword};
-use std::alloc::{AllocError, Global};
+use std::alloc::AllocError;
 
 /// A number in decimal.
-#[tactic(auto, using(crate::proofs::NumeralLemmas::numeral_is_decimal))]
-fn put_number(alloc: Global, out: &mut Vec<u8>, n: u128) -> Result<(), AllocError>
+#[tactic(auto, using(crate::proofs::NumeralLemmas::numeral_low))]
+fn put_number(out: &mut Vec<u8>, n: u128) -> Result<(), AllocError>
     ensures { OnOk result (out.new.items ≡ out.old.items ++ numeral n) }
 {
-    let text = n.to_string(alloc)?;
-    out.extend_from_slice(text.as_bytes())
+    if n < 10 {
+        out.push(b'0' + n as u8)?;
+        return Ok(());
+    }
+    put_number(out, n / 10)?;
+    out.push(b'0' + (n % 10) as u8)?;
+    Ok(())
 }
 
 /// An enumerator's value in decimal.
-#[tactic(auto, using(crate::proofs::NumeralLemmas::value_text))]
-fn put_value(alloc: Global, out: &mut Vec<u8>, value: i128) -> Result<(), AllocError>
+fn put_value(out: &mut Vec<u8>, value: i128) -> Result<(), AllocError>
     ensures { OnOk result (Writes (value_tokens value) out.old.items out.new.items) }
 {
-    let text = value.to_string(alloc)?;
-    out.extend_from_slice(text.as_bytes())
+    if value < 0 {
+        out.push(b'-')?;
+        return put_number(out, value.unsigned_abs());
+    }
+    put_number(out, value.unsigned_abs())
 }
 
 /// A name, if there is one.
@@ -42,17 +49,13 @@ pub fn put_name(out: &mut Vec<u8>, name: Name<'_>) -> Result<(), AllocError>
 }
 
 /// The brackets of dimensions.
-pub fn put_counts(
-    alloc: Global,
-    out: &mut Vec<u8>,
-    counts: &[Option<u128>],
-) -> Result<(), AllocError>
+pub fn put_counts(out: &mut Vec<u8>, counts: &[Option<u128>]) -> Result<(), AllocError>
     ensures { OnOk result (Writes (flat_map count_tokens counts.now) out.old.items out.new.items) }
 {
     for count in counts {
         out.push(b'[')?;
         if let Some(n) = count {
-            put_number(alloc, out, *n)?;
+            put_number(out, *n)?;
         }
         out.push(b']')?;
     }
@@ -109,48 +112,40 @@ pub fn put_tag(out: &mut Vec<u8>, tag: TagKeyword, name: Name<'_>) -> Result<(),
 }
 
 /// An enumerator and its value.
-fn put_enumerator(
-    alloc: Global,
-    out: &mut Vec<u8>,
-    enumerator: &Enumerator<'_>,
-) -> Result<(), AllocError>
+fn put_enumerator(out: &mut Vec<u8>, enumerator: &Enumerator<'_>) -> Result<(), AllocError>
     ensures { OnOk result (WritesEnumerator (view_enumerator enumerator.now) out.old.items out.new.items) }
 {
     put_name(out, enumerator.name)?;
     out.extend_from_slice(b" = ")?;
     if let Some(value) = enumerator.value {
-        put_value(alloc, out, value)?;
+        put_value(out, value)?;
     }
     Ok(())
 }
 
 /// The enumerators, in braces.
-pub fn put_enumerators(
-    alloc: Global,
-    out: &mut Vec<u8>,
-    enumerators: &[Enumerator<'_>],
-) -> Result<(), AllocError>
+pub fn put_enumerators(out: &mut Vec<u8>, enumerators: &[Enumerator<'_>]) -> Result<(), AllocError>
     ensures { OnOk result (WritesEnumerators (map view_enumerator enumerators.now) out.old.items out.new.items) }
 {
     let Some((first, others)) = enumerators.split_first() else {
         return out.extend_from_slice(b"{  }");
     };
     out.extend_from_slice(b"{ ")?;
-    put_enumerator(alloc, out, first)?;
+    put_enumerator(out, first)?;
     for enumerator in others {
         out.extend_from_slice(b", ")?;
-        put_enumerator(alloc, out, enumerator)?;
+        put_enumerator(out, enumerator)?;
     }
     out.extend_from_slice(b" }")
 }
 
 /// The bits of a member.
-pub fn put_bits(alloc: Global, out: &mut Vec<u8>, bits: Bits) -> Result<(), AllocError>
+pub fn put_bits(out: &mut Vec<u8>, bits: Bits) -> Result<(), AllocError>
     ensures { OnOk result (Writes (bits_tokens (bits_of bits)) out.old.items out.new.items) }
 {
     if let Bits::Number(n) = bits {
         out.extend_from_slice(b" : ")?;
-        put_number(alloc, out, u128::from(n))?;
+        put_number(out, u128::from(n))?;
     }
     Ok(())
 }

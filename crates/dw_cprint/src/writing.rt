@@ -107,7 +107,7 @@ impl<'a> Survey<'a> {
         ensures { OnOk result (WritesMember self.now depth (view_member member.now) out.old.items out.new.items) }
     {
         self.put_named(alloc, out, member.type_at, member.name, depth)?;
-        put_bits(alloc, out, member.bits)?;
+        put_bits(out, member.bits)?;
         out.extend_from_slice(b"; ")
     }
 
@@ -191,7 +191,7 @@ impl<'a> Survey<'a> {
             }
             Shape::Enumeration(_, enumerators) => {
                 out.extend_from_slice(b"enum ")?;
-                put_enumerators(alloc, out, enumerators)
+                put_enumerators(out, enumerators)
             }
             _ => Ok(()),
         }
@@ -267,7 +267,7 @@ impl<'a> Survey<'a> {
                 self.put_after(alloc, out, *to, below)
             }
             Shape::Array(counts, _, element) => {
-                put_counts(alloc, out, counts)?;
+                put_counts(out, counts)?;
                 self.put_after(alloc, out, *element, below)
             }
             Shape::Function(returned, parameters) => match parameters {
@@ -315,7 +315,7 @@ impl<'a> Survey<'a> {
             Subject::Enumeration(name, _, enumerators) => {
                 put_tag(out, TagKeyword::Enum, *name)?;
                 out.push(b' ')?;
-                put_enumerators(alloc, out, enumerators)?;
+                put_enumerators(out, enumerators)?;
                 out.extend_from_slice(b";")
             }
             Subject::Declared(tag, name) => {
