@@ -1,20 +1,22 @@
 -- The members, enumerators and parameters that are left to be written, item by item.
-use Rattle.std.proofs.Common.{◌≡◌, ℕ, ℤ, ◌+◌, ◌<◌, false, List, [], ◌∷◌, ◌++◌, Option, Some, refl, sym, ◌∙◌, ap, subst}
-use Rattle.std.proofs.Common.{append_assoc, append-nil, drop, length, get_or, map}
+use Rattle.std.proofs.Common.{◌≡◌, ℕ, ℤ, ◌+◌, ◌<◌, false, List, [], ◌∷◌, ◌++◌, Option, Some, None, refl, sym, ◌∙◌, ap, subst}
+use Rattle.std.proofs.Common.{append_assoc, drop, length, get_or, map}
 use Rattle.std.specs.Prelude.{option_map, option_and_then}
 use Rattle.std.proofs.lemmas.List.{drop_more}
 use Rattle.dw_cprint.specs.Declarations.{bits_of, is_misplaced, is_cut_short, has_more, constants_of, parameters_by}
 use Rattle.dw_cprint.specs.Declarations.{members_by}
-use Rattle.dw_cprint.specs.Declarators.{enumeration_tokens}
+use Rattle.dw_cprint.specs.Declarators.{body_tokens, enumeration_tokens}
+use Rattle.dw_cprint.specs.Drafts.{appended}
 use Rattle.dw_cprint.specs.Kept.{Writes, WritesParameter, kept_term}
 use Rattle.dw_cprint.specs.Shapes.{Parameter, Typed, More, Name, TypeAt, MemberOf, EnumeratorOf}
 use Rattle.dw_cprint.specs.Terms.{Constant, Valued, Term, Prototyped, Parameters, NoParameter}
-use Rattle.dw_cprint.specs.Terms.{Parameter as ParameterTerm, Members, Member as MemberTerm}
+use Rattle.dw_cprint.specs.Terms.{Parameter as ParameterTerm, Members, NoMember, Member as MemberTerm}
 use Rattle.dw_cprint.specs.Tokens.{Token, Blank, LeftBrace, RightBrace, Semicolon, Comma, Dot, text_of}
 use Rattle.dw_cprint.specs.Writing.{spell, name_tokens, bits_tokens, ellipsis, constant, more_constants}
 use Rattle.dw_cprint.specs.Writing.{signature_tokens, more_parameters, members_tokens, written}
 use Rattle.dw_cprint.specs.declared.survey.Survey.{Survey}
 use Rattle.dw_cprint.proofs.OptionLemmas.{map_inverted, then_inverted}
+use Rattle.dw_cprint.proofs.DraftLemmas.{appended-nil, appended-twice, over-before}
 use Rattle.dw_cprint.proofs.WriterLemmas.{both, text-append}
 
 -- what is left of a list, one item on
@@ -23,11 +25,11 @@ pub next-of : {X Y : Type 0} (f : X → Y) (xs : List X) (i : ℕ) (one : X) →
 next-of f xs i one is within = ap (map f) (drop_more xs i one within) ∙ ap (λ z. f z ∷ map f (drop (i + 1) xs)) (sym is)
 
 -- the members that are left are still to be written
-pub record MembersLeft (term : TypeAt → Option Term) (all : List MemberOf) (old : List ℕ) (left : List MemberOf)
-    (out : List ℕ) : Type 0 where
+pub record MembersLeft (term : TypeAt → Option Term) (all : List MemberOf) (old : Option (List ℕ)) (left : List MemberOf)
+    (out : Option (List ℕ)) : Type 0 where
   pub rest : (us : Members) → members_by term all ≡ Some us
       → (vs : Members) × (members_by term left ≡ Some vs)
-      × (out ++ text_of (members_tokens vs) ≡ old ++ text_of (members_tokens us))
+      × (appended out (text_of (members_tokens vs)) ≡ appended old (text_of (members_tokens us)))
 
 member-tokens : (name : Name) (t : Term) (bits : Option ℕ) (us : Members)
     → (spell [] t (name_tokens name) ++ (bits_tokens bits ++ Semicolon ∷ Blank ∷ [])) ++ members_tokens us
@@ -37,14 +39,14 @@ member-tokens name t bits us =
     ∙ ap (λ (u : List Token). spell [] t (name_tokens name) ++ u) (append_assoc (bits_tokens bits) (Semicolon ∷ Blank ∷ []) (members_tokens us))
 
 -- what is written is followed by the same rest
-moved : (a rest whole : List Token) (old out out' all : List ℕ) → Writes a out out' → a ++ rest ≡ whole
-    → out ++ text_of whole ≡ old ++ all → out' ++ text_of rest ≡ old ++ all
+pub moved : (a rest whole : List Token) (old out out' : Option (List ℕ)) (all : List ℕ) → Writes a out out' → a ++ rest ≡ whole
+    → appended out (text_of whole) ≡ appended old all → appended out' (text_of rest) ≡ appended old all
 moved a rest whole old out out' all h parts so_far =
-    ap (λ (u : List ℕ). u ++ text_of rest) h ∙ append_assoc out (text_of a) (text_of rest) ∙ ap (λ (u : List ℕ). out ++ u) (sym (text-append a rest))
-    ∙ ap (λ (u : List Token). out ++ text_of u) parts ∙ so_far
+    ap (λ (u : Option (List ℕ)). appended u (text_of rest)) h ∙ appended-twice out (text_of a) (text_of rest) ∙ ap (appended out) (sym (text-append a rest))
+    ∙ ap (λ (u : List Token). appended out (text_of u)) parts ∙ so_far
 
 pub members_next : (term : TypeAt → Option Term) (all : List MemberOf) (m : MemberOf) (left : List MemberOf)
-    (old out out' : List ℕ)
+    (old out out' : Option (List ℕ))
     → MembersLeft term all old (m ∷ left) out
     → ((t : Term) → term m.type_at ≡ Some t → Writes (spell [] t (name_tokens m.name) ++ (bits_tokens (bits_of m.bits) ++ Semicolon ∷ Blank ∷ [])) out out')
     → MembersLeft term all old left out'
@@ -60,12 +62,40 @@ members_next term all m left old out out' so_far written = record {
       );
 }
 
+-- none is left to be written where the text is too long
+pub members_over : (term : TypeAt → Option Term) (all left : List MemberOf) (old out : Option (List ℕ)) → out ≡ None → MembersLeft term all old left out
+    → MembersLeft term all old [] out
+members_over term all left old out is so_far = record {
+  rest = λ us e.
+      let r = so_far.rest us e in
+      (NoMember, refl, appended-nil out ∙ over-before old out (text_of (members_tokens r.0)) (text_of (members_tokens us)) is r.2);
+}
+
+-- the members, in braces
+pub members_done : (term : TypeAt → Option Term) (all : List MemberOf) (begin old out new : Option (List ℕ)) → Writes (LeftBrace ∷ Blank ∷ []) begin old
+    → MembersLeft term all old [] out → Writes (RightBrace ∷ []) out new → (us : Members) → members_by term all ≡ Some us → Writes (body_tokens us) begin new
+members_done term all begin old out new opens left closes us e =
+    let r = left.rest us e in
+    let none : r.0 ≡ NoMember = cc in
+    let inner : out ≡ appended old (text_of (members_tokens us)) =
+    sym (appended-nil out) ∙ ap (λ (u : Members). appended out (text_of (members_tokens u))) (sym none) ∙ r.2 in
+    both (LeftBrace ∷ Blank ∷ []) (members_tokens us ++ RightBrace ∷ []) begin old new opens (both (members_tokens us) (RightBrace ∷ []) old out new inner closes)
+
 -- the enumerators that are left are still to be written
-pub record EnumeratorsLeft (all : List EnumeratorOf) (old : List ℕ) (left : List EnumeratorOf)
-    (out : List ℕ) : Type 0 where
+pub record EnumeratorsLeft (all : List EnumeratorOf) (old : Option (List ℕ)) (left : List EnumeratorOf)
+    (out : Option (List ℕ)) : Type 0 where
   pub rest : (us : List Constant) → constants_of all ≡ Some us
       → (vs : List Constant) × (constants_of left ≡ Some vs)
-      × (out ++ text_of (more_constants vs) ≡ old ++ text_of (more_constants us))
+      × (appended out (text_of (more_constants vs)) ≡ appended old (text_of (more_constants us)))
+
+-- none is left to be written where the text is too long
+pub enumerators_over : (all left : List EnumeratorOf) (old out : Option (List ℕ)) → out ≡ None → EnumeratorsLeft all old left out
+    → EnumeratorsLeft all old [] out
+enumerators_over all left old out is so_far = record {
+  rest = λ us e.
+      let r = so_far.rest us e in
+      ([], refl, appended-nil out ∙ over-before old out (text_of (more_constants r.0)) (text_of (more_constants us)) is r.2);
+}
 
 -- the constants of one enumerator more
 record IsMoreConstants (x : EnumeratorOf) (es : List EnumeratorOf) (cs : List Constant) : Type 0 where
@@ -87,11 +117,11 @@ more-constants x es cs e =
     record { name = name.0; value = value.0; others = others.0; is_name = name.1; is_value = value.1; are_others = others.1; is = others.2 }
 
 -- an enumerator is written
-abbrev WritesOne : EnumeratorOf → List ℕ → List ℕ → Type 0
+abbrev WritesOne : EnumeratorOf → Option (List ℕ) → Option (List ℕ) → Type 0
 WritesOne x old new = (name : List ℕ) (value : ℤ) → x.name ≡ Some name → x.value ≡ Some value → Writes (constant (Valued name value)) old new
 
 pub enumerators_next : (all : List EnumeratorOf) (x : EnumeratorOf) (left : List EnumeratorOf)
-    (old out mid out' : List ℕ) → EnumeratorsLeft all old (x ∷ left) out → mid ≡ out ++ 44 ∷ 32 ∷ []
+    (old out mid out' : Option (List ℕ)) → EnumeratorsLeft all old (x ∷ left) out → Writes (Comma ∷ Blank ∷ []) out mid
     → WritesOne x mid out' → EnumeratorsLeft all old left out'
 enumerators_next all x left old out mid out' so_far comma written = record {
   rest = λ us e.
@@ -104,16 +134,16 @@ enumerators_next all x left old out mid out' so_far comma written = record {
       );
 }
 
-pub enumerators_done : (x : EnumeratorOf) (others : List EnumeratorOf) (begin mid old out new : List ℕ)
-    → mid ≡ begin ++ 123 ∷ 32 ∷ [] → WritesOne x mid old → EnumeratorsLeft others old [] out
-    → new ≡ out ++ 32 ∷ 125 ∷ [] → (cs : List Constant) → constants_of (x ∷ others) ≡ Some cs
+pub enumerators_done : (x : EnumeratorOf) (others : List EnumeratorOf) (begin mid old out new : Option (List ℕ))
+    → Writes (LeftBrace ∷ Blank ∷ []) begin mid → WritesOne x mid old → EnumeratorsLeft others old [] out
+    → Writes (Blank ∷ RightBrace ∷ []) out new → (cs : List Constant) → constants_of (x ∷ others) ≡ Some cs
     → Writes (enumeration_tokens cs) begin new
 enumerators_done x others begin mid old out new opens first left closes cs e =
     let m = more-constants x others cs e in
     let r = left.rest m.others m.are_others in
     let none : r.0 ≡ [] = cc in
     let c = constant (Valued m.name m.value) in
-    let all_out : out ≡ old ++ text_of (more_constants m.others) = sym (append-nil out) ∙ ap (λ (u : List Constant). out ++ text_of (more_constants u)) (sym none) ∙ r.2 in
+    let all_out : out ≡ appended old (text_of (more_constants m.others)) = sym (appended-nil out) ∙ ap (λ (u : List Constant). appended out (text_of (more_constants u))) (sym none) ∙ r.2 in
     let P : List Constant → Type 0 = λ u. Writes (enumeration_tokens u) begin new in
     subst P m.is
     (both (LeftBrace ∷ Blank ∷ []) ((c ++ more_constants m.others) ++ Blank ∷ RightBrace ∷ []) begin mid new opens
@@ -124,19 +154,19 @@ abbrev pub following : Parameters → List Parameter → List Token
 following us ps = more_parameters us ++ ellipsis (has_more ps)
 
 -- the parameters that are left are still to be written
-pub record ParametersLeft (term : TypeAt → Option Term) (all : List Parameter) (old : List ℕ) (left : List Parameter)
-    (out : List ℕ) : Type 0 where
+pub record ParametersLeft (term : TypeAt → Option Term) (all : List Parameter) (old : Option (List ℕ)) (left : List Parameter)
+    (out : Option (List ℕ)) : Type 0 where
   pub rest : is_cut_short all ≡ false → (us : Parameters) → parameters_by term all ≡ Some us
       → (vs : Parameters) × (is_cut_short left ≡ false) × (parameters_by term left ≡ Some vs)
-      × (out ++ text_of (following vs left) ≡ old ++ text_of (following us all))
+      × (appended out (text_of (following vs left)) ≡ appended old (text_of (following us all)))
 
 -- a parameter is written
-abbrev WritesItem : (TypeAt → Option Term) → Parameter → List ℕ → List ℕ → Type 0
+abbrev WritesItem : (TypeAt → Option Term) → Parameter → Option (List ℕ) → Option (List ℕ) → Type 0
 WritesItem term (Typed at) old new = (t : Term) → term at ≡ Some t → Writes (spell [] t []) old new
 WritesItem term More old new = Writes (Dot ∷ Dot ∷ Dot ∷ []) old new
 
 pub parameters_next : (term : TypeAt → Option Term) (all : List Parameter) (p : Parameter) (left : List Parameter)
-    (old out mid out' : List ℕ) → ParametersLeft term all old (p ∷ left) out → mid ≡ out ++ 44 ∷ 32 ∷ []
+    (old out mid out' : Option (List ℕ)) → ParametersLeft term all old (p ∷ left) out → Writes (Comma ∷ Blank ∷ []) out mid
     → WritesItem term p mid out' → ParametersLeft term all old left out'
 parameters_next term all (Typed at) left old out mid out' so_far comma written = record {
   rest = λ whole us e.
@@ -160,7 +190,16 @@ parameters_next term all More (another ∷ left) old out mid out' so_far comma w
   rest = λ whole us e. let r = so_far.rest whole us e in let cut = r.1 in absurd (cc);
 }
 
-pub parameters_done : (term : TypeAt → Option Term) (p : Parameter) (others : List Parameter) (begin old new : List ℕ)
+-- none is left to be written where the text is too long
+pub parameters_over : (term : TypeAt → Option Term) (all left : List Parameter) (old out : Option (List ℕ)) → out ≡ None → ParametersLeft term all old left out
+    → ParametersLeft term all old [] out
+parameters_over term all left old out is so_far = record {
+  rest = λ whole us e.
+      let r = so_far.rest whole us e in
+      (NoParameter, refl, refl, appended-nil out ∙ over-before old out (text_of (following r.0 left)) (text_of (following us all)) is r.3);
+}
+
+pub parameters_done : (term : TypeAt → Option Term) (p : Parameter) (others : List Parameter) (begin old new : Option (List ℕ))
     → WritesItem term p begin old → ParametersLeft term others old [] new
     → is_misplaced (p ∷ others) ≡ false → (us : Parameters) → parameters_by term (p ∷ others) ≡ Some us
     → Writes (signature_tokens (Prototyped us (has_more (p ∷ others)))) begin new
@@ -170,12 +209,12 @@ parameters_done term (Typed at) others begin old new first left placed us e =
     let rest = map_inverted (ParameterTerm t.0) (parameters_by term others) us t.2 in
     let r = left.rest placed rest.0 rest.1 in
     let none : r.0 ≡ NoParameter = cc in
-    let all_out : new ≡ old ++ text_of (following rest.0 others) = sym (append-nil new) ∙ ap (λ (u : Parameters). new ++ text_of (following u [])) (sym none) ∙ r.3 in
+    let all_out : new ≡ appended old (text_of (following rest.0 others)) = sym (appended-nil new) ∙ ap (λ (u : Parameters). appended new (text_of (following u []))) (sym none) ∙ r.3 in
     let P : Parameters → Type 0 = λ u. Writes (signature_tokens (Prototyped u (has_more others))) begin new in
     subst P rest.2 (both (spell [] t.0 []) (following rest.0 others) begin old new (first t.0 t.1) all_out)
 
 -- a parameter is written
-pub item-of : (s : Survey) (k : ℕ) (p : Parameter) (old new : List ℕ) → WritesParameter s k p old new
+pub item-of : (s : Survey) (k : ℕ) (p : Parameter) (old new : Option (List ℕ)) → WritesParameter s k p old new
     → WritesItem (kept_term s k) p old new
 item-of s k (Typed at) old new h = h
 item-of s k More old new h = h

@@ -1,9 +1,13 @@
 -- What holds by the shapes of an image holds by the shapes that a survey of it keeps.
-use Rattle.std.proofs.Common.{◌≡◌, ℕ, List, Option, Some, None, refl, sym, arith}
+use Rattle.std.proofs.Common.{◌≡◌, ℕ, ◌<◌, ◌≤◌, ◌⊎◌, inl, inr, List, Option, Some, None, length, refl, sym, arith}
 use Rattle.std.specs.Prelude.{IsSome}
 use Rattle.dw_cprint.specs.Declarations.{declaration_of}
 use Rattle.dw_cprint.specs.Kept.{kept}
-use Rattle.dw_cprint.specs.Refusals.{TooDeep, deep, IsPrinted, HasOneReading}
+use Rattle.std.proofs.lemmas.Bool.{cases_lt}
+use Rattle.dw_cprint.specs.Judgements.{HasShortText}
+use Rattle.dw_cprint.specs.Terms.{Declaration}
+use Rattle.dw_cprint.specs.Writing.{written}
+use Rattle.dw_cprint.specs.Refusals.{TooDeep, TooLong, deep, long, IsPrinted, HasOneReading}
 use Rattle.dw_cprint.specs.Regular.{AreRegular, IsRegularSubject}
 use Rattle.dw_cprint.specs.SameShapes.{AreSameFor}
 use Rattle.dw_cprint.specs.Shapes.{ShapeOf, SubjectOf}
@@ -31,6 +35,16 @@ printed-declared shapes subject printed = subject_some 64 shapes subject (λ rul
 pub some-there : {A : Type 0} (o : Option A) → IsSome o → (x : A) × (o ≡ Some x)
 some-there None is = absurd (cc)
 some-there (Some x) is = (x, refl)
+
+-- and its text is not too long
+pub printed-short : (shapes : ℕ → ShapeOf) (subject : SubjectOf) → IsPrinted shapes subject → HasShortText (declaration_of shapes subject)
+printed-short shapes subject printed =
+    let (d, is) = some-there (declaration_of shapes subject) (printed-declared shapes subject printed) in
+    (d, is, by_length d is (cases_lt 65536 (length (written d))))
+  where
+    by_length : (d : Declaration) → declaration_of shapes subject ≡ Some d → (65536 < length (written d)) ⊎ (length (written d) ≤ 65536) → length (written d) ≤ 65536
+    by_length d is (inr short) = short
+    by_length d is (inl far) = absurd (printed TooLong (omega arith) (long (d, is, far)))
 
 -- and no other has its text
 pub printed-one : (shapes : ℕ → ShapeOf) (subject : SubjectOf) → IsPrinted shapes subject → AreRegular shapes subject → HasOneReading shapes subject

@@ -8,6 +8,7 @@ pub mod OptionLemmas
 pub mod NameLemmas
 pub mod SpanLemmas
 pub mod SameLemmas
+pub mod DraftLemmas
 pub mod WriterLemmas
 pub mod ItemWriterLemmas
 pub mod LookUpLemmas
@@ -33,6 +34,5 @@ pub mod RefusalLemmas
 pub mod KindLemmas
 pub mod FaultLemmas
 pub mod ReachedFaultLemmas
-pub mod LengthLemmas
-pub mod TermLemmas
+pub mod LeastLemmas
 pub mod SummaryLemmas

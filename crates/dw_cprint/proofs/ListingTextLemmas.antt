@@ -1,7 +1,7 @@
 -- The text of the listing: the lines that are written are those of the entries.
 use Rattle.std.proofs.Common.{◌≡◌, ℕ, zero, suc, ◌<◌, List, [], ◌∷◌, ◌++◌, Option, refl, sym, ◌∙◌, ap, subst, length}
 use Rattle.std.proofs.Common.{get_or, arith, map, ◌+◌, drop, append_assoc, Some, None}
-use Rattle.std.specs.Prelude.{Contains, All, IsSome, IsPermutation, flat_map, IfSome, slice_get}
+use Rattle.std.specs.Prelude.{Contains, All, IsPermutation, flat_map, IfSome, slice_get}
 use Rattle.std.proofs.lemmas.List.{length-map, drop_more}
 use Rattle.std.proofs.lemmas.List.Elements.{Contains-append_left, Contains-append_right, Contains-get_or}
 use Rattle.std.proofs.lemmas.List.Sorted.{IsPermutation-sym, Contains-permutation}
@@ -9,7 +9,7 @@ use Rattle.dw_image.specs.declared.image.Image.{Image}
 use Rattle.dw_image.specs.Images.{entries_in}
 use Rattle.dw_cprint.specs.Declarations.{declaration_of}
 use Rattle.dw_cprint.specs.EntryShapes.{shape_in, subject_in}
-use Rattle.dw_cprint.specs.Judgements.{AreJudged, subject_at, listed_line}
+use Rattle.dw_cprint.specs.Judgements.{AreJudged, HasShortText, listed_line, subject_at}
 use Rattle.dw_cprint.specs.Kept.{kept}
 use Rattle.dw_cprint.specs.Listings.{AreNamedTypes, declared_line, text_if, offset_in}
 use Rattle.dw_cprint.specs.Refusals.{PrintFault, IsPrinted}
@@ -90,14 +90,14 @@ module _ (image : Image) (survey : Survey) (named : List ℕ) (subjects : List S
   listed-lines = lines-same (listed_line (kept survey) subjects) (declared_line image) (λ (one : Listed). one.entry) sorted (λ one there. ap (λ (d : Option Declaration). text_if d ++ 10 ∷ []) (declared-as one there))
 
   -- each that is listed has a declaration, if all that is printed has one
-  pub listed-declared : ((subject : SubjectOf) → IsPrinted (shape_in image) subject → IsSome (declaration_of (shape_in image) subject))
-      → All (λ (one : Listed). IsSome (declaration_of (kept survey) (subject_at subjects one.place))) sorted
+  pub listed-declared : ((subject : SubjectOf) → IsPrinted (shape_in image) subject → HasShortText (declaration_of (shape_in image) subject))
+      → All (λ (one : Listed). HasShortText (declaration_of (kept survey) (subject_at subjects one.place))) sorted
   listed-declared law k d within =
       let one = get_or sorted k d in
       let there = Contains-get_or sorted k d within in
       let (w, at, l, p) = judged.printed one (Contains-permutation sorted listed one (IsPermutation-sym listed sorted permuted) there) in
       let here : subject_at subjects one.place ≡ subject_in image (get_or named one.place 0) = ap (λ (ss : List SubjectOf). subject_at ss one.place) same ∙ subject-mapped (subject_in image) named one.place w in
-      let D : Option Declaration → Type 0 = λ o. IsSome o in
+      let D : Option Declaration → Type 0 = λ o. HasShortText o in
       let P : SubjectOf → Type 0 = λ s. IsPrinted (shape_in image) s in
       let Q : ℕ → Type 0 = λ n. IsPrinted (shape_in image) (subject_in image n) in
       subst D (sym (declared-as one there)) (law (subject_in image one.entry) (subst Q (sym at) (subst P here p)))

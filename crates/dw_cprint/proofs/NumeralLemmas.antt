@@ -1,17 +1,12 @@
 -- What a number in decimal reads as, and that it is std's up to 64 digits.
-use Rattle.std.proofs.Common.{◌≡◌, ℕ, ℤ, pos, negsuc, FitsSigned, append-nil, zero, suc, ◌+◌, ◌*◌, ◌/◌, ◌%◌, ◌^◌, ◌<◌, ◌≤◌, List, [], ◌∷◌, ◌++◌, refl, sym, ap, ◌∙◌, map, decimal, arith}
+use Rattle.std.proofs.Common.{◌≡◌, ℕ, zero, suc, ◌+◌, ◌*◌, ◌/◌, ◌%◌, ◌<◌, ◌≤◌, List, [], ◌∷◌, ◌++◌, refl, sym, ap, ◌∙◌, map, arith}
 use Rattle.std.specs.Str.Parse.{digits_value, digits_value_after, AllDigits, IsNumeral}
 use Rattle.std.specs.Char.{digit_value}
 use Rattle.std.specs.Int.Digits.{digits_of, number_from_digits_after, AllBelowBase}
 use Rattle.std.proofs.lemmas.Int.Digits.{digits_of_step, all_below_base_digits_of, number_digits_of, length-digits_of_step}
 use Rattle.std.proofs.lemmas.List.{map_push, length-map}
-use Rattle.std.proofs.lemmas.Fmt.{decimal_by_steps_wide, decimal_digit}
 use Rattle.std.proofs.lemmas.Str.{digit_value_digit}
-use mir.Syntax.{w128}
-use Rattle.std.specs.Fmt.{signed_decimal}
 use Rattle.dw_cprint.specs.Digits.{numeral}
-use Rattle.dw_cprint.specs.Tokens.{text_of}
-use Rattle.dw_cprint.specs.Writing.{value_tokens}
 
 abbrev glyphs : List ℕ → List ℕ
 glyphs ds = map (λ digit. 48 + digit) ds
@@ -52,17 +47,3 @@ numeral_step n large =
     numeral-digits n (omega arith) ∙ ap glyphs (digits_of_step 10 n (omega arith) (omega arith))
     ∙ map_push (λ d. 48 + d) (digits_of 10 (n / 10)) (n % 10)
     ∙ ap (λ (ds : List ℕ). ds ++ (48 + n % 10) ∷ []) (sym (numeral-digits (n / 10) (omega arith)))
-
-pub numeral_is_decimal : (n : ℕ) → n < 10 ^ 64 → numeral n ≡ decimal n
-unfolding numeral
-numeral_is_decimal zero small = sym (decimal_digit 0 (omega arith))
-numeral_is_decimal (suc n) small = decimal_by_steps_wide (λ m ds. 0 < m → glyphs (digits_of 10 m) ≡ ds)
-    (λ m l a. let z : m / 10 ≡ 0 = omega arith in let e : m % 10 ≡ m = omega arith in ap glyphs (digits_of_step 10 m (omega arith) a ∙ (λ i. digits_of 10 (z i) ++ (e i ∷ []))))
-    (λ m ds l h a. ap glyphs (digits_of_step 10 m (omega arith) a) ∙ map_push (λ d. 48 + d) (digits_of 10 (m / 10)) (m % 10) ∙ ap (λ x. x ++ ((48 + m % 10) ∷ [])) (h (omega arith)))
-    (suc n) small (omega arith)
-
--- the text of a value of 128 bits
-pub value_text : (value : ℤ) → FitsSigned w128 value → text_of (value_tokens value) ≡ signed_decimal value
-value_text (pos n) fits = append-nil (numeral n) ∙ numeral_is_decimal n (omega (arith, fits.sfits))
-value_text (negsuc n) fits =
-    ap (λ (ds : List ℕ). 45 ∷ ds) (append-nil (numeral (suc n)) ∙ numeral_is_decimal (suc n) (omega (arith, fits.sfits)))

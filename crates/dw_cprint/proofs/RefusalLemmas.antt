@@ -1,13 +1,13 @@
 -- The least refusal that holds, by the tests of each.
-use Rattle.std.proofs.Common.{◌≡◌, ℕ, ◌<◌, Some, arith, length}
-use Rattle.std.specs.Prelude.{◌↔◌}
+use Rattle.std.proofs.Common.{◌≡◌, ℕ, ◌<◌, ◌≤◌, List, [], Option, Some, None, sym, ◌∙◌, arith, length}
 use Rattle.dw_cprint.specs.Declarations.{declaration_by, declaration_of, term_at}
 use Rattle.dw_cprint.specs.Refusals.{NotPrintable, BadName, Foreign, Unspeakable, TooDeep, TooLong, Memory, IsLonger, Holds, other_kind, cycle, deep, long, HoldsNoneBelow, Refuses, IsPrinted}
 use Rattle.dw_cprint.specs.Shapes.{ShapeOf, SubjectOf, no_subject}
 use Rattle.dw_cprint.specs.Steps.{first_steps, ReachACycle, IsDeepFrom}
-use Rattle.dw_cprint.specs.Summaries.{counted}
+use Rattle.dw_cprint.specs.Drafts.{appended}
 use Rattle.dw_cprint.specs.Terms.{Declaration}
 use Rattle.dw_cprint.specs.Writing.{written}
+use Rattle.dw_cprint.proofs.DraftLemmas.{appended-over, none-over}
 use Rattle.dw_cprint.proofs.DeclaredLemmas.{subject_some}
 use Rattle.dw_cprint.proofs.OptionLemmas.{some_value}
 
@@ -76,11 +76,25 @@ module _ (shapes : ℕ → ShapeOf) (subject : SubjectOf) where
       → (Holds shapes subject TooDeep → ⊥) → HoldsNoneBelow 6 shapes subject
   none-of-five p1 p2 p3 p4 p5 = none-below 6 (omega arith) (λ w. p1) (λ w. p2) (λ w. p3) (λ w. p4) (λ w. p5) (λ w. absurd (omega arith))
 
-  -- how long the declaration is, where none of the first five refusals holds
-  pub longer : (n : ℕ) → HoldsNoneBelow 6 shapes subject → ((d : Declaration) → declaration_by (term_at 65 shapes) subject ≡ Some d → n ≡ counted (length (written d))) → (65536 < n) ↔ IsLonger 65536 shapes subject
+  -- there is a declaration, where none of the first five refusals holds
+  there-declared : HoldsNoneBelow 6 shapes subject → (d : Declaration) × (declaration_of shapes subject ≡ Some d)
   unfolding declaration_of
-  longer n none own =
+  there-declared none =
       let there = subject_some 64 shapes subject (λ rule below holds. none rule (omega arith) holds) (λ path. none TooDeep (omega arith) (deep path)) in
-      let (d, is) = some_value (declaration_by (term_at 65 shapes) subject) there in
-      let long = own d is in
-      (λ more. (d, is, omega arith), λ far. (let another = own far.0 far.1 in let over = far.2 in omega arith))
+      some_value (declaration_by (term_at 65 shapes) subject) there
+
+  -- it is too long, if it has more bytes than a number that is greater than the limit
+  pub least-long : (n : ℕ) → HoldsNoneBelow 6 shapes subject → ((d : Declaration) → declaration_of shapes subject ≡ Some d → n ≤ length (written d)) → 65536 < n → IsLonger 65536 shapes subject
+  least-long n none own over =
+      let (d, is) = there-declared none in
+      let least = own d is in
+      (d, is, omega arith)
+
+  -- and exactly if it does not fit into a draft
+  pub over-long : (o : Option (List ℕ)) → HoldsNoneBelow 6 shapes subject → ((d : Declaration) → declaration_of shapes subject ≡ Some d → o ≡ appended (Some []) (written d)) → o ≡ None → IsLonger 65536 shapes subject
+  over-long o none own is =
+      let (d, has) = there-declared none in
+      (d, has, none-over (written d) (sym (own d has) ∙ is))
+
+  pub fits-short : (o : Option (List ℕ)) → ((d : Declaration) → declaration_of shapes subject ≡ Some d → o ≡ appended (Some []) (written d)) → (o ≡ None → ⊥) → IsLonger 65536 shapes subject → ⊥
+  fits-short o own there (d, has, far) = there (own d has ∙ appended-over [] (written d) (omega arith))

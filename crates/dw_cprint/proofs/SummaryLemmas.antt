@@ -6,7 +6,9 @@ use Rattle.std.proofs.lemmas.List.Elements.{Contains-push, Contains-append_left,
 use Rattle.dw_cprint.specs.Declarations.{term_at, term_by}
 use Rattle.dw_cprint.specs.Shapes.{Qualifier, TypeAt, ShapeOf, qualified, view_shape}
 use Rattle.dw_cprint.specs.Steps.{entries_of, types_reached}
-use Rattle.dw_cprint.specs.Summaries.{TypeKind, Summary, kind_in, AreFaults, IsBase, IsLength, IsSummary, AreNodes, HaveSummaries, summary_at}
+use Rattle.std.proofs.lemmas.List.Elements.{All-weaker}
+use Rattle.dw_cprint.specs.Least.{IsLeast}
+use Rattle.dw_cprint.specs.Summaries.{TypeKind, Summary, kind_in, AreFaults, IsBase, IsSummary, least_known, Summaries, Knows, AreNodes, HaveSummaries, summary_at}
 use Rattle.dw_cprint.specs.Terms.{Term, Void}
 use Rattle.dw_cprint.specs.Wrong.{nothing, itself, below}
 use Rattle.dw_cprint.specs.declared.shape.Shape.{Shape}
@@ -14,7 +16,7 @@ use Rattle.dw_cprint.specs.declared.shape.Shape.TheVariants as shape
 use Rattle.dw_cprint.specs.declared.summary.TheConstants.{VOID}
 use Rattle.dw_cprint.proofs.ClearingLemmas.{same_or_not}
 use Rattle.dw_cprint.proofs.ReachedFaultLemmas.{faults-none}
-use Rattle.dw_cprint.proofs.LengthLemmas.{void_length}
+use Rattle.dw_cprint.proofs.LeastLemmas.{Counts, void-least}
 
 -- ---- void
 
@@ -25,15 +27,15 @@ void_summary shapes =
       is_kind = refl;
       is_base = (None, nothing, refl);
       are_faults = record { bad_name = none.bad_name; foreign_type = none.foreign_type; unspeakable = none.unspeakable };
-      is_length = λ k t e. of_term k t e;
+      is_least = λ k t e. of_term k t e;
     }
   where
-    of_term : (k : ℕ) (t : Term) → term_at k shapes None ≡ Some t → IsLength t VOID.length
+    of_term : (k : ℕ) (t : Term) → term_at k shapes None ≡ Some t → IsLeast t VOID.least
     of_term zero t e = absurd (cc)
     of_term (suc k) t e =
         let same : Void ≡ t = cc in
-        let P : Term → Type 0 = λ u. IsLength u VOID.length in
-        subst P same (void_length VOID.length refl refl)
+        let P : Term → Type 0 = λ u. IsLeast u VOID.least in
+        subst P same void-least
 
 -- a fact of types holds of void, and of each entry among them
 pub all-types : (P : TypeAt → Type 0) → P None → (types : List TypeAt) → ((to : ℕ) → Contains (entries_of types) to → P (Some to)) → All P types
@@ -69,13 +71,17 @@ base_itself shapes entry s b is plain same =
 -- ---- one entry
 
 pub entry_summary : (shapes : ℕ → ShapeOf) (entry : ℕ) (s : ShapeOf) (known : Summary) → shapes entry ≡ s → known.kind ≡ kind_in (Some s) → IsBase shapes (Some entry) known.base
-    → AreFaults shapes (Some entry ∷ []) known.faults → ((k : ℕ) (t : Term) → term_by (term_at k shapes) s ≡ Some t → IsLength t known.length) → IsSummary shapes (Some entry) known
-entry_summary shapes entry s known is kind base faults length =
-    record { is_kind = kind ∙ ap (λ (x : ShapeOf). kind_in (Some x)) (sym is); is_base = base; are_faults = faults; is_length = of_term }
+    → AreFaults shapes (Some entry ∷ []) known.faults → ((k : ℕ) (t : Term) → term_by (term_at k shapes) s ≡ Some t → IsLeast t known.least) → IsSummary shapes (Some entry) known
+entry_summary shapes entry s known is kind base faults least =
+    record { is_kind = kind ∙ ap (λ (x : ShapeOf). kind_in (Some x)) (sym is); is_base = base; are_faults = faults; is_least = of_term }
   where
-    of_term : (k : ℕ) (t : Term) → term_at k shapes (Some entry) ≡ Some t → IsLength t known.length
+    of_term : (k : ℕ) (t : Term) → term_at k shapes (Some entry) ≡ Some t → IsLeast t known.least
     of_term zero t e = absurd (cc)
-    of_term (suc k) t e = length k t (ap (term_by (term_at k shapes)) (sym is) ∙ e)
+    of_term (suc k) t e = least k t (ap (term_by (term_at k shapes)) (sym is) ∙ e)
+
+-- what is counted for some types is right
+pub knows-counts : (shapes : ℕ → ShapeOf) (s : Summaries) (k : ℕ) (types : List TypeAt) → All (Knows shapes s) types → All (Counts (term_at k shapes) (least_known s)) types
+knows-counts shapes s k types all = All-weaker (Knows shapes s) (Counts (term_at k shapes) (least_known s)) (λ at known t is. known.is_least k t is) types all
 
 -- ---- all nodes
 

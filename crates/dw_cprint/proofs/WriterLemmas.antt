@@ -8,20 +8,22 @@ use Rattle.dw_types.specs.Sizes.{has_elements}
 use Rattle.dw_cprint.specs.Declarations.{base_term, arrays, is_miscounted, is_misplaced, has_more, constants_of}
 use Rattle.dw_cprint.specs.Declarations.{parameters_by, members_by, term_by, declaration_by, term_at, parts_of}
 use Rattle.dw_cprint.specs.Declarations.{words_of}
-use Rattle.dw_cprint.specs.Declarators.{gap, pointer_row, opened, before, after, core, body_tokens}
+use Rattle.dw_cprint.specs.Declarators.{gap, pointer_row, opened, closed, before, after, core, body_tokens, enumeration_tokens}
+use Rattle.dw_cprint.specs.Drafts.{appended}
 use Rattle.dw_cprint.specs.Kept.{Writes}
 use Rattle.dw_cprint.specs.Legible.{is_identifier}
-use Rattle.dw_cprint.specs.Shapes.{Qualifier, TagKeyword, Parameter, Name, TypeAt, MemberOf, ShapeOf, base, typedef}
+use Rattle.dw_cprint.specs.Shapes.{Qualifier, TagKeyword, Parameter, Name, TypeAt, MemberOf, EnumeratorOf, ShapeOf, base, typedef}
 use Rattle.dw_cprint.specs.Shapes.{qualified, pointer, array, function, tagged, nameless, body, enumeration, foreign}
-use Rattle.dw_cprint.specs.Shapes.{other, typedef_subject, variable_subject, aggregate_subject, view_shape}
+use Rattle.dw_cprint.specs.Shapes.{other, typedef_subject, variable_subject, aggregate_subject, enumeration_subject, view_shape}
 use Rattle.dw_cprint.specs.Terms.{TypeWord, Enum, Term, Void, Named, Basic, Tagged, Body, Enumeration, Pointer}
-use Rattle.dw_cprint.specs.Terms.{Function, Prototyped, Parameters, Members, Declaration, Typedef, Variable, Aggregate}
+use Rattle.dw_cprint.specs.Terms.{Function, Unprototyped, Prototyped, Parameters, Members, Constant, Declaration, Typedef, Variable, Aggregate, Constants}
 use Rattle.dw_cprint.specs.Tokens.{Token, Blank, Star, Open, Close, LeftBrace, RightBrace, Semicolon, TypedefWord}
 use Rattle.dw_cprint.specs.Tokens.{TagWord, Identifier, spelling, text_of}
 use Rattle.dw_cprint.specs.Writing.{spell, qualifying, count_tokens, name_tokens, constants, signature_tokens}
 use Rattle.dw_cprint.specs.Writing.{members_tokens, declaration_tokens, written}
 use Rattle.dw_cprint.specs.declared.shape.Shape.{Shape}
 use Rattle.dw_cprint.specs.declared.shape.Shape.TheVariants as shape
+use Rattle.dw_cprint.proofs.DraftLemmas.{appended-twice}
 use Rattle.dw_cprint.proofs.DeclaratorLemmas.{in_parts}
 use Rattle.dw_cprint.proofs.NameLemmas.{words-text}
 use Rattle.dw_cprint.proofs.OptionLemmas.{map_inverted, then_inverted, unless_inverted}
@@ -32,17 +34,17 @@ pub text-append : (xs ys : List Token) → text_of (xs ++ ys) ≡ text_of xs ++ 
 text-append xs ys = flat_map-append spelling xs ys
 
 -- one text behind another
-pub both : (a b : List Token) (old mid new : List ℕ) → Writes a old mid → Writes b mid new → Writes (a ++ b) old new
+pub both : (a b : List Token) (old mid new : Option (List ℕ)) → Writes a old mid → Writes b mid new → Writes (a ++ b) old new
 both a b old mid new first second =
-    second ∙ ap (λ (u : List ℕ). u ++ text_of b) first ∙ append_assoc old (text_of a) (text_of b) ∙ ap (λ (u : List ℕ). old ++ u) (sym (text-append a b))
+    second ∙ ap (λ (u : Option (List ℕ)). appended u (text_of b)) first ∙ appended-twice old (text_of a) (text_of b) ∙ ap (appended old) (sym (text-append a b))
 
 -- the same text in other tokens
-pub as_text : (a b : List Token) (old new : List ℕ) → text_of a ≡ text_of b → Writes a old new → Writes b old new
-as_text a b old new e h = h ∙ ap (λ (u : List ℕ). old ++ u) e
+pub as_text : (a b : List Token) (old new : Option (List ℕ)) → text_of a ≡ text_of b → Writes a old new → Writes b old new
+as_text a b old new e h = h ∙ ap (appended old) e
 
 -- the same tokens, written in another way
-pub as_tokens : (a b : List Token) (old new : List ℕ) → a ≡ b → Writes a old new → Writes b old new
-as_tokens a b old new e h = h ∙ ap (λ (u : List Token). old ++ text_of u) e
+pub as_tokens : (a b : List Token) (old new : Option (List ℕ)) → a ≡ b → Writes a old new → Writes b old new
+as_tokens a b old new e h = h ∙ ap (λ (u : List Token). appended old (text_of u)) e
 
 -- ---- what stands before a declarator
 
@@ -54,7 +56,7 @@ is_specifier (array counts strange at) = false
 is_specifier (function at parameters) = false
 is_specifier _ = true
 
-record IsSpecifier (t : Term) : Type 0 where
+pub record IsSpecifier (t : Term) : Type 0 where
   pub front : (qs : List Qualifier) (inside : Bool) → qualifying qs ++ (core t ++ gap inside) ≡ before qs t inside
   pub back : after t ≡ []
 
@@ -69,7 +71,7 @@ specifier-base name t e = by_name (is_identifier name) (words_of 4 (parts_of nam
     by_name false None e = absurd (cc)
     by_name false (Some ws) e = let same : Basic ws ≡ t = cc in subst IsSpecifier same (record { front = λ qs inside. refl; back = refl })
 
-specifier-of : (term : TypeAt → Option Term) (s : ShapeOf) (t : Term) → is_specifier s ≡ true → term_by term s ≡ Some t → IsSpecifier t
+pub specifier-of : (term : TypeAt → Option Term) (s : ShapeOf) (t : Term) → is_specifier s ≡ true → term_by term s ≡ Some t → IsSpecifier t
 specifier-of term (base None) t is e = absurd (cc)
 specifier-of term (base (Some name)) t is e = specifier-base name t e
 specifier-of term (typedef None) t is e = absurd (cc)
@@ -129,9 +131,9 @@ pub void-at : (shapes : ℕ → ShapeOf) (k : ℕ) (at : TypeAt) (t : Term) → 
 void-at shapes zero at t is e = absurd (cc)
 void-at shapes (suc k) at t is e = let found : Some Void ≡ Some t = sym (ap (term_at (suc k) shapes) is) ∙ e in cc
 
-module _ (term : TypeAt → Option Term) (o : Option Term) (old new : List ℕ) where
-  pub pointer_before : (mid mid2 mid3 : List ℕ) (qs : List Qualifier) (inside : Bool) (at : TypeAt) → o ≡ term_by term (pointer at)
-      → ((t : Term) → term at ≡ Some t → Writes (before [] t true) old mid) → ((t : Term) → term at ≡ Some t → Writes (opened t) mid mid2) → mid3 ≡ mid2 ++ 42 ∷ []
+module _ (term : TypeAt → Option Term) (o : Option Term) (old new : Option (List ℕ)) where
+  pub pointer_before : (mid mid2 mid3 : Option (List ℕ)) (qs : List Qualifier) (inside : Bool) (at : TypeAt) → o ≡ term_by term (pointer at)
+      → ((t : Term) → term at ≡ Some t → Writes (before [] t true) old mid) → ((t : Term) → term at ≡ Some t → Writes (opened t) mid mid2) → Writes (Star ∷ []) mid2 mid3
       → Writes (pointer_row qs inside) mid3 new → (t : Term) → o ≡ Some t → Writes (before qs t inside) old new
   pointer_before mid mid2 mid3 qs inside at step inner opens star row t e =
       let f = map_inverted Pointer (term at) t (sym step ∙ e) in
@@ -148,7 +150,7 @@ module _ (term : TypeAt → Option Term) (o : Option Term) (old new : List ℕ) 
       let P : Term → Type 0 = λ u. Writes (before qs u inside) old new in
       subst P f.2 (as_tokens (before [] f.0 true) (before [] (arrays cs f.0) true) old new (sym (before-arrays cs f.0)) (inner f.0 f.1))
 
-  pub specifier_before : (mid mid2 : List ℕ) (qs : List Qualifier) (inside : Bool) (s : ShapeOf) → is_specifier s ≡ true → o ≡ term_by term s
+  pub specifier_before : (mid mid2 : Option (List ℕ)) (qs : List Qualifier) (inside : Bool) (s : ShapeOf) → is_specifier s ≡ true → o ≡ term_by term s
       → Writes (qualifying qs) old mid → ((t : Term) → term_by term s ≡ Some t → Writes (core t) mid mid2) → Writes (gap inside) mid2 new → (t : Term) → o ≡ Some t → Writes (before qs t inside) old new
   specifier_before mid mid2 qs inside s is step row inner end t e =
       let spec = specifier-of term s t is (sym step ∙ e) in
@@ -157,7 +159,7 @@ module _ (term : TypeAt → Option Term) (o : Option Term) (old new : List ℕ) 
 
   -- ---- what stands behind it
 
-  pub array_after : (mid : List ℕ) (counts : List (Option ℕ)) (strange : Bool) (at : TypeAt) → o ≡ term_by term (array counts strange at) → Writes (flat_map count_tokens counts) old mid
+  pub array_after : (mid : Option (List ℕ)) (counts : List (Option ℕ)) (strange : Bool) (at : TypeAt) → o ≡ term_by term (array counts strange at) → Writes (flat_map count_tokens counts) old mid
       → ((t : Term) → term at ≡ Some t → Writes (after t) mid new) → (t : Term) → o ≡ Some t → Writes (after t) old new
   array_after mid counts strange at step brackets inner t e =
       let u = unless_inverted (is_miscounted counts) (option_map (arrays counts) (term at)) t (sym step ∙ e) in
@@ -165,8 +167,22 @@ module _ (term : TypeAt → Option Term) (o : Option Term) (old new : List ℕ) 
       let P : Term → Type 0 = λ u. Writes (after u) old new in
       subst P f.2 (as_tokens (flat_map count_tokens counts ++ after f.0) (after (arrays counts f.0)) old new (after-arrays counts f.0) (both (flat_map count_tokens counts) (after f.0) old mid new brackets (inner f.0 f.1)))
 
-  pub prototype_after : (mid mid2 mid3 : List ℕ) (at : TypeAt) (ps : List Parameter) → o ≡ term_by term (function at (Some ps)) → mid ≡ old ++ 40 ∷ []
-      → (is_misplaced ps ≡ false → (us : Parameters) → parameters_by term ps ≡ Some us → Writes (signature_tokens (Prototyped us (has_more ps))) mid mid2) → mid3 ≡ mid2 ++ 41 ∷ []
+  pub pointer_after : (mid : Option (List ℕ)) (at : TypeAt) → o ≡ term_by term (pointer at) → ((t : Term) → term at ≡ Some t → Writes (closed t) old mid)
+      → ((t : Term) → term at ≡ Some t → Writes (after t) mid new) → (t : Term) → o ≡ Some t → Writes (after t) old new
+  pointer_after mid at step closes inner t e =
+      let f = map_inverted Pointer (term at) t (sym step ∙ e) in
+      let P : Term → Type 0 = λ u. Writes (after u) old new in
+      subst P f.2 (both (closed f.0) (after f.0) old mid new (closes f.0 f.1) (inner f.0 f.1))
+
+  pub bare_after : (mid : Option (List ℕ)) (at : TypeAt) → o ≡ term_by term (function at None) → Writes (Open ∷ Close ∷ []) old mid
+      → ((t : Term) → term at ≡ Some t → Writes (after t) mid new) → (t : Term) → o ≡ Some t → Writes (after t) old new
+  bare_after mid at step opens inner t e =
+      let f = map_inverted (λ (u : Term). Function u Unprototyped) (term at) t (sym step ∙ e) in
+      let P : Term → Type 0 = λ u. Writes (after u) old new in
+      subst P f.2 (both (Open ∷ Close ∷ []) (after f.0) old mid new opens (inner f.0 f.1))
+
+  pub prototype_after : (mid mid2 mid3 : Option (List ℕ)) (at : TypeAt) (ps : List Parameter) → o ≡ term_by term (function at (Some ps)) → Writes (Open ∷ []) old mid
+      → (is_misplaced ps ≡ false → (us : Parameters) → parameters_by term ps ≡ Some us → Writes (signature_tokens (Prototyped us (has_more ps))) mid mid2) → Writes (Close ∷ []) mid2 mid3
       → ((t : Term) → term at ≡ Some t → Writes (after t) mid3 new) → (t : Term) → o ≡ Some t → Writes (after t) old new
   prototype_after mid mid2 mid3 at ps step opens written closes inner t e =
       let f = function-parts term at ps t (sym step ∙ e) in
@@ -182,7 +198,7 @@ there-name : (name : Name) → has_elements (name_tokens name) ≡ is_some name
 there-name None = refl
 there-name (Some name) = refl
 
-pub named_written : (term : TypeAt → Option Term) (at : TypeAt) (name : Name) (old mid mid2 new : List ℕ) → ((t : Term) → term at ≡ Some t → Writes (before [] t (is_some name)) old mid)
+pub named_written : (term : TypeAt → Option Term) (at : TypeAt) (name : Name) (old mid mid2 new : Option (List ℕ)) → ((t : Term) → term at ≡ Some t → Writes (before [] t (is_some name)) old mid)
     → Writes (name_tokens name) mid mid2 → ((t : Term) → term at ≡ Some t → Writes (after t) mid2 new) → (t : Term) → term at ≡ Some t → Writes (spell [] t (name_tokens name)) old new
 named_written term at name old mid mid2 new front word back t e =
     let d = name_tokens name in
@@ -192,7 +208,7 @@ named_written term at name old mid mid2 new front word back t e =
 
 -- ---- a specifier without its qualifiers
 
-base-core : (name : List ℕ) (t : Term) → base_term name ≡ Some t → text_of (Identifier name ∷ []) ≡ text_of (core t)
+pub base-core : (name : List ℕ) (t : Term) → base_term name ≡ Some t → text_of (Identifier name ∷ []) ≡ text_of (core t)
 base-core name t e = by_name (is_identifier name) (words_of 4 (parts_of name)) refl e
   where
     by_name : (b : Bool) (o : Option (List TypeWord)) → words_of 4 (parts_of name) ≡ o → (if b then Some (Named name) else option_map Basic o) ≡ Some t → text_of (Identifier name ∷ []) ≡ text_of (core t)
@@ -202,42 +218,49 @@ base-core name t e = by_name (is_identifier name) (words_of 4 (parts_of name)) r
         let same : Basic ws ≡ t = cc in
         append-nil name ∙ sym (words-text name ws w) ∙ ap (λ (u : Term). text_of (core u)) same
 
-module _ (term : TypeAt → Option Term) (old new : List ℕ) where
+module _ (term : TypeAt → Option Term) (old new : Option (List ℕ)) where
   pub base_core : (name : Name) → Writes (name_tokens name) old new → (t : Term) → term_by term (base name) ≡ Some t → Writes (core t) old new
   base_core None h t e = absurd (cc)
   base_core (Some name) h t e = as_text (Identifier name ∷ []) (core t) old new (base-core name t e) h
 
-  pub body_core : (mid mid2 : List ℕ) (word : TagKeyword) (odd : Bool) (ms : List MemberOf) → mid ≡ old ++ spelling (TagWord word) → mid2 ≡ mid ++ 32 ∷ []
+  pub body_core : (mid mid2 : Option (List ℕ)) (word : TagKeyword) (odd : Bool) (ms : List MemberOf) → Writes (TagWord word ∷ []) old mid → Writes (Blank ∷ []) mid mid2
       → ((us : Members) → members_by term ms ≡ Some us → Writes (body_tokens us) mid2 new) → (t : Term) → term_by term (body word odd ms) ≡ Some t → Writes (core t) old new
   body_core mid mid2 word odd ms tag blank inner t e =
       let f = map_inverted (Body word) (members_by term ms) t e in
       let P : Term → Type 0 = λ u. Writes (core u) old new in
       subst P f.2
-      (both (TagWord word ∷ []) (Blank ∷ body_tokens f.0) old mid new (tag ∙ ap (λ (u : List ℕ). old ++ u) (sym (append-nil (spelling (TagWord word))))) (both (Blank ∷ []) (body_tokens f.0) mid mid2 new blank (inner f.0 f.1)))
+      (both (TagWord word ∷ []) (Blank ∷ body_tokens f.0) old mid new tag (both (Blank ∷ []) (body_tokens f.0) mid mid2 new blank (inner f.0 f.1)))
+
+  pub enumeration_core : (mid : Option (List ℕ)) (odd : Bool) (es : List EnumeratorOf) → Writes (TagWord Enum ∷ Blank ∷ []) old mid
+      → ((cs : List Constant) → constants_of es ≡ Some cs → Writes (enumeration_tokens cs) mid new) → (t : Term) → term_by term (enumeration odd es) ≡ Some t → Writes (core t) old new
+  enumeration_core mid odd es tag inner t e =
+      let f = map_inverted Enumeration (constants_of es) t e in
+      let P : Term → Type 0 = λ u. Writes (core u) old new in
+      subst P f.2 (both (TagWord Enum ∷ Blank ∷ []) (enumeration_tokens f.0) old mid new tag (inner f.0 f.1))
 
 -- ---- declarations
 
-module _ (term : TypeAt → Option Term) (old mid mid2 new : List ℕ) where
+module _ (term : TypeAt → Option Term) (old mid mid2 new : Option (List ℕ)) where
   pub typedef_done : (name : Name) (at : TypeAt) → Writes (TypedefWord ∷ Blank ∷ []) old mid → ((t : Term) → term at ≡ Some t → Writes (spell [] t (name_tokens name)) mid mid2) → Writes (Semicolon ∷ []) mid2 new
-      → (d : Declaration) → declaration_by term (typedef_subject name at) ≡ Some d → new ≡ old ++ written d
+      → (d : Declaration) → declaration_by term (typedef_subject name at) ≡ Some d → new ≡ appended old (written d)
   typedef_done None at first inner last d e = absurd (cc)
   typedef_done (Some name) at first inner last d e =
       let f = map_inverted (Typedef name) (term at) d e in
       let s = spell [] f.0 (Identifier name ∷ []) in
-      let P : Declaration → Type 0 = λ d. new ≡ old ++ written d in
+      let P : Declaration → Type 0 = λ d. new ≡ appended old (written d) in
       subst P f.2 (both (TypedefWord ∷ Blank ∷ []) (s ++ Semicolon ∷ []) old mid new first (both s (Semicolon ∷ []) mid mid2 new (inner f.0 f.1) last))
 
   pub variable_done : (name : Name) (at : TypeAt) → ((t : Term) → term at ≡ Some t → Writes (spell [] t (name_tokens name)) old mid) → Writes (Semicolon ∷ []) mid new
-      → (d : Declaration) → declaration_by term (variable_subject name at) ≡ Some d → new ≡ old ++ written d
+      → (d : Declaration) → declaration_by term (variable_subject name at) ≡ Some d → new ≡ appended old (written d)
   variable_done None at inner last d e = absurd (cc)
   variable_done (Some name) at inner last d e =
       let f = map_inverted (Variable name) (term at) d e in
-      let P : Declaration → Type 0 = λ d. new ≡ old ++ written d in
+      let P : Declaration → Type 0 = λ d. new ≡ appended old (written d) in
       subst P f.2 (both (spell [] f.0 (Identifier name ∷ [])) (Semicolon ∷ []) old mid new (inner f.0 f.1) last)
 
-  pub aggregate_done : (mid3 : List ℕ) (word : TagKeyword) (name : Name) (odd : Bool) (ms : List MemberOf) → Writes (TagWord word ∷ Blank ∷ name_tokens name) old mid → Writes (Blank ∷ []) mid mid2
+  pub aggregate_done : (mid3 : Option (List ℕ)) (word : TagKeyword) (name : Name) (odd : Bool) (ms : List MemberOf) → Writes (TagWord word ∷ Blank ∷ name_tokens name) old mid → Writes (Blank ∷ []) mid mid2
       → ((us : Members) → members_by term ms ≡ Some us → Writes (body_tokens us) mid2 mid3) → Writes (Semicolon ∷ []) mid3 new
-      → (d : Declaration) → declaration_by term (aggregate_subject word name odd ms) ≡ Some d → new ≡ old ++ written d
+      → (d : Declaration) → declaration_by term (aggregate_subject word name odd ms) ≡ Some d → new ≡ appended old (written d)
   aggregate_done mid3 word None odd ms first gap inner last d e = absurd (cc)
   aggregate_done mid3 word (Some name) odd ms first gap inner last d e =
       let f = map_inverted (Aggregate word name) (members_by term ms) d e in
@@ -245,9 +268,24 @@ module _ (term : TypeAt → Option Term) (old mid mid2 new : List ℕ) where
       let body = body_tokens f.0 in
       let same : body ++ Semicolon ∷ [] ≡ LeftBrace ∷ Blank ∷ (members_tokens f.0 ++ RightBrace ∷ Semicolon ∷ []) =
       ap (λ (u : List Token). LeftBrace ∷ Blank ∷ u) (append_assoc (members_tokens f.0) (RightBrace ∷ []) (Semicolon ∷ [])) in
-      let P : Declaration → Type 0 = λ d. new ≡ old ++ written d in
+      let P : Declaration → Type 0 = λ d. new ≡ appended old (written d) in
       subst P f.2
       (as_tokens (tag ++ Blank ∷ (body ++ Semicolon ∷ [])) (declaration_tokens (Aggregate word name f.0)) old new (ap (λ (u : List Token). tag ++ Blank ∷ u) same)
+      (both tag (Blank ∷ (body ++ Semicolon ∷ [])) old mid new first (both (Blank ∷ []) (body ++ Semicolon ∷ []) mid mid2 new gap (both body (Semicolon ∷ []) mid2 mid3 new (inner f.0 f.1) last))))
+
+  pub constants_done : (mid3 : Option (List ℕ)) (name : Name) (odd : Bool) (es : List EnumeratorOf) → Writes (TagWord Enum ∷ Blank ∷ name_tokens name) old mid → Writes (Blank ∷ []) mid mid2
+      → ((cs : List Constant) → constants_of es ≡ Some cs → Writes (enumeration_tokens cs) mid2 mid3) → Writes (Semicolon ∷ []) mid3 new
+      → (d : Declaration) → declaration_by term (enumeration_subject name odd es) ≡ Some d → new ≡ appended old (written d)
+  constants_done mid3 None odd es first gap inner last d e = absurd (cc)
+  constants_done mid3 (Some name) odd es first gap inner last d e =
+      let f = map_inverted (Constants name) (constants_of es) d e in
+      let tag = TagWord Enum ∷ Blank ∷ Identifier name ∷ [] in
+      let body = enumeration_tokens f.0 in
+      let same : body ++ Semicolon ∷ [] ≡ LeftBrace ∷ Blank ∷ (constants f.0 ++ Blank ∷ RightBrace ∷ Semicolon ∷ []) =
+      ap (λ (u : List Token). LeftBrace ∷ Blank ∷ u) (append_assoc (constants f.0) (Blank ∷ RightBrace ∷ []) (Semicolon ∷ [])) in
+      let P : Declaration → Type 0 = λ d. new ≡ appended old (written d) in
+      subst P f.2
+      (as_tokens (tag ++ Blank ∷ (body ++ Semicolon ∷ [])) (declaration_tokens (Constants name f.0)) old new (ap (λ (u : List Token). tag ++ Blank ∷ u) same)
       (both tag (Blank ∷ (body ++ Semicolon ∷ [])) old mid new first (both (Blank ∷ []) (body ++ Semicolon ∷ []) mid mid2 new gap (both body (Semicolon ∷ []) mid2 mid3 new (inner f.0 f.1) last))))
 
 -- ---- shapes as the code has them

@@ -1,16 +1,31 @@
 -- State: the judgement of each named type: it is printed, or the refusal that holds.
 use Rattle.std.specs.Prelude.{◌≡◌, ℕ, ◌<◌, ◌≤◌, ◌⊎◌, List, [], ◌∷◌, ◌++◌, Option, Some, None}
-use Rattle.std.specs.Prelude.{slice_index, slice_index_or, Contains, AllPairs}
+use Rattle.std.specs.Prelude.{length, slice_index, slice_index_or, Contains, AllPairs}
 use Rattle.dw_cprint.specs.Declarations.{declaration_of}
+use Rattle.dw_cprint.specs.Drafts.{drafted}
+use Rattle.dw_cprint.specs.Kept.{kept}
 use Rattle.dw_cprint.specs.Listings.{text_if}
 use Rattle.dw_cprint.specs.Refusals.{PrintFault, Refuses, IsPrinted}
 use Rattle.dw_cprint.specs.Shapes.{ShapeOf, SubjectOf, no_subject}
+use Rattle.dw_cprint.specs.Terms.{Declaration}
+use Rattle.dw_cprint.specs.Writing.{written}
+use Rattle.dw_cprint.specs.declared.draft.Draft.{Draft}
 use Rattle.dw_cprint.specs.declared.listing.Listed.{Listed}
+use Rattle.dw_cprint.specs.declared.survey.Survey.{Survey}
 
 -- why a declaration is refused, or none if it is printed
 abbrev pub IsJudgement : (ℕ → ShapeOf) → SubjectOf → Option PrintFault → Type 0
 IsJudgement shapes subject None = IsPrinted shapes subject
 IsJudgement shapes subject (Some rule) = Refuses shapes subject rule
+
+-- the draft has the text of the declaration, by the shapes that a survey keeps
+abbrev pub IsDrafted : Survey → SubjectOf → Draft → Type 0
+IsDrafted s subject draft =
+    (d : Declaration) → declaration_of (kept s) subject ≡ Some d → drafted draft ≡ Some (written d)
+
+-- there is a declaration, and its text is not too long
+abbrev pub HasShortText : Option Declaration → Type 0
+HasShortText o = (d : Declaration) × (o ≡ Some d) × (length (written d) ≤ 65536)
 
 -- one of some declarations, by its place
 abbrev pub subject_at : List SubjectOf → ℕ → SubjectOf

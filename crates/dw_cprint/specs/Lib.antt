@@ -22,7 +22,9 @@ pub mod Regular
 pub mod SameShapes
 pub mod ClearingStates
 pub mod Reach
+pub mod Least
 pub mod Summaries
+pub mod Drafts
 pub mod Kept
 pub mod Surveys
 pub mod Judgements

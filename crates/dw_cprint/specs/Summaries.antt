@@ -1,24 +1,21 @@
--- State: what a survey keeps of a type that reaches no cycle: its kind, what is wrong with it, and how long its text
--- is.
-use Rattle.std.specs.Prelude.{◌≡◌, ℕ, ℤ, ◌+◌, ◌<◌, ◌↔◌, Bool, true, false, IsTrue, List, [], ◌∷◌, ◌++◌, Option, Some}
+-- State: what a survey keeps of a type that reaches no cycle: its kind, what is wrong with it, and how many bytes its
+-- text has at least.
+use Rattle.std.specs.Prelude.{◌≡◌, ℕ, ◌<◌, ◌↔◌, true, IsTrue, List, [], ◌∷◌, Option, Some}
 use Rattle.std.specs.Prelude.{None, length, slice_get, slice_index, slice_index_or, is_some, option_and_then, unwrap_or}
-use Rattle.std.specs.Prelude.{min, Contains}
-use Rattle.dw_cprint.specs.Declarations.{term_at, bits_of, has_more, is_misplaced, parameters_by}
-use Rattle.dw_cprint.specs.Declarators.{before, after}
+use Rattle.std.specs.Prelude.{Contains}
+use Rattle.dw_cprint.specs.Declarations.{term_at}
+use Rattle.dw_cprint.specs.Least.{IsLeast}
 use Rattle.dw_cprint.specs.Refusals.{Holds, BadName, Foreign, Unspeakable}
-use Rattle.dw_cprint.specs.Shapes.{Struct, Union, Bits, Parameter, Typed, More, Name, TypeAt, EnumeratorOf, ShapeOf}
+use Rattle.dw_cprint.specs.Shapes.{Struct, Union, TypeAt, ShapeOf}
 use Rattle.dw_cprint.specs.Shapes.{typedef, qualified, pointer, array, function, nameless, body, SubjectOf, view_shape}
 use Rattle.dw_cprint.specs.Steps.{entries_of, steps_reached, IsReachedFrom}
-use Rattle.dw_cprint.specs.Terms.{Term, Valued, Parameters, Prototyped}
-use Rattle.dw_cprint.specs.Tokens.{Token, Semicolon, Blank, text_of}
-use Rattle.dw_cprint.specs.Writing.{constant, signature_tokens, spell, name_tokens, bits_tokens}
+use Rattle.dw_cprint.specs.Terms.{Term}
 use Rattle.dw_cprint.specs.Wrong.{shape_of, StandsUnder, starts_open, HasBadName, is_foreign, IsUnspeakable}
 use Rattle.dw_cprint.specs.declared.shape.Shape.{Shape}
 use Rattle.dw_cprint.specs.declared.kinds.TypeKind.TheVariants as kind
 use Rattle.dw_cprint.specs.declared.summary.TheConstants.{VOID}
 pub use Rattle.dw_cprint.specs.declared.kinds.TypeKind.{TypeKind}
 pub use Rattle.dw_cprint.specs.declared.faults.Faults.{Faults}
-pub use Rattle.dw_cprint.specs.declared.lengths.Length.{Length}
 pub use Rattle.dw_cprint.specs.declared.summary.Summary.{Summary}
 pub use Rattle.dw_cprint.specs.declared.summary.Summaries.{Summaries}
 
@@ -57,52 +54,6 @@ pub record AreFaultsOf (shapes : ℕ → ShapeOf) (subject : SubjectOf) (faults 
   pub foreign_type : IsTrue faults.foreign ↔ Holds shapes subject Foreign
   pub unspeakable : IsTrue faults.unspeakable ↔ Holds shapes subject Unspeakable
 
--- ---- how long the text is
-
--- a number, counted to one past the limit
-abbrev pub counted : ℕ → ℕ
-counted n = min n 65537
-
--- how many bytes the text of some tokens has
-abbrev pub byte_count : List Token → ℕ
-byte_count tokens = length (text_of tokens)
-
--- the bytes of a type's text without its declarator; a declarator that is not empty may take a space before it
-abbrev pub text_bytes : Term → (inside : Bool) → ℕ
-text_bytes t inside = byte_count (before [] t inside) + byte_count (after t)
-
--- the bytes of the space before a declarator, if there is one
-abbrev pub gap_bytes : Bool → ℕ
-gap_bytes true = 1
-gap_bytes false = 0
-
--- how long the text of a type is without a declarator, and whether one that is not empty takes a space before it
-pub record IsLength (t : Term) (known : Length) : Type 0 where
-  pub bytes : known.bytes ≡ counted (text_bytes t false)
-  pub gap : text_bytes t true ≡ text_bytes t false + gap_bytes known.gap
-
--- a member of a body, with its size in bits, and a semicolon and a space after it
-abbrev pub member_tokens : Term → Name → Bits → List Token
-member_tokens t name bits = spell [] t (name_tokens name) ++ (bits_tokens (bits_of bits) ++ Semicolon ∷ Blank ∷ [])
-
--- how long the text of an enumerator is, if it has a name and a value
-abbrev pub IsEnumeratorLength : EnumeratorOf → ℕ → Type 0
-IsEnumeratorLength e bytes = (name : List ℕ) (value : ℤ) → e.name ≡ Some name → e.value ≡ Some value
-    → bytes ≡ counted (byte_count (constant (Valued name value)))
-
--- how long the text of a parameter is, if its type has a term
-abbrev pub IsParameterLength : (TypeAt → Option Term) → Parameter → ℕ → Type 0
-IsParameterLength term (Typed at) bytes = (t : Term) → term at ≡ Some t → bytes ≡ counted (byte_count (spell [] t []))
-IsParameterLength term More bytes = bytes ≡ 3
-
--- how long the parentheses of a function with its parameters are, if their types have terms; a function that is not
--- prototyped has no text between them
-abbrev pub IsCallLength : (TypeAt → Option Term) → Option (List Parameter) → ℕ → Type 0
-IsCallLength term None bytes = bytes ≡ 2
-IsCallLength term (Some ps) bytes =
-    (us : Parameters) → is_misplaced ps ≡ false → parameters_by term ps ≡ Some us
-    → bytes ≡ counted (byte_count (signature_tokens (Prototyped us (has_more ps))) + 2)
-
 -- ---- summaries
 
 -- the kind of what stands under a type's row of qualifiers; of the type itself, if it is no qualifier
@@ -114,7 +65,7 @@ pub record IsSummary (shapes : ℕ → ShapeOf) (at : TypeAt) (known : Summary) 
   pub is_kind : known.kind ≡ kind_in (shape_of shapes at)
   pub is_base : IsBase shapes at known.base
   pub are_faults : AreFaults shapes (at ∷ []) known.faults
-  pub is_length : (k : ℕ) (t : Term) → term_at k shapes at ≡ Some t → IsLength t known.length
+  pub is_least : (k : ℕ) (t : Term) → term_at k shapes at ≡ Some t → IsLeast t known.least
 
 -- what is listed for an entry, by the place of that entry
 abbrev pub found_at : {X : Type 0} → List ℕ → List X → ℕ → Option X
@@ -137,9 +88,9 @@ known_of s at = unwrap_or (summary_at VOID s.places.items s.nodes.items at) VOID
 abbrev pub Knows : (ℕ → ShapeOf) → Summaries → TypeAt → Type 0
 Knows shapes s at = IsSummary shapes at (known_of s at)
 
--- how long the summaries tell the text of a type to be is right, if the type has a term
-abbrev pub KnowsLength : (TypeAt → Option Term) → Summaries → TypeAt → Type 0
-KnowsLength term s at = (t : Term) → term at ≡ Some t → IsLength t (known_of s at).length
+-- how many bytes they tell the text of a type to have at least
+abbrev pub least_known : Summaries → TypeAt → ℕ
+least_known s at = (known_of s at).least
 
 -- nodes, each after those that its steps lead to; the entry of each node; and the shapes that are kept of them
 pub record AreNodes (shapes : ℕ → ShapeOf) (places found : List ℕ) (kept : List Shape) (clear : List ℕ) : Type 0 where

@@ -1,11 +1,11 @@
 //! The listing of all named types.
 
 ghost use Rattle.std.specs.Prelude.{◌≡◌, ◌<◌, ◌++◌, length, slice_index, map, flat_map};
-ghost use Rattle.std.specs.Prelude.{All, AllPairs, IsPermutation, IfOk, OnOk, IsSome};
+ghost use Rattle.std.specs.Prelude.{All, AllPairs, IsPermutation, IfOk, OnOk};
 ghost use Rattle.dw_image.specs.Images.{entries_in};
 ghost use Rattle.dw_cprint.specs.Declarations.{declaration_of};
 ghost use Rattle.dw_cprint.specs.EntryShapes.{subject_in};
-ghost use Rattle.dw_cprint.specs.Judgements.{AreJudged, StandsNoLater, listed_line, subject_at};
+ghost use Rattle.dw_cprint.specs.Judgements.{AreJudged, HasShortText, StandsNoLater, listed_line, subject_at};
 ghost use Rattle.dw_cprint.specs.Kept.{kept};
 ghost use Rattle.dw_cprint.specs.Listings.{AreLevels, AreNamedTypes, IsListing, is_named_type};
 ghost use Rattle.dw_cprint.specs.Listings.{listing_text, refused_line, refused_line_in};
@@ -15,6 +15,7 @@ ghost use Rattle.dw_cprint.specs.Surveys.{BySurvey};
 ghost use Rattle.dw_cprint.specs.declared.listing.Listed.{Listed as ListedOf};
 
 use crate::digits::put_eight_digits;
+use crate::draft::Draft;
 use crate::fault::PrintFault;
 use crate::longest::longest_by_rank;
 use crate::look_ups::{declared_at, has_name, tag_at};
@@ -132,13 +133,16 @@ fn put_listed<'a>(
     listed: &[Listed],
 ) -> Result<(), AllocError>
     requires places { All (λ one. one.place < length subjects.now) listed.now }
-    requires declared { All (λ one. IsSome (declaration_of (kept survey.now)
+    requires declared { All (λ one. HasShortText (declaration_of (kept survey.now)
         (subject_at (map view_subject subjects.now) one.place))) listed.now }
     ensures { OnOk result (out.new.items ≡ out.old.items
         ++ flat_map (listed_line (kept survey.now) (map view_subject subjects.now)) listed.now) }
 {
+    let mut draft = Draft::new(alloc);
     for one in listed {
-        survey.put_declaration(alloc, out, &subjects[one.place])?;
+        draft.clear();
+        survey.put_declaration(alloc, &mut draft, &subjects[one.place])?;
+        out.extend_from_slice(draft.bytes())?;
         out.push(b'\n')?;
     }
     Ok(())
@@ -183,9 +187,10 @@ fn judge<'a>(
 {
     let mut listed = Vec::new(alloc);
     let mut refused = Vec::new(alloc);
+    let mut draft = Draft::new(alloc);
     for place in 0..named.len() {
         let entry = named[place];
-        match survey.refusal(alloc, &subjects[place])? {
+        match survey.refusal(alloc, &subjects[place], &mut draft)? {
             None => listed.push(Listed {
                 level: levels[entry.number()],
                 entry,

@@ -8,9 +8,8 @@ ghost use Rattle.dw_cprint.specs.Summaries.{summary_at};
 
 use crate::faults::{Faults, faults_of};
 use crate::kinds::{TypeKind, kind_of};
-use crate::lengths::Length;
+use crate::least::least_of;
 use crate::shape::{Shape, TypeAt};
-use crate::text_lengths::length_of;
 use std::alloc::{AllocError, Global};
 
 /// What is known of a type that reaches no cycle.
@@ -21,7 +20,8 @@ pub struct Summary {
     pub base: TypeKind,
     /// What is wrong with an entry that it reaches, or with itself.
     pub faults: Faults,
-    pub length: Length,
+    /// How many bytes its text has at least.
+    pub least: usize,
 }
 
 /// What is known of void.
@@ -33,10 +33,7 @@ pub const VOID: Summary = Summary {
         foreign: false,
         unspeakable: false,
     },
-    length: Length {
-        bytes: 4,
-        gap: true,
-    },
+    least: 4,
 };
 
 /// The summaries of types, by their entries. Types that reach a cycle have none.
@@ -98,12 +95,11 @@ fn summary_of(
         → IsSummary shapes (Some entry) known) }
 {
     let faults = faults_of(alloc, summaries, shape)?;
-    let length = length_of(alloc, summaries, shape)?;
     Ok(Summary {
         kind: kind_of(shape),
         base: base_of(summaries, shape),
         faults,
-        length,
+        least: least_of(summaries, shape),
     })
 }
 

@@ -1,24 +1,24 @@
 //! What some declarations need, found once for all of them: what they reach, what of that reaches a cycle, and what is
 //! known of the rest.
 
-ghost use Rattle.std.specs.Prelude.{◌≡◌, ◌↔◌, ◌<◌, length, map, All, IfOk, IsTrue};
+ghost use Rattle.std.specs.Prelude.{◌≡◌, ◌↔◌, ◌<◌, None, length, map, All, IfOk, IsTrue};
 ghost use Rattle.dw_image.specs.Images.{entries_in};
 ghost use Rattle.dw_cprint.specs.EntryShapes.{shape_in};
-ghost use Rattle.dw_cprint.specs.Judgements.{IsJudgement};
+ghost use Rattle.dw_cprint.specs.Judgements.{IsDrafted, IsJudgement};
 ghost use Rattle.dw_cprint.specs.Shapes.{view_subject};
 ghost use Rattle.dw_cprint.specs.Steps.{IsDeepFrom, ReachACycle, entries_of, first_steps, roots_of};
 ghost use Rattle.dw_cprint.specs.Surveys.{BySurvey, IsSurveyOf, depth_at};
 
 use crate::clearing::clear_nodes;
+use crate::draft::{Draft, LIMIT};
 use crate::fault::PrintFault;
 use crate::faults::subject_faults;
-use crate::lengths::LIMIT;
+use crate::least::least_declared;
 use crate::longest::longest_rows;
 use crate::reaching::{all_types, declared_types, reach};
 use crate::shape::{Shape, Subject, TypeAt};
 use crate::source::Source;
 use crate::summary::{Summaries, summarize};
-use crate::text_lengths::declaration_length;
 use dw_image::Image;
 use std::alloc::{AllocError, Global};
 
@@ -100,14 +100,16 @@ impl<'a> Survey<'a> {
         false
     }
 
-    /// Why a declaration is refused, if it is.
+    /// Why a declaration is refused, if it is. Otherwise its text is written to the draft.
     pub fn refusal(
         &self,
         alloc: Global,
-        subject: &Subject<'_>,
+        subject: &Subject<'a>,
+        draft: &mut Draft,
     ) -> Result<Option<PrintFault>, AllocError>
-        ensures { IfOk result (λ r. BySurvey self.now (first_steps (view_subject subject.now)) (λ shapes.
+        ensures judged { IfOk result (λ r. BySurvey self.now (first_steps (view_subject subject.now)) (λ shapes.
             IsJudgement shapes (view_subject subject.now) r)) }
+        ensures text { IfOk result (λ r. r ≡ None → IsDrafted self.now (view_subject subject.now) draft.new) }
     {
         if let Subject::Other = subject {
             return Ok(Some(PrintFault::NotPrintable));
@@ -129,7 +131,12 @@ impl<'a> Survey<'a> {
         if self.is_deep(&types) {
             return Ok(Some(PrintFault::TooDeep));
         }
-        if declaration_length(alloc, &self.summaries, subject)? > LIMIT {
+        if least_declared(&self.summaries, subject) > LIMIT {
+            return Ok(Some(PrintFault::TooLong));
+        }
+        draft.clear();
+        self.put_declaration(alloc, draft, subject)?;
+        if draft.is_over() {
             return Ok(Some(PrintFault::TooLong));
         }
         Ok(None)

@@ -2,12 +2,14 @@
 
 ghost use Rattle.std.specs.Prelude.{◌≡◌, ◌<◌, ◌||◌, Some, None, map, OnOk, IfSome, MatchOption};
 ghost use Rattle.dw_cprint.specs.Declarations.{term_by};
+ghost use Rattle.dw_cprint.specs.Drafts.{drafted};
 ghost use Rattle.dw_cprint.specs.Kept.{kept, kept_term, WritesBefore, WritesAfter, WritesOpened, WritesClosed};
 ghost use Rattle.dw_cprint.specs.Kept.{WritesNamed, WritesCore, WritesMember, WritesMembers, WritesParameter};
 ghost use Rattle.dw_cprint.specs.Kept.{WritesParameters, WritesDeclaration};
 ghost use Rattle.dw_cprint.specs.Shapes.{other, view_name, view_shape, view_subject, view_member};
 ghost use Rattle.dw_cprint.specs.Wrong.{is_array, is_function, shape_of};
 
+use crate::draft::Draft;
 use crate::pieces::{
     put_bits, put_counts, put_enumerators, put_gap, put_joined, put_name, put_qualifiers, put_tag,
 };
@@ -59,21 +61,21 @@ impl<'a> Survey<'a> {
     }
 
     /// The parenthesis before the star of a pointer, if it needs one.
-    fn put_opened(&self, out: &mut Vec<u8>, to: TypeAt) -> Result<(), AllocError>
-        ensures { OnOk result (WritesOpened self.now to out.old.items out.new.items) }
+    fn put_opened(&self, out: &mut Draft, to: TypeAt) -> Result<(), AllocError>
+        ensures { OnOk result (WritesOpened self.now to (drafted out.old) (drafted out.new)) }
     {
         if self.is_bracketed(to) {
-            out.push(b'(')?;
+            out.put(b"(")?;
         }
         Ok(())
     }
 
     /// The parenthesis that closes it.
-    fn put_closed(&self, out: &mut Vec<u8>, to: TypeAt) -> Result<(), AllocError>
-        ensures { OnOk result (WritesClosed self.now to out.old.items out.new.items) }
+    fn put_closed(&self, out: &mut Draft, to: TypeAt) -> Result<(), AllocError>
+        ensures { OnOk result (WritesClosed self.now to (drafted out.old) (drafted out.new)) }
     {
         if self.is_bracketed(to) {
-            out.push(b')')?;
+            out.put(b")")?;
         }
         Ok(())
     }
@@ -83,12 +85,12 @@ impl<'a> Survey<'a> {
     fn put_named(
         &self,
         alloc: Global,
-        out: &mut Vec<u8>,
+        out: &mut Draft,
         at: TypeAt,
         name: Name<'_>,
         depth: usize,
     ) -> Result<(), AllocError>
-        ensures { OnOk result (WritesNamed self.now depth at (view_name name.entry) out.old.items out.new.items) }
+        ensures { OnOk result (WritesNamed self.now depth at (view_name name.entry) (drafted out.old) (drafted out.new)) }
     {
         self.put_before(alloc, out, at, Vec::new(alloc), name.is_some(), depth)?;
         put_name(out, name)?;
@@ -100,15 +102,15 @@ impl<'a> Survey<'a> {
     fn put_member(
         &self,
         alloc: Global,
-        out: &mut Vec<u8>,
+        out: &mut Draft,
         member: &Member<'a>,
         depth: usize,
     ) -> Result<(), AllocError>
-        ensures { OnOk result (WritesMember self.now depth (view_member member.now) out.old.items out.new.items) }
+        ensures { OnOk result (WritesMember self.now depth (view_member member.now) (drafted out.old) (drafted out.new)) }
     {
         self.put_named(alloc, out, member.type_at, member.name, depth)?;
         put_bits(out, member.bits)?;
-        out.extend_from_slice(b"; ")
+        out.put(b"; ")
     }
 
     /// The members of a body, in braces.
@@ -116,17 +118,20 @@ impl<'a> Survey<'a> {
     fn put_members(
         &self,
         alloc: Global,
-        out: &mut Vec<u8>,
+        out: &mut Draft,
         members: &[Member<'a>],
         depth: usize,
     ) -> Result<(), AllocError>
-        ensures { OnOk result (WritesMembers self.now depth (map view_member members.now) out.old.items out.new.items) }
+        ensures { OnOk result (WritesMembers self.now depth (map view_member members.now) (drafted out.old) (drafted out.new)) }
     {
-        out.extend_from_slice(b"{ ")?;
+        out.put(b"{ ")?;
         for member in members {
+            if out.is_over() {
+                return Ok(());
+            }
             self.put_member(alloc, out, member, depth)?;
         }
-        out.push(b'}')?;
+        out.put(b"}")?;
         Ok(())
     }
 
@@ -135,15 +140,15 @@ impl<'a> Survey<'a> {
     fn put_parameter(
         &self,
         alloc: Global,
-        out: &mut Vec<u8>,
+        out: &mut Draft,
         parameter: Parameter,
         depth: usize,
     ) -> Result<(), AllocError>
-        ensures { OnOk result (WritesParameter self.now depth parameter out.old.items out.new.items) }
+        ensures { OnOk result (WritesParameter self.now depth parameter (drafted out.old) (drafted out.new)) }
     {
         match parameter {
             Parameter::Typed(at) => self.put_named(alloc, out, at, None, depth),
-            Parameter::More => out.extend_from_slice(b"..."),
+            Parameter::More => out.put(b"..."),
         }
     }
 
@@ -152,18 +157,21 @@ impl<'a> Survey<'a> {
     fn put_parameters(
         &self,
         alloc: Global,
-        out: &mut Vec<u8>,
+        out: &mut Draft,
         parameters: &[Parameter],
         depth: usize,
     ) -> Result<(), AllocError>
-        ensures { OnOk result (WritesParameters self.now depth parameters.now out.old.items out.new.items) }
+        ensures { OnOk result (WritesParameters self.now depth parameters.now (drafted out.old) (drafted out.new)) }
     {
         let Some((first, others)) = parameters.split_first() else {
-            return out.extend_from_slice(b"void");
+            return out.put(b"void");
         };
         self.put_parameter(alloc, out, *first, depth)?;
         for parameter in others {
-            out.extend_from_slice(b", ")?;
+            if out.is_over() {
+                return Ok(());
+            }
+            out.put(b", ")?;
             self.put_parameter(alloc, out, *parameter, depth)?;
         }
         Ok(())
@@ -174,23 +182,23 @@ impl<'a> Survey<'a> {
     fn put_core(
         &self,
         alloc: Global,
-        out: &mut Vec<u8>,
+        out: &mut Draft,
         shape: &Shape<'a>,
         depth: usize,
     ) -> Result<(), AllocError>
-        ensures { OnOk result (WritesCore self.now depth (view_shape shape.now) out.old.items out.new.items) }
+        ensures { OnOk result (WritesCore self.now depth (view_shape shape.now) (drafted out.old) (drafted out.new)) }
     {
         match shape {
             Shape::Base(name) => put_name(out, *name),
             Shape::Typedef(name) => put_name(out, *name),
             Shape::Tagged(tag, name) => put_tag(out, *tag, Some(*name)),
             Shape::Body(tag, _, members) => {
-                out.extend_from_slice(tag.text())?;
-                out.push(b' ')?;
+                out.put(tag.text())?;
+                out.put(b" ")?;
                 self.put_members(alloc, out, members, depth)
             }
             Shape::Enumeration(_, enumerators) => {
-                out.extend_from_slice(b"enum ")?;
+                out.put(b"enum ")?;
                 put_enumerators(out, enumerators)
             }
             _ => Ok(()),
@@ -202,17 +210,20 @@ impl<'a> Survey<'a> {
     fn put_before(
         &self,
         alloc: Global,
-        out: &mut Vec<u8>,
+        out: &mut Draft,
         at: TypeAt,
         mut qualifiers: Vec<Qualifier>,
         inside: bool,
         depth: usize,
     ) -> Result<(), AllocError>
-        ensures { OnOk result (WritesBefore self.now depth at qualifiers.items inside out.old.items out.new.items) }
+        ensures { OnOk result (WritesBefore self.now depth at qualifiers.items inside (drafted out.old) (drafted out.new)) }
     {
+        if out.is_over() {
+            return Ok(());
+        }
         let Some(entry) = at else {
             put_qualifiers(out, &qualifiers)?;
-            out.extend_from_slice(b"void")?;
+            out.put(b"void")?;
             return put_gap(out, inside);
         };
         let Some((shape, below)) = self.shape_within(entry, depth) else {
@@ -226,7 +237,7 @@ impl<'a> Survey<'a> {
             Shape::Pointer(to) => {
                 self.put_before(alloc, out, *to, Vec::new(alloc), true, below)?;
                 self.put_opened(out, *to)?;
-                out.push(b'*')?;
+                out.put(b"*")?;
                 put_joined(out, &qualifiers, inside)
             }
             Shape::Array(_, _, element) => {
@@ -248,12 +259,15 @@ impl<'a> Survey<'a> {
     fn put_after(
         &self,
         alloc: Global,
-        out: &mut Vec<u8>,
+        out: &mut Draft,
         at: TypeAt,
         depth: usize,
     ) -> Result<(), AllocError>
-        ensures { OnOk result (WritesAfter self.now depth at out.old.items out.new.items) }
+        ensures { OnOk result (WritesAfter self.now depth at (drafted out.old) (drafted out.new)) }
     {
+        if out.is_over() {
+            return Ok(());
+        }
         let Some(entry) = at else {
             return Ok(());
         };
@@ -272,13 +286,13 @@ impl<'a> Survey<'a> {
             }
             Shape::Function(returned, parameters) => match parameters {
                 None => {
-                    out.extend_from_slice(b"()")?;
+                    out.put(b"()")?;
                     self.put_after(alloc, out, *returned, below)
                 }
                 Some(parameters) => {
-                    out.push(b'(')?;
+                    out.put(b"(")?;
                     self.put_parameters(alloc, out, parameters, below)?;
-                    out.push(b')')?;
+                    out.put(b")")?;
                     self.put_after(alloc, out, *returned, below)
                 }
             },
@@ -291,36 +305,36 @@ impl<'a> Survey<'a> {
     pub fn put_declaration(
         &self,
         alloc: Global,
-        out: &mut Vec<u8>,
+        out: &mut Draft,
         subject: &Subject<'a>,
     ) -> Result<(), AllocError>
-        ensures { OnOk result (WritesDeclaration self.now (view_subject subject.now) out.old.items out.new.items) }
+        ensures { OnOk result (WritesDeclaration self.now (view_subject subject.now) (drafted out.old) (drafted out.new)) }
     {
         match subject {
             Subject::Typedef(name, at) => {
-                out.extend_from_slice(b"typedef ")?;
+                out.put(b"typedef ")?;
                 self.put_named(alloc, out, *at, *name, DEPTH)?;
-                out.extend_from_slice(b";")
+                out.put(b";")
             }
             Subject::Variable(name, at) => {
                 self.put_named(alloc, out, *at, *name, DEPTH)?;
-                out.extend_from_slice(b";")
+                out.put(b";")
             }
             Subject::Aggregate(tag, name, _, members) => {
                 put_tag(out, *tag, *name)?;
-                out.push(b' ')?;
+                out.put(b" ")?;
                 self.put_members(alloc, out, members, DEPTH)?;
-                out.extend_from_slice(b";")
+                out.put(b";")
             }
             Subject::Enumeration(name, _, enumerators) => {
                 put_tag(out, TagKeyword::Enum, *name)?;
-                out.push(b' ')?;
+                out.put(b" ")?;
                 put_enumerators(out, enumerators)?;
-                out.extend_from_slice(b";")
+                out.put(b";")
             }
             Subject::Declared(tag, name) => {
                 put_tag(out, *tag, *name)?;
-                out.extend_from_slice(b";")
+                out.put(b";")
             }
             Subject::Other => Ok(()),
         }

@@ -1,6 +1,6 @@
 use Rattle.std.proofs.Common.{◌≡◌, ◌<◌, ◌∷◌, ◌++◌, [], ℕ, List, Option, Some, map, length, get_or, arith, sym, ap, ◌∙◌}
 use Rattle.std.proofs.Common.{subst}
-use Rattle.std.specs.Prelude.{All}
+use Rattle.std.specs.Prelude.{All, IfSome}
 use Rattle.dw_image.specs.Images.{entries_in}
 use Rattle.dw_cprint.specs.Declarations.{declaration_of}
 use Rattle.dw_cprint.specs.EntryShapes.{shape_in, subject_in}
@@ -44,7 +44,7 @@ returns-in-Some-clause-refused c = λ rule other same.
     let at : y ≡ get_or c.deref.result.now 0 y = c.index.ensures ∙ ap (λ (zs : List Subject). get_or zs 0 y) (sym c.deref.ensures.value) in
     let L : List Subject → Type 0 = λ zs. 0 < length zs in
     let long = subst L (sym c.deref.ensures.value) (one-long xs c.new-subjects.result.items x c.in_ok-push.ensures.items c.new-subjects.ensures.items) in
-    let judged = c.in_ok-fault.ensures (shape_in image) (roots_of (map view_subject c.deref.result.now)) c.in_ok-survey.ensures (steps-among c.deref.result.now 0 y long at) in
+    let judged = c.in_ok-fault.ensures.judged (shape_in image) (roots_of (map view_subject c.deref.result.now)) c.in_ok-survey.ensures (steps-among c.deref.result.now 0 y long at) in
     let J : Option PrintFault → Type 0 = λ o. IsJudgement (shape_in image) (view_subject y) o in
     let R : SubjectOf → Type 0 = λ s. Refuses (shape_in image) s c.in-Some.fault in
     let F : PrintFault → Type 0 = λ f. Refuses (shape_in image) (subject_in image c.args.id) f in
@@ -59,23 +59,22 @@ returns-clause-text c =
     let xs = c.push.new.self.items in
     let x = c.in_ok-subject_of.field-0 in
     let y = c.index.result.now in
-    let z = c.index-2.result.now in
     let is : view_subject y ≡ subject = ap view_subject (only-one xs c.new-subjects.result.items x y c.in_ok-push.ensures.items c.new-subjects.ensures.items c.index.ensures) ∙ c.in_ok-subject_of.ensures.subject in
-    let is2 : view_subject z ≡ subject = ap view_subject (only-one xs c.new-subjects.result.items x z c.in_ok-push.ensures.items c.new-subjects.ensures.items c.index-2.ensures) ∙ c.in_ok-subject_of.ensures.subject in
     let at : y ≡ get_or c.deref.result.now 0 y = c.index.ensures ∙ ap (λ (zs : List Subject). get_or zs 0 y) (sym c.deref.ensures.value) in
     let L : List Subject → Type 0 = λ zs. 0 < length zs in
     let long = subst L (sym c.deref.ensures.value) (one-long xs c.new-subjects.result.items x c.in_ok-push.ensures.items c.new-subjects.ensures.items) in
     let roots = roots_of (map view_subject c.deref.result.now) in
     let among = steps-among c.deref.result.now 0 y long at in
-    let judged = c.in_ok-fault.ensures shapes roots c.in_ok-survey.ensures among in
+    let judged = c.in_ok-fault.ensures.judged shapes roots c.in_ok-survey.ensures among in
     let J : Option PrintFault → Type 0 = λ o. IsJudgement shapes (view_subject y) o in
     let P : SubjectOf → Type 0 = λ s. IsPrinted shapes s in
     let printed = subst P is (subst J c.in_default.is judged) in
     let (d, has) = some-there (declaration_of shapes subject) (printed-declared shapes subject printed) in
-    let kept_one : declaration_of (kept c.in_ok-survey.survey) (view_subject z) ≡ Some d =
-    ap (declaration_of (kept c.in_ok-survey.survey)) (is2 ∙ sym is) ∙ (declaration-kept shapes roots c.in_ok-survey.survey (view_subject y) c.in_ok-survey.ensures among ∙ (ap (declaration_of shapes) is ∙ has)) in
-    let text : c.put_declaration.new.out.items ≡ written d = c.in_ok-put_declaration.ensures d kept_one ∙ ap (λ (u : List ℕ). u ++ written d) c.new-text.ensures.items in
-    (d, has, (c.in_ok-extend_from_slice.ensures.items ∙ ap (λ (u : List ℕ). c.args.out.now.items ++ u) (c.deref-2.ensures.value ∙ text)))
+    let kept_one : declaration_of (kept c.in_ok-survey.survey) (view_subject y) ≡ Some d =
+    declaration-kept shapes roots c.in_ok-survey.survey (view_subject y) c.in_ok-survey.ensures among ∙ (ap (declaration_of shapes) is ∙ has) in
+    let B : Option (List ℕ) → Type 0 = λ o. IfSome o (λ (text : List ℕ). c.bytes.result.now ≡ text) in
+    let text : c.bytes.result.now ≡ written d = subst B (c.in_ok-fault.ensures.text c.in_default.is d kept_one) c.bytes.ensures in
+    (d, has, (c.in_ok-extend_from_slice.ensures.items ∙ ap (λ (u : List ℕ). c.args.out.now.items ++ u) text))
 
 pub returns-clause-one : goal.returns-clause-one
 returns-clause-one c =
@@ -92,7 +91,7 @@ returns-clause-one c =
     let roots = roots_of (map view_subject c.deref.result.now) in
     let A : SubjectOf → Type 0 = λ s. AreAmong (first_steps s) roots in
     let among = steps-among c.deref.result.now 0 y long at in
-    let judged = c.in_ok-fault.ensures shapes roots c.in_ok-survey.ensures among in
+    let judged = c.in_ok-fault.ensures.judged shapes roots c.in_ok-survey.ensures among in
     let J : Option PrintFault → Type 0 = λ o. IsJudgement shapes (view_subject y) o in
     let P : SubjectOf → Type 0 = λ s. IsPrinted shapes s in
     let R : SubjectOf → Type 0 = λ s. IsRegularSubject s in

@@ -1,9 +1,9 @@
 use Rattle.std.proofs.Common.{◌≡◌, ◌<◌, ◌++◌, ℕ, List, map, length, sym, ap, ◌∙◌, subst}
-use Rattle.std.specs.Prelude.{All, IsSome, flat_map}
+use Rattle.std.specs.Prelude.{All, flat_map}
 use Rattle.dw_image.specs.Images.{entries_in}
 use Rattle.dw_cprint.specs.Declarations.{declaration_of}
 use Rattle.dw_cprint.specs.EntryShapes.{shape_in, subject_in}
-use Rattle.dw_cprint.specs.Judgements.{AreJudged, listed_line, subject_at}
+use Rattle.dw_cprint.specs.Judgements.{AreJudged, HasShortText, listed_line, subject_at}
 use Rattle.dw_cprint.specs.Kept.{kept}
 use Rattle.dw_cprint.specs.Listings.{IsListing, declared_line, refused_line_in}
 use Rattle.dw_cprint.specs.Refusals.{PrintFault}
@@ -12,7 +12,7 @@ use Rattle.dw_cprint.specs.Steps.{roots_of}
 use Rattle.dw_cprint.specs.Surveys.{IsSurveyOf}
 use Rattle.dw_cprint.specs.declared.listing.Listed.{Listed}
 use Rattle.dw_cprint.specs.declared.shape.Subject.{Subject}
-use Rattle.dw_cprint.proofs.KeptLemmas.{printed-declared}
+use Rattle.dw_cprint.proofs.KeptLemmas.{printed-short}
 use Rattle.dw_cprint.proofs.ListingLemmas.{listing-done}
 use Rattle.dw_cprint.proofs.ListingTextLemmas.{as-many, judged-of, listed-declared, listed-lines, listed-places, named-within, refused-within}
 use Rattle.dw_cprint.proofs.WithinLemmas.{roots_within}
@@ -53,9 +53,9 @@ put_listed-requires c =
     let same = c.in_ok-subjects.ensures ∙ ap (map (subject_in image)) c.deref.ensures.value in
     let long : length named ≡ length c.deref-6.result.now = sym (as-many image subjects named same) ∙ ap length (sym c.deref-6.ensures.value) in
     let P : ℕ → List Listed → Type 0 = λ n xs. All (λ (one : Listed). one.place < n) xs in
-    let D : List Subject → List Listed → Type 0 = λ ss xs. All (λ (one : Listed). IsSome (declaration_of (kept survey) (subject_at (map view_subject ss) one.place))) xs in
+    let D : List Subject → List Listed → Type 0 = λ ss xs. All (λ (one : Listed). HasShortText (declaration_of (kept survey) (subject_at (map view_subject ss) one.place))) xs in
     let places = listed-places (shape_in image) named (map view_subject subjects) levels listed sorted refused judged permuted in
-    let declared = listed-declared image survey named (map view_subject subjects) levels listed sorted refused same surveyed judged permuted (printed-declared (shape_in image)) in
+    let declared = listed-declared image survey named (map view_subject subjects) levels listed sorted refused same surveyed judged permuted (printed-short (shape_in image)) in
     record {
       places = subst (λ (n : ℕ). P n c.deref-7.result.now) long (subst (λ (xs : List Listed). P (length named) xs) (sym c.deref-7.ensures.value) places);
       declared = subst (λ (ss : List Subject). D ss c.deref-7.result.now) (sym c.deref-6.ensures.value) (subst (λ (xs : List Listed). D subjects xs) (sym c.deref-7.ensures.value) declared);

@@ -25,7 +25,7 @@ loop-place-preserved c = λ shapes roots survey among.
     let seen : subject_at views place ≡ view_subject subject = viewed-at subjects place subject inside c.index-subjects-place.is in
     let entry = c.index-named-place.result in
     let at : entry ≡ get_or named place 0 = get_or_read named place entry within c.index-named-place.is 0 in
-    let judged = c.in_ok-refusal.ensures shapes roots survey (λ e has. among e (steps-among subjects place subject inside c.index-subjects-place.is e has)) in
+    let judged = c.in_ok-refusal.ensures.judged shapes roots survey (λ e has. among e (steps-among subjects place subject inside c.index-subjects-place.is e has)) in
     let J : Option PrintFault → Type 0 = λ o. IsJudgement shapes (view_subject subject) o in
     let so_far = c.loop-place.invariant shapes roots survey among in
     elim c.match-branch-2.branch [

@@ -1,11 +1,17 @@
-use Rattle.std.proofs.Common.{ℕ, ◌%◌, ◌/◌, ◌+◌, ◌++◌, ◌∷◌, [], List, sym, ap, ◌∙◌, append_assoc, arith}
+use Rattle.std.proofs.Common.{◌≡◌, ℕ, ◌%◌, ◌/◌, ◌+◌, ◌∷◌, [], List, Option, sym, ap, ◌∙◌, arith}
 use Rattle.dw_cprint.specs.Digits.{numeral}
+use Rattle.dw_cprint.specs.Drafts.{appended, drafted}
+use Rattle.dw_cprint.proofs.DraftLemmas.{appended-twice}
 use Rattle.dw_cprint.proofs.NumeralLemmas.{numeral_step}
+use Rattle.dw_cprint.proofs.OptionLemmas.{ok_then}
 use Rattle.dw_cprint.proofs.pieces.+put_number.Goals as goal
 
 pub returns : goal.returns
 returns t c =
     let n = c.args.n in
-    let old = c.args.out.now.items in
-    c.in_ok-push-2.ensures.items ∙ ap (λ (u : List ℕ). u ++ (48 + n % 10) ∷ []) c.in_ok-put_number.ensures ∙ append_assoc old (numeral (n / 10)) ((48 + n % 10) ∷ [])
-    ∙ ap (λ (u : List ℕ). old ++ u) (sym (numeral_step n (omega arith)))
+    let old = drafted c.args.out.now in
+    let last = (48 + n % 10) ∷ [] in
+    let new = drafted c.put-2.new.self in
+    ok_then c.put-2.result (new ≡ appended (drafted c.put_number.new.out) last) (new ≡ appended old (numeral n))
+    (λ h. h ∙ ap (λ (o : Option (List ℕ)). appended o last) c.in_ok-put_number.ensures ∙ appended-twice old (numeral (n / 10)) last ∙ ap (appended old) (sym (numeral_step n (omega arith))))
+    c.put-2.ensures

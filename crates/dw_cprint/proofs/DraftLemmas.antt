@@ -1,0 +1,77 @@
+-- One text after another, up to the limit.
+use Rattle.std.proofs.Common.{◌≡◌, ℕ, ◌+◌, ◌-◌, ◌<◌, ◌≤◌, Bool, true, false, List, [], ◌++◌, Option, Some, None, refl, sym, ap, ◌∙◌, length, length-append, append_assoc, append-nil, arith, nat_lt, if◌then◌else◌, ltb-true, ltb-false}
+use Rattle.std.specs.Prelude.{is_none}
+use Rattle.std.proofs.lemmas.Bool.{le-ltb, lt-ltb}
+use Rattle.dw_cprint.specs.Drafts.{appended}
+
+-- there is room, and there is none
+pub appended-fits : (text more : List ℕ) → length more ≤ 65536 - length text → appended (Some text) more ≡ Some (text ++ more)
+appended-fits text more fits = rw (le-ltb (65536 - length text) (length more) fits) refl
+
+pub appended-over : (text more : List ℕ) → 65536 - length text < length more → appended (Some text) more ≡ None
+appended-over text more over = rw (lt-ltb (65536 - length text) (length more) over) refl
+
+pub appended-nil : (o : Option (List ℕ)) → appended o [] ≡ o
+appended-nil None = refl
+appended-nil (Some text) = appended-fits text [] (omega arith) ∙ ap Some (append-nil text)
+
+pub appended-twice : (o : Option (List ℕ)) (a b : List ℕ) → appended (appended o a) b ≡ appended o (a ++ b)
+appended-twice None a b = refl
+appended-twice (Some text) a b = by_test (nat_lt (65536 - length text) (length a)) refl
+  where
+    both : length (a ++ b) ≡ length a + length b
+    both = length-append a b
+
+    more : length (text ++ a) ≡ length text + length a
+    more = length-append text a
+
+    by_second : (x : Bool) → nat_lt (65536 - length (text ++ a)) (length b) ≡ x → length a ≤ 65536 - length text
+        → appended (Some (text ++ a)) b ≡ appended (Some text) (a ++ b)
+    by_second true is fits =
+        let over = ltb-true (65536 - length (text ++ a)) (length b) is in
+        appended-over (text ++ a) b over ∙ sym (appended-over text (a ++ b) (omega (arith, both, more)))
+    by_second false is fits =
+        let under = ltb-false (65536 - length (text ++ a)) (length b) is in
+        appended-fits (text ++ a) b under ∙ ap Some (append_assoc text a b) ∙ sym (appended-fits text (a ++ b) (omega (arith, both, more)))
+
+    by_test : (x : Bool) → nat_lt (65536 - length text) (length a) ≡ x → appended (appended (Some text) a) b ≡ appended (Some text) (a ++ b)
+    by_test true is =
+        let over = ltb-true (65536 - length text) (length a) is in
+        ap (λ (o : Option (List ℕ)). appended o b) (appended-over text a over) ∙ sym (appended-over text (a ++ b) (omega (arith, both)))
+    by_test false is =
+        let fits = ltb-false (65536 - length text) (length a) is in
+        ap (λ (o : Option (List ℕ)). appended o b) (appended-fits text a fits) ∙ by_second (nat_lt (65536 - length (text ++ a)) (length b)) refl fits
+
+-- nothing is appended to a text that is too long
+pub over-stays : (old new : Option (List ℕ)) (more : List ℕ) → old ≡ None → new ≡ old → new ≡ appended old more
+over-stays old new more is same = same ∙ is ∙ ap (λ (o : Option (List ℕ)). appended o more) (sym is)
+
+-- if a text is too long before all of it is written, so is all of it
+pub over-before : (old out : Option (List ℕ)) (rest all : List ℕ) → out ≡ None → appended out rest ≡ appended old all → out ≡ appended old all
+over-before old out rest all is so_far = is ∙ ap (λ (o : Option (List ℕ)). appended o rest) (sym is) ∙ so_far
+
+-- a text that is too long by itself, and one that is not
+pub none-over : (text : List ℕ) → appended (Some []) text ≡ None → 65536 < length text
+none-over text is = by_test (nat_lt 65536 (length text)) refl is
+  where
+    by_test : (x : Bool) → nat_lt 65536 (length text) ≡ x → (if x then None else Some text) ≡ None → 65536 < length text
+    by_test true over e = ltb-true 65536 (length text) over
+    by_test false over e = absurd (cc)
+
+pub whole-fits : (text : List ℕ) → length text ≤ 65536 → appended (Some []) text ≡ Some text
+whole-fits text short = appended-fits [] text (omega arith)
+
+pub there-whole : (o : Option (List ℕ)) (text : List ℕ) → o ≡ appended (Some []) text → (o ≡ None → ⊥) → o ≡ Some text
+there-whole o text is there = is ∙ by_test (nat_lt 65536 (length text)) (λ e. there (is ∙ e))
+  where
+    by_test : (x : Bool) → ((if x then None else Some text) ≡ None → ⊥) → (if x then None else Some text) ≡ Some text
+    by_test true other = absurd (other refl)
+    by_test false other = refl
+
+pub none-is : (o : Option (List ℕ)) → is_none o ≡ true → o ≡ None
+none-is None is = refl
+none-is (Some text) is = absurd (cc)
+
+pub there-is : (o : Option (List ℕ)) → is_none o ≡ false → o ≡ None → ⊥
+there-is None is e = absurd (cc)
+there-is (Some text) is e = absurd (cc)

@@ -1,0 +1,281 @@
+-- The text of a type has at least as many bytes as are counted for it.
+use Rattle.std.proofs.Common.{◌≡◌, ℕ, suc, ℤ, ◌+◌, ◌≤◌, Bool, true, List, [], ◌∷◌, ◌++◌, Option, Some, None, refl, ap, subst, ◌∙◌, length, length-append, arith}
+use Rattle.std.specs.Prelude.{All, option_map, option_and_then}
+use Rattle.std.proofs.lemmas.Grind.{flat_map-append}
+use Rattle.dw_types.specs.Sizes.{has_elements}
+use Rattle.dw_cprint.specs.Declarations.{arrays, bits_of, constants_of, declaration_by, has_more, is_miscounted, is_misplaced, members_by, parameters_by, term_by}
+use Rattle.dw_cprint.specs.Declarators.{gap, opened, closed, pointer_row, before, after, core}
+use Rattle.dw_cprint.specs.Least.{byte_count, IsLeast, name_size, least_members, least_parameters, least_in, least_declared}
+use Rattle.dw_cprint.specs.Shapes.{Parameter, Typed, More, Name, TypeAt, MemberOf, EnumeratorOf, ShapeOf, base, typedef, qualified, pointer, array, function, tagged, nameless, body, enumeration, foreign, other, SubjectOf, typedef_subject, variable_subject, aggregate_subject, enumeration_subject, declared_subject, no_subject}
+use Rattle.dw_cprint.specs.Steps.{member_types, parameter_types, types_declared, types_reached}
+use Rattle.dw_cprint.specs.Terms.{Enum, Constant, Valued, Term, Void, Named, Tagged, Body, Enumeration, Qualified, Pointer, Function, Unprototyped, Prototyped, Parameters, NoParameter, Parameter as ParameterTerm, Members, Member as MemberTerm, Declaration, Typedef, Variable, Aggregate}
+use Rattle.dw_cprint.specs.Tokens.{Token, Blank, Star, Open, Close, LeftBrace, RightBrace, Semicolon, Comma, TypedefWord, TagWord, Identifier, spelling, text_of}
+use Rattle.dw_cprint.specs.Writing.{spell, qualifying, bits_tokens, constant, constants, count_tokens, ellipsis, members_tokens, more_constants, more_parameters, name_tokens, signature_tokens, written}
+use Rattle.dw_cprint.proofs.DeclaratorLemmas.{in_parts}
+use Rattle.dw_cprint.proofs.OptionLemmas.{map_inverted, then_inverted, unless_inverted}
+use Rattle.dw_cprint.proofs.WriterLemmas.{IsSpecifier, specifier-of, base-core}
+
+-- ---- counts
+
+count-append : (a b : List Token) → byte_count (a ++ b) ≡ byte_count a + byte_count b
+count-append a b = ap (λ (u : List ℕ). length u) (flat_map-append spelling a b) ∙ length-append (text_of a) (text_of b)
+
+count-cons : (x : Token) (ts : List Token) → byte_count (x ∷ ts) ≡ length (spelling x) + byte_count ts
+count-cons x ts = length-append (spelling x) (text_of ts)
+
+-- the text of a type with a declarator inside
+spell-least : (t : Term) (d : List Token) (n : ℕ) → IsLeast t n → n + byte_count d ≤ byte_count (spell [] t d)
+spell-least t d n least =
+    let parts = ap (λ (u : List Token). byte_count u) (in_parts [] t d) in
+    let front = count-append (before [] t (has_elements d)) (d ++ after t) in
+    let back = count-append d (after t) in
+    let own = least [] (has_elements d) in
+    omega arith
+
+-- ---- the terms of what an entry names
+
+-- what is counted for a type is right, if it has a term
+abbrev pub Counts : (TypeAt → Option Term) → (TypeAt → ℕ) → TypeAt → Type 0
+Counts term n at = (t : Term) → term at ≡ Some t → IsLeast t (n at)
+
+first-of : (P : TypeAt → Type 0) (at : TypeAt) (ats : List TypeAt) → All P (at ∷ ats) → P at
+first-of P at ats all = all 0 at (omega arith)
+
+others-of : (P : TypeAt → Type 0) (at : TypeAt) (ats : List TypeAt) → All P (at ∷ ats) → All P ats
+others-of P at ats all = λ k d within. all (suc k) d (omega arith)
+
+name-count : (name : Name) → byte_count (name_tokens name) ≡ name_size name
+name-count None = refl
+name-count (Some name) = let own = count-cons (Identifier name) [] in omega arith
+
+module _ (term : TypeAt → Option Term) (n : TypeAt → ℕ) where
+  members-least : (ms : List MemberOf) (us : Members) → All (Counts term n) (member_types ms) → members_by term ms ≡ Some us → least_members n ms ≤ byte_count (members_tokens us)
+  members-least [] us all e = omega arith
+  members-least (m ∷ ms) us all e =
+      let first = then_inverted (λ (t : Term). option_map (MemberTerm m.name t (bits_of m.bits)) (members_by term ms)) (term m.type_at) us e in
+      let rest = map_inverted (MemberTerm m.name first.0 (bits_of m.bits)) (members_by term ms) us first.2 in
+      let t = first.0 in
+      let inner = members-least ms rest.0 (others-of (Counts term n) m.type_at (member_types ms) all) rest.1 in
+      let own = spell-least t (name_tokens m.name) (n m.type_at) (first-of (Counts term n) m.type_at (member_types ms) all t first.1) in
+      let named = name-count m.name in
+      let whole = ap (λ (u : Members). byte_count (members_tokens u)) rest.2 in
+      let a = count-append (spell [] t (name_tokens m.name)) (bits_tokens (bits_of m.bits) ++ Semicolon ∷ Blank ∷ members_tokens rest.0) in
+      let b = count-append (bits_tokens (bits_of m.bits)) (Semicolon ∷ Blank ∷ members_tokens rest.0) in
+      let c = count-cons Semicolon (Blank ∷ members_tokens rest.0) in
+      let d = count-cons Blank (members_tokens rest.0) in
+      omega arith
+
+  parameters-least : (ps : List Parameter) (us : Parameters) → All (Counts term n) (parameter_types ps) → parameters_by term ps ≡ Some us → least_parameters n ps ≤ byte_count (more_parameters us)
+  parameters-least [] us all e = omega arith
+  parameters-least (Typed at ∷ ps) us all e =
+      let first = then_inverted (λ (t : Term). option_map (ParameterTerm t) (parameters_by term ps)) (term at) us e in
+      let rest = map_inverted (ParameterTerm first.0) (parameters_by term ps) us first.2 in
+      let t = first.0 in
+      let inner = parameters-least ps rest.0 (others-of (Counts term n) at (parameter_types ps) all) rest.1 in
+      let own = spell-least t [] (n at) (first-of (Counts term n) at (parameter_types ps) all t first.1) in
+      let whole = ap (λ (u : Parameters). byte_count (more_parameters u)) rest.2 in
+      let a = count-cons Comma (Blank ∷ (spell [] t [] ++ more_parameters rest.0)) in
+      let b = count-cons Blank (spell [] t [] ++ more_parameters rest.0) in
+      let c = count-append (spell [] t []) (more_parameters rest.0) in
+      omega arith
+  parameters-least (More ∷ ps) us all e = parameters-least ps us all e
+
+-- the parentheses make up for the comma and the space that are not before the first parameter
+signature-least : (us : Parameters) (more : Bool) → byte_count (more_parameters us) ≤ byte_count (signature_tokens (Prototyped us more)) + 2
+signature-least NoParameter more = omega arith
+signature-least (ParameterTerm t us) more =
+    let a = count-cons Comma (Blank ∷ (spell [] t [] ++ more_parameters us)) in
+    let b = count-cons Blank (spell [] t [] ++ more_parameters us) in
+    let c = count-append (spell [] t []) (more_parameters us) in
+    let d = count-append (spell [] t []) (more_parameters us ++ ellipsis more) in
+    let f = count-append (more_parameters us) (ellipsis more) in
+    omega arith
+
+constants-least : (es : List EnumeratorOf) (cs : List Constant) → constants_of es ≡ Some cs → length es ≤ byte_count (more_constants cs)
+constants-least [] cs e = omega arith
+constants-least (x ∷ es) cs e =
+    let rest = constants_of es in
+    let name = then_inverted (λ (name : List ℕ). option_and_then (λ (value : ℤ). option_map (λ (cs : List Constant). Valued name value ∷ cs) rest) x.value) x.name cs e in
+    let value = then_inverted (λ (value : ℤ). option_map (λ (cs : List Constant). Valued name.0 value ∷ cs) rest) x.value cs name.2 in
+    let others = map_inverted (λ (cs : List Constant). Valued name.0 value.0 ∷ cs) rest cs value.2 in
+    let inner = constants-least es others.0 others.1 in
+    let one = constant (Valued name.0 value.0) in
+    let whole = ap (λ (u : List Constant). byte_count (more_constants u)) others.2 in
+    let a = count-cons Comma (Blank ∷ (one ++ more_constants others.0)) in
+    let b = count-cons Blank (one ++ more_constants others.0) in
+    let c = count-append one (more_constants others.0) in
+    omega arith
+
+-- the braces make up for the comma and the space that are not before the first enumerator
+more-least : (cs : List Constant) → byte_count (more_constants cs) ≤ byte_count (constants cs) + 2
+more-least [] = omega arith
+more-least (c ∷ cs) =
+    let a = count-cons Comma (Blank ∷ (constant c ++ more_constants cs)) in
+    let b = count-cons Blank (constant c ++ more_constants cs) in
+    omega arith
+
+-- ---- types
+
+-- a specifier
+core-least : (t : Term) (n : ℕ) → IsSpecifier t → n ≤ byte_count (core t) → IsLeast t n
+core-least t n spec within = λ qs inside.
+    let whole = ap (λ (u : List Token). byte_count u) (spec.front qs inside) in
+    let a = count-append (qualifying qs) (core t ++ gap inside) in
+    let b = count-append (core t) (gap inside) in
+    omega arith
+
+pub void-least : IsLeast Void 4
+void-least = core-least Void 4 (record { front = λ qs inside. refl; back = refl }) (omega arith)
+
+-- fewer are right too
+pub fewer-least : (t : Term) (n m : ℕ) → m ≤ n → IsLeast t n → IsLeast t m
+fewer-least t n m fewer least = λ qs inside. let own = least qs inside in omega arith
+
+arrays-before : (counts : List (Option ℕ)) (t : Term) (n : ℕ) → IsLeast t n → n ≤ byte_count (before [] (arrays counts t) true) + byte_count (after t)
+arrays-before [] t n least = least [] true
+arrays-before (c ∷ cs) t n least = arrays-before cs t n least
+
+arrays-after : (counts : List (Option ℕ)) (t : Term) → length counts + byte_count (after t) ≤ byte_count (after (arrays counts t))
+arrays-after [] t = omega arith
+arrays-after (None ∷ cs) t =
+    let inner = arrays-after cs t in
+    let a = count-append (count_tokens None) (after (arrays cs t)) in
+    omega arith
+arrays-after (Some k ∷ cs) t =
+    let inner = arrays-after cs t in
+    let a = count-append (count_tokens (Some k)) (after (arrays cs t)) in
+    omega arith
+
+array-least : (c : Option ℕ) (cs : List (Option ℕ)) (t : Term) (n : ℕ) → IsLeast t n → IsLeast (arrays (c ∷ cs) t) (length (c ∷ cs) + n)
+array-least c cs t n least = λ qs inside.
+    let front = arrays-before cs t n least in
+    let back = arrays-after (c ∷ cs) t in
+    omega arith
+
+function-least : (t : Term) (us : Parameters) (more : Bool) (n m : ℕ) → IsLeast t n → m ≤ byte_count (more_parameters us) → IsLeast (Function t (Prototyped us more)) (n + m)
+function-least t us more n m least within = λ qs inside.
+    let own = least [] true in
+    let s = signature_tokens (Prototyped us more) in
+    let most = signature-least us more in
+    let a = count-cons Open (s ++ Close ∷ after t) in
+    let b = count-append s (Close ∷ after t) in
+    let c = count-cons Close (after t) in
+    omega arith
+
+pointer-least : (t : Term) (n : ℕ) → IsLeast t n → IsLeast (Pointer t) n
+pointer-least t n least = λ qs inside.
+    let own = least [] true in
+    let a = count-append (before [] t true) (opened t ++ Star ∷ pointer_row qs inside) in
+    let b = count-append (closed t) (after t) in
+    omega arith
+
+bare-least : (t : Term) (n : ℕ) → IsLeast t n → IsLeast (Function t Unprototyped) n
+bare-least t n least = λ qs inside.
+    let own = least [] true in
+    let a = count-cons Open (Close ∷ after t) in
+    let b = count-cons Close (after t) in
+    omega arith
+
+module _ (term : TypeAt → Option Term) (n : TypeAt → ℕ) where
+  -- what is counted for a shape is right
+  pub shape-least : (s : ShapeOf) (t : Term) → All (Counts term n) (types_reached s) → term_by term s ≡ Some t → IsLeast t (least_in n s)
+  shape-least (base None) t all e = absurd (cc)
+  shape-least (base (Some name)) t all e =
+      let long = ap (λ (u : List ℕ). length u) (base-core name t e) in
+      let own = count-cons (Identifier name) [] in
+      core-least t (length name) (specifier-of term (base (Some name)) t refl e) (omega arith)
+  shape-least (typedef None) t all e = absurd (cc)
+  shape-least (typedef (Some name)) t all e =
+      let same : Named name ≡ t = cc in
+      let long = ap (λ (u : Term). byte_count (core u)) same in
+      let own = count-cons (Identifier name) [] in
+      core-least t (length name) (specifier-of term (typedef (Some name)) t refl e) (omega arith)
+  shape-least (qualified q at) t all e =
+      let u = map_inverted (Qualified q) (term at) t e in
+      let P : Term → Type 0 = λ x. IsLeast x (n at) in
+      let own = first-of (Counts term n) at [] all u.0 u.1 in
+      subst P u.2 (λ qs inside. own (qs ++ q ∷ []) inside)
+  shape-least (pointer at) t all e =
+      let u = map_inverted Pointer (term at) t e in
+      let P : Term → Type 0 = λ x. IsLeast x (n at) in
+      subst P u.2 (pointer-least u.0 (n at) (first-of (Counts term n) at [] all u.0 u.1))
+  shape-least (array [] strange at) t all e = absurd (cc)
+  shape-least (array (c ∷ cs) strange at) t all e =
+      let there = unless_inverted (is_miscounted (c ∷ cs)) (option_map (arrays (c ∷ cs)) (term at)) t e in
+      let u = map_inverted (arrays (c ∷ cs)) (term at) t there.1 in
+      let P : Term → Type 0 = λ x. IsLeast x (length (c ∷ cs) + n at) in
+      subst P u.2 (array-least c cs u.0 (n at) (first-of (Counts term n) at [] all u.0 u.1))
+  shape-least (function at None) t all e =
+      let u = map_inverted (λ (u : Term). Function u Unprototyped) (term at) t e in
+      let P : Term → Type 0 = λ x. IsLeast x (n at) in
+      subst P u.2 (bare-least u.0 (n at) (first-of (Counts term n) at [] all u.0 u.1))
+  shape-least (function at (Some ps)) t all e =
+      let called : Term → Option Term = λ (u : Term). option_map (λ (us : Parameters). Function u (Prototyped us (has_more ps))) (parameters_by term ps) in
+      let there = unless_inverted (is_misplaced ps) (option_and_then called (term at)) t e in
+      let r = then_inverted called (term at) t there.1 in
+      let f = map_inverted (λ (us : Parameters). Function r.0 (Prototyped us (has_more ps))) (parameters_by term ps) t r.2 in
+      let P : Term → Type 0 = λ x. IsLeast x (n at + least_parameters n ps) in
+      subst P f.2 (function-least r.0 f.0 (has_more ps) (n at) (least_parameters n ps) (first-of (Counts term n) at (parameter_types ps) all r.0 r.1)
+      (parameters-least term n ps f.0 (others-of (Counts term n) at (parameter_types ps) all) f.1))
+  shape-least (tagged word name) t all e =
+      let same : Tagged word name ≡ t = cc in
+      let long = ap (λ (u : Term). byte_count (core u)) same in
+      let a = count-cons (TagWord word) (Blank ∷ Identifier name ∷ []) in
+      let b = count-cons Blank (Identifier name ∷ []) in
+      let c = count-cons (Identifier name) [] in
+      core-least t (length name) (specifier-of term (tagged word name) t refl e) (omega arith)
+  shape-least (nameless word) t all e = absurd (cc)
+  shape-least (body word odd ms) t all e =
+      let f = map_inverted (Body word) (members_by term ms) t e in
+      let inner = members-least term n ms f.0 all f.1 in
+      let long = ap (λ (u : Term). byte_count (core u)) f.2 in
+      let a = count-cons (TagWord word) (Blank ∷ LeftBrace ∷ Blank ∷ (members_tokens f.0 ++ RightBrace ∷ [])) in
+      let b = count-cons Blank (LeftBrace ∷ Blank ∷ (members_tokens f.0 ++ RightBrace ∷ [])) in
+      let c = count-cons LeftBrace (Blank ∷ (members_tokens f.0 ++ RightBrace ∷ [])) in
+      let d = count-cons Blank (members_tokens f.0 ++ RightBrace ∷ []) in
+      let g = count-append (members_tokens f.0) (RightBrace ∷ []) in
+      core-least t (least_members n ms) (specifier-of term (body word odd ms) t refl e) (omega arith)
+  shape-least (enumeration odd es) t all e =
+      let f = map_inverted Enumeration (constants_of es) t e in
+      let inner = constants-least es f.0 f.1 in
+      let most = more-least f.0 in
+      let long = ap (λ (u : Term). byte_count (core u)) f.2 in
+      let a = count-cons (TagWord Enum) (Blank ∷ LeftBrace ∷ Blank ∷ (constants f.0 ++ Blank ∷ RightBrace ∷ [])) in
+      let b = count-cons Blank (LeftBrace ∷ Blank ∷ (constants f.0 ++ Blank ∷ RightBrace ∷ [])) in
+      let c = count-cons LeftBrace (Blank ∷ (constants f.0 ++ Blank ∷ RightBrace ∷ [])) in
+      let d = count-cons Blank (constants f.0 ++ Blank ∷ RightBrace ∷ []) in
+      let g = count-append (constants f.0) (Blank ∷ RightBrace ∷ []) in
+      core-least t (length es) (specifier-of term (enumeration odd es) t refl e) (omega arith)
+  shape-least foreign t all e = absurd (cc)
+  shape-least other t all e = absurd (cc)
+
+  -- and for a declaration
+  pub declared-least : (subject : SubjectOf) (d : Declaration) → All (Counts term n) (types_declared subject) → declaration_by term subject ≡ Some d → least_declared n subject ≤ length (written d)
+  declared-least (typedef_subject None at) d all e = absurd (cc)
+  declared-least (typedef_subject (Some name) at) d all e =
+      let f = map_inverted (Typedef name) (term at) d e in
+      let own = spell-least f.0 (Identifier name ∷ []) (n at) (first-of (Counts term n) at [] all f.0 f.1) in
+      let whole = ap (λ (x : Declaration). length (written x)) f.2 in
+      let a = count-cons TypedefWord (Blank ∷ (spell [] f.0 (Identifier name ∷ []) ++ Semicolon ∷ [])) in
+      let b = count-cons Blank (spell [] f.0 (Identifier name ∷ []) ++ Semicolon ∷ []) in
+      let c = count-append (spell [] f.0 (Identifier name ∷ [])) (Semicolon ∷ []) in
+      omega arith
+  declared-least (variable_subject None at) d all e = absurd (cc)
+  declared-least (variable_subject (Some name) at) d all e =
+      let f = map_inverted (Variable name) (term at) d e in
+      let own = spell-least f.0 (Identifier name ∷ []) (n at) (first-of (Counts term n) at [] all f.0 f.1) in
+      let whole = ap (λ (x : Declaration). length (written x)) f.2 in
+      let c = count-append (spell [] f.0 (Identifier name ∷ [])) (Semicolon ∷ []) in
+      omega arith
+  declared-least (aggregate_subject word None odd ms) d all e = absurd (cc)
+  declared-least (aggregate_subject word (Some name) odd ms) d all e =
+      let f = map_inverted (Aggregate word name) (members_by term ms) d e in
+      let inner = members-least term n ms f.0 all f.1 in
+      let whole = ap (λ (x : Declaration). length (written x)) f.2 in
+      let head = TagWord word ∷ Blank ∷ Identifier name ∷ Blank ∷ LeftBrace ∷ Blank ∷ [] in
+      let a = count-append head (members_tokens f.0 ++ RightBrace ∷ Semicolon ∷ []) in
+      let b = count-append (members_tokens f.0) (RightBrace ∷ Semicolon ∷ []) in
+      omega arith
+  declared-least (enumeration_subject name odd es) d all e = omega arith
+  declared-least (declared_subject word name) d all e = omega arith
+  declared-least no_subject d all e = omega arith

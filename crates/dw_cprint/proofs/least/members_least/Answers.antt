@@ -1,0 +1,18 @@
+use Rattle.std.proofs.Common.{ap, arith}
+use Rattle.dw_cprint.specs.Least.{least_members}
+use Rattle.dw_cprint.specs.Shapes.{view_member}
+use Rattle.dw_cprint.specs.Summaries.{least_known}
+use Rattle.dw_cprint.proofs.ItemWriterLemmas.{next-of}
+use Rattle.dw_cprint.proofs.least.members_least.Goals as goal
+
+pub loop-member-preserved : goal.loop-member-preserved
+loop-member-preserved c =
+    let n = least_known c.args.summaries.now in
+    let left = ap (least_members n) (next-of view_member c.args.members.now c.loop-member.member-index c.member-item.result c.member-item.is c.loop-member-test.true) in
+    let one = c.member_least.ensures in
+    let sum = c.add-bytes.ensures in
+    let so_far = c.loop-member.invariant in
+    omega arith
+
+pub returns : goal.returns
+returns c = let so_far = c.loop-member.invariant in omega arith
