@@ -32,6 +32,8 @@ TABLES = 40_000
 DECLARATIONS = 1 << 19
 # Tables that begin inside declarations of another one.
 INSIDE = 16_000
+# Bytes after each of many tables that no unit names.
+UNNAMED = 66
 # Seconds of processor time and bytes of memory that runs with limits of their own may take.
 SOON_TIME = 1
 SOON_MEMORY = 1 << 29
@@ -238,6 +240,14 @@ def apart():
     yield (f"{TABLES:,} units, and 4 MB of strings without a zero byte",
            [(".debug_abbrev", TABLE), (".debug_info", types), (".debug_str", b"a" * (4 << 20))],
            f"sound: {TABLES} units, {2 * TABLES} entries, {TABLES} types")
+
+
+def tiny():
+    """Units of one entry, each with a table of its own, among bytes of .debug_abbrev that no unit names."""
+    own = bytes.fromhex("0111000000" "00") + bytes(UNNAMED)
+    units = b"".join(unit(b"\x01", table=n * len(own)) for n in range(MANY))
+    yield (f"{MANY:,} units of one entry, among {UNNAMED * MANY:,} bytes that no unit names",
+           [(".debug_abbrev", own * MANY), (".debug_info", units)], f"sound: {MANY} units, {MANY} entries, 0 types")
 
 
 def orders(units):
@@ -597,7 +607,7 @@ def runs():
     """Each run: its name, the file, what asks it, and the beginning of what it must say."""
     for name, sections, want in files():
         yield name, elf(sections), checked, want
-    for some in (inside(), flagged()):
+    for some in (inside(), flagged(), tiny()):
         for name, sections, want in some:
             yield name, elf(sections), checked_within(SOON_TIME), want
     for name, sections, memory in coded():
