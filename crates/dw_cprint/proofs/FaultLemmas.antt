@@ -202,13 +202,9 @@ parameter-none P ps i past some =
     let (j, y, w, e, p) = subst Q (drop_all i ps past) some in
     omega arith
 
--- what is known of the type of one of some parameters, and of those behind the first
+-- what is known of the type of one of some parameters
 pub of-parameter : (P : TypeAt → Type 0) (ps : List Parameter) (i : ℕ) (d : Parameter) → i < length ps → All P (parameter_types ps) → All P (parameter_types (get_or ps i d ∷ []))
 of-parameter P ps i d within all = each-parameter P ps all i d within
-
-pub of-others : (P : TypeAt → Type 0) (p : Parameter) (ps : List Parameter) → All P (parameter_types (p ∷ ps)) → All P (parameter_types ps)
-of-others P (Typed at) ps all k d w = all (suc k) d (omega arith)
-of-others P More ps all k d w = all k d w
 
 -- whether unspecified parameters among those that are left are misplaced
 abbrev pub has_spare : (typed : Bool) → List Parameter → Bool

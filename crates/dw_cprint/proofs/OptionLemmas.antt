@@ -1,6 +1,6 @@
 -- Values that may be absent, and tests on them.
-use Rattle.std.proofs.Common.{◌≡◌, ℕ, List, Bool, true, false, Option, Some, None, Result, Ok, Err, refl}
-use Rattle.std.specs.Prelude.{IsSome, is_ok, OnOk, option_map, option_and_then, ◌||◌, if◌then◌else◌}
+use Rattle.std.proofs.Common.{◌≡◌, Bool, true, false, Option, Some, None, Result, Ok, Err, refl}
+use Rattle.std.specs.Prelude.{IsSome, OnOk, option_map, option_and_then, ◌||◌, if◌then◌else◌}
 
 pub map_inverted : {A B : Type 0} → (f : A → B) (o : Option A) (y : B) → option_map f o ≡ Some y → (x : A) × (o ≡ Some x) × (f x ≡ y)
 map_inverted f None y h = absurd (cc)
@@ -47,7 +47,3 @@ unless_some false o h s = s
 pub ok_then : {A E : Type 0} (r : Result A E) (P Q : Type 0) → (P → Q) → OnOk r P → OnOk r Q
 ok_then (Ok x) P Q f h = f h
 ok_then (Err e) P Q f h = tt
-
-pub ok_when : {A E : Type 0} (r : Result A E) (P : Type 0) (new a b : List ℕ) → new ≡ (if is_ok r then a else b) → (new ≡ a → P) → OnOk r P
-ok_when (Ok x) P new a b h f = f h
-ok_when (Err e) P new a b h f = tt

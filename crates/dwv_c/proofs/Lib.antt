@@ -1,2 +1,3 @@
+pub mod CountedLemmas
 pub mod RowLemmas
 pub mod TextLemmas

@@ -12,6 +12,8 @@ use Rattle.dw_entries.specs.RuleTexts.{code_text, name_text, section_text}
 use Rattle.dw_image.specs.declared.image.Image.{Image}
 use Rattle.dw_image.specs.Headline.{IsImageOf, IsFaultOf}
 use Rattle.dw_image.specs.Images.{unit_count, entry_count, type_count}
+use Rattle.dw_units.specs.declared.counts.Counts.{Counts}
+use Rattle.dw_units.specs.Counted.{AreCounts}
 use Rattle.dw_report.specs.Reports.{file_limit, too_large}
 use Rattle.dwv_c.specs.Statuses.{SOUND, FAULT, NO_MEMORY}
 use Rattle.dwv_c.specs.declared.verdict.Verdict.{Verdict}
@@ -42,11 +44,11 @@ abbrev pub of_fault : FirstFault → Verdict
 of_fault f = fault_verdict f.at f.attribute (code_text f.rule) (section_text f.section) (name_text f.rule)
 
 -- sound sections: their counts
-abbrev pub of_image : Image → Verdict
-of_image i = record {
-  units = unit_count i;
-  entries = entry_count i;
-  types = type_count i;
+abbrev pub of_counts : Counts → Verdict
+of_counts c = record {
+  units = c.units;
+  entries = c.entries;
+  types = c.types;
   at = 0;
   attribute = 0;
   rule = replicate 8 0;
@@ -54,20 +56,37 @@ of_image i = record {
   name = replicate 24 0;
 }
 
--- the file is sound, and the image is of its sections
-pub record IsSoundFile (bytes : List ℕ) (i : Image) : Type 0 where
+-- an image: the counts of its sections
+abbrev pub of_image : Image → Verdict
+of_image i = of_counts (record { units = unit_count i; entries = entry_count i; types = type_count i })
+
+-- the file is within the limit, all checks of it pass, and these are its sections
+pub record AreOfFile (bytes : List ℕ) (s : Sections) : Type 0 where
   pub within : length bytes ≤ file_limit
   pub passes : ChecksPass bytes
+  pub are : AreSections bytes s
+
+-- the file is sound, and the image is of its sections
+pub record IsSoundFile (bytes : List ℕ) (i : Image) : Type 0 where
   pub sections : Sections
-  pub are : AreSections bytes sections
+  pub of_file : AreOfFile bytes sections
   pub image : IsImageOf sections i
+
+-- the file is sound, and these are the counts of its sections
+pub record AreCountsOfFile (bytes : List ℕ) (c : Counts) : Type 0 where
+  pub sections : Sections
+  pub of_file : AreOfFile bytes sections
+  pub counts : AreCounts sections c
+
+-- the verdict is of the first fault of the sections
+abbrev pub IsFaultOfSections : Sections → Verdict → Type 0
+IsFaultOfSections s v = (f : FirstFault) × IsFaultOf s f × (v ≡ of_fault f)
 
 -- the fault of a file that is too long, the first check of the file that fails, or the first fault of its sections
 pub data IsFaultOfFile (bytes : List ℕ) : Verdict → Type 0 where
   large : file_limit < length bytes → IsFaultOfFile bytes (of_file_fault too_large)
   fails : (f : ElfFault) → length bytes ≤ file_limit → IsFault bytes f → IsFaultOfFile bytes (of_file_fault f)
-  violates : (s : Sections) (f : FirstFault) → length bytes ≤ file_limit → ChecksPass bytes → AreSections bytes s
-      → IsFaultOf s f → IsFaultOfFile bytes (of_fault f)
+  violates : (s : Sections) (v : Verdict) → AreOfFile bytes s → IsFaultOfSections s v → IsFaultOfFile bytes v
 
 -- the sections have these bytes
 pub record HaveBytes (s : Sections) (info abbrevs strs line_strs offsets addrs : List ℕ) : Type 0 where
@@ -78,23 +97,23 @@ pub record HaveBytes (s : Sections) (info abbrevs strs line_strs offsets addrs :
   pub str_offsets_is : s.str_offsets.now ≡ offsets
   pub addr_is : s.addr.now ≡ addrs
 
--- six sections are sound, and the image is of them
-pub record AreSound (info abbrevs strs line_strs offsets addrs : List ℕ) (i : Image) : Type 0 where
+-- six sections are sound, and these are their counts
+pub record AreCountsOfSix (info abbrevs strs line_strs offsets addrs : List ℕ) (c : Counts) : Type 0 where
   pub sections : Sections
   pub bytes : HaveBytes sections info abbrevs strs line_strs offsets addrs
-  pub image : IsImageOf sections i
+  pub counts : AreCounts sections c
 
 -- the fault if one of six sections is longer than a section may be, or their first fault
 pub data IsFaultOfSix (info abbrevs strs line_strs offsets addrs : List ℕ) : Verdict → Type 0 where
   large : (section_limit < length abbrevs) ⊎ (section_limit < length info) ⊎ (section_limit < length strs)
       ⊎ (section_limit < length line_strs) ⊎ (section_limit < length offsets) ⊎ (section_limit < length addrs)
       → IsFaultOfSix info abbrevs strs line_strs offsets addrs (of_file_fault too_large)
-  violates : (s : Sections) (f : FirstFault) → HaveBytes s info abbrevs strs line_strs offsets addrs
-      → IsFaultOf s f → IsFaultOfSix info abbrevs strs line_strs offsets addrs (of_fault f)
+  violates : (s : Sections) (v : Verdict) → HaveBytes s info abbrevs strs line_strs offsets addrs
+      → IsFaultOfSections s v → IsFaultOfSix info abbrevs strs line_strs offsets addrs v
 
 -- what a check returns, and the caller's struct then: the counts, the fault, or the struct as it was if an allocation
 -- failed
-pub data Checks (IsOfFault : Verdict → Type 0) (IsSound : Image → Type 0) (old : Verdict) : ℕ → Verdict → Type 0 where
-  sound : (i : Image) → IsSound i → Checks IsOfFault IsSound old SOUND (of_image i)
-  fault : (v : Verdict) → IsOfFault v → Checks IsOfFault IsSound old FAULT v
-  memory : Checks IsOfFault IsSound old NO_MEMORY old
+pub data Checks (IsOfFault : Verdict → Type 0) (AreSound : Counts → Type 0) (old : Verdict) : ℕ → Verdict → Type 0 where
+  sound : (c : Counts) → AreSound c → Checks IsOfFault AreSound old SOUND (of_counts c)
+  fault : (v : Verdict) → IsOfFault v → Checks IsOfFault AreSound old FAULT v
+  memory : Checks IsOfFault AreSound old NO_MEMORY old

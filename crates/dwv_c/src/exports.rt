@@ -2,27 +2,27 @@
 
 ghost use Rattle.dwv_c.specs.Rows.{PutsRows};
 ghost use Rattle.dwv_c.specs.Texts.{PutsReport, request_of};
-ghost use Rattle.dwv_c.specs.Verdicts.{AreSound, Checks, IsFaultOfFile, IsFaultOfSix, IsSoundFile};
+ghost use Rattle.dwv_c.specs.Verdicts.{AreCountsOfFile, AreCountsOfSix, Checks, IsFaultOfFile, IsFaultOfSix};
 
-use crate::judging::{Judged, judge_file, judge_sections};
+use crate::judging::{Counted, Judged, count_file, count_six, judge_file};
 use crate::rows::{EntryRow, put_rows};
 use crate::statuses::{FAULT, NO_MEMORY, SOUND};
 use crate::texts::put_report;
-use crate::verdict::{Verdict, verdict_of_image};
+use crate::verdict::{Verdict, verdict_of_counts};
 use dw_image::NoMemory;
 use std::alloc::Global;
 
 /// Checks a file: SOUND and its counts, FAULT and its fault, or NO_MEMORY.
 #[unsafe(no_mangle)]
 pub extern "C" fn dwv_check(alloc: Global, file: &[u8], verdict: &mut Verdict) -> u32
-    ensures { Checks (IsFaultOfFile file.now) (IsSoundFile file.now) verdict.old result verdict.new }
+    ensures { Checks (IsFaultOfFile file.now) (AreCountsOfFile file.now) verdict.old result verdict.new }
 {
-    match judge_file(alloc, file) {
-        Ok(Judged::Sound(image)) => {
-            *verdict = verdict_of_image(&image);
+    match count_file(alloc, file) {
+        Ok(Counted::Sound(counts)) => {
+            *verdict = verdict_of_counts(counts);
             SOUND
         }
-        Ok(Judged::Fault(fault)) => {
+        Ok(Counted::Fault(fault)) => {
             *verdict = fault;
             FAULT
         }
@@ -43,15 +43,15 @@ pub extern "C" fn dwv_check_sections(
     verdict: &mut Verdict,
 ) -> u32
     ensures { Checks (IsFaultOfSix info.now «abbrev».now str.now line_str.now str_offsets.now addr.now)
-        (AreSound info.now «abbrev».now str.now line_str.now str_offsets.now addr.now)
+        (AreCountsOfSix info.now «abbrev».now str.now line_str.now str_offsets.now addr.now)
         verdict.old result verdict.new }
 {
-    match judge_sections(alloc, info, abbrev, str, line_str, str_offsets, addr) {
-        Ok(Judged::Sound(image)) => {
-            *verdict = verdict_of_image(&image);
+    match count_six(alloc, info, abbrev, str, line_str, str_offsets, addr) {
+        Ok(Counted::Sound(counts)) => {
+            *verdict = verdict_of_counts(counts);
             SOUND
         }
-        Ok(Judged::Fault(fault)) => {
+        Ok(Counted::Fault(fault)) => {
             *verdict = fault;
             FAULT
         }

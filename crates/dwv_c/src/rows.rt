@@ -7,8 +7,9 @@ ghost use Rattle.dwv_c.specs.RowsSoFar.{HasRows, depth_under};
 ghost use Rattle.dwv_c.specs.Verdicts.{of_image};
 
 use crate::statuses::{SOUND, TOO_SHORT};
-use crate::verdict::{Verdict, verdict_of_image};
+use crate::verdict::{Verdict, verdict_of_counts};
 use dw_image::{EntryId, Image, Tag};
+use dw_units::Counts;
 
 /// An entry of a sound file.
 #[repr(C)]
@@ -113,7 +114,11 @@ pub fn put_rows(
     ensures verdict { verdict.new ≡ of_image image.now }
 {
     *count = image.entries();
-    *verdict = verdict_of_image(image);
+    *verdict = verdict_of_counts(Counts {
+        units: image.units(),
+        entries: image.entries(),
+        types: image.types(),
+    });
     if image.entries() > rows.len() {
         return TOO_SHORT;
     }

@@ -7,11 +7,12 @@ ghost use Rattle.dw_entries.specs.declared.fault.Section.{Section};
 ghost use Rattle.dw_entries.specs.declared.rule.Rule.{Rule};
 ghost use Rattle.dw_entries.specs.RuleTexts.{code_text, name_text, section_text};
 ghost use Rattle.dw_report.specs.Reports.{too_large};
-ghost use Rattle.dwv_c.specs.Verdicts.{fault_verdict, of_file_fault, of_fault, of_image};
+ghost use Rattle.dwv_c.specs.Verdicts.{fault_verdict, of_counts, of_file_fault, of_fault};
 
 use crate::texts::put_text;
 use dw_elf::{ElfFault, ElfRule};
-use dw_image::{Fault, Image};
+use dw_image::Fault;
+use dw_units::Counts;
 
 /// What a file or six sections are found to be. Of a fault the counts are 0, of sound ones everything else.
 #[repr(C)]
@@ -103,13 +104,13 @@ pub fn verdict_of_fault(fault: &Fault) -> Verdict
 }
 
 /// The counts of sound sections.
-pub fn verdict_of_image(image: &Image<'_>) -> Verdict
-    ensures { result ≡ of_image image.now }
+pub fn verdict_of_counts(counts: Counts) -> Verdict
+    ensures { result ≡ of_counts counts }
 {
     Verdict {
-        units: image.units() as u64,
-        entries: image.entries() as u64,
-        types: image.types() as u64,
+        units: counts.units as u64,
+        entries: counts.entries as u64,
+        types: counts.types as u64,
         at: 0,
         attribute: 0,
         rule: [0; 8],
