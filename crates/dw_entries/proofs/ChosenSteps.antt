@@ -12,7 +12,7 @@ use Rattle.dw_entries.specs.Chosen.{PassTo, Unasked, IsNextAsked, ArePassed, IsN
 use Rattle.dw_entries.specs.ValuesLeft.{viewed}
 
 -- the specifications from a place on
-pub get_drop : (specs : List AttributeSpec) (from j k : ℕ) → k ≡ from + j → slice_get (drop from specs) j ≡ slice_get specs k
+get_drop : (specs : List AttributeSpec) (from j k : ℕ) → k ≡ from + j → slice_get (drop from specs) j ≡ slice_get specs k
 get_drop specs zero j k e = let same : j ≡ k = omega (arith, e) in ap (slice_get specs) same
 get_drop [] (suc from) j k e = slice_get_past [] j (omega arith) ∙ sym (slice_get_past [] k (omega arith))
 get_drop (s ∷ specs) (suc from) j zero e = absurd (omega (arith, e))

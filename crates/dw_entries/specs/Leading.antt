@@ -1,11 +1,12 @@
 -- State: the attributes of an entry that are left of a walk over those whose values may lead elsewhere.
-use Rattle.std.specs.Prelude.{◌≡◌, ℕ, false, List, Option, option_map, find}
+use Rattle.std.specs.Prelude.{◌≡◌, ℕ, false, List, Option, option_map, slice_get}
 use Rattle.dw_forms.specs.declared.decl.AttributeSpec.{AttributeSpec}
 use Rattle.dw_forms.specs.declared.form.Form.{Form}
-use Rattle.dw_forms.specs.Plans.{does_lead}
+use Rattle.dw_forms.specs.declared.steps.Step.{Step}
 use Rattle.dw_forms.specs.Value.{Datum}
+use Rattle.dw_forms.specs.Walks.{does_lead}
 use Rattle.dw_entries.specs.declared.leading.Leading.{Leading}
-use Rattle.dw_entries.specs.ValuesLeft.{values_left, specs_left}
+use Rattle.dw_entries.specs.ValuesLeft.{values_left}
 
 -- values of attributes that are declared so do not lead elsewhere
 abbrev pub DoesNotLead : AttributeSpec → Type 0
@@ -15,6 +16,6 @@ DoesNotLead spec = does_lead spec ≡ false
 abbrev pub leading_left : Leading → List (ℕ × Datum)
 leading_left it = values_left it.values
 
--- the form of the next attribute whose value may lead elsewhere
+-- the form of the attribute that the next step goes to
 abbrev pub next_form : Leading → Option Form
-next_form it = option_map (λ (spec : AttributeSpec). spec.form) (find does_lead (specs_left it.values))
+next_form it = option_map (λ (step : Step). step.spec.form) (slice_get it.steps.now it.made)

@@ -1,7 +1,6 @@
 -- State: what an iterator over the attributes of an entry has left.
-use Rattle.std.specs.Prelude.{◌≡◌, ℕ, List, [], ◌∷◌, drop, map}
+use Rattle.std.specs.Prelude.{ℕ, List, drop, map}
 use Rattle.dw_forms.specs.declared.decl.AttributeSpec.{AttributeSpec}
-use Rattle.dw_forms.specs.declared.form.Form.{Form}
 use Rattle.dw_forms.specs.declared.value.Value.{Value}
 use Rattle.dw_forms.specs.Value.{Datum, view}
 use Rattle.dw_entries.specs.declared.values.Values.{Values}
@@ -18,8 +17,3 @@ values_left it = map value_of it.left.0.0
 -- the specifications of the attributes that are left, one for each
 abbrev pub specs_left : Values → List AttributeSpec
 specs_left it = drop it.at it.attributes.now
-
--- the first of the specifications has this form
-abbrev pub IsFirstForm : List AttributeSpec → Form → Type 0
-IsFirstForm [] form = ⊥
-IsFirstForm (spec ∷ specs) form = spec.form ≡ form

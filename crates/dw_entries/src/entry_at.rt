@@ -197,10 +197,11 @@ impl<'e, 'a> EntryAt<'e, 'a> {
         }
     }
 
-    /// Its attributes in their order, each value decoded when it is asked.
+    /// All its attributes.
     #[inline(always)]
-    pub fn values(&self) -> Values<'e, 'a>
-        ensures { IfSome self.now (λ e. values_left result ≡ values_of e.head) }
+    fn all_values(&self) -> Values<'e, 'a>
+        ensures left { IfSome self.now (λ e. values_left result ≡ values_of e.head) }
+        ensures first { result.at ≡ 0 }
     {
         Values {
             attributes: &self.decl.attributes,
@@ -211,13 +212,25 @@ impl<'e, 'a> EntryAt<'e, 'a> {
         }
     }
 
+    /// Its attributes in their order, each value decoded when it is asked.
+    #[inline(always)]
+    pub fn values(&self) -> Values<'e, 'a>
+        ensures { IfSome self.now (λ e. values_left result ≡ values_of e.head) }
+    {
+        self.all_values()
+    }
+
     /// Its attributes whose values may lead elsewhere, in their order, each value decoded when it is asked.
     #[inline(always)]
     pub fn leading(&self) -> Leading<'e, 'a>
         ensures { IfSome self.now (λ e. leading_left result ≡ values_of e.head) }
     {
+        let values = self.all_values();
+        let steps = values.attributes.steps();
         Leading {
-            values: self.values(),
+            values,
+            steps,
+            made: 0,
         }
     }
 

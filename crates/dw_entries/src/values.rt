@@ -4,12 +4,14 @@ ghost use Rattle.std.specs.Prelude.{◌≡◌, ◌≤◌, ◌+◌, ◌-◌, ◌�
 ghost use Rattle.std.specs.Bool.{OnFalse};
 ghost use Rattle.dw_entries.specs.Chosen.{OthersPass, Unasked, IsNextAsked};
 ghost use Rattle.dw_forms.specs.declared.decl.AttributeSpec.{AttributeSpec as SpecData};
+ghost use Rattle.dw_forms.specs.declared.steps.Step.{Step as StepData};
+ghost use Rattle.dw_forms.specs.Walks.{steps_from};
 ghost use Rattle.dw_entries.specs.Header.{IsSize};
 ghost use Rattle.dw_entries.specs.Values.{value_context, Left};
 ghost use Rattle.dw_entries.specs.Choices.{size_unique};
 ghost use Rattle.dw_entries.specs.ValueLaws.{left_unique};
 
-use dw_forms::{Attribute, AttributeSpec, Attributes, Form, Value, read_value};
+use dw_forms::{Attribute, AttributeSpec, Attributes, Form, Step, Value, read_value};
 
 /// The attributes of an entry that are left, in their order. Its values lie in .debug_info.
 #[derive(Drop)]
@@ -61,16 +63,16 @@ fn next_asked<C: Choice>(choice: &C, attributes: &Attributes, from: usize) -> Op
 }
 
 impl<'a> Values<'_, 'a> {
-    ghost use Rattle.dw_entries.specs.ValuesLeft.{viewed, values_left, specs_left, IsFirstForm};
+    ghost use Rattle.dw_entries.specs.ValuesLeft.{viewed, values_left, specs_left};
+    ghost use Rattle.dw_entries.specs.Leading.{DoesNotLead};
     ghost use Rattle.dw_entries.specs.Chosen.{ArePassed, IsNextOf};
 
     /// Passes the attributes up to this place.
     #[inline(always)]
-    pub(crate) fn pass(&mut self, to: usize)
+    fn pass(&mut self, to: usize)
         requires on { self.old.at ≤ to }
         requires within { to ≤ length self.old.attributes.now }
-        ensures left { values_left self.new ≡ drop (to - self.old.at) (values_left self.old) }
-        ensures specs { specs_left self.new ≡ drop to self.old.attributes.now }
+        ensures { values_left self.new ≡ drop (to - self.old.at) (values_left self.old) }
     {
         match self
             .attributes
@@ -84,19 +86,26 @@ impl<'a> Values<'_, 'a> {
         }
     }
 
-    /// The next attribute, whose form is this one.
+    /// The attribute that a step goes to, whose form is this one. Values before it are skipped.
     #[inline(always)]
-    pub(crate) fn next_in(&mut self, form: Form) -> (Attribute, Value<'a>)
-        requires { IsFirstForm (specs_left self.old) form }
-        ensures { values_left self.old ≡ viewed result ∷ values_left self.new }
+    pub(crate) fn step_to(&mut self, step: Step, form: Form) -> (Attribute, Value<'a>)
+        requires step { (others : List StepData) × (steps_from self.old.at (specs_left self.old) ≡ step ∷ others) }
+        requires form { step.spec.form ≡ form }
+        ensures found { IsNextOf DoesNotLead (values_left self.old) (viewed result) (values_left self.new) }
+        ensures at { self.new.at ≡ step.place + 1 }
+        ensures attributes { self.new.attributes.now ≡ self.old.attributes.now }
     {
-        let specs = self.attributes.as_slice();
-        let spec = specs[self.at];
-        match read_value(self.version, form, self.address_size, self.bytes) {
+        let skip = if self.address_size == 8 {
+            step.skip_with_8
+        } else {
+            step.skip_with_4
+        };
+        let bytes = &self.bytes[skip as usize..];
+        match read_value(self.version, form, self.address_size, bytes) {
             Ok((value, len)) => {
-                self.at += 1;
-                self.bytes = &self.bytes[len..];
-                (spec.attribute, value)
+                self.at = step.place as usize + 1;
+                self.bytes = &bytes[len..];
+                (step.spec.attribute, value)
             }
             Err(_) => unreachable!(),
         }
@@ -136,7 +145,14 @@ impl<'e, 'a> Iterator for Values<'e, 'a> {
         if self.at >= specs.len() {
             return None;
         }
-        let form = specs[self.at].form;
-        Some(self.next_in(form))
+        let spec = specs[self.at];
+        match read_value(self.version, spec.form, self.address_size, self.bytes) {
+            Ok((value, len)) => {
+                self.at += 1;
+                self.bytes = &self.bytes[len..];
+                Some((spec.attribute, value))
+            }
+            Err(_) => unreachable!(),
+        }
     }
 }

@@ -21,7 +21,7 @@ pub mod StartCounts
 pub mod RemainderLaws
 pub mod AllowedForms
 pub mod FewAttributes
-pub mod FirstSteps
 pub mod ValueAnswers
 pub mod PlanSteps
+pub mod WalkLaws
 pub mod PassSteps

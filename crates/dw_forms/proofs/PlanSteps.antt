@@ -8,7 +8,7 @@ use Rattle.std.proofs.lemmas.List.Sums.{sum_by-drop_more}
 use Rattle.dw_forms.specs.declared.decl.AttributeSpec.{AttributeSpec}
 use Rattle.dw_forms.specs.declared.plan.Ahead.{Ahead}
 use Rattle.dw_forms.specs.declared.plan.Plan.{Plan}
-use Rattle.dw_forms.specs.Plans.{known_size, known_sum, does_vary, place_or, is_stop, does_lead, IsNext, IsAhead, IsPlan}
+use Rattle.dw_forms.specs.Plans.{known_size, known_sum, does_vary, place_or, is_stop, IsNext, IsAhead, IsPlan}
 
 module _ (is : AttributeSpec → Bool) (specs : List AttributeSpec) where
   -- at the end there is none
@@ -74,7 +74,7 @@ ahead_more specs place ahead here some lt is old =
 
 -- at the end nothing is ahead
 abbrev pub nothing_ahead : ℕ → Ahead
-nothing_ahead n = record { known_with_4 = 0; known_with_8 = 0; next_varying = n; next_stop = n; next_lead = n }
+nothing_ahead n = record { known_with_4 = 0; known_with_8 = 0; next_varying = n; next_stop = n }
 
 pub ahead_end : (specs : List AttributeSpec) → IsAhead specs (length specs) (nothing_ahead (length specs))
 ahead_end specs = record {
@@ -82,7 +82,6 @@ ahead_end specs = record {
   known_with_8 = sym (ap (known_sum 8) (drop_all (length specs) specs (omega arith)));
   varying = next_end (λ (s : AttributeSpec). does_vary s.form) specs (length specs) refl;
   stop = next_end is_stop specs (length specs) refl;
-  lead = next_end does_lead specs (length specs) refl;
 }
 
 pub ahead_first : (specs : List AttributeSpec) (ahead : List Ahead) → ahead ≡ replicate (length specs + 1) (nothing_ahead (length specs)) → AheadFrom specs (length specs) ahead

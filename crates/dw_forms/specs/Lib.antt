@@ -28,6 +28,7 @@ pub mod Marks
 pub mod Plans
 pub mod Remainders
 pub mod Places
+pub mod Walks
 pub mod FirstPlaces
 pub mod Planned
 pub mod CodeBits

@@ -1,5 +1,5 @@
 -- State: the plan of a declaration: what is known of its values before any entry is read.
-use Rattle.std.specs.Prelude.{◌≡◌, ℕ, ◌+◌, ◌<◌, ◌≤◌, ◌==◌, ◌||◌, nat_eq, nat_lt, if◌then◌else◌, Bool, true, false}
+use Rattle.std.specs.Prelude.{◌≡◌, ℕ, ◌+◌, ◌<◌, ◌≤◌, ◌==◌, nat_eq, nat_lt, if◌then◌else◌, Bool, true, false}
 use Rattle.std.specs.Prelude.{List, [], ◌∷◌, length, drop, slice_get, slice_index_or, Some, is_none, Result, Ok, Err}
 use Rattle.std.specs.Option.{unwrap_or}
 use Rattle.std.specs.List.{sum_by, list_any}
@@ -15,7 +15,6 @@ use Rattle.dw_forms.specs.Codes.{DW_AT_lower_bound, DW_AT_prototyped, DW_AT_bit_
 use Rattle.dw_forms.specs.Codes.{DW_AT_abstract_origin, DW_AT_count, DW_AT_data_member_location, DW_AT_declaration}
 use Rattle.dw_forms.specs.Codes.{DW_AT_encoding, DW_AT_specification, DW_AT_type, DW_AT_byte_stride, DW_AT_signature}
 use Rattle.dw_forms.specs.Codes.{DW_AT_data_bit_offset, DW_AT_str_offsets_base, DW_AT_addr_base}
-use Rattle.dw_forms.specs.FormCodes.{may_lead_out, may_refer}
 use Rattle.dw_forms.specs.Steps.{◌>>=◌}
 use Rattle.dw_forms.specs.Sizes.{fixed_size_of, rest_at}
 
@@ -59,16 +58,6 @@ stops_in _ attribute = true
 abbrev pub is_stop : AttributeSpec → Bool
 is_stop spec = stops_in spec.form spec.attribute
 
--- values of the form may lead elsewhere: to a string, an address or an entry, or by another form (DWARF 5, 7.5.5)
-abbrev pub may_lead : Form → Bool
-may_lead form = may_lead_out form || may_refer form
-
--- the value of the attribute may lead elsewhere: that of a type and the bases of contributions by their codes
-abbrev pub does_lead : AttributeSpec → Bool
-does_lead spec =
-    may_lead spec.form || spec.attribute == DW_AT_type || spec.attribute == DW_AT_str_offsets_base
-    || spec.attribute == DW_AT_addr_base
-
 -- each element is so at its place
 abbrev pub AtEach : {X : Type 0} → (ℕ → X → Type 0) → List X → Type 0
 AtEach {X} P xs = (k : ℕ) (d : X) → k < length xs → P k (slice_index_or xs k d)
@@ -91,7 +80,6 @@ pub record IsAhead (specs : List AttributeSpec) (place : ℕ) (ahead : Ahead) : 
   pub known_with_8 : ahead.known_with_8 ≡ known_sum 8 (drop place specs)
   pub varying : IsNext (λ (spec : AttributeSpec). does_vary spec.form) specs place ahead.next_varying
   pub stop : IsNext is_stop specs place ahead.next_stop
-  pub lead : IsNext does_lead specs place ahead.next_lead
 
 -- the known sum where addresses have this size
 abbrev pub known_of : ℕ → Ahead → ℕ

@@ -151,7 +151,7 @@ fn read_attributes<'a>(
     requires { AreMarks [] marks.old }
     ensures unmarked { OnOk result (AreMarks [] marks.new) }
     ensures exact { GivesOrMemory (λ x. (x.0.items, x.1.now)) result (attributes_of bytes.now) }
-    ensures few { IfOk result (λ x. length x.0.items ≤ 0xffff) }
+    ensures few { IfOk result (λ x. length x.0.items ≤ 0x10000) }
     ensures shorter { IfOk result (λ x. length x.1.now < length bytes.now) }
 {
     let mut attributes = Vec::new(alloc);

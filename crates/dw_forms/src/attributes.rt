@@ -2,17 +2,20 @@
 
 ghost use Rattle.std.specs.Prelude.{◌≡◌, ◌≤◌, ◌⊎◌, length, IfOk};
 ghost use Rattle.std.specs.List.{slice_range};
-ghost use Rattle.dw_forms.specs.Plans.{values_end, is_stop, does_lead, IsNext};
+ghost use Rattle.dw_forms.specs.Plans.{values_end, is_stop, IsNext};
 ghost use Rattle.dw_forms.specs.FirstPlaces.{IsFirst, AnswersFirst};
 ghost use Rattle.dw_forms.specs.ValueReading.{Gives};
+ghost use Rattle.dw_forms.specs.Walks.{steps_of};
 
+use crate::attribute_index::{index_of, place_of};
 use crate::constants::Attribute;
 use crate::decl::AttributeSpec;
-use crate::first_places::{FirstPlaces, first_places, place_of};
-use crate::plan::{Plan, next_lead, next_stop, pass, plan_of};
+use crate::plan::{Plan, next_stop, pass, plan_of};
+use crate::steps::{Step, steps_of};
 use crate::value::{Value, ValueFault};
 use crate::value_reader::read_any;
 use std::alloc::{AllocError, Global};
+use std::collections::BTreeMap;
 use std::marker::Model;
 
 /// The attributes of a declaration in the order of their values in an entry, with what is known of the values before
@@ -21,7 +24,10 @@ use std::marker::Model;
 pub struct Attributes {
     specs: Vec<AttributeSpec>,
     plan: Plan,
-    firsts: FirstPlaces,
+    /// The steps of a walk over the values that may lead elsewhere.
+    steps: Vec<Step>,
+    /// The place of the first attribute of each code, in a declaration of more than 16.
+    places: BTreeMap<u16, u32>,
 }
 
 impl Model for Attributes {
@@ -33,21 +39,27 @@ impl Model for Attributes {
 
     ghost view = { λ a. a.specs.items };
 
-    ghost invariant = { λ a. IsPlanned a.specs.items a.plan a.firsts };
+    ghost invariant = { λ a. IsPlanned a.specs.items a.plan a.steps.items a.places };
 }
 
 impl Attributes {
     /// These attributes.
     pub(crate) fn new(alloc: Global, specs: Vec<AttributeSpec>) -> Result<Attributes, AllocError>
-        requires { length specs.items ≤ 0xffff }
+        requires { length specs.items ≤ 0x10000 }
         ensures { IfOk result (λ attributes. attributes ≡ specs.items) }
     {
         let plan = plan_of(alloc, &specs)?;
-        let firsts = first_places(&specs);
+        let steps = steps_of(alloc, &specs)?;
+        let places = if specs.len() > 16 {
+            index_of(alloc, &specs)?
+        } else {
+            BTreeMap::new(alloc)
+        };
         Ok(Attributes {
             specs,
             plan,
-            firsts,
+            steps,
+            places,
         })
     }
 
@@ -59,13 +71,12 @@ impl Attributes {
         &self.specs
     }
 
-    /// Where the first attribute with this code stands, from 0. It is known at once if the rules or the printer ask for
-    /// the attribute, and else it is searched for.
+    /// Where the first attribute with this code stands, from 0.
     #[inline(always)]
     pub fn place(&self, attribute: Attribute) -> Option<usize>
         ensures { IsFirst self.now attribute result }
     {
-        place_of(&self.specs, &self.firsts, attribute)
+        place_of(&self.specs, &self.places, attribute)
     }
 
     /// The bytes behind the values from one place up to another, as they are read one by one. The work is bounded by
@@ -106,18 +117,16 @@ impl Attributes {
         next_stop(&self.plan, &self.specs, from)
     }
 
-    /// The first place from one on whose value may lead elsewhere, to a string, an address or an entry, or how many
-    /// attributes there are.
+    /// The steps of a walk over the values that may lead elsewhere, up to the last of them. Each step reads a value
+    /// that takes bytes, but for that of a type or a base.
     #[inline(always)]
-    pub fn next_lead(&self, from: usize) -> usize
-        requires { from ≤ length self.now }
-        ensures { IsNext does_lead self.now from result }
+    pub fn steps(&self) -> &[Step]
+        ensures { result.now ≡ steps_of self.now }
     {
-        next_lead(&self.plan, &self.specs, from)
+        &self.steps
     }
 
-    /// The value of the first attribute with this code, if one is declared. Once its place is known, the work is
-    /// bounded by the bytes before it.
+    /// The value of the first attribute with this code, if one is declared. The work is bounded by the bytes before it.
     #[inline(always)]
     pub fn value<'b>(
         &self,

@@ -85,7 +85,7 @@ impl Decl {
         has_children: bool,
         attributes: Vec<AttributeSpec>,
     ) -> Result<Decl, AllocError>
-        requires { length attributes.items ≤ 0xffff }
+        requires { length attributes.items ≤ 0x10000 }
         ensures { IfOk result (λ decl. view decl ≡ record {
           code = code;
           tag = tag;

@@ -5,10 +5,10 @@ mod abbrev;
 mod abbrev_fault;
 mod abbrev_reader;
 mod abbrev_tables;
+mod attribute_index;
 mod attributes;
 pub mod constants;
 mod decl;
-mod first_places;
 mod form;
 mod front_reader;
 mod laws;
@@ -16,6 +16,7 @@ mod layout_reader;
 mod leb;
 mod number;
 mod plan;
+mod steps;
 mod value;
 mod value_reader;
 
@@ -32,5 +33,6 @@ pub use laws::{
     tables_are_read_by_grammar, unsigned_numbers_are_apart, values_are_apart,
 };
 pub use leb::{NumberFault, read_sleb, read_uleb};
+pub use steps::Step;
 pub use value::{Value, ValueFault};
 pub use value_reader::{read_value, skip_value};

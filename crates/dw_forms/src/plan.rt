@@ -3,7 +3,7 @@
 ghost use Rattle.std.specs.Prelude.{◌≡◌, ◌<◌, ◌≤◌, ◌⊎◌, ◌+◌, drop, length, IfOk};
 ghost use Rattle.std.specs.List.{slice_range};
 ghost use Rattle.dw_forms.specs.Plans.{known_size, known_sum, known_of, does_vary, place_or, is_one_of, is_stop};
-ghost use Rattle.dw_forms.specs.Plans.{not_flags, not_constants, may_lead, does_lead};
+ghost use Rattle.dw_forms.specs.Plans.{not_flags, not_constants};
 ghost use Rattle.dw_forms.specs.Plans.{cut_at, values_end, IsNext, IsAhead, IsPlan};
 ghost use Rattle.dw_forms.specs.Sizes.{rest_at};
 ghost use Rattle.dw_forms.specs.ValueReading.{Gives};
@@ -26,8 +26,6 @@ pub struct Ahead {
     pub next_varying: u32,
     /// The first place at which a search stops, or the end.
     pub next_stop: u32,
-    /// The first place whose value may lead elsewhere, or the end.
-    pub next_lead: u32,
 }
 
 /// Where the values of a declaration begin.
@@ -118,25 +116,6 @@ fn is_stop(spec: &AttributeSpec) -> bool
     }
 }
 
-/// Whether values of the form may lead elsewhere: to a string, an address or an entry, or by another form.
-#[inline(always)]
-fn may_lead(form: Form) -> bool
-    ensures { result ≡ may_lead form }
-{
-    form.may_lead_out() || form.may_refer()
-}
-
-/// Whether the value of the attribute may lead elsewhere. That of a type may by its code, and so may the bases of
-/// contributions.
-fn does_lead(spec: &AttributeSpec) -> bool
-    ensures { result ≡ does_lead spec.now }
-{
-    may_lead(spec.form)
-        || spec.attribute == DW_AT_type
-        || spec.attribute == DW_AT_str_offsets_base
-        || spec.attribute == DW_AT_addr_base
-}
-
 /// The place, if this is true, and else the next one.
 #[inline(always)]
 fn place_or(place: u32, is: bool, next: u32) -> u32
@@ -163,7 +142,6 @@ fn ahead_of(specs: &[AttributeSpec], place: usize, behind: Ahead) -> Ahead
         known_with_8: behind.known_with_8 + known_size(spec.form, 8),
         next_varying: place_or(place, does_vary(spec.form), behind.next_varying),
         next_stop: place_or(place, is_stop(spec), behind.next_stop),
-        next_lead: place_or(place, does_lead(spec), behind.next_lead),
     }
 }
 
@@ -178,7 +156,6 @@ pub fn plan_of(alloc: Global, specs: &[AttributeSpec]) -> Result<Plan, AllocErro
         known_with_8: 0,
         next_varying: place as u32,
         next_stop: place as u32,
-        next_lead: place as u32,
     };
     let mut ahead = vec![in alloc; here; place + 1]?;
     while place > 0 {
@@ -318,14 +295,4 @@ pub fn next_stop(plan: &Plan, specs: &[AttributeSpec], from: usize) -> usize
     ensures { IsNext is_stop specs.now from result }
 {
     ahead_at(plan, specs, from).next_stop as usize
-}
-
-/// The first place from one on whose value may lead elsewhere, or the end.
-#[inline(always)]
-pub fn next_lead(plan: &Plan, specs: &[AttributeSpec], from: usize) -> usize
-    requires plan { IsPlan specs.now plan.now }
-    requires within { from ≤ length specs.now }
-    ensures { IsNext does_lead specs.now from result }
-{
-    ahead_at(plan, specs, from).next_lead as usize
 }

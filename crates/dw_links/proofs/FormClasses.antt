@@ -9,7 +9,7 @@ use Rattle.dw_forms.specs.declared.form.Form.{Form}
 use Rattle.dw_forms.specs.declared.form.Form.TheVariants as form
 use Rattle.dw_forms.specs.FormCodes.{may_lead_out, may_refer}
 use Rattle.dw_forms.specs.Value.{Datum, Val}
-use Rattle.dw_forms.specs.Plans.{may_lead}
+use Rattle.dw_forms.specs.Walks.{may_lead}
 use Rattle.dw_entries.specs.declared.lookup.EntryHead.{EntryHead}
 use Rattle.dw_entries.specs.declared.rule.Rule.{Rule}
 use Rattle.dw_entries.specs.Entries.{Entry, PlacedUnit}

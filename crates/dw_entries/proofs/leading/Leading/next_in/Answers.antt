@@ -1,18 +1,38 @@
-use Rattle.std.proofs.Common.{sym, ap, ◌∙◌}
-use Rattle.std.specs.Prelude.{option_map}
-use Rattle.dw_forms.specs.declared.decl.AttributeSpec.{AttributeSpec}
-use Rattle.dw_forms.specs.Plans.{does_lead}
-use Rattle.dw_entries.specs.Values.{value_context}
-use Rattle.dw_entries.proofs.LeadingSteps.{next_is, first_form, found}
+use Rattle.std.proofs.Common.{◌+◌, get_or, drop, ap, ◌∙◌, arith}
+use Rattle.dw_forms.specs.Walks.{steps_from}
+use Rattle.dw_entries.proofs.LeadingSteps.{step_there, others_behind}
 use Rattle.dw_entries.proofs.leading.Leading.next_in.Goals as goal
 
-pub next_in-requires : goal.next_in-requires
-next_in-requires c =
-    let v = c.args.self.now.values in
-    rw c.pass.ensures.specs
-    (first_form v.attributes.now c.next_lead-place.result c.args.form (ap (option_map (λ (s : AttributeSpec). s.form)) (sym (next_is does_lead v.attributes.now v.at c.next_lead-place.result c.next_lead-place.ensures)) ∙ c.requires))
+pub step_to-item-requires-clause-step : goal.step_to-item-requires-clause-step
+step_to-item-requires-clause-step c =
+    let it = c.args.self.now in
+    let step = get_or it.steps.now it.made c.index-self-self.result in
+    let read = ap (get_or it.steps.now it.made) c.index-self-self.is in
+    let there = step_there it.steps.now it.made c.args.form step c.requires read in
+    (drop (it.made + 1) it.steps.now, it.stepped ∙ there.2)
 
-pub returns : goal.returns
-returns c =
-    let v = c.args.self.now.values in
-    found (value_context v.version v.address_size) v.attributes.now v.at c.next_lead-place.result c.next_lead-place.ensures v.bytes.now v.left _ _ _ c.pass.ensures.left c.next_in.ensures
+pub step_to-item-requires-clause-form : goal.step_to-item-requires-clause-form
+step_to-item-requires-clause-form c =
+    let it = c.args.self.now in
+    let step = get_or it.steps.now it.made c.index-self-self.result in
+    let read = ap (get_or it.steps.now it.made) c.index-self-self.is in
+    (step_there it.steps.now it.made c.args.form step c.requires read).1
+
+pub overflow_add-self : goal.overflow_add-self
+overflow_add-self c =
+    let it = c.args.self.now in
+    let step = get_or it.steps.now it.made c.index-self-self.result in
+    let read = ap (get_or it.steps.now it.made) c.index-self-self.is in
+    omega (arith, (step_there it.steps.now it.made c.args.form step c.requires read).0)
+
+pub invariant_of-self : goal.invariant_of-self
+invariant_of-self c =
+    let it = c.args.self.now in
+    let step = get_or it.steps.now it.made c.index-self-self.result in
+    let read = ap (get_or it.steps.now it.made) c.index-self-self.is in
+    let there = step_there it.steps.now it.made c.args.form step c.requires read in
+    let at = c.step_to-item.ensures.at in
+    let attributes = c.step_to-item.ensures.attributes in
+    record {
+      stepped = (λ i. steps_from (at i) (drop (at i) (attributes i))) ∙ others_behind it.values.at it.values.attributes.now step (drop (it.made + 1) it.steps.now) (it.stepped ∙ there.2);
+    }

@@ -14,7 +14,7 @@ returns-in-Some-clause-some g c =
     let v = c.args.self.now in
     let P = g.C.Choice.passes c.args.choice.now in
     let to = passed_to P v.attributes.now v.at c.in-Some.place c.in-Some.ensures.found in
-    next_found _ P (values_left v) (values_left c.pass.new.self) (values_left c.next.new.self) (c.in-Some.place - v.at) c.next.result c.next.ensures.steps c.pass.ensures.left
+    next_found _ P (values_left v) (values_left c.pass.new.self) (values_left c.next.new.self) (c.in-Some.place - v.at) c.next.result c.next.ensures.steps c.pass.ensures
     (front_passed P (value_context v.version v.address_size) (drop v.at v.attributes.now) v.left.0.0 (c.in-Some.place - v.at) v.left.1.are to)
 
 pub returns-in-Some-clause-none : goal.returns-in-Some-clause-none
@@ -22,7 +22,7 @@ returns-in-Some-clause-none g c =
     let v = c.args.self.now in
     let P = g.C.Choice.passes c.args.choice.now in
     let to = passed_to P v.attributes.now v.at c.in-Some.place c.in-Some.ensures.found in
-    none_found _ _ P (values_left v) (values_left c.pass.new.self) (c.in-Some.place - v.at) c.next.result c.next.ensures.steps c.pass.ensures.left
+    none_found _ _ P (values_left v) (values_left c.pass.new.self) (c.in-Some.place - v.at) c.next.result c.next.ensures.steps c.pass.ensures
     (front_passed P (value_context v.version v.address_size) (drop v.at v.attributes.now) v.left.0.0 (c.in-Some.place - v.at) v.left.1.are to)
 
 pub returns-in-None-clause-none : goal.returns-in-None-clause-none

@@ -16,7 +16,7 @@ unreachable-requires c =
     let v = c.args.self.now in
     never_cut (value_context v.version v.address_size) v.attributes.now v.at c.args.to v.bytes.now v.left c.requires.on c.requires.within c.in-Err.field-0 c.in-Err.ensures
 
-pub returns-clause-left : goal.returns-clause-left
-returns-clause-left c =
+pub returns : goal.returns
+returns c =
     let v = c.args.self.now in
     search (left_rest (value_context v.version v.address_size) v.attributes.now v.at c.args.to v.bytes.now v.left c.requires.on c.requires.within c.in-Ok.bytes.now c.in-Ok.ensures)
