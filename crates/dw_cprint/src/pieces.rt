@@ -134,7 +134,8 @@ fn put_enumerator(out: &mut Draft, enumerator: &Enumerator<'_>) -> Result<(), Al
 
 /// The enumerators, in braces.
 pub fn put_enumerators(out: &mut Draft, enumerators: &[Enumerator<'_>]) -> Result<(), AllocError>
-    ensures { OnOk result (WritesEnumerators (map view_enumerator enumerators.now) (drafted out.old) (drafted out.new)) }
+    ensures { OnOk result (WritesEnumerators (map view_enumerator enumerators.now)
+        (drafted out.old) (drafted out.new)) }
 {
     let Some((first, others)) = enumerators.split_first() else {
         return out.put(b"{  }");

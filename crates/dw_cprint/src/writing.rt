@@ -90,7 +90,8 @@ impl<'a> Survey<'a> {
         name: Name<'_>,
         depth: usize,
     ) -> Result<(), AllocError>
-        ensures { OnOk result (WritesNamed self.now depth at (view_name name.entry) (drafted out.old) (drafted out.new)) }
+        ensures { OnOk result (WritesNamed self.now depth at (view_name name.entry)
+            (drafted out.old) (drafted out.new)) }
     {
         self.put_before(alloc, out, at, Vec::new(alloc), name.is_some(), depth)?;
         put_name(out, name)?;
@@ -106,7 +107,8 @@ impl<'a> Survey<'a> {
         member: &Member<'a>,
         depth: usize,
     ) -> Result<(), AllocError>
-        ensures { OnOk result (WritesMember self.now depth (view_member member.now) (drafted out.old) (drafted out.new)) }
+        ensures { OnOk result (WritesMember self.now depth (view_member member.now)
+            (drafted out.old) (drafted out.new)) }
     {
         self.put_named(alloc, out, member.type_at, member.name, depth)?;
         put_bits(out, member.bits)?;
@@ -122,7 +124,8 @@ impl<'a> Survey<'a> {
         members: &[Member<'a>],
         depth: usize,
     ) -> Result<(), AllocError>
-        ensures { OnOk result (WritesMembers self.now depth (map view_member members.now) (drafted out.old) (drafted out.new)) }
+        ensures { OnOk result (WritesMembers self.now depth (map view_member members.now)
+            (drafted out.old) (drafted out.new)) }
     {
         out.put(b"{ ")?;
         for member in members {
@@ -216,7 +219,8 @@ impl<'a> Survey<'a> {
         inside: bool,
         depth: usize,
     ) -> Result<(), AllocError>
-        ensures { OnOk result (WritesBefore self.now depth at qualifiers.items inside (drafted out.old) (drafted out.new)) }
+        ensures { OnOk result (WritesBefore self.now depth at qualifiers.items inside
+            (drafted out.old) (drafted out.new)) }
     {
         if out.is_over() {
             return Ok(());
@@ -308,7 +312,8 @@ impl<'a> Survey<'a> {
         out: &mut Draft,
         subject: &Subject<'a>,
     ) -> Result<(), AllocError>
-        ensures { OnOk result (WritesDeclaration self.now (view_subject subject.now) (drafted out.old) (drafted out.new)) }
+        ensures { OnOk result (WritesDeclaration self.now (view_subject subject.now)
+            (drafted out.old) (drafted out.new)) }
     {
         match subject {
             Subject::Typedef(name, at) => {
