@@ -38,7 +38,7 @@ test:
 	tests/calling.py
 	tests/toolchain.sh
 	tests/edits.py --apply
-	RT_JOBS=$(checks) rt ci
+	RT_JOBS=$(checks) tests/prove.py
 	tests/rows.py
 	tests/examples.py
 	tests/real-programs.sh

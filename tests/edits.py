@@ -28,7 +28,7 @@ import tempfile
 
 TOP = pathlib.Path(__file__).resolve().parent.parent
 FOLDERS = ("must-fail", "more-edits", "controls")
-AT_MOST = 70  # edits in must-fail/, of all crates
+AT_MOST = 50  # edits in must-fail/, of all crates
 TOGETHER = 10  # edits in one check
 IMPL = r"impl(?:<.*?>)? (?:(?P<trait>[\w:]+)(?:<.*?>)? for )?(?P<type>[\w:]+)"
 BLOCK = re.compile(rf"(?:pub )?(?:{IMPL}|trait (?P<name>\w+))")
