@@ -58,9 +58,6 @@ none-over text is = by_test (nat_lt 65536 (length text)) refl is
     by_test true over e = ltb-true 65536 (length text) over
     by_test false over e = absurd (cc)
 
-pub whole-fits : (text : List ℕ) → length text ≤ 65536 → appended (Some []) text ≡ Some text
-whole-fits text short = appended-fits [] text (omega arith)
-
 pub there-whole : (o : Option (List ℕ)) (text : List ℕ) → o ≡ appended (Some []) text → (o ≡ None → ⊥) → o ≡ Some text
 there-whole o text is there = is ∙ by_test (nat_lt 65536 (length text)) (λ e. there (is ∙ e))
   where

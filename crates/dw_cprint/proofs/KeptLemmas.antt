@@ -1,20 +1,15 @@
 -- What holds by the shapes of an image holds by the shapes that a survey of it keeps.
-use Rattle.std.proofs.Common.{◌≡◌, ℕ, ◌<◌, ◌≤◌, ◌⊎◌, inl, inr, List, Option, Some, None, length, refl, sym, arith}
-use Rattle.std.specs.Prelude.{IsSome}
+use Rattle.std.proofs.Common.{◌≡◌, ℕ, List, sym, arith}
 use Rattle.dw_cprint.specs.Declarations.{declaration_of}
 use Rattle.dw_cprint.specs.Kept.{kept}
-use Rattle.std.proofs.lemmas.Bool.{cases_lt}
-use Rattle.dw_cprint.specs.Judgements.{HasShortText}
-use Rattle.dw_cprint.specs.Terms.{Declaration}
-use Rattle.dw_cprint.specs.Writing.{written}
-use Rattle.dw_cprint.specs.Refusals.{TooDeep, TooLong, deep, long, IsPrinted, HasOneReading}
+use Rattle.dw_cprint.specs.Refusals.{IsPrinted, HasOneReading}
 use Rattle.dw_cprint.specs.Regular.{AreRegular, IsRegularSubject}
 use Rattle.dw_cprint.specs.SameShapes.{AreSameFor}
 use Rattle.dw_cprint.specs.Shapes.{ShapeOf, SubjectOf}
 use Rattle.dw_cprint.specs.Steps.{first_steps}
 use Rattle.dw_cprint.specs.Surveys.{AreAmong, IsSurveyOf}
 use Rattle.dw_cprint.specs.declared.survey.Survey.{Survey}
-use Rattle.dw_cprint.proofs.DeclaredLemmas.{subject_some, subject_legible}
+use Rattle.dw_cprint.proofs.DeclaredLemmas.{subject_legible}
 use Rattle.dw_cprint.proofs.SameLemmas.{declaration-same}
 use Rattle.dw_cprint.proofs.SurveyLemmas.{reached-among}
 use Rattle.dw_cprint.proofs.TextLaws.{one_text}
@@ -27,26 +22,7 @@ kept-same shapes roots s subject survey among entry r = sym (survey.keeps entry 
 pub declaration-kept : (shapes : ℕ → ShapeOf) (roots : List ℕ) (s : Survey) (subject : SubjectOf) → IsSurveyOf shapes roots s → AreAmong (first_steps subject) roots → declaration_of (kept s) subject ≡ declaration_of shapes subject
 declaration-kept shapes roots s subject survey among = sym (declaration-same shapes (kept s) subject (kept-same shapes roots s subject survey among))
 
--- what is printed has a declaration
-pub printed-declared : (shapes : ℕ → ShapeOf) (subject : SubjectOf) → IsPrinted shapes subject → IsSome (declaration_of shapes subject)
-unfolding declaration_of
-printed-declared shapes subject printed = subject_some 64 shapes subject (λ rule below holds. printed rule (omega arith) holds) (λ path. printed TooDeep (omega arith) (deep path))
-
-pub some-there : {A : Type 0} (o : Option A) → IsSome o → (x : A) × (o ≡ Some x)
-some-there None is = absurd (cc)
-some-there (Some x) is = (x, refl)
-
--- and its text is not too long
-pub printed-short : (shapes : ℕ → ShapeOf) (subject : SubjectOf) → IsPrinted shapes subject → HasShortText (declaration_of shapes subject)
-printed-short shapes subject printed =
-    let (d, is) = some-there (declaration_of shapes subject) (printed-declared shapes subject printed) in
-    (d, is, by_length d is (cases_lt 65536 (length (written d))))
-  where
-    by_length : (d : Declaration) → declaration_of shapes subject ≡ Some d → (65536 < length (written d)) ⊎ (length (written d) ≤ 65536) → length (written d) ≤ 65536
-    by_length d is (inr short) = short
-    by_length d is (inl far) = absurd (printed TooLong (omega arith) (long (d, is, far)))
-
--- and no other has its text
+-- no other declaration has the text of one that is printed
 pub printed-one : (shapes : ℕ → ShapeOf) (subject : SubjectOf) → IsPrinted shapes subject → AreRegular shapes subject → HasOneReading shapes subject
 unfolding declaration_of
 printed-one shapes subject printed regular d another e legible text =

@@ -26,7 +26,6 @@ pub mod LevelLemmas
 pub mod SurveyLemmas
 pub mod ListingLemmas
 pub mod NamedTypeLemmas
-pub mod JudgingLemmas
 pub mod HeldLemmas
 pub mod KeptLemmas
 pub mod ListingTextLemmas

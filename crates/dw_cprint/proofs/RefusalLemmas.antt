@@ -1,63 +1,104 @@
 -- The least refusal that holds, by the tests of each.
-use Rattle.std.proofs.Common.{◌≡◌, ℕ, ◌<◌, ◌≤◌, List, [], Option, Some, None, sym, ◌∙◌, arith, length}
+use Rattle.std.proofs.Common.{◌≡◌, ℕ, zero, suc, ◌<◌, ◌≤◌, true, false, List, [], Option, Some, refl, sym, ◌∙◌, ap, subst, inl, inr, arith}
+use Rattle.std.specs.Prelude.{is_none}
+use Rattle.std.proofs.lemmas.Bool.{cases_lt}
 use Rattle.dw_cprint.specs.Declarations.{declaration_by, declaration_of, term_at}
-use Rattle.dw_cprint.specs.Refusals.{NotPrintable, BadName, Foreign, Unspeakable, TooDeep, TooLong, Memory, IsLonger, Holds, other_kind, cycle, deep, long, HoldsNoneBelow, Refuses, IsPrinted}
-use Rattle.dw_cprint.specs.Shapes.{ShapeOf, SubjectOf, no_subject}
-use Rattle.dw_cprint.specs.Steps.{first_steps, ReachACycle, IsDeepFrom}
 use Rattle.dw_cprint.specs.Drafts.{appended}
+use Rattle.dw_cprint.specs.Kept.{WritesDeclaration}
+use Rattle.dw_cprint.specs.Refusals.{PrintFault, NotPrintable, BadName, Foreign, Unspeakable, TooDeep, TooLong, Memory, IsLonger, Holds, other_kind, cycle, deep, long, HoldsNoneBelow, Refuses, IsPrinted, number_of}
+use Rattle.dw_cprint.specs.Shapes.{ShapeOf, SubjectOf, no_subject}
+use Rattle.dw_cprint.specs.Steps.{first_steps, types_declared, ReachACycle, IsDeepFrom}
+use Rattle.dw_cprint.specs.Summaries.{least_known}
+use Rattle.dw_cprint.specs.Surveys.{AreAmong, IsSurveyOf}
 use Rattle.dw_cprint.specs.Terms.{Declaration}
 use Rattle.dw_cprint.specs.Writing.{written}
-use Rattle.dw_cprint.proofs.DraftLemmas.{appended-over, none-over}
+use Rattle.dw_cprint.specs.declared.survey.Survey.{Survey}
+use Rattle.dw_cprint.specs.Least.{least_declared}
+use Rattle.dw_cprint.proofs.DraftLemmas.{appended-over, none-is, none-over, there-is, there-whole}
 use Rattle.dw_cprint.proofs.DeclaredLemmas.{subject_some}
+use Rattle.dw_cprint.proofs.KeptLemmas.{declaration-kept}
+use Rattle.dw_cprint.proofs.LeastLemmas.{declared-least}
 use Rattle.dw_cprint.proofs.OptionLemmas.{some_value}
+use Rattle.dw_cprint.proofs.SummaryLemmas.{knows-counts}
+use Rattle.dw_cprint.proofs.SurveyLemmas.{types-known}
+
+-- ---- one refusal
+
+rule_of : ℕ → PrintFault
+rule_of zero = Memory
+rule_of (suc zero) = NotPrintable
+rule_of (suc (suc zero)) = BadName
+rule_of (suc (suc (suc zero))) = Foreign
+rule_of (suc (suc (suc (suc zero)))) = Unspeakable
+rule_of (suc (suc (suc (suc (suc zero))))) = TooDeep
+rule_of (suc (suc (suc (suc (suc (suc zero)))))) = TooLong
+rule_of (suc (suc (suc (suc (suc (suc (suc n))))))) = Memory
+
+rule-back : (a : PrintFault) → rule_of (number_of a) ≡ a
+unfolding rule_of
+rule-back NotPrintable = refl
+rule-back BadName = refl
+rule-back Foreign = refl
+rule-back Unspeakable = refl
+rule-back TooDeep = refl
+rule-back TooLong = refl
+rule-back Memory = refl
+
+one-number : (a b : PrintFault) → number_of a ≡ number_of b → a ≡ b
+one-number a b same = sym (rule-back a) ∙ (ap rule_of same ∙ rule-back b)
 
 module _ (shapes : ℕ → ShapeOf) (subject : SubjectOf) where
-  -- no rule holds before a number, if none of those that have one does
-  none-below : (number : ℕ) → number < 8
-      → (1 < number → Holds shapes subject NotPrintable → ⊥) → (2 < number → Holds shapes subject BadName → ⊥) → (3 < number → Holds shapes subject Foreign → ⊥)
-      → (4 < number → Holds shapes subject Unspeakable → ⊥) → (5 < number → Holds shapes subject TooDeep → ⊥) → (6 < number → Holds shapes subject TooLong → ⊥) → HoldsNoneBelow number shapes subject
-  none-below number few p1 p2 p3 p4 p5 p6 NotPrintable less holds = p1 less holds
-  none-below number few p1 p2 p3 p4 p5 p6 BadName less holds = p2 less holds
-  none-below number few p1 p2 p3 p4 p5 p6 Foreign less holds = p3 less holds
-  none-below number few p1 p2 p3 p4 p5 p6 Unspeakable less holds = p4 less holds
-  none-below number few p1 p2 p3 p4 p5 p6 TooDeep less holds = p5 less holds
-  none-below number few p1 p2 p3 p4 p5 p6 TooLong less holds = p6 less holds
-  none-below number few p1 p2 p3 p4 p5 p6 Memory less holds = absurd (omega arith)
+  -- no declaration is refused for want of memory
+  below-seven : (rule : PrintFault) → Holds shapes subject rule → number_of rule < 7
+  below-seven NotPrintable h = omega arith
+  below-seven BadName h = omega arith
+  below-seven Foreign h = omega arith
+  below-seven Unspeakable h = omega arith
+  below-seven TooDeep h = omega arith
+  below-seven TooLong h = omega arith
+  below-seven Memory h = elim h [ ]
 
-  -- another kind of entry, or a cycle that is reached
-  pub refuses-kind : subject ≡ no_subject → Refuses shapes subject NotPrintable
-  refuses-kind kind = record { holds = other_kind kind; least = none-below 1 (omega arith) (λ w. absurd (omega arith)) (λ w. absurd (omega arith)) (λ w. absurd (omega arith)) (λ w. absurd (omega arith)) (λ w. absurd (omega arith)) (λ w. absurd (omega arith)) }
+  -- what is printed is not refused
+  pub printed-or-refused : (rule : PrintFault) → IsPrinted shapes subject → Refuses shapes subject rule → ⊥
+  printed-or-refused rule printed refused = printed rule (below-seven rule refused.holds) refused.holds
 
-  pub refuses-cycle : ReachACycle shapes (first_steps subject) → Refuses shapes subject NotPrintable
-  refuses-cycle (entry, r, round) = record { holds = cycle entry r round; least = none-below 1 (omega arith) (λ w. absurd (omega arith)) (λ w. absurd (omega arith)) (λ w. absurd (omega arith)) (λ w. absurd (omega arith)) (λ w. absurd (omega arith)) (λ w. absurd (omega arith)) }
+  -- and is refused by one rule
+  pub one-rule : (a b : PrintFault) → Refuses shapes subject a → Refuses shapes subject b → a ≡ b
+  one-rule a b x y = elim (cases_lt (number_of a) (number_of b)) [
+    | inl less ↦ absurd (y.least a less x.holds)
+    | inr more ↦ elim (cases_lt (number_of b) (number_of a)) [
+      | inl less ↦ absurd (x.least b less y.holds)
+      | inr other ↦ one-number a b (omega arith)
+    ]
+  ]
 
-  -- neither of them
-  pub printable : (subject ≡ no_subject → ⊥) → (ReachACycle shapes (first_steps subject) → ⊥) → Holds shapes subject NotPrintable → ⊥
-  printable kind none (other_kind e) = kind e
-  printable kind none (cycle entry r round) = none (entry, r, round)
+  -- ---- one rule after another
 
-  -- each rule, if none before it holds
-  pub refuses-name : (Holds shapes subject NotPrintable → ⊥) → Holds shapes subject BadName → Refuses shapes subject BadName
-  refuses-name p1 holds = record { holds = holds; least = none-below 2 (omega arith) (λ w. p1) (λ w. absurd (omega arith)) (λ w. absurd (omega arith)) (λ w. absurd (omega arith)) (λ w. absurd (omega arith)) (λ w. absurd (omega arith)) }
+  -- no rule comes before the first
+  pub none-first : HoldsNoneBelow 1 shapes subject
+  none-first NotPrintable less holds = absurd (omega arith)
+  none-first BadName less holds = absurd (omega arith)
+  none-first Foreign less holds = absurd (omega arith)
+  none-first Unspeakable less holds = absurd (omega arith)
+  none-first TooDeep less holds = absurd (omega arith)
+  none-first TooLong less holds = absurd (omega arith)
+  none-first Memory less holds = absurd (omega arith)
 
-  pub refuses-foreign : (Holds shapes subject NotPrintable → ⊥) → (Holds shapes subject BadName → ⊥) → Holds shapes subject Foreign → Refuses shapes subject Foreign
-  refuses-foreign p1 p2 holds = record { holds = holds; least = none-below 3 (omega arith) (λ w. p1) (λ w. p2) (λ w. absurd (omega arith)) (λ w. absurd (omega arith)) (λ w. absurd (omega arith)) (λ w. absurd (omega arith)) }
+  -- the next one does not hold either
+  pub none-more : (rule : PrintFault) → HoldsNoneBelow (number_of rule) shapes subject → (Holds shapes subject rule → ⊥)
+      → HoldsNoneBelow (suc (number_of rule)) shapes subject
+  none-more rule none not other less holds = elim (cases_lt (number_of other) (number_of rule)) [
+    | inl before ↦ none other before holds
+    | inr more ↦ (let same : other ≡ rule = one-number other rule (omega arith) in not (subst (Holds shapes subject) same holds))
+  ]
 
-  pub refuses-unspeakable : (Holds shapes subject NotPrintable → ⊥) → (Holds shapes subject BadName → ⊥) → (Holds shapes subject Foreign → ⊥) → Holds shapes subject Unspeakable → Refuses shapes subject Unspeakable
-  refuses-unspeakable p1 p2 p3 holds = record { holds = holds; least = none-below 4 (omega arith) (λ w. p1) (λ w. p2) (λ w. p3) (λ w. absurd (omega arith)) (λ w. absurd (omega arith)) (λ w. absurd (omega arith)) }
-
-  pub refuses-deep : (Holds shapes subject NotPrintable → ⊥) → (Holds shapes subject BadName → ⊥) → (Holds shapes subject Foreign → ⊥) → (Holds shapes subject Unspeakable → ⊥)
-      → Holds shapes subject TooDeep → Refuses shapes subject TooDeep
-  refuses-deep p1 p2 p3 p4 holds = record { holds = holds; least = none-below 5 (omega arith) (λ w. p1) (λ w. p2) (λ w. p3) (λ w. p4) (λ w. absurd (omega arith)) (λ w. absurd (omega arith)) }
-
-  pub refuses-long : (Holds shapes subject NotPrintable → ⊥) → (Holds shapes subject BadName → ⊥) → (Holds shapes subject Foreign → ⊥) → (Holds shapes subject Unspeakable → ⊥)
-      → (Holds shapes subject TooDeep → ⊥) → Holds shapes subject TooLong → Refuses shapes subject TooLong
-  refuses-long p1 p2 p3 p4 p5 holds = record { holds = holds; least = none-below 6 (omega arith) (λ w. p1) (λ w. p2) (λ w. p3) (λ w. p4) (λ w. p5) (λ w. absurd (omega arith)) }
-
-  -- none of them
-  pub printed : (Holds shapes subject NotPrintable → ⊥) → (Holds shapes subject BadName → ⊥) → (Holds shapes subject Foreign → ⊥) → (Holds shapes subject Unspeakable → ⊥)
-      → (Holds shapes subject TooDeep → ⊥) → (Holds shapes subject TooLong → ⊥) → IsPrinted shapes subject
-  printed p1 p2 p3 p4 p5 p6 = none-below 7 (omega arith) (λ w. p1) (λ w. p2) (λ w. p3) (λ w. p4) (λ w. p5) (λ w. p6)
+  -- neither another kind of entry nor a cycle that is reached
+  pub printable : (subject ≡ no_subject → ⊥) → (ReachACycle shapes (first_steps subject) → ⊥) → HoldsNoneBelow 2 shapes subject
+  printable kind none = none-more NotPrintable none-first neither
+    where
+      neither : Holds shapes subject NotPrintable → ⊥
+      neither (other_kind e) = kind e
+      neither (cycle entry r round) = none (entry, r, round)
 
   -- the fifth refusal, by what a survey tells
   pub deep-holds : IsDeepFrom shapes (first_steps subject) → Holds shapes subject TooDeep
@@ -68,13 +109,8 @@ module _ (shapes : ℕ → ShapeOf) (subject : SubjectOf) where
   unfolding IsDeepFrom
   holds-deep (deep far) = far
 
-  -- and the sixth
-  pub holds-long : Holds shapes subject TooLong → IsLonger 65536 shapes subject
+  holds-long : Holds shapes subject TooLong → IsLonger 65536 shapes subject
   holds-long (long far) = far
-
-  pub none-of-five : (Holds shapes subject NotPrintable → ⊥) → (Holds shapes subject BadName → ⊥) → (Holds shapes subject Foreign → ⊥) → (Holds shapes subject Unspeakable → ⊥)
-      → (Holds shapes subject TooDeep → ⊥) → HoldsNoneBelow 6 shapes subject
-  none-of-five p1 p2 p3 p4 p5 = none-below 6 (omega arith) (λ w. p1) (λ w. p2) (λ w. p3) (λ w. p4) (λ w. p5) (λ w. absurd (omega arith))
 
   -- there is a declaration, where none of the first five refusals holds
   there-declared : HoldsNoneBelow 6 shapes subject → (d : Declaration) × (declaration_of shapes subject ≡ Some d)
@@ -83,18 +119,34 @@ module _ (shapes : ℕ → ShapeOf) (subject : SubjectOf) where
       let there = subject_some 64 shapes subject (λ rule below holds. none rule (omega arith) holds) (λ path. none TooDeep (omega arith) (deep path)) in
       some_value (declaration_by (term_at 65 shapes) subject) there
 
-  -- it is too long, if it has more bytes than a number that is greater than the limit
-  pub least-long : (n : ℕ) → HoldsNoneBelow 6 shapes subject → ((d : Declaration) → declaration_of shapes subject ≡ Some d → n ≤ length (written d)) → 65536 < n → IsLonger 65536 shapes subject
-  least-long n none own over =
-      let (d, is) = there-declared none in
-      let least = own d is in
-      (d, is, omega arith)
+  -- ---- the length of its text
 
-  -- and exactly if it does not fit into a draft
-  pub over-long : (o : Option (List ℕ)) → HoldsNoneBelow 6 shapes subject → ((d : Declaration) → declaration_of shapes subject ≡ Some d → o ≡ appended (Some []) (written d)) → o ≡ None → IsLonger 65536 shapes subject
-  over-long o none own is =
-      let (d, has) = there-declared none in
-      (d, has, none-over (written d) (sym (own d has) ∙ is))
+  module _ (roots : List ℕ) (s : Survey) (survey : IsSurveyOf shapes roots s) (among : AreAmong (first_steps subject) roots) (none : HoldsNoneBelow 6 shapes subject) where
+    -- it is too long, if it has at least a number of bytes that is greater than the limit
+    pub long-by-least : (n : ℕ) → n ≤ least_declared (least_known s.summaries) subject → 65536 < n → Refuses shapes subject TooLong
+    unfolding declaration_of
+    long-by-least n under over =
+        let (d, is) = there-declared none in
+        let known = types-known shapes roots s survey (types_declared subject) among (λ (entry, r, round). none NotPrintable (omega arith) (cycle entry r round)) in
+        let least = declared-least (term_at 65 shapes) (least_known s.summaries) subject d (knows-counts shapes s.summaries 65 (types_declared subject) known) is in
+        record { holds = long (d, is, (omega arith)); least = none }
 
-  pub fits-short : (o : Option (List ℕ)) → ((d : Declaration) → declaration_of shapes subject ≡ Some d → o ≡ appended (Some []) (written d)) → (o ≡ None → ⊥) → IsLonger 65536 shapes subject → ⊥
-  fits-short o own there (d, has, far) = there (own d has ∙ appended-over [] (written d) (omega arith))
+    module _ (old new : Option (List ℕ)) (empty : old ≡ Some []) (writes : WritesDeclaration s subject old new) where
+      own : (d : Declaration) → declaration_of shapes subject ≡ Some d → new ≡ appended (Some []) (written d)
+      own d is = writes d (declaration-kept shapes roots s subject survey among ∙ is) ∙ ap (λ (o : Option (List ℕ)). appended o (written d)) empty
+
+      -- or if it does not fit into a draft
+      pub long-by-draft : is_none new ≡ true → Refuses shapes subject TooLong
+      long-by-draft over =
+          let (d, is) = there-declared none in
+          record { holds = long (d, is, none-over (written d) (sym (own d is) ∙ none-is new over)); least = none }
+
+      -- and else the draft has it
+      pub short-by-draft : is_none new ≡ false
+          → IsPrinted shapes subject × ((d : Declaration) × (declaration_of shapes subject ≡ Some d) × (new ≡ Some (written d)))
+      short-by-draft fits =
+          let (d, is) = there-declared none in
+          (none-more TooLong none (λ h. too-long (holds-long h)), (d, is, there-whole new (written d) (own d is) (there-is new fits)))
+        where
+          too-long : IsLonger 65536 shapes subject → ⊥
+          too-long (d, is, far) = there-is new fits (own d is ∙ appended-over [] (written d) (omega arith))

@@ -1,55 +1,35 @@
--- State: the judgement of each named type: it is printed, or the refusal that holds.
-use Rattle.std.specs.Prelude.{◌≡◌, ℕ, ◌<◌, ◌≤◌, ◌⊎◌, List, [], ◌∷◌, ◌++◌, Option, Some, None}
-use Rattle.std.specs.Prelude.{length, slice_index, slice_index_or, Contains, AllPairs}
+-- State: the judgement of a named type: it is printed, and its text is written, or the refusal that holds.
+use Rattle.std.specs.Prelude.{◌≡◌, ℕ, [], ◌∷◌, ◌++◌, Option, Some, None}
 use Rattle.dw_cprint.specs.Declarations.{declaration_of}
 use Rattle.dw_cprint.specs.Drafts.{drafted}
-use Rattle.dw_cprint.specs.Kept.{kept}
 use Rattle.dw_cprint.specs.Listings.{text_if}
-use Rattle.dw_cprint.specs.Refusals.{PrintFault, Refuses, IsPrinted}
-use Rattle.dw_cprint.specs.Shapes.{ShapeOf, SubjectOf, no_subject}
+use Rattle.dw_cprint.specs.Refusals.{PrintFault, HoldsNoneBelow, Refuses, IsPrinted}
+use Rattle.dw_cprint.specs.Shapes.{ShapeOf, SubjectOf}
 use Rattle.dw_cprint.specs.Terms.{Declaration}
 use Rattle.dw_cprint.specs.Writing.{written}
 use Rattle.dw_cprint.specs.declared.draft.Draft.{Draft}
-use Rattle.dw_cprint.specs.declared.listing.Listed.{Listed}
-use Rattle.dw_cprint.specs.declared.survey.Survey.{Survey}
+use Rattle.dw_cprint.specs.declared.listing.Listing.{Listing}
 
--- why a declaration is refused, or none if it is printed
-abbrev pub IsJudgement : (ℕ → ShapeOf) → SubjectOf → Option PrintFault → Type 0
-IsJudgement shapes subject None = IsPrinted shapes subject
-IsJudgement shapes subject (Some rule) = Refuses shapes subject rule
+-- the draft has the text of the declaration
+abbrev pub IsDrafted : (ℕ → ShapeOf) → SubjectOf → Draft → Type 0
+IsDrafted shapes subject draft =
+    (d : Declaration) × (declaration_of shapes subject ≡ Some d) × (drafted draft ≡ Some (written d))
 
--- the draft has the text of the declaration, by the shapes that a survey keeps
-abbrev pub IsDrafted : Survey → SubjectOf → Draft → Type 0
-IsDrafted s subject draft =
-    (d : Declaration) → declaration_of (kept s) subject ≡ Some d → drafted draft ≡ Some (written d)
+-- why a declaration is refused; none if no rule with a smaller number holds
+abbrev pub IsRefusalBelow : ℕ → (ℕ → ShapeOf) → SubjectOf → Option PrintFault → Type 0
+IsRefusalBelow number shapes subject None = HoldsNoneBelow number shapes subject
+IsRefusalBelow number shapes subject (Some rule) = Refuses shapes subject rule
 
--- there is a declaration, and its text is not too long
-abbrev pub HasShortText : Option Declaration → Type 0
-HasShortText o = (d : Declaration) × (o ≡ Some d) × (length (written d) ≤ 65536)
+-- why a declaration is refused; none if it is printed, and the draft has its text
+abbrev pub IsJudgement : (ℕ → ShapeOf) → SubjectOf → Draft → Option PrintFault → Type 0
+IsJudgement shapes subject draft None = IsPrinted shapes subject × IsDrafted shapes subject draft
+IsJudgement shapes subject draft (Some rule) = Refuses shapes subject rule
 
--- one of some declarations, by its place
-abbrev pub subject_at : List SubjectOf → ℕ → SubjectOf
-subject_at subjects place = slice_index_or subjects place no_subject
-
--- the first so many named types are judged: each is listed with its level, or refused
-pub record AreJudged (shapes : ℕ → ShapeOf) (named : List ℕ) (subjects : List SubjectOf) (levels : List ℕ) (count : ℕ)
-    (listed : List Listed) (refused : List (ℕ × PrintFault)) : Type 0 where
-  pub printed : (one : Listed) → Contains listed one
-      → (one.place < count) × (one.entry ≡ slice_index named one.place) × (one.level ≡ slice_index levels one.entry)
-      × IsPrinted shapes (subject_at subjects one.place)
-  pub others : (one : ℕ × PrintFault) → Contains refused one
-      → (place : ℕ) × (place < count) × (one.0 ≡ slice_index named place)
-      × Refuses shapes (subject_at subjects place) one.1
-  pub rising : AllPairs (λ (a b : Listed). a.entry < b.entry) listed
-  pub by_offset : AllPairs (λ (a b : ℕ × PrintFault). a.0 < b.0) refused
-  pub each : (place : ℕ) → place < count
-      → ((one : Listed) × Contains listed one × (one.place ≡ place))
-      ⊎ ((one : ℕ × PrintFault) × Contains refused one × (one.0 ≡ slice_index named place))
-
--- one stands before another or has the same level and entry
-abbrev pub StandsNoLater : Listed → Listed → Type 0
-StandsNoLater a b = (a.level < b.level) ⊎ ((a.level ≡ b.level) × (a.entry ≤ b.entry))
-
--- the line of one that is listed
-abbrev pub listed_line : (ℕ → ShapeOf) → List SubjectOf → Listed → List ℕ
-listed_line shapes subjects one = text_if (declaration_of shapes (subject_at subjects one.place)) ++ 10 ∷ []
+-- a listing has one named type more: its line, if it is printed, or else its refusal
+pub data IsAdded (shapes : ℕ → ShapeOf) (entry : ℕ) (subject : SubjectOf) (old new : Listing) : Type 0 where
+  printed : IsPrinted shapes subject → new.order.items ≡ old.order.items ++ entry ∷ []
+      → new.text.items ≡ old.text.items ++ (text_if (declaration_of shapes subject) ++ 10 ∷ [])
+      → new.refused.items ≡ old.refused.items → IsAdded shapes entry subject old new
+  refused : (rule : PrintFault) → Refuses shapes subject rule → new.order.items ≡ old.order.items
+      → new.text.items ≡ old.text.items → new.refused.items ≡ old.refused.items ++ (entry, rule) ∷ []
+      → IsAdded shapes entry subject old new

@@ -3,16 +3,13 @@
 ghost use Rattle.std.specs.Prelude.{◌≡◌, ◌<◌, ◌++◌, length, slice_index, map, flat_map};
 ghost use Rattle.std.specs.Prelude.{All, AllPairs, IsPermutation, IfOk, OnOk};
 ghost use Rattle.dw_image.specs.Images.{entries_in};
-ghost use Rattle.dw_cprint.specs.Declarations.{declaration_of};
 ghost use Rattle.dw_cprint.specs.EntryShapes.{subject_in};
-ghost use Rattle.dw_cprint.specs.Judgements.{AreJudged, HasShortText, StandsNoLater, listed_line, subject_at};
-ghost use Rattle.dw_cprint.specs.Kept.{kept};
-ghost use Rattle.dw_cprint.specs.Listings.{AreLevels, AreNamedTypes, IsListing, is_named_type};
+ghost use Rattle.dw_cprint.specs.Judgements.{IsAdded};
+ghost use Rattle.dw_cprint.specs.Listings.{AreLevels, AreNamedTypes, IsListing, StandsBefore, is_named_type};
 ghost use Rattle.dw_cprint.specs.Listings.{listing_text, refused_line, refused_line_in};
 ghost use Rattle.dw_cprint.specs.Shapes.{view_subject};
-ghost use Rattle.dw_cprint.specs.Steps.{roots_of};
+ghost use Rattle.dw_cprint.specs.Steps.{first_steps};
 ghost use Rattle.dw_cprint.specs.Surveys.{BySurvey};
-ghost use Rattle.dw_cprint.specs.declared.listing.Listed.{Listed as ListedOf};
 
 use crate::digits::put_eight_digits;
 use crate::draft::Draft;
@@ -39,12 +36,28 @@ pub struct Listing {
     pub refused: Vec<(EntryId, PrintFault)>,
 }
 
-/// An entry of the listing, by its level and then by its offset; and its place among the named types.
-#[derive(Clone, Copy, Debug, PartialEq, Eq, PartialOrd, Ord)]
-struct Listed {
-    level: usize,
-    entry: EntryId,
-    place: usize,
+impl Listing {
+    /// Adds a named type: its declaration and a line feed, or why it is refused.
+    fn add<'a>(
+        &mut self,
+        alloc: Global,
+        survey: &Survey<'a>,
+        entry: EntryId,
+        subject: &Subject<'a>,
+        draft: &mut Draft,
+    ) -> Result<(), AllocError>
+        ensures { OnOk result (BySurvey survey.now (first_steps (view_subject subject.now)) (λ shapes.
+            IsAdded shapes entry (view_subject subject.now) self.old self.new)) }
+    {
+        if let Some(fault) = survey.refusal(alloc, subject, draft)? {
+            self.refused.push((entry, fault))?;
+            return Ok(());
+        }
+        self.order.push(entry)?;
+        self.text.extend_from_slice(draft.bytes())?;
+        self.text.push(b'\n')?;
+        Ok(())
+    }
 }
 
 /// Whether an entry is a typedef, or a structure, union or enumeration that is not declared, and has a name.
@@ -110,6 +123,27 @@ fn levels_of(alloc: Global, image: &Image<'_>) -> Result<Vec<usize>, NoMemory>
     }
 }
 
+/// The level of an entry, 0 where there is none.
+fn level_at(levels: &[usize], id: EntryId) -> usize
+    ensures { result ≡ slice_index levels.now id }
+{
+    match levels.get(id.number()) {
+        Some(level) => *level,
+        None => 0,
+    }
+}
+
+/// Sorts entries, which are in rising offset, by rising level. Those of one level stay in rising offset.
+fn sort_by_level(entries: &mut Vec<EntryId>, levels: &[usize]) -> Result<(), AllocError>
+    requires { AllPairs (λ a b. a < b) entries.old.items }
+    ensures permutation { IsPermutation entries.old.items entries.new.items }
+    ensures sorted { OnOk result
+        (AllPairs (λ a b. StandsBefore (slice_index levels.now) a b) entries.new.items) }
+{
+    entries.sort_by_key(|id| level_at(levels, *id))?;
+    Ok(())
+}
+
 /// The line of a named type that is refused.
 fn put_refused(out: &mut Vec<u8>, offset: u32, fault: PrintFault) -> Result<(), AllocError>
     ensures { OnOk result (out.new.items ≡ out.old.items ++ refused_line offset fault) }
@@ -121,30 +155,6 @@ fn put_refused(out: &mut Vec<u8>, offset: u32, fault: PrintFault) -> Result<(), 
     out.push(b' ')?;
     out.extend_from_slice(fault.name().as_bytes())?;
     out.extend_from_slice(b" */\n")?;
-    Ok(())
-}
-
-/// The lines of those that are printed.
-fn put_listed<'a>(
-    alloc: Global,
-    out: &mut Vec<u8>,
-    survey: &Survey<'a>,
-    subjects: &[Subject<'a>],
-    listed: &[Listed],
-) -> Result<(), AllocError>
-    requires places { All (λ one. one.place < length subjects.now) listed.now }
-    requires declared { All (λ one. HasShortText (declaration_of (kept survey.now)
-        (subject_at (map view_subject subjects.now) one.place))) listed.now }
-    ensures { OnOk result (out.new.items ≡ out.old.items
-        ++ flat_map (listed_line (kept survey.now) (map view_subject subjects.now)) listed.now) }
-{
-    let mut draft = Draft::new(alloc);
-    for one in listed {
-        draft.clear();
-        survey.put_declaration(alloc, &mut draft, &subjects[one.place])?;
-        out.extend_from_slice(draft.bytes())?;
-        out.push(b'\n')?;
-    }
     Ok(())
 }
 
@@ -163,64 +173,6 @@ fn put_all_refused(
     Ok(())
 }
 
-/// The named types, each printed or refused.
-#[derive(Drop)]
-struct Judged {
-    listed: Vec<Listed>,
-    refused: Vec<(EntryId, PrintFault)>,
-}
-
-/// Judges each named type.
-fn judge<'a>(
-    alloc: Global,
-    survey: &Survey<'a>,
-    named: &[EntryId],
-    subjects: &[Subject<'a>],
-    levels: &[usize],
-) -> Result<Judged, AllocError>
-    requires subjects { length subjects.now ≡ length named.now }
-    requires rising { AllPairs (λ a b. a < b) named.now }
-    requires levels { All (λ id. id < length levels.now) named.now }
-    ensures { IfOk result (λ it. BySurvey survey.now (roots_of (map view_subject subjects.now)) (λ shapes.
-        AreJudged shapes named.now (map view_subject subjects.now) levels.now (length named.now)
-        it.listed.items it.refused.items)) }
-{
-    let mut listed = Vec::new(alloc);
-    let mut refused = Vec::new(alloc);
-    let mut draft = Draft::new(alloc);
-    for place in 0..named.len() {
-        let entry = named[place];
-        match survey.refusal(alloc, &subjects[place], &mut draft)? {
-            None => listed.push(Listed {
-                level: levels[entry.number()],
-                entry,
-                place,
-            })?,
-            Some(fault) => refused.push((entry, fault))?,
-        }
-    }
-    Ok(Judged { listed, refused })
-}
-
-/// Sorts by rising level, and by rising offset where two levels are the same.
-fn sort_listed(listed: &mut Vec<Listed>) -> Result<(), AllocError>
-    ensures permutation { IsPermutation listed.old.items listed.new.items }
-    ensures sorted { OnOk result (AllPairs (λ a b. StandsNoLater a b) listed.new.items) }
-{
-    listed.sort()
-}
-
-/// The entries of those that are printed, in the same order.
-fn entries_of(alloc: Global, listed: &[Listed]) -> Result<Vec<EntryId>, AllocError>
-    ensures { IfOk result (λ order. order.items ≡ map (λ (one : ListedOf). one.entry) listed.now) }
-{
-    let mut order = Vec::with_capacity(alloc, listed.len())?;
-    for one in listed {
-        order.push(one.entry)?;
-    }
-    Ok(order)
-}
-
 /// Lists all named types of an image, each printed or refused: typedefs with a name, and structures, unions and
 /// enumerations that have a name and are not only declared (DWARF 5, 2.15 and chapter 5).
 ///
@@ -229,24 +181,26 @@ pub fn declare_all(alloc: Global, image: &Image<'_>) -> Result<Listing, NoMemory
     ensures listing { IfOk result (λ it. IsListing image.now it.order.items it.refused.items) }
     ensures text { IfOk result (λ it. it.text.items ≡ listing_text image.now it.order.items it.refused.items) }
 {
-    let named = named_types(alloc, image)?;
+    let mut named = named_types(alloc, image)?;
+    let levels = levels_of(alloc, image)?;
+    sort_by_level(&mut named, &levels)?;
+    drop(levels);
     let source = Source {
         image,
         strings: Strings::read(alloc, image)?,
     };
     let subjects = subjects_of(alloc, &source, &named)?;
     let survey = Survey::new(alloc, &source, &subjects)?;
-    let levels = levels_of(alloc, image)?;
-    let mut judged = judge(alloc, &survey, &named, &subjects, &levels)?;
-    drop(levels);
-    sort_listed(&mut judged.listed)?;
-    let mut text = Vec::new(alloc);
-    put_listed(alloc, &mut text, &survey, &subjects, &judged.listed)?;
-    put_all_refused(&mut text, image, &judged.refused)?;
-    let order = entries_of(alloc, &judged.listed)?;
-    Ok(Listing {
-        order,
-        text,
-        refused: judged.refused,
-    })
+    let mut listing = Listing {
+        order: Vec::new(alloc),
+        text: Vec::new(alloc),
+        refused: Vec::new(alloc),
+    };
+    let mut draft = Draft::new(alloc);
+    for place in 0..named.len() {
+        listing.add(alloc, &survey, named[place], &subjects[place], &mut draft)?;
+    }
+    listing.refused.sort_by_key(|one| one.0)?;
+    put_all_refused(&mut listing.text, image, &listing.refused)?;
+    Ok(listing)
 }

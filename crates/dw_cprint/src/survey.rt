@@ -1,12 +1,12 @@
 //! What some declarations need, found once for all of them: what they reach, what of that reaches a cycle, and what is
 //! known of the rest.
 
-ghost use Rattle.std.specs.Prelude.{◌≡◌, ◌↔◌, ◌<◌, None, length, map, All, IfOk, IsTrue};
+ghost use Rattle.std.specs.Prelude.{◌≡◌, ◌↔◌, ◌<◌, length, map, All, IfOk, IsTrue};
 ghost use Rattle.dw_image.specs.Images.{entries_in};
 ghost use Rattle.dw_cprint.specs.EntryShapes.{shape_in};
-ghost use Rattle.dw_cprint.specs.Judgements.{IsDrafted, IsJudgement};
+ghost use Rattle.dw_cprint.specs.Judgements.{IsJudgement, IsRefusalBelow};
 ghost use Rattle.dw_cprint.specs.Shapes.{view_subject};
-ghost use Rattle.dw_cprint.specs.Steps.{IsDeepFrom, ReachACycle, entries_of, first_steps, roots_of};
+ghost use Rattle.dw_cprint.specs.Steps.{IsDeepFrom, ReachACycle, entries_of, first_steps, roots_of, types_declared};
 ghost use Rattle.dw_cprint.specs.Surveys.{BySurvey, IsSurveyOf, depth_at};
 
 use crate::clearing::clear_nodes;
@@ -100,6 +100,34 @@ impl<'a> Survey<'a> {
         false
     }
 
+    /// Why a declaration is refused by what it leads to, if it is: by one of the first five refusals.
+    fn refusal_by_types(&self, subject: &Subject<'a>, types: &[TypeAt]) -> Option<PrintFault>
+        requires { types.now ≡ types_declared (view_subject subject.now) }
+        ensures { BySurvey self.now (first_steps (view_subject subject.now)) (λ shapes.
+            IsRefusalBelow 6 shapes (view_subject subject.now) result) }
+    {
+        if let Subject::Other = subject {
+            return Some(PrintFault::NotPrintable);
+        }
+        if self.reaches_cycle(types) {
+            return Some(PrintFault::NotPrintable);
+        }
+        let faults = subject_faults(&self.summaries, subject, types);
+        if faults.bad_name {
+            return Some(PrintFault::BadName);
+        }
+        if faults.foreign {
+            return Some(PrintFault::Foreign);
+        }
+        if faults.unspeakable {
+            return Some(PrintFault::Unspeakable);
+        }
+        if self.is_deep(types) {
+            return Some(PrintFault::TooDeep);
+        }
+        None
+    }
+
     /// Why a declaration is refused, if it is. Otherwise its text is written to the draft.
     pub fn refusal(
         &self,
@@ -107,29 +135,12 @@ impl<'a> Survey<'a> {
         subject: &Subject<'a>,
         draft: &mut Draft,
     ) -> Result<Option<PrintFault>, AllocError>
-        ensures judged { IfOk result (λ r. BySurvey self.now (first_steps (view_subject subject.now)) (λ shapes.
-            IsJudgement shapes (view_subject subject.now) r)) }
-        ensures text { IfOk result (λ r. r ≡ None → IsDrafted self.now (view_subject subject.now) draft.new) }
+        ensures { IfOk result (λ r. BySurvey self.now (first_steps (view_subject subject.now)) (λ shapes.
+            IsJudgement shapes (view_subject subject.now) draft.new r)) }
     {
-        if let Subject::Other = subject {
-            return Ok(Some(PrintFault::NotPrintable));
-        }
         let types = declared_types(alloc, subject)?;
-        if self.reaches_cycle(&types) {
-            return Ok(Some(PrintFault::NotPrintable));
-        }
-        let faults = subject_faults(&self.summaries, subject, &types);
-        if faults.bad_name {
-            return Ok(Some(PrintFault::BadName));
-        }
-        if faults.foreign {
-            return Ok(Some(PrintFault::Foreign));
-        }
-        if faults.unspeakable {
-            return Ok(Some(PrintFault::Unspeakable));
-        }
-        if self.is_deep(&types) {
-            return Ok(Some(PrintFault::TooDeep));
+        if let Some(fault) = self.refusal_by_types(subject, &types) {
+            return Ok(Some(fault));
         }
         if least_declared(&self.summaries, subject) > LIMIT {
             return Ok(Some(PrintFault::TooLong));
