@@ -1,4 +1,5 @@
 """Runs `dwv check` on files, and on decompressed copies of those with compressed sections."""
+import argparse
 import collections
 import contextlib
 import os
@@ -19,6 +20,13 @@ LARGEST = 2**32
 # the file, in parentheses; the bytes that were checked; the exit status.
 Verdict = collections.namedtuple("Verdict", "what lines note size status")
 IS_SOUND, UNREAD = "sound", "not read"
+
+
+def parser_of(text):
+    """What parses the words of a script. Its help is the text of the script: what it does, and after a line more."""
+    about, _, more = text.partition("\n\n")
+    return argparse.ArgumentParser(description=about.partition(":")[0] + ".", epilog=more,
+                                   formatter_class=argparse.RawDescriptionHelpFormatter)
 
 
 def find_tools(parser):
