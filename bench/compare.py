@@ -11,16 +11,14 @@ import re
 import shutil
 import subprocess
 import sys
-import tempfile
 
-HERE = pathlib.Path(__file__).resolve().parent
 sys.dont_write_bytecode = True
-sys.path.insert(0, str(HERE.parent / "tests"))
+sys.path.insert(0, str(pathlib.Path(__file__).resolve().parent.parent / "tests"))
+import common
 import examples
 import rows
 
-PAGE = HERE.parent / "docs/COMPARISON.md"
-BEGIN, END = "<!-- made by bench/compare.py -->\n", "<!-- end -->\n"
+PAGE = common.TOP / "docs/COMPARISON.md"
 SECONDS = 60
 
 # A tool, the words for its version, and what is a report among the lines that it prints.
@@ -36,7 +34,7 @@ TOOLS = {
 def words_of(tool):
     """The program and its arguments."""
     program, *words = tool.split(" ")
-    return [rows.DWV if program == "dwv" else program, *words]
+    return [common.DWV if program == "dwv" else program, *words]
 
 
 def version(tool):
@@ -73,8 +71,8 @@ def file_of(row, parts, nulls):
 def files():
     """Each row of docs/RULES.md with its file, padded if dwv reports the same rule of that. Sound rows come first."""
     table, parts = examples.read()
-    with tempfile.TemporaryDirectory() as folder:
-        path = pathlib.Path(folder) / "file"
+    with common.empty_folder() as folder:
+        path = folder / "file"
         for row in sorted(table, key=lambda it: not it.name.startswith("sound")):
             wanted = [] if row.name.startswith("sound") else [row.name.split(",")[0]]
             padded = file_of(row, parts, 8)
@@ -87,8 +85,8 @@ def compared(tools):
     """The tables: which tool reports which rule, and the first report of each."""
     marks, lines, counts = [], [], dict.fromkeys(tools, 0)
     usual_of = {tool: ({0}, set()) for tool in tools}
-    with tempfile.TemporaryDirectory() as folder:
-        path = pathlib.Path(folder) / "file"
+    with common.empty_folder() as folder:
+        path = folder / "file"
         for row, file in files():
             path.write_bytes(file)
             rule, _, name = row.name.partition(" ")
@@ -124,17 +122,13 @@ def compared(tools):
 
 
 def main():
-    rows.build()
+    common.build()
     tools = [tool for tool in TOOLS if tool == "dwv check" or shutil.which(tool.split(" ")[0])]
     absent = [tool.split(" ")[0] for tool in TOOLS if tool not in tools]
     about = f"{datetime.date.today()}: {', '.join(version(tool) for tool in tools if tool != 'dwv check')}."
     if absent:
         about += f" Not installed: {', '.join(absent)}."
-    text = "\n".join([about, "", *compared(tools), ""])
-    page = PAGE.read_text()
-    before, after = page.index(BEGIN) + len(BEGIN), page.index(END)
-    PAGE.write_text(page[:before] + "\n" + text + "\n" + page[after:])
-    print(text)
+    common.rewrite(PAGE, [about, "", *compared(tools)])
 
 
 main()

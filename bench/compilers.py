@@ -11,16 +11,13 @@ import re
 import shutil
 import subprocess
 import sys
-import tempfile
 
 sys.dont_write_bytecode = True
-HERE = pathlib.Path(__file__).resolve().parent
-sys.path.insert(0, str(HERE.parent / "tests"))
+sys.path.insert(0, str(pathlib.Path(__file__).resolve().parent.parent / "tests"))
 import common
 from dwv_tools import causes, finding, running
 
-PAGE = HERE.parent / "docs/COMPILERS.md"
-BEGIN, END = "<!-- made by bench/compilers.py -->\n", "<!-- end -->\n"
+PAGE = common.TOP / "docs/COMPILERS.md"
 SECONDS = 300
 
 SOURCES = {
@@ -220,9 +217,7 @@ def known(text):
 
 def main():
     dwv = common.DWV
-    page = PAGE.read_text()
-    start, end = page.index(BEGIN) + len(BEGIN), page.index(END)
-    kept, old = known(page[start:end])
+    kept, old = known(common.made_part(PAGE)[1])
     table, versions, earlier, absent = [], {}, {}, set()
 
     def keep(language, command):
@@ -234,8 +229,7 @@ def main():
         else:
             absent.add(f"{language} by {tool}")
 
-    with tempfile.TemporaryDirectory() as name:
-        folder = pathlib.Path(name)
+    with common.empty_folder() as folder:
         for source, text in SOURCES.items():
             (folder / source).write_text(text)
         for language, command, sources in COMPILED:
@@ -258,9 +252,7 @@ def main():
     if absent:
         about += f" Not installed, or not able to: {', '.join(sorted(absent))}."
     head = ["| Language | Command | `dwv check` | `dwv types` | Why, and what to do |", "|---|---|---|---|---|"]
-    text = "\n".join([about, "", *head, *table, ""])
-    PAGE.write_text(page[:start] + "\n" + text + "\n" + page[end:])
-    print(text)
+    common.rewrite(PAGE, [about, "", *head, *table])
 
 
 if __name__ == "__main__":

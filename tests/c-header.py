@@ -4,13 +4,10 @@
 A listing is given to the script by a stand-in for `dwv`. The headers of programs have an assertion of each size and
 each offset. It prints one line a test and ends with 'N passed, M failed'. What is not installed is skipped.
 """
-import pathlib
 import resource
 import shutil
 import subprocess
 import sys
-import tempfile
-import time
 
 sys.dont_write_bytecode = True
 import common
@@ -33,55 +30,46 @@ LISTINGS = [
     ("equal lines", "typedef int t;\ntypedef int t;\n", ["2 lines, 1 of them different", "!another"]),
     ("a typedef behind a pointer", "typedef late *p;\ntypedef struct { int x; } late;\n", []),
     ("names in parameters", "typedef int (*f)(t *, u);\ntypedef int t;\ntypedef struct s u;\n", ["struct s;"]),
-    ("structures that point to each other", "struct a { struct b *b; t *t; };\nstruct b { struct a *a; struct a"
-    " (*f)(struct"
-     " b *, t); };\ntypedef struct a t;\n", ["struct b;"]),
-    ("an order by value", "struct out { t x[2]; struct in y; };\nstruct in { int x; };\ntypedef u t;\ntypedef struct"
-    " deep u;\n"
-     "struct deep { struct out *o; };\n", []),
+    ("structures that point to each other", "struct a { struct b *b; t *t; };\n"
+     "struct b { struct a *a; struct a (*f)(struct b *, t); };\ntypedef struct a t;\n", ["struct b;"]),
+    ("an order by value", "struct out { t x[2]; struct in y; };\nstruct in { int x; };\ntypedef u t;\n"
+     "typedef struct deep u;\nstruct deep { struct out *o; };\n", []),
     ("arrays of structures that come later", "typedef struct s a[3];\nstruct s { int (*p)[3]; u (*q)[2]; };\n"
      "typedef struct v u;\nstruct v { int x; };\n", []),
     ("several texts of a name", "struct s { int x; };\nstruct s { char y; };\nstruct s { long int z; };\n",
      ["/* another text of struct s: struct s { char y; }; */"]),
     ("several texts, --all", "struct s { int x; };\nstruct s { char y; };\ntypedef int t;\ntypedef char t;\n",
      ["struct s___2 {", "typedef char t___2;", "!another"]),
-    ("a first text that can't be written", "struct s { missing x; };\nstruct s { char y; };\nstruct t { struct s s;"
-    " };\n",
-     ["left out, because it needs missing, which has no declaration", "\tchar y;"]),
-    ("one name of all kinds", "struct x { int a; };\ntypedef int x;\nunion x { int b; };\nenum x { Q = 1 };\nstruct"
-    " user {"
-     " union x *u; enum x e; x t; struct x s; };\n", ["union x___union", "enum x___enum"]),
-    ("enumerators twice", "enum a { A = 0, B = 1 };\nenum b { A = 3, T = 4 };\ntypedef int T;\nstruct s { enum { A ="
-    " 7 } m;"
-     " };\n", ["A___2 = 3", "A___3 = 7", "T___2 = 4"]),
-    ("an enumeration in several places", "struct s { enum { A = 0 } x; enum { A = 0 } y; };\ntypedef enum { A = 0 }"
-    " t;\n",
-     ["enum of_A {"]),
-    ("refused types", "typedef gone *p;\nstruct s { p x; };\nstruct v { struct nobody *n; };\n/* 0x00000010 P2"
-    " BadName */\n",
-     ["/* refused: 0x00000010 P2 BadName", "struct nobody;", "2 left out"]),
+    ("a first text that can't be written", "struct s { missing x; };\nstruct s { char y; };\n"
+     "struct t { struct s s; };\n", ["left out, because it needs missing, which has no declaration", "\tchar y;"]),
+    ("one name of all kinds", "struct x { int a; };\ntypedef int x;\nunion x { int b; };\nenum x { Q = 1 };\n"
+     "struct user { union x *u; enum x e; x t; struct x s; };\n", ["union x___union", "enum x___enum"]),
+    ("enumerators twice", "enum a { A = 0, B = 1 };\nenum b { A = 3, T = 4 };\ntypedef int T;\n"
+     "struct s { enum { A = 7 } m; };\n", ["A___2 = 3", "A___3 = 7", "T___2 = 4"]),
+    ("an enumeration in several places", "struct s { enum { A = 0 } x; enum { A = 0 } y; };\n"
+     "typedef enum { A = 0 } t;\n", ["enum of_A {"]),
+    ("refused types", "typedef gone *p;\nstruct s { p x; };\nstruct v { struct nobody *n; };\n"
+     "/* 0x00000010 P2 BadName */\n", ["/* refused: 0x00000010 P2 BadName", "struct nobody;", "2 left out"]),
     ("an enumeration that is only named", "struct s { enum gone *x; };\n", ["enum gone;"]),
-    ("names of the compiler", "typedef __builtin_va_list __gnuc_va_list;\ntypedef struct __va_list_tag"
-     " __builtin_va_list[1];\nstruct __va_list_tag { int x; };\ntypedef float _Float32;\nstruct s { _Float64 a;"
-     " _Float128 b;"
-     " __int128 c; _Float32 d; bool e; wchar_t f; char16_t g; _Decimal64 h; _Float64x i; };\n", ["#ifdef __clang__"]),
-    ("arrays of unknown count", "struct a { int n; char x[]; };\nstruct b { char x[]; };\nstruct c { char x[]; int n;"
-    " };\n"
-     "union d { char x[]; int n; };\n", ["\tchar x[];", "\tchar x[0];"]),
-    ("extreme values", "enum e { A = -9223372036854775808, B = 9223372036854775807 };\nenum f { C ="
-    " 18446744073709551615"
-     " };\nenum g { D = 4294967295, E = -1 };\n", ["18446744073709551615U"]),
+    ("names of the compiler", "typedef __builtin_va_list __gnuc_va_list;\n"
+     "typedef struct __va_list_tag __builtin_va_list[1];\nstruct __va_list_tag { int x; };\n"
+     "typedef float _Float32;\n"
+     "struct s { _Float64 a; _Float128 b; __int128 c; _Float32 d; bool e; wchar_t f; char16_t g; _Decimal64 h; "
+     "_Float64x i; };\n", ["#ifdef __clang__"]),
+    ("arrays of unknown count", "struct a { int n; char x[]; };\nstruct b { char x[]; };\n"
+     "struct c { char x[]; int n; };\nunion d { char x[]; int n; };\n", ["\tchar x[];", "\tchar x[0];"]),
+    ("extreme values", "enum e { A = -9223372036854775808, B = 9223372036854775807 };\n"
+     "enum f { C = 18446744073709551615 };\nenum g { D = 4294967295, E = -1 };\n", ["18446744073709551615U"]),
     ("words of gcc", "struct s { int asm; int typeof; int linux; int unix; };\n", ["asm_", "#undef linux"]),
-    ("a cycle by value", "struct a { struct b x; };\nstruct b { struct a y; };\nstruct b { int z; };\n", ["struct b"
-    " {"]),
+    ("a cycle by value", "struct a { struct b x; };\nstruct b { struct a y; };\nstruct b { int z; };\n",
+     ["struct b {"]),
     ("a cycle of typedefs", "typedef t u;\ntypedef u t;\nstruct s { u *x; };\nstruct k { int x; };\n", ["struct k {"]),
-    ("a name that is void first", "typedef void t;\ntypedef struct { int x; } t;\nstruct s { t x; };\ntypedef void v;\n"
-     "typedef v w;\nstruct k { w x; };\ntypedef w *p;\n", ["struct s {", "1 left out", "*p;"]),
+    ("a name that is void first", "typedef void t;\ntypedef struct { int x; } t;\nstruct s { t x; };\n"
+     "typedef void v;\ntypedef v w;\nstruct k { w x; };\ntypedef w *p;\n", ["struct s {", "1 left out", "*p;"]),
     ("two members of one name", "struct s { int x; union { int x; }; };\n", ["it has two members named x"]),
-    ("declarators", "typedef int (*(*f)(int, ...))[3];\ntypedef const char *const (*g[4])(void (*)(int), const"
-    " volatile void"
-     " *restrict, ...);\ntypedef int h();\ntypedef int k(void);\ntypedef void (*signal_t(int, void"
-     " (*)(int)))(int);\n", []),
+    ("declarators", "typedef int (*(*f)(int, ...))[3];\n"
+     "typedef const char *const (*g[4])(void (*)(int), const volatile void *restrict, ...);\ntypedef int h();\n"
+     "typedef int k(void);\ntypedef void (*signal_t(int, void (*)(int)))(int);\n", []),
     ("a layout that is not known", "struct s { char a; int b; };\n", ["/* guessed: the layout of struct s;"]),
     ("a line of something else", "int x;\nstruct s { int x; };\n", ["1 left out", "struct s {"]),
     ("the end of a comment in a line", "typedef evil */ t;\n", ["!evil */ t", "evil * / t"]),
@@ -122,8 +110,8 @@ struct point *points(struct point *p) { return p; }
 """
 
 
-def run(*words, dwv=common.DWV):
-    return common.script("c-header", *words, dwv=dwv)
+def run(*words, **env):
+    return common.script("c-header", *words, **env)
 
 
 def refusals(text):
@@ -141,7 +129,7 @@ def listings(folder):
     for name, text, wanted in LISTINGS:
         path = folder / "listing"
         path.write_text(text)
-        status, header, errors = run(*(["--all"] if "--all" in name else []), path, dwv=folder / "dwv")
+        status, header, errors = run(*(["--all"] if "--all" in name else []), path, DWV=folder / "dwv")
         wrong = [it for it in wanted if it.startswith("!") == (it.removeprefix("!") in header)]
         tally.add(name, errors or wrong or status or refusals(header))
         for line in text.splitlines():
@@ -155,21 +143,19 @@ def listings(folder):
         path = folder / "listing"
         path.write_text(text)
         before = resource.getrusage(resource.RUSAGE_CHILDREN).ru_utime
-        status, _, errors = run(path, dwv=folder / "dwv")
+        status, _, errors = run(path, DWV=folder / "dwv")
         used = resource.getrusage(resource.RUSAGE_CHILDREN).ru_utime - before
         tally.add(f"{MANY} lines, {name}", errors or status or (used if used > SECONDS else ""))
 
 
 def programs(folder):
     (folder / "layouts.c").write_text(LAYOUTS)
-    sources = {"layouts": folder / "layouts.c"}
-    sources |= {name: common.PROGRAMS / f"{name}.c" for name in ("shapes", "calls", "library")}
+    sources = {"layouts": folder / "layouts.c", "shapes": "shapes.c", "calls": "calls.c", "library": "library.c"}
     for compiler in COMPILERS:
         for version in (5, 4):
             for name, source in sources.items():
                 title, path = f"{name}, {compiler} -gdwarf-{version}", folder / name
-                words = [compiler, f"-gdwarf-{version}", "-w", "-shared", "-fPIC", "-o", path, source]
-                if subprocess.run(words, capture_output=True).returncode:
+                if not common.compiled(path, f"{compiler} -gdwarf-{version} -shared -fPIC", source):
                     print(f"skipped: {title} does not compile")
                     continue
                 status, header, errors = run("--assert", path)
@@ -180,23 +166,18 @@ def programs(folder):
 
 def words(folder):
     broken = folder / "broken"
-    broken.write_bytes((common.CRATE / "data/X1").read_bytes().replace(b"\x02int", b"\x03int"))
-    status, text, errors = run(broken)
+    broken.write_bytes(common.BROKEN)
     line = f"c-header: {broken}: fault G1 UndeclaredCode at .debug_info+0x0000000f attribute 0x0\n"
-    tally.add("a file that is not sound", "" if (status, text, errors) == (1, "", line) else (status, text, errors))
-    status, text, errors = run(folder / "none")
-    is_right = (status, text, errors) == (3, "", f"c-header: {folder / 'none'}: No such file or directory\n")
-    tally.add("no file", "" if is_right else (status, text, errors))
-    status, text, errors = run("-o", folder / "none/x.h", common.CRATE / "data/X1")
-    tally.add("a header that can't be written", "" if status == 3 and not text else (status, text, errors))
-    status, text, errors = run()
-    tally.add("no words", "" if status == 2 and not text else (status, text, errors))
+    tally.same("a file that is not sound", run(broken), (1, "", line))
+    absent = folder / "none"
+    tally.same("no file", run(absent), (3, "", f"c-header: {absent}: No such file or directory\n"))
+    tally.same("a header that can't be written", run("-o", absent / "x.h", common.SAMPLE)[:2], (3, ""))
+    tally.same("no words", run()[:2], (2, ""))
 
 
 def main():
     common.build()
-    with tempfile.TemporaryDirectory() as name:
-        folder = pathlib.Path(name)
+    with common.empty_folder() as folder:
         (folder / "dwv").write_text(STAND_IN)
         (folder / "dwv").chmod(0o755)
         listings(folder)

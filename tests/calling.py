@@ -5,21 +5,21 @@ Each part of a block of code, up to an empty line, must be in `src/` of a crate,
 `dw_tests`.
 It prints each part that is not, and ends with status 1 if there is one.
 """
-import pathlib
 import re
 import sys
 
-CRATES = pathlib.Path(__file__).resolve().parent.parent / "crates"
+sys.dont_write_bytecode = True
+from common import TOP, tell
+
+CRATES = TOP / "crates"
 code = "\n".join(source.read_text() for source in CRATES.glob("*/src/**/*.rt"))
-failed = False
+found = []
 for page in sorted(CRATES.glob("*/CALLING.md")):
     blocks = re.findall(r"^```rust\n(.*?)^```$", page.read_text(), re.S | re.M)
     parts = [part.strip("\n") for block in blocks for part in block.split("\n\n")]
     for part in parts:
         if f"\n{part}\n" not in code:
-            failed = True
-            print(f"{page.relative_to(CRATES)}: this is in no source:\n{part}\n")
+            found.append(f"{page.relative_to(CRATES)}: this is in no source:\n{part}\n")
     if not parts:
-        failed = True
-        print(f"{page.relative_to(CRATES)}: no code")
-sys.exit(failed)
+        found.append(f"{page.relative_to(CRATES)}: no code")
+sys.exit(tell(found))

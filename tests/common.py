@@ -1,24 +1,58 @@
-"""What the scripts of this folder share: where the program is, limits of runs, files made of bytes, counts of tests."""
+"""What the scripts of tests/ and bench/ share: where things are, runs with limits, programs that compilers make, what
+readelf lists, files made of bytes, and counts of tests."""
+import collections
+import contextlib
 import os
 import pathlib
+import re
 import resource
+import shutil
 import struct
 import subprocess
 import sys
+import tempfile
 
 HERE = pathlib.Path(__file__).resolve().parent
 TOP = HERE.parent
 CRATE = TOP / "crates/dwv"
 PROGRAMS = HERE / "programs"
+# A sound file, and the bytes of one with a code that its table does not declare.
+SAMPLE = CRATE / "data/X1"
+BROKEN = SAMPLE.read_bytes().replace(b"\x02int", b"\x03int")
 # The program: that of the variable DWV, or the one that `make` built.
 DWV = pathlib.Path(os.environ.get("DWV", CRATE / "out/dwv")).absolute()
 sys.path[:0] = [str(TOP / folder) for folder in ("contrib", "bench")]
+
+# What readelf prints before a value: its form, and where a text is that is not in the entry itself.
+BEFORE = re.compile(r"(?:\((?:str|line_str|flag|offset|index|indirect|alt)[^)]*\):? *)*")
+# An entry as readelf lists it: its attributes are texts by their names, without DW_AT_.
+Entry = collections.namedtuple("Entry", "depth at tag attributes")
 
 
 def build():
     """Proves and builds the program, if there is none."""
     if not DWV.exists():
         subprocess.run(["rt", "run", "--", "check", "data/X1"], cwd=CRATE, check=True)
+
+
+def has(tool):
+    """Whether a tool is installed. If not, it prints so."""
+    if not shutil.which(tool):
+        print(f"skipped: {tool} is not installed")
+    return shutil.which(tool) is not None
+
+
+@contextlib.contextmanager
+def empty_folder():
+    """A folder that is removed in the end."""
+    with tempfile.TemporaryDirectory() as name:
+        yield pathlib.Path(name)
+
+
+def tell(lines):
+    """Prints what is wrong, and returns the exit status of the script."""
+    print("".join(f"{line}\n" for line in lines), end="")
+    return 1 if lines else 0
 
 
 class Tally:
@@ -33,27 +67,80 @@ class Tally:
         said = f": {why}"[:1000] if why else more and f": {more}"
         print(f"{'FAILED' if why else 'passed'} {name}{said}", flush=True)
 
+    def same(self, name, said, wanted):
+        """A test that passed if the two are equal."""
+        self.add(name, None if said == wanted else f"{said!r}, wanted {wanted!r}")
+
     def end(self):
         """Prints the counts, and returns the exit status of the script."""
         print(f"{self.passed} passed, {self.failed} failed")
         return 1 if self.failed else 0
 
 
-def limited(memory=None, seconds=None):
-    """What limits the bytes of memory and the seconds of processor time of a process that is about to run."""
+def run(*words, memory=None, seconds=None, timeout=60, **more):
+    """The exit status of a program, and both texts: bytes, unless `more` has `text`, as for subprocess.run.
+
+    It may take so many bytes of memory and seconds of processor time.
+    """
+    limits = [(what, most) for what, most in ((resource.RLIMIT_AS, memory), (resource.RLIMIT_CPU, seconds)) if most]
+
     def limit():
-        for what, most in ((resource.RLIMIT_AS, memory), (resource.RLIMIT_CPU, seconds)):
-            if most is not None:
-                resource.setrlimit(what, (most, most))
+        for what, most in limits:
+            resource.setrlimit(what, (most, most))
 
-    return limit
-
-
-def script(name, *words, dwv=DWV):
-    """The exit status of a script of contrib/ that runs `dwv`, and both texts."""
-    env = {**os.environ, "DWV": str(dwv)}
-    ran = subprocess.run([TOP / "contrib" / name, *words], capture_output=True, text=True, env=env)
+    ran = subprocess.run(words, capture_output=True, timeout=timeout, preexec_fn=limit if limits else None, **more)
     return ran.returncode, ran.stdout, ran.stderr
+
+
+def script(name, *words, **env):
+    """The exit status of a script of contrib/ that runs `dwv`, and both texts. It has more variables of `env`."""
+    return run(TOP / "contrib" / name, *words, timeout=None, text=True, env={**os.environ, "DWV": DWV, **env})
+
+
+def make(folder, *words):
+    """The exit status of `make` with these words alone, and what it prints.
+
+    A `rt` in the folder fails, and makes a file `called` there.
+    """
+    stand_in = folder / "bin/rt"
+    stand_in.parent.mkdir(exist_ok=True)
+    stand_in.write_text(f"#!/bin/sh\ntouch '{folder}/called'\nexit 1\n")
+    stand_in.chmod(0o755)
+    env = {name: text for name, text in os.environ.items() if name not in ("MAKEFLAGS", "MAKELEVEL", "DESTDIR")}
+    env["PATH"] = f"{stand_in.parent}:{env['PATH']}"
+    status, text, errors = run("make", "--no-print-directory", *words, text=True, cwd=TOP, env=env)
+    return status, text + errors
+
+
+def compiled(out, command, *sources):
+    """Whether a command makes a file of sources, which are in tests/programs if they have no other path."""
+    words = [*command.split(), "-w", "-o", out, *(PROGRAMS / source for source in sources)]
+    return subprocess.run(words, capture_output=True).returncode == 0
+
+
+def readelf_entries(path):
+    """The entries of a file, as readelf lists them. A null has no tag."""
+    found = []
+    words = ("readelf", "--wide", "--debug-dump=info", path)
+    for line in run(*words, encoding="utf-8", errors="replace")[1].splitlines():
+        if it := re.match(r" *<(\d+)><([0-9a-f]+)>: Abbrev Number: \d+(?: \(DW_TAG_(\w+)\))?", line):
+            found.append(Entry(int(it[1]), int(it[2], 16), it[3], {}))
+        elif it := re.match(r" *<[0-9a-f]+> +DW_AT_(\w+) *: ?(.*)", line):
+            found[-1].attributes[it[1]] = BEFORE.sub("", it[2], count=1).strip()
+    return [it for it in found if it.tag]
+
+
+def made_part(page):
+    """The text of a page before, in and after the part that a script of bench/ makes."""
+    return re.fullmatch(r"(?s)(.*<!-- made by \S+ -->\n)(.*)(<!-- end -->\n.*)", page.read_text()).groups()
+
+
+def rewrite(page, lines):
+    """Puts lines in place of the part of a page that a script makes, and prints them."""
+    before, _, after = made_part(page)
+    text = "".join(f"{line}\n" for line in lines)
+    page.write_text(f"{before}\n{text}\n{after}")
+    print(text)
 
 
 def section(name, kind, start, size):

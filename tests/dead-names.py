@@ -5,12 +5,13 @@ A name is used if used text cites it. Always used are: what a library exports, t
 methods of traits, and all text outside of definitions. Comments, imports and edits cite nothing. It prints a
 line for each name that is not used, with its file and line, and ends with status 1 if there are any.
 """
-import pathlib
 import re
 import subprocess
 import sys
 
-TOP = pathlib.Path(__file__).resolve().parent.parent
+sys.dont_write_bytecode = True
+from common import TOP, tell
+
 IMPORT = re.compile(r"\buse ([\w«»+-]+(?:(?:\.|::)[\w«»+-]+)*)(?:(?:\.|::)\{([^}]*)\})?(?: as ([\w-]+))?")
 COMMENT = {".rt": re.compile(r"//.*"), ".antt": re.compile(r"(?m)(?:^|(?<=\s))--(?:\s.*)?$")}
 GROUP = re.compile(r" *(?:abbrev |pub )*(?:module|mutual)\b")
@@ -172,10 +173,8 @@ def mark_used(files):
 def main():
     files = read_files()
     mark_used(files)
-    unused = [(file, item) for file in files for item in file.items if not item.is_used]
-    for file, item in unused:
-        print(f"{file.path.relative_to(TOP)}:{item.line}: {item.name}")
-    return bool(unused)
+    return tell([f"{file.path.relative_to(TOP)}:{item.line}: {item.name}"
+                 for file in files for item in file.items if not item.is_used])
 
 
 sys.exit(main())

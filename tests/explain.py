@@ -6,13 +6,11 @@ dw_forms, and the entries that it reads with those that readelf lists. It prints
 'N passed, M failed'. What needs a tool that is not installed is skipped.
 """
 import json
-import pathlib
 import random
 import re
 import shutil
 import subprocess
 import sys
-import tempfile
 
 sys.dont_write_bytecode = True
 import common
@@ -42,10 +40,6 @@ FLAGS = [
 tally = common.Tally()
 
 
-def same(name, said, wanted):
-    tally.add(name, None if said == wanted else f"{said!r}, wanted {wanted!r}"[:1000])
-
-
 def page_rules():
     """The rules of the manual page, each with its sentence as text."""
     found = {}
@@ -58,12 +52,13 @@ def page_rules():
 
 def texts():
     table = [line.split(" | ") for line in explaining.RULES.read_text().splitlines() if not line.startswith("#")]
-    same("the rules are those of RULES.md", [row[0] for row in table], [" ".join(rule) for rule in sorted_rules()])
-    same("the rules say what the manual page says", {row[0]: row[1] for row in table}, page_rules())
+    rules = [" ".join(rule) for rule in sorted_rules()]
+    tally.same("the rules are those of RULES.md", [row[0] for row in table], rules)
+    tally.same("the rules say what the manual page says", {row[0]: row[1] for row in table}, page_rules())
     code = (TOP / "crates/dw_forms/src/constants.rt").read_text()
     found = re.findall(r"pub const DW_([A-Z]+)_(\w+): \w+ = \w+\((0x[0-9a-f]+)\)", code)
     odd = [word for kind, word, number in found if names.name(kind, int(number, 16)) != f"DW_{kind}_{word}"]
-    same("the names are those of dw_forms", (len(found) > 70, odd), (True, []))
+    tally.same("the names are those of dw_forms", (len(found) > 70, odd), (True, []))
 
 
 def sorted_rules():
@@ -79,7 +74,7 @@ def explained(path):
         if verdict.status != 1:
             return None if verdict.status == 0 else verdict.lines, verdict.what
         lines, fields = explaining.lines(verdict, path), json.loads(json.dumps(explaining.fields(verdict, path)))
-        wanted = subprocess.run([DWV, "check", "--json", path], capture_output=True, text=True).stdout
+        _, wanted, _ = common.run(DWV, "check", "--json", path)
         if lines[0] != verdict.lines[0]:
             return lines[0], verdict.what
         if {key: fields[key] for key in KEYS} != json.loads(wanted):
@@ -137,14 +132,8 @@ def entries(path):
 
 def listed(path):
     """The same as readelf lists it."""
-    words = ["readelf", "--wide", "--debug-dump=info", path]
-    found = []
-    for line in subprocess.run(words, capture_output=True, text=True, errors="replace").stdout.splitlines():
-        if it := re.match(r" *<[0-9a-f]+><([0-9a-f]+)>: Abbrev Number: \d+ \((\w+)\)", line):
-            found.append((int(it[1], 16), it[2], []))
-        elif it := re.match(r" *<[0-9a-f]+> +(DW_AT_\w+) *:", line):
-            found[-1][2].append(it[1])
-    return found
+    found = common.readelf_entries(path)
+    return [(it.at, f"DW_TAG_{it.tag}", [f"DW_AT_{name}" for name in it.attributes]) for it in found]
 
 
 def run(*words):
@@ -165,19 +154,18 @@ def compiled(folder):
     for command in ("gcc -gdwarf-5", "gcc -gdwarf-4", "clang -gdwarf-5", "clang -gdwarf-4"):
         path = compilers.compiled(folder, command, "shapes.c calls.c") if shutil.which(command.split()[0]) else None
         if path and shutil.which("readelf"):
-            same(f"{command}: entries as readelf lists them", list(entries(path)), listed(path))
+            tally.same(f"{command}: entries as readelf lists them", list(entries(path)), listed(path))
 
 
 def words(folder):
     """The words of the command line, and what is written where."""
     sound = "sound: 1 units, 2 entries, 1 types"
-    plain = common.CRATE / "data/X1"
-    same("a sound file", run(plain), (0, f"{sound}\n", ""))
-    status, text, _ = run("--json", plain)
-    same("a sound file, --json", (status, json.loads(text)["sound"]), (0, True))
-    status, text, errors = run(folder / "none")
-    same("no file", (status, text, errors), (3, "", f"explain: {folder / 'none'}: No such file or directory\n"))
-    same("no words", run()[:2], (2, ""))
+    tally.same("a sound file", run(common.SAMPLE), (0, f"{sound}\n", ""))
+    status, text, _ = run("--json", common.SAMPLE)
+    tally.same("a sound file, --json", (status, json.loads(text)["sound"]), (0, True))
+    absent = folder / "none"
+    tally.same("no file", run(absent), (3, "", f"explain: {absent}: No such file or directory\n"))
+    tally.same("no words", run()[:2], (2, ""))
     if shutil.which("objcopy"):
         packed = folder / "packed"
         program = compilers.compiled(folder, "gcc -g", compilers.C)
@@ -189,8 +177,7 @@ def words(folder):
 
 def main():
     common.build()
-    with tempfile.TemporaryDirectory() as name:
-        folder = pathlib.Path(name)
+    with common.empty_folder() as folder:
         for source, text in compilers.SOURCES.items():
             (folder / source).write_text(text)
         texts()

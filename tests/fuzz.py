@@ -14,7 +14,6 @@ in the folder of temporary files, with its name printed.
 """
 import collections
 import itertools
-import pathlib
 import random
 import re
 import shutil
@@ -25,7 +24,8 @@ import tempfile
 import time
 
 sys.dont_write_bytecode = True
-from common import DWV, PROGRAMS, TOP
+import common
+from common import DWV, TOP
 
 SLOW = TOP / "crates/slow_check/out/slow_check"
 # The sources of each program.
@@ -46,18 +46,12 @@ READ = ("E", "A", "U", "G")
 
 def built(folder, levels=("-O0",)):
     """Programs of the compilers that are installed, as bytes, compiled at these levels."""
-    programs = []
-    for compiler in ("gcc", "clang"):
-        if not shutil.which(compiler):
-            print(f"skipped: {compiler} is not installed")
-            continue
-        choices = itertools.product((5, 4), levels, ([], ["-fdebug-types-section"]), SOURCES)
-        for version, level, more, sources in choices:
-            out = folder / "program"
-            words = [compiler, f"-gdwarf-{version}", level, "-w", "-fPIC", "-shared", *more, "-o", out]
-            done = subprocess.run([*words, *(PROGRAMS / source for source in sources)], capture_output=True)
-            if done.returncode == 0:
-                programs.append(out.read_bytes())
+    programs, out = [], folder / "program"
+    compilers = filter(common.has, ("gcc", "clang"))
+    choices = itertools.product(compilers, (5, 4), levels, ("", "-fdebug-types-section"), SOURCES)
+    for compiler, version, level, more, sources in choices:
+        if common.compiled(out, f"{compiler} -gdwarf-{version} {level} -fPIC -shared {more}", *sources):
+            programs.append(out.read_bytes())
     return programs
 
 
@@ -108,10 +102,10 @@ def changed(program, chance):
 def ran(words, file, program=DWV):
     """The exit status and the text of a run of dwv, or the reason why there is none."""
     try:
-        run = subprocess.run([program, *words, file], capture_output=True, timeout=LIMIT, text=True)
+        status, text, errors = common.run(program, *words, file, timeout=LIMIT, text=True)
     except subprocess.TimeoutExpired:
         return None, f"no answer within {LIMIT} s"
-    return run.returncode, run.stdout if not run.stderr else run.stderr
+    return status, errors or text
 
 
 def judged(file):
@@ -154,8 +148,7 @@ def main():
     met = collections.Counter()
     wrong = []
     count = 0
-    with tempfile.TemporaryDirectory() as name:
-        folder = pathlib.Path(name)
+    with common.empty_folder() as folder:
         programs = built(folder)
         if not programs:
             print("0 files agreed, 0 did not")

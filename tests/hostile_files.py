@@ -8,16 +8,14 @@ far more bytes than the memory that it may have: it must say so, and write nothi
 within less memory. The script prints one line a run with the seconds it took, and ends with 'N passed, M failed'.
 """
 import os
-import pathlib
 import struct
 import subprocess
 import sys
-import tempfile
 import time
 
 sys.dont_write_bytecode = True
 import common
-from common import DWV, limited, linked, section, uleb, unit
+from common import DWV, linked, section, uleb, unit
 
 # Seconds that a run may take at most, far above what it takes, since other work may run beside it.
 LIMIT = 20
@@ -152,25 +150,27 @@ def wide_files():
                sections(table, b"\x0b" * MANY + targets), f"sound: 1 units, {2 * MANY + 2} entries, 1 types")
 
 
+def usual(info, strings=b""):
+    """The sections of these units, whose table is TABLE."""
+    return [(".debug_abbrev", TABLE), (".debug_info", info), (".debug_str", strings)]
+
+
 def files():
     """Each file: its name, its sections, and the beginning of the line that it must get."""
-    def sections(info, strings=b""):
-        return [(".debug_abbrev", TABLE), (".debug_info", info), (".debug_str", strings)]
-
-    yield f"{MANY:,} nested structures", sections(unit(deep())), f"sound: 1 units, {MANY + 1} entries, {MANY} types"
+    yield f"{MANY:,} nested structures", usual(unit(deep())), f"sound: 1 units, {MANY + 1} entries, {MANY} types"
 
     chain = b"\x01" + INT + typedefs(FIRST, MANY) + b"\0"
-    yield (f"a chain of {MANY:,} typedefs", sections(unit(chain)),
+    yield (f"a chain of {MANY:,} typedefs", usual(unit(chain)),
            f"sound: 1 units, {MANY + 2} entries, {MANY + 1} types")
 
     last = FIRST + len(INT) + 5 * (MANY - 1)
     ring = b"\x01" + INT + typedefs(last, MANY) + b"\0"
-    yield (f"a ring of {MANY:,} typedefs", sections(unit(ring)),
+    yield (f"a ring of {MANY:,} typedefs", usual(unit(ring)),
            f"fault C1 ContainsItself at .debug_info+0x{FIRST + len(INT):08x} ")
 
     text = b"a" * (4 << 20) + b"\0"
     names = b"\x01" + b"\x08\0\0\0\0" * 2 * MANY + b"\0"
-    yield (f"one string of 4 MB with {2 * MANY:,} names", sections(unit(names), text),
+    yield (f"one string of 4 MB with {2 * MANY:,} names", usual(unit(names), text),
            f"sound: 1 units, {2 * MANY + 1} entries, 0 types")
 
     for where, others, values, targets in (
@@ -184,24 +184,35 @@ def files():
                [(".debug_abbrev", table), (".debug_info", info)],
                f"sound: 1 units, {2 * MANY + targets + 1} entries, 0 types")
 
+    signed = b"".join(unit(b"\x09" + INT + b"\0", 2, struct.pack("<QI", n, 25)) for n in range(MANY))
+    users = unit(b"\x01" + b"".join(b"\x0a" + struct.pack("<Q", n) for n in range(MANY)) + b"\0")
+    yield (f"{MANY:,} type units and references to each", usual(signed + users),
+           f"sound: {MANY + 1} units, {3 * MANY + 1} entries, {MANY} types")
+
+    yield from large()
+    yield from tables()
+    yield from wide_files()
+    yield from apart()
+
+
+def large():
+    """Arrays of many elements and of many dimensions, and a structure of many members."""
     counts = b"".join(b"\x07" + struct.pack("<Q", n) for n in (1 << 40, 1 << 40, 0))
     array = b"\x01" + INT + b"\x06" + struct.pack("<I", FIRST) + counts + b"\0\0"
-    yield "an array of 2^40 by 2^40 by 0", sections(unit(array)), "sound: 1 units, 6 entries, 5 types"
+    yield "an array of 2^40 by 2^40 by 0", usual(unit(array)), "sound: 1 units, 6 entries, 5 types"
 
     ones = (b"\x07" + struct.pack("<Q", 1)) * MANY
     array = b"\x01" + INT + b"\x06" + struct.pack("<I", FIRST) + ones + b"\0\0"
-    yield (f"an array of {MANY:,} dimensions", sections(unit(array)),
+    yield (f"an array of {MANY:,} dimensions", usual(unit(array)),
            f"sound: 1 units, {MANY + 3} entries, {MANY + 2} types")
 
     member = b"\x05" + struct.pack("<I", FIRST)
     holder = b"\x01" + INT + b"\x04\x04" + member * MANY + b"\0\0"
-    yield f"a structure of {MANY:,} members", sections(unit(holder)), f"sound: 1 units, {MANY + 3} entries, 2 types"
+    yield f"a structure of {MANY:,} members", usual(unit(holder)), f"sound: 1 units, {MANY + 3} entries, 2 types"
 
-    signed = b"".join(unit(b"\x09" + INT + b"\0", 2, struct.pack("<QI", n, 25)) for n in range(MANY))
-    users = unit(b"\x01" + b"".join(b"\x0a" + struct.pack("<Q", n) for n in range(MANY)) + b"\0")
-    yield (f"{MANY:,} type units and references to each", sections(signed + users),
-           f"sound: {MANY + 1} units, {3 * MANY + 1} entries, {MANY} types")
 
+def tables():
+    """Units with overlapping tables, and a table whose codes fall."""
     # Each declaration begins a table of its own, whose tail is the table of the next one.
     codes = [uleb(n + 1) for n in range(TABLES)]
     starts = [0]
@@ -217,9 +228,6 @@ def files():
     yield (f"{DECLARATIONS:,} declarations of one table, their codes falling",
            [(".debug_abbrev", row), (".debug_info", unit(b"\x01"))],
            "sound: 1 units, 1 entries, 0 types")
-
-    yield from wide_files()
-    yield from apart()
 
 
 def apart():
@@ -452,6 +460,9 @@ def bodies():
         types.typedef(f"t{n}", other, f"struct {{ int x; }} t{n}")
     yield f"a structure of {MANY:,} children that are no members, and {MANY:,} typedefs of it", types
 
+
+def texts():
+    """Types whose text is long, or costly to find: the name of each file, and its types."""
     types = Types()
     long = types.structure([(f"m{n:04}", types.int) for n in range(5000)])
     text = "".join(f"int m{n:04}; " for n in range(5000))
@@ -519,58 +530,25 @@ def shared_names():
         yield name, elf(sections), "".join(f"/* 0x{FIRST + 5 * n:08x} {rule} */\n" for n, rule in enumerate(rules))
 
 
-def said(limit, *words):
-    """The status of a run under a limit, and both texts."""
-    ran = subprocess.run([DWV, *words], capture_output=True, text=True, timeout=LIMIT, preexec_fn=limit)
-    return ran.returncode, ran.stdout, ran.stderr
+def asking(command, *words, **limits):
+    """What asks `dwv` of a file within these limits, and returns both texts and the status."""
+    def ask(path):
+        status, text, errors = common.run(DWV, command, path, *words, timeout=LIMIT, text=True, **limits)
+        return f"{text}{errors}status {status}\n"
 
-
-def checked(path, limit=None):
-    """What `check` of a file says."""
-    return "".join(said(limit, "check", path)[1:])
-
-
-def checked_within(seconds):
-    """The same with limits of memory and of processor time."""
-    return lambda path: checked(path, limited(SOON_MEMORY, seconds))
+    return ask
 
 
 def kept_within(memory):
-    """What `check` says of a file, or the bytes of memory that it had, if it had more than these."""
-    def kept_there(path):
+    """What returns what `check` says of a file, or the bytes of memory that it had, if it had more than these."""
+    def ask(path):
         with subprocess.Popen([DWV, "check", path], stdout=subprocess.PIPE, text=True) as run:
             text = run.stdout.read()
             _, run.returncode, used = os.wait4(run.pid, 0)
         had = used.ru_maxrss << 10
         return text if had <= memory else f"{had} bytes of memory\n"
 
-    return kept_there
-
-
-def shown(path):
-    """How `show` of a file ends under a limit of memory: the status, the bytes written, the line on standard error."""
-    status, text, errors = said(limited(MEMORY), "show", path)
-    return f"status {status}, {len(text)} bytes written, {errors}"
-
-
-def typed(path, limit=limited(TYPES_MEMORY)):
-    """What `types` of a file prints, and its status."""
-    status, text, errors = said(limit, "types", path)
-    return f"{text}{errors}status {status}\n"
-
-
-def typed_soon(path):
-    """The same with a limit of processor time."""
-    return typed(path, limited(TYPES_MEMORY, TYPEDEFS_TIME))
-
-
-def sized(at):
-    """What `size` says of the type at an offset of a file."""
-    def sized_there(path):
-        ran = subprocess.run([DWV, "size", path, f"0x{at:x}"], capture_output=True, text=True, timeout=LIMIT)
-        return f"{ran.stdout}{ran.stderr}"
-
-    return sized_there
+    return ask
 
 
 def ends():
@@ -597,45 +575,43 @@ def nested():
     return elf([(".debug_abbrev", TABLE), (".debug_info", info)]), "".join(lines)
 
 
-def shown_whole(path):
-    """What `show` of a file prints, and its status."""
-    ran = subprocess.run([DWV, "show", path], capture_output=True, text=True, timeout=LIMIT)
-    return f"{ran.stdout}{ran.stderr}status {ran.returncode}\n"
-
-
 def runs():
     """Each run: its name, the file, what asks it, and the beginning of what it must say."""
+    check, check_soon = asking("check"), asking("check", memory=SOON_MEMORY, seconds=SOON_TIME)
+    types = asking("types", memory=TYPES_MEMORY)
+    types_soon = asking("types", memory=TYPES_MEMORY, seconds=TYPEDEFS_TIME)
     for name, sections, want in files():
-        yield name, elf(sections), checked, want
+        yield name, elf(sections), check, want
     for some in (inside(), flagged(), tiny()):
         for name, sections, want in some:
-            yield name, elf(sections), checked_within(SOON_TIME), want
+            yield name, elf(sections), check_soon, want
     for name, sections, memory in coded():
         yield name, elf(sections), kept_within(memory), "sound: 1 units, 1 entries, 0 types"
     count = SIGNED * DECLARED
     yield (f"{SIGNED:,} type units and {count:,} declared structures", elf(signed()),
-           checked_within(SIGNED_TIME),
+           asking("check", memory=SOON_MEMORY, seconds=SIGNED_TIME),
            f"sound: {SIGNED + 1} units, {2 * SIGNED + count + 1} entries, {SIGNED + count} types")
-    for some in (chains(), bodies()):
-        for name, types in some:
-            yield f"types of {name}", types.file(), typed, f"{types.text()}status 0\n"
+    for some in (chains(), bodies(), texts()):
+        for name, made in some:
+            yield f"types of {name}", made.file(), types, f"{made.text()}status 0\n"
     file, want = collisions()
-    yield f"types of {COLLISIONS:,} typedefs whose numbers collide", file, typed_soon, f"{want}status 0\n"
+    yield f"types of {COLLISIONS:,} typedefs whose numbers collide", file, types_soon, f"{want}status 0\n"
     for name, file, want in shared_names():
-        yield f"types of {name}", file, typed_soon, f"{want}status 0\n"
-    for name, types, at, size in ends():
-        yield f"size of the last in {name}", types.file(), sized(at), f"size {size}\n"
+        yield f"types of {name}", file, types_soon, f"{want}status 0\n"
+    for name, made, at, size in ends():
+        yield f"size of the last in {name}", made.file(), asking("size", f"0x{at:x}"), f"size {size}\n"
     file, want = nested()
-    yield f"show of {NESTED:,} nested structures, each line", file, shown_whole, f"{want}status 0\n"
+    yield f"show of {NESTED:,} nested structures, each line", file, asking("show"), f"{want}status 0\n"
     tree = [(".debug_abbrev", TABLE), (".debug_info", unit(deep()))]
-    yield f"show of {MANY:,} nested structures", elf(tree), shown, "status 4, 0 bytes written, dwv: out of memory\n"
-    yield f"{SECTIONS:,} sections with one name of 16 MB", alike(), checked, "sound: 0 units, 0 entries, 0 types"
+    yield (f"show of {MANY:,} nested structures", elf(tree), asking("show", memory=MEMORY),
+           "dwv: out of memory\nstatus 4\n")
+    yield f"{SECTIONS:,} sections with one name of 16 MB", alike(), check, "sound: 0 units, 0 entries, 0 types"
 
 
 def main():
     tally = common.Tally()
-    with tempfile.TemporaryDirectory() as folder:
-        path = pathlib.Path(folder) / "file"
+    with common.empty_folder() as folder:
+        path = folder / "file"
         for name, file, ask, want in runs():
             path.write_bytes(file)
             before = time.monotonic()

@@ -5,11 +5,12 @@ In a section that is named after a crate, words with a capital letter are files 
 of another one that the cell names; words in backticks are names of the code or of these files; and words with an
 underscore in the last column of PROOFS.md are edits.
 """
-import pathlib
 import re
 import sys
 
-TOP = pathlib.Path(__file__).resolve().parent.parent
+sys.dont_write_bytecode = True
+from common import TOP, tell
+
 CRATES = [path.name for path in (TOP / "crates").iterdir()]
 FILES = {crate: {path.stem for path in TOP.glob(f"crates/{crate}/*/*.antt")} for crate in CRATES}
 EDITS = {path.stem for path in TOP.glob("crates/*/*/*.edit")}
@@ -35,5 +36,4 @@ for page in ("docs/DEFINITIONS.md", "docs/PROOFS.md"):
             crate = next((it for it in line.split() if it in CRATES), None)
         elif crate and line.startswith("| ") and not line.startswith(("| Term ", "| Fact ")):
             found += [f"{page}:{number}: not there: {name}" for name in sorted(missing(crate, line[2:-2].split(" | ")))]
-print("".join(f"{it}\n" for it in found), end="")
-sys.exit(bool(found))
+sys.exit(tell(found))

@@ -6,11 +6,12 @@ chapter after those that it uses, except that Headline comes first. Each definit
 constants DW_*. The table of docs/ARCHITECTURE.md has the chapters. The script prints a line for each place where this
 fails, and ends with status 1 if there is one.
 """
-import pathlib
 import re
 import sys
 
-TOP = pathlib.Path(__file__).resolve().parent.parent
+sys.dont_write_bytecode = True
+from common import TOP, tell
+
 TITLES = {"-- Chapters, in reading order.": "Chapter", "-- Laws.": "Laws", "-- State.": "State"}
 DEFINITION = re.compile(r"(?:pub )?(?:data|record|abbrev|unfoldable) ")
 CONSTANT = re.compile(r"abbrev pub DW_\w+ : ")
@@ -59,9 +60,7 @@ def main():
         chapters = [name for name, kind in kinds.items() if kind == "Chapter"]
         if chapters and f"| `{crate}` | {', '.join(chapters)} |" not in architecture:
             found.append(f"docs/ARCHITECTURE.md: the row of {crate} must have the chapters {', '.join(chapters)}")
-    print("".join(f"{it}\n" for it in found), end="")
-    return 1 if found else 0
+    return tell(found)
 
 
-if __name__ == "__main__":
-    sys.exit(main())
+sys.exit(main())

@@ -7,15 +7,13 @@ is skipped.
 """
 import os
 import pathlib
-import shutil
 import subprocess
 import sys
-import tempfile
 
 sys.dont_write_bytecode = True
 import common
 import rows
-from common import DWV, HERE, PROGRAMS
+from common import DWV, HERE
 
 # .debug_abbrev and .debug_info of small files, by the parts of tests/rows/parts.txt.
 FILES = {
@@ -36,8 +34,8 @@ def ran(words, library, folder, refused, last):
     count = folder / "requests"
     count.unlink(missing_ok=True)
     environment = dict(os.environ, LD_PRELOAD=str(library), REFUSED=str(refused), LAST=str(last), REQUESTS=str(count))
-    run = subprocess.run([DWV, *words], capture_output=True, env=environment, timeout=60)
-    return (run.returncode, run.stdout, run.stderr), int(count.read_text()) if count.exists() else 0
+    said = common.run(DWV, *words, env=environment)
+    return said, int(count.read_text()) if count.exists() else 0
 
 
 def tried(words, library, folder):
@@ -56,18 +54,14 @@ def tried(words, library, folder):
 
 
 def main():
-    if not shutil.which("gcc"):
-        print("skipped: gcc is not installed\n0 passed, 0 failed")
-        return 0
     tally = common.Tally()
-    with tempfile.TemporaryDirectory() as name:
-        folder = pathlib.Path(name)
-        library = folder / "refusing-malloc.so"
+    if not common.has("gcc"):
+        return tally.end()
+    with common.empty_folder() as folder:
+        library, program = folder / "refusing-malloc.so", folder / "program"
         source = HERE / "refusing-malloc.c"
         subprocess.run(["gcc", "-O1", "-shared", "-fPIC", "-o", library, source, "-ldl"], check=True)
-        program = folder / "program"
-        sources = [PROGRAMS / "shapes.c", PROGRAMS / "calls.c"]
-        subprocess.run(["gcc", "-gdwarf-5", "-O0", "-w", "-o", program, *sources], check=True)
+        common.compiled(program, "gcc -gdwarf-5 -O0", "shapes.c", "calls.c")
         for words in commands([*small(folder), program]):
             requests, ended, wrong = tried(words, library, folder)
             line = " ".join(pathlib.Path(word).name for word in words)

@@ -5,12 +5,9 @@ A part gives bytes a name. A row has the sections of a file, and below them the 
 and, after a bar each, the lines of standard output. Standard error must be empty. docs/TESTING.md says how rows are
 written. It prints one line a row and ends with 'N passed, M failed'.
 """
-import pathlib
 import re
 import struct
-import subprocess
 import sys
-import tempfile
 
 sys.dont_write_bytecode = True
 import common
@@ -166,21 +163,25 @@ def wrong(row, parts, path):
         path.write_bytes(file)
         for (command, *words), status, lines in row.asked:
             runs += 1
-            ran = subprocess.run([DWV, command, path, *words], capture_output=True, timeout=60)
-            want = (status, "".join(f"{filled(line, case)}\n" for line in lines).encode(), b"")
-            if (ran.returncode, ran.stdout, ran.stderr) != want:
+            said = common.run(DWV, command, path, *words)
+            if said != (status, "".join(f"{filled(line, case)}\n" for line in lines).encode(), b""):
                 asked = " ".join([command, *words, *(f"({text})" for text in case)])
-                return runs, f"{asked}: {ran.returncode} {ran.stdout} {ran.stderr}"
+                return runs, f"{asked}: {' '.join(map(str, said))}"
     return runs, None if runs else "nothing is asked"
 
 
-def run(tally, table, row, parts, path):
-    """Runs a row, and counts it."""
-    try:
-        runs, why = wrong(row, parts, path)
-    except (ValueError, KeyError, IndexError) as error:
-        runs, why = 0, f"the file cannot be made: {error!r}"
-    tally.add(f"{table}: {row.name}", why, f"{runs} runs")
+def tried(rows):
+    """A count of the rows, each with the name of its table and its parts, after all their runs."""
+    tally = common.Tally()
+    common.build()
+    with common.empty_folder() as folder:
+        for table, row, parts in rows:
+            try:
+                runs, why = wrong(row, parts, folder / "file")
+            except (ValueError, KeyError, IndexError) as error:
+                runs, why = 0, f"the file cannot be made: {error!r}"
+            tally.add(f"{table}: {row.name}", why, f"{runs} runs")
+    return tally
 
 
 def all_rows():
@@ -192,14 +193,5 @@ def all_rows():
             yield table.stem, row, own
 
 
-def main():
-    tally = common.Tally()
-    common.build()
-    with tempfile.TemporaryDirectory() as folder:
-        for table, row, parts in all_rows():
-            run(tally, table, row, parts, pathlib.Path(folder) / "file")
-    return tally.end()
-
-
 if __name__ == "__main__":
-    sys.exit(main())
+    sys.exit(tried(all_rows()).end())

@@ -13,9 +13,9 @@ import collections
 import pathlib
 import random
 import sys
-import tempfile
 
 sys.dont_write_bytecode = True
+import common
 import examples
 import fuzz
 import hostile_files
@@ -51,8 +51,7 @@ def main():
     seed = int(sys.argv[4]) if len(sys.argv) > 4 else random.randrange(2**32)
     print(f"{old} and {new}, seed {seed}")
     sources, met, same, different, first = collections.Counter(), collections.Counter(), 0, 0, None
-    with tempfile.TemporaryDirectory() as name:
-        folder = pathlib.Path(name)
+    with common.empty_folder() as folder:
         path = folder / "file"
         for source, file, commands in asked(folder, count, random.Random(seed)):
             path.write_bytes(file)

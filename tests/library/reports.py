@@ -4,14 +4,11 @@ DWV_LIBRARY=out/lib/libdwv.so.0 PYTHONPATH=contrib/python:tests tests/library/re
 the same, and each that is not, and ends with status 1 if there is one.
 """
 import json
-import pathlib
-import subprocess
 import sys
-import tempfile
 
+import common
 import dwv
 import examples
-import rows
 
 COMMANDS = {
     dwv.CHECK: ["check"],
@@ -38,23 +35,23 @@ def requests(number, size):
 
 def main():
     same = different = 0
-    with tempfile.TemporaryDirectory() as name:
-        path = pathlib.Path(name) / "file"
+    with common.empty_folder() as folder:
+        path = folder / "file"
         for number, (file, _) in enumerate(examples.files()):
             path.write_bytes(file)
             for request in requests(number, len(file)):
                 command, *words = COMMANDS[request]
                 words += ["0x0f"] if command == "size" else []
-                ran = subprocess.run([rows.DWV, command, path, *words], capture_output=True, timeout=60)
+                said = common.run(common.DWV, command, path, *words)
                 answer = dwv.report(file, request, 0x0F)
-                is_same = answer == (ran.returncode, ran.stdout) and not ran.stderr
+                is_same = (*answer, b"") == said
                 if request == dwv.CHECK_JSON:
-                    printed = json.loads(ran.stdout)
+                    printed = json.loads(said[1])
                     printed.pop("cycle", None)
                     is_same = is_same and object_of(dwv.check(file)) == printed
                 same, different = same + is_same, different + (not is_same)
                 if not is_same:
-                    print(f"{command}: {answer} is not {ran}")
+                    print(f"{command}: {answer} is not {said}")
     print(f"{same} answers are the same, {different} are not")
     return 1 if different or not same else 0
 
