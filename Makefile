@@ -41,12 +41,12 @@ test:
 	RT_JOBS=$(checks) tests/prove.py
 	tests/rows.py
 	tests/examples.py
-	tests/real-programs.sh
+	tests/real-programs.py
 	tests/hostile_files.py
 	tests/refused-growths.py
 	tests/endings.sh
-	tests/install.sh
-	tests/check-tree.sh
+	tests/install.py
+	tests/check-tree.py
 	tests/explain.py
 	tests/c-header.py
 	tests/library.sh
