@@ -44,7 +44,7 @@ test:
 	tests/real-programs.py
 	tests/hostile_files.py
 	tests/refused-growths.py
-	tests/endings.sh
+	tests/endings.py
 	tests/install.py
 	tests/check-tree.py
 	tests/explain.py
