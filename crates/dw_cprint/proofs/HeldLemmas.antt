@@ -5,8 +5,8 @@ use Rattle.std.proofs.lemmas.List.Elements.{Contains-get_or}
 use Rattle.dw_image.specs.declared.image.Image.{Image}
 use Rattle.dw_image.specs.Images.{steps_in}
 use Rattle.dw_types.specs.Graphs.{Graph}
-use Rattle.dw_cprint.specs.Cycles.{Leads, HoldsByValue}
-use Rattle.dw_cprint.specs.Listings.{IsListing}
+use Rattle.dw_types.specs.Cycles.{Leads}
+use Rattle.dw_cprint.specs.Listings.{HoldsByValue, IsListing}
 use Rattle.dw_cprint.specs.LongestRows.{HasRow}
 use Rattle.dw_cprint.specs.Refusals.{PrintFault}
 

@@ -1,4 +1,3 @@
-pub mod ClearingLemmas
 pub mod CheckedLemmas
 pub mod DeclaratorLemmas
 pub mod DeclaredLemmas

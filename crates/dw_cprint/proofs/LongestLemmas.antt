@@ -1,13 +1,26 @@
 -- The longest rows, found in an order in which each node comes after those that its steps lead to.
-use Rattle.std.proofs.Common.{◌≡◌, ◌≢◌, ℕ, zero, suc, ◌+◌, ◌<◌, ◌≤◌, List, length, get_or, set, inl, inr, arith, refl, sym, ◌∙◌, subst, get_or-set_same, get_or-set_other}
-use Rattle.std.proofs.lemmas.Bool.{cases_lt}
+use Rattle.std.proofs.Common.{◌≡◌, ◌≢◌, ℕ, zero, suc, ◌+◌, ◌<◌, ◌≤◌, List, [], ◌∷◌, length, get_or, set, inl, inr, arith, refl, sym, ◌∙◌, subst, get_or-set_same, get_or-set_other}
+use Rattle.std.proofs.lemmas.Bool.{cases_eq, cases_lt}
 use Rattle.std.proofs.lemmas.List.{get_or_default}
-use Rattle.std.specs.Prelude.{◌⊎◌}
-use Rattle.dw_types.specs.Graphs.{Graph, LeadsToNodes, steps_of, step_at}
-use Rattle.dw_types.specs.Orders.{IsOrderOf, Ranking}
-use Rattle.dw_cprint.specs.Cycles.{AreClear, Leads, IsOnCycle, ReachesCycle}
+use Rattle.std.specs.Prelude.{◌⊎◌, Contains}
+use Rattle.dw_types.specs.Cycles.{AreClear, Leads, IsOnCycle, ReachesCycle}
+use Rattle.dw_types.specs.Graphs.{Graph, steps_of, step_at}
 use Rattle.dw_cprint.specs.LongestRows.{HasRow, IsLongest, AreLongest, IsAbove}
-use Rattle.dw_cprint.proofs.ClearingLemmas.{same_or_not}
+
+-- a list has a number or not
+pub has-or-not : (xs : List ℕ) (x : ℕ) → Contains xs x ⊎ (Contains xs x → ⊥)
+has-or-not [] x = inr (λ (k, w, e). absurd (omega arith))
+has-or-not (y ∷ xs) x = elim (cases_eq y x) [
+  | inl same ↦ inl (0, (omega arith), same)
+  | inr other ↦ elim (has-or-not xs x) [
+    | inl (k, w, e) ↦ inl (suc k, (omega arith), e)
+    | inr none ↦ inr (not-there other none)
+  ]
+]
+  where
+    not-there : (y ≡ x → ⊥) → (Contains xs x → ⊥) → Contains (y ∷ xs) x → ⊥
+    not-there other none (zero, w, e) = other e
+    not-there other none (suc k, w, e) = none (k, (omega arith), e)
 
 -- a node by the nodes that its steps lead to
 module _ (graph : Graph) (counts : List ℕ) (node : ℕ) where
@@ -54,7 +67,7 @@ module _ (graph : Graph) (clear : List ℕ) (h : AreClear graph clear) (counts :
 
   pub known-more : (count : ℕ) → length counts ≡ length graph → place < length clear → KnownUpTo graph clear counts place
       → IsAbove graph counts (get_or clear place 0) count → KnownUpTo graph clear (set counts (get_or clear place 0) count) (place + 1)
-  known-more count long below known above k within = elim (same_or_not (get_or clear k 0) node) [
+  known-more count long below known above k within = elim (cases_eq (get_or clear k 0) node) [
     | inl same ↦
         let Q : ℕ → Type 0 = λ n. IsLongest graph n (get_or (set counts node count) n 0) × (get_or (set counts node count) n 0 ≤ k) in
         let P : ℕ → Type 0 = λ n. IsLongest graph node n × (n ≤ k) in
@@ -94,29 +107,6 @@ module _ (graph : Graph) (clear : List ℕ) (h : AreClear graph clear) (counts :
       let same : get_or clear k 0 ≡ node = get_or_default clear k 0 node w ∙ e in
       let P : ℕ → Type 0 = λ n. IsLongest graph n (get_or counts n 0) in
       subst P same (known k (omega arith)).0
-
--- ---- an order
-
--- the nodes by rank, each after those that its steps lead to
-pub ranked-clear : (graph : Graph) (order : Ranking) → LeadsToNodes graph → IsOrderOf graph order → AreClear graph order.by_rank
-ranked-clear graph order leads h = record {
-  within = λ place w. (h.ranked place w).0;
-  ordered =
-      λ place k w below.
-      (let node = get_or order.by_rank place 0 in
-      let there = h.listed (step_at graph node k) (leads node k below) in
-      (get_or order.ranks (step_at graph node k) 0, omega (arith, h.falls node k below, (h.ranked place w).1), there.1));
-  others =
-      λ node w missing.
-      (let there = h.listed node w in
-      absurd (missing (get_or order.ranks node 0, there.0, sym (get_or_default order.by_rank (get_or order.ranks node 0) 0 node there.0) ∙ there.1)));
-}
-
--- so the longest rows of the nodes by rank are those of all nodes
-pub ranked-longest : (graph : Graph) (order : Ranking) (counts : ℕ → ℕ) → IsOrderOf graph order → AreLongest graph order.by_rank counts → (node : ℕ) → node < length graph → IsLongest graph node (counts node)
-ranked-longest graph order counts h longest node w =
-    let there = h.listed node w in
-    longest node (get_or order.ranks node 0, there.0, sym (get_or_default order.by_rank (get_or order.ranks node 0) 0 node there.0) ∙ there.1)
 
 -- ---- rows and cycles
 

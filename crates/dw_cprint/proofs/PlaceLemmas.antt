@@ -76,6 +76,14 @@ entry-among (Some x ∷ types) (suc i) entry w e =
 
 -- ONE ENTRY
 
+pub finds-none : (places found : List ℕ) → ArePlaces places found → FindsAll [] places places found found []
+finds-none places found placed = record {
+  placed = placed;
+  len = refl;
+  grows = record { longer = omega arith; keeps = λ k w. refl; adds = λ k low high. absurd (omega arith) };
+  is_row = record { leads = refl; below = λ k w. absurd (omega arith) };
+}
+
 pub finds-new : (places found : List ℕ) (entry : ℕ) → ArePlaces places found → entry < length places
     → ((k : ℕ) → k < length found → get_or found k 0 ≢ entry)
     → FindsAll (entry ∷ []) places (set places entry (length found)) found (found ++ entry ∷ []) (length found ∷ [])

@@ -1,6 +1,5 @@
 -- Finding what is reached: the loop over the entries that are found.
-use Rattle.std.proofs.Common.{◌≡◌, ◌≢◌, ℕ, zero, suc, ◌+◌, ◌-◌, ◌<◌, ◌≤◌, true, false, List, [], ◌∷◌, ◌++◌, Vec, refl, sym, ◌∙◌, ap, subst, inl, inr, length, get_or, arith, length-append, append_assoc, map, take, drop, Option}
-use Rattle.std.specs.Global.{Global}
+use Rattle.std.proofs.Common.{◌≡◌, ◌≢◌, ℕ, zero, suc, ◌+◌, ◌-◌, ◌<◌, ◌≤◌, true, false, List, [], ◌∷◌, ◌++◌, refl, sym, ◌∙◌, ap, subst, inl, inr, length, get_or, arith, length-append, append_assoc, map, take, drop, Option}
 use Rattle.std.specs.Prelude.{Contains}
 use Rattle.std.proofs.lemmas.Bool.{cases_lt}
 use Rattle.std.proofs.lemmas.Map.Steps.{length-le_from_distinct_below}
@@ -12,47 +11,31 @@ use Rattle.dw_cprint.proofs.PlaceLemmas.{row-grows, found-in-row, entries-append
 use Rattle.dw_cprint.specs.Shapes.{ShapeOf, view_subject}
 use Rattle.dw_cprint.specs.Steps.{entries_of, roots_of, types_declared, steps_reached, IsReachedFrom, root, further}
 use Rattle.dw_cprint.specs.declared.shape.Subject.{Subject}
-use Rattle.std.proofs.lemmas.List.{get_or_default}
-use Rattle.std.proofs.Math.ListN.{get_or-eq_default}
-use Rattle.dw_types.specs.Graphs.{LeadsToNodes}
-use Rattle.dw_cprint.specs.Reach.{Grows, ArePlaces, IsRow, FindsAll, IsReachOf, items_of}
+use Rattle.std.proofs.lemmas.List.{get_or_default, get_or_append_left, get_or-append_right, get_or_push}
+use Rattle.dw_types.specs.Graphs.{Graph, steps_of}
+use Rattle.dw_types.specs.Packing.{cut, LeadsBelow}
+use Rattle.dw_types.specs.PackingLaws.{cut-more}
+use Rattle.dw_types.proofs.PackingLemmas.{AreEnds, ends-more}
+use Rattle.dw_cprint.specs.Reach.{Grows, ArePlaces, IsRow, FindsAll, IsReachOf}
 
 -- the rows of the first entries that are found are made, and their shapes are read
-pub record IsSoFar (shapes : ℕ → ShapeOf) (roots places found : List ℕ) (rows : List (Vec ℕ Global)) (read : List ShapeOf) : Type 0 where
+pub record IsSoFar (shapes : ℕ → ShapeOf) (roots places found : List ℕ) (rows : Graph) (read : List ShapeOf) : Type 0 where
   pub placed : ArePlaces places found
   pub made : length rows ≤ length found
   pub shapes_are : read ≡ map shapes (take (length rows) found)
-  pub rows_are : (node : ℕ) → node < length rows → IsRow found (steps_reached shapes (get_or found node 0)) (get_or (items_of rows) node [])
+  pub rows_are : (node : ℕ) → node < length rows → IsRow found (steps_reached shapes (get_or found node 0)) (steps_of rows node)
   pub roots_found : (to : ℕ) → Contains roots to → Contains found to
   pub reached : (node : ℕ) → node < length found → IsReachedFrom shapes roots (get_or found node 0)
 
--- a row behind the others
-row-last : (rows : List (Vec ℕ Global)) (r : Vec ℕ Global) (node : ℕ) → node ≡ length rows → get_or (items_of (rows ++ r ∷ [])) node [] ≡ r.items
-row-last [] r node e = rw e refl
-row-last (x ∷ rows) r zero e = absurd (omega arith)
-row-last (x ∷ rows) r (suc node) e = row-last rows r node (omega arith)
-
-row-before : (rows : List (Vec ℕ Global)) (r : Vec ℕ Global) (node : ℕ) → node < length rows → get_or (items_of (rows ++ r ∷ [])) node [] ≡ get_or (items_of rows) node []
-row-before [] r node w = absurd (omega arith)
-row-before (x ∷ rows) r zero w = refl
-row-before (x ∷ rows) r (suc node) w = row-before rows r node (omega arith)
-
-length-items : (rows : List (Vec ℕ Global)) → length (items_of rows) ≡ length rows
-length-items [] = refl
-length-items (x ∷ rows) = ap suc (length-items rows)
-
-pub so_far-start : (shapes : ℕ → ShapeOf) (roots places places' found : List ℕ) (rows : List (Vec ℕ Global)) (read : List ShapeOf) (row : List ℕ) → rows ≡ [] → read ≡ []
-    → FindsAll roots places places' [] found row → IsSoFar shapes roots places' found rows read
-so_far-start shapes roots places places' found rows read row none unread f =
-    let P : List (Vec ℕ Global) → Type 0 = λ rs. IsSoFar shapes roots places' found rs read in
-    subst P (sym none) (record {
-      placed = f.placed;
-      made = omega arith;
-      shapes_are = unread;
-      rows_are = λ node w. absurd (omega arith);
-      roots_found = found-in-row found roots row f.is_row;
-      reached = λ node w. root (f.grows.adds node (omega arith) w);
-    })
+pub so_far-start : (shapes : ℕ → ShapeOf) (roots places places' found : List ℕ) (row : List ℕ) → FindsAll roots places places' [] found row → IsSoFar shapes roots places' found [] []
+so_far-start shapes roots places places' found row f = record {
+  placed = f.placed;
+  made = omega arith;
+  shapes_are = refl;
+  rows_are = λ node w. absurd (omega arith);
+  roots_found = found-in-row found roots row f.is_row;
+  reached = λ node w. root (f.grows.adds node (omega arith) w);
+}
 
 keeps-found : (steps old new : List ℕ) (to : ℕ) → Grows steps old new → Contains old to → Contains new to
 keeps-found steps old new to g (k, w, e) = (let l = g.longer in (k, (omega arith), get_or_default new k to 0 (omega arith) ∙ (g.keeps k w ∙ (get_or_default old k 0 to w ∙ e))))
@@ -65,46 +48,48 @@ take-grows (suc n) old new below long keeps =
     let P : ℕ → Type 0 = λ m. take m new ≡ take m old in
     subst P e (take_more_same new old n 0 (omega arith) (omega arith) (take-grows n old new (omega arith) long keeps) (keeps n (omega arith)))
 
-pub so_far-more : (shapes : ℕ → ShapeOf) (roots places places' found found' : List ℕ) (rows rows' : List (Vec ℕ Global)) (read read' : List ShapeOf) (r : Vec ℕ Global) → rows' ≡ rows ++ r ∷ []
-    → read' ≡ read ++ shapes (get_or found (length rows) 0) ∷ []
+pub so_far-more : (shapes : ℕ → ShapeOf) (roots places places' found found' : List ℕ) (rows : Graph) (read : List ShapeOf) (r : List ℕ)
     → IsSoFar shapes roots places found rows read → length rows < length found
-    → FindsAll (steps_reached shapes (get_or found (length rows) 0)) places places' found found' r.items
-    → IsSoFar shapes roots places' found' rows' read'
-so_far-more shapes roots places places' found found' rows rows' read read' r same seen s more f = let P : List (Vec ℕ Global) → Type 0 = λ rs. IsSoFar shapes roots places' found' rs read' in subst P (sym same) (record {
+    → FindsAll (steps_reached shapes (get_or found (length rows) 0)) places places' found found' r
+    → IsSoFar shapes roots places' found' (rows ++ r ∷ []) (read ++ shapes (get_or found (length rows) 0) ∷ [])
+so_far-more shapes roots places places' found found' rows read r s more f = record {
   placed = f.placed;
   made = (let long = f.grows.longer in omega (arith, length-append rows (r ∷ [])));
   shapes_are = shapes_are;
   rows_are = rows_are;
   roots_found = λ to has. keeps-found (steps_reached shapes (get_or found (length rows) 0)) found found' to f.grows (s.roots_found to has);
   reached = reached;
-})
+}
   where
-    shapes_are : read' ≡ map shapes (take (length (rows ++ r ∷ [])) found')
+    seen : List ShapeOf
+    seen = read ++ shapes (get_or found (length rows) 0) ∷ []
+
+    shapes_are : seen ≡ map shapes (take (length (rows ++ r ∷ [])) found')
     shapes_are =
         let n = length rows in
         let long : n + 1 ≡ length (rows ++ r ∷ []) = omega (arith, length-append rows (r ∷ [])) in
-        let P : ℕ → Type 0 = λ m. read' ≡ map shapes (take m found') in
+        let P : ℕ → Type 0 = λ m. seen ≡ map shapes (take m found') in
         let front : take (n + 1) found' ≡ take n found ++ get_or found n 0 ∷ [] =
         take-grows (n + 1) found found' (omega arith) f.grows.longer f.grows.keeps ∙ take_more found n 0 more in
-        let all : map shapes (take (n + 1) found') ≡ read ++ shapes (get_or found n 0) ∷ [] =
+        let all : map shapes (take (n + 1) found') ≡ seen =
         ap (map shapes) front ∙ map-append shapes (take n found) (get_or found n 0 ∷ []) ∙ ap (λ (xs : List ShapeOf). xs ++ shapes (get_or found n 0) ∷ []) (sym s.shapes_are) in
-        subst P long (seen ∙ sym all)
+        subst P long (sym all)
 
     moved : (node : ℕ) → node < length found → (row : List ℕ) → IsRow found' (steps_reached shapes (get_or found node 0)) row → IsRow found' (steps_reached shapes (get_or found' node 0)) row
     moved node w row i = let P : ℕ → Type 0 = λ x. IsRow found' (steps_reached shapes x) row in subst P (sym (f.grows.keeps node w)) i
 
-    rows_are : (node : ℕ) → node < length (rows ++ r ∷ []) → IsRow found' (steps_reached shapes (get_or found' node 0)) (get_or (items_of (rows ++ r ∷ [])) node [])
+    rows_are : (node : ℕ) → node < length (rows ++ r ∷ []) → IsRow found' (steps_reached shapes (get_or found' node 0)) (steps_of (rows ++ r ∷ []) node)
     rows_are node w =
         let Goal : List ℕ → Type 0 = λ row. IsRow found' (steps_reached shapes (get_or found' node 0)) row in
         elim (cases_lt node (length rows)) [
           | inl before ↦
-              subst Goal (sym (row-before rows r node before))
-              (moved node (omega arith) (get_or (items_of rows) node [])
-              (row-grows (steps_reached shapes (get_or found node 0)) (steps_reached shapes (get_or found (length rows) 0)) found found' (get_or (items_of rows) node []) f.grows (s.rows_are node before)))
+              subst Goal (sym (get_or_append_left rows (r ∷ []) [] node before))
+              (moved node (omega arith) (steps_of rows node)
+              (row-grows (steps_reached shapes (get_or found node 0)) (steps_reached shapes (get_or found (length rows) 0)) found found' (steps_of rows node) f.grows (s.rows_are node before)))
           | inr after ↦
               let e : node ≡ length rows = omega (arith, length-append rows (r ∷ [])) in
-              let P : ℕ → Type 0 = λ n. IsRow found' (steps_reached shapes (get_or found n 0)) r.items in
-              subst Goal (sym (row-last rows r node e)) (moved node (omega arith) r.items (subst P (sym e) f.is_row))
+              let P : ℕ → Type 0 = λ n. IsRow found' (steps_reached shapes (get_or found n 0)) r in
+              subst Goal (sym (get_or_push rows r [] node (sym e))) (moved node (omega arith) r (subst P (sym e) f.is_row))
         ]
 
     reached : (node : ℕ) → node < length found' → IsReachedFrom shapes roots (get_or found' node 0)
@@ -113,24 +98,47 @@ so_far-more shapes roots places places' found found' rows rows' read read' r sam
       | inr after ↦ further (s.reached (length rows) more) (f.grows.adds node after w)
     ]
 
-pub so_far-done : (shapes : ℕ → ShapeOf) (roots places found : List ℕ) (rows : List (Vec ℕ Global)) (read : List ShapeOf) → IsSoFar shapes roots places found rows read → length found ≤ length rows → IsReachOf shapes roots places found (items_of rows)
+pub so_far-done : (shapes : ℕ → ShapeOf) (roots places found : List ℕ) (rows : Graph) (read : List ShapeOf) → IsSoFar shapes roots places found rows read → length found ≤ length rows → IsReachOf shapes roots places found rows
 so_far-done shapes roots places found rows read s over = record {
   placed = s.placed;
-  nodes = length-items rows ∙ (let m = s.made in omega arith);
+  nodes = (let m = s.made in omega arith);
   rows = λ node w. s.rows_are node (omega arith);
   roots_found = s.roots_found;
   reached = s.reached;
 }
 
 -- the shapes of all that is found are read
-pub read-done : (shapes : ℕ → ShapeOf) (roots places found : List ℕ) (rows : List (Vec ℕ Global)) (read : List ShapeOf) → IsSoFar shapes roots places found rows read → length found ≤ length rows → read ≡ map shapes found
+pub read-done : (shapes : ℕ → ShapeOf) (roots places found : List ℕ) (rows : Graph) (read : List ShapeOf) → IsSoFar shapes roots places found rows read → length found ≤ length rows → read ≡ map shapes found
 read-done shapes roots places found rows read s over = s.shapes_are ∙ ap (map shapes) (take_all (length rows) found over)
 
-pub leads-so_far : (shapes : ℕ → ShapeOf) (roots places found : List ℕ) (rows : List (Vec ℕ Global)) (read : List ShapeOf) → IsSoFar shapes roots places found rows read → length found ≤ length rows → LeadsToNodes (items_of rows)
-leads-so_far shapes roots places found rows read s over node k w = elim (cases_lt node (length rows)) [
-  | inl before ↦ (let low = IsRow.below (s.rows_are node before) k w in omega (arith, low, length-items rows))
-  | inr after ↦ (let none : get_or (items_of rows) node [] ≡ [] = get_or-eq_default (items_of rows) [] (omega (arith, length-items rows)) in absurd (omega (arith, w, ap length none)))
-]
+-- ---- the rows in one list
+
+-- the places of the steps of the first entries are in one list, and where those of each end in another
+pub record ArePacked (found steps ends : List ℕ) : Type 0 where
+  pub are_ends : AreEnds steps ends
+  pub leads : LeadsBelow steps (length found)
+
+pub packed-start : (found : List ℕ) → ArePacked found [] []
+packed-start found = record {
+  are_ends = record { last = refl; in_order = λ node w. absurd (omega arith) };
+  leads = λ k w. absurd (omega arith);
+}
+
+pub packed-more : (reached places places' found found' steps ends row : List ℕ) → ArePacked found steps ends → FindsAll reached places places' found found' row
+    → ArePacked found' (steps ++ row) (ends ++ length (steps ++ row) ∷ [])
+packed-more reached places places' found found' steps ends row h f = record { are_ends = ends-more steps row ends h.are_ends; leads = leads }
+  where
+    leads : LeadsBelow (steps ++ row) (length found')
+    leads k w = elim (cases_lt k (length steps)) [
+      | inl before ↦ (let low = h.leads k before in let long = f.grows.longer in rw (get_or_append_left steps row 0 k before) (omega arith))
+      | inr after ↦
+          let here : k - length steps < length row = omega (arith, length-append steps row) in
+          rw (get_or-append_right steps row (length steps) k 0 refl after) (f.is_row.below (k - length steps) here)
+    ]
+
+-- one more row
+pub rows-more : (found steps ends row : List ℕ) → ArePacked found steps ends → cut (steps ++ row) 0 (ends ++ length (steps ++ row) ∷ []) ≡ cut steps 0 ends ++ row ∷ []
+rows-more found steps ends row h = cut-more steps row ends h.are_ends.in_order h.are_ends.last
 
 -- ROOM
 
@@ -157,9 +165,6 @@ among_below q n (x ∷ xs) h has = elim (eqb_tells q x) [
 pub room : (places found : List ℕ) → ArePlaces places found → length found ≤ length places
 room places found placed =
     length-le_from_distinct_below found (length places) (distinct (λ x. get_or places x 0) 0 found (λ k w. (let e = placed.back k w in omega arith))) (λ q h. among_below q (length places) found placed.below h)
-
-pub fewer-left : (n : ℕ) (old new : List (Vec ℕ Global)) (r : Vec ℕ Global) → new ≡ old ++ r ∷ [] → length old < n → n - length new < n - length old
-fewer-left n old new r e w = let long : length new ≡ length (old ++ r ∷ []) = ap length e in omega (arith, long, length-append old (r ∷ []))
 
 -- ROOTS
 

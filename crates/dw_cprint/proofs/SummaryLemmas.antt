@@ -1,6 +1,7 @@
 -- Summaries: of void, of one entry by those of the types that it names, and of all nodes in turn.
 use Rattle.std.proofs.Common.{◌≡◌, ℕ, zero, suc, ◌+◌, ◌<◌, true, List, [], ◌∷◌, ◌++◌, Option, Some, None, refl, sym, ap, subst, ◌∙◌, ◌⊎◌, inl, inr, length, get_or, set, take, arith}
 use Rattle.std.specs.Prelude.{All, Contains, ◌↔◌, slice_get, is_some, option_and_then, unwrap_or}
+use Rattle.std.proofs.lemmas.Bool.{cases_eq}
 use Rattle.std.proofs.lemmas.List.{take_more, get_or-set_same, get_or-set_other}
 use Rattle.std.proofs.lemmas.List.Elements.{Contains-push, Contains-append_left, Contains-push_cases}
 use Rattle.dw_cprint.specs.Declarations.{term_at, term_by}
@@ -14,7 +15,6 @@ use Rattle.dw_cprint.specs.Wrong.{nothing, itself, below}
 use Rattle.dw_cprint.specs.declared.shape.Shape.{Shape}
 use Rattle.dw_cprint.specs.declared.shape.Shape.TheVariants as shape
 use Rattle.dw_cprint.specs.declared.summary.TheConstants.{VOID}
-use Rattle.dw_cprint.proofs.ClearingLemmas.{same_or_not}
 use Rattle.dw_cprint.proofs.ReachedFaultLemmas.{faults-none}
 use Rattle.dw_cprint.proofs.LeastLemmas.{Counts, void-least}
 
@@ -105,7 +105,7 @@ pub have_more : (clear : List ℕ) (nodes : List (Option Summary)) (i : ℕ) (s 
     → HaveSummaries (take (i + 1) clear) (set nodes (get_or clear i 0) (Some s))
 have_more clear nodes i s within there have node =
     let P : List ℕ → Type 0 = λ ns. Contains ns node ↔ Has (set nodes (get_or clear i 0) (Some s)) node in
-    subst P (sym (take_more clear i 0 within)) (by_node (same_or_not (get_or clear i 0) node))
+    subst P (sym (take_more clear i 0 within)) (by_node (cases_eq (get_or clear i 0) node))
   where
     by_node : ((get_or clear i 0 ≡ node) ⊎ (get_or clear i 0 ≡ node → ⊥)) → Contains (take i clear ++ get_or clear i 0 ∷ []) node ↔ Has (set nodes (get_or clear i 0) (Some s)) node
     by_node (inl same) =
@@ -144,7 +144,7 @@ module _ (all : ℕ → ShapeOf) (places found : List ℕ) (kept : List Shape) (
 
   pub right_more : (nodes : List (Option Summary)) (i : ℕ) (s : Summary) → i < length clear → get_or clear i 0 < length nodes → RightBefore all found clear places nodes i
       → IsSummary all (Some (get_or found (get_or clear i 0) 0)) s → RightBefore all found clear places (set nodes (get_or clear i 0) (Some s)) (i + 1)
-  right_more nodes i s within there right new j lower = by_node (same_or_not (get_or clear i 0) (get_or clear j 0))
+  right_more nodes i s within there right new j lower = by_node (cases_eq (get_or clear i 0) (get_or clear j 0))
     where
       by_node : ((get_or clear i 0 ≡ get_or clear j 0) ⊎ (get_or clear i 0 ≡ get_or clear j 0 → ⊥))
           → IsSummary all (Some (get_or found (get_or clear j 0) 0)) (known_by places (set nodes (get_or clear i 0) (Some s)) (Some (get_or found (get_or clear j 0) 0)))
@@ -157,7 +157,7 @@ module _ (all : ℕ → ShapeOf) (places found : List ℕ) (kept : List Shape) (
       by_node (inr apart) =
           let n = get_or clear i 0 in
           let m = get_or clear j 0 in
-          let earlier : j < i = before (same_or_not i j) in
+          let earlier : j < i = before (cases_eq i j) in
           let placed = are.placed m (are.within j (omega arith)) in
           let new_at = summary-there places (set nodes n (Some s)) (get_or found m 0) m (slice_get nodes m) placed (get-set-other nodes n m (Some s) apart) in
           let old_at = summary-there places nodes (get_or found m 0) m (slice_get nodes m) placed refl in

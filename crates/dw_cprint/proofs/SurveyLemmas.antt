@@ -6,7 +6,7 @@ use Rattle.std.proofs.lemmas.Option.{slice_get-get_or, slice_get-map, slice_get_
 use Rattle.std.proofs.lemmas.List.{get_or_default, length-map}
 use Rattle.std.proofs.lemmas.List.Elements.{All-map}
 use Rattle.dw_types.specs.Graphs.{Graph, steps_of, step_at, IsStep}
-use Rattle.dw_cprint.specs.Cycles.{AreClear, Leads as NodeLeads, ReachesCycle as NodeReachesCycle}
+use Rattle.dw_types.specs.Cycles.{AreClear, Leads as NodeLeads, ReachesCycle as NodeReachesCycle}
 use Rattle.dw_cprint.specs.Kept.{kept}
 use Rattle.dw_cprint.specs.LongestRows.{HasRow, AreLongest}
 use Rattle.dw_cprint.specs.Reach.{IsReachOf}
@@ -18,10 +18,9 @@ use Rattle.dw_cprint.specs.Surveys.{found_at, AreAmong, HaveSummaries, summary_a
 use Rattle.dw_cprint.specs.declared.shape.Shape.{Shape}
 use Rattle.dw_cprint.specs.declared.survey.Survey.{Survey}
 use Rattle.dw_cprint.specs.declared.summary.Summary.{Summary}
-use Rattle.dw_cprint.proofs.ClearingLemmas.{has-or-not}
 use Rattle.dw_cprint.proofs.PlaceLemmas.{entry-among}
 use Rattle.dw_cprint.proofs.SummaryLemmas.{all-types, void_summary}
-use Rattle.dw_cprint.proofs.LongestLemmas.{longest-clear, fewer-steps}
+use Rattle.dw_cprint.proofs.LongestLemmas.{has-or-not, longest-clear, fewer-steps}
 
 mapped : {A B : Type 0} (f : A → B) (o : Option A) (y d : B) → option_map f o ≡ Some y → option_map_or f o d ≡ y
 mapped f None y d e = absurd (cc)

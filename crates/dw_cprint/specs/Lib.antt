@@ -12,7 +12,6 @@ pub mod Writing
 pub mod Wrong
 pub mod Refusals
 pub mod Reading
-pub mod Cycles
 pub mod LongestRows
 pub mod Listings
 -- State.
@@ -20,7 +19,6 @@ pub mod StringSpans
 pub mod Declarators
 pub mod Regular
 pub mod SameShapes
-pub mod ClearingStates
 pub mod Reach
 pub mod Least
 pub mod Summaries

@@ -1,11 +1,13 @@
 -- Chapter: the listing of all named types of an image, and its text.
-use Rattle.std.specs.Prelude.{◌≡◌, ℕ, ◌<◌, ◌⊎◌, ◌↔◌, Bool, true, false, List, [], ◌∷◌, ◌++◌}
+use Rattle.std.specs.Prelude.{◌≡◌, ℕ, suc, ◌<◌, ◌⊎◌, ◌↔◌, Bool, true, false, List, [], ◌∷◌, ◌++◌}
 use Rattle.std.specs.Prelude.{Option, Some, None, is_some, codes}
 use Rattle.std.specs.Prelude.{length, slice_get, flat_map, Contains, AllPairs}
 use Rattle.std.specs.Option.{option_map_or}
 use Rattle.dw_entries.specs.Entries.{Entry}
 use Rattle.dw_image.specs.declared.image.Image.{Image}
 use Rattle.dw_image.specs.Images.{entries_in, steps_in}
+use Rattle.dw_types.specs.Cycles.{Leads}
+use Rattle.dw_types.specs.Graphs.{Graph}
 use Rattle.dw_cprint.specs.Declarations.{declaration_of}
 use Rattle.dw_cprint.specs.Digits.{places}
 use Rattle.dw_cprint.specs.EntryShapes.{shape_in, subject_in}
@@ -35,6 +37,10 @@ pub record AreNamedTypes (image : Image) (named : List ℕ) : Type 0 where
 -- the level of each entry: how many steps by value the longest row of them has that starts there
 abbrev pub AreLevels : Image → (ℕ → ℕ) → Type 0
 AreLevels image level = (entry : ℕ) → entry < length (entries_in image) → IsLongest (steps_in image) entry (level entry)
+
+-- some steps, at least one, lead from one node to another; if the steps are by value, the one holds the other
+abbrev pub HoldsByValue : Graph → ℕ → ℕ → Type 0
+HoldsByValue graph from to = (k : ℕ) × Leads graph (suc k) from to
 
 -- one entry stands before another: by rising level, then by rising offset
 abbrev pub StandsBefore : (ℕ → ℕ) → ℕ → ℕ → Type 0

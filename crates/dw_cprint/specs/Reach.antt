@@ -1,13 +1,8 @@
 -- State: the entries that are reached from some declared ones, and the graph of the steps between them.
-use Rattle.std.specs.Prelude.{◌≡◌, ℕ, ◌<◌, ◌≤◌, List, Vec, length, map, slice_index, Contains}
-use Rattle.std.specs.Global.{Global}
+use Rattle.std.specs.Prelude.{◌≡◌, ℕ, ◌<◌, ◌≤◌, ◌++◌, List, length, map, slice_index, Contains}
 use Rattle.dw_types.specs.Graphs.{Graph, steps_of}
 use Rattle.dw_cprint.specs.Shapes.{ShapeOf}
 use Rattle.dw_cprint.specs.Steps.{steps_reached, IsReachedFrom}
-
--- the rows of a graph
-abbrev pub items_of : List (Vec ℕ Global) → Graph
-items_of rows = map (λ (row : Vec ℕ Global). row.items) rows
 
 -- the place of each entry that is found, by its number
 pub record ArePlaces (places found : List ℕ) : Type 0 where
@@ -31,6 +26,11 @@ pub record FindsAll (steps places places' found found' row : List ℕ) : Type 0 
   pub len : length places' ≡ length places
   pub grows : Grows steps found found'
   pub is_row : IsRow found' steps row
+
+-- the places of the steps are added to a list
+abbrev pub AddsRow : (steps places places' found found' list list' : List ℕ) → Type 0
+AddsRow steps places places' found found' list list' =
+    (row : List ℕ) × FindsAll steps places places' found found' row × (list' ≡ list ++ row)
 
 -- the entries that are reached from some, each once, and the graph of the steps between their places
 pub record IsReachOf (shapes : ℕ → ShapeOf) (roots places found : List ℕ) (graph : Graph) : Type 0 where

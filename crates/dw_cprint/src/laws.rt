@@ -1,10 +1,9 @@
 //! What holds of all texts of declarations.
 
 ghost use Rattle.std.specs.Prelude.{◌≡◌, ◌<◌, ◌++◌, ℕ, List, Some, length, All, AllPairs, IsSome};
-ghost use Rattle.dw_cprint.specs.Cycles.{HoldsByValue};
 ghost use Rattle.dw_cprint.specs.Declarations.{declaration_of};
 ghost use Rattle.dw_cprint.specs.EntryShapes.{shape_in};
-ghost use Rattle.dw_cprint.specs.Listings.{IsListing};
+ghost use Rattle.dw_cprint.specs.Listings.{HoldsByValue, IsListing};
 ghost use Rattle.dw_cprint.specs.Refusals.{HasOneReading, HoldsNoneBelow, IsPrinted, Refuses};
 ghost use Rattle.dw_cprint.specs.Regular.{AreRegular};
 ghost use Rattle.dw_cprint.specs.Shapes.{ShapeOf, SubjectOf};

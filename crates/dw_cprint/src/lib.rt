@@ -3,7 +3,6 @@
 
 mod bad_names;
 mod body_reader;
-mod clearing;
 mod declaring;
 mod digits;
 mod draft;

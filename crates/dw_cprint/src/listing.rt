@@ -14,7 +14,7 @@ ghost use Rattle.dw_cprint.specs.Surveys.{BySurvey};
 use crate::digits::put_eight_digits;
 use crate::draft::Draft;
 use crate::fault::PrintFault;
-use crate::longest::longest_by_rank;
+use crate::longest::longest_rows;
 use crate::look_ups::{declared_at, has_name, tag_at};
 use crate::shape::Subject;
 use crate::source::{Source, Strings};
@@ -22,7 +22,7 @@ use crate::subject_reader::subject_of;
 use crate::survey::Survey;
 use dw_entries::constants::*;
 use dw_image::{EntryId, Image, NoMemory};
-use dw_types::{OrderFault, order};
+use dw_types::clear_nodes;
 use std::alloc::{AllocError, Global};
 
 /// The named types of an image: those that are printed, those that are refused, and the text of both.
@@ -108,19 +108,14 @@ fn subjects_of<'a>(
 }
 
 /// The level of each entry: how many steps by value the longest path from it has.
-fn levels_of(alloc: Global, image: &Image<'_>) -> Result<Vec<usize>, NoMemory>
+fn levels_of(alloc: Global, image: &Image<'_>) -> Result<Vec<usize>, AllocError>
     ensures entries { IfOk result (λ levels. length levels.items ≡ length (entries_in image.now)) }
     ensures levels { IfOk result (λ levels. AreLevels image.now (slice_index levels.items)) }
 {
     let steps = image.by_value();
-    match order(alloc, steps) {
-        Ok(order) => {
-            let levels = longest_by_rank(alloc, steps, &order)?;
-            Ok(levels)
-        }
-        Err(OrderFault::Cycle(_)) => unreachable!(),
-        Err(OrderFault::Memory) => Err(NoMemory),
-    }
+    let clear = clear_nodes(alloc, steps)?;
+    let levels = longest_rows(alloc, steps, &clear)?;
+    Ok(levels)
 }
 
 /// The level of an entry, 0 where there is none.

@@ -1,10 +1,9 @@
 //! How many steps the longest row of steps from a node has.
 
 ghost use Rattle.std.specs.Prelude.{◌≡◌, ℕ, ◌+◌, ◌^◌, ◌<◌, length, slice_index, IfOk};
+ghost use Rattle.dw_types.specs.Cycles.{AreClear};
 ghost use Rattle.dw_types.specs.Graphs.{step_at, steps_of};
-ghost use Rattle.dw_types.specs.Orders.{IsOrderOf};
-ghost use Rattle.dw_cprint.specs.Cycles.{AreClear};
-ghost use Rattle.dw_cprint.specs.LongestRows.{AreLongest, IsAbove, IsLongest};
+ghost use Rattle.dw_cprint.specs.LongestRows.{AreLongest, IsAbove};
 
 use dw_types::{Order, StepGraph};
 use std::alloc::{AllocError, Global};
@@ -31,34 +30,16 @@ fn one_above<G: StepGraph>(graph: &G, counts: &[usize], node: usize) -> usize
 pub fn longest_rows<G: StepGraph>(
     alloc: Global,
     graph: &G,
-    clear: &[usize],
+    clear: &Order,
 ) -> Result<Vec<usize>, AllocError>
-    requires { AreClear (G.graph graph.now) clear.now }
+    requires { AreClear (G.graph graph.now) clear.now.by_rank }
     ensures nodes { IfOk result (λ counts. length counts.items ≡ length (G.graph graph.now)) }
-    ensures longest { IfOk result (λ counts. AreLongest (G.graph graph.now) clear.now (slice_index counts.items)) }
+    ensures longest { IfOk result (λ counts. AreLongest (G.graph graph.now) clear.now.by_rank
+        (slice_index counts.items)) }
 {
     let mut counts = vec![in alloc; 0; graph.nodes()]?;
-    for node in clear {
-        let most = one_above(graph, counts.as_slice(), *node);
-        counts[*node] = most;
-    }
-    Ok(counts)
-}
-
-/// How many steps the longest row from each node has, where the graph has an order.
-pub fn longest_by_rank<G: StepGraph>(
-    alloc: Global,
-    graph: &G,
-    order: &Order,
-) -> Result<Vec<usize>, AllocError>
-    requires { IsOrderOf (G.graph graph.now) order.now }
-    ensures nodes { IfOk result (λ counts. length counts.items ≡ length (G.graph graph.now)) }
-    ensures longest { IfOk result (λ counts. (node : ℕ) → node < length (G.graph graph.now)
-        → IsLongest (G.graph graph.now) node (slice_index counts.items node)) }
-{
-    let mut counts = vec![in alloc; 0; graph.nodes()]?;
-    for rank in 0..order.count() {
-        let node = order.node(rank);
+    for rank in 0..clear.count() {
+        let node = clear.node(rank);
         let most = one_above(graph, counts.as_slice(), node);
         counts[node] = most;
     }

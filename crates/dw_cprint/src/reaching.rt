@@ -1,8 +1,7 @@
 //! The entries that are reached by spelling steps.
 
 ghost use Rattle.std.specs.Prelude.{◌≡◌, ◌++◌, ◌^◌, ◌<◌, [], ◌∷◌, length, map, All, IfOk, OnOk};
-ghost use Rattle.dw_types.specs.Graphs.{LeadsToNodes};
-ghost use Rattle.dw_cprint.specs.Reach.{ArePlaces, FindsAll, IsReachOf, items_of};
+ghost use Rattle.dw_cprint.specs.Reach.{AddsRow, ArePlaces, FindsAll, IsReachOf};
 ghost use Rattle.dw_image.specs.Images.{entries_in};
 ghost use Rattle.dw_cprint.specs.EntryShapes.{shape_in};
 ghost use Rattle.dw_cprint.specs.Regular.{IsRegular};
@@ -14,7 +13,7 @@ use crate::shape::{Member, Parameter, Shape, Subject, TypeAt};
 use crate::shape_reader::shape_of;
 use crate::source::Source;
 use dw_image::Image;
-use dw_types::StepGraph;
+use dw_types::{Numbers, Packed, StepGraph};
 use std::alloc::{AllocError, Global};
 
 /// The entries that are reached, each a node, and the steps between them.
@@ -23,49 +22,24 @@ pub struct Reached<'a> {
     /// The node of each entry that is found, by the entry's number.
     pub places: Vec<u32>,
     /// The entry of each node.
-    pub found: Vec<usize>,
+    pub found: Numbers,
     /// The shape of each node's entry.
     pub shapes: Vec<Shape<'a>>,
-    /// The nodes that the steps of each node lead to.
-    pub rows: Vec<Vec<usize>>,
-    ghost leads: { LeadsToNodes (items_of rows.items) },
-}
-
-impl<'a> StepGraph for Reached<'a> {
-    ghost use Rattle.dw_cprint.specs.Reach.{items_of};
-
-    ghost graph = { λ it. items_of it.rows.items };
-
-    ghost leads_to_nodes = { λ it. it.leads };
-
-    fn nodes(&self) -> usize {
-        self.rows.len()
-    }
-
-    fn steps(&self, node: usize) -> usize {
-        self.rows[node].len()
-    }
-
-    fn step(&self, node: usize, k: usize) -> usize {
-        self.rows[node][k]
-    }
+    /// The steps between the nodes.
+    pub graph: Packed,
 }
 
 /// The place of an entry, the next one if it was not found before.
-fn place_of(
-    places: &mut Vec<u32>,
-    found: &mut Vec<usize>,
-    entry: usize,
-) -> Result<usize, AllocError>
-    requires placed { ArePlaces places.old.items found.old.items }
+fn place_of(places: &mut Vec<u32>, found: &mut Numbers, entry: usize) -> Result<usize, AllocError>
+    requires placed { ArePlaces places.old.items found.old }
     requires within { entry < length places.old.items }
     requires few { length places.old.items < 2 ^ 32 }
     ensures row { IfOk result (λ place. FindsAll (entry ∷ [])
-        places.old.items places.new.items found.old.items found.new.items (place ∷ [])) }
+        places.old.items places.new.items found.old found.new (place ∷ [])) }
     ensures places { length places.new.items ≡ length places.old.items }
 {
     let place = places[entry] as usize;
-    if place < found.len() && found[place] == entry {
+    if place < found.len() && found.get(place) == entry {
         return Ok(place);
     }
     let place = found.len();
@@ -74,27 +48,26 @@ fn place_of(
     Ok(place)
 }
 
-/// The places of types; those that are new are found.
-fn row_of(
-    alloc: Global,
+/// Appends the places of types; those that are new are found.
+fn push_row(
     places: &mut Vec<u32>,
-    found: &mut Vec<usize>,
+    found: &mut Numbers,
+    steps: &mut Numbers,
     types: &[TypeAt],
-) -> Result<Vec<usize>, AllocError>
-    requires placed { ArePlaces places.old.items found.old.items }
+) -> Result<(), AllocError>
+    requires placed { ArePlaces places.old.items found.old }
     requires within { All (λ to. to < length places.old.items) (entries_of types.now) }
     requires few { length places.old.items < 2 ^ 32 }
-    ensures row { IfOk result (λ row. FindsAll (entries_of types.now)
-        places.old.items places.new.items found.old.items found.new.items row.items) }
+    ensures row { OnOk result (AddsRow (entries_of types.now)
+        places.old.items places.new.items found.old found.new steps.old steps.new) }
     ensures places { length places.new.items ≡ length places.old.items }
 {
-    let mut row = Vec::with_capacity(alloc, types.len())?;
     for at in types {
         if let Some(entry) = *at {
-            row.push(place_of(places, found, entry)?)?;
+            steps.push(place_of(places, found, entry)?)?;
         }
     }
-    Ok(row)
+    Ok(())
 }
 
 /// Appends the type of each member.
@@ -204,30 +177,33 @@ pub fn reach<'a>(
 ) -> Result<Reached<'a>, AllocError>
     requires { All (λ to. to < length (entries_in source.now.image.now)) (entries_of types.now) }
     ensures reach { IfOk result (λ r. IsReachOf (shape_in source.now.image.now) (entries_of types.now)
-        r.places.items r.found.items (items_of r.rows.items)) }
+        r.places.items r.found (⟦<Packed as StepGraph>⟧.graph r.graph)) }
     ensures shapes { IfOk result (λ r. map view_shape r.shapes.items
-        ≡ map (shape_in source.now.image.now) r.found.items) }
+        ≡ map (shape_in source.now.image.now) r.found) }
     ensures fit { IfOk result (λ r. All (λ shape. IsRegular (view_shape shape)) r.shapes.items) }
 {
     let mut places = vec![in alloc; 0; source.image.entries()]?;
-    let mut found = Vec::new(alloc);
-    let roots = row_of(alloc, &mut places, &mut found, types)?;
+    let mut found = Numbers::with_room(alloc, 0)?;
+    let mut roots = Numbers::with_room(alloc, 0)?;
+    push_row(&mut places, &mut found, &mut roots, types)?;
     drop(roots);
     let mut shapes = Vec::new(alloc);
-    let mut rows = Vec::new(alloc);
+    let mut steps = Numbers::with_room(alloc, 0)?;
+    let mut ends = Numbers::with_room(alloc, 0)?;
     let mut next = Vec::new(alloc);
-    while rows.len() < found.len() {
-        let entry = found[rows.len()];
-        let shape = shape_at(alloc, source, entry)?;
+    while ends.len() < found.len() {
+        let shape = shape_at(alloc, source, found.get(ends.len()))?;
         next.clear();
         put_reached_types(&mut next, &shape)?;
         shapes.push(shape)?;
-        rows.push(row_of(alloc, &mut places, &mut found, &next)?)?;
+        push_row(&mut places, &mut found, &mut steps, &next)?;
+        ends.push(steps.len())?;
     }
+    let graph = Packed::from_rows(steps, ends);
     Ok(Reached {
         places,
         found,
         shapes,
-        rows,
+        graph,
     })
 }

@@ -10,6 +10,7 @@ use crate::faults::{Faults, faults_of};
 use crate::kinds::{TypeKind, kind_of};
 use crate::least::least_of;
 use crate::shape::{Shape, TypeAt};
+use dw_types::Order;
 use std::alloc::{AllocError, Global};
 
 /// What is known of a type that reaches no cycle.
@@ -108,21 +109,23 @@ pub fn summarize(
     alloc: Global,
     places: Vec<u32>,
     shapes: &[Shape<'_>],
-    clear: &[usize],
+    clear: &Order,
 ) -> Result<Summaries, AllocError>
-    requires { All (λ node. node < length shapes.now) clear.now }
+    requires { All (λ node. node < length shapes.now) clear.now.by_rank }
     ensures places { IfOk result (λ it. it.places.items ≡ places.items) }
-    ensures clear { IfOk result (λ it. HaveSummaries clear.now it.nodes.items) }
+    ensures clear { IfOk result (λ it. HaveSummaries clear.now.by_rank it.nodes.items) }
     ensures right { IfOk result (λ it. (all : ℕ → ShapeOf) (found : List ℕ)
-        → AreNodes all places.items found shapes.now clear.now → AreRight all found clear.now it) }
+        → AreNodes all places.items found shapes.now clear.now.by_rank
+        → AreRight all found clear.now.by_rank it) }
 {
     let mut summaries = Summaries {
         places,
         nodes: vec![in alloc; None; shapes.len()]?,
     };
-    for node in clear {
-        let summary = summary_of(alloc, &summaries, &shapes[*node])?;
-        summaries.nodes[*node] = Some(summary);
+    for rank in 0..clear.count() {
+        let node = clear.node(rank);
+        let summary = summary_of(alloc, &summaries, &shapes[node])?;
+        summaries.nodes[node] = Some(summary);
     }
     Ok(summaries)
 }

@@ -9,7 +9,6 @@ ghost use Rattle.dw_cprint.specs.Shapes.{view_subject};
 ghost use Rattle.dw_cprint.specs.Steps.{IsDeepFrom, ReachACycle, entries_of, first_steps, roots_of, types_declared};
 ghost use Rattle.dw_cprint.specs.Surveys.{BySurvey, IsSurveyOf, depth_at};
 
-use crate::clearing::clear_nodes;
 use crate::draft::{Draft, LIMIT};
 use crate::fault::PrintFault;
 use crate::faults::subject_faults;
@@ -20,6 +19,7 @@ use crate::shape::{Shape, Subject, TypeAt};
 use crate::source::Source;
 use crate::summary::{Summaries, summarize};
 use dw_image::Image;
+use dw_types::clear_nodes;
 use std::alloc::{AllocError, Global};
 
 /// The most spelling steps of a path that is printed.
@@ -48,9 +48,10 @@ impl<'a> Survey<'a> {
         let types = all_types(alloc, subjects)?;
         let reached = reach(alloc, source, &types)?;
         drop(types);
-        let clear = clear_nodes(alloc, &reached)?;
-        let depths = longest_rows(alloc, &reached, &clear)?;
-        drop(reached.rows);
+        drop(reached.found);
+        let clear = clear_nodes(alloc, &reached.graph)?;
+        let depths = longest_rows(alloc, &reached.graph, &clear)?;
+        drop(reached.graph);
         let summaries = summarize(alloc, reached.places, &reached.shapes, &clear)?;
         Ok(Survey {
             shapes: reached.shapes,

@@ -1,8 +1,9 @@
 -- How a walk begins, and what holds at its end.
-use Rattle.std.proofs.Common.{◌≡◌, ◌≢◌, ℕ, ◌^◌, ◌+◌, ◌<◌, ◌∙◌, [], length, get_or, replicate, below_more, inl, inr, arith, refl, sym, ap, sum, count_by, cond, zero, suc}
+use Rattle.std.proofs.Common.{◌≡◌, ◌≢◌, ℕ, ◌^◌, ◌+◌, ◌<◌, ◌⊎◌, ◌∙◌, true, false, [], length, get_or, replicate, below_more, inl, inr, arith, refl, sym, ap, sum, count_by, cond, zero, suc}
 use Rattle.std.proofs.lemmas.Bool.{cases_lt}
 use Rattle.std.proofs.lemmas.List.{length-replicate, get_or-replicate, get_or_past}
 use Rattle.std.proofs.lemmas.List.Sums.{sum_by-cons}
+use Rattle.dw_types.specs.Cycles.{ReachesCycle}
 use Rattle.dw_types.specs.declared.walk.Mark.{Mark}
 use Rattle.dw_types.specs.declared.walk.Mark.TheVariants.{Fresh, Open, Ranked}
 use Rattle.dw_types.specs.Graphs.{Graph, steps_of, FallsAlong}
@@ -23,7 +24,7 @@ count-fresh (suc n) = let first = sum_by-cons (λ (m : Mark). cond {A = ℕ} (is
 
 -- the walk before its first turn
 abbrev pub start : ℕ → State
-start n = record { marks = replicate n Fresh; next = replicate n 0; ranks = replicate n 0; by_rank = []; stack = []; turns = 0 }
+start n = record { marks = replicate n Fresh; next = replicate n 0; ranks = replicate n 0; by_rank = []; stack = []; turns = 0; gave_up = false }
 
 pub start-walk : (graph : Graph) → length graph < 2 ^ 64 → IsWalk graph (start (length graph))
 start-walk graph few =
@@ -56,18 +57,25 @@ start-walk graph few =
       looks_up = λ place k below. absurd (omega arith);
     }
 
--- with an empty stack, a node that was taken up was ranked
-ranked-by_mark : (graph : Graph) (s : State) (node : ℕ) → IsWalk graph s → s.stack ≡ [] → mark_of s node ≢ Fresh → (m : Mark) → mark_of s node ≡ m → m ≡ Ranked
-ranked-by_mark graph s node h empty taken Fresh e = absurd (taken e)
-ranked-by_mark graph s node h empty taken Open e =
-    let place = h.coherent.stack.stacked node e in
-    let below : place.0 < length s.stack = place.1 in
-    let none : length s.stack ≡ 0 = ap length empty in
-    absurd (omega arith)
-ranked-by_mark graph s node h empty taken Ranked e = refl
+-- with an empty stack, a node that was taken up was ranked, or given up
+end-by_mark : (graph : Graph) (s : State) (node : ℕ) → IsWalk graph s → s.stack ≡ [] → mark_of s node ≢ Fresh → (m : Mark) → mark_of s node ≡ m → (m ≡ Ranked) ⊎ ((s.gave_up ≡ true) × ReachesCycle graph node)
+end-by_mark graph s node h empty taken Fresh e = absurd (taken e)
+end-by_mark graph s node h empty taken Open e = elim (h.coherent.stack.stacked node e) [
+  | inl place ↦
+      let below : place.0 < length s.stack = place.1 in
+      let none : length s.stack ≡ 0 = ap length empty in
+      absurd (omega arith)
+  | inr lost ↦ inr lost
+]
+end-by_mark graph s node h empty taken Ranked e = inl refl
 
-pub ranked-from_taken : (graph : Graph) (s : State) (node : ℕ) → IsWalk graph s → s.stack ≡ [] → mark_of s node ≢ Fresh → mark_of s node ≡ Ranked
-ranked-from_taken graph s node h empty taken = ranked-by_mark graph s node h empty taken (mark_of s node) refl
+pub end-of_taken : (graph : Graph) (s : State) (node : ℕ) → IsWalk graph s → s.stack ≡ [] → mark_of s node ≢ Fresh → (mark_of s node ≡ Ranked) ⊎ ((s.gave_up ≡ true) × ReachesCycle graph node)
+end-of_taken graph s node h empty taken = end-by_mark graph s node h empty taken (mark_of s node) refl
+
+-- so it was ranked, if none was given up
+pub ranked-from_taken : (graph : Graph) (s : State) (node : ℕ) → IsWalk graph s → s.stack ≡ [] → s.gave_up ≡ false → mark_of s node ≢ Fresh → mark_of s node ≡ Ranked
+ranked-from_taken graph s node h empty kept taken =
+    elim (end-of_taken graph s node h empty taken) [ inl done ↦ done | inr lost ↦ let gave : s.gave_up ≡ true = lost.0 in absurd cc ]
 
 -- once each node was ranked, each step leads to a smaller rank
 pub falls-from_ranked : (graph : Graph) (s : State) → IsWalk graph s → ((node : ℕ) → node < length graph → mark_of s node ≡ Ranked) → FallsAlong graph s.ranks

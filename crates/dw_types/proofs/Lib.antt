@@ -17,6 +17,7 @@ pub mod MeetLemmas
 pub mod TurnLemmas
 pub mod CycleLemmas
 pub mod EndLemmas
+pub mod ClearLemmas
 pub mod PackingLemmas
 pub mod CapLemmas
 pub mod StepLemmas

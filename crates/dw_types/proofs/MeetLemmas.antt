@@ -37,6 +37,9 @@ module _ (graph : Graph) (s : State) (node : ℕ) (new : State) (h : IsWalk grap
   pub met-keeps : KeepsTaken (taken_up s node) new
   met-keeps = elim met [ inl up ↦ rw up (λ a fresh. fresh) | inr leaf ↦ rw leaf.1 (leaf-keeps graph s node h leaf.0) ]
 
+  pub met-gave_up : new.gave_up ≡ s.gave_up
+  met-gave_up = elim met [ inl up ↦ rw up refl | inr leaf ↦ rw leaf.1 refl ]
+
   pub met-less : work_left graph new ≤ work_left graph (taken_up s node)
   met-less = elim met [
     | inl up ↦ rw up (omega arith)

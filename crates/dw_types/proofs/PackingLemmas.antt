@@ -13,16 +13,17 @@ pub record PacksUpTo (graph : Graph) (steps ends : List ℕ) (node : ℕ) : Type
   pub last : begin_of ends (length ends) ≡ length steps
   pub in_order : CutsInOrder steps ends
 
-pub packs-more : (graph : Graph) (steps ends : List ℕ) (node : ℕ) → node < length graph → PacksUpTo graph steps ends node
-    → PacksUpTo graph (steps ++ get_or graph node []) (ends ++ length (steps ++ get_or graph node []) ∷ []) (node + 1)
-packs-more graph steps ends node below h =
-    let row = get_or graph node [] in
+-- each node's steps end where those of the next start, the last ones at the end of all steps
+pub record AreEnds (steps ends : List ℕ) : Type 0 where
+  pub last : begin_of ends (length ends) ≡ length steps
+  pub in_order : CutsInOrder steps ends
+
+pub ends-more : (steps row ends : List ℕ) → AreEnds steps ends → AreEnds (steps ++ row) (ends ++ length (steps ++ row) ∷ [])
+ends-more steps row ends h =
     let end = length (steps ++ row) in
     let long = length-append steps row in
     let more : length (ends ++ end ∷ []) ≡ suc (length ends) = (let e = length_push ends end in omega arith) in
     record {
-      same = cut-more steps row ends h.in_order h.last ∙ rw h.same (sym (take_more graph node [] below));
-      ends_so_far = let e = h.ends_so_far in omega arith;
       last = rw more (get_or_push ends end 0 (length ends) refl);
       in_order = λ k within.
           let begin = get_or_append_left (0 ∷ ends) (end ∷ []) 0 k (omega arith) in
@@ -30,6 +31,19 @@ packs-more graph steps ends node below h =
             | inl p ↦ let last = h.last in let e = p.0 in rw (begin, p.1, e) ((omega arith), (omega arith))
             | inr p ↦ let old = h.in_order k p.0 in let fits = old.1 in rw (begin, p.1) (old.0, (omega arith))
           ];
+    }
+
+pub packs-more : (graph : Graph) (steps ends : List ℕ) (node : ℕ) → node < length graph → PacksUpTo graph steps ends node
+    → PacksUpTo graph (steps ++ get_or graph node []) (ends ++ length (steps ++ get_or graph node []) ∷ []) (node + 1)
+packs-more graph steps ends node below h =
+    let row = get_or graph node [] in
+    let end = length (steps ++ row) in
+    let more = ends-more steps row ends (record { last = h.last; in_order = h.in_order }) in
+    record {
+      same = cut-more steps row ends h.in_order h.last ∙ rw h.same (sym (take_more graph node [] below));
+      ends_so_far = let e = h.ends_so_far in let long = length_push ends end in omega arith;
+      last = more.last;
+      in_order = more.in_order;
     }
 
 -- one more step of a row

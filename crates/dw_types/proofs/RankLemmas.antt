@@ -73,16 +73,18 @@ module _ (graph : Graph) (s : State) (node : ℕ) (h : IsWalk graph s) (t : IsTo
             rw (done-at k below) (elim (done-mark (get_or s.stack k 0)) [ inl q ↦ absurd (done-other k below q.0) | inr q ↦ q.1 ∙ h.coherent.stack.opened k (omega arith) ]);
         stacked = λ a opened. elim (done-mark a) [
           | inl p ↦ absurd cc
-          | inr p ↦
-              let place = h.coherent.stack.stacked a (sym p.1 ∙ opened) in
-              let in_stack : place.0 < length s.stack = place.1 in
-              elim (cases_lt place.0 (length s.stack - 1)) [
-                | inl below ↦ (place.0, (omega arith), done-at place.0 below ∙ place.2)
-                | inr above ↦
-                    let last : place.0 ≡ length s.stack - 1 = omega arith in
-                    let e : get_or s.stack place.0 0 ≡ a = place.2 in
-                    absurd (p.0 (sym e ∙ (rw last t.top)))
-              ]
+          | inr p ↦ elim (h.coherent.stack.stacked a (sym p.1 ∙ opened)) [
+            | inl place ↦
+                let in_stack : place.0 < length s.stack = place.1 in
+                elim (cases_lt place.0 (length s.stack - 1)) [
+                  | inl below ↦ inl (place.0, (omega arith), done-at place.0 below ∙ place.2)
+                  | inr above ↦
+                      let last : place.0 ≡ length s.stack - 1 = omega arith in
+                      let e : get_or s.stack place.0 0 ≡ a = place.2 in
+                      absurd (p.0 (sym e ∙ (rw last t.top)))
+                ]
+            | inr lost ↦ inr lost
+          ]
         ];
         once = λ i j lt in_stack same.
             let below : j < length s.stack - 1 = omega arith in

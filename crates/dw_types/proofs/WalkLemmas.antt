@@ -6,7 +6,7 @@ use Rattle.std.proofs.lemmas.List.Sums.{sum_by-set}
 use Rattle.dw_types.specs.declared.walk.Mark.{Mark}
 use Rattle.dw_types.specs.declared.walk.Mark.TheVariants.{Fresh, Open, Ranked}
 use Rattle.dw_types.specs.Graphs.{Graph, steps_of, step_at, IsStep}
-use Rattle.dw_types.specs.Walks.{HasPlaces, HasStack, HasCounters, IsCoherent, IsWalk, LooksUp, LooksUpBut, work_left, is_taken}
+use Rattle.dw_types.specs.Walks.{HasPlaces, HasStack, HasCounters, IsAtCycle, IsCoherent, IsWalk, LooksUp, LooksUpBut, work_left, is_taken}
 use Rattle.dw_types.specs.WalkStates.{State, mark_of, taken_up, with_step}
 use Rattle.dw_types.proofs.ListLemmas.{at_set, at_push}
 use Rattle.dw_types.proofs.TurnLemmas.{turns-le}
@@ -91,9 +91,11 @@ module _ (graph : Graph) (s : State) (node : ℕ) (h : IsCoherent graph s) (in_g
       | inr p ↦ rw p.1 (elim (up-mark (get_or s.stack k 0)) [ inl q ↦ q.1 | inr q ↦ q.1 ∙ h.stack.opened k p.0 ])
     ];
     stacked = λ a opened. elim (up-mark a) [
-      | inl p ↦ (length s.stack, (let e = up-length in omega arith), get_or_push s.stack node 0 (length s.stack) refl ∙ sym p.0)
-      | inr p ↦ let place = h.stack.stacked a (sym p.1 ∙ opened) in
-          (place.0, (let e = up-length in let below = place.1 in omega arith), get_or_append_left s.stack (node ∷ []) 0 place.0 place.1 ∙ place.2)
+      | inl p ↦ inl (length s.stack, (let e = up-length in omega arith), get_or_push s.stack node 0 (length s.stack) refl ∙ sym p.0)
+      | inr p ↦ elim (h.stack.stacked a (sym p.1 ∙ opened)) [
+        | inl place ↦ inl (place.0, (let e = up-length in let below = place.1 in omega arith), get_or_append_left s.stack (node ∷ []) 0 place.0 place.1 ∙ place.2)
+        | inr lost ↦ inr lost
+      ]
     ];
     once = λ i j lt in_stack same. elim (at_push s.stack j node 0 in_stack) [
       | inl p ↦
@@ -172,6 +174,9 @@ module _ (graph : Graph) (s : State) (node to : ℕ) (h : IsWalk graph s) (t : I
   turn-coherent : IsCoherent graph (with_step s node)
   turn-coherent = look-coherent graph s node h.coherent t turn-in more small
 
+  turn-link : 0 < length s.stack → IsStep graph (get_or s.stack (length s.stack - 1) 0) to
+  turn-link some = rw t.top (get_or s.next node 0, more, sym leads)
+
   turn-but : LooksUpBut graph (with_step s node) to
   turn-but = rw leads (look-but graph s node h turn-in)
 
@@ -179,16 +184,17 @@ module _ (graph : Graph) (s : State) (node to : ℕ) (h : IsWalk graph s) (t : I
   pub look-ranked_walk : mark_of s to ≡ Ranked → IsWalk graph (with_step s node)
   look-ranked_walk done = record { coherent = turn-coherent; looks_up = looked-ranked graph (with_step s node) to turn-but done }
 
-  pub look-ranked_less : mark_of s to ≡ Ranked → work_left graph (with_step s node) < work_left graph s
-  look-ranked_less done = let few = turns-le graph (with_step s node) turn-coherent in omega arith
+  pub look-less : work_left graph (with_step s node) < work_left graph s
+  look-less = let few = turns-le graph (with_step s node) turn-coherent in omega arith
+
+  -- to an open node
+  pub look-open : mark_of s to ≡ Open → IsAtCycle graph (with_step s node) to
+  look-open opened = record { coherent = turn-coherent; some = t.some; closes = turn-link t.some; opened = opened }
 
   -- to a fresh node, which is taken up
   module _ (new : mark_of s to ≡ Fresh) (in_graph : to < length graph) where
     turn-in_marks : to < length s.marks
     turn-in_marks = let e = h.coherent.places.marks in omega arith
-
-    turn-link : 0 < length s.stack → IsStep graph (get_or s.stack (length s.stack - 1) 0) to
-    turn-link some = rw t.top (get_or s.next node 0, more, sym leads)
 
     turn-up : IsCoherent graph (taken_up (with_step s node) to)
     turn-up = up-coherent graph (with_step s node) to turn-coherent turn-in_marks new turn-link

@@ -9,6 +9,7 @@ pub mod Counts
 pub mod TypeFailures
 pub mod Shapes
 pub mod Graphs
+pub mod Cycles
 pub mod Steps
 pub mod Orders
 pub mod OrderFaults

@@ -1,10 +1,10 @@
 -- State: the state of a walk over a graph, and what it is after each kind of turn.
-use Rattle.std.specs.Prelude.{ℕ, ◌+◌, ◌-◌, List, [], ◌∷◌, ◌++◌, length, take, slice_index, slice_index_or, slice_set}
+use Rattle.std.specs.Prelude.{Bool, true, ℕ, ◌+◌, ◌-◌, List, [], ◌∷◌, ◌++◌, length, take, slice_index, slice_index_or, slice_set}
 use Rattle.dw_types.specs.declared.walk.Mark.{Mark}
 use Rattle.dw_types.specs.declared.walk.Mark.TheVariants.{Fresh, Open, Ranked}
 
 -- the mark, the next step and the rank of each node, the nodes that were ranked in their order, the nodes that
--- were taken up and not ranked yet, and the turns so far
+-- were taken up and not ranked yet, the turns so far, and whether such nodes were given up
 pub record State : Type 0 where
   pub marks : List Mark
   pub next : List ℕ
@@ -12,6 +12,7 @@ pub record State : Type 0 where
   pub by_rank : List ℕ
   pub stack : List ℕ
   pub turns : ℕ
+  pub gave_up : Bool
 
 -- how far the walk has come with a node
 abbrev pub mark_of : State → ℕ → Mark
@@ -33,3 +34,7 @@ with_rank s node = record s {
   by_rank = s.by_rank ++ node ∷ [];
   stack = take (length s.stack - 1) s.stack;
 }
+
+-- the state once the nodes on the stack are given up
+abbrev pub given_up : State → State
+given_up s = record s { stack = []; gave_up = true }

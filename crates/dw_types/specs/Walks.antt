@@ -1,9 +1,10 @@
 -- State: what holds of the state of a walk over a graph before and after each turn.
 use Rattle.std.specs.Prelude.{◌≡◌, ◌≢◌, ℕ, ◌+◌, ◌-◌, ◌*◌, ◌^◌, ◌<◌, ◌≤◌, ◌⊎◌, Bool, true, false, length, slice_index}
-use Rattle.std.specs.Prelude.{sum, count_by}
+use Rattle.std.specs.Prelude.{Option, Some, None, sum, count_by}
+use Rattle.dw_types.specs.Cycles.{ReachesCycle}
 use Rattle.dw_types.specs.declared.walk.Mark.{Mark}
 use Rattle.dw_types.specs.declared.walk.Mark.TheVariants.{Fresh, Open, Ranked}
-use Rattle.dw_types.specs.Graphs.{Graph, steps_of, step_at, FollowsSteps, step_count}
+use Rattle.dw_types.specs.Graphs.{Graph, steps_of, step_at, FollowsSteps, IsStep, step_count}
 use Rattle.dw_types.specs.WalkStates.{State, mark_of, taken_up, with_rank}
 
 -- marks, counters and ranks have a place for each node
@@ -13,10 +14,15 @@ pub record HasPlaces (graph : Graph) (s : State) : Type 0 where
   pub ranks : length s.ranks ≡ length graph
   pub few : length graph < 2 ^ 64
 
--- the stack has each open node once, and each but the first is a step from the one below
+-- the node is on the stack
+abbrev pub IsStacked : State → ℕ → Type 0
+IsStacked s node = (k : ℕ) × (k < length s.stack) × (slice_index s.stack k ≡ node)
+
+-- the stack has each open node once, but for those that were given up, which reach cycles; each node of the stack but
+-- the first is a step from the one below
 pub record HasStack (graph : Graph) (s : State) : Type 0 where
   pub opened : (k : ℕ) → k < length s.stack → mark_of s (slice_index s.stack k) ≡ Open
-  pub stacked : (node : ℕ) → mark_of s node ≡ Open → (k : ℕ) × (k < length s.stack) × (slice_index s.stack k ≡ node)
+  pub stacked : (node : ℕ) → mark_of s node ≡ Open → IsStacked s node ⊎ ((s.gave_up ≡ true) × ReachesCycle graph node)
   pub once : (i j : ℕ) → i < j → j < length s.stack → slice_index s.stack i ≢ slice_index s.stack j
   pub steps : FollowsSteps graph s.stack
 
@@ -75,6 +81,18 @@ LooksUpBut graph s to = (place k : ℕ) → place < length s.stack → k < slice
 pub record IsWalk (graph : Graph) (s : State) : Type 0 where
   pub coherent : IsCoherent graph s
   pub looks_up : LooksUp graph s
+
+-- a step from the node on top of the stack goes to an open node
+pub record IsAtCycle (graph : Graph) (s : State) (to : ℕ) : Type 0 where
+  pub coherent : IsCoherent graph s
+  pub some : 0 < length s.stack
+  pub closes : IsStep graph (slice_index s.stack (length s.stack - 1)) to
+  pub opened : mark_of s to ≡ Open
+
+-- the walk goes on, or a step goes to an open node
+abbrev pub ComesTo : Graph → State → Option ℕ → Type 0
+ComesTo graph s None = IsWalk graph s
+ComesTo graph s (Some to) = IsAtCycle graph s to
 
 -- a node that was taken up is not fresh again
 abbrev pub KeepsTaken : State → State → Type 0

@@ -8,7 +8,7 @@ use std::marker::Model;
 
 /// Numbers in four bytes each. From the first one on that is added and does not fit, each has eight.
 #[derive(Drop)]
-pub(crate) struct Numbers {
+pub struct Numbers {
     small: Vec<u32>,
     large: Vec<usize>,
 }
@@ -21,7 +21,7 @@ impl Model for Numbers {
 
 impl Numbers {
     /// No numbers, and room for so many.
-    pub(crate) fn with_room(alloc: Global, count: usize) -> Result<Self, AllocError>
+    pub fn with_room(alloc: Global, count: usize) -> Result<Self, AllocError>
         ensures { IfOk result (λ it. it ≡ []) }
     {
         Ok(Numbers {
@@ -42,7 +42,7 @@ impl Numbers {
 
     /// How many numbers there are.
     #[inline]
-    pub(crate) fn len(&self) -> usize
+    pub fn len(&self) -> usize
         ensures { result ≡ length self.now }
     {
         self.small.len() + self.large.len()
@@ -50,7 +50,7 @@ impl Numbers {
 
     /// The number at a place.
     #[inline]
-    pub(crate) fn get(&self, place: usize) -> usize
+    pub fn get(&self, place: usize) -> usize
         requires { place < length self.now }
         ensures { result ≡ slice_index self.now place }
     {
@@ -74,7 +74,7 @@ impl Numbers {
 
     /// Adds a number at the end.
     #[inline]
-    pub(crate) fn push(&mut self, number: usize) -> Result<(), AllocError>
+    pub fn push(&mut self, number: usize) -> Result<(), AllocError>
         ensures { OnOk result (self.new ≡ self.old ++ number ∷ []) }
     {
         if self.large.is_empty() && number <= 0xffff_ffff {
@@ -95,6 +95,14 @@ impl Numbers {
         } else {
             let _ = self.large.pop();
         }
+    }
+
+    /// Takes all numbers away.
+    pub(crate) fn clear(&mut self)
+        ensures { self.new ≡ [] }
+    {
+        self.small.clear();
+        self.large.clear();
     }
 
     /// The last number, if there is one.

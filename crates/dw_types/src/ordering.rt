@@ -1,11 +1,14 @@
 //! The order of a graph: one walk with a stack, which looks at each step once.
 
-ghost use Rattle.std.specs.Prelude.{◌≡◌, ◌≢◌, ℕ, ◌+◌, ◌-◌, ◌^◌, ◌<◌, [], length, slice_index, Contains, IfOk, IfErr};
+ghost use Rattle.std.specs.Prelude.{◌≡◌, ◌≢◌, ℕ, ◌+◌, ◌-◌, ◌^◌, ◌<◌, [], None, length, slice_index, Contains, IfOk, IfErr};
 ghost use Rattle.std.specs.Prelude.{OnOk};
+ghost use Rattle.dw_types.specs.Cycles.{AreClear};
 ghost use Rattle.dw_types.specs.Graphs.{steps_of, FollowsSteps, IsStep, IsCycle, HasNoCycle};
 ghost use Rattle.dw_types.specs.OrderFaults.{IsFaultOf};
 ghost use Rattle.dw_types.specs.Orders.{IsOrderOf};
-ghost use Rattle.dw_types.specs.Walks.{IsMet, IsWalk, KeepsTaken, work_left};
+ghost use Rattle.dw_types.specs.Walks.{ComesTo, IsMet, IsWalk, KeepsTaken, work_left};
+ghost use Rattle.dw_types.specs.WalkStates.{mark_of, taken_up};
+ghost use Rattle.dw_types.specs.declared.walk.Mark.TheVariants.{Fresh};
 
 use crate::cycle::{place_of, place_of_least, round_from};
 use crate::graph::StepGraph;
@@ -25,11 +28,61 @@ pub fn order<G: StepGraph>(alloc: Global, graph: &G) -> Result<Order, OrderFault
     let mut walk = Walk::new(alloc, nodes)?;
     for start in 0..nodes {
         if let Mark::Fresh = walk.mark(start) {
-            meet_fresh(graph, &mut walk, start)?;
-            empty_stack(alloc, graph, &mut walk)?;
+            if let Some(to) = walk_from(alloc, graph, &mut walk, start)? {
+                let cycle = cycle_to(alloc, graph, walk.stack(), to)?;
+                return Err(OrderFault::Cycle(cycle));
+            }
         }
     }
     Ok(walk.into_order())
+}
+
+/// The nodes of a graph that reach no cycle, by rising rank: each after those that its steps lead to. This is the walk
+/// of `order`, which goes on past each cycle.
+pub fn clear_nodes<G: StepGraph>(alloc: Global, graph: &G) -> Result<Order, AllocError>
+    ensures { IfOk result (λ clear. AreClear (G.graph graph.now) clear.by_rank) }
+{
+    let nodes = graph.nodes();
+    let mut walk = Walk::new(alloc, nodes)?;
+    for start in 0..nodes {
+        if let Mark::Fresh = walk.mark(start) {
+            if let Some(_) = walk_from(alloc, graph, &mut walk, start)? {
+                walk.give_up();
+            }
+        }
+    }
+    Ok(walk.into_order())
+}
+
+/// Walks on from a fresh node until each node that was taken up has its rank, or until a step closes a cycle. Then it
+/// returns the node that the step leads to.
+fn walk_from<G: StepGraph>(
+    alloc: Global,
+    graph: &G,
+    walk: &mut Walk,
+    start: usize,
+) -> Result<Option<usize>, AllocError>
+    requires is_walk { IsWalk (G.graph graph.now) walk.old }
+    requires empty { walk.old.stack ≡ [] }
+    requires start { start < length (G.graph graph.now) }
+    requires fresh { mark_of walk.old start ≡ Fresh }
+    ensures comes { IfOk result (λ stop. ComesTo (G.graph graph.now) walk.new stop) }
+    ensures empty { IfOk result (λ stop. stop ≡ None → walk.new.stack ≡ []) }
+    ensures taken { OnOk result (KeepsTaken (taken_up walk.old start) walk.new) }
+    ensures gave_up { OnOk result (walk.new.gave_up ≡ walk.old.gave_up) }
+{
+    meet_fresh(graph, walk, start)?;
+    while let Some(node) = walk.top() {
+        let before = walk.next(node);
+        if before < graph.steps(node) {
+            if let Some(to) = follow_step(alloc, graph, walk, node, before)? {
+                return Ok(Some(to));
+            }
+        } else {
+            walk.rank_top(node)?;
+        }
+    }
+    Ok(None)
 }
 
 /// Puts a fresh node on the stack. One without steps gets its rank at once instead.
@@ -46,53 +99,34 @@ fn meet_fresh<G: StepGraph>(graph: &G, walk: &mut Walk, node: usize) -> Result<(
     }
 }
 
-/// Looks at the steps of the nodes on the stack until each node is ranked.
-fn empty_stack<G: StepGraph>(alloc: Global, graph: &G, walk: &mut Walk) -> Result<(), OrderFault>
-    requires { IsWalk (G.graph graph.now) walk.old }
-    ensures is_walk { OnOk result (IsWalk (G.graph graph.now) walk.new) }
-    ensures empty { OnOk result (walk.new.stack ≡ []) }
-    ensures taken { OnOk result (KeepsTaken walk.old walk.new) }
-    ensures err { IfErr result (IsFaultOf (G.graph graph.now)) }
-{
-    while let Some(node) = walk.top() {
-        let before = walk.next(node);
-        if before < graph.steps(node) {
-            follow_step(alloc, graph, walk, node, before)?;
-        } else {
-            walk.rank_top(node)?;
-        }
-    }
-    Ok(())
-}
-
 /// Looks at the next step of the node on top of the stack, by how many were looked at before, and takes up
-/// the node that it leads to, if that is fresh.
+/// the node that it leads to, if that is fresh. Returns that node if it is open.
 fn follow_step<G: StepGraph>(
     alloc: Global,
     graph: &G,
     walk: &mut Walk,
     node: usize,
     before: usize,
-) -> Result<(), OrderFault>
+) -> Result<Option<usize>, AllocError>
     requires is_walk { IsWalk (G.graph graph.now) walk.old }
     requires some { 0 < length walk.old.stack }
     requires top { slice_index walk.old.stack (length walk.old.stack - 1) ≡ node }
     requires before { slice_index walk.old.next node ≡ before }
     requires more { slice_index walk.old.next node < length (steps_of (G.graph graph.now) node) }
     requires fits { length (steps_of (G.graph graph.now) node) < 2 ^ 64 }
-    ensures is_walk { OnOk result (IsWalk (G.graph graph.now) walk.new) }
+    ensures comes { IfOk result (λ stop. ComesTo (G.graph graph.now) walk.new stop) }
     ensures taken { OnOk result (KeepsTaken walk.old walk.new) }
+    ensures gave_up { OnOk result (walk.new.gave_up ≡ walk.old.gave_up) }
     ensures less { OnOk result (work_left (G.graph graph.now) walk.new < work_left (G.graph graph.now) walk.old) }
-    ensures err { IfErr result (IsFaultOf (G.graph graph.now)) }
 {
     let to = graph.step(node, before);
     walk.count_step(alloc, node, before)?;
     match walk.mark(to) {
         Mark::Fresh => meet_fresh(graph, walk, to)?,
-        Mark::Open => return Err(OrderFault::Cycle(cycle_to(alloc, graph, walk.stack(), to)?)),
+        Mark::Open => return Ok(Some(to)),
         Mark::Ranked => {}
     }
-    Ok(())
+    Ok(None)
 }
 
 /// The cycle that a step from the top of the stack to a node on it closes, turned to begin with its least node.
@@ -101,13 +135,12 @@ fn cycle_to<G: StepGraph>(
     graph: &G,
     stack: &Numbers,
     to: usize,
-) -> Result<Vec<usize>, OrderFault>
+) -> Result<Vec<usize>, AllocError>
     requires on_stack { Contains stack.now to }
     requires once { (i j : ℕ) → i < j → j < length stack.now → slice_index stack.now i ≢ slice_index stack.now j }
     requires steps { FollowsSteps (G.graph graph.now) stack.now }
     requires closes { IsStep (G.graph graph.now) (slice_index stack.now (length stack.now - 1)) to }
-    ensures cycle { IfOk result (λ cycle. IsCycle (G.graph graph.now) cycle.items) }
-    ensures err { IfErr result (IsFaultOf (G.graph graph.now)) }
+    ensures { IfOk result (λ cycle. IsCycle (G.graph graph.now) cycle.items) }
 {
     let stack = stack.to_vec(alloc)?;
     let stack = stack.as_slice();

@@ -45,7 +45,7 @@ impl Packed {
     }
 
     /// The graph of these steps, one node after another, where those of each node end here.
-    pub(crate) fn from_rows(steps: Numbers, ends: Numbers) -> Self
+    pub fn from_rows(steps: Numbers, ends: Numbers) -> Self
         requires in_order { CutsInOrder steps ends }
         requires leads { LeadsBelow steps (length ends) }
         ensures { ⟦<Packed as StepGraph>⟧.graph result ≡ cut steps 0 ends }

@@ -1,8 +1,8 @@
 //! The state of a walk over a graph.
 
-ghost use Rattle.std.specs.Prelude.{◌≡◌, ◌+◌, ◌-◌, ◌^◌, ◌<◌, [], length, replicate, slice_index, IfOk, OnOk};
+ghost use Rattle.std.specs.Prelude.{◌≡◌, ◌+◌, ◌-◌, ◌^◌, ◌<◌, [], false, length, replicate, slice_index, IfOk, OnOk};
 ghost use Rattle.std.specs.Prelude.{MatchOption};
-ghost use Rattle.dw_types.specs.WalkStates.{mark_of, taken_up, with_step, with_rank};
+ghost use Rattle.dw_types.specs.WalkStates.{mark_of, taken_up, with_step, with_rank, given_up};
 
 use crate::numbers::Numbers;
 use crate::ranking::Order;
@@ -14,13 +14,14 @@ use std::marker::Model;
 pub(crate) enum Mark {
     /// Not taken up yet.
     Fresh,
-    /// On the stack.
+    /// On the stack, or given up.
     Open,
     /// All its steps were looked at, and it has its rank.
     Ranked,
 }
 
-/// A walk over a graph, which keeps its way in a stack.
+/// A walk over a graph, which keeps its way in a stack. Nodes are given up if they reach a cycle: they stay open, but are
+/// not on the stack.
 #[derive(Drop)]
 pub(crate) struct Walk {
     marks: Vec<Mark>,
@@ -29,6 +30,7 @@ pub(crate) struct Walk {
     by_rank: Numbers,
     stack: Numbers,
     turns: u128,
+    gave_up: bool,
 }
 
 impl Model for Walk {
@@ -44,6 +46,7 @@ impl Model for Walk {
       by_rank = w.by_rank;
       stack = w.stack;
       turns = w.turns;
+      gave_up = w.gave_up;
     } };
 }
 
@@ -58,6 +61,7 @@ impl Walk {
               by_rank = [];
               stack = [];
               turns = 0;
+              gave_up = false;
             }) }
     {
         Ok(Walk {
@@ -67,6 +71,7 @@ impl Walk {
             by_rank: Numbers::with_room(alloc, nodes)?,
             stack: Numbers::with_room(alloc, 0)?,
             turns: 0,
+            gave_up: false,
         })
     }
 
@@ -153,6 +158,14 @@ impl Walk {
         self.marks[node] = Mark::Ranked;
         self.stack.pop();
         Ok(())
+    }
+
+    /// Gives up the nodes on the stack.
+    pub(crate) fn give_up(&mut self)
+        ensures { self.new ≡ given_up self.old }
+    {
+        self.stack.clear();
+        self.gave_up = true;
     }
 
     /// The ranks and the turns of a walk.

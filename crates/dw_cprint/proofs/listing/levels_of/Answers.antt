@@ -1,22 +1,19 @@
-use Rattle.std.proofs.Common.{◌<◌, ℕ, length, get_or, ap, subst, ◌∙◌, arith}
-use Rattle.dw_types.specs.Graphs.{Graph, IsCycle}
-use Rattle.dw_cprint.specs.LongestRows.{IsLongest}
-use Rattle.dw_cprint.proofs.LevelLemmas.{no-cycle, steps-long}
+use Rattle.std.proofs.Common.{length, get_or, ap, subst, ◌∙◌}
+use Rattle.dw_types.specs.Cycles.{AreClear}
+use Rattle.dw_types.specs.Graphs.{Graph}
+use Rattle.dw_cprint.specs.LongestRows.{AreLongest}
+use Rattle.dw_cprint.proofs.LevelLemmas.{all-clear, steps-long}
 use Rattle.dw_cprint.proofs.listing.levels_of.Goals as goal
 
-pub returns-in-Ok-clause-entries : goal.returns-in-Ok-clause-entries
-returns-in-Ok-clause-entries c = c.in_ok-levels-in-Ok.ensures.nodes ∙ (ap length c.by_value-steps.ensures ∙ steps-long c.args.image.now)
+pub returns-clause-entries : goal.returns-clause-entries
+returns-clause-entries c = c.in_ok-levels.ensures.nodes ∙ (ap length c.by_value-steps.ensures ∙ steps-long c.args.image.now)
 
-pub returns-in-Ok-clause-levels : goal.returns-in-Ok-clause-levels
-returns-in-Ok-clause-levels c =
-    let counts = c.in_ok-levels-in-Ok.levels in
-    let L : Graph → Type 0 = λ g. (entry : ℕ) → entry < length g → IsLongest g entry (get_or counts.items entry 0) in
-    let known = subst L c.by_value-steps.ensures c.in_ok-levels-in-Ok.ensures.longest in
-    let long = steps-long c.args.image.now in
-    λ entry w. known entry (omega arith)
-
-pub unreachable-requires : goal.unreachable-requires
-unreachable-requires c =
-    let P : Graph → Type 0 = λ g. IsCycle g c.in-Err-Cycle.field-0-0.items in
-    no-cycle c.args.image.now c.in-Err-Cycle.field-0-0.items
-    (subst P c.by_value-steps.ensures (rw c.in-Err-Cycle.field-0-is at c.in-Err-Cycle.ensures.err))
+pub returns-clause-levels : goal.returns-clause-levels
+returns-clause-levels c =
+    let counts = c.in_ok-levels.levels in
+    let clear = c.in_ok-clear.clear.by_rank in
+    let C : Graph → Type 0 = λ g. AreClear g clear in
+    let L : Graph → Type 0 = λ g. AreLongest g clear (λ node. get_or counts.items node 0) in
+    let sorted = subst C c.by_value-steps.ensures c.in_ok-clear.ensures in
+    let known = subst L c.by_value-steps.ensures c.in_ok-levels.ensures.longest in
+    λ entry w. known entry (all-clear c.args.image.now clear sorted entry w)

@@ -3,8 +3,8 @@ use Rattle.std.proofs.lemmas.List.{take_rest}
 use Rattle.dw_types.proofs.CycleLemmas.{ring-from_stack, cycle-from_ring}
 use Rattle.dw_types.proofs.ordering.cycle_to.Goals as goal
 
-pub returns-clause-cycle : goal.returns-clause-cycle
-returns-clause-cycle g c =
+pub returns : goal.returns
+returns g c =
     let graph = g.G.StepGraph.graph c.args.graph.now in
     let stack = c.args.stack.now in
     let place = c.place_of.result in

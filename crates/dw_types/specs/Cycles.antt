@@ -7,10 +7,6 @@ abbrev pub Leads : Graph → ℕ → ℕ → ℕ → Type 0
 Leads graph zero from to = from ≡ to
 Leads graph (suc k) from to = (next : ℕ) × IsStep graph from next × Leads graph k next to
 
--- some steps, at least one, lead from one node to another; if the steps are by value, the one holds the other
-abbrev pub HoldsByValue : Graph → ℕ → ℕ → Type 0
-HoldsByValue graph from to = (k : ℕ) × Leads graph (suc k) from to
-
 -- some steps, at least one, lead from a node to itself
 abbrev pub IsOnCycle : Graph → ℕ → Type 0
 IsOnCycle graph node = (k : ℕ) × Leads graph (suc k) node node

@@ -1,0 +1,60 @@
+use Rattle.std.proofs.Common.{ℕ, ◌<◌, ◌+◌, [], ◌∷◌, ◌++◌, length, arith, List, Option, refl, sym, ap, ◌∙◌, take, append-nil, append_assoc, Vec}
+use Rattle.std.specs.Global.{Global}
+use Rattle.std.proofs.lemmas.List.Elements.{All-contains}
+use Rattle.dw_cprint.specs.Steps.{entries_of}
+use Rattle.dw_cprint.proofs.PlaceLemmas.{finds-none, finds-both, entries-take, entry-among, finds-as}
+use Rattle.dw_cprint.proofs.reaching.push_row.Goals as goal
+use Rattle.dw_cprint.proofs.reaching.push_row.Goals.{in-Some+in_ok-place_of+in_ok-push, in_default}
+
+pub loop-at-init : goal.loop-at-init
+loop-at-init c = ([], finds-none c.args.places.now.items c.args.found.now c.requires.placed, sym (append-nil c.args.steps.now))
+
+pub place_of-requires-clause-within : goal.place_of-requires-clause-within
+place_of-requires-clause-within c =
+    let types = c.args.types.now in
+    let below = All-contains (λ to. to < length c.args.places.now.items) (entries_of types) c.in-Some.entry c.requires.within (entry-among types c.loop-at.at-index c.in-Some.entry c.loop-at-test.true (c.in-Some.is)) in
+    let same = c.loop-at.invariant.1.len in
+    omega arith
+
+pub place_of-requires-clause-few : goal.place_of-requires-clause-few
+place_of-requires-clause-few c =
+    let same = c.loop-at.invariant.1.len in
+    let few = c.requires.few in
+    omega arith
+
+pub loop-at-preserved : goal.loop-at-preserved
+loop-at-preserved c =
+    let types = c.args.types.now in
+    let i = c.loop-at.at-index in
+    let p0 = c.args.places.now.items in
+    let f0 = c.args.found.now in
+    let p1 = c.loop-at.places.items in
+    let f1 = c.loop-at.found in
+    let p2 = c.match-at.places.items in
+    let f2 = c.match-at.found in
+    let old = c.args.steps.now in
+    let before = entries_of (take i types) in
+    let after = entries_of (take (i + 1) types) in
+    let items = λ (v : Vec ℕ Global). v.items in
+    let split = sym (entries-take types i c.loop-at-test.true) in
+    let (r, finds, all) = c.loop-at.invariant in
+    elim c.match-at.branch [
+      | in-Some+in_ok-place_of+in_ok-push w ↦
+          let entry = w.in-Some.entry in
+          let place = w.in_ok-place_of.field-0 in
+          let p = w.place_of.new.places.items in
+          let f = w.place_of.new.found in
+          let r2 = r ++ place ∷ [] in (
+            r2,
+            finds-as (before ++ entry ∷ []) after p0 p p2 f0 f f2 r2 r2
+                (ap (λ (o : Option ℕ). before ++ entries_of (o ∷ [])) (sym w.in-Some.is) ∙ split) (ap items (sym w.places-is)) (sym w.found-is) refl
+                (finds-both before (entry ∷ []) p0 p1 p f0 f1 f r (place ∷ []) finds w.in_ok-place_of.ensures.row),
+            w.steps-is ∙ (w.in_ok-push.ensures ∙ (ap (λ (xs : List ℕ). xs ++ place ∷ []) all ∙ append_assoc old r (place ∷ []))),
+          )
+      | in_default w ↦ (
+        r,
+        finds-as before after p0 p1 p2 f0 f1 f2 r r
+            (sym (append-nil before) ∙ (ap (λ (o : Option ℕ). before ++ entries_of (o ∷ [])) (sym w.in_default.is) ∙ split)) (ap items (sym w.places-is)) (sym w.found-is) refl finds,
+        w.steps-is ∙ all,
+      )
+    ]
