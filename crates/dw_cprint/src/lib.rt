@@ -38,3 +38,5 @@ pub use laws::{
     text_in_parts, types_are_entries,
 };
 pub use listing::{Listing, declare_all};
+pub use source::{Source, Strings};
+pub use text::Text;

@@ -11,7 +11,7 @@ use crate::names::are_words;
 use crate::shape::Name;
 use crate::string_table::StringTable;
 use crate::text::Text;
-use dw_image::{EntryId, Image, TextPlace};
+use dw_image::{EntryId, Image, TextPlace, string_from};
 use std::alloc::{AllocError, Global};
 
 /// The strings of an image that entries share.
@@ -46,13 +46,16 @@ pub struct Source<'i, 'a> {
 }
 
 impl<'i, 'a> Source<'i, 'a> {
-    /// The text at a place. One that is in a value is read to its end.
-    fn text(&self, place: TextPlace<'a>) -> Text<'a>
+    /// The text at a place. One in .debug_info is read to its end.
+    pub fn text(&self, place: TextPlace) -> Text<'a>
         requires { IsPlace (sections_in self.now.image.now) place }
-        ensures { result.bytes.now ≡ text_there (sections_in self.now.image.now) place.entry }
+        ensures { result.bytes.now ≡ text_there (sections_in self.now.image.now) place }
     {
         match place {
-            TextPlace::Inline(bytes) => Text::new(bytes, are_words(bytes)),
+            TextPlace::Info(offset) => {
+                let bytes = string_from(self.image.sections().info, offset);
+                Text::new(bytes, are_words(bytes))
+            }
             TextPlace::Str(offset) => self.strings.str.text(offset),
             TextPlace::LineStr(offset) => self.strings.line_str.text(offset),
         }

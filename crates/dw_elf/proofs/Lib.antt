@@ -1,3 +1,4 @@
 pub mod NameLemmas
+pub mod PlaceLemmas
 pub mod SlotLemmas
 pub mod FaultLemmas

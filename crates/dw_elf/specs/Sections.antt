@@ -1,5 +1,5 @@
 -- Chapter: the bytes of a section by its name, and the six sections of a file.
-use Rattle.std.specs.Prelude.{◌≡◌, ◌⊎◌, List, [], ℕ}
+use Rattle.std.specs.Prelude.{◌≡◌, ◌⊎◌, List, [], ℕ, length, take, drop}
 use Rattle.dw_elf.specs.declared.sections.Sections.{Sections}
 use Rattle.dw_elf.specs.declared.names.DebugSection.TheVariants.{Abbrev, Info, Str, LineStr, StrOffsets, Addr}
 use Rattle.dw_elf.specs.Elf.{IsHeader, section_name, section_bytes}
@@ -26,3 +26,7 @@ pub record AreSections (file : List ℕ) (s : Sections) : Type 0 where
   pub line_str_is : IsSection file (name_of LineStr) s.line_str.now
   pub str_offsets_is : IsSection file (name_of StrOffsets) s.str_offsets.now
   pub addr_is : IsSection file (name_of Addr) s.addr.now
+
+-- these bytes are in the file from an offset on
+abbrev pub IsAt : List ℕ → ℕ → List ℕ → Type 0
+IsAt file offset bytes = take (length bytes) (drop offset file) ≡ bytes

@@ -5,12 +5,18 @@ ghost use Rattle.dw_elf.specs.Names.{name_of, IsWanted, IsZdebug};
 
 /// A section that is looked for.
 #[derive(Clone, Copy, Debug, PartialEq, Eq)]
-pub(crate) enum DebugSection {
+pub enum DebugSection {
+    /// .debug_abbrev
     Abbrev,
+    /// .debug_info
     Info,
+    /// .debug_str
     Str,
+    /// .debug_line_str
     LineStr,
+    /// .debug_str_offsets
     StrOffsets,
+    /// .debug_addr
     Addr,
 }
 

@@ -16,7 +16,7 @@ use Rattle.dw_entries.specs.declared.header.UnitType.{UnitType}
 use Rattle.dw_entries.specs.declared.lookup.UnitHead.{UnitHead}
 use Rattle.dw_entries.specs.declared.record.Record.{Record}
 use Rattle.dw_entries.specs.declared.record.UnitRecord.{UnitRecord}
-use Rattle.dw_entries.specs.Grammar.{declared_in, attribute_bytes, Head}
+use Rattle.dw_entries.specs.Grammar.{declared_in, attribute_bytes, Head, head_bytes}
 use Rattle.dw_entries.specs.Header.{type_of}
 use Rattle.dw_entries.specs.Tree.{leaf}
 use Rattle.dw_entries.specs.Reading.{seen, code_at}
@@ -117,11 +117,20 @@ module _ {a info : List ℕ} {tables : List (List Numbered)} {rs : List UnitReco
     pub never_unread : (f : Failing) → seen (λ c. c.number) (code_at (take (length info - r.at) (drop r.at info))) ≡ Err f → ⊥
     never_unread f failed = let ok = code_read in cc
 
+    pub values_are : (n : ℕ) (rest : List ℕ) → seen (λ c. c.number) (code_at (take (length info - r.at) (drop r.at info))) ≡ Ok (n, rest)
+        → rest ≡ flat_map attribute_bytes k.entry.head.attributes ++ k.stands.after
+    values_are n rest got = (ok_pair {E = Failing} n k.entry.head.decl.code rest (flat_map attribute_bytes k.entry.head.attributes ++ k.stands.after) (sym got ∙ code_read)).1
+
     pub values_follow : (n : ℕ) (rest : List ℕ) → seen (λ c. c.number) (code_at (take (length info - r.at) (drop r.at info))) ≡ Ok (n, rest)
         → IfSome (slice_get (entries_of (units_of s)) id) (λ e. (behind : List ℕ) × (rest ≡ flat_map attribute_bytes e.head.attributes ++ behind))
-    values_follow n rest got =
-        let pair = ok_pair {E = Failing} n k.entry.head.decl.code rest (flat_map attribute_bytes k.entry.head.attributes ++ k.stands.after) (sym got ∙ code_read) in
-        of_entry (λ e. (behind : List ℕ) × (rest ≡ flat_map attribute_bytes e.head.attributes ++ behind)) (k.stands.after, pair.1)
+    values_follow n rest got = of_entry (λ e. (behind : List ℕ) × (rest ≡ flat_map attribute_bytes e.head.attributes ++ behind)) (k.stands.after, values_are n rest got)
+
+    -- the entry is at the front of the bytes from its offset on
+    pub entry_parts : take (length info - r.at) (drop r.at info) ≡ head_bytes k.entry.head ++ k.stands.after
+    entry_parts =
+        let e : r.at ≡ k.entry.at = ap (λ (q : Record). q.at) record_is in
+        let w = at_within in
+        rest_of r.at info (omega (arith, w)) ∙ ap (λ (n : ℕ). drop n info) e ∙ k.stands.parts
 
   -- the header of a unit that has the number of the entry's
   pub header_is : (number : ℕ) (u : UnitRecord) → number ≡ k.entry.unit → slice_get rs number ≡ Some u

@@ -43,7 +43,7 @@ module _ {a info : List ℕ} {tables : List (List Numbered)} {rs : List UnitReco
       let v : version ≡ version_of k.stands.unit.header.kind = version_is ∙ ap (λ (h : UnitHeader). version_of h.kind) header_same in
       λ i. value_context (v i) (header_same i).address_size
 
-  are_here : AreAttributes (value_context version header.address_size) specs k.entry.head.attributes
+  pub are_here : AreAttributes (value_context version header.address_size) specs k.entry.head.attributes
   are_here =
       let declared : specs ≡ k.entry.head.decl.attributes = specs_are ∙ ap (λ (c : Declaration). c.attributes) (from_entry k (λ e. d ≡ e.head.decl) of_decl) in
       let bare = without_table (context_of k.stands.unit) k.entry.head.decl.attributes k.entry.head.attributes k.stands.is.attributes in

@@ -27,3 +27,4 @@ pub mod LeftLaws
 pub mod UnitTurns
 pub mod FindLaws
 pub mod RunLaws
+pub mod TextLaws

@@ -61,7 +61,7 @@ pub record Passed (x : Context) (specs : List AttributeSpec) (bs : List Attribut
   pub spelled : behind ≡ flat_map attribute_bytes others ++ rest
   pub values : map value_of others ≡ drop k (map value_of bs)
 
-one_end : (x : Context) (s : AttributeSpec) (b : Attribute) (rest : List ℕ) → IsAttribute x s b → rest_at x.version s.form x.address_size (b.bytes ++ rest) ≡ Ok rest
+pub one_end : (x : Context) (s : AttributeSpec) (b : Attribute) (rest : List ℕ) → IsAttribute x s b → rest_at x.version s.form x.address_size (b.bytes ++ rest) ≡ Ok rest
 unfolding rest_at
 one_end x s b rest p = rw (value_again x s b rest p) refl
 

@@ -6,15 +6,15 @@ ghost use Rattle.std.specs.Bool.{OnFalse};
 ghost use Rattle.std.specs.List.{flat_map};
 ghost use Rattle.dw_forms.specs.Abbrev.{view as decl_view};
 ghost use Rattle.dw_forms.specs.Codes.{is_type_tag};
-ghost use Rattle.dw_forms.specs.Value.{view};
+ghost use Rattle.dw_forms.specs.Value.{text, view};
 ghost use Rattle.dw_entries.specs.Cursors.{IsUnitAt};
-ghost use Rattle.dw_entries.specs.Grammar.{attribute_bytes};
+ghost use Rattle.dw_entries.specs.Grammar.{attribute_bytes, head_bytes};
 ghost use Rattle.dw_entries.specs.Entries.{Entry};
 ghost use Rattle.dw_entries.specs.Scanned.{all_entries, units_of};
 ghost use Rattle.dw_entries.specs.Asked.{values_of};
 ghost use Rattle.dw_entries.specs.ValuesLeft.{values_left};
 ghost use Rattle.dw_entries.specs.Leading.{leading_left};
-ghost use Rattle.dw_entries.specs.Lookups.{declares, entry_head, value_at_entry};
+ghost use Rattle.dw_entries.specs.Lookups.{IsTextAt, declares, entry_head, value_at_entry};
 
 use crate::cursor::{UnitAt, unit_at};
 use crate::entries::Entries;
@@ -250,6 +250,29 @@ impl<'e, 'a> EntryAt<'e, 'a> {
             .value(version, self.header.address_size, attribute, bytes)
         {
             Ok(value) => value,
+            Err(_) => unreachable!(),
+        }
+    }
+
+    /// Where the text that is the value of its attribute starts, from the first byte of the entry. The text is in the
+    /// value itself.
+    pub(crate) fn text_start(&self, attribute: Attribute, bytes: &[u8]) -> usize
+        requires { IfSome self.now (λ e. value_at_entry e attribute ≡ Some (text bytes.now)) }
+        ensures { IfSome self.now (λ e. IsTextAt (head_bytes e.head) result bytes.now) }
+    {
+        let entries = self.entries;
+        let entry = &entries.sections.info[self.kept.at as usize..];
+        let Ok((_, values)) = read_code(entry) else {
+            unreachable!();
+        };
+        let attributes = &self.decl.attributes;
+        let Some(place) = attributes.place(attribute) else {
+            unreachable!();
+        };
+        let passed = &attributes.as_slice()[..=place];
+        let version = self.header.kind.version();
+        match attributes.pass(version, self.header.address_size, 0, passed.len(), values) {
+            Ok(after) => entry.len() - after.len() - 1 - bytes.len(),
             Err(_) => unreachable!(),
         }
     }

@@ -2,12 +2,13 @@
 
 ghost use Rattle.std.specs.Prelude.{◌≡◌, ◌<◌, ℕ, Some, length, slice_get, IfSome, option_map};
 ghost use Rattle.dw_forms.specs.Abbrev.{view as decl_view};
-ghost use Rattle.dw_forms.specs.Value.{view};
+ghost use Rattle.dw_forms.specs.Value.{text, view};
 ghost use Rattle.dw_entries.specs.Entries.{Entry};
 ghost use Rattle.dw_entries.specs.Scanned.{all_entries, all_units, units_of};
 ghost use Rattle.dw_entries.specs.Asked.{values_of};
 ghost use Rattle.dw_entries.specs.ValuesLeft.{values_left};
-ghost use Rattle.dw_entries.specs.Lookups.{IsKeptIn, nth_of, full_head, unit_head, value_at_entry};
+ghost use Rattle.dw_entries.specs.Lookups.{IsKeptIn, IsTextAt, nth_of, full_head, unit_head, value_at_entry};
+ghost use Rattle.dw_entries.specs.Views.{sections_of};
 
 use crate::entries::Entries;
 use crate::header::{UnitHeader, UnitType};
@@ -160,5 +161,16 @@ impl<'a> Entries<'a> {
             (λ e. option_map view result ≡ value_at_entry e attribute) }
     {
         self.at(id).value(attribute)
+    }
+
+    /// Where the text of an entry's attribute starts in .debug_info. The text is in the value itself.
+    pub fn text_start(&self, id: EntryId, attribute: Attribute, bytes: &[u8]) -> usize
+        requires id { id < length (all_entries self.now.scanned) }
+        requires value { IfSome (slice_get (all_entries self.now.scanned) id)
+            (λ e. value_at_entry e attribute ≡ Some (text bytes.now)) }
+        ensures { IsTextAt (sections_of self.now).info.now result bytes.now }
+    {
+        let entry = self.at(id);
+        entry.offset() as usize + entry.text_start(attribute, bytes)
     }
 }

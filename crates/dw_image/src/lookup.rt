@@ -100,7 +100,7 @@ impl<'a> Image<'a> {
 
     /// Where the text of an entry's DW_AT_name is. None if the entry has no name.
     #[tactic(auto, unfolding(crate::specs::Images::units_in))]
-    pub fn name_place(&self, id: EntryId) -> Option<TextPlace<'a>>
+    pub fn name_place(&self, id: EntryId) -> Option<TextPlace>
         requires { id < length (entries_in self.now) }
         ensures text { IfSome (slice_get (entries_in self.now) id)
             (λ e. option_map (text_there (sections_in self.now)) result ≡ name_in self.now e) }

@@ -15,6 +15,7 @@ pub mod TargetLaws
 pub mod Asked
 pub mod TableLaws
 pub mod SlotLaws
+pub mod InfoTexts
 pub mod TypeLaws
 pub mod LinkedTexts
 pub mod LinkedEntries

@@ -237,11 +237,11 @@ address_lies sections us id e p attribute (rng_index n) none is is_unit size val
 
 -- ---- what is told of a value is told of the attribute
 
-pub text_told : (given sections : Sections) (entries : List Entry) (units : List PlacedUnit) (e : Entry) (p : PlacedUnit) (attribute : ℕ) (v : Datum) (bases : UnitBases) (answer : Option (List ℕ)) → given ≡ sections → bases ≡ bases_in entries p
-    → slice_get units e.unit ≡ Some p → Some v ≡ value_at_entry e attribute → answer ≡ text_of given bases.strings v → answer ≡ text_at sections entries units e attribute
+pub text_told : (sections : Sections) (entries : List Entry) (units : List PlacedUnit) (e : Entry) (p : PlacedUnit) (attribute : ℕ) (v : Datum) (bases : UnitBases) (answer : Option (List ℕ)) → bases ≡ bases_in entries p
+    → slice_get units e.unit ≡ Some p → Some v ≡ value_at_entry e attribute → answer ≡ text_of sections bases.strings v → answer ≡ text_at sections entries units e attribute
 unfolding text_at
-text_told given sections entries units e p attribute v bases answer same of_unit is_unit value is =
-    let told : answer ≡ text_of sections (base_in entries p DW_AT_str_offsets_base) v = is ∙ ap (λ (s : Sections). text_of s bases.strings v) same ∙ ap (λ (b : UnitBases). text_of sections b.strings v) of_unit in
+text_told sections entries units e p attribute v bases answer of_unit is_unit value is =
+    let told : answer ≡ text_of sections (base_in entries p DW_AT_str_offsets_base) v = is ∙ ap (λ (b : UnitBases). text_of sections b.strings v) of_unit in
     rw (is_unit, ← value) told
 
 pub address_told : (given sections : Sections) (entries : List Entry) (units : List PlacedUnit) (e : Entry) (p : PlacedUnit) (attribute : ℕ) (v : Datum) (header : UnitHeader) (bases : UnitBases) (answer : Option ℕ) → given ≡ sections → header ≡ p.unit.header

@@ -5,7 +5,7 @@ use Rattle.dw_forms.specs.Value.{Datum, str, line_str, str_index, addr_index}
 use Rattle.dw_entries.specs.declared.header.UnitHeader.{UnitHeader}
 use Rattle.dw_entries.specs.Header.{IsSize}
 use Rattle.dw_links.specs.declared.text_place.TextPlace.{TextPlace}
-use Rattle.dw_links.specs.declared.text_place.TextPlace.TheVariants.{Inline, Str, LineStr}
+use Rattle.dw_links.specs.declared.text_place.TextPlace.TheVariants.{Info, Str, LineStr}
 use Rattle.dw_links.specs.Contributions.{slot_at}
 
 -- the slot of an index lies within .debug_str_offsets, and the string that it leads to within .debug_str
@@ -22,7 +22,7 @@ TextLies sections base _ = Unit {0}
 
 -- a place is within its section
 abbrev pub IsPlace : Sections → TextPlace → Type 0
-IsPlace sections (Inline bytes) = Unit {0}
+IsPlace sections (Info offset) = offset ≤ length sections.info.now
 IsPlace sections (Str offset) = offset ≤ length sections.str.now
 IsPlace sections (LineStr offset) = offset ≤ length sections.line_str.now
 

@@ -4,7 +4,7 @@ use Rattle.dw_elf.specs.declared.sections.Sections.{Sections}
 use Rattle.dw_forms.specs.Value.{Datum, address, text, str, line_str, str_index, addr_index}
 use Rattle.dw_entries.specs.declared.header.UnitHeader.{UnitHeader}
 use Rattle.dw_links.specs.declared.text_place.TextPlace.{TextPlace}
-use Rattle.dw_links.specs.declared.text_place.TextPlace.TheVariants.{Inline, Str, LineStr}
+use Rattle.dw_links.specs.declared.text_place.TextPlace.TheVariants.{Info, Str, LineStr}
 use Rattle.dw_links.specs.Contributions.{slot_at, string_at}
 
 -- the text of an indexed string: the one that its slot leads to
@@ -23,7 +23,7 @@ text_of sections base _ = None
 
 -- the text at a place
 abbrev pub text_there : Sections → TextPlace → List ℕ
-text_there sections (Inline bytes) = bytes.now
+text_there sections (Info offset) = string_at sections.info.now offset
 text_there sections (Str offset) = string_at sections.str.now offset
 text_there sections (LineStr offset) = string_at sections.line_str.now offset
 

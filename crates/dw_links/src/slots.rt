@@ -22,11 +22,11 @@ fn slot(section: &[u8], size: u8, base: u32, index: u64) -> u64
 }
 
 /// Where the string is that the slot of an index leads to, if there is a base.
-pub(crate) fn place_in_slot<'a>(
+pub(crate) fn place_in_slot(
     sections: &Sections<'_>,
     base: Option<u32>,
     index: u64,
-) -> Option<TextPlace<'a>>
+) -> Option<TextPlace>
     requires { IfSome base (IsTextSlot sections.now index) }
     ensures text { option_map (text_there sections.now) result ≡ indexed_text sections.now base index }
     ensures within { IfSome result (IsPlace sections.now) }

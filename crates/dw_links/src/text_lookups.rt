@@ -1,7 +1,8 @@
 //! The texts and addresses of entries' attributes.
 
-ghost use Rattle.std.specs.Prelude.{◌≡◌, ◌<◌, length, slice_get, IfSome, option_copied, option_map};
+ghost use Rattle.std.specs.Prelude.{◌≡◌, ◌<◌, length, slice_get, IfSome, Some, option_copied, option_map};
 ghost use Rattle.dw_forms.specs.Value.{view};
+ghost use Rattle.dw_entries.specs.Lookups.{value_at_entry};
 ghost use Rattle.dw_entries.specs.Scanned.{all_entries, all_units, units_of};
 ghost use Rattle.dw_entries.specs.Views.{sections_of};
 ghost use Rattle.dw_entries.specs.Failures.{HasNone};
@@ -18,21 +19,30 @@ use dw_elf::Sections;
 use dw_entries::{Entries, EntryId, UnitHeader};
 use dw_forms::{Attribute, Value};
 
-/// Where the text of a value is, if that is a string.
-fn place_of_value<'a>(
-    sections: &Sections<'a>,
+/// Where the text of the value of an entry's attribute is, if that is a string.
+fn place_of_value(
+    entries: &Entries<'_>,
+    id: EntryId,
+    attribute: Attribute,
     base: Option<u32>,
-    value: Value<'a>,
-) -> Option<TextPlace<'a>>
-    requires { TextLies sections.now base (view value) }
-    ensures text { option_map (text_there sections.now) result ≡ text_of sections.now base (view value.entry) }
-    ensures within { IfSome result (IsPlace sections.now) }
+    value: Value<'_>,
+) -> Option<TextPlace>
+    requires id { id < length (all_entries entries.now.scanned) }
+    requires value { IfSome (slice_get (all_entries entries.now.scanned) id)
+        (λ e. value_at_entry e attribute ≡ Some (view value)) }
+    requires lies { TextLies (sections_of entries.now) base (view value) }
+    ensures text { option_map (text_there (sections_of entries.now)) result
+        ≡ text_of (sections_of entries.now) base (view value.entry) }
+    ensures within { IfSome result (IsPlace (sections_of entries.now)) }
 {
     match value {
-        Value::Text(bytes) => Some(TextPlace::Inline(bytes)),
+        Value::Text(bytes) => {
+            let offset = entries.text_start(id, attribute, bytes);
+            Some(TextPlace::Info(offset))
+        }
         Value::Str(offset) => Some(TextPlace::Str(offset as usize)),
         Value::LineStr(offset) => Some(TextPlace::LineStr(offset as usize)),
-        Value::StrIndex(index) => place_in_slot(sections, base, index),
+        Value::StrIndex(index) => place_in_slot(entries.sections(), base, index),
         _ => None,
     }
 }
@@ -67,12 +77,12 @@ impl LinkTables {
     }
 
     /// Where the text of an entry's attribute is. None where the attribute is absent or no string.
-    pub fn text_place<'a>(
+    pub fn text_place(
         &self,
-        entries: &Entries<'a>,
+        entries: &Entries<'_>,
         id: EntryId,
         attribute: Attribute,
-    ) -> Option<TextPlace<'a>>
+    ) -> Option<TextPlace>
         requires id { id < length (all_entries entries.now.scanned) }
         requires tables { AreTables entries.now self.now }
         requires strings { HasNone (StringFailures (sections_of entries.now) (units_of entries.now.scanned)) }
@@ -84,11 +94,8 @@ impl LinkTables {
     {
         match entries.value(id, attribute) {
             Some(value) => {
-                place_of_value(
-                    entries.sections(),
-                    self.bases_of(entries, id).strings,
-                    value,
-                )
+                let base = self.bases_of(entries, id).strings;
+                place_of_value(entries, id, attribute, base, value)
             }
             None => None,
         }

@@ -10,9 +10,9 @@ use memchr::memchr;
 
 /// Where the text of a value of class string is.
 #[derive(Clone, Copy, Debug, PartialEq, Eq)]
-pub enum TextPlace<'a> {
-    /// In the value itself.
-    Inline(&'a [u8]),
+pub enum TextPlace {
+    /// At this offset of .debug_info, in the value itself.
+    Info(usize),
     /// At this offset of .debug_str.
     Str(usize),
     /// At this offset of .debug_line_str.
@@ -31,14 +31,14 @@ pub fn string_from(section: &[u8], offset: usize) -> &[u8]
     }
 }
 
-impl<'a> TextPlace<'a> {
+impl TextPlace {
     /// The text at a place. It is read to its end.
-    pub fn text(self, sections: &Sections<'a>) -> &'a [u8]
+    pub fn text<'a>(self, sections: &Sections<'a>) -> &'a [u8]
         requires { IsPlace sections.now self }
-        ensures { result.now ≡ text_there sections.now self.entry }
+        ensures { result.now ≡ text_there sections.now self }
     {
         match self {
-            TextPlace::Inline(bytes) => bytes,
+            TextPlace::Info(offset) => string_from(sections.info, offset),
             TextPlace::Str(offset) => string_from(sections.str, offset),
             TextPlace::LineStr(offset) => string_from(sections.line_str, offset),
         }

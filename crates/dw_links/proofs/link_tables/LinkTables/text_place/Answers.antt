@@ -1,5 +1,4 @@
-use Rattle.std.proofs.Common.{◌≡◌, ◌∙◌, Some, ap, sym, subst, option_map}
-use Rattle.dw_elf.specs.declared.sections.Sections.{Sections}
+use Rattle.std.proofs.Common.{◌≡◌, Some, sym, subst, option_map}
 use Rattle.dw_forms.specs.Value.{view}
 use Rattle.dw_entries.specs.Entries.{entries_of, placed}
 use Rattle.dw_entries.specs.Scanned.{units_of}
@@ -14,26 +13,32 @@ use Rattle.dw_links.proofs.TableLaws.{unit_of_entry}
 use Rattle.dw_links.proofs.SlotLaws.{text_lies, text_told, no_text}
 use Rattle.dw_links.proofs.link_tables.LinkTables.text_place.Goals as goal
 
-pub place_of_value-requires : goal.place_of_value-requires
-place_of_value-requires c =
+pub place_of_value-requires-clause-value : goal.place_of_value-requires-clause-value
+place_of_value-requires-clause-value c =
+    let us = units_of c.args.entries.now.scanned in
+    let (e, is) = there (entries_of us) c.args.id c.requires.id in
+    let value : Some (view c.in-Some.value) ≡ value_at_entry e c.args.attribute = rw is at c.in-Some.ensures in
+    rw is (sym value)
+
+pub place_of_value-requires-clause-lies : goal.place_of_value-requires-clause-lies
+place_of_value-requires-clause-lies c =
     let us = units_of c.args.entries.now.scanned in
     let (e, is) = there (entries_of us) c.args.id c.requires.id in
     let (p, is_p) = unit_of_entry _ _ us c.args.id e c.args.entries.now.scanned.1.spells is in
     let value : Some (view c.in-Some.value) ≡ value_at_entry e c.args.attribute = rw is at c.in-Some.ensures in
-    let bases : c.bases_of.result ≡ bases_in (entries_of us) p = rw (is, is_p) at c.bases_of.ensures in
+    let bases : c.bases_of-base.result ≡ bases_in (entries_of us) p = rw (is, is_p) at c.bases_of-base.ensures in
     let lies = text_lies (sections_of c.args.entries.now) us c.args.id e p c.args.attribute (view c.in-Some.value) c.requires.strings is is_p (sym value) in
-    let P : Sections → Type 0 = λ s. TextLies s (bases_in (entries_of us) p).strings (view c.in-Some.value) in
-    let Q : UnitBases → Type 0 = λ b. TextLies c.sections.result.now b.strings (view c.in-Some.value) in
-    subst Q (sym bases) (subst P (sym c.sections.ensures) lies)
+    let Q : UnitBases → Type 0 = λ b. TextLies (sections_of c.args.entries.now) b.strings (view c.in-Some.value) in
+    subst Q (sym bases) lies
 
 pub returns-in-Some-clause-text : goal.returns-in-Some-clause-text
 returns-in-Some-clause-text c =
     let us = units_of c.args.entries.now.scanned in
     let (e, is) = there (entries_of us) c.args.id c.requires.id in
     let (p, is_p) = unit_of_entry _ _ us c.args.id e c.args.entries.now.scanned.1.spells is in
-    rw is (text_told c.sections.result.now (sections_of c.args.entries.now) (entries_of us) (placed us) e p c.args.attribute (view c.in-Some.value) c.bases_of.result (option_map (text_there (sections_of c.args.entries.now)) c.place_of_value.result) c.sections.ensures
-    (rw (is, is_p) at c.bases_of.ensures) is_p (rw is at c.in-Some.ensures)
-    (ap (λ (s : Sections). option_map (text_there s) c.place_of_value.result) (sym c.sections.ensures) ∙ c.place_of_value.ensures.text))
+    let s = sections_of c.args.entries.now in
+    rw is (text_told s (entries_of us) (placed us) e p c.args.attribute (view c.in-Some.value) c.bases_of-base.result (option_map (text_there s) c.place_of_value.result)
+    (rw (is, is_p) at c.bases_of-base.ensures) is_p (rw is at c.in-Some.ensures) c.place_of_value.ensures.text)
 
 pub returns-in-None-clause-text : goal.returns-in-None-clause-text
 returns-in-None-clause-text c =

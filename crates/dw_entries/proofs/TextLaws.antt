@@ -1,0 +1,210 @@
+-- Where a text is that is in the value of an attribute.
+use Rattle.std.proofs.Common.{◌≡◌, ◌≢◌, ℕ, zero, suc, ◌+◌, ◌-◌, ◌<◌, ◌≤◌, List, [], ◌∷◌, ◌++◌, length, take, drop, map, All, Some, Result, Ok, refl, sym, ap, subst, ◌∙◌, append_assoc, length-append, length-drop, length-take, drop_at, drop-drop, take-append-drop, arith}
+use Rattle.std.specs.Prelude.{slice_get, IfSome}
+use Rattle.std.specs.List.{flat_map, slice_range}
+use Rattle.std.proofs.Props.{props}
+use Rattle.std.proofs.lemmas.Bool.{ne_eqb, eq-eqb}
+use Rattle.std.proofs.lemmas.List.{drop-append-le}
+use mathlib.Core.Logic.{∥∥₁_elim}
+use Rattle.dw_forms.specs.declared.decl.AttributeSpec.{AttributeSpec}
+use Rattle.dw_forms.specs.declared.form.Form.{Form}
+use Rattle.dw_forms.specs.declared.form.Form.TheVariants as form
+use Rattle.dw_forms.specs.declared.value.ValueFault.{ValueFault}
+use Rattle.dw_forms.specs.Steps.{◌>>=◌}
+use Rattle.dw_forms.specs.FirstPlaces.{StandsFirst}
+use Rattle.dw_forms.specs.Plans.{values_end}
+use Rattle.dw_forms.specs.Sizes.{rest_at}
+use Rattle.dw_forms.specs.Value.{Datum, Ended, SpellsPlain, Val, layout_of, text}
+use Rattle.dw_entries.specs.Asked.{value_of}
+use Rattle.dw_entries.specs.Grammar.{Context, Attribute, IsAttribute, AreAttributes, attribute_bytes, Head, head_bytes}
+use Rattle.dw_entries.specs.Lookups.{IsTextAt, value_at_entry, value_in}
+use Rattle.dw_entries.specs.Values.{value_context}
+use Rattle.dw_entries.specs.declared.record.Record.{Record}
+use Rattle.dw_entries.specs.declared.record.UnitRecord.{UnitRecord}
+use Rattle.dw_entries.specs.Entries.{entries_of}
+use Rattle.dw_entries.specs.Scanned.{Scanned, units_of}
+use Rattle.dw_forms.specs.KeptDecls.{Numbered}
+use Rattle.dw_entries.proofs.KeptLaws.{KeptEntry, kept_entry, from_entry, of_entry, entry_parts}
+use Rattle.dw_entries.proofs.PassLaws.{one_end, front_range}
+
+-- bytes that end with a text and a zero byte
+pub record EndWith (bytes t : List ℕ) : Type 0 where
+  pub long : length t < length bytes
+  pub parts : drop (length bytes - suc (length t)) bytes ≡ t ++ 0 ∷ []
+  pub none_before : All (λ byte. 0 < byte) t
+
+EndWith-prop : (bytes t : List ℕ) → IsProp (EndWith bytes t)
+EndWith-prop bytes t = hlevel props
+
+-- after other bytes
+end_after : (code content bytes t : List ℕ) → bytes ≡ code ++ content → content ≡ t ++ 0 ∷ [] → All (λ byte. 0 < byte) t → EndWith bytes t
+end_after code content bytes t parts is none_before =
+    let long : length content ≡ length t + 1 = ap length is ∙ length-append t (0 ∷ []) in
+    let whole : length bytes ≡ length code + length content = ap length parts ∙ length-append code content in
+    record {
+      long = omega (arith, long, whole);
+      parts = ap (drop (length bytes - suc (length t))) parts ∙ drop_at code content (length bytes - suc (length t)) (omega (arith, long, whole)) ∙ is;
+      none_before = none_before;
+    }
+
+same_text : (a b : List ℕ) → text a ≡ text b → a ≡ b
+same_text a b is = cc
+
+plain_text : (size : ℕ) (f : Form) (code content bytes t : List ℕ) → SpellsPlain (layout_of size f) content (text t) → bytes ≡ code ++ content → EndWith bytes t
+plain_text size form.Text code content bytes t (v, ended, is) parts =
+    let same : v ≡ t = sym (same_text t v is) in
+    end_after code content bytes t parts (ended.parts ∙ ap (λ (b : List ℕ). b ++ 0 ∷ []) same) (subst (All (λ byte. 0 < byte)) same ended.none_before)
+plain_text size form.Indirect code content bytes t p parts = absurd p
+plain_text size form.FlagPresent code content bytes t p parts = absurd (let other = p.1 in cc)
+plain_text size (form.ImplicitConst number) code content bytes t p parts = absurd (let other = p.1 in cc)
+plain_text size _ code content bytes t p parts = absurd (let other = p.2 in cc)
+
+-- a value that is a text
+spelled_text : (version size : ℕ) (f : Form) (bytes t : List ℕ) → Val version f size bytes (text t) → EndWith bytes t
+spelled_text version size form.Indirect bytes t p = plain_text size p.form p.code p.content bytes t p.is_value p.parts
+spelled_text version size form.Text bytes t p = plain_text size form.Text [] bytes bytes t p refl
+spelled_text version size form.FlagPresent bytes t p = absurd (let other = p.1 in cc)
+spelled_text version size (form.ImplicitConst number) bytes t p = absurd (let other = p.1 in cc)
+spelled_text version size _ bytes t p = absurd (let other = p.2 in cc)
+
+text_ends : (x : Context) (s : AttributeSpec) (b : Attribute) (t : List ℕ) → IsAttribute x s b → b.value ≡ text t → EndWith b.bytes t
+text_ends x s b t is value =
+    ∥∥₁_elim is.value (EndWith-prop b.bytes t)
+    (λ v. spelled_text x.version x.address_size s.form b.bytes t (subst (Val x.version s.form x.address_size b.bytes) value v))
+
+-- the text of one of these attributes, and what follows its zero byte
+pub record HasText (bs : List Attribute) (t rest after : List ℕ) : Type 0 where
+  pub before : List ℕ
+  pub tail : List ℕ
+  pub parts : flat_map attribute_bytes bs ≡ before ++ (t ++ 0 ∷ tail)
+  pub follows : after ≡ tail ++ rest
+  pub none_before : All (λ byte. 0 < byte) t
+
+ok_is : {a b : List ℕ} → ◌≡◌ {A = Result (List ℕ) ValueFault} (Ok a) (Ok b) → a ≡ b
+ok_is e = cc
+
+some_is : {a b : Datum} → Some a ≡ Some b → a ≡ b
+some_is e = cc
+
+-- the text of the first attribute with a code, by the bytes after its value
+pub text_of_first : (x : Context) (specs : List AttributeSpec) (bs : List Attribute) (rest bytes after : List ℕ) (code place : ℕ) (t : List ℕ) → AreAttributes x specs bs → bytes ≡ flat_map attribute_bytes bs ++ rest → StandsFirst specs code place
+    → value_in (map value_of bs) code ≡ Some (text t) → values_end x.version x.address_size (take (suc place) specs) bytes ≡ Ok after → HasText bs t rest after
+unfolding values_end
+text_of_first x [] bs rest bytes after code place t are spelled first value ends = absurd (omega (arith, first.within))
+text_of_first x (s ∷ specs) [] rest bytes after code place t are spelled first value ends = absurd are
+text_of_first x (s ∷ specs) (b ∷ bs) rest bytes after code zero t are spelled first value ends =
+    let others : List ℕ = flat_map attribute_bytes bs in
+    let here : bytes ≡ b.bytes ++ (others ++ rest) = spelled ∙ append_assoc b.bytes others rest in
+    let same : s.attribute ≡ code = first.has s in
+    let is : b.code ≡ code = let c : b.code ≡ s.attribute = are.0.code in c ∙ same in
+    let found : Some b.value ≡ Some (text t) = rw (eq-eqb b.code code is) at value in
+    let end = text_ends x s b t are.0 (some_is found) in
+    let first_end : rest_at x.version s.form x.address_size bytes ≡ Ok (others ++ rest) =
+    ap (λ (c : List ℕ). rest_at x.version s.form x.address_size c) here ∙ one_end x s b (others ++ rest) are.0 in
+    let n : ℕ = length b.bytes - suc (length t) in
+    let split : b.bytes ≡ take n b.bytes ++ (t ++ 0 ∷ []) = sym (take-append-drop n b.bytes) ∙ ap (λ (c : List ℕ). take n b.bytes ++ c) end.parts in
+    record {
+      before = take n b.bytes;
+      tail = others;
+      parts = ap (λ (c : List ℕ). c ++ others) split ∙ append_assoc (take n b.bytes) (t ++ 0 ∷ []) others
+          ∙ ap (λ (c : List ℕ). take n b.bytes ++ c) (append_assoc t (0 ∷ []) others);
+      follows = sym (ok_is (ap (λ (r : Result (List ℕ) ValueFault). r >>= λ more. values_end x.version x.address_size [] more) (sym first_end) ∙ ends));
+      none_before = end.none_before;
+    }
+text_of_first x (s ∷ specs) (b ∷ bs) rest bytes after code (suc place) t are spelled first value ends =
+    let others : List ℕ = flat_map attribute_bytes bs in
+    let here : bytes ≡ b.bytes ++ (others ++ rest) = spelled ∙ append_assoc b.bytes others rest in
+    let other : s.attribute ≢ code = first.none_before 0 s (omega arith) in
+    let apart : b.code ≡ code → ⊥ = let c : b.code ≡ s.attribute = are.0.code in λ same. other (sym c ∙ same) in
+    let behind : StandsFirst specs code place = record { within = omega (arith, first.within); has = first.has; none_before = λ k d less. first.none_before (suc k) d (omega (arith, less)) } in
+    let found : value_in (map value_of bs) code ≡ Some (text t) = rw (ne_eqb b.code code apart) at value in
+    let first_end : rest_at x.version s.form x.address_size bytes ≡ Ok (others ++ rest) =
+    ap (λ (c : List ℕ). rest_at x.version s.form x.address_size c) here ∙ one_end x s b (others ++ rest) are.0 in
+    let more = text_of_first x specs bs rest (others ++ rest) after code place t are.1 refl behind found
+    (ap (λ (r : Result (List ℕ) ValueFault). r >>= λ more. values_end x.version x.address_size (take (suc place) specs) more) (sym first_end) ∙ ends) in
+    record {
+      before = b.bytes ++ more.before;
+      tail = more.tail;
+      parts = ap (λ (c : List ℕ). b.bytes ++ c) more.parts ∙ sym (append_assoc b.bytes more.before (t ++ 0 ∷ more.tail));
+      follows = more.follows;
+      none_before = more.none_before;
+    }
+
+-- ---- in the bytes of an entry, and in .debug_info
+
+module _ (h : Head) (t rest after : List ℕ) (has : HasText h.attributes t rest after) (entry : List ℕ) (entry_is : entry ≡ head_bytes h ++ rest) where
+  front : List ℕ
+  front = h.code ++ has.before
+
+  head_parts : head_bytes h ≡ front ++ (t ++ 0 ∷ has.tail)
+  unfolding front
+  head_parts = ap (λ (c : List ℕ). h.code ++ c) has.parts ∙ sym (append_assoc h.code has.before (t ++ 0 ∷ has.tail))
+
+  counted : length entry ≡ length front + (length t + suc (length after))
+  unfolding front
+  counted =
+      let whole = ap length entry_is ∙ length-append (head_bytes h) rest in
+      let head = ap length head_parts ∙ length-append front (t ++ 0 ∷ has.tail) in
+      let behind = length-append t (0 ∷ has.tail) in
+      let follows = ap length has.follows ∙ length-append has.tail rest in
+      omega (arith, whole, head, behind, follows)
+
+  pub text_in_head : IsTextAt (head_bytes h) (length entry - length after - 1 - length t) t
+  text_in_head = record {
+    rest = has.tail;
+    parts = ap (drop (length entry - length after - 1 - length t)) head_parts ∙ drop_at front (t ++ 0 ∷ has.tail) (length entry - length after - 1 - length t) (omega (arith, counted));
+    none_before = has.none_before;
+  }
+
+  pub has_room : length t + suc (length after) ≤ length entry
+  has_room = omega (arith, counted)
+
+-- the place after an attribute
+pub place_after : (place : ℕ) (slice specs : List AttributeSpec) → slice ≡ specs → place < length specs → length (take (place + 1) slice) ≡ suc place
+place_after place slice specs same within = omega (arith, length-take (place + 1) slice, ap length same, within)
+
+-- the text that is the value of an attribute of an entry, by the bytes after it
+module _ {a info : List ℕ} {tables : List (List Numbered)} {rs : List UnitRecord} {records : List Record} {s : Scanned a info tables rs records} {id : ℕ} (k : KeptEntry a info tables rs records s id)
+    (r : Record) (read : slice_get records id ≡ Some r) (version size : ℕ) (specs : List AttributeSpec) (values after t : List ℕ) (attribute place to : ℕ)
+    (are : AreAttributes (value_context version size) specs k.entry.head.attributes)
+    (follow : values ≡ flat_map attribute_bytes k.entry.head.attributes ++ k.stands.after)
+    (first : StandsFirst specs attribute place)
+    (value : value_at_entry k.entry attribute ≡ Some (text t))
+    (next : to ≡ suc place)
+    (ends : values_end version size (slice_range specs 0 to) values ≡ Ok after) where
+  text_here : HasText k.entry.head.attributes t k.stands.after after
+  text_here =
+      let front : slice_range specs 0 to ≡ take (suc place) specs = front_range specs to ∙ ap (λ (n : ℕ). take n specs) next in
+      text_of_first (value_context version size) specs k.entry.head.attributes k.stands.after values after attribute place t are follow first value
+      (ap (λ (ss : List AttributeSpec). values_end version size ss values) (sym front) ∙ ends)
+
+  pub room_here : length t + suc (length after) ≤ length (take (length info - r.at) (drop r.at info))
+  room_here = has_room k.entry.head t k.stands.after after text_here (take (length info - r.at) (drop r.at info)) (entry_parts k r read)
+
+  pub starts_here : IfSome (slice_get (entries_of (units_of s)) id) (λ e. IsTextAt (head_bytes e.head) (length (take (length info - r.at) (drop r.at info)) - length after - 1 - length t) t)
+  starts_here =
+      of_entry k (λ e. IsTextAt (head_bytes e.head) (length (take (length info - r.at) (drop r.at info)) - length after - 1 - length t) t)
+      (text_in_head k.entry.head t k.stands.after after text_here (take (length info - r.at) (drop r.at info)) (entry_parts k r read))
+
+-- a text is before the end of the bytes
+pub text_within : (bytes : List ℕ) (n : ℕ) (t : List ℕ) → IsTextAt bytes n t → n + length t < length bytes
+text_within bytes n t is = omega (arith, ap length is.parts, length-append t (0 ∷ is.rest), length-drop n bytes)
+
+-- the text of an entry in the bytes that have the entry at an offset
+pub text_in_info : (info : List ℕ) (at : ℕ) (h : Head) (after : List ℕ) (n : ℕ) (t : List ℕ) → drop at info ≡ head_bytes h ++ after → IsTextAt (head_bytes h) n t → IsTextAt info (at + n) t
+text_in_info info at h after n t parts is =
+    let within = text_within (head_bytes h) n t is in
+    record {
+      rest = is.rest ++ after;
+      parts = sym (drop-drop n at info) ∙ ap (drop n) parts ∙ drop-append-le n (head_bytes h) after (omega (arith, within)) ∙ ap (λ (b : List ℕ). b ++ after) is.parts
+          ∙ append_assoc t (0 ∷ is.rest) after;
+      none_before = is.none_before;
+    }
+
+-- so of an entry that is looked up
+pub text_at_entry : (a info : List ℕ) (tables : List (List Numbered)) (rs : List UnitRecord) (records : List Record) (s : Scanned a info tables rs records) (id : ℕ) → id < length (entries_of (units_of s)) → (at n : ℕ) (t : List ℕ)
+    → IfSome (slice_get (entries_of (units_of s)) id) (λ e. at ≡ e.at) → IfSome (slice_get (entries_of (units_of s)) id) (λ e. IsTextAt (head_bytes e.head) n t) → IsTextAt info (at + n) t
+text_at_entry a info tables rs records s id within at n t is_at is =
+    let k = kept_entry a info tables rs records s id within in
+    let same : at ≡ k.entry.at = from_entry k (λ e. at ≡ e.at) is_at in
+    text_in_info info at k.entry.head k.stands.after n t (ap (λ (m : ℕ). drop m info) same ∙ k.stands.parts) (from_entry k (λ e. IsTextAt (head_bytes e.head) n t) is)
