@@ -86,11 +86,14 @@ uint32_t dwv_report(
 
 /* An entry of a sound file. */
 struct dwv_entry {
-    uint64_t size;     /* in bytes, of a type that has a size, else 0 */
-    uint32_t offset;   /* where it starts in .debug_info */
-    uint32_t depth;    /* how many entries are above it */
-    uint32_t tag;      /* as 0x24 for a base type */
-    uint32_t has_size; /* 1 for a type that has a size, else 0 */
+    uint64_t size;        /* in bytes, of a type that has a size, else 0 */
+    uint64_t name;        /* where its name starts in the file, or 0 if it has none */
+    uint32_t offset;      /* where it starts in .debug_info */
+    uint32_t depth;       /* how many entries are above it */
+    uint32_t tag;         /* as 0x24 for a base type */
+    uint32_t has_size;    /* 1 for a type that has a size, else 0 */
+    uint32_t name_length; /* how many bytes its name has before the zero byte that ends it, or 0 if it has none */
+    uint32_t has_name;    /* 1 for an entry that has a name, which may be empty, else 0 */
 };
 
 /* Checks a file, and writes a row for each entry of a sound one in rising offset, and how many there are: DWV_SOUND,

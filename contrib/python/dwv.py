@@ -8,7 +8,7 @@ The library is found as the system finds it, or by the path in DWV_LIBRARY. Othe
 """
 import ctypes
 import os
-from typing import NamedTuple, Tuple, Union
+from typing import List, NamedTuple, Optional, Tuple, Union
 
 CHECK, CHECK_JSON, SHOW, TYPES, SIZE = range(5)
 
@@ -31,6 +31,16 @@ class Fault(NamedTuple):
     attribute: int
 
 
+class Entry(NamedTuple):
+    """An entry of a sound file. The size is None if it is no type, or has none; the name is None if it has none."""
+
+    offset: int
+    depth: int
+    tag: int
+    size: Optional[int]
+    name: Optional[bytes]
+
+
 def check(file: Union[bytes, str, os.PathLike]) -> Union[Counts, Fault]:
     """The counts of a sound file, or the fault of another one. The file is its bytes, or its path."""
     data = _bytes(file)
@@ -39,8 +49,23 @@ def check(file: Union[bytes, str, os.PathLike]) -> Union[Counts, Fault]:
     if status == 0:
         return Counts(raw.units, raw.entries, raw.types)
     if status == 1:
-        return Fault(raw.rule.decode(), raw.name.decode(), raw.section.decode(), raw.at, raw.attribute)
+        return _fault(raw)
     raise MemoryError
+
+
+def entries(file: Union[bytes, str, os.PathLike]) -> Union[List[Entry], Fault]:
+    """The entries of a sound file in rising offset, or the fault of another one."""
+    data = _bytes(file)
+    raw, count = _Verdict(), ctypes.c_size_t(64)
+    while True:
+        rows = (_Entry * (count.value or 1))()
+        status = _library.dwv_entries(data, len(data), rows, len(rows), ctypes.byref(count), ctypes.byref(raw))
+        if status == 0:
+            return [_entry(data, row) for row in rows[: count.value]]
+        if status == 1:
+            return _fault(raw)
+        if status == 4:
+            raise MemoryError
 
 
 def report(file: Union[bytes, str, os.PathLike], request: int = CHECK, offset: int = 0) -> Tuple[int, bytes]:
@@ -76,6 +101,32 @@ class _Verdict(ctypes.Structure):
     ]
 
 
+class _Entry(ctypes.Structure):
+    """struct dwv_entry of dwv.h."""
+
+    _fields_ = [
+        ("size", ctypes.c_uint64),
+        ("name", ctypes.c_uint64),
+        ("offset", ctypes.c_uint32),
+        ("depth", ctypes.c_uint32),
+        ("tag", ctypes.c_uint32),
+        ("has_size", ctypes.c_uint32),
+        ("name_length", ctypes.c_uint32),
+        ("has_name", ctypes.c_uint32),
+    ]
+
+
+def _fault(raw):
+    return Fault(raw.rule.decode(), raw.name.decode(), raw.section.decode(), raw.at, raw.attribute)
+
+
+def _entry(data, row):
+    """An entry by its row. Its name is in the bytes of the file."""
+    size = row.size if row.has_size else None
+    name = data[row.name : row.name + row.name_length] if row.has_name else None
+    return Entry(row.offset, row.depth, row.tag, size, name)
+
+
 def _bytes(file):
     """The bytes of a file. Only `bytes` are taken as they are: a bytearray may change during a call."""
     if isinstance(file, bytes):
@@ -98,3 +149,12 @@ _library.dwv_report.argtypes = [
     ctypes.POINTER(ctypes.c_size_t),
 ]
 _library.dwv_report.restype = ctypes.c_uint32
+_library.dwv_entries.argtypes = [
+    ctypes.c_char_p,
+    ctypes.c_size_t,
+    ctypes.POINTER(_Entry),
+    ctypes.c_size_t,
+    ctypes.POINTER(ctypes.c_size_t),
+    ctypes.POINTER(_Verdict),
+]
+_library.dwv_entries.restype = ctypes.c_uint32

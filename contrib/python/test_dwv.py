@@ -19,6 +19,12 @@ class Calls(unittest.TestCase):
         self.assertEqual(dwv.check(SAMPLE.read_bytes()), SOUND)
         self.assertEqual(dwv.check(BROKEN), FAULT)
 
+    def test_entries(self):
+        unit = dwv.Entry(offset=12, depth=0, tag=0x11, size=None, name=b"a")
+        number = dwv.Entry(offset=15, depth=1, tag=0x24, size=4, name=b"int")
+        self.assertEqual(dwv.entries(SAMPLE), [unit, number])
+        self.assertEqual(dwv.entries(BROKEN), FAULT)
+
     def test_reports(self):
         self.assertEqual(dwv.report(SAMPLE), (0, b"sound: 1 units, 2 entries, 1 types\n"))
         self.assertEqual(dwv.report(SAMPLE, dwv.SIZE, 15), (0, b"size 4\n"))

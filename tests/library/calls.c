@@ -1,5 +1,5 @@
 /* calls check FILE prints what `dwv check` prints of a sound file or of a fault of its sections, and calls entries FILE
-   what `dwv show` prints without the names. Before that it tries arrays and buffers that are too short by one, and
+   what `dwv show` prints of a sound file. Before that it tries arrays and buffers that are too short by one, and
    requests that there are not. It ends with the status of the call, or with 99 if one did not do what dwv.h says. */
 #include <inttypes.h>
 #include <string.h>
@@ -71,6 +71,20 @@ static void reports(const uint8_t *file, size_t length) {
     NEED(needed == 77 && is_untouched(buffer, sizeof buffer));
 }
 
+/* Prints the name of an entry as `dwv show` does. */
+static void print_name(const uint8_t *file, size_t length, const struct dwv_entry *row) {
+    NEED(row->has_name == 1 || (row->has_name == 0 && row->name == 0 && row->name_length == 0));
+    if (!row->has_name)
+        return;
+    NEED(row->name < length && row->name_length < length - row->name);
+    const uint8_t *name = file + row->name;
+    NEED(strlen((const char *)name) == row->name_length);
+    printf(" \"");
+    for (uint32_t k = 0; k < row->name_length; k++)
+        printf(name[k] < 0x20 || name[k] > 0x7e || strchr("\"\\", name[k]) ? "\\x%02x" : "%c", name[k]);
+    putchar('"');
+}
+
 static uint32_t entries(const uint8_t *file, size_t length) {
     struct dwv_verdict v = {0}, w = {0};
     size_t count = 77, again = 0;
@@ -95,6 +109,7 @@ static uint32_t entries(const uint8_t *file, size_t length) {
     NEED(is_untouched(rows + count, sizeof *rows));
     for (size_t k = 0; k < count; k++) {
         printf("0x%08" PRIx32 " %*s0x%04" PRIx32, rows[k].offset, (int)(2 * rows[k].depth), "", rows[k].tag);
+        print_name(file, length, &rows[k]);
         if (rows[k].has_size)
             printf(" size %" PRIu64, rows[k].size);
         NEED(rows[k].has_size == 1 || (rows[k].has_size == 0 && rows[k].size == 0));

@@ -11,5 +11,6 @@ pub mod GroupLaws
 pub mod OneFirst
 pub mod JoinLemmas
 pub mod LookupLemmas
+pub mod PlaceLemmas
 pub mod CountLemmas
 pub mod HeldSteps

@@ -1,3 +1,4 @@
 pub mod CountedLemmas
+pub mod NameLemmas
 pub mod RowLemmas
 pub mod TextLemmas

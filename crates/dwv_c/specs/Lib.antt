@@ -5,4 +5,4 @@ pub mod Rows
 pub mod Texts
 -- State.
 pub mod Judged
-pub mod RowsSoFar
+pub mod Filling

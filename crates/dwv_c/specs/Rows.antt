@@ -1,9 +1,11 @@
 -- Chapter: the entries of a sound file as rows in an array of the caller.
-use Rattle.std.specs.Prelude.{ℕ, ◌<◌, ◌≤◌, List, ◌++◌, length, map, drop, min, Option, Some, None, if◌then◌else◌}
-use Rattle.std.specs.List.{enumerate_from}
+use Rattle.std.specs.Prelude.{◌≡◌, ℕ, ◌<◌, ◌≤◌, List, length, drop, min, slice_get, Option, Some, None}
+use Rattle.std.specs.Prelude.{if◌then◌else◌}
+use Rattle.std.specs.Option.{IsSomeAnd}
+use Rattle.dw_elf.specs.Sections.{IsAt}
 use Rattle.dw_entries.specs.Entries.{Entry}
 use Rattle.dw_image.specs.declared.image.Image.{Image}
-use Rattle.dw_image.specs.Images.{entries_in, entry_count, size_table_in}
+use Rattle.dw_image.specs.Images.{entries_in, entry_count, name_in, size_table_in}
 use Rattle.dw_image.specs.Lookups.{is_type_entry}
 use Rattle.dwv_c.specs.declared.rows.EntryRow.{EntryRow}
 use Rattle.dwv_c.specs.declared.verdict.Verdict.{Verdict}
@@ -18,29 +20,41 @@ greatest = 4_294_967_295
 abbrev pub entry_size : Image → ℕ → Entry → Option ℕ
 entry_size i number e = if is_type_entry e then size_table_in i number else None
 
--- a row with or without a size
-abbrev pub row : (offset depth tag : ℕ) → (size : Option ℕ) → EntryRow
-row offset depth tag None = record { size = 0; offset = offset; depth = depth; tag = tag; has_size = 0 }
-row offset depth tag (Some n) = record { size = n; offset = offset; depth = depth; tag = tag; has_size = 1 }
+-- a row has this size, or none
+abbrev pub HasSize : Option ℕ → EntryRow → Type 0
+HasSize None r = (r.size ≡ 0) × (r.has_size ≡ 0)
+HasSize (Some n) r = (r.size ≡ n) × (r.has_size ≡ 1)
 
--- the row of an entry and its number; a depth that does not fit is written as the greatest number
-abbrev pub row_of : Image → ℕ × Entry → EntryRow
-row_of i (number, e) = row e.at (min e.depth greatest) e.head.decl.tag (entry_size i number e)
+-- a row says where these bytes are in the file, or that there are none
+abbrev pub HasName : (file : List ℕ) → Option (List ℕ) → EntryRow → Type 0
+HasName file None r = (r.name ≡ 0) × (r.name_length ≡ 0) × (r.has_name ≡ 0)
+HasName file (Some text) r = IsAt file r.name text × (r.name_length ≡ length text) × (r.has_name ≡ 1)
 
--- a row for each entry, in rising offset
-abbrev pub rows_of : Image → List EntryRow
-rows_of i = map (row_of i) (enumerate_from 0 (entries_in i))
+-- the row of the entry with a number: its offset, its depth (or the greatest number, if it does not fit), its tag, its
+-- size, and where its name is in the file
+pub record IsRow (file : List ℕ) (i : Image) (number : ℕ) (e : Entry) (r : EntryRow) : Type 0 where
+  pub offset : r.offset ≡ e.at
+  pub depth : r.depth ≡ min e.depth greatest
+  pub tag : r.tag ≡ e.head.decl.tag
+  pub size : HasSize (entry_size i number e) r
+  pub name : HasName file (name_in i e) r
+
+-- the first n rows are those of the first n entries, in rising offset
+abbrev pub HaveRows : (file : List ℕ) → Image → ℕ → List EntryRow → Type 0
+HaveRows file i n rows = (k : ℕ) (e : Entry) → k < n → slice_get (entries_in i) k ≡ Some e
+    → IsSomeAnd (slice_get rows k) (IsRow file i k e)
 
 -- what is returned for a sound file, and the array then: a row for each entry, and the rest as it was; or the array as
 -- it was, if it is too short
-pub data FillsRows (i : Image) (rows : List EntryRow) : ℕ → List EntryRow → Type 0 where
-  whole : entry_count i ≤ length rows → FillsRows i rows SOUND (rows_of i ++ drop (entry_count i) rows)
-  short : length rows < entry_count i → FillsRows i rows TOO_SHORT rows
+pub data FillsRows (file : List ℕ) (i : Image) (rows : List EntryRow) : ℕ → List EntryRow → Type 0 where
+  whole : (rows' : List EntryRow) → entry_count i ≤ length rows → HaveRows file i (entry_count i) rows'
+      → drop (entry_count i) rows' ≡ drop (entry_count i) rows → FillsRows file i rows SOUND rows'
+  short : length rows < entry_count i → FillsRows file i rows TOO_SHORT rows
 
 -- what is returned for a file, and the array, the count and the verdict then
 pub data PutsRows (bytes : List ℕ) (rows : List EntryRow) (count : ℕ) (v : Verdict)
     : ℕ → List EntryRow → ℕ → Verdict → Type 0 where
-  sound : (i : Image) (status : ℕ) (rows' : List EntryRow) → IsSoundFile bytes i → FillsRows i rows status rows'
+  sound : (i : Image) (status : ℕ) (rows' : List EntryRow) → IsSoundFile bytes i → FillsRows bytes i rows status rows'
       → PutsRows bytes rows count v status rows' (entry_count i) (of_image i)
   fault : (found : Verdict) → IsFaultOfFile bytes found → PutsRows bytes rows count v FAULT rows count found
   memory : PutsRows bytes rows count v NO_MEMORY rows count v

@@ -88,7 +88,7 @@ pub extern "C" fn dwv_entries(
     ensures { PutsRows file.now rows.old count.old verdict.old result rows.new count.new verdict.new }
 {
     match judge_file(alloc, file) {
-        Ok(Judged::Sound(image)) => put_rows(&image, rows, count, verdict),
+        Ok(Judged::Sound(image)) => put_rows(alloc, file, &image, rows, count, verdict),
         Ok(Judged::Fault(fault)) => {
             *verdict = fault;
             FAULT

@@ -5,6 +5,7 @@
 
 mod exports;
 mod judging;
+mod names;
 mod rows;
 mod statuses;
 mod texts;

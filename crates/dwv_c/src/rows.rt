@@ -1,15 +1,17 @@
 //! The entries of a sound file as rows in an array of the caller.
 
-ghost use Rattle.std.specs.Prelude.{◌≡◌, ◌<◌, ◌≤◌, ◌++◌, Some, length, drop, slice_get, slice_set, IfSome};
+ghost use Rattle.std.specs.Prelude.{◌≡◌, ◌+◌, ◌<◌, ◌≤◌, Some, length, drop, slice_get, IfSome};
 ghost use Rattle.dw_image.specs.Images.{entries_in, entry_count};
-ghost use Rattle.dwv_c.specs.Rows.{FillsRows, entry_size, row, row_of, rows_of};
-ghost use Rattle.dwv_c.specs.RowsSoFar.{HasRows, depth_under};
-ghost use Rattle.dwv_c.specs.Verdicts.{of_image};
+ghost use Rattle.dwv_c.specs.Filling.{HasPlace, depth_under};
+ghost use Rattle.dwv_c.specs.Rows.{HasSize, HaveRows, IsRow, PutsRows, entry_size};
+ghost use Rattle.dwv_c.specs.Verdicts.{IsSoundFile, of_image};
 
-use crate::statuses::{SOUND, TOO_SHORT};
+use crate::names::{NamePlace, Names};
+use crate::statuses::{NO_MEMORY, SOUND, TOO_SHORT};
 use crate::verdict::{Verdict, verdict_of_counts};
 use dw_image::{EntryId, Image, Tag};
 use dw_units::Counts;
+use std::alloc::Global;
 
 /// An entry of a sound file.
 #[repr(C)]
@@ -17,6 +19,8 @@ use dw_units::Counts;
 pub struct EntryRow {
     /// The size in bytes, or 0 if `has_size` is 0.
     pub size: u64,
+    /// Where the name starts in the file, or 0 if `has_name` is 0.
+    pub name: u64,
     /// Where the entry starts in .debug_info.
     pub offset: u32,
     /// How many entries are above it.
@@ -25,6 +29,10 @@ pub struct EntryRow {
     pub tag: u32,
     /// 1 for a type that has a size, else 0.
     pub has_size: u32,
+    /// How many bytes the name has, without its zero byte, or 0 if `has_name` is 0.
+    pub name_length: u32,
+    /// 1 for an entry that has a name, else 0.
+    pub has_name: u32,
 }
 
 /// The size of an entry, if it is a type and has one.
@@ -50,66 +58,87 @@ fn depth_by_rows(rows: &[EntryRow], parent: Option<EntryId>) -> u32
 }
 
 /// The row of what is known of an entry.
-fn row_with(offset: u32, depth: u32, tag: Tag, size: Option<u64>) -> EntryRow
-    ensures { result ≡ row offset depth tag size }
+fn row_with(
+    offset: u32,
+    depth: u32,
+    tag: Tag,
+    size: Option<u64>,
+    name: Option<NamePlace>,
+) -> EntryRow
+    ensures offset { result.offset ≡ offset }
+    ensures depth { result.depth ≡ depth }
+    ensures tag { result.tag ≡ tag }
+    ensures size { HasSize size result }
+    ensures name { HasPlace name result }
 {
-    let tag = u32::from(tag.0);
     let (size, has_size) = match size {
         Some(size) => (size, 1),
         None => (0, 0),
     };
+    let (name, name_length, has_name) = match name {
+        Some(place) => (place.start, place.length, 1),
+        None => (0, 0, 0),
+    };
     EntryRow {
         size,
+        name,
         offset,
         depth,
-        tag,
+        tag: u32::from(tag.0),
         has_size,
+        name_length,
+        has_name,
     }
 }
 
 /// The row of an entry, after the rows of all entries before it.
-fn row_at(rows: &[EntryRow], image: &Image<'_>, id: EntryId) -> EntryRow
-    requires entry { id < length (entries_in image.now) }
+fn row_at(rows: &[EntryRow], names: &Names<'_, '_>, id: EntryId) -> EntryRow
+    requires entry { id < length (entries_in names.now.source.image.now) }
     requires room { id ≤ length rows.now }
-    requires before { HasRows image.now id rows.now }
-    ensures { IfSome (slice_get (entries_in image.now) id) (λ e. result ≡ row_of image.now (id, e)) }
+    requires before { HaveRows names.now.file.now names.now.source.image.now id rows.now }
+    ensures { IfSome (slice_get (entries_in names.now.source.image.now) id)
+        (λ e. IsRow names.now.file.now names.now.source.image.now id e result) }
 {
+    let image = names.source.image;
     let depth = depth_by_rows(rows, image.parent(id));
     let size = size_of_entry(image, id);
-    row_with(image.offset(id), depth, image.tag(id), size)
+    row_with(
+        image.offset(id),
+        depth,
+        image.tag(id),
+        size,
+        names.place(id),
+    )
 }
 
 /// Writes the row of the entry with a number, after the rows of all entries before it.
-fn put_row(rows: &mut [EntryRow], image: &Image<'_>, number: usize)
-    requires entry { number < length (entries_in image.now) }
+fn put_row(rows: &mut [EntryRow], names: &Names<'_, '_>, number: usize)
+    requires entry { number < length (entries_in names.now.source.image.now) }
     requires room { number < length rows.old }
-    requires before { HasRows image.now number rows.old }
-    ensures { IfSome (slice_get (entries_in image.now) number)
-        (λ e. rows.new ≡ slice_set rows.old number (row_of image.now (number, e))) }
+    requires before { HaveRows names.now.file.now names.now.source.image.now number rows.old }
+    ensures rows { HaveRows names.now.file.now names.now.source.image.now (number + 1) rows.new }
+    ensures rest { drop (number + 1) rows.new ≡ drop (number + 1) rows.old }
 {
-    if let Some(id) = image.nth(number) {
-        rows[number] = row_at(rows, image, id);
+    if let Some(id) = names.source.image.nth(number) {
+        rows[number] = row_at(rows, names, id);
     }
 }
 
 /// Writes the rows of all entries.
-fn put_all(rows: &mut [EntryRow], image: &Image<'_>)
-    requires { entry_count image.now ≤ length rows.old }
-    ensures { rows.new ≡ rows_of image.now ++ drop (entry_count image.now) rows.old }
+fn put_all(rows: &mut [EntryRow], names: &Names<'_, '_>)
+    requires { entry_count names.now.source.image.now ≤ length rows.old }
+    ensures rows { HaveRows names.now.file.now names.now.source.image.now (entry_count names.now.source.image.now)
+        rows.new }
+    ensures rest { drop (entry_count names.now.source.image.now) rows.new
+        ≡ drop (entry_count names.now.source.image.now) rows.old }
 {
-    for number in 0..image.entries() {
-        put_row(rows, image, number);
+    for number in 0..names.source.image.entries() {
+        put_row(rows, names, number);
     }
 }
 
-/// Writes the rows of all entries if there is room for them, how many there are, and the verdict.
-pub fn put_rows(
-    image: &Image<'_>,
-    rows: &mut [EntryRow],
-    count: &mut usize,
-    verdict: &mut Verdict,
-) -> u32
-    ensures rows { FillsRows image.now rows.old result rows.new }
+/// Writes how many entries there are, and the verdict.
+fn put_counts(image: &Image<'_>, count: &mut usize, verdict: &mut Verdict)
     ensures count { count.new ≡ entry_count image.now }
     ensures verdict { verdict.new ≡ of_image image.now }
 {
@@ -119,9 +148,28 @@ pub fn put_rows(
         entries: image.entries(),
         types: image.types(),
     });
+}
+
+/// Writes the rows of all entries if there is room for them, how many there are, and the verdict.
+pub fn put_rows(
+    alloc: Global,
+    file: &[u8],
+    image: &Image<'_>,
+    rows: &mut [EntryRow],
+    count: &mut usize,
+    verdict: &mut Verdict,
+) -> u32
+    requires { IsSoundFile file.now image.now }
+    ensures { PutsRows file.now rows.old count.old verdict.old result rows.new count.new verdict.new }
+{
     if image.entries() > rows.len() {
+        put_counts(image, count, verdict);
         return TOO_SHORT;
     }
-    put_all(rows, image);
+    let Ok(names) = Names::read(alloc, file, image) else {
+        return NO_MEMORY;
+    };
+    put_all(rows, &names);
+    put_counts(image, count, verdict);
     SOUND
 }

@@ -28,6 +28,19 @@ pub struct Fault {
     pub attribute: u32,
 }
 
+/// An entry of a sound file. Its name is in the bytes of the file.
+#[derive(Clone, Copy, Debug, PartialEq, Eq)]
+pub struct Entry<'a> {
+    /// Where it starts in .debug_info.
+    pub offset: u32,
+    /// How many entries are above it.
+    pub depth: u32,
+    pub tag: u32,
+    /// In bytes. None if it is no type, or has no size.
+    pub size: Option<u64>,
+    pub name: Option<&'a [u8]>,
+}
+
 /// An allocation failed.
 #[derive(Clone, Copy, Debug, PartialEq, Eq)]
 pub struct NoMemory;
@@ -41,11 +54,27 @@ pub fn check(file: &[u8]) -> Result<Verdict, NoMemory> {
     // SAFETY: the pointer of a slice is not null and valid for its length, and only this call uses `raw`.
     match unsafe { dwv_check(file.as_ptr(), file.len(), &mut raw) } {
         0 => Ok(Ok(Counts { units: raw.units, entries: raw.entries, types: raw.types })),
-        1 => {
-            let (rule, name, section) = (text(&raw.rule), text(&raw.name), text(&raw.section));
-            Ok(Err(Fault { rule, name, section, at: raw.at, attribute: raw.attribute }))
-        }
+        1 => Ok(Err(raw.fault())),
         _ => Err(NoMemory),
+    }
+}
+
+/// The entries of a sound file in rising offset, or the fault of another one.
+pub fn entries(file: &[u8]) -> Result<Result<Vec<Entry<'_>>, Fault>, NoMemory> {
+    let (mut raw, mut rows) = (Raw::default(), vec![Row::default(); 64]);
+    loop {
+        let mut count = 0;
+        let (to, room) = (rows.as_mut_ptr(), rows.len());
+        // SAFETY: as above, and the array has `room` rows that are initialized.
+        let status = unsafe { dwv_entries(file.as_ptr(), file.len(), to, room, &mut count, &mut raw) };
+        match status {
+            1 => return Ok(Err(raw.fault())),
+            4 => return Err(NoMemory),
+            _ => rows.resize(count, Row::default()),
+        }
+        if status == 0 {
+            return Ok(Ok(rows.iter().map(|row| row.entry(file)).collect()));
+        }
     }
 }
 
@@ -100,11 +129,43 @@ struct Raw {
     name: [u8; 24],
 }
 
+impl Raw {
+    fn fault(&self) -> Fault {
+        let (rule, name, section) = (text(&self.rule), text(&self.name), text(&self.section));
+        Fault { rule, name, section, at: self.at, attribute: self.attribute }
+    }
+}
+
+/// `struct dwv_entry` of dwv.h.
+#[repr(C)]
+#[derive(Clone, Copy, Default)]
+struct Row {
+    size: u64,
+    name: u64,
+    offset: u32,
+    depth: u32,
+    tag: u32,
+    has_size: u32,
+    name_length: u32,
+    has_name: u32,
+}
+
+impl Row {
+    fn entry<'a>(&self, file: &'a [u8]) -> Entry<'a> {
+        let size = (self.has_size == 1).then_some(self.size);
+        let name = (self.has_name == 1).then(|| &file[self.name as usize..][..self.name_length as usize]);
+        Entry { offset: self.offset, depth: self.depth, tag: self.tag, size, name }
+    }
+}
+
 /// DWV_TYPES of dwv.h.
 const TYPES: u32 = 3;
 
 extern "C" {
     fn dwv_check(file: *const u8, length: usize, verdict: *mut Raw) -> u32;
+    fn dwv_entries(
+        file: *const u8, length: usize, rows: *mut Row, room: usize, count: *mut usize, verdict: *mut Raw,
+    ) -> u32;
     fn dwv_report(
         file: *const u8, length: usize, request: u32, offset: u32, buffer: *mut u8, capacity: usize, needed: *mut usize,
     ) -> u32;

@@ -5,12 +5,15 @@ use Rattle.dwv_c.proofs.rows.row_at.Goals as goal
 
 pub depth_by_rows-depth-requires : goal.depth_by_rows-depth-requires
 depth_by_rows-depth-requires c =
-    parent_before c.args.image.now c.args.id (length c.args.rows.now) (slice_get (entries_in c.args.image.now) c.args.id)
+    let image = c.args.names.now.source.image.now in
+    parent_before image c.args.id (length c.args.rows.now) (slice_get (entries_in image) c.args.id)
     c.parent.result c.requires.room refl c.requires.entry c.parent.ensures
 
 pub returns : goal.returns
 returns c =
-    row_told c.args.image.now c.args.id c.args.rows.now (slice_get (entries_in c.args.image.now) c.args.id)
-    c.offset.result c.tag.result c.parent.result c.depth_by_rows-depth.result c.size_of_entry-size.result c.row_with.result refl
+    let image = c.args.names.now.source.image.now in
+    row_told c.args.names.now.file.now image c.args.id c.args.rows.now (slice_get (entries_in image) c.args.id)
+    c.offset.result c.tag.result c.parent.result c.depth_by_rows-depth.result c.size_of_entry-size.result c.place.result c.row_with.result refl
     c.requires.before c.offset.ensures c.tag.ensures c.parent.ensures c.depth_by_rows-depth.ensures
-    c.size_of_entry-size.ensures c.row_with.ensures
+    c.size_of_entry-size.ensures c.place.ensures c.row_with.ensures.offset c.row_with.ensures.depth c.row_with.ensures.tag
+    c.row_with.ensures.size c.row_with.ensures.name

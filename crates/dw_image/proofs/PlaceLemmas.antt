@@ -1,0 +1,19 @@
+-- A text is no longer than its section.
+use Rattle.std.proofs.Common.{ℕ, ◌≤◌, ◌==◌, List, length, drop, length-take, length-drop, arith}
+use Rattle.std.specs.List.{position_or_len}
+use Rattle.dw_elf.specs.declared.sections.Sections.{Sections}
+use Rattle.dw_elf.specs.Limits.{section_limit}
+use Rattle.dw_links.specs.declared.text_place.TextPlace.{TextPlace}
+use Rattle.dw_links.specs.declared.text_place.TextPlace.TheVariants.{Info, Str, LineStr}
+use Rattle.dw_links.specs.Contributions.{string_at}
+use Rattle.dw_links.specs.ValueTexts.{text_there}
+
+string_short : (section : List ℕ) (offset : ℕ) → length (string_at section offset) ≤ length section
+string_short section offset =
+    let rest : List ℕ = drop offset section in
+    omega (arith, length-take (position_or_len (λ byte. byte == 0) rest) rest, length-drop offset section)
+
+pub text_short : (s : Sections) (place : TextPlace) → length (text_there s place) ≤ section_limit
+text_short s (Info offset) = omega (arith, string_short s.info.now offset, s.info_fits)
+text_short s (Str offset) = omega (arith, string_short s.str.now offset, s.str_fits)
+text_short s (LineStr offset) = omega (arith, string_short s.line_str.now offset, s.line_str_fits)
