@@ -3,7 +3,7 @@ use Rattle.std.proofs.Common.{◌≡◌, ◌≢◌, ℕ, zero, suc, true, false,
 use Rattle.std.specs.Prelude.{Contains}
 use Rattle.std.proofs.lemmas.List.{get_or_default}
 use Rattle.dw_types.specs.declared.walk.Mark.TheVariants.{Fresh}
-use Rattle.dw_types.specs.Cycles.{Leads, IsOnCycle, ReachesCycle, AreClear}
+use Rattle.dw_types.specs.Cycles.{Leads, ReachesCycle, AreClear}
 use Rattle.dw_types.specs.Graphs.{Graph, IsStep, FollowsSteps, step_at}
 use Rattle.dw_types.specs.Walks.{IsWalk, IsAtCycle}
 use Rattle.dw_types.specs.WalkStates.{State, mark_of, given_up}

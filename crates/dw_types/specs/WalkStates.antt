@@ -1,5 +1,6 @@
 -- State: the state of a walk over a graph, and what it is after each kind of turn.
-use Rattle.std.specs.Prelude.{Bool, true, ℕ, ◌+◌, ◌-◌, List, [], ◌∷◌, ◌++◌, length, take, slice_index, slice_index_or, slice_set}
+use Rattle.std.specs.Prelude.{Bool, true, ℕ, ◌+◌, ◌-◌, List, [], ◌∷◌, ◌++◌, length, take}
+use Rattle.std.specs.Prelude.{slice_index, slice_index_or, slice_set}
 use Rattle.dw_types.specs.declared.walk.Mark.{Mark}
 use Rattle.dw_types.specs.declared.walk.Mark.TheVariants.{Fresh, Open, Ranked}
 

@@ -1,7 +1,7 @@
 //! The order of a graph: one walk with a stack, which looks at each step once.
 
-ghost use Rattle.std.specs.Prelude.{◌≡◌, ◌≢◌, ℕ, ◌+◌, ◌-◌, ◌^◌, ◌<◌, [], None, length, slice_index, Contains, IfOk, IfErr};
-ghost use Rattle.std.specs.Prelude.{OnOk};
+ghost use Rattle.std.specs.Prelude.{◌≡◌, ◌≢◌, ℕ, ◌+◌, ◌-◌, ◌^◌, ◌<◌, [], None, length, slice_index, Contains};
+ghost use Rattle.std.specs.Prelude.{IfErr, IfOk, OnOk};
 ghost use Rattle.dw_types.specs.Cycles.{AreClear};
 ghost use Rattle.dw_types.specs.Graphs.{steps_of, FollowsSteps, IsStep, IsCycle, HasNoCycle};
 ghost use Rattle.dw_types.specs.OrderFaults.{IsFaultOf};

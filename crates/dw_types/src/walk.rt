@@ -20,8 +20,8 @@ pub(crate) enum Mark {
     Ranked,
 }
 
-/// A walk over a graph, which keeps its way in a stack. Nodes are given up if they reach a cycle: they stay open, but are
-/// not on the stack.
+/// A walk over a graph, which keeps its way in a stack. Nodes are given up if they reach a cycle: they stay open, but
+/// are not on the stack.
 #[derive(Drop)]
 pub(crate) struct Walk {
     marks: Vec<Mark>,

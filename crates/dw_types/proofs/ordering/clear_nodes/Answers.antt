@@ -1,4 +1,4 @@
-use Rattle.std.proofs.Common.{◌≡◌, ◌<◌, below_more, length, arith, refl, ◌∙◌}
+use Rattle.std.proofs.Common.{◌<◌, below_more, length, arith, refl, ◌∙◌}
 use Rattle.dw_types.proofs.ClearLemmas.{given_up-walk, clear-at_end}
 use Rattle.dw_types.proofs.EndLemmas.{start-walk, taken-more}
 use Rattle.dw_types.proofs.ordering.clear_nodes.Goals as goal

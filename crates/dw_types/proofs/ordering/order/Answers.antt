@@ -1,4 +1,4 @@
-use Rattle.std.proofs.Common.{◌≡◌, ℕ, ◌<◌, below_more, length, arith, refl, ◌∙◌}
+use Rattle.std.proofs.Common.{ℕ, ◌<◌, below_more, length, arith, refl, ◌∙◌}
 use Rattle.dw_types.specs.Walks.{IsAtCycle, IsWalk}
 use Rattle.dw_types.proofs.ClearLemmas.{on-stack}
 use Rattle.dw_types.proofs.CycleLemmas.{no_cycle-from_falls}
