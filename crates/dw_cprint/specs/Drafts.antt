@@ -1,12 +1,7 @@
 -- State: the text of a declaration as it is written. It has at most 65,536 bytes, or is known to be longer.
 use Rattle.std.specs.Prelude.{ℕ, ◌-◌, nat_lt, if◌then◌else◌, List, ◌++◌, length, Option, Some, None}
-use Rattle.dw_cprint.specs.declared.draft.Draft.{Draft}
 
 -- a text with more after it; none if that is too long
 abbrev pub appended : Option (List ℕ) → List ℕ → Option (List ℕ)
 appended None more = None
 appended (Some text) more = if nat_lt (65536 - length text) (length more) then None else Some (text ++ more)
-
--- the text of a draft; none if it is too long
-abbrev pub drafted : Draft → Option (List ℕ)
-drafted d = if d.over then None else Some d.bytes.items

@@ -1,19 +1,17 @@
 -- State: the judgement of a named type: it is printed, and its text is written, or the refusal that holds.
-use Rattle.std.specs.Prelude.{◌≡◌, ℕ, [], ◌∷◌, ◌++◌, Option, Some, None}
+use Rattle.std.specs.Prelude.{◌≡◌, ℕ, List, [], ◌∷◌, ◌++◌, Option, Some, None}
 use Rattle.dw_cprint.specs.Declarations.{declaration_of}
-use Rattle.dw_cprint.specs.Drafts.{drafted}
 use Rattle.dw_cprint.specs.Listings.{text_if}
 use Rattle.dw_cprint.specs.Refusals.{PrintFault, HoldsNoneBelow, Refuses, IsPrinted}
 use Rattle.dw_cprint.specs.Shapes.{ShapeOf, SubjectOf}
 use Rattle.dw_cprint.specs.Terms.{Declaration}
 use Rattle.dw_cprint.specs.Writing.{written}
-use Rattle.dw_cprint.specs.declared.draft.Draft.{Draft}
 use Rattle.dw_cprint.specs.declared.listing.Listing.{Listing}
 
 -- the draft has the text of the declaration
-abbrev pub IsDrafted : (ℕ → ShapeOf) → SubjectOf → Draft → Type 0
+abbrev pub IsDrafted : (ℕ → ShapeOf) → SubjectOf → Option (List ℕ) → Type 0
 IsDrafted shapes subject draft =
-    (d : Declaration) × (declaration_of shapes subject ≡ Some d) × (drafted draft ≡ Some (written d))
+    (d : Declaration) × (declaration_of shapes subject ≡ Some d) × (draft ≡ Some (written d))
 
 -- why a declaration is refused; none if no rule with a smaller number holds
 abbrev pub IsRefusalBelow : ℕ → (ℕ → ShapeOf) → SubjectOf → Option PrintFault → Type 0
@@ -21,7 +19,7 @@ IsRefusalBelow number shapes subject None = HoldsNoneBelow number shapes subject
 IsRefusalBelow number shapes subject (Some rule) = Refuses shapes subject rule
 
 -- why a declaration is refused; none if it is printed, and the draft has its text
-abbrev pub IsJudgement : (ℕ → ShapeOf) → SubjectOf → Draft → Option PrintFault → Type 0
+abbrev pub IsJudgement : (ℕ → ShapeOf) → SubjectOf → Option (List ℕ) → Option PrintFault → Type 0
 IsJudgement shapes subject draft None = IsPrinted shapes subject × IsDrafted shapes subject draft
 IsJudgement shapes subject draft (Some rule) = Refuses shapes subject rule
 

@@ -1,9 +1,10 @@
 //! The text of a declaration as it is written, up to the limit.
 
-ghost use Rattle.std.specs.Prelude.{◌≡◌, [], Some, IfSome, OnOk, is_none};
-ghost use Rattle.dw_cprint.specs.Drafts.{appended, drafted};
+ghost use Rattle.std.specs.Prelude.{◌≡◌, ℕ, if◌then◌else◌, List, [], Option, None, Some, IfSome, OnOk, is_none};
+ghost use Rattle.dw_cprint.specs.Drafts.{appended};
 
 use std::alloc::{AllocError, Global};
+use std::marker::Model;
 
 /// The most bytes of a declaration.
 pub const LIMIT: usize = 65536;
@@ -15,10 +16,17 @@ pub struct Draft {
     over: bool,
 }
 
+impl Model for Draft {
+    ghost Value = { Option (List ℕ) };
+
+    // The text; none if it is too long.
+    ghost view = { λ d. if d.over then None else Some d.bytes.items };
+}
+
 impl Draft {
     /// A text without bytes.
     pub fn new(alloc: Global) -> Draft
-        ensures { drafted result ≡ Some [] }
+        ensures { result ≡ Some [] }
     {
         Draft {
             bytes: Vec::new(alloc),
@@ -28,7 +36,7 @@ impl Draft {
 
     /// Removes all bytes.
     pub fn clear(&mut self)
-        ensures { drafted self.new ≡ Some [] }
+        ensures { self.new ≡ Some [] }
     {
         self.bytes.clear();
         self.over = false;
@@ -36,14 +44,14 @@ impl Draft {
 
     /// Whether it has more bytes than a declaration may have.
     pub fn is_over(&self) -> bool
-        ensures { result ≡ is_none (drafted self.now) }
+        ensures { result ≡ is_none self.now }
     {
         self.over
     }
 
     /// Appends a text. It is not read if both are too long together.
     pub fn put(&mut self, text: &[u8]) -> Result<(), AllocError>
-        ensures { OnOk result (drafted self.new ≡ appended (drafted self.old) text.now) }
+        ensures { OnOk result (self.new ≡ appended self.old text.now) }
     {
         if self.over {
             return Ok(());
@@ -57,7 +65,7 @@ impl Draft {
 
     /// Its bytes. Nothing is known of those of a text that is too long.
     pub fn bytes(&self) -> &[u8]
-        ensures { IfSome (drafted self.now) (λ text. result.now ≡ text) }
+        ensures { IfSome self.now (λ text. result.now ≡ text) }
     {
         &self.bytes
     }

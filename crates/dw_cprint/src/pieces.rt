@@ -4,7 +4,7 @@ ghost use Rattle.std.specs.Prelude.{◌≡◌, ◌++◌, ◌∷◌, [], flat_map
 ghost use Rattle.dw_cprint.specs.Declarations.{bits_of};
 ghost use Rattle.dw_cprint.specs.Declarators.{gap, pointer_row};
 ghost use Rattle.dw_cprint.specs.Digits.{numeral};
-ghost use Rattle.dw_cprint.specs.Drafts.{appended, drafted};
+ghost use Rattle.dw_cprint.specs.Drafts.{appended};
 ghost use Rattle.dw_cprint.specs.Kept.{Writes, WritesEnumerator, WritesEnumerators};
 ghost use Rattle.dw_cprint.specs.Shapes.{view_enumerator, view_name};
 ghost use Rattle.dw_cprint.specs.Tokens.{Blank, TagWord};
@@ -18,7 +18,7 @@ use std::alloc::AllocError;
 /// A number in decimal.
 #[tactic(auto, using(crate::proofs::NumeralLemmas::numeral_low))]
 fn put_number(out: &mut Draft, n: u128) -> Result<(), AllocError>
-    ensures { OnOk result (drafted out.new ≡ appended (drafted out.old) (numeral n)) }
+    ensures { OnOk result (out.new ≡ appended out.old (numeral n)) }
 {
     if n < 10 {
         return out.put(&[b'0' + n as u8]);
@@ -29,7 +29,7 @@ fn put_number(out: &mut Draft, n: u128) -> Result<(), AllocError>
 
 /// An enumerator's value in decimal.
 fn put_value(out: &mut Draft, value: i128) -> Result<(), AllocError>
-    ensures { OnOk result (Writes (value_tokens value) (drafted out.old) (drafted out.new)) }
+    ensures { OnOk result (Writes (value_tokens value) out.old out.new) }
 {
     if value < 0 {
         out.put(b"-")?;
@@ -40,7 +40,7 @@ fn put_value(out: &mut Draft, value: i128) -> Result<(), AllocError>
 
 /// A name, if there is one.
 pub fn put_name(out: &mut Draft, name: Name<'_>) -> Result<(), AllocError>
-    ensures { OnOk result (Writes (name_tokens (view_name name.entry)) (drafted out.old) (drafted out.new)) }
+    ensures { OnOk result (Writes (name_tokens (view_name name.entry)) out.old out.new) }
 {
     match name {
         None => Ok(()),
@@ -50,7 +50,7 @@ pub fn put_name(out: &mut Draft, name: Name<'_>) -> Result<(), AllocError>
 
 /// The brackets of a dimension.
 fn put_count(out: &mut Draft, count: Option<u128>) -> Result<(), AllocError>
-    ensures { OnOk result (Writes (count_tokens count) (drafted out.old) (drafted out.new)) }
+    ensures { OnOk result (Writes (count_tokens count) out.old out.new) }
 {
     match count {
         None => out.put(b"[]"),
@@ -64,7 +64,7 @@ fn put_count(out: &mut Draft, count: Option<u128>) -> Result<(), AllocError>
 
 /// The brackets of dimensions.
 pub fn put_counts(out: &mut Draft, counts: &[Option<u128>]) -> Result<(), AllocError>
-    ensures { OnOk result (Writes (flat_map count_tokens counts.now) (drafted out.old) (drafted out.new)) }
+    ensures { OnOk result (Writes (flat_map count_tokens counts.now) out.old out.new) }
 {
     for count in counts {
         if out.is_over() {
@@ -77,7 +77,7 @@ pub fn put_counts(out: &mut Draft, counts: &[Option<u128>]) -> Result<(), AllocE
 
 /// Each qualifier, followed by a space.
 pub fn put_qualifiers(out: &mut Draft, qualifiers: &[Qualifier]) -> Result<(), AllocError>
-    ensures { OnOk result (Writes (qualifying qualifiers.now) (drafted out.old) (drafted out.new)) }
+    ensures { OnOk result (Writes (qualifying qualifiers.now) out.old out.new) }
 {
     for qualifier in qualifiers {
         out.put(qualifier.text())?;
@@ -88,7 +88,7 @@ pub fn put_qualifiers(out: &mut Draft, qualifiers: &[Qualifier]) -> Result<(), A
 
 /// The qualifiers of a pointer, separated by spaces, and a space after them if a declarator follows.
 pub fn put_joined(out: &mut Draft, qualifiers: &[Qualifier], inside: bool) -> Result<(), AllocError>
-    ensures { OnOk result (Writes (pointer_row qualifiers.now inside) (drafted out.old) (drafted out.new)) }
+    ensures { OnOk result (Writes (pointer_row qualifiers.now inside) out.old out.new) }
 {
     let last = qualifiers.len();
     for (i, qualifier) in qualifiers.iter().enumerate() {
@@ -102,7 +102,7 @@ pub fn put_joined(out: &mut Draft, qualifiers: &[Qualifier], inside: bool) -> Re
 
 /// A space, if a declarator follows.
 pub fn put_gap(out: &mut Draft, inside: bool) -> Result<(), AllocError>
-    ensures { OnOk result (Writes (gap inside) (drafted out.old) (drafted out.new)) }
+    ensures { OnOk result (Writes (gap inside) out.old out.new) }
 {
     if inside {
         out.put(b" ")?;
@@ -112,8 +112,7 @@ pub fn put_gap(out: &mut Draft, inside: bool) -> Result<(), AllocError>
 
 /// A word before a tag, and the tag.
 pub fn put_tag(out: &mut Draft, tag: TagKeyword, name: Name<'_>) -> Result<(), AllocError>
-    ensures { OnOk result
-        (Writes (TagWord tag ∷ Blank ∷ name_tokens (view_name name.entry)) (drafted out.old) (drafted out.new)) }
+    ensures { OnOk result (Writes (TagWord tag ∷ Blank ∷ name_tokens (view_name name.entry)) out.old out.new) }
 {
     out.put(tag.text())?;
     out.put(b" ")?;
@@ -122,7 +121,7 @@ pub fn put_tag(out: &mut Draft, tag: TagKeyword, name: Name<'_>) -> Result<(), A
 
 /// An enumerator and its value.
 fn put_enumerator(out: &mut Draft, enumerator: &Enumerator<'_>) -> Result<(), AllocError>
-    ensures { OnOk result (WritesEnumerator (view_enumerator enumerator.now) (drafted out.old) (drafted out.new)) }
+    ensures { OnOk result (WritesEnumerator (view_enumerator enumerator.now) out.old out.new) }
 {
     put_name(out, enumerator.name)?;
     out.put(b" = ")?;
@@ -134,8 +133,7 @@ fn put_enumerator(out: &mut Draft, enumerator: &Enumerator<'_>) -> Result<(), Al
 
 /// The enumerators, in braces.
 pub fn put_enumerators(out: &mut Draft, enumerators: &[Enumerator<'_>]) -> Result<(), AllocError>
-    ensures { OnOk result (WritesEnumerators (map view_enumerator enumerators.now)
-        (drafted out.old) (drafted out.new)) }
+    ensures { OnOk result (WritesEnumerators (map view_enumerator enumerators.now) out.old out.new) }
 {
     let Some((first, others)) = enumerators.split_first() else {
         return out.put(b"{  }");
@@ -154,7 +152,7 @@ pub fn put_enumerators(out: &mut Draft, enumerators: &[Enumerator<'_>]) -> Resul
 
 /// The bits of a member.
 pub fn put_bits(out: &mut Draft, bits: Bits) -> Result<(), AllocError>
-    ensures { OnOk result (Writes (bits_tokens (bits_of bits)) (drafted out.old) (drafted out.new)) }
+    ensures { OnOk result (Writes (bits_tokens (bits_of bits)) out.old out.new) }
 {
     match bits {
         Bits::Number(n) => {

@@ -2,7 +2,6 @@
 
 ghost use Rattle.std.specs.Prelude.{◌≡◌, ◌<◌, ◌||◌, Some, None, map, OnOk, IfSome, MatchOption};
 ghost use Rattle.dw_cprint.specs.Declarations.{term_by};
-ghost use Rattle.dw_cprint.specs.Drafts.{drafted};
 ghost use Rattle.dw_cprint.specs.Kept.{kept, kept_term, WritesBefore, WritesAfter, WritesOpened, WritesClosed};
 ghost use Rattle.dw_cprint.specs.Kept.{WritesNamed, WritesCore, WritesMember, WritesMembers, WritesParameter};
 ghost use Rattle.dw_cprint.specs.Kept.{WritesParameters, WritesDeclaration};
@@ -62,7 +61,7 @@ impl<'a> Survey<'a> {
 
     /// The parenthesis before the star of a pointer, if it needs one.
     fn put_opened(&self, out: &mut Draft, to: TypeAt) -> Result<(), AllocError>
-        ensures { OnOk result (WritesOpened self.now to (drafted out.old) (drafted out.new)) }
+        ensures { OnOk result (WritesOpened self.now to out.old out.new) }
     {
         if self.is_bracketed(to) {
             out.put(b"(")?;
@@ -72,7 +71,7 @@ impl<'a> Survey<'a> {
 
     /// The parenthesis that closes it.
     fn put_closed(&self, out: &mut Draft, to: TypeAt) -> Result<(), AllocError>
-        ensures { OnOk result (WritesClosed self.now to (drafted out.old) (drafted out.new)) }
+        ensures { OnOk result (WritesClosed self.now to out.old out.new) }
     {
         if self.is_bracketed(to) {
             out.put(b")")?;
@@ -90,8 +89,7 @@ impl<'a> Survey<'a> {
         name: Name<'_>,
         depth: usize,
     ) -> Result<(), AllocError>
-        ensures { OnOk result (WritesNamed self.now depth at (view_name name.entry)
-            (drafted out.old) (drafted out.new)) }
+        ensures { OnOk result (WritesNamed self.now depth at (view_name name.entry) out.old out.new) }
     {
         self.put_before(alloc, out, at, Vec::new(alloc), name.is_some(), depth)?;
         put_name(out, name)?;
@@ -107,8 +105,7 @@ impl<'a> Survey<'a> {
         member: &Member<'a>,
         depth: usize,
     ) -> Result<(), AllocError>
-        ensures { OnOk result (WritesMember self.now depth (view_member member.now)
-            (drafted out.old) (drafted out.new)) }
+        ensures { OnOk result (WritesMember self.now depth (view_member member.now) out.old out.new) }
     {
         self.put_named(alloc, out, member.type_at, member.name, depth)?;
         put_bits(out, member.bits)?;
@@ -124,8 +121,7 @@ impl<'a> Survey<'a> {
         members: &[Member<'a>],
         depth: usize,
     ) -> Result<(), AllocError>
-        ensures { OnOk result (WritesMembers self.now depth (map view_member members.now)
-            (drafted out.old) (drafted out.new)) }
+        ensures { OnOk result (WritesMembers self.now depth (map view_member members.now) out.old out.new) }
     {
         out.put(b"{ ")?;
         for member in members {
@@ -147,7 +143,7 @@ impl<'a> Survey<'a> {
         parameter: Parameter,
         depth: usize,
     ) -> Result<(), AllocError>
-        ensures { OnOk result (WritesParameter self.now depth parameter (drafted out.old) (drafted out.new)) }
+        ensures { OnOk result (WritesParameter self.now depth parameter out.old out.new) }
     {
         match parameter {
             Parameter::Typed(at) => self.put_named(alloc, out, at, None, depth),
@@ -164,7 +160,7 @@ impl<'a> Survey<'a> {
         parameters: &[Parameter],
         depth: usize,
     ) -> Result<(), AllocError>
-        ensures { OnOk result (WritesParameters self.now depth parameters.now (drafted out.old) (drafted out.new)) }
+        ensures { OnOk result (WritesParameters self.now depth parameters.now out.old out.new) }
     {
         let Some((first, others)) = parameters.split_first() else {
             return out.put(b"void");
@@ -189,7 +185,7 @@ impl<'a> Survey<'a> {
         shape: &Shape<'a>,
         depth: usize,
     ) -> Result<(), AllocError>
-        ensures { OnOk result (WritesCore self.now depth (view_shape shape.now) (drafted out.old) (drafted out.new)) }
+        ensures { OnOk result (WritesCore self.now depth (view_shape shape.now) out.old out.new) }
     {
         match shape {
             Shape::Base(name) => put_name(out, *name),
@@ -219,8 +215,7 @@ impl<'a> Survey<'a> {
         inside: bool,
         depth: usize,
     ) -> Result<(), AllocError>
-        ensures { OnOk result (WritesBefore self.now depth at qualifiers.items inside
-            (drafted out.old) (drafted out.new)) }
+        ensures { OnOk result (WritesBefore self.now depth at qualifiers.items inside out.old out.new) }
     {
         if out.is_over() {
             return Ok(());
@@ -267,7 +262,7 @@ impl<'a> Survey<'a> {
         at: TypeAt,
         depth: usize,
     ) -> Result<(), AllocError>
-        ensures { OnOk result (WritesAfter self.now depth at (drafted out.old) (drafted out.new)) }
+        ensures { OnOk result (WritesAfter self.now depth at out.old out.new) }
     {
         if out.is_over() {
             return Ok(());
@@ -312,8 +307,7 @@ impl<'a> Survey<'a> {
         out: &mut Draft,
         subject: &Subject<'a>,
     ) -> Result<(), AllocError>
-        ensures { OnOk result (WritesDeclaration self.now (view_subject subject.now)
-            (drafted out.old) (drafted out.new)) }
+        ensures { OnOk result (WritesDeclaration self.now (view_subject subject.now) out.old out.new) }
     {
         match subject {
             Subject::Typedef(name, at) => {

@@ -10,7 +10,6 @@ use Rattle.dw_cprint.specs.Shapes.{ShapeOf, SubjectOf, view_subject}
 use Rattle.dw_cprint.specs.Steps.{first_steps, roots_of}
 use Rattle.dw_cprint.specs.Surveys.{AreAmong, BySurvey, IsSurveyOf}
 use Rattle.dw_cprint.specs.Writing.{written}
-use Rattle.dw_cprint.specs.declared.draft.Draft.{Draft}
 use Rattle.dw_cprint.specs.declared.shape.Subject.{Subject}
 use Rattle.dw_cprint.specs.declared.survey.Survey.{Survey}
 use Rattle.dw_cprint.proofs.KeptLemmas.{printed-one, survey-regular}
@@ -22,7 +21,7 @@ among-own : (s : SubjectOf) → AreAmong (first_steps s) (roots_of (s ∷ []))
 among-own s entry has = Contains-append_left (first_steps s) [] entry has
 
 -- the judgement of the one declaration that is surveyed
-judged-alone : (shapes : ℕ → ShapeOf) (s : SubjectOf) (x : Subject) (xs : List Subject) (survey : Survey) (draft : Draft) (o p : Option PrintFault)
+judged-alone : (shapes : ℕ → ShapeOf) (s : SubjectOf) (x : Subject) (xs : List Subject) (survey : Survey) (draft : Option (List ℕ)) (o p : Option PrintFault)
     → xs ≡ x ∷ [] → view_subject x ≡ s → IsSurveyOf shapes (roots_of (map view_subject xs)) survey
     → BySurvey survey (first_steps (view_subject x)) (λ shapes. IsJudgement shapes (view_subject x) draft o) → o ≡ p → IsSurveyOf shapes (roots_of (s ∷ [])) survey × IsJudgement shapes s draft p
 judged-alone shapes s x xs survey draft o p alone seen surveyed judged same =

@@ -1,6 +1,6 @@
 use Rattle.std.proofs.Common.{◌≡◌, ℕ, ◌%◌, ◌/◌, ◌+◌, ◌∷◌, [], List, Option, sym, ap, ◌∙◌, arith}
 use Rattle.dw_cprint.specs.Digits.{numeral}
-use Rattle.dw_cprint.specs.Drafts.{appended, drafted}
+use Rattle.dw_cprint.specs.Drafts.{appended}
 use Rattle.dw_cprint.proofs.DraftLemmas.{appended-twice}
 use Rattle.dw_cprint.proofs.NumeralLemmas.{numeral_step}
 use Rattle.dw_cprint.proofs.OptionLemmas.{ok_then}
@@ -9,9 +9,9 @@ use Rattle.dw_cprint.proofs.pieces.+put_number.Goals as goal
 pub returns : goal.returns
 returns t c =
     let n = c.args.n in
-    let old = drafted c.args.out.now in
+    let old = c.args.out.now in
     let last = (48 + n % 10) ∷ [] in
-    let new = drafted c.put-2.new.self in
-    ok_then c.put-2.result (new ≡ appended (drafted c.put_number.new.out) last) (new ≡ appended old (numeral n))
+    let new = c.put-2.new.self in
+    ok_then c.put-2.result (new ≡ appended c.put_number.new.out last) (new ≡ appended old (numeral n))
     (λ h. h ∙ ap (λ (o : Option (List ℕ)). appended o last) c.in_ok-put_number.ensures ∙ appended-twice old (numeral (n / 10)) last ∙ ap (appended old) (sym (numeral_step n (omega arith))))
     c.put-2.ensures

@@ -5,7 +5,7 @@ use Rattle.std.specs.Prelude.{Vec, flat_map, is_some}
 use Rattle.std.proofs.lemmas.List.{drop_more, drop_all}
 use Rattle.dw_cprint.specs.Declarations.{term_at}
 use Rattle.dw_cprint.specs.Declarators.{before, after, gap, pointer_row}
-use Rattle.dw_cprint.specs.Drafts.{appended, drafted}
+use Rattle.dw_cprint.specs.Drafts.{appended}
 use Rattle.dw_cprint.specs.Kept.{kept, Writes, WritesBefore, WritesAfter, WritesNamed, WritesCore, WritesMembers}
 use Rattle.dw_cprint.specs.Kept.{WritesParameters, WritesEnumerators}
 use Rattle.dw_cprint.specs.Shapes.{Qualifier, Parameter, Typed, MemberOf, ShapeOf, pointer, array, function}
@@ -28,9 +28,9 @@ put_after-returns-in_ok-put_counts-in-Array t c =
     let s = c.args.self.now in
     let seen = c.in-Some-shape_within in
     let a = c.in-Array in
-    let old = drafted c.args.out.now in
-    let mid = drafted c.put_counts.new.out in
-    let new = drafted c.put_after-in-Array.new.out in
+    let old = c.args.out.now in
+    let mid = c.put_counts.new.out in
+    let new = c.put_after-in-Array.new.out in
     let step = step-at (kept s) c.args.depth seen.below c.args.at c.in-Some.entry (view_shape seen.shape.now) (array a.counts.items a.field-1 a.element) c.in-Some.is seen.ensures.found (ap view_shape a.is) in
     let brackets =
     as_tokens (flat_map count_tokens c.deref.result.now) (flat_map count_tokens a.counts.items) old mid
@@ -45,11 +45,11 @@ put_after-returns-in_ok-put-in-Some-parameters-2 t c =
     let seen = c.in-Some-shape_within in
     let f = c.in-Function in
     let p = c.in-Some-parameters in
-    let old = drafted c.args.out.now in
-    let mid = drafted c.put-in-Some-parameters.new.self in
-    let mid2 = drafted c.put_parameters.new.out in
-    let mid3 = drafted c.put-in-Some-parameters-2.new.self in
-    let new = drafted c.put_after-in-Some-parameters.new.out in
+    let old = c.args.out.now in
+    let mid = c.put-in-Some-parameters.new.self in
+    let mid2 = c.put_parameters.new.out in
+    let mid3 = c.put-in-Some-parameters-2.new.self in
+    let new = c.put_after-in-Some-parameters.new.out in
     let ps = p.parameters.items in
     let shape_is = ap view_shape f.is ∙ ap (λ (o : Option (Vec Parameter Global)). function f.returned (parameter_items o)) p.is in
     let step = step-at (kept s) c.args.depth seen.below c.args.at c.in-Some.entry (view_shape seen.shape.now) (function f.returned (Some ps)) c.in-Some.is seen.ensures.found shape_is in
@@ -64,9 +64,9 @@ put_after-returns-in_ok-put_closed-in-Pointer t c =
     let s = c.args.self.now in
     let seen = c.in-Some-shape_within in
     let to = c.in-Pointer.to in
-    let old = drafted c.args.out.now in
-    let mid = drafted c.put_closed.new.out in
-    let new = drafted c.put_after-in-Pointer.new.out in
+    let old = c.args.out.now in
+    let mid = c.put_closed.new.out in
+    let new = c.put_after-in-Pointer.new.out in
     let step = step-at (kept s) c.args.depth seen.below c.args.at c.in-Some.entry (view_shape seen.shape.now) (pointer to) c.in-Some.is seen.ensures.found (ap view_shape c.in-Pointer.is) in
     ok_then c.put_after-in-Pointer.result (WritesAfter s seen.below to mid new) (WritesAfter s c.args.depth c.args.at old new)
     (pointer_after (term_at seen.below (kept s)) (term_at c.args.depth (kept s) c.args.at) old new mid to step (c.in_ok-put_closed-in-Pointer.ensures seen.below))
@@ -77,9 +77,9 @@ put_after-returns-in_ok-put-in-None t c =
     let s = c.args.self.now in
     let seen = c.in-Some-shape_within in
     let f = c.in-Function in
-    let old = drafted c.args.out.now in
-    let mid = drafted c.put.new.self in
-    let new = drafted c.put_after-in-None.new.out in
+    let old = c.args.out.now in
+    let mid = c.put.new.self in
+    let new = c.put_after-in-None.new.out in
     let shape_is = ap view_shape f.is ∙ ap (λ (o : Option (Vec Parameter Global)). function f.returned (parameter_items o)) c.in-None.is in
     let step = step-at (kept s) c.args.depth seen.below c.args.at c.in-Some.entry (view_shape seen.shape.now) (function f.returned None) c.in-Some.is seen.ensures.found shape_is in
     ok_then c.put_after-in-None.result (WritesAfter s seen.below f.returned mid new) (WritesAfter s c.args.depth c.args.at old new)
@@ -91,10 +91,10 @@ put_before-returns-in_default t c =
     let s = c.args.self.now in
     let qs = c.args.qualifiers.items in
     let inside = c.args.inside in
-    let old = drafted c.args.out.now in
-    let mid = drafted c.put_qualifiers.new.out in
-    let mid2 = drafted c.put.new.self in
-    let new = drafted c.put_gap.new.out in
+    let old = c.args.out.now in
+    let mid = c.put_qualifiers.new.out in
+    let mid2 = c.put.new.self in
+    let new = c.put_gap.new.out in
     let row = as_tokens (qualifying c.deref.result.now) (qualifying qs) old mid (ap qualifying c.deref.ensures.value) c.in_ok-put_qualifiers.ensures in
     let word : Writes (VoidWord ∷ []) mid mid2 = c.in_ok-put.ensures in
     let P : Term → Type 0 = λ u. Writes (before qs u inside) old new in
@@ -109,11 +109,11 @@ put_before-returns-in_ok-put-in-Pointer t c =
     let to = c.in-Pointer.to in
     let qs = c.args.qualifiers.items in
     let inside = c.args.inside in
-    let old = drafted c.args.out.now in
-    let mid = drafted c.put_before-in-Pointer.new.out in
-    let mid2 = drafted c.put_opened.new.out in
-    let mid3 = drafted c.put-in-Pointer.new.self in
-    let new = drafted c.put_joined.new.out in
+    let old = c.args.out.now in
+    let mid = c.put_before-in-Pointer.new.out in
+    let mid2 = c.put_opened.new.out in
+    let mid3 = c.put-in-Pointer.new.self in
+    let new = c.put_joined.new.out in
     let step = step-at (kept s) c.args.depth seen.below c.args.at c.in-Some.entry (view_shape seen.shape.now) (pointer to) c.in-Some.is seen.ensures.found (ap view_shape c.in-Pointer.is) in
     let P : List Qualifier → Type 0 = λ us. WritesBefore s seen.below to us true old mid in
     let R : List Qualifier → Type 0 = λ us. Writes (pointer_row us inside) mid3 new in
@@ -129,8 +129,8 @@ put_before-returns-in-Array t c =
     let a = c.in-Array in
     let qs = c.args.qualifiers.items in
     let inside = c.args.inside in
-    let old = drafted c.args.out.now in
-    let new = drafted c.put_before-in-Array.new.out in
+    let old = c.args.out.now in
+    let new = c.put_before-in-Array.new.out in
     let step = step-at (kept s) c.args.depth seen.below c.args.at c.in-Some.entry (view_shape seen.shape.now) (array a.field-0.items a.field-1 a.element) c.in-Some.is seen.ensures.found (ap view_shape a.is) in
     let P : List Qualifier → Type 0 = λ us. WritesBefore s seen.below a.element us true old new in
     ok_then c.put_before-in-Array.result (P c.new-in-Array.result.items) (WritesBefore s c.args.depth c.args.at qs inside old new)
@@ -144,10 +144,10 @@ put_before-returns-in_ok-put_core-in_default-shape t c =
     let d = c.in_default-shape in
     let qs = c.args.qualifiers.items in
     let inside = c.args.inside in
-    let old = drafted c.args.out.now in
-    let mid = drafted c.put_qualifiers-in_default-shape.new.out in
-    let mid2 = drafted c.put_core.new.out in
-    let new = drafted c.put_gap-in_default-shape.new.out in
+    let old = c.args.out.now in
+    let mid = c.put_qualifiers-in_default-shape.new.out in
+    let mid2 = c.put_core.new.out in
+    let new = c.put_gap-in_default-shape.new.out in
     let shape = view_shape seen.shape.now in
     let step = step-at (kept s) c.args.depth seen.below c.args.at c.in-Some.entry shape shape c.in-Some.is seen.ensures.found refl in
     let row = as_tokens (qualifying c.deref-in_default-shape.result.now) (qualifying qs) old mid (ap qualifying c.deref-in_default-shape.ensures.value) c.in_ok-put_qualifiers-in_default-shape.ensures in
@@ -158,8 +158,8 @@ put_before-returns-in_ok-put_core-in_default-shape t c =
 pub put_core-returns-in-Base : goal.put_core-returns-in-Base
 put_core-returns-in-Base t c =
     let s = c.args.self.now in
-    let old = drafted c.args.out.now in
-    let new = drafted c.put_name.new.out in
+    let old = c.args.out.now in
+    let new = c.put_name.new.out in
     let name = view_name c.in-Base.name in
     let P : ShapeOf → Type 0 = λ shape. WritesCore s c.args.depth shape old new in
     ok_then c.put_name.result (Writes (name_tokens name) old new) (P (view_shape c.args.shape.now))
@@ -170,10 +170,10 @@ pub put_core-returns-in_ok-put-in-Body-2 : goal.put_core-returns-in_ok-put-in-Bo
 put_core-returns-in_ok-put-in-Body-2 t c =
     let s = c.args.self.now in
     let b = c.in-Body in
-    let old = drafted c.args.out.now in
-    let mid = drafted c.put.new.self in
-    let mid2 = drafted c.put-in-Body.new.self in
-    let new = drafted c.put_members.new.out in
+    let old = c.args.out.now in
+    let mid = c.put.new.self in
+    let mid2 = c.put-in-Body.new.self in
+    let new = c.put_members.new.out in
     let ms = map view_member b.members.items in
     let tag : Writes (TagWord b.tag ∷ []) old mid = c.in_ok-put-in-Body.ensures ∙ ap (appended old) (c.text.ensures ∙ sym (append-nil (spelling (TagWord b.tag)))) in
     let P : ShapeOf → Type 0 = λ shape. WritesCore s c.args.depth shape old new in
@@ -186,9 +186,9 @@ pub put_core-returns-in_ok-put-in-Enumeration : goal.put_core-returns-in_ok-put-
 put_core-returns-in_ok-put-in-Enumeration t c =
     let s = c.args.self.now in
     let it = c.in-Enumeration in
-    let old = drafted c.args.out.now in
-    let mid = drafted c.put-in-Enumeration.new.self in
-    let new = drafted c.put_enumerators.new.out in
+    let old = c.args.out.now in
+    let mid = c.put-in-Enumeration.new.self in
+    let new = c.put_enumerators.new.out in
     let es = map view_enumerator it.enumerators.items in
     let P : ShapeOf → Type 0 = λ shape. WritesCore s c.args.depth shape old new in
     let Q : List EnumeratorOf → Type 0 = λ us. WritesEnumerators us mid new in
@@ -199,10 +199,10 @@ put_core-returns-in_ok-put-in-Enumeration t c =
 pub put_named-returns : goal.put_named-returns
 put_named-returns t c =
     let s = c.args.self.now in
-    let old = drafted c.args.out.now in
-    let mid = drafted c.put_before.new.out in
-    let mid2 = drafted c.put_name.new.out in
-    let new = drafted c.put_after.new.out in
+    let old = c.args.out.now in
+    let mid = c.put_before.new.out in
+    let mid2 = c.put_name.new.out in
+    let new = c.put_after.new.out in
     let name = view_name c.args.name in
     let P : List Qualifier → Bool → Type 0 = λ us b. WritesBefore s c.args.depth c.args.at us b old mid in
     let some : c.is_some.result ≡ is_some name = c.is_some.ensures ∙ some-mapped (λ (text : Text). text.bytes.now) c.args.name in
@@ -217,10 +217,10 @@ put_members-loop-member-preserved t c =
     let ms = c.args.members.now in
     let i = c.loop-member.member-index in
     let one = c.member-item.result in
-    let old = drafted c.put.new.self in
-    let out = drafted c.loop-member.out in
+    let old = c.put.new.self in
+    let out = c.loop-member.out in
     let P : List MemberOf → Type 0 = λ left. MembersLeft term (map view_member ms) old left out in
-    members_next term (map view_member ms) (view_member one) (map view_member (drop (i + 1) ms)) old out (drafted c.put_member.new.out)
+    members_next term (map view_member ms) (view_member one) (map view_member (drop (i + 1) ms)) old out c.put_member.new.out
     (subst P (next-of view_member ms i one c.member-item.is c.loop-member-test.true) c.loop-member.invariant) c.in_ok-put_member.ensures
 
 pub put_parameters-loop-parameter-preserved : goal.put_parameters-loop-parameter-preserved
@@ -229,10 +229,10 @@ put_parameters-loop-parameter-preserved t c =
     let term = term_at c.args.depth (kept s) in
     let others = c.in-Some.others.now in
     let i = c.loop-parameter.parameter-index in
-    let old = drafted c.put_parameter.new.out in
-    let out = drafted c.loop-parameter.out in
-    let mid = drafted c.put-in-loop-parameter.new.self in
-    let new = drafted c.put_parameter-in-loop-parameter.new.out in
+    let old = c.put_parameter.new.out in
+    let out = c.loop-parameter.out in
+    let mid = c.put-in-loop-parameter.new.self in
+    let new = c.put_parameter-in-loop-parameter.new.out in
     let p = get_or others i (Typed None) in
     let P : List Parameter → Type 0 = λ left. ParametersLeft term others old left out in
     parameters_next term others p (drop (i + 1) others) old out mid new
@@ -245,9 +245,9 @@ put_parameters-returns t c =
     let term = term_at c.args.depth (kept s) in
     let first = c.in-Some.first.now in
     let others = c.in-Some.others.now in
-    let begin = drafted c.args.out.now in
-    let old = drafted c.put_parameter.new.out in
-    let out = drafted c.loop-parameter.out in
+    let begin = c.args.out.now in
+    let old = c.put_parameter.new.out in
+    let out = c.loop-parameter.out in
     let P : List Parameter → Type 0 = λ left. ParametersLeft term others old left out in
     let Q : List Parameter → Type 0 = λ ps. WritesParameters s c.args.depth ps begin out in
     subst Q (sym c.in-Some.ensures.cases.0)
@@ -257,22 +257,22 @@ put_parameters-returns t c =
 -- nothing is written to a text that is too long
 pub put_before-returns-then-is_over : goal.put_before-returns-then-is_over
 put_before-returns-then-is_over t c = λ u e.
-    let old = drafted c.args.out.now in
+    let old = c.args.out.now in
     over-stays old old (text_of (before c.args.qualifiers.items u c.args.inside)) (none-is old (sym c.is_over.ensures ∙ c.if-is_over.true)) refl
 
 pub put_after-returns-then-is_over : goal.put_after-returns-then-is_over
 put_after-returns-then-is_over t c = λ u e.
-    let old = drafted c.args.out.now in
+    let old = c.args.out.now in
     over-stays old old (text_of (after u)) (none-is old (sym c.is_over.ensures ∙ c.if-is_over.true)) refl
 
 pub put_members-returns-then-is_over : goal.put_members-returns-then-is_over
 put_members-returns-then-is_over t c = λ us e.
     let term = term_at c.args.depth (kept c.args.self.now) in
     let ms = c.args.members.now in
-    let old = drafted c.put.new.self in
-    let out = drafted c.loop-member.out in
+    let old = c.put.new.self in
+    let out = c.loop-member.out in
     let is = none-is out (sym c.is_over.ensures ∙ c.if-is_over.true) in
-    members_done term (map view_member ms) (drafted c.args.out.now) old out out c.in_ok-put.ensures
+    members_done term (map view_member ms) c.args.out.now old out out c.in_ok-put.ensures
     (members_over term (map view_member ms) (map view_member (drop c.loop-member.member-index ms)) old out is c.loop-member.invariant)
     (over-stays out out (text_of (RightBrace ∷ [])) is refl) us e
 
@@ -280,11 +280,11 @@ pub put_members-returns : goal.put_members-returns
 put_members-returns t c = λ us e.
     let term = term_at c.args.depth (kept c.args.self.now) in
     let ms = c.args.members.now in
-    let old = drafted c.put.new.self in
-    let out = drafted c.loop-member.out in
+    let old = c.put.new.self in
+    let out = c.loop-member.out in
     let P : List MemberOf → Type 0 = λ left. MembersLeft term (map view_member ms) old left out in
     let none = ap (map view_member) (drop_all c.loop-member.member-index ms c.loop-member-test.false) in
-    members_done term (map view_member ms) (drafted c.args.out.now) old out (drafted c.put-2.new.self) c.in_ok-put.ensures (subst P none c.loop-member.invariant) c.in_ok-put-2.ensures us e
+    members_done term (map view_member ms) c.args.out.now old out c.put-2.new.self c.in_ok-put.ensures (subst P none c.loop-member.invariant) c.in_ok-put-2.ensures us e
 
 pub put_parameters-returns-then-is_over : goal.put_parameters-returns-then-is_over
 put_parameters-returns-then-is_over t c =
@@ -292,9 +292,9 @@ put_parameters-returns-then-is_over t c =
     let term = term_at c.args.depth (kept s) in
     let others = c.in-Some.others.now in
     let first = c.in-Some.first.now in
-    let begin = drafted c.args.out.now in
-    let old = drafted c.put_parameter.new.out in
-    let out = drafted c.loop-parameter.out in
+    let begin = c.args.out.now in
+    let old = c.put_parameter.new.out in
+    let out = c.loop-parameter.out in
     let is = none-is out (sym c.is_over.ensures ∙ c.if-is_over.true) in
     let Q : List Parameter → Type 0 = λ ps. WritesParameters s c.args.depth ps begin out in
     subst Q (sym c.in-Some.ensures.cases.0)

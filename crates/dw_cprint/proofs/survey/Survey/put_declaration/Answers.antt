@@ -1,6 +1,5 @@
 use Rattle.std.proofs.Common.{[], ◌∷◌, List, map, ap, sym, subst}
 use Rattle.dw_cprint.specs.Declarations.{declaration_of, term_at}
-use Rattle.dw_cprint.specs.Drafts.{drafted}
 use Rattle.dw_cprint.specs.Kept.{kept, Writes, WritesMembers, WritesEnumerators, WritesDeclaration}
 use Rattle.dw_cprint.specs.Tokens.{Semicolon}
 use Rattle.dw_cprint.specs.Shapes.{MemberOf, EnumeratorOf, SubjectOf, view_name, view_subject, view_member, view_enumerator}
@@ -12,10 +11,10 @@ pub returns-in_ok-put_named-in-Typedef : goal.returns-in_ok-put_named-in-Typedef
 unfolding declaration_of
 returns-in_ok-put_named-in-Typedef c =
     let s = c.args.self.now in
-    let old = drafted c.args.out.now in
-    let mid = drafted c.put.new.self in
-    let mid2 = drafted c.put_named.new.out in
-    let new = drafted c.put-in-Typedef.new.self in
+    let old = c.args.out.now in
+    let mid = c.put.new.self in
+    let mid2 = c.put_named.new.out in
+    let new = c.put-in-Typedef.new.self in
     let P : SubjectOf → Type 0 = λ subject. WritesDeclaration s subject old new in
     ok_then c.put-in-Typedef.result (Writes (Semicolon ∷ []) mid2 new) (P (view_subject c.args.subject.now))
     (λ last. subst P (sym (ap view_subject c.in-Typedef.is))
@@ -26,9 +25,9 @@ pub returns-in_ok-put_named-in-Variable : goal.returns-in_ok-put_named-in-Variab
 unfolding declaration_of
 returns-in_ok-put_named-in-Variable c =
     let s = c.args.self.now in
-    let old = drafted c.args.out.now in
-    let mid = drafted c.put_named-in-Variable.new.out in
-    let new = drafted c.put-in-Variable.new.self in
+    let old = c.args.out.now in
+    let mid = c.put_named-in-Variable.new.out in
+    let new = c.put-in-Variable.new.self in
     let P : SubjectOf → Type 0 = λ subject. WritesDeclaration s subject old new in
     ok_then c.put-in-Variable.result (Writes (Semicolon ∷ []) mid new) (P (view_subject c.args.subject.now))
     (λ last. subst P (sym (ap view_subject c.in-Variable.is))
@@ -40,11 +39,11 @@ unfolding declaration_of
 returns-in_ok-put_members-in-Aggregate c =
     let s = c.args.self.now in
     let a = c.in-Aggregate in
-    let old = drafted c.args.out.now in
-    let mid = drafted c.put_tag.new.out in
-    let mid2 = drafted c.put-in-Aggregate.new.self in
-    let mid3 = drafted c.put_members.new.out in
-    let new = drafted c.put-in-Aggregate-2.new.self in
+    let old = c.args.out.now in
+    let mid = c.put_tag.new.out in
+    let mid2 = c.put-in-Aggregate.new.self in
+    let mid3 = c.put_members.new.out in
+    let new = c.put-in-Aggregate-2.new.self in
     let P : SubjectOf → Type 0 = λ subject. WritesDeclaration s subject old new in
     let Q : List MemberOf → Type 0 = λ ms. WritesMembers s 65 ms mid2 mid3 in
     ok_then c.put-in-Aggregate-2.result (Writes (Semicolon ∷ []) mid3 new) (P (view_subject c.args.subject.now))
@@ -58,11 +57,11 @@ unfolding declaration_of
 returns-in_ok-put_enumerators-in-Enumeration c =
     let s = c.args.self.now in
     let it = c.in-Enumeration in
-    let old = drafted c.args.out.now in
-    let mid = drafted c.put_tag-in-Enumeration.new.out in
-    let mid2 = drafted c.put-in-Enumeration.new.self in
-    let mid3 = drafted c.put_enumerators.new.out in
-    let new = drafted c.put-in-Enumeration-2.new.self in
+    let old = c.args.out.now in
+    let mid = c.put_tag-in-Enumeration.new.out in
+    let mid2 = c.put-in-Enumeration.new.self in
+    let mid3 = c.put_enumerators.new.out in
+    let new = c.put-in-Enumeration-2.new.self in
     let P : SubjectOf → Type 0 = λ subject. WritesDeclaration s subject old new in
     let Q : List EnumeratorOf → Type 0 = λ es. WritesEnumerators es mid2 mid3 in
     ok_then c.put-in-Enumeration-2.result (Writes (Semicolon ∷ []) mid3 new) (P (view_subject c.args.subject.now))

@@ -1,5 +1,4 @@
 use Rattle.std.proofs.Common.{Option, subst, sym, ◌∙◌}
-use Rattle.dw_cprint.specs.Drafts.{drafted}
 use Rattle.dw_cprint.specs.Judgements.{IsRefusalBelow}
 use Rattle.dw_cprint.specs.Refusals.{PrintFault}
 use Rattle.dw_cprint.specs.Shapes.{view_subject}
@@ -18,11 +17,11 @@ returns-then-is_over c = λ shapes roots survey among.
     let s = view_subject c.args.subject.now in
     let R : Option PrintFault → Type 0 = λ o. IsRefusalBelow 6 shapes s o in
     let none = subst R c.in_default.is (c.refusal_by_types.ensures shapes roots survey among) in
-    long-by-draft shapes s roots c.args.self.now survey among none (drafted c.clear.new.self) (drafted c.put_declaration.new.out) c.clear.ensures c.in_ok-put_declaration.ensures (sym c.is_over.ensures ∙ c.if-is_over.true)
+    long-by-draft shapes s roots c.args.self.now survey among none c.clear.new.self c.put_declaration.new.out c.clear.ensures c.in_ok-put_declaration.ensures (sym c.is_over.ensures ∙ c.if-is_over.true)
 
 pub returns : goal.returns
 returns c = λ shapes roots survey among.
     let s = view_subject c.args.subject.now in
     let R : Option PrintFault → Type 0 = λ o. IsRefusalBelow 6 shapes s o in
     let none = subst R c.in_default.is (c.refusal_by_types.ensures shapes roots survey among) in
-    short-by-draft shapes s roots c.args.self.now survey among none (drafted c.clear.new.self) (drafted c.put_declaration.new.out) c.clear.ensures c.in_ok-put_declaration.ensures (sym c.is_over.ensures ∙ c.if-is_over.false)
+    short-by-draft shapes s roots c.args.self.now survey among none c.clear.new.self c.put_declaration.new.out c.clear.ensures c.in_ok-put_declaration.ensures (sym c.is_over.ensures ∙ c.if-is_over.false)
