@@ -154,19 +154,24 @@ def goal_in(text):
 
 
 def batches_of(edits):
-    """Splits the edits of a crate into lists that are tried together: no two change one function."""
+    """Splits the edits of a crate into lists that are tried together: no two change one function or one text."""
     batches, alone = [], []
     for edit in edits:
         if edit.is_alone():
             alone.append([edit])
             continue
-        for batch in batches:
-            if len(batch) < TOGETHER and not any(edit.functions & it.functions for it in batch):
+        for batch, texts in batches:
+            more = dict(texts)
+            fits = len(batch) < TOGETHER and not any(edit.functions & it.functions for it in batch)
+            if fits and edit.apply(more):
                 batch.append(edit)
+                texts.update(more)
                 break
         else:
-            batches.append([edit])
-    return batches + alone
+            texts = {}
+            edit.apply(texts)
+            batches.append(([edit], texts))
+    return [batch for batch, _ in batches] + alone
 
 
 class Prover:
