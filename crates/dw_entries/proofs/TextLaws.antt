@@ -14,7 +14,7 @@ use Rattle.dw_forms.specs.Steps.{◌>>=◌}
 use Rattle.dw_forms.specs.FirstPlaces.{StandsFirst}
 use Rattle.dw_forms.specs.Plans.{values_end}
 use Rattle.dw_forms.specs.Sizes.{rest_at}
-use Rattle.dw_forms.specs.Value.{Datum, Ended, SpellsPlain, Val, layout_of, text}
+use Rattle.dw_forms.specs.Value.{Datum, SpellsPlain, Val, layout_of, text}
 use Rattle.dw_entries.specs.Asked.{value_of}
 use Rattle.dw_entries.specs.Grammar.{Context, Attribute, IsAttribute, AreAttributes, attribute_bytes, Head, head_bytes}
 use Rattle.dw_entries.specs.Lookups.{IsTextAt, value_at_entry, value_in}

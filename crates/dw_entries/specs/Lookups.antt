@@ -1,6 +1,6 @@
 -- Chapter: what the look-ups of entries and of units return.
 use Rattle.std.specs.Prelude.{◌≡◌, ℕ, List, length, ◌==◌, nat_lt, if◌then◌else◌, Bool, Option, Some, None, find}
-use Rattle.std.specs.Prelude.{option_map, ◌<◌, [], ◌∷◌, ◌++◌, drop, All}
+use Rattle.std.specs.Prelude.{option_map, ◌<◌, ◌∷◌, ◌++◌, drop, All}
 use Rattle.std.specs.List.{list_any}
 use Rattle.dw_forms.specs.declared.decl.AttributeSpec.{AttributeSpec}
 use Rattle.dw_forms.specs.declared.abbrev_tables.KeptDecl.{KeptDecl}

@@ -1,5 +1,5 @@
-use Rattle.std.proofs.Common.{rules, refl, ◌≡◌, Some, ◌∙◌}
-use Rattle.dw_elf.specs.Elf.{section_name, section_offset, string_at}
+use Rattle.std.proofs.Common.{rules, ◌≡◌, Some}
+use Rattle.dw_elf.specs.Elf.{section_name, section_offset}
 use Rattle.dw_elf.specs.Names.{name_of}
 use Rattle.dw_elf.specs.Checks.{SectionName}
 use Rattle.dw_elf.proofs.PlaceLemmas.{header_says}

@@ -1,4 +1,4 @@
-use Rattle.std.proofs.Common.{◌≡◌, ◌+◌, ◌∙◌, None, Some, refl, arith}
+use Rattle.std.proofs.Common.{◌≡◌, ◌∙◌, None, Some, refl, arith}
 use Rattle.dw_forms.specs.Abbrev.{view as decl_view}
 use Rattle.dw_forms.specs.Value.{text}
 use Rattle.dw_entries.specs.Lookups.{value_at_entry}
