@@ -108,9 +108,15 @@ def functions_of(crate, file, text):
             is_end = line.startswith((indent + "}", indent + "{}")) or line.endswith("{}")
             if is_end or line.endswith(";") and not has_body:
                 owner = [block] if indent else []
-                found.append(Function("::".join([crate.name, *module, *owner, name]), free, number))
+                found.append(Function(short("::".join([crate.name, *module, *owner, name])), free, number))
                 open_at, free = None, number + 1
     return found
+
+
+def short(path):
+    """Shortens the path of a method to its crate, its type and its name: a type's methods may be in several modules."""
+    parts = path.split("::")
+    return "::".join([parts[0], *parts[-2:]]) if len(parts) > 2 and parts[-2][0].isupper() else path
 
 
 class Report:
@@ -121,7 +127,7 @@ class Report:
         self.is_verdict = self.status == 0 or self.status == 1 and self.lines[-1].startswith("logic=not-proved")
         self.texts, self.crate, self.told = texts, crate, collections.defaultdict(list)
         # A function is also proved by itself if only one that it calls is not.
-        self.proved = set(re.findall(r"(?m)^fn (\S+): (?:proved$|no proof: it calls )", ran.stdout))
+        self.proved = {short(it) for it in re.findall(r"(?m)^fn (\S+): (?:proved$|no proof: it calls )", ran.stdout)}
         for line in self.lines:
             self.read(line)
 
@@ -129,7 +135,7 @@ class Report:
         proof = re.match(r"(?:note: )?(?:\./)?proofs/(\S+)/\w+\.antt:\d+:\d+: (?:error: )?(.*)", line)
         code = re.match(r"(?:note: )?(?:\./)?(src/\S+?):(\d+):\d+: (.*)", line)
         if proof and ("error: " in line or "not admitted" in line):
-            function = "::".join([self.crate.name, *proof[1].split("/")])
+            function = short("::".join([self.crate.name, *proof[1].split("/")]))
             self.told[function].append(("name" if NAMES.search(line) else "term", proof[2]))
         elif code and re.search(r"it is not proved|found no proof|: error", line):
             self.told[self.function_at(code[1], int(code[2]) - 1)].append((
