@@ -2,10 +2,12 @@
 """Runs `rt ci`, and lets `make lib` take the libraries that it proved.
 
 `rt ci` leaves each library in out/ of its crate, but without the sum of the text that it was made from, so that
-`rt lib` would prove all of them once more. This writes the sum where the text is the same as before the run.
+`rt lib` would prove all of them once more. This writes the sum where the text is the same as before the run. Libraries
+that earlier runs left are removed first, unless they are all of this text: `rt ci` puts back what it found.
 """
 import os
 import pathlib
+import shutil
 import subprocess
 import sys
 
@@ -16,6 +18,9 @@ def main():
     rt = loaded_rt()
     libraries = [it for it in rt.rtlib.crates_below(str(TOP)) if not it.is_program and not it.is_static]
     before = {it.name: it.stamp() for it in libraries}
+    if not all(it.is_built() for it in libraries):
+        for it in libraries:
+            shutil.rmtree(pathlib.Path(it.folder, "out/rlib"), ignore_errors=True)
     status = subprocess.run(["rt", "ci", *sys.argv[1:]]).returncode
     for it in libraries:
         stamp = pathlib.Path(it.folder, "out/rlib/stamp")
