@@ -1,51 +1,45 @@
 -- The attributes that are passed, up to the next one that is asked for.
-use Rattle.std.proofs.Common.{◌≡◌, ℕ, zero, suc, List, [], ◌∷◌, ◌++◌, map, length, take, drop, Option, Some, None, refl, sym, ap, ◌∙◌, subst, ◌+◌, ◌-◌, arith, append-nil}
-use Rattle.std.specs.Prelude.{IfSome, IfNone, MatchOption, slice_get}
-use Rattle.std.proofs.lemmas.List.{take-append-drop, take_all, length-drop}
-use Rattle.std.proofs.lemmas.Option.{slice_get_past}
+use Rattle.std.proofs.Common.{◌≡◌, ℕ, zero, suc, List, [], ◌∷◌, ◌++◌, map, length, take, drop, Option, Some, None, sym, ap, ◌∙◌, subst, append-nil}
+use Rattle.std.specs.Prelude.{IfSome, IfNone, MatchOption}
+use Rattle.std.proofs.lemmas.List.{take-append-drop, length-map}
+use Rattle.dw_forms.specs.declared.attributes.Attributes.{Attributes}
 use Rattle.dw_forms.specs.declared.decl.AttributeSpec.{AttributeSpec}
 use Rattle.dw_forms.specs.declared.value.Value.{Value}
+use Rattle.dw_forms.specs.Chains.{Numbered, items_of}
+use Rattle.dw_forms.specs.Suffixes.{specs_in}
 use Rattle.dw_forms.specs.Value.{Datum}
+use Rattle.dw_forms.proofs.SuffixLaws.{specs_ends}
 use Rattle.dw_entries.specs.Grammar.{Context, Attribute, AreAttributes}
 use Rattle.dw_entries.specs.Asked.{value_of}
-use Rattle.dw_entries.specs.Chosen.{PassTo, Unasked, IsNextAsked, ArePassed, IsNextOf}
+use Rattle.dw_entries.specs.Chosen.{AreUnasked, IsNextAsked, ArePassed, IsNextOf}
 use Rattle.dw_entries.specs.ValuesLeft.{viewed}
 
--- the specifications from a place on
-get_drop : (specs : List AttributeSpec) (from j k : ℕ) → k ≡ from + j → slice_get (drop from specs) j ≡ slice_get specs k
-get_drop specs zero j k e = let same : j ≡ k = omega (arith, e) in ap (slice_get specs) same
-get_drop [] (suc from) j k e = slice_get_past [] j (omega arith) ∙ sym (slice_get_past [] k (omega arith))
-get_drop (s ∷ specs) (suc from) j zero e = absurd (omega (arith, e))
-get_drop (s ∷ specs) (suc from) j (suc k) e = get_drop specs from j k (omega (arith, e))
-
-pub passed_to : (Passes : AttributeSpec → Type 0) (specs : List AttributeSpec) (from place : ℕ) → IsNextAsked Passes specs from place → PassTo Passes (drop from specs) (place - from)
-passed_to Passes specs from place p j spec less here = p.before (from + j) spec (omega arith) (omega (arith, less)) (sym (get_drop specs from j (from + j) refl) ∙ here)
-
-pub none_from : (Passes : AttributeSpec → Type 0) (specs : List AttributeSpec) (from : ℕ) → Unasked Passes specs from (length specs) → PassTo Passes (drop from specs) (length (drop from specs))
-none_from Passes specs from none j spec less here = none (from + j) spec (omega arith) (omega (arith, less, length-drop from specs)) (sym (get_drop specs from j (from + j) refl) ∙ here)
-
--- attributes are passed where their specifications are
-pub front_passed : (Passes : AttributeSpec → Type 0) (x : Context) (specs : List AttributeSpec) (bs : List Attribute) (k : ℕ) → AreAttributes x specs bs → PassTo Passes specs k → ArePassed Passes (take k (map value_of bs))
-front_passed Passes x specs bs zero are to j item is = absurd cc
-front_passed Passes x [] [] (suc k) are to j item is = absurd cc
-front_passed Passes x [] (b ∷ bs) (suc k) are to j item is = absurd are
-front_passed Passes x (s ∷ specs) [] (suc k) are to j item is = absurd are
-front_passed Passes x (s ∷ specs) (b ∷ bs) (suc k) are to zero item is =
+-- attributes are passed where their specifications are not asked for
+pub front_passed : (Passes : AttributeSpec → Type 0) (x : Context) (front back : List AttributeSpec) (bs : List Attribute) → AreAttributes x (front ++ back) bs → AreUnasked Passes front → ArePassed Passes (take (length front) (map value_of bs))
+front_passed Passes x [] back bs are unasked j item is = absurd cc
+front_passed Passes x (s ∷ front) back [] are unasked j item is = absurd are
+front_passed Passes x (s ∷ front) back (b ∷ bs) are unasked zero item is =
     let e : Some (value_of b) ≡ Some item = is in
-    record { context = x; spec = s; not_asked = to 0 s (omega arith) refl; declared = b; is_attribute = are.0; is_item = cc }
-front_passed Passes x (s ∷ specs) (b ∷ bs) (suc k) are to (suc j) item is = front_passed Passes x specs bs k are.1 (λ i spec less here. to (suc i) spec (omega (arith, less)) here) j item is
-
--- there are as many attributes as specifications
-same_length : (x : Context) (specs : List AttributeSpec) (bs : List Attribute) → AreAttributes x specs bs → length specs ≡ length (map value_of bs)
-same_length x [] [] are = refl
-same_length x [] (b ∷ bs) are = absurd are
-same_length x (s ∷ specs) [] are = absurd are
-same_length x (s ∷ specs) (b ∷ bs) are = ap suc (same_length x specs bs are.1)
+    record { context = x; spec = s; not_asked = unasked.0; declared = b; is_attribute = are.0; is_item = cc }
+front_passed Passes x (s ∷ front) back (b ∷ bs) are unasked (suc j) item is = front_passed Passes x front back bs are.1 unasked.1 j item is
 
 -- where no specification is asked for, all are passed
-pub all_passed : (Passes : AttributeSpec → Type 0) (x : Context) (specs : List AttributeSpec) (bs : List Attribute) → AreAttributes x specs bs → PassTo Passes specs (length specs) → ArePassed Passes (map value_of bs)
-all_passed Passes x specs bs are to =
-    subst (ArePassed Passes) (ap (λ (n : ℕ). take n (map value_of bs)) (same_length x specs bs are) ∙ take_all (length (map value_of bs)) (map value_of bs) (omega arith)) (front_passed Passes x specs bs (length specs) are to)
+pub all_passed : (Passes : AttributeSpec → Type 0) (x : Context) (specs : List AttributeSpec) (bs : List Attribute) → AreAttributes x specs bs → AreUnasked Passes specs → ArePassed Passes (map value_of bs)
+all_passed Passes x [] [] are unasked j item is = absurd cc
+all_passed Passes x [] (b ∷ bs) are unasked j item is = absurd are
+all_passed Passes x (s ∷ specs) [] are unasked j item is = absurd are
+all_passed Passes x (s ∷ specs) (b ∷ bs) are unasked zero item is =
+    let e : Some (value_of b) ≡ Some item = is in
+    record { context = x; spec = s; not_asked = unasked.0; declared = b; is_attribute = are.0; is_item = cc }
+all_passed Passes x (s ∷ specs) (b ∷ bs) are unasked (suc j) item is = all_passed Passes x specs bs are.1 unasked.1 j item is
+
+-- those before the next one that is asked for
+pub before_passed : (Passes : AttributeSpec → Type 0) (x : Context) (all others : Attributes) (bs : List Attribute) (next : IsNextAsked Passes all others) → AreAttributes x (specs_in all) bs
+    → ArePassed Passes (take (length next.before) (map value_of bs))
+before_passed Passes x all others bs next are =
+    let parts = specs_ends all others next.before next.ends in
+    subst (λ (n : ℕ). ArePassed Passes (take n (map value_of bs))) (length-map next.before (λ (n : Numbered AttributeSpec). n.item))
+    (front_passed Passes x (items_of next.before) (specs_in others) bs (subst (λ (specs : List AttributeSpec). AreAttributes x specs bs) parts are) next.unasked)
 
 -- the next one that is given is behind those that are passed
 pub next_found : (X : Type 0) (Passes : AttributeSpec → Type 0) (items left behind : List (ℕ × Datum)) (k : ℕ) (r : Option (ℕ × Value)) → MatchOption r X (λ y. left ≡ viewed y ∷ behind) → left ≡ drop k items → ArePassed Passes (take k items)

@@ -3,7 +3,7 @@ use Rattle.std.proofs.Common.{◌≡◌, ℕ, zero, suc, ◌+◌, ◌-◌, ◌<�
 use Rattle.std.specs.Prelude.{◌⊎◌, slice_get, IfSome}
 use Rattle.std.proofs.lemmas.Bool.{cases_lt}
 use Rattle.std.proofs.lemmas.Option.{slice_get_within}
-use Rattle.dw_forms.specs.KeptDecls.{Numbered}
+use Rattle.dw_forms.specs.KeptDecls.{Tables}
 use Rattle.dw_entries.specs.declared.record.Record.{Record}
 use Rattle.dw_entries.specs.declared.record.UnitRecord.{UnitRecord}
 use Rattle.dw_entries.specs.Grammar.{head_bytes}
@@ -184,7 +184,7 @@ abbrev pub height : Option ℕ → ℕ
 height None = 0
 height (Some p) = suc p
 
-module _ (a info : List ℕ) (tables : List (List Numbered)) (rs : List UnitRecord) (records : List Record) (s : Scanned a info tables rs records) where
+module _ (a info : List ℕ) (tables : Tables) (rs : List UnitRecord) (records : List Record) (s : Scanned a info tables rs records) where
   -- the record of an entry has its parent
   parent_kept : (id : ℕ) (r : Record) (e : Entry) → slice_get records id ≡ Some r → slice_get (entries_of (units_of s)) id ≡ Some e → r.parent ≡ e.parent
   parent_kept id r e read is =

@@ -4,7 +4,7 @@ use Rattle.std.specs.Prelude.{slice_get}
 use Rattle.std.specs.List.Sorted.{IsPartitionPoint, IsNonDecreasingBy}
 use Rattle.std.proofs.lemmas.Option.{slice_get_within, slice_get-get_or}
 use Rattle.std.proofs.lemmas.List.{length-map}
-use Rattle.dw_forms.specs.KeptDecls.{Numbered}
+use Rattle.dw_forms.specs.KeptDecls.{Tables}
 use Rattle.dw_entries.specs.declared.record.Record.{Record}
 use Rattle.dw_entries.specs.declared.record.UnitRecord.{UnitRecord}
 use Rattle.dw_entries.specs.Entries.{entries_of}
@@ -24,7 +24,7 @@ read_at records i r is =
     let e : Some (get_or records i r) ≡ Some r = sym (slice_get-get_or records i r (slice_get_within records i r is)) ∙ is in
     cc
 
-module _ (a info : List ℕ) (tables : List (List Numbered)) (rs : List UnitRecord) (records : List Record) (s : Scanned a info tables rs records) where
+module _ (a info : List ℕ) (tables : Tables) (rs : List UnitRecord) (records : List Record) (s : Scanned a info tables rs records) where
   pub entries_counted : length records ≡ length (entries_of (units_of s))
   entries_counted = ap length s.1.entries ∙ length-map (entries_of (units_of s)) (record_of (numbers_of tables rs))
 

@@ -2,13 +2,18 @@
 use Rattle.std.proofs.Common.{◌≡◌, ℕ, zero, suc, ◌-◌, ◌<◌, ◌≤◌, List, [], ◌∷◌, ◌++◌, length, take, drop, get_or, Option, Some, None, Ok, Err, false, refl, sym, ap, subst, ◌∙◌, arith}
 use Rattle.std.specs.Prelude.{slice_get, IfSome, IsSomeAnd}
 use Rattle.std.specs.List.{AllZip, flat_map}
+use Rattle.std.proofs.lemmas.List.{length-map}
 use Rattle.std.proofs.lemmas.Option.{slice_get_within, slice_get-get_or, get_or_from_slice_get}
 use Rattle.std.proofs.lemmas.Slice.Zip.{AllZip-right, AllZip-long}
-use Rattle.dw_forms.specs.declared.decl.Decl.{Decl}
-use Rattle.dw_forms.specs.declared.abbrev_tables.KeptDecl.{KeptDecl}
-use Rattle.dw_forms.specs.Abbrev.{Declaration, view}
-use Rattle.dw_forms.specs.KeptDecls.{Numbered, numbered_in, declarations, tables_of, number_in, decl_of}
-use Rattle.dw_forms.proofs.KeptLaws.{are_numbered, numbers_find, decl_within, decl_some, decl_read}
+use Rattle.dw_forms.specs.declared.decl.Decls.{Decls}
+use Rattle.dw_forms.specs.declared.attribute_lists.Node.{Node}
+use Rattle.dw_forms.specs.declared.decl.KeptDecl.{KeptDecl}
+use Rattle.dw_forms.specs.Abbrev.{Declaration}
+use Rattle.dw_forms.specs.Chains.{chain_in, items_of}
+use Rattle.dw_forms.specs.KeptDecls.{Tables, kept_view, decls_of, number_in, decl_of}
+use Rattle.dw_forms.proofs.ChainLaws.{item_some, item_within}
+use Rattle.dw_forms.proofs.KeptLaws.{own_numbers, numbers_find}
+use Rattle.dw_forms.proofs.SpecLaws.{decl_specs}
 use Rattle.dw_entries.specs.declared.fault.Failing.{Failing}
 use Rattle.dw_entries.specs.declared.header.HeaderKind.TheVariants.{Version4}
 use Rattle.dw_entries.specs.declared.header.UnitHeader.{UnitHeader}
@@ -23,8 +28,8 @@ use Rattle.dw_entries.specs.Reading.{seen, code_at}
 use Rattle.dw_entries.specs.ReadingLaws.{ok_pair}
 use Rattle.dw_entries.specs.Units.{DebugUnit, head_of}
 use Rattle.dw_entries.specs.Entries.{Entry, entries_of, PlacedUnit, placed}
-use Rattle.dw_entries.specs.Scanned.{table_of, numbers_of, record_of, IsKept, Scanned, units_of}
-use Rattle.dw_entries.specs.Lookups.{IsKeptIn, unit_head}
+use Rattle.dw_entries.specs.Scanned.{tables_among, table_of, numbers_of, record_of, IsKept, Scanned, units_of}
+use Rattle.dw_entries.specs.Lookups.{IsKeptIn, HasSpecsIn, unit_head}
 use Rattle.dw_entries.proofs.ScanLaws.{rest_of}
 use Rattle.dw_entries.proofs.HeadLaws.{Stands, head_stands, stands_code, stands_within}
 use Rattle.dw_entries.proofs.EntryFacts.{placed_get, length-placed_from, kept_get, HasFirst, first_entry}
@@ -43,7 +48,7 @@ table_is (q ∷ rs) zero r is = let e : Some q ≡ Some r = is in let same : q �
 table_is (q ∷ rs) (suc n) r is = table_is rs n r is
 
 -- the record of the unit at this place
-pub unit_kept : (tables : List (List Numbered)) (rs : List UnitRecord) (ps : List PlacedUnit) → AllZip (IsKept tables) rs ps → (k : ℕ) (p : PlacedUnit) → slice_get ps k ≡ Some p
+pub unit_kept : (tables : Tables) (rs : List UnitRecord) (ps : List PlacedUnit) → AllZip (IsKept tables) rs ps → (k : ℕ) (p : PlacedUnit) → slice_get ps k ≡ Some p
     → (r : UnitRecord) × (slice_get rs k ≡ Some r) × IsKept tables r p
 unit_kept tables rs ps zip k p is =
     let m = AllZip-right (IsKept tables) rs ps zip k in
@@ -51,7 +56,7 @@ unit_kept tables rs ps zip k p is =
     some_and (slice_get rs k) (λ r. IsKept tables r p) at_p
 
 -- an entry of this number, with its unit and what is kept of both
-pub record KeptEntry (a info : List ℕ) (tables : List (List Numbered)) (rs : List UnitRecord) (records : List Record) (s : Scanned a info tables rs records) (id : ℕ) : Type 0 where
+pub record KeptEntry (a info : List ℕ) (tables : Tables) (rs : List UnitRecord) (records : List Record) (s : Scanned a info tables rs records) (id : ℕ) : Type 0 where
   pub entry : Entry
   pub is_entry : slice_get (entries_of (units_of s)) id ≡ Some entry
   pub is_record : slice_get records id ≡ Some (record_of (numbers_of tables rs) entry)
@@ -59,9 +64,9 @@ pub record KeptEntry (a info : List ℕ) (tables : List (List Numbered)) (rs : L
   pub unit_record : UnitRecord
   pub is_unit_record : slice_get rs entry.unit ≡ Some unit_record
   pub header : unit_record.header ≡ stands.unit.header
-  pub table : declarations (numbered_in tables unit_record.table) ≡ stands.unit.table
+  pub table : items_of (chain_in tables unit_record.table) ≡ stands.unit.table
 
-pub kept_entry : (a info : List ℕ) (tables : List (List Numbered)) (rs : List UnitRecord) (records : List Record) (s : Scanned a info tables rs records) (id : ℕ)
+pub kept_entry : (a info : List ℕ) (tables : Tables) (rs : List UnitRecord) (records : List Record) (s : Scanned a info tables rs records) (id : ℕ)
     → id < length (entries_of (units_of s)) → KeptEntry a info tables rs records s id
 kept_entry a info tables rs records s id within = by_cases (slice_get (entries_of (units_of s)) id) refl
   where
@@ -91,7 +96,7 @@ kept_entry a info tables rs records s id within = by_cases (slice_get (entries_o
 pub read_is : {A : Type 0} (xs : List A) (k : ℕ) (x y : A) → slice_get xs k ≡ Some x → y ≡ get_or xs k y → y ≡ x
 read_is xs k x y is read = read ∙ get_or_from_slice_get xs k x y is
 
-module _ {a info : List ℕ} {tables : List (List Numbered)} {rs : List UnitRecord} {records : List Record} {s : Scanned a info tables rs records} {id : ℕ} (k : KeptEntry a info tables rs records s id) where
+module _ {a info : List ℕ} {tables : Tables} {rs : List UnitRecord} {records : List Record} {s : Scanned a info tables rs records} {id : ℕ} (k : KeptEntry a info tables rs records s id) where
   -- a fact of the entry of this number
   pub of_entry : (P : Entry → Type 0) → P k.entry → IfSome (slice_get (entries_of (units_of s)) id) P
   of_entry P p = rw k.is_entry p
@@ -140,43 +145,55 @@ module _ {a info : List ℕ} {tables : List (List Numbered)} {rs : List UnitReco
       of_entry (λ e. IfSome (slice_get (units_of s) e.unit) (λ v. u.header ≡ v.header)) (rw k.stands.is_unit (ap (λ (q : UnitRecord). q.header) unit_is ∙ k.header))
 
 -- the declaration of an entry is the one of its number
-module _ (decls : List KeptDecl) {a info : List ℕ} {rs : List UnitRecord} {records : List Record} {s : Scanned a info (tables_of decls) rs records} {id : ℕ} (k : KeptEntry a info (tables_of decls) rs records s id) where
-  entry_decl : decl_of decls (numbers_of (tables_of decls) rs k.entry.unit k.entry.head.decl.code) ≡ Some k.entry.head.decl
+module _ (decls : Decls) {a info : List ℕ} {rs : List UnitRecord} {records : List Record} {s : Scanned a info (tables_among decls) rs records} {id : ℕ} (k : KeptEntry a info (tables_among decls) rs records s id) where
+  abbrev nodes : List Node
+  nodes = decls.lists.nodes.items
+
+  abbrev kept : List KeptDecl
+  kept = decls.kept.items
+
+  entry_decl : decl_of nodes kept (numbers_of (tables_among decls) rs k.entry.unit k.entry.head.decl.code) ≡ Some k.entry.head.decl
   unfolding declared_in
   entry_decl =
       let table : table_of rs k.entry.unit ≡ k.unit_record.table = table_is rs k.entry.unit k.unit_record k.is_unit_record in
-      let numbered : List Numbered = numbered_in (tables_of decls) k.unit_record.table in
-      ap (λ (n : ℕ). decl_of decls (number_in (numbered_in (tables_of decls) n) k.entry.head.decl.code)) table
-      ∙ numbers_find decls numbered k.entry.head.decl.code (are_numbered decls k.unit_record.table)
+      ap (λ (n : ℕ). decl_of nodes kept (number_in (chain_in (tables_among decls) n) k.entry.head.decl.code)) table
+      ∙ numbers_find nodes kept (chain_in (tables_among decls) k.unit_record.table) k.entry.head.decl.code (own_numbers nodes kept k.unit_record.table)
       ∙ ap (λ (t : List Declaration). declared_in t k.entry.head.decl.code) k.table ∙ k.stands.is.decl
 
   module _ (r : Record) (read : slice_get records id ≡ Some r) where
-    decl_stands : decl_of decls r.decl ≡ Some k.entry.head.decl
-    decl_stands = ap (λ (q : Record). decl_of decls q.decl) (record_is k r read) ∙ entry_decl
+    decl_stands : decl_of nodes kept r.decl ≡ Some k.entry.head.decl
+    decl_stands = ap (λ (q : Record). decl_of nodes kept q.decl) (record_is k r read) ∙ entry_decl
 
     pub decl_numbered : 0 < r.decl
-    decl_numbered = decl_some decls r.decl k.entry.head.decl decl_stands
+    decl_numbered = item_some (decls_of nodes kept) r.decl k.entry.head.decl decl_stands
 
-    pub decl_kept : r.decl ≤ length decls
-    decl_kept = decl_within decls r.decl k.entry.head.decl decl_stands
+    pub decl_kept : r.decl ≤ length kept
+    decl_kept =
+        let within = item_within (decls_of nodes kept) r.decl k.entry.head.decl decl_stands in
+        omega (arith, within, length-map {B = Declaration × ℕ} kept (λ (x : KeptDecl). (kept_view nodes x, x.rest)))
 
-    pub decl_is : (x : KeptDecl) → x ≡ get_or decls (r.decl - 1) x → IfSome (slice_get (entries_of (units_of s)) id) (λ e. view x.decl ≡ e.head.decl)
-    decl_is x found =
-        of_entry k (λ e. view x.decl ≡ e.head.decl)
-        (one_some (decl_of decls r.decl) (view x.decl) k.entry.head.decl (decl_read decls r.decl x decl_numbered decl_kept found) decl_stands)
+    pub decl_is : (d : Declaration) → decl_of nodes kept r.decl ≡ Some d → IfSome (slice_get (entries_of (units_of s)) id) (λ e. d ≡ e.head.decl)
+    decl_is d found = of_entry k (λ e. d ≡ e.head.decl) (one_some (decl_of nodes kept r.decl) d k.entry.head.decl found decl_stands)
 
 -- an entry's declaration is one of those that are kept
-pub declared_among : (a info : List ℕ) (decls : List KeptDecl) (rs : List UnitRecord) (records : List Record) (s : Scanned a info (tables_of decls) rs records) (id : ℕ) (e : Entry)
+pub declared_among : (a info : List ℕ) (decls : Decls) (rs : List UnitRecord) (records : List Record) (s : Scanned a info (tables_among decls) rs records) (id : ℕ) (e : Entry)
     → slice_get (entries_of (units_of s)) id ≡ Some e → IsKeptIn decls e.head.decl
 declared_among a info decls rs records s id e is =
-    let k = kept_entry a info (tables_of decls) rs records s id (slice_get_within (entries_of (units_of s)) id e is) in
+    let k = kept_entry a info (tables_among decls) rs records s id (slice_get_within (entries_of (units_of s)) id e is) in
     let same : k.entry ≡ e = one_some (slice_get (entries_of (units_of s)) id) k.entry e k.is_entry is in
     let P : Entry → Type 0 = λ x. IsKeptIn decls x.head.decl in
-    subst P same (numbers_of (tables_of decls) rs k.entry.unit k.entry.head.decl.code, entry_decl decls k)
+    subst P same (numbers_of (tables_among decls) rs k.entry.unit k.entry.head.decl.code, entry_decl decls k)
+
+-- and each of its attributes is one of those that are kept
+pub specs_among : (a info : List ℕ) (decls : Decls) (rs : List UnitRecord) (records : List Record) (s : Scanned a info (tables_among decls) rs records) (id : ℕ) (e : Entry)
+    → slice_get (entries_of (units_of s)) id ≡ Some e → HasSpecsIn decls e.head.decl
+specs_among a info decls rs records s id e is =
+    let (number, found) = declared_among a info decls rs records s id e is in
+    decl_specs decls.lists.nodes.items decls.kept.items number e.head.decl found
 
 -- ---- a unit
 
-pub record KeptUnit (a info : List ℕ) (tables : List (List Numbered)) (rs : List UnitRecord) (records : List Record) (s : Scanned a info tables rs records) (number : ℕ) : Type 0 where
+pub record KeptUnit (a info : List ℕ) (tables : Tables) (rs : List UnitRecord) (records : List Record) (s : Scanned a info tables rs records) (number : ℕ) : Type 0 where
   pub place : PlacedUnit
   pub is_place : slice_get (placed (units_of s)) number ≡ Some place
   pub unit_record : UnitRecord
@@ -184,7 +201,7 @@ pub record KeptUnit (a info : List ℕ) (tables : List (List Numbered)) (rs : Li
   pub kept : IsKept tables unit_record place
   pub first : HasFirst (entries_of (units_of s)) place.first number place
 
-pub kept_unit : (a info : List ℕ) (tables : List (List Numbered)) (rs : List UnitRecord) (records : List Record) (s : Scanned a info tables rs records) (number : ℕ) → number < length (units_of s) → KeptUnit a info tables rs records s number
+pub kept_unit : (a info : List ℕ) (tables : Tables) (rs : List UnitRecord) (records : List Record) (s : Scanned a info tables rs records) (number : ℕ) → number < length (units_of s) → KeptUnit a info tables rs records s number
 kept_unit a info tables rs records s number within = by_cases (slice_get (placed (units_of s)) number) refl
   where
     any : PlacedUnit
@@ -201,7 +218,7 @@ kept_unit a info tables rs records s number within = by_cases (slice_get (placed
 abbrev told : ℕ → UnitHeader → UnitType → ℕ → UnitHead
 told offset header unit_type first = record { offset = offset; header = header; unit_type = unit_type; first = first }
 
-module _ {a info : List ℕ} {tables : List (List Numbered)} {rs : List UnitRecord} {records : List Record} {s : Scanned a info tables rs records} {number : ℕ} (k : KeptUnit a info tables rs records s number) where
+module _ {a info : List ℕ} {tables : Tables} {rs : List UnitRecord} {records : List Record} {s : Scanned a info tables rs records} {number : ℕ} (k : KeptUnit a info tables rs records s number) where
   pub number_within : number < length rs
   number_within = slice_get_within rs number k.unit_record k.is_unit_record
 
@@ -215,7 +232,7 @@ module _ {a info : List ℕ} {tables : List (List Numbered)} {rs : List UnitReco
     pub first_within : u.first < length (entries_of (units_of s))
     first_within = slice_get_within (entries_of (units_of s)) u.first k.first.entry first_is
 
-    pub unit_told : (first : ℕ) (d : Decl) (t : UnitType) → first ≡ u.first → IfSome (slice_get (entries_of (units_of s)) first) (λ e. view d ≡ e.head.decl) → t ≡ type_of u.header.kind d.tag
+    pub unit_told : (first : ℕ) (d : Declaration) (t : UnitType) → first ≡ u.first → IfSome (slice_get (entries_of (units_of s)) first) (λ e. d ≡ e.head.decl) → t ≡ type_of u.header.kind d.tag
         → IfSome (slice_get (placed (units_of s)) number) (λ p. told u.at u.header t first ≡ unit_head p)
     unit_told first d t same declared typed =
         let of_first = rw (ap (slice_get (entries_of (units_of s))) same ∙ first_is) at declared in
@@ -226,5 +243,5 @@ module _ {a info : List ℕ} {tables : List (List Numbered)} {rs : List UnitReco
         rw k.is_place (λ i. told (kept_is.at i) (kept_is.header i) (type_is i) (number_is i))
 
 -- as many records as units
-pub units_counted : (a info : List ℕ) (tables : List (List Numbered)) (rs : List UnitRecord) (records : List Record) (s : Scanned a info tables rs records) → length rs ≡ length (units_of s)
+pub units_counted : (a info : List ℕ) (tables : Tables) (rs : List UnitRecord) (records : List Record) (s : Scanned a info tables rs records) → length rs ≡ length (units_of s)
 units_counted a info tables rs records s = sym (AllZip-long (IsKept tables) rs (placed (units_of s)) s.1.kept) ∙ length-placed_from 0 0 (units_of s)

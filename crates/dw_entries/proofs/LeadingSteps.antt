@@ -1,31 +1,38 @@
 -- One step of a walk over the values that may lead elsewhere.
-use Rattle.std.proofs.Common.{◌≡◌, ℕ, ◌+◌, ◌-◌, ◌<◌, ◌≤◌, Bool, true, false, cond, ltb, List, [], ◌∷◌, ◌++◌, length, take, drop, map, get_or, Option, Some, None, Ok, Err, refl, sym, ap, subst, ◌∙◌, arith, inl, inr, ◌⊎◌}
+use Rattle.std.proofs.Common.{◌≡◌, ℕ, zero, suc, ◌-◌, ◌≤◌, ◌⊎◌, Bool, true, false, cond, ltb, List, [], ◌∷◌, ◌++◌, length, take, drop, map, Option, Some, None, Result, Ok, Err, refl, sym, ap, subst, ◌∙◌, arith}
 use Rattle.std.specs.Prelude.{slice_get, option_map}
-use Rattle.std.proofs.lemmas.Bool.{ltb-false}
-use Rattle.std.proofs.lemmas.List.{drop_more, drop-drop, length-drop, take-append-drop}
-use Rattle.std.proofs.lemmas.Option.{slice_get_within, get_or_from_slice_get}
+use Rattle.std.specs.List.{list_any}
+use Rattle.std.proofs.lemmas.Bool.{ltb-false, or_parts}
+use Rattle.std.proofs.lemmas.List.{take-append-drop}
+use Rattle.dw_forms.specs.declared.attributes.Attributes.{Attributes}
 use Rattle.dw_forms.specs.declared.decl.AttributeSpec.{AttributeSpec}
+use Rattle.dw_forms.specs.declared.attribute_lists.Node.{Node}
 use Rattle.dw_forms.specs.declared.steps.Step.{Step}
 use Rattle.dw_forms.specs.declared.value.ValueFault.{ValueFault}
 use Rattle.dw_forms.specs.declared.value.ValueFault.TheVariants.{Cut}
 use Rattle.dw_forms.specs.declared.form.Form.{Form}
+use Rattle.dw_forms.specs.AttributeLists.{specs_of, list_in, numbered_in, varies}
+use Rattle.dw_forms.specs.Chains.{Numbered, items_of}
 use Rattle.dw_forms.specs.FormCodes.{is_allowed}
 use Rattle.dw_forms.specs.Plans.{known_sum, cut_at}
-use Rattle.dw_forms.proofs.PassSteps.{run_ends}
+use Rattle.dw_forms.specs.Suffixes.{nodes_of, numbered, specs_in, Ends}
 use Rattle.dw_forms.specs.Value.{Datum}
 use Rattle.dw_forms.specs.ValueReading.{value_at}
-use Rattle.dw_forms.specs.Walks.{steps_from}
-use Rattle.dw_forms.proofs.WalkLaws.{GoesTo, goes_to, none_leads}
+use Rattle.dw_forms.specs.Walks.{does_lead, IsStep}
+use Rattle.dw_forms.proofs.ChainLaws.{chain_none}
+use Rattle.dw_forms.proofs.PartLaws.{known_at}
+use Rattle.dw_forms.proofs.PassSteps.{run, items_append}
+use Rattle.dw_forms.proofs.SuffixLaws.{first_specs}
+use Rattle.dw_forms.proofs.WalkSteps.{GoesTo, goes_to, step_none, step_within, skip_is}
 use Rattle.dw_entries.specs.Asked.{value_of}
-use Rattle.dw_entries.specs.Chosen.{ArePassed, IsNextOf}
-use Rattle.dw_entries.specs.Grammar.{Context}
-use Rattle.dw_entries.specs.Header.{IsSize}
+use Rattle.dw_entries.specs.Chosen.{AreUnasked, ArePassed, IsNextOf}
+use Rattle.dw_entries.specs.Grammar.{Context, AreAttributes}
 use Rattle.dw_entries.specs.Leading.{DoesNotLead}
 use Rattle.dw_entries.specs.declared.values.Values.{Values}
-use Rattle.dw_entries.specs.Values.{value_context, Left}
+use Rattle.dw_entries.specs.Values.{value_context, Left, form_there}
 use Rattle.dw_entries.proofs.ChosenSteps.{front_passed, all_passed}
-use Rattle.dw_entries.proofs.PassLaws.{Passed, passed}
-use Rattle.dw_entries.proofs.ValueSteps.{from_here, left_goes, never_fails, next_left, read_on, steps}
+use Rattle.dw_entries.proofs.PassLaws.{Passed, those}
+use Rattle.dw_entries.proofs.ValueSteps.{left_goes, never_fails, next_left, read_on, steps}
 
 -- what was cut off
 cut_is : (len : ℕ) (bytes rest : List ℕ) → cut_at len bytes ≡ Ok rest → (len ≤ length bytes) × (rest ≡ drop len bytes)
@@ -35,25 +42,69 @@ cut_is len bytes rest e = by_length (ltb (length bytes) len) refl e
     by_length true q e = absurd cc
     by_length false q e = (ltb-false _ _ q, cc)
 
--- a step from the attributes that are left, which passes so many bytes
-pub record Passes (v : Values) (step : Step) (skip : ℕ) : Type 0 where
-  pub others : List Step
-  pub goes : GoesTo v.at (drop v.at v.attributes.now) step others
-  pub skips : skip ≡ known_sum v.address_size (take goes.passed (drop v.at v.attributes.now))
+-- attributes that lead nowhere are not asked for
+lead_nowhere : (specs : List AttributeSpec) → list_any does_lead specs ≡ false → AreUnasked DoesNotLead specs
+lead_nowhere [] none = tt
+lead_nowhere (s ∷ specs) none =
+    let p = or_parts (does_lead s) (list_any does_lead specs) none in
+    (p.0, lead_nowhere specs p.1)
 
--- how many bytes a step passes goes by the size of addresses
-pub passes : (v : Values) (step : Step) (skip : ℕ) → (others : List Step) × (steps_from v.at (drop v.at v.attributes.now) ≡ step ∷ others)
-    → ((v.address_size ≡ 8) × (skip ≡ step.skip_with_8)) ⊎ ((v.address_size ≡ 8 → ⊥) × (skip ≡ step.skip_with_4)) → Passes v step skip
-passes v step skip next chosen = record { others = next.0; goes = g; skips = by_size v.sized chosen }
-  where
-    g : GoesTo v.at (drop v.at v.attributes.now) step next.0
-    g = goes_to v.at (drop v.at v.attributes.now) step next.0 next.1
+-- ---- the attribute that a step goes to
 
-    by_size : IsSize v.address_size → ((v.address_size ≡ 8) × (skip ≡ step.skip_with_8)) ⊎ ((v.address_size ≡ 8 → ⊥) × (skip ≡ step.skip_with_4))
-        → skip ≡ known_sum v.address_size (take (goes_to v.at (drop v.at v.attributes.now) step next.0 next.1).passed (drop v.at v.attributes.now))
-    by_size sized (inl eight) = eight.1 ∙ (goes_to v.at (drop v.at v.attributes.now) step next.0 next.1).skip_8 ∙ ap (λ (n : ℕ). known_sum n (take (goes_to v.at (drop v.at v.attributes.now) step next.0 next.1).passed (drop v.at v.attributes.now))) (sym eight.0)
-    by_size (inl four) (inr other) = other.1 ∙ (goes_to v.at (drop v.at v.attributes.now) step next.0 next.1).skip_4 ∙ ap (λ (n : ℕ). known_sum n (take (goes_to v.at (drop v.at v.attributes.now) step next.0 next.1).passed (drop v.at v.attributes.now))) (sym four)
-    by_size (inr eight) (inr other) = absurd (other.0 eight)
+module _ (a : Attributes) (step : Step) (is : IsStep (numbered a) step) (there : Attributes) (nodes_are : nodes_of there ≡ nodes_of a) (first_is : there.first ≡ step.to) where
+  specs_there : list_in (nodes_of a) step.to ≡ specs_in there
+  specs_there = λ i. list_in (sym nodes_are i) (sym first_is i)
+
+  -- its form
+  pub some_there : (spec : AttributeSpec) (rest : Attributes) → Ends there rest (record { number = there.first; item = spec } ∷ []) → form_there a step.to ≡ Some spec.form
+  some_there spec rest ends = ap (λ (specs : List AttributeSpec). option_map (λ (s : AttributeSpec). s.form) (slice_get specs 0)) (specs_there ∙ first_specs there rest spec ends)
+
+  pub none_there : specs_in there ≡ [] → form_there a step.to ≡ None
+  none_there none = ap (λ (specs : List AttributeSpec). option_map (λ (s : AttributeSpec). s.form) (slice_get specs 0)) (specs_there ∙ none)
+
+  pub form_is : (form : Form) (spec : AttributeSpec) (rest : Attributes) → form_there a step.to ≡ Some form → Ends there rest (record { number = there.first; item = spec } ∷ []) → spec.form ≡ form
+  form_is form spec rest asked ends =
+      let both : ◌≡◌ {A = Option Form} (Some spec.form) (Some form) = sym (some_there spec rest ends) ∙ asked in
+      cc
+
+  pub some_form : (form : Form) → form_there a step.to ≡ Some form → specs_in there ≡ [] → ⊥
+  some_form form asked none =
+      let both : ◌≡◌ {A = Option Form} None (Some form) = sym (none_there none) ∙ asked in
+      cc
+
+  -- where it goes to none, no value leads elsewhere
+  not_first : (n : Numbered AttributeSpec) (list : List (Numbered AttributeSpec)) (nodes : List Node) → numbered_in nodes step.to ≡ n ∷ list → nodes ≡ nodes_of a → specs_in there ≡ [] → ⊥
+  not_first n list nodes begins same none =
+      let some : ◌≡◌ {A = List AttributeSpec} (n.item ∷ items_of list) [] = ap items_of (sym begins) ∙ ap (λ (ns : List Node). list_in ns step.to) same ∙ specs_there ∙ none in
+      absurd cc
+
+  step_zero : specs_in there ≡ [] → step.to ≡ 0
+  step_zero none = by_number step.to refl
+    where
+      by_number : (n : ℕ) → step.to ≡ n → step.to ≡ 0
+      by_number zero e = e
+      by_number (suc n) e =
+          let within = step_within (nodes_of a) a.lists.now.known a.first a.within step is in
+          let (node, known) = known_at (nodes_of a) a.lists.now.known step.to (omega (arith, e)) within in
+          absurd (not_first _ _ (nodes_of a) known.begins refl none)
+
+  pub lead_none : (x : Context) (bytes : List ℕ) (l : Left x (specs_in a) bytes) → specs_in there ≡ [] → ArePassed DoesNotLead (map value_of l.0.0)
+  lead_none x bytes l none = all_passed DoesNotLead x (specs_in a) l.0.0 l.1.are (lead_nowhere (specs_in a) (step_none (nodes_of a) a.lists.now.known a.first a.within step is (step_zero none)))
+
+  -- the step does not go nowhere
+  pub goes_there : (spec : AttributeSpec) (rest : Attributes) → Ends there rest (record { number = there.first; item = spec } ∷ []) → GoesTo (nodes_of a) a.first step.to
+  goes_there spec rest ends = goes_to (nodes_of a) a.lists.now.known a.first a.within step is (λ none.
+      let empty : specs_in there ≡ [] = sym specs_there ∙ ap (list_in (nodes_of a)) none ∙ none_at_0 in
+      let some : ◌≡◌ {A = List AttributeSpec} (spec ∷ specs_in rest) [] = sym (first_specs there rest spec ends) ∙ empty in
+      absurd cc)
+    where
+      none_at_0 : list_in (nodes_of a) 0 ≡ []
+      none_at_0 = ap items_of (chain_none (specs_of (nodes_of a)))
+
+  -- the attributes up to it
+  pub parts_there : (g : GoesTo (nodes_of a) a.first step.to) (spec : AttributeSpec) (rest : Attributes) → Ends there rest (record { number = there.first; item = spec } ∷ []) → specs_in a ≡ items_of g.before ++ (spec ∷ specs_in rest)
+  parts_there g spec rest ends =
+      ap items_of g.goes ∙ items_append g.before (numbered_in (nodes_of a) step.to) ∙ ap (λ (specs : List AttributeSpec). items_of g.before ++ specs) (specs_there ∙ first_specs there rest spec ends)
 
 -- what is read from a slice
 pub read_here : (version size len : ℕ) (f form : Form) (bytes slice : List ℕ) (v : Datum) → f ≡ form → slice ≡ bytes → len ≤ length slice → value_at version form size slice ≡ Ok (v, drop len slice)
@@ -63,84 +114,65 @@ read_here version size len f form bytes slice v same is within read = (λ i. val
 pub fails_here : (version size : ℕ) (f form : Form) (bytes slice : List ℕ) (fault : ValueFault) → f ≡ form → slice ≡ bytes → value_at version form size slice ≡ Err fault → value_at version f size bytes ≡ Err fault
 fails_here version size f form bytes slice fault same is read = (λ i. value_at version (same i) size (sym is i)) ∙ read
 
-module _ (v : Values) (step : Step) (skip : ℕ) (p : Passes v step skip) where
-  -- what the values are read by, and the specifications that are left
+-- ---- its value
+
+-- the attributes before the one that a step goes to, and how many bytes their values take
+pub record Before (v : Values) (skip : ℕ) (spec : AttributeSpec) (rest : List AttributeSpec) : Type 0 where
+  pub front : List (Numbered AttributeSpec)
+  pub parts : specs_in v.attributes ≡ items_of front ++ (spec ∷ rest)
+  pub none_leads : list_any does_lead (items_of front) ≡ false
+  pub none_varies : list_any varies (items_of front) ≡ false
+  pub skips : skip ≡ known_sum v.address_size (items_of front)
+
+pub before_step : (v : Values) (step : Step) (skip : ℕ) (is : IsStep (numbered v.attributes) step) (there : Attributes) (nodes_are : nodes_of there ≡ nodes_of v.attributes) (first_is : there.first ≡ step.to)
+    → ((v.address_size ≡ 8) × (skip ≡ step.skip_with_8)) ⊎ ((v.address_size ≡ 8 → ⊥) × (skip ≡ step.skip_with_4))
+    → (spec : AttributeSpec) (rest : Attributes) → Ends there rest (record { number = there.first; item = spec } ∷ []) → Before v skip spec (specs_in rest)
+before_step v step skip is there nodes_are first_is chosen spec rest ends =
+    let a = v.attributes in
+    let g = goes_there a step is there nodes_are first_is spec rest ends in
+    record {
+      front = g.before;
+      parts = parts_there a step is there nodes_are first_is g spec rest ends;
+      none_leads = g.none_leads;
+      none_varies = g.none_varies;
+      skips = skip_is (nodes_of a) a.lists.now.known a.first a.within step is v.address_size v.sized skip chosen ∙ g.skips v.address_size;
+    }
+
+module _ (v : Values) (skip : ℕ) (spec : AttributeSpec) (rest : List AttributeSpec) (b : Before v skip spec rest) where
+  -- what the values are read by
   abbrev x : Context
   x = value_context v.version v.address_size
 
-  abbrev gs : List AttributeSpec
-  gs = drop v.at v.attributes.now
+  here : Passed x (items_of b.front) (spec ∷ rest) v.left.0.0 v.left.0.1 v.bytes.now
+  here = those x (specs_in v.attributes) (items_of b.front) (spec ∷ rest) b.parts v.bytes.now v.left
 
-  within : p.goes.passed < length gs
-  within = slice_get_within gs p.goes.passed step.spec p.goes.is_spec
-
-  those : Passed x gs v.left.0.0 v.left.0.1 v.bytes.now p.goes.passed
-  those = passed x gs v.left.0.0 v.left.0.1 v.bytes.now p.goes.passed v.left.1.are v.left.1.spelled (omega (arith, within))
-
-  cut : (skip ≤ length v.bytes.now) × (those.behind ≡ drop skip v.bytes.now)
-  cut = cut_is skip v.bytes.now those.behind (ap (λ (n : ℕ). cut_at n v.bytes.now) p.skips ∙ sym (run_ends v.version v.address_size (take p.goes.passed gs) v.bytes.now p.goes.have_sizes) ∙ those.ends)
+  cut : (skip ≤ length v.bytes.now) × (here.behind ≡ drop skip v.bytes.now)
+  cut = cut_is skip v.bytes.now here.behind (ap (λ (n : ℕ). cut_at n v.bytes.now) b.skips ∙ sym (run v.version v.address_size b.front v.bytes.now b.none_varies) ∙ here.ends)
 
   pub skip_within : skip ≤ length v.bytes.now
   skip_within = cut.0
 
-  left : Left x (drop p.goes.passed gs) (drop skip v.bytes.now)
-  left = ((those.others, v.left.0.1), record { are = those.are; spelled = sym cut.1 ∙ those.spelled })
+  left : Left x (spec ∷ rest) (drop skip v.bytes.now)
+  left = ((here.others, v.left.0.1), record { are = here.are; spelled = sym cut.1 ∙ here.spelled })
 
-  front : drop p.goes.passed gs ≡ step.spec ∷ drop (p.goes.passed + 1) gs
-  front = from_here gs p.goes.passed step.spec within (sym (get_or_from_slice_get gs p.goes.passed step.spec step.spec p.goes.is_spec))
+  pub allowed : is_allowed v.version spec.form ≡ true
+  allowed = (left_goes x (spec ∷ rest) spec rest (drop skip v.bytes.now) left refl).is.allowed
 
-  pub allowed : is_allowed v.version step.spec.form ≡ true
-  allowed = (left_goes x (drop p.goes.passed gs) step.spec (drop (p.goes.passed + 1) gs) (drop skip v.bytes.now) left front).is.allowed
+  pub never : (f : ValueFault) → value_at v.version spec.form v.address_size (drop skip v.bytes.now) ≡ Err f → ⊥
+  never f read = never_fails x (spec ∷ rest) spec rest (drop skip v.bytes.now) left refl f read
 
-  pub never : (f : ValueFault) → value_at v.version step.spec.form v.address_size (drop skip v.bytes.now) ≡ Err f → ⊥
-  never f read = never_fails x (drop p.goes.passed gs) step.spec (drop (p.goes.passed + 1) gs) (drop skip v.bytes.now) left front f read
+  module _ (d : Datum) (after : List ℕ) (read : value_at v.version spec.form v.address_size (drop skip v.bytes.now) ≡ Ok (d, after)) where
+    pub left_behind : Left x rest after
+    left_behind = next_left x (spec ∷ rest) spec rest (drop skip v.bytes.now) left refl d after read
 
-  behind : drop (p.goes.passed + 1) gs ≡ drop (step.place + 1) v.attributes.now
-  behind = let same : v.at + (p.goes.passed + 1) ≡ step.place + 1 = omega (arith, p.goes.at) in drop-drop (p.goes.passed + 1) v.at v.attributes.now ∙ ap (λ (n : ℕ). drop n v.attributes.now) same
-
-  pub place_within : step.place + 1 ≤ length v.attributes.now
-  place_within = omega (arith, within, p.goes.at, length-drop v.at v.attributes.now)
-
-  module _ (d : Datum) (rest : List ℕ) (read : value_at v.version step.spec.form v.address_size (drop skip v.bytes.now) ≡ Ok (d, rest)) where
-    pub left_behind : Left x (drop (step.place + 1) v.attributes.now) rest
-    left_behind = subst (λ (ss : List AttributeSpec). Left x ss rest) behind (next_left x (drop p.goes.passed gs) step.spec (drop (p.goes.passed + 1) gs) (drop skip v.bytes.now) left front d rest read)
-
-    pub found : (m : Left x (drop (step.place + 1) v.attributes.now) rest) → IsNextOf DoesNotLead (map value_of v.left.0.0) (step.spec.attribute, d) (map value_of m.0.0)
-    unfolding those left
+    pub found : (m : Left x rest after) → IsNextOf DoesNotLead (map value_of v.left.0.0) (spec.attribute, d) (map value_of m.0.0)
+    unfolding here left
     found m =
         let values = map value_of v.left.0.0 in
-        let here = steps x (drop p.goes.passed gs) step.spec (drop (step.place + 1) v.attributes.now) (drop skip v.bytes.now) left (front ∙ ap (λ (ss : List AttributeSpec). step.spec ∷ ss) behind) d rest read m in
+        let k = length (items_of b.front) in
+        let next = steps x (spec ∷ rest) spec rest (drop skip v.bytes.now) left refl d after read m in
         record {
-          passed = take p.goes.passed values;
-          parts = sym (take-append-drop p.goes.passed values) ∙ ap (λ (xs : List (ℕ × Datum)). take p.goes.passed values ++ xs) (sym those.values ∙ here);
-          are_passed = front_passed DoesNotLead x gs v.left.0.0 p.goes.passed v.left.1.are p.goes.none_leads;
+          passed = take k values;
+          parts = sym (take-append-drop k values) ∙ ap (λ (xs : List (ℕ × Datum)). take k values ++ xs) (sym here.values ∙ next);
+          are_passed = front_passed DoesNotLead x (items_of b.front) (spec ∷ rest) v.left.0.0 (subst (λ (ss : List AttributeSpec). AreAttributes x ss v.left.0.0) b.parts v.left.1.are) (lead_nowhere (items_of b.front) b.none_leads);
         }
-
--- where no step is left, no value leads elsewhere
-pub none_left : (x : Context) (gs : List AttributeSpec) (at : ℕ) (bytes : List ℕ) (l : Left x gs bytes) → steps_from at gs ≡ [] → ArePassed DoesNotLead (map value_of l.0.0)
-none_left x gs at bytes l e = all_passed DoesNotLead x gs l.0.0 l.1.are (λ k spec less is. none_leads at gs e k spec is)
-
--- the step whose form is known
-pub step_there : (steps : List Step) (made : ℕ) (form : Form) (step : Step) → option_map (λ (s : Step). s.spec.form) (slice_get steps made) ≡ Some form → step ≡ get_or steps made step
-    → (made < length steps) × (step.spec.form ≡ form) × (drop made steps ≡ step ∷ drop (made + 1) steps)
-step_there steps made form step is read = by_step (slice_get steps made) refl
-  where
-    there : (s : Step) → slice_get steps made ≡ Some s → option_map (λ (t : Step). t.spec.form) (slice_get steps made) ≡ Some form → (made < length steps) × (step.spec.form ≡ form) × (drop made steps ≡ step ∷ drop (made + 1) steps)
-    there s at is =
-        let within = slice_get_within steps made s at in
-        let same : step ≡ s = read ∙ get_or_from_slice_get steps made s step at in
-        let form_is : ◌≡◌ {A = Option Form} (Some s.spec.form) (Some form) = ap (option_map (λ (t : Step). t.spec.form)) (sym at) ∙ is in
-        let one : s.spec.form ≡ form = cc in
-        (within, ap (λ (t : Step). t.spec.form) same ∙ one, drop_more steps made step within ∙ ap (λ (t : Step). t ∷ drop (made + 1) steps) (sym read))
-
-    by_step : (o : Option Step) → slice_get steps made ≡ o → (made < length steps) × (step.spec.form ≡ form) × (drop made steps ≡ step ∷ drop (made + 1) steps)
-    by_step (Some s) at = there s at is
-    by_step None at = absurd (let none : ◌≡◌ {A = Option Form} None (Some form) = ap (option_map (λ (t : Step). t.spec.form)) (sym at) ∙ is in cc)
-
--- the steps behind one
-pub others_behind : (at : ℕ) (attributes : List AttributeSpec) (step : Step) (others : List Step) → steps_from at (drop at attributes) ≡ step ∷ others → steps_from (step.place + 1) (drop (step.place + 1) attributes) ≡ others
-others_behind at attributes step others is =
-    let g = goes_to at (drop at attributes) step others is in
-    let place : at + g.passed + 1 ≡ step.place + 1 = omega (arith, g.at) in
-    let far : at + (g.passed + 1) ≡ step.place + 1 = omega (arith, g.at) in
-    sym (g.behind ∙ (λ i. steps_from (place i) (drop-drop (g.passed + 1) at attributes i)) ∙ ap (λ (n : ℕ). steps_from (step.place + 1) (drop n attributes)) far)

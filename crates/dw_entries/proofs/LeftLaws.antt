@@ -6,7 +6,7 @@ use Rattle.std.proofs.lemmas.Bool.{ne_eqb}
 use Rattle.std.proofs.lemmas.List.Folds.{list_any_none}
 use Rattle.dw_forms.specs.declared.decl.AttributeSpec.{AttributeSpec}
 use Rattle.dw_forms.specs.Abbrev.{Declaration}
-use Rattle.dw_forms.specs.KeptDecls.{Numbered}
+use Rattle.dw_forms.specs.KeptDecls.{Tables}
 use Rattle.dw_forms.specs.Value.{Datum}
 use Rattle.dw_entries.specs.declared.header.UnitHeader.{UnitHeader}
 use Rattle.dw_entries.specs.declared.record.Record.{Record}
@@ -24,12 +24,12 @@ use Rattle.dw_entries.proofs.HeadLaws.{all_get}
 use Rattle.dw_entries.proofs.KeptLaws.{KeptEntry, of_entry, from_entry}
 use Rattle.dw_entries.proofs.ValueSteps.{value_of_none}
 
-module _ {a info : List ℕ} {tables : List (List Numbered)} {rs : List UnitRecord} {records : List Record} {s : Scanned a info tables rs records} {id : ℕ} (k : KeptEntry a info tables rs records s id)
-    (header : UnitHeader) (d : Declaration) (specs : List AttributeSpec) (bytes : List ℕ) (version : ℕ)
+module _ {a info : List ℕ} {tables : Tables} {rs : List UnitRecord} {records : List Record} {s : Scanned a info tables rs records} {id : ℕ} (k : KeptEntry a info tables rs records s id)
+    (header : UnitHeader) (specs : List AttributeSpec) (bytes : List ℕ) (version : ℕ)
     (of_unit : IfSome (slice_get (entries_of (units_of s)) id) (λ e. IfSome (slice_get (units_of s) e.unit) (λ v. header ≡ v.header)))
-    (of_decl : IfSome (slice_get (entries_of (units_of s)) id) (λ e. d ≡ e.head.decl))
+    (of_specs : IfSome (slice_get (entries_of (units_of s)) id) (λ e. specs ≡ e.head.decl.attributes))
     (of_bytes : IfSome (slice_get (entries_of (units_of s)) id) (λ e. (behind : List ℕ) × (bytes ≡ flat_map attribute_bytes e.head.attributes ++ behind)))
-    (specs_are : specs ≡ d.attributes) (version_is : version ≡ version_of header.kind) where
+    (version_is : version ≡ version_of header.kind) where
   header_same : header ≡ k.stands.unit.header
   header_same = rw k.stands.is_unit at (from_entry k (λ e. IfSome (slice_get (units_of s) e.unit) (λ v. header ≡ v.header)) of_unit)
 
@@ -45,7 +45,7 @@ module _ {a info : List ℕ} {tables : List (List Numbered)} {rs : List UnitReco
 
   pub are_here : AreAttributes (value_context version header.address_size) specs k.entry.head.attributes
   are_here =
-      let declared : specs ≡ k.entry.head.decl.attributes = specs_are ∙ ap (λ (c : Declaration). c.attributes) (from_entry k (λ e. d ≡ e.head.decl) of_decl) in
+      let declared : specs ≡ k.entry.head.decl.attributes = from_entry k (λ e. specs ≡ e.head.decl.attributes) of_specs in
       let bare = without_table (context_of k.stands.unit) k.entry.head.decl.attributes k.entry.head.attributes k.stands.is.attributes in
       let P : Context → Type 0 = λ x. AreAttributes x k.entry.head.decl.attributes k.entry.head.attributes in
       let Q : List AttributeSpec → Type 0 = λ ss. AreAttributes (value_context version header.address_size) ss k.entry.head.attributes in
@@ -68,15 +68,20 @@ module _ {a info : List ℕ} {tables : List (List Numbered)} {rs : List UnitReco
   unfolding left_here
   answer_here answer attribute is = of_entry k (λ e. answer ≡ value_at_entry e attribute) is
 
+-- the attributes of the declaration of an entry
+pub specs_here : {a info : List ℕ} {tables : Tables} {rs : List UnitRecord} {records : List Record} {s : Scanned a info tables rs records} {id : ℕ} (k : KeptEntry a info tables rs records s id) (d : Declaration) (specs : List AttributeSpec)
+    → IfSome (slice_get (entries_of (units_of s)) id) (λ e. d ≡ e.head.decl) → specs ≡ d.attributes → IfSome (slice_get (entries_of (units_of s)) id) (λ e. specs ≡ e.head.decl.attributes)
+specs_here k d specs of_decl are = of_entry k (λ e. specs ≡ e.head.decl.attributes) (are ∙ ap (λ (c : Declaration). c.attributes) (from_entry k (λ e. d ≡ e.head.decl) of_decl))
+
 -- ---- the value of one attribute
 
 -- an attribute that is not declared has no value
-pub undeclared : {a info : List ℕ} {tables : List (List Numbered)} {rs : List UnitRecord} {records : List Record} {s : Scanned a info tables rs records} {id : ℕ} (k : KeptEntry a info tables rs records s id) (d : Declaration) (attribute : ℕ)
-    → IfSome (slice_get (entries_of (units_of s)) id) (λ e. d ≡ e.head.decl) → declares d.attributes attribute ≡ false → IfSome (slice_get (entries_of (units_of s)) id) (λ e. None ≡ value_at_entry e attribute)
-undeclared {s = s} {id = id} k d attribute of_decl none =
-    let decl : d ≡ k.entry.head.decl = from_entry k (λ e. d ≡ e.head.decl) of_decl in
+pub undeclared : {a info : List ℕ} {tables : Tables} {rs : List UnitRecord} {records : List Record} {s : Scanned a info tables rs records} {id : ℕ} (k : KeptEntry a info tables rs records s id) (specs : List AttributeSpec) (attribute : ℕ)
+    → IfSome (slice_get (entries_of (units_of s)) id) (λ e. specs ≡ e.head.decl.attributes) → declares specs attribute ≡ false → IfSome (slice_get (entries_of (units_of s)) id) (λ e. None ≡ value_at_entry e attribute)
+undeclared {s = s} {id = id} k specs attribute of_specs none =
+    let same : specs ≡ k.entry.head.decl.attributes = from_entry k (λ e. specs ≡ e.head.decl.attributes) of_specs in
     of_entry k (λ e. None ≡ value_at_entry e attribute)
-    (value_of_none (context_of k.stands.unit) k.entry.head.decl.attributes k.entry.head.attributes attribute k.stands.is.attributes (ap (λ (c : Declaration). declares c.attributes attribute) (sym decl) ∙ none))
+    (value_of_none (context_of k.stands.unit) k.entry.head.decl.attributes k.entry.head.attributes attribute k.stands.is.attributes (ap (λ (ss : List AttributeSpec). declares ss attribute) (sym same) ∙ none))
 
 -- a code that no attribute has is not declared
 pub declares_none : (specs : List AttributeSpec) (attribute : ℕ) → All (λ (spec : AttributeSpec). spec.attribute ≢ attribute) specs → declares specs attribute ≡ false

@@ -3,7 +3,7 @@ use Rattle.std.proofs.Common.{ℕ, suc, ◌+◌, ◌≤◌, List, [], ◌∷◌,
 use Rattle.dw_entries.specs.Scanned.{numbers_of, Scanned}
 use Rattle.dw_entries.specs.declared.record.Record.{Record}
 use Rattle.dw_entries.specs.declared.record.UnitRecord.{UnitRecord}
-use Rattle.dw_forms.specs.KeptDecls.{Numbered}
+use Rattle.dw_forms.specs.KeptDecls.{Tables}
 use Rattle.dw_entries.specs.Grammar.{Context, head_bytes}
 use Rattle.dw_entries.specs.Header.{header_size, header_bytes}
 use Rattle.dw_entries.specs.HeaderLaws.{length-header}
@@ -64,5 +64,5 @@ Rises-few low high (r ∷ rs) p = let more = Rises-few (suc r.at) high rs p.1 in
 pub few_entries : (a : List ℕ) (numbers : ℕ → ℕ → ℕ) (us : List DebugUnit) → AreUnits a us → length (records_from numbers 0 0 0 us) ≤ length (units_bytes us)
 few_entries a numbers us p = let few = Rises-few 0 (0 + length (units_bytes us)) _ (units_rise a numbers 0 0 0 us p) in omega (arith, few)
 
-pub scanned_few : (a info : List ℕ) (tables : List (List Numbered)) (us : List UnitRecord) (records : List Record) → Scanned a info tables us records → length records ≤ length info
+pub scanned_few : (a info : List ℕ) (tables : Tables) (us : List UnitRecord) (records : List Record) → Scanned a info tables us records → length records ≤ length info
 scanned_few a info tables us records e = omega (arith, ap length (e.1.entries ∙ records_kept (numbers_of tables us) e.0), ap length e.1.spells.parts, few_entries a (numbers_of tables us) e.0 e.1.spells.are)

@@ -1,9 +1,8 @@
 -- Values that are passed together, and the value behind them.
-use Rattle.std.proofs.Common.{◌≡◌, ◌≢◌, ℕ, zero, suc, ◌+◌, ◌-◌, ◌≤◌, Bool, true, false, List, [], ◌∷◌, ◌++◌, length, take, drop, map, Option, Some, None, Result, Ok, Err, refl, sym, ap, subst, ◌∙◌, append_assoc, arith}
+use Rattle.std.proofs.Common.{◌≡◌, ◌≢◌, ℕ, zero, suc, ◌-◌, Bool, true, false, List, [], ◌∷◌, ◌++◌, length, take, drop, map, Option, Some, None, Result, Ok, Err, refl, sym, ap, subst, ◌∙◌, append_assoc, arith}
 use Rattle.std.specs.Prelude.{◌&&◌, slice_index_or, option_map}
 use Rattle.std.specs.List.{flat_map, slice_range}
 use Rattle.std.proofs.lemmas.Bool.{ne_eqb, eq-eqb}
-use Rattle.std.proofs.lemmas.List.{drop-drop, length-drop, take_all}
 use Rattle.dw_forms.specs.declared.decl.AttributeSpec.{AttributeSpec}
 use Rattle.dw_forms.specs.declared.value.ValueFault.{ValueFault}
 use Rattle.dw_forms.specs.Steps.{◌>>=◌}
@@ -40,74 +39,59 @@ all_after t (s ∷ specs) bytes rest allowed e =
     let next = bind_ok (rest_at t.version s.form t.address_size bytes) (λ b. values_end t.version t.address_size specs b) rest e in
     attributes_cons t s specs bytes next.0 (attribute_skipped t s t.version bytes next.0 refl (sym both.0) next.1) ∙ all_after t specs next.0 rest both.1 next.2
 
-pub front_range : (specs : List AttributeSpec) (k : ℕ) → slice_range specs 0 k ≡ take k specs
-front_range specs k = let same : k - 0 ≡ k = omega arith in ap (λ (n : ℕ). take n specs) same
-
--- the same where all are passed together
-pub whole_after : (t : Context) (specs slice : List AttributeSpec) (bytes rest : List ℕ) → slice ≡ specs → true ≡ are_allowed t.version specs → values_end t.version t.address_size (slice_range specs 0 (length slice)) bytes ≡ Ok rest
-    → after (attributes_at t specs bytes) ≡ Ok rest
-whole_after t specs slice bytes rest same allowed e =
-    let whole : slice_range specs 0 (length slice) ≡ specs = front_range specs (length slice) ∙ take_all (length slice) specs (omega (arith, ap length same)) in
-    all_after t specs bytes rest (sym allowed) (ap (λ (ss : List AttributeSpec). values_end t.version t.address_size ss bytes) (sym whole) ∙ e)
-
 -- ---- values that are left
 
--- the values of the first k of these attributes are read one behind the other, and the others are left
-pub record Passed (x : Context) (specs : List AttributeSpec) (bs : List Attribute) (rest bytes : List ℕ) (k : ℕ) : Type 0 where
+-- the values of the first of these attributes are read one behind the other, and the others are left
+pub record Passed (x : Context) (front back : List AttributeSpec) (bs : List Attribute) (rest bytes : List ℕ) : Type 0 where
   pub behind : List ℕ
   pub others : List Attribute
-  pub ends : values_end x.version x.address_size (take k specs) bytes ≡ Ok behind
-  pub are : AreAttributes x (drop k specs) others
+  pub ends : values_end x.version x.address_size front bytes ≡ Ok behind
+  pub are : AreAttributes x back others
   pub spelled : behind ≡ flat_map attribute_bytes others ++ rest
-  pub values : map value_of others ≡ drop k (map value_of bs)
+  pub values : map value_of others ≡ drop (length front) (map value_of bs)
 
 pub one_end : (x : Context) (s : AttributeSpec) (b : Attribute) (rest : List ℕ) → IsAttribute x s b → rest_at x.version s.form x.address_size (b.bytes ++ rest) ≡ Ok rest
 unfolding rest_at
 one_end x s b rest p = rw (value_again x s b rest p) refl
 
-pub passed : (x : Context) (specs : List AttributeSpec) (bs : List Attribute) (rest bytes : List ℕ) (k : ℕ) → AreAttributes x specs bs → bytes ≡ flat_map attribute_bytes bs ++ rest → k ≤ length specs → Passed x specs bs rest bytes k
+pub passed : (x : Context) (front back : List AttributeSpec) (bs : List Attribute) (rest bytes : List ℕ) → AreAttributes x (front ++ back) bs → bytes ≡ flat_map attribute_bytes bs ++ rest → Passed x front back bs rest bytes
 unfolding values_end
-passed x specs bs rest bytes zero are spelled within = record { behind = bytes; others = bs; ends = refl; are = are; spelled = spelled; values = refl }
-passed x [] bs rest bytes (suc k) are spelled within = absurd (omega (arith, within))
-passed x (s ∷ specs) [] rest bytes (suc k) are spelled within = absurd are
-passed x (s ∷ specs) (b ∷ bs) rest bytes (suc k) are spelled within =
+passed x [] back bs rest bytes are spelled = record { behind = bytes; others = bs; ends = refl; are = are; spelled = spelled; values = refl }
+passed x (s ∷ front) back [] rest bytes are spelled = absurd are
+passed x (s ∷ front) back (b ∷ bs) rest bytes are spelled =
     let here : bytes ≡ b.bytes ++ (flat_map attribute_bytes bs ++ rest) = spelled ∙ append_assoc b.bytes (flat_map attribute_bytes bs) rest in
-    let p = passed x specs bs rest (flat_map attribute_bytes bs ++ rest) k are.1 refl (omega (arith, within)) in
+    let p = passed x front back bs rest (flat_map attribute_bytes bs ++ rest) are.1 refl in
     let first : rest_at x.version s.form x.address_size bytes ≡ Ok (flat_map attribute_bytes bs ++ rest) =
     ap (λ (c : List ℕ). rest_at x.version s.form x.address_size c) here ∙ one_end x s b (flat_map attribute_bytes bs ++ rest) are.0 in
     record {
       behind = p.behind;
       others = p.others;
-      ends = ap (λ (r : Result (List ℕ) ValueFault). r >>= λ more. values_end x.version x.address_size (take k specs) more) first ∙ p.ends;
+      ends = ap (λ (r : Result (List ℕ) ValueFault). r >>= λ more. values_end x.version x.address_size front more) first ∙ p.ends;
       are = p.are;
       spelled = p.spelled;
       values = p.values;
     }
 
-module _ (x : Context) (specs : List AttributeSpec) (at to : ℕ) (bytes : List ℕ) (l : Left x (drop at specs) bytes) (on : at ≤ to) (within : to ≤ length specs) where
-  those : Passed x (drop at specs) l.0.0 l.0.1 bytes (to - at)
-  those = passed x (drop at specs) l.0.0 l.0.1 bytes (to - at) l.1.are l.1.spelled (omega (arith, on, within, length-drop at specs))
+module _ (x : Context) (specs front back : List AttributeSpec) (parts : specs ≡ front ++ back) (bytes : List ℕ) (l : Left x specs bytes) where
+  pub those : Passed x front back l.0.0 l.0.1 bytes
+  those = passed x front back l.0.0 l.0.1 bytes (subst (λ (ss : List AttributeSpec). AreAttributes x ss l.0.0) parts l.1.are) l.1.spelled
 
-  pub never_cut : (f : ValueFault) → values_end x.version x.address_size (slice_range specs at to) bytes ≡ Err f → ⊥
+  pub never_cut : (f : ValueFault) → values_end x.version x.address_size front bytes ≡ Err f → ⊥
   never_cut f e = let ok = those.ends in cc
 
   -- what is left behind them
-  behind : (rest : List ℕ) → values_end x.version x.address_size (slice_range specs at to) bytes ≡ Ok rest → (m : Left x (drop (to - at) (drop at specs)) rest) × (map value_of m.0.0 ≡ drop (to - at) (map value_of l.0.0))
-  behind rest e =
+  pub left_on : (rest : List ℕ) → values_end x.version x.address_size front bytes ≡ Ok rest → (m : Left x back rest) × (map value_of m.0.0 ≡ drop (length front) (map value_of l.0.0))
+  left_on rest e =
       let same : those.behind ≡ rest = is_ok (sym those.ends ∙ e) in
       (((those.others, l.0.1), record { are = those.are; spelled = sym same ∙ those.spelled }), those.values)
     where
       is_ok : {a b : List ℕ} → ◌≡◌ {A = Result (List ℕ) ValueFault} (Ok a) (Ok b) → a ≡ b
       is_ok e = cc
 
-  drop_is : drop (to - at) (drop at specs) ≡ drop to specs
-  drop_is = let same : at + (to - at) ≡ to = omega (arith, on) in drop-drop (to - at) at specs ∙ ap (λ (n : ℕ). drop n specs) same
-
-  pub left_on : (rest : List ℕ) → values_end x.version x.address_size (slice_range specs at to) bytes ≡ Ok rest → (m : Left x (drop to specs) rest) × (map value_of m.0.0 ≡ drop (to - at) (map value_of l.0.0))
-  left_on rest e = subst (λ (ss : List AttributeSpec). (m : Left x ss rest) × (map value_of m.0.0 ≡ drop (to - at) (map value_of l.0.0))) drop_is (behind rest e)
-
-  pub left_rest : (rest : List ℕ) → values_end x.version x.address_size (slice_range specs at to) bytes ≡ Ok rest → (n : Left x (drop to specs) rest) → map value_of n.0.0 ≡ drop (to - at) (map value_of l.0.0)
-  left_rest rest e n = let m = left_on rest e in ap (λ (z : Left x (drop to specs) rest). map value_of z.0.0) (left_unique x (drop to specs) rest n m.0) ∙ m.1
+  pub left_rest : (k : ℕ) → k ≡ length front → (rest : List ℕ) → values_end x.version x.address_size front bytes ≡ Ok rest → (n : Left x back rest) → map value_of n.0.0 ≡ drop k (map value_of l.0.0)
+  left_rest k k_is rest e n =
+      let m = left_on rest e in
+      ap (λ (z : Left x back rest). map value_of z.0.0) (left_unique x back rest n m.0) ∙ m.1 ∙ ap (λ (i : ℕ). drop i (map value_of l.0.0)) (sym k_is)
 
 -- ---- the value of the first attribute with a code
 
@@ -142,6 +126,9 @@ first_value x (s ∷ specs) (b ∷ bs) rest bytes code (suc place) are spelled f
       is_value = more.is_value ∙ rw (ne_eqb b.code code apart) refl;
       reads = λ d. rw (here, one_end x s b (flat_map attribute_bytes bs ++ rest) are.0) (more.reads d);
     }
+
+front_range : (specs : List AttributeSpec) (k : ℕ) → slice_range specs 0 k ≡ take k specs
+front_range specs k = let same : k - 0 ≡ k = omega arith in ap (λ (n : ℕ). take n specs) same
 
 pub value_of_left : (x : Context) (specs : List AttributeSpec) (bytes : List ℕ) (l : Left x specs bytes) (attribute : ℕ) (answer : Result Datum ValueFault) → ReadsFirst x.version x.address_size specs attribute bytes answer
     → (v : Datum) × (answer ≡ Ok v) × (Some v ≡ value_in (map value_of l.0.0) attribute)

@@ -1,5 +1,5 @@
 -- One turn of the loop that reads attributes.
-use Rattle.std.proofs.Common.{◌≡◌, ℕ, suc, true, ◌+◌, ◌<◌, ◌≤◌, List, ◌∷◌, length, drop, get_or, Result, Ok, Err, refl, sym, ap, ◌∙◌, add-one, drop-cons, drop_of_length-le}
+use Rattle.std.proofs.Common.{◌≡◌, ℕ, true, List, [], ◌∷◌, Result, Ok, Err, refl, sym, ap, ◌∙◌}
 use Rattle.dw_forms.specs.declared.decl.AttributeSpec.{AttributeSpec}
 use Rattle.dw_forms.specs.Steps.{◌>>=◌}
 use Rattle.dw_entries.specs.declared.fault.Failing.{Failing}
@@ -34,20 +34,18 @@ unfolding attributes_at
 attributes_cons t f fs bytes rest e =
     after_ok (attribute_at t f bytes) (λ p. attributes_at t fs p.1 >>= λ ps. Ok (p.0 ∷ ps.0, ps.1)) (λ b. after (attributes_at t fs b)) rest e (λ p. after_bind (attributes_at t fs p.1) (λ ps. p.0 ∷ ps))
 
-pub attributes_step : (t : Context) (i : ℕ) (fs : List AttributeSpec) (d : AttributeSpec) (bytes rest : List ℕ) (total : Result (List ℕ) Failing) → i < length fs → d ≡ get_or fs i d → after (attribute_at t d bytes) ≡ Ok rest → after (attributes_at t (drop i fs) bytes) ≡ total → after (attributes_at t (drop (i + 1) fs) rest) ≡ total
-attributes_step t i fs d bytes rest total lt is ok so_far =
-    let one : after (attributes_at t (drop i fs) bytes) ≡ after (attributes_at t (drop (i + 1) fs) rest) =
-    ap (λ (gs : List AttributeSpec). after (attributes_at t gs bytes)) (drop-cons fs i d lt) ∙ attributes_cons t (get_or fs i d) (drop (suc i) fs) bytes rest (ap (λ (s : AttributeSpec). after (attribute_at t s bytes)) (sym is) ∙ ok) ∙ simp add-one in
-    sym one ∙ so_far
+pub attributes_step : (t : Context) (f : AttributeSpec) (left fs : List AttributeSpec) (bytes rest : List ℕ) (total : Result (List ℕ) Failing) → left ≡ f ∷ fs → after (attribute_at t f bytes) ≡ Ok rest → after (attributes_at t left bytes) ≡ total → after (attributes_at t fs rest) ≡ total
+attributes_step t f left fs bytes rest total parts ok so_far =
+    sym (ap (λ (gs : List AttributeSpec). after (attributes_at t gs bytes)) parts ∙ attributes_cons t f fs bytes rest ok) ∙ so_far
 
-pub attributes_err : (t : Context) (i : ℕ) (fs : List AttributeSpec) (d : AttributeSpec) (bytes : List ℕ) (f : Failing) (total : Result (List ℕ) Failing) → i < length fs → d ≡ get_or fs i d → after (attribute_at t d bytes) ≡ Err f → after (attributes_at t (drop i fs) bytes) ≡ total → total ≡ Err f
+pub attributes_err : (t : Context) (f : AttributeSpec) (left fs : List AttributeSpec) (bytes : List ℕ) (failing : Failing) (total : Result (List ℕ) Failing) → left ≡ f ∷ fs → after (attribute_at t f bytes) ≡ Err failing → after (attributes_at t left bytes) ≡ total → total ≡ Err failing
 unfolding attributes_at
-attributes_err t i fs d bytes f total lt is err so_far =
-    sym so_far ∙ ap (λ (gs : List AttributeSpec). after (attributes_at t gs bytes)) (drop-cons fs i d lt) ∙ after_err (attribute_at t (get_or fs i d) bytes) (λ p. attributes_at t (drop (suc i) fs) p.1 >>= λ ps. Ok (p.0 ∷ ps.0, ps.1)) f (ap (λ (s : AttributeSpec). after (attribute_at t s bytes)) (sym is) ∙ err)
+attributes_err t f left fs bytes failing total parts err so_far =
+    sym so_far ∙ ap (λ (gs : List AttributeSpec). after (attributes_at t gs bytes)) parts ∙ after_err (attribute_at t f bytes) (λ p. attributes_at t fs p.1 >>= λ ps. Ok (p.0 ∷ ps.0, ps.1)) failing err
 
-pub attributes_end : (t : Context) (i : ℕ) (fs : List AttributeSpec) (bytes : List ℕ) → length fs ≤ i → after (attributes_at t (drop i fs) bytes) ≡ Ok bytes
+pub attributes_end : (t : Context) (left : List AttributeSpec) (bytes : List ℕ) → left ≡ [] → after (attributes_at t left bytes) ≡ Ok bytes
 unfolding attributes_at
-attributes_end t i fs bytes le = ap (λ (gs : List AttributeSpec). after (attributes_at t gs bytes)) (drop_of_length-le fs le)
+attributes_end t left bytes none = ap (λ (gs : List AttributeSpec). after (attributes_at t gs bytes)) none
 
 -- ---- values that are skipped
 

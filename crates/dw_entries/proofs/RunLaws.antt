@@ -1,7 +1,7 @@
 -- The entries of one unit, by their offsets.
 use Rattle.std.proofs.Common.{◌≡◌, ℕ, ◌+◌, ◌<◌, ◌≤◌, ◌^◌, List, length, get_or, Option, Some, refl, sym, ap, subst, ◌∙◌, arith, inl, inr}
 use Rattle.std.specs.Prelude.{slice_get}
-use Rattle.dw_forms.specs.KeptDecls.{Numbered}
+use Rattle.dw_forms.specs.KeptDecls.{Tables}
 use Rattle.dw_entries.specs.declared.record.Record.{Record}
 use Rattle.dw_entries.specs.declared.record.UnitRecord.{UnitRecord}
 use Rattle.dw_entries.specs.Entries.{Entry, entries_of, PlacedUnit, placed}
@@ -13,7 +13,7 @@ use Rattle.dw_entries.proofs.HeadLaws.{head_stands, stands_within}
 use Rattle.dw_entries.proofs.KeptLaws.{KeptUnit, read_is}
 
 -- the record of a unit that was read is the one that is kept of it
-pub record_kept : (a info : List ℕ) (tables : List (List Numbered)) (rs : List UnitRecord) (records : List Record) (s : Scanned a info tables rs records) (number : ℕ) (k : KeptUnit a info tables rs records s number) (u : UnitRecord)
+pub record_kept : (a info : List ℕ) (tables : Tables) (rs : List UnitRecord) (records : List Record) (s : Scanned a info tables rs records) (number : ℕ) (k : KeptUnit a info tables rs records s number) (u : UnitRecord)
     → u ≡ get_or rs number u → IsKept tables u k.place
 record_kept a info tables rs records s number k u read = let P : UnitRecord → Type 0 = λ q. IsKept tables q k.place in subst P (sym (read_is rs number k.unit_record u k.is_unit_record read)) k.kept
 
@@ -65,14 +65,14 @@ never_other entries units number offset at id p e rise is sum found is_e other j
     other (ap (λ (x : Entry). x.unit) (sym one) ∙ inside.in_unit)
 
 -- where no entry begins at the offset, none of the unit does
-pub never_there : (a info : List ℕ) (tables : List (List Numbered)) (rs : List UnitRecord) (records : List Record) (s : Scanned a info tables rs records) (number offset at : ℕ) (k : KeptUnit a info tables rs records s number) (u : UnitRecord)
+pub never_there : (a info : List ℕ) (tables : Tables) (rs : List UnitRecord) (records : List Record) (s : Scanned a info tables rs records) (number offset at : ℕ) (k : KeptUnit a info tables rs records s number) (u : UnitRecord)
     → u ≡ get_or rs number u → at ≡ offset + u.at → ((id : ℕ) → IsEntryAt (entries_of (units_of s)) at id → ⊥)
     → (j : ℕ) → ReachesInUnit (entries_of (units_of s)) (placed (units_of s)) number offset j → ⊥
 never_there a info tables rs records s number offset at k u read sum nowhere j reached =
     let place = (record_kept a info tables rs records s number k u read).at in
     nowhere j (in_is_at (entries_of (units_of s)) number at j (reached_at (entries_of (units_of s)) (placed (units_of s)) number offset at j k.place k.is_place (omega (arith, sum, place)) reached))
 
-pub never_far : (a info : List ℕ) (tables : List (List Numbered)) (rs : List UnitRecord) (records : List Record) (s : Scanned a info tables rs records) (number offset : ℕ) (k : KeptUnit a info tables rs records s number) (u : UnitRecord)
+pub never_far : (a info : List ℕ) (tables : Tables) (rs : List UnitRecord) (records : List Record) (s : Scanned a info tables rs records) (number offset : ℕ) (k : KeptUnit a info tables rs records s number) (u : UnitRecord)
     → u ≡ get_or rs number u → length info < 2 ^ 64 → 2 ^ 64 ≤ offset + u.at → (j : ℕ) → ReachesInUnit (entries_of (units_of s)) (placed (units_of s)) number offset j → ⊥
 never_far a info tables rs records s number offset k u read few far j reached =
     let place = (record_kept a info tables rs records s number k u read).at in

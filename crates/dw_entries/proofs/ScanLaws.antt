@@ -6,7 +6,8 @@ use Rattle.dw_entries.specs.declared.record.Record.{Record}
 use Rattle.dw_entries.specs.declared.record.UnitRecord.{UnitRecord}
 use Rattle.dw_entries.specs.declared.record.Kept.{Kept}
 use Rattle.dw_forms.specs.AbbrevTables.{tables_in, AreTablesOf}
-use Rattle.dw_forms.specs.KeptDecls.{Numbered, declarations, numbered_in, number_in}
+use Rattle.dw_forms.specs.Chains.{items_of, chain_in}
+use Rattle.dw_forms.specs.KeptDecls.{Tables, number_in}
 use Rattle.dw_forms.specs.TableStarts.{Stay}
 use Rattle.dw_forms.proofs.StartLaws.{table_stays}
 use Rattle.dw_entries.specs.declared.fault.Broken.{Broken}
@@ -68,23 +69,23 @@ AreUnits-push a (v ∷ us) u p q = (p.0, AreUnits-push a us u p.1 q)
 units_bytes-push : (us : List DebugUnit) (u : DebugUnit) → units_bytes (us ++ u ∷ []) ≡ units_bytes us ++ unit_bytes u
 units_bytes-push us u = flat_map-append unit_bytes us (u ∷ []) ∙ ap (λ (b : List ℕ). units_bytes us ++ b) (append-nil (unit_bytes u))
 
-IsKept-more : (old new : List (List Numbered)) (r : UnitRecord) (p : PlacedUnit) → Stay old new → IsKept old r p → IsKept new r p
+IsKept-more : (old new : Tables) (r : UnitRecord) (p : PlacedUnit) → Stay old new → IsKept old r p → IsKept new r p
 IsKept-more old new r p stay k = record {
   at = k.at;
   header = k.header;
   within = omega (arith, k.within, ap length stay.1, length-append old stay.0);
-  table = ap declarations (table_stays old new r.table stay k.within) ∙ k.table;
+  table = ap items_of (table_stays old new r.table stay k.within) ∙ k.table;
   first = k.first;
 }
 
-AllKept-more : (old new : List (List Numbered)) (rs : List UnitRecord) (ps : List PlacedUnit) → Stay old new → AllZip (IsKept old) rs ps → AllZip (IsKept new) rs ps
+AllKept-more : (old new : Tables) (rs : List UnitRecord) (ps : List PlacedUnit) → Stay old new → AllZip (IsKept old) rs ps → AllZip (IsKept new) rs ps
 AllKept-more old new [] [] stay k = tt
 AllKept-more old new [] (p ∷ ps) stay k = k
 AllKept-more old new (r ∷ rs) [] stay k = k
 AllKept-more old new (r ∷ rs) (p ∷ ps) stay k = (IsKept-more old new r p stay k.0, AllKept-more old new rs ps stay k.1)
 
 -- the numbers of the units so far stay, and the next unit has those of its table
-table_within : (tables : List (List Numbered)) (rs : List UnitRecord) (ps : List PlacedUnit) (n : ℕ) → AllZip (IsKept tables) rs ps → n < length rs → table_of rs n < length tables
+table_within : (tables : Tables) (rs : List UnitRecord) (ps : List PlacedUnit) (n : ℕ) → AllZip (IsKept tables) rs ps → n < length rs → table_of rs n < length tables
 table_within tables [] ps n k less = absurd (omega (arith, less))
 table_within tables (r ∷ rs) [] n k less = absurd k
 table_within tables (r ∷ rs) (p ∷ ps) zero k less = k.0.within
@@ -99,16 +100,16 @@ table_of-last : (rs : List UnitRecord) (r : UnitRecord) → table_of (rs ++ r �
 table_of-last [] r = refl
 table_of-last (q ∷ rs) r = table_of-last rs r
 
-numbers_stay : (old new : List (List Numbered)) (rs : List UnitRecord) (ps : List PlacedUnit) (r : UnitRecord) (n : ℕ) → Stay old new → AllZip (IsKept old) rs ps → n < length rs
+numbers_stay : (old new : Tables) (rs : List UnitRecord) (ps : List PlacedUnit) (r : UnitRecord) (n : ℕ) → Stay old new → AllZip (IsKept old) rs ps → n < length rs
     → numbers_of old rs n ≡ numbers_of new (rs ++ r ∷ []) n
 numbers_stay old new rs ps r n stay k less =
     ap number_in (sym (table_stays old new (table_of rs n) stay (table_within old rs ps n k less)))
-    ∙ ap (λ (t : ℕ). number_in (numbered_in new t)) (sym (table_of-push rs r n less))
+    ∙ ap (λ (t : ℕ). number_in (chain_in new t)) (sym (table_of-push rs r n less))
 
-numbers_last : (tables : List (List Numbered)) (rs : List UnitRecord) (r : UnitRecord) (n : ℕ) → n ≡ length rs → number_in (numbered_in tables r.table) ≡ numbers_of tables (rs ++ r ∷ []) n
-numbers_last tables rs r n e = ap (λ (t : ℕ). number_in (numbered_in tables t)) (sym (ap (table_of (rs ++ r ∷ [])) e ∙ table_of-last rs r))
+numbers_last : (tables : Tables) (rs : List UnitRecord) (r : UnitRecord) (n : ℕ) → n ≡ length rs → number_in (chain_in tables r.table) ≡ numbers_of tables (rs ++ r ∷ []) n
+numbers_last tables rs r n e = ap (λ (t : ℕ). number_in (chain_in tables t)) (sym (ap (table_of (rs ++ r ∷ [])) e ∙ table_of-last rs r))
 
-AllKept-push : (tables : List (List Numbered)) (rs : List UnitRecord) (ps : List PlacedUnit) (r : UnitRecord) (p : PlacedUnit) → AllZip (IsKept tables) rs ps → IsKept tables r p → AllZip (IsKept tables) (rs ++ r ∷ []) (ps ++ p ∷ [])
+AllKept-push : (tables : Tables) (rs : List UnitRecord) (ps : List PlacedUnit) (r : UnitRecord) (p : PlacedUnit) → AllZip (IsKept tables) rs ps → IsKept tables r p → AllZip (IsKept tables) (rs ++ r ∷ []) (ps ++ p ∷ [])
 AllKept-push tables [] [] r p k one = (one, tt)
 AllKept-push tables [] (q ∷ ps) r p k one = absurd k
 AllKept-push tables (s ∷ rs) [] r p k one = absurd k
@@ -152,7 +153,7 @@ upto_next a info header old new len u t =
     let unit : ℕ = length old.units.items in
     let v : DebugUnit = t.taken in
     let size : ℕ = header_size v.header.kind in
-    let tables : List (List Numbered) = tables_in new.tables in
+    let tables : Tables = tables_in new.tables in
     let before : ℕ → ℕ → ℕ = numbers_of (tables_in old.tables) old.units.items in
     let numbers : ℕ → ℕ → ℕ = numbers_of tables (old.units.items ++ t.record_is ∷ []) in
     let left : drop (header + len) info ≡ t.after = sym (drop-drop _ _ info) ∙ ap (drop len) t.parts ∙ drop_at (unit_bytes v) t.after len (sym t.len_is) in

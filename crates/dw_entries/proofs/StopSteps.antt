@@ -1,34 +1,53 @@
--- What is asked for is found among the places at which a search stops.
-use Rattle.std.proofs.Common.{◌≡◌, ℕ, ◌<◌, ◌+◌, ◌≤◌, Bool, true, false, ltb, List, length, get_or, Option, Some, refl, sym, ap, subst, ◌∙◌, arith}
-use Rattle.std.specs.Prelude.{slice_get}
-use Rattle.std.proofs.lemmas.Bool.{ltb-true, ltb-false}
-use Rattle.std.proofs.lemmas.Option.{slice_get_read}
+-- What is asked for is found among the attributes at which a search stops.
+use Rattle.std.proofs.Common.{◌≡◌, ℕ, ◌<◌, ◌≤◌, false, List, [], ◌∷◌, ◌++◌, length, sym, ap, subst, ◌∙◌, append-nil, arith}
+use Rattle.std.specs.List.{list_any, AllByRecursion}
+use Rattle.std.proofs.lemmas.Bool.{or_parts}
+use Rattle.std.proofs.lemmas.List.{length-append}
+use Rattle.dw_forms.specs.declared.attributes.Attributes.{Attributes}
 use Rattle.dw_forms.specs.declared.decl.AttributeSpec.{AttributeSpec}
-use Rattle.dw_forms.specs.Plans.{is_stop, IsNext}
-use Rattle.dw_entries.specs.Chosen.{OthersPass, Unasked}
+use Rattle.dw_forms.specs.Chains.{Numbered, items_of}
+use Rattle.dw_forms.specs.Plans.{is_stop}
+use Rattle.dw_forms.specs.Suffixes.{specs_in, Ends, IsFrom}
+use Rattle.dw_forms.proofs.PassSteps.{items_append}
+use Rattle.dw_forms.proofs.SuffixLaws.{specs_ends, ends_on, follow}
+use Rattle.dw_entries.specs.Chosen.{OthersPass, AreUnasked, IsNextAsked}
+use Rattle.dw_entries.proofs.HeadLaws.{all-append}
 
-module _ (Passes : AttributeSpec → Type 0) (specs : List AttributeSpec) (from : ℕ) (others : OthersPass Passes) where
-  -- up to the first such place none is asked for
-  pub up_to_stop : (place next : ℕ) → IsNext is_stop specs place next → Unasked Passes specs place next
-  up_to_stop place next n j spec on less at = others spec (n.none j spec on less at)
+-- there are fewer attributes from the next one at which a search stops
+pub fewer_left : (left after next : Attributes) (n : Numbered AttributeSpec) → Ends left after (n ∷ []) → IsFrom is_stop after next → length (specs_in next) < length (specs_in left)
+fewer_left left after next n ends is =
+    let f = follow is_stop after next is in
+    let first = ap length (specs_ends left after (n ∷ []) ends) in
+    let others = ap length (specs_ends after next f.before f.ends) in
+    omega (arith, first, others, length-append (items_of f.before) (specs_in next))
 
-  -- nor up to the next one, where the attribute at this place passes
-  pub on_to_stop : (place next : ℕ) (spec : AttributeSpec) → slice_get specs place ≡ Some spec → Passes spec → Unasked Passes specs from place → IsNext is_stop specs (place + 1) next → Unasked Passes specs from next
-  on_to_stop place next spec is_spec passes done n j s on less at = by_order (ltb j place) refl
-    where
-      some_is : {a b : AttributeSpec} → ◌≡◌ {A = Option AttributeSpec} (Some a) (Some b) → a ≡ b
-      some_is e = cc
+module _ (Passes : AttributeSpec → Type 0) (others : OthersPass Passes) where
+  unasked : (specs : List AttributeSpec) → list_any is_stop specs ≡ false → AreUnasked Passes specs
+  unasked [] none = tt
+  unasked (s ∷ specs) none =
+      let p = or_parts (is_stop s) (list_any is_stop specs) none in
+      (others s p.0, unasked specs p.1)
 
-      by_rest : place ≤ j → (b : Bool) → ltb place j ≡ b → Passes s
-      by_rest le true e = up_to_stop (place + 1) next n j s (omega (arith, ltb-true _ _ e)) less at
-      by_rest le false e =
-          let ge : j ≤ place = ltb-false _ _ e in
-          let same : place ≡ j = omega (arith, le, ge) in
-          subst Passes (some_is (sym is_spec ∙ ap (slice_get specs) same ∙ at)) passes
+  -- up to the first of them none is asked for
+  pub up_to_stop : (all found : Attributes) → IsFrom is_stop all found → IsNextAsked Passes all found
+  up_to_stop all found is =
+      let f = follow is_stop all found is in
+      record { before = f.before; ends = f.ends; unasked = unasked (items_of f.before) f.none }
 
-      by_order : (b : Bool) → ltb j place ≡ b → Passes s
-      by_order true e = done j s on (ltb-true _ _ e) at
-      by_order false e = by_rest (ltb-false _ _ e) (ltb place j) refl
+  -- nor up to the next one, where the attribute before passes
+  pub on_to_stop : (all left after next : Attributes) (n : Numbered AttributeSpec) → IsNextAsked Passes all left → Ends left after (n ∷ []) → Passes n.item → IsFrom is_stop after next → IsNextAsked Passes all next
+  on_to_stop all left after next n done ends passes is =
+      let f = follow is_stop after next is in
+      let rest : AreUnasked Passes (items_of (n ∷ f.before)) = (passes, unasked (items_of f.before) f.none) in
+      record {
+        before = done.before ++ n ∷ f.before;
+        ends = ends_on all left next done.before (n ∷ f.before) done.ends (ends_on left after next (n ∷ []) f.before ends f.ends);
+        unasked = subst (AreUnasked Passes) (sym (items_append done.before (n ∷ f.before))) (all-append Passes (items_of done.before) (items_of (n ∷ f.before)) done.unasked rest);
+      }
 
-pub spec_at : (specs slice : List AttributeSpec) (place : ℕ) (spec : AttributeSpec) → slice ≡ specs → place < length slice → spec ≡ get_or slice place spec → slice_get specs place ≡ Some spec
-spec_at specs slice place spec same lt is = slice_get_read specs (length specs) place spec refl (omega (arith, lt, ap length same)) (is ∙ ap (λ (ss : List AttributeSpec). get_or ss place spec) same)
+  -- where none is left, none is asked for
+  pub none_asked : (all left : Attributes) → IsNextAsked Passes all left → specs_in left ≡ [] → AreUnasked Passes (specs_in all)
+  none_asked all left done none =
+      let parts : specs_in all ≡ items_of done.before =
+      specs_ends all left done.before done.ends ∙ ap (λ (specs : List AttributeSpec). items_of done.before ++ specs) none ∙ append-nil (items_of done.before) in
+      subst (AreUnasked Passes) (sym parts) done.unasked

@@ -1,19 +1,22 @@
 -- Where a text is that is in the value of an attribute.
-use Rattle.std.proofs.Common.{◌≡◌, ◌≢◌, ℕ, zero, suc, ◌+◌, ◌-◌, ◌<◌, ◌≤◌, List, [], ◌∷◌, ◌++◌, length, take, drop, map, All, Some, Result, Ok, refl, sym, ap, subst, ◌∙◌, append_assoc, length-append, length-drop, length-take, drop_at, drop-drop, take-append-drop, arith}
+use Rattle.std.proofs.Common.{◌≡◌, ◌≢◌, ℕ, zero, suc, ◌+◌, ◌-◌, ◌<◌, ◌≤◌, List, [], ◌∷◌, ◌++◌, length, take, drop, map, All, true, false, Some, Result, Ok, refl, sym, ap, subst, ◌∙◌, append_assoc, length-append, length-drop, length-take, drop_at, drop-drop, take-append-drop, arith}
 use Rattle.std.specs.Prelude.{slice_get, IfSome}
-use Rattle.std.specs.List.{flat_map, slice_range}
+use Rattle.std.specs.List.{flat_map, list_any}
 use Rattle.std.proofs.Props.{props}
-use Rattle.std.proofs.lemmas.Bool.{ne_eqb, eq-eqb}
+use Rattle.std.proofs.lemmas.Bool.{ne_eqb, eq-eqb, eqb-true, eqb-false, or_parts}
 use Rattle.std.proofs.lemmas.List.{drop-append-le}
 use mathlib.Core.Logic.{∥∥₁_elim}
+use Rattle.dw_forms.specs.declared.attributes.Attributes.{Attributes}
 use Rattle.dw_forms.specs.declared.decl.AttributeSpec.{AttributeSpec}
 use Rattle.dw_forms.specs.declared.form.Form.{Form}
 use Rattle.dw_forms.specs.declared.form.Form.TheVariants as form
 use Rattle.dw_forms.specs.declared.value.ValueFault.{ValueFault}
 use Rattle.dw_forms.specs.Steps.{◌>>=◌}
-use Rattle.dw_forms.specs.FirstPlaces.{StandsFirst}
+use Rattle.dw_forms.specs.AttributeLists.{has_this}
+use Rattle.dw_forms.specs.Chains.{Numbered, items_of}
 use Rattle.dw_forms.specs.Plans.{values_end}
 use Rattle.dw_forms.specs.Sizes.{rest_at}
+use Rattle.dw_forms.specs.Suffixes.{specs_in, Ends, IsFrom}
 use Rattle.dw_forms.specs.Value.{Datum, SpellsPlain, Val, layout_of, text}
 use Rattle.dw_entries.specs.Asked.{value_of}
 use Rattle.dw_entries.specs.Grammar.{Context, Attribute, IsAttribute, AreAttributes, attribute_bytes, Head, head_bytes}
@@ -23,9 +26,11 @@ use Rattle.dw_entries.specs.declared.record.Record.{Record}
 use Rattle.dw_entries.specs.declared.record.UnitRecord.{UnitRecord}
 use Rattle.dw_entries.specs.Entries.{entries_of}
 use Rattle.dw_entries.specs.Scanned.{Scanned, units_of}
-use Rattle.dw_forms.specs.KeptDecls.{Numbered}
+use Rattle.dw_forms.specs.KeptDecls.{Tables}
 use Rattle.dw_entries.proofs.KeptLaws.{KeptEntry, kept_entry, from_entry, of_entry, entry_parts}
-use Rattle.dw_entries.proofs.PassLaws.{one_end, front_range}
+use Rattle.dw_forms.proofs.PassSteps.{items_append}
+use Rattle.dw_forms.proofs.SuffixLaws.{specs_ends, follow}
+use Rattle.dw_entries.proofs.PassLaws.{one_end}
 
 -- bytes that end with a text and a zero byte
 pub record EndWith (bytes t : List ℕ) : Type 0 where
@@ -87,15 +92,14 @@ some_is : {a b : Datum} → Some a ≡ Some b → a ≡ b
 some_is e = cc
 
 -- the text of the first attribute with a code, by the bytes after its value
-pub text_of_first : (x : Context) (specs : List AttributeSpec) (bs : List Attribute) (rest bytes after : List ℕ) (code place : ℕ) (t : List ℕ) → AreAttributes x specs bs → bytes ≡ flat_map attribute_bytes bs ++ rest → StandsFirst specs code place
-    → value_in (map value_of bs) code ≡ Some (text t) → values_end x.version x.address_size (take (suc place) specs) bytes ≡ Ok after → HasText bs t rest after
+pub text_of_first : (x : Context) (front : List AttributeSpec) (s : AttributeSpec) (back : List AttributeSpec) (bs : List Attribute) (rest bytes after : List ℕ) (code : ℕ) (t : List ℕ) → AreAttributes x (front ++ s ∷ back) bs → bytes ≡ flat_map attribute_bytes bs ++ rest
+    → list_any (has_this code) front ≡ false → has_this code s ≡ true → value_in (map value_of bs) code ≡ Some (text t) → values_end x.version x.address_size (front ++ s ∷ []) bytes ≡ Ok after → HasText bs t rest after
 unfolding values_end
-text_of_first x [] bs rest bytes after code place t are spelled first value ends = absurd (omega (arith, first.within))
-text_of_first x (s ∷ specs) [] rest bytes after code place t are spelled first value ends = absurd are
-text_of_first x (s ∷ specs) (b ∷ bs) rest bytes after code zero t are spelled first value ends =
+text_of_first x [] s back [] rest bytes after code t are spelled none has value ends = absurd are
+text_of_first x [] s back (b ∷ bs) rest bytes after code t are spelled none has value ends =
     let others : List ℕ = flat_map attribute_bytes bs in
     let here : bytes ≡ b.bytes ++ (others ++ rest) = spelled ∙ append_assoc b.bytes others rest in
-    let same : s.attribute ≡ code = first.has s in
+    let same : s.attribute ≡ code = eqb-true s.attribute code has in
     let is : b.code ≡ code = let c : b.code ≡ s.attribute = are.0.code in c ∙ same in
     let found : Some b.value ≡ Some (text t) = rw (eq-eqb b.code code is) at value in
     let end = text_ends x s b t are.0 (some_is found) in
@@ -111,17 +115,18 @@ text_of_first x (s ∷ specs) (b ∷ bs) rest bytes after code zero t are spelle
       follows = sym (ok_is (ap (λ (r : Result (List ℕ) ValueFault). r >>= λ more. values_end x.version x.address_size [] more) (sym first_end) ∙ ends));
       none_before = end.none_before;
     }
-text_of_first x (s ∷ specs) (b ∷ bs) rest bytes after code (suc place) t are spelled first value ends =
+text_of_first x (r ∷ front) s back [] rest bytes after code t are spelled none has value ends = absurd are
+text_of_first x (r ∷ front) s back (b ∷ bs) rest bytes after code t are spelled none has value ends =
     let others : List ℕ = flat_map attribute_bytes bs in
     let here : bytes ≡ b.bytes ++ (others ++ rest) = spelled ∙ append_assoc b.bytes others rest in
-    let other : s.attribute ≢ code = first.none_before 0 s (omega arith) in
-    let apart : b.code ≡ code → ⊥ = let c : b.code ≡ s.attribute = are.0.code in λ same. other (sym c ∙ same) in
-    let behind : StandsFirst specs code place = record { within = omega (arith, first.within); has = first.has; none_before = λ k d less. first.none_before (suc k) d (omega (arith, less)) } in
+    let others_lack = or_parts (has_this code r) (list_any (has_this code) front) none in
+    let other : r.attribute ≢ code = eqb-false r.attribute code others_lack.0 in
+    let apart : b.code ≡ code → ⊥ = let c : b.code ≡ r.attribute = are.0.code in λ same. other (sym c ∙ same) in
     let found : value_in (map value_of bs) code ≡ Some (text t) = rw (ne_eqb b.code code apart) at value in
-    let first_end : rest_at x.version s.form x.address_size bytes ≡ Ok (others ++ rest) =
-    ap (λ (c : List ℕ). rest_at x.version s.form x.address_size c) here ∙ one_end x s b (others ++ rest) are.0 in
-    let more = text_of_first x specs bs rest (others ++ rest) after code place t are.1 refl behind found
-    (ap (λ (r : Result (List ℕ) ValueFault). r >>= λ more. values_end x.version x.address_size (take (suc place) specs) more) (sym first_end) ∙ ends) in
+    let first_end : rest_at x.version r.form x.address_size bytes ≡ Ok (others ++ rest) =
+    ap (λ (c : List ℕ). rest_at x.version r.form x.address_size c) here ∙ one_end x r b (others ++ rest) are.0 in
+    let more = text_of_first x front s back bs rest (others ++ rest) after code t are.1 refl others_lack.1 has found
+    (ap (λ (q : Result (List ℕ) ValueFault). q >>= λ more. values_end x.version x.address_size (front ++ s ∷ []) more) (sym first_end) ∙ ends) in
     record {
       before = b.bytes ++ more.before;
       tail = more.tail;
@@ -159,24 +164,24 @@ module _ (h : Head) (t rest after : List ℕ) (has : HasText h.attributes t rest
   pub has_room : length t + suc (length after) ≤ length entry
   has_room = omega (arith, counted)
 
--- the place after an attribute
-pub place_after : (place : ℕ) (slice specs : List AttributeSpec) → slice ≡ specs → place < length specs → length (take (place + 1) slice) ≡ suc place
-place_after place slice specs same within = omega (arith, length-take (place + 1) slice, ap length same, within)
-
 -- the text that is the value of an attribute of an entry, by the bytes after it
-module _ {a info : List ℕ} {tables : List (List Numbered)} {rs : List UnitRecord} {records : List Record} {s : Scanned a info tables rs records} {id : ℕ} (k : KeptEntry a info tables rs records s id)
-    (r : Record) (read : slice_get records id ≡ Some r) (version size : ℕ) (specs : List AttributeSpec) (values after t : List ℕ) (attribute place to : ℕ)
-    (are : AreAttributes (value_context version size) specs k.entry.head.attributes)
-    (follow : values ≡ flat_map attribute_bytes k.entry.head.attributes ++ k.stands.after)
-    (first : StandsFirst specs attribute place)
+module _ {a info : List ℕ} {tables : Tables} {rs : List UnitRecord} {records : List Record} {s : Scanned a info tables rs records} {id : ℕ} (k : KeptEntry a info tables rs records s id)
+    (r : Record) (read : slice_get records id ≡ Some r) (version size : ℕ) (all found others : Attributes) (spec : AttributeSpec) (values after t : List ℕ) (attribute : ℕ)
+    (are : AreAttributes (value_context version size) (specs_in all) k.entry.head.attributes)
+    (follows : values ≡ flat_map attribute_bytes k.entry.head.attributes ++ k.stands.after)
+    (is : IsFrom (has_this attribute) all found)
+    (first : Ends found others (record { number = found.first; item = spec } ∷ []))
     (value : value_at_entry k.entry attribute ≡ Some (text t))
-    (next : to ≡ suc place)
-    (ends : values_end version size (slice_range specs 0 to) values ≡ Ok after) where
+    (ends : values_end version size (items_of ((follow (has_this attribute) all found is).before ++ record { number = found.first; item = spec } ∷ [])) values ≡ Ok after) where
   text_here : HasText k.entry.head.attributes t k.stands.after after
   text_here =
-      let front : slice_range specs 0 to ≡ take (suc place) specs = front_range specs to ∙ ap (λ (n : ℕ). take n specs) next in
-      text_of_first (value_context version size) specs k.entry.head.attributes k.stands.after values after attribute place t are follow first value
-      (ap (λ (ss : List AttributeSpec). values_end version size ss values) (sym front) ∙ ends)
+      let f = follow (has_this attribute) all found is in
+      let n : Numbered AttributeSpec = record { number = found.first; item = spec } in
+      let parts : specs_in all ≡ items_of f.before ++ spec ∷ specs_in others =
+      specs_ends all found f.before f.ends ∙ ap (λ (specs : List AttributeSpec). items_of f.before ++ specs) (specs_ends found others (n ∷ []) first) in
+      text_of_first (value_context version size) (items_of f.before) spec (specs_in others) k.entry.head.attributes k.stands.after values after attribute t
+      (subst (λ (specs : List AttributeSpec). AreAttributes (value_context version size) specs k.entry.head.attributes) parts are) follows f.none (f.passes spec others first) value
+      (ap (λ (specs : List AttributeSpec). values_end version size specs values) (sym (items_append f.before (n ∷ []))) ∙ ends)
 
   pub room_here : length t + suc (length after) ≤ length (take (length info - r.at) (drop r.at info))
   room_here = has_room k.entry.head t k.stands.after after text_here (take (length info - r.at) (drop r.at info)) (entry_parts k r read)
@@ -202,7 +207,7 @@ text_in_info info at h after n t parts is =
     }
 
 -- so of an entry that is looked up
-pub text_at_entry : (a info : List ℕ) (tables : List (List Numbered)) (rs : List UnitRecord) (records : List Record) (s : Scanned a info tables rs records) (id : ℕ) → id < length (entries_of (units_of s)) → (at n : ℕ) (t : List ℕ)
+pub text_at_entry : (a info : List ℕ) (tables : Tables) (rs : List UnitRecord) (records : List Record) (s : Scanned a info tables rs records) (id : ℕ) → id < length (entries_of (units_of s)) → (at n : ℕ) (t : List ℕ)
     → IfSome (slice_get (entries_of (units_of s)) id) (λ e. at ≡ e.at) → IfSome (slice_get (entries_of (units_of s)) id) (λ e. IsTextAt (head_bytes e.head) n t) → IsTextAt info (at + n) t
 text_at_entry a info tables rs records s id within at n t is_at is =
     let k = kept_entry a info tables rs records s id within in

@@ -4,7 +4,7 @@ use Rattle.std.specs.Prelude.{slice_get, IfSome}
 use Rattle.std.specs.List.{AllByRecursion}
 use Rattle.std.specs.List.Sorted.{IsPartitionPoint, IsNonDecreasingBy}
 use Rattle.std.proofs.lemmas.Option.{slice_get_within, slice_get-get_or, slice_get_cases, get_or_from_slice_get}
-use Rattle.dw_forms.specs.KeptDecls.{Numbered}
+use Rattle.dw_forms.specs.KeptDecls.{Tables}
 use Rattle.dw_entries.specs.declared.record.Record.{Record}
 use Rattle.dw_entries.specs.declared.record.UnitRecord.{UnitRecord}
 use Rattle.dw_entries.specs.Grammar.{head_bytes}
@@ -158,7 +158,7 @@ firsts_from at first (u ∷ us) (suc i) (suc j) p q le is_p is_q =
 
 -- ---- the units that are kept
 
-module _ (a info : List ℕ) (tables : List (List Numbered)) (rs : List UnitRecord) (records : List Record) (s : Scanned a info tables rs records) where
+module _ (a info : List ℕ) (tables : Tables) (rs : List UnitRecord) (records : List Record) (s : Scanned a info tables rs records) where
   -- what is kept of a unit says where its first entry is
   kept_first : (n : ℕ) (u : UnitRecord) → slice_get rs n ≡ Some u → (p : PlacedUnit) × (slice_get (placed (units_of s)) n ≡ Some p) × (u.first ≡ p.first)
   kept_first n u is =

@@ -72,15 +72,13 @@ value_of_none x (s ∷ specs) (a ∷ bs) attribute p e = by_code (value_of_none 
         let more : declares specs attribute ≡ false = rw q at e in
         rw (code, q) (others more)
 
--- the attributes from a place on
-pub from_place : (specs : List AttributeSpec) (i : ℕ) (s : AttributeSpec) → i < length specs → drop i specs ≡ get_or specs i s ∷ drop (i + 1) specs
-from_place specs i s within = drop-cons specs i s within ∙ simp add-one
-
-pub from_here : (specs : List AttributeSpec) (i : ℕ) (s : AttributeSpec) → i < length specs → s ≡ get_or specs i s → drop i specs ≡ s ∷ drop (i + 1) specs
-from_here specs i s within is = from_place specs i s within ∙ ap (λ (g : AttributeSpec). g ∷ drop (i + 1) specs) (sym is)
-
-pub from_slice : (specs slice : List AttributeSpec) (i : ℕ) (s : AttributeSpec) → slice ≡ specs → i < length slice → s ≡ get_or slice i s → drop i specs ≡ s ∷ drop (i + 1) specs
-from_slice specs slice i s same within is = subst (λ (ss : List AttributeSpec). drop i ss ≡ s ∷ drop (i + 1) ss) same (from_here slice i s within is)
+-- where no attribute is left, no value is
+pub none_left : (x : Context) (specs : List AttributeSpec) (bytes : List ℕ) (l : Left x specs bytes) → specs ≡ [] → map value_of l.0.0 ≡ []
+none_left x specs bytes l none = none_by l.0.0 (subst (λ (ss : List AttributeSpec). AreAttributes x ss l.0.0) none l.1.are)
+  where
+    none_by : (bs : List Attribute) → AreAttributes x [] bs → map value_of bs ≡ []
+    none_by [] are = refl
+    none_by (b ∷ bs) are = absurd are
 
 -- the bytes from a length on, as a slice has them
 pub read_on : (bytes : List ℕ) (len : ℕ) (r : Result (Datum × List ℕ) ValueFault) {v : Datum} → len ≤ length bytes → r ≡ Ok (v, drop len bytes) → r ≡ Ok (v, take (length bytes - len) (drop len bytes))

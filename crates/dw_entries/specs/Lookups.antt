@@ -1,10 +1,11 @@
 -- Chapter: what the look-ups of entries and of units return.
 use Rattle.std.specs.Prelude.{◌≡◌, ℕ, List, length, ◌==◌, nat_lt, if◌then◌else◌, Bool, Option, Some, None, find}
-use Rattle.std.specs.Prelude.{option_map, ◌<◌, ◌∷◌, ◌++◌, drop, All}
+use Rattle.std.specs.Prelude.{option_map, ◌<◌, ◌∷◌, ◌++◌, drop, map, All, Contains}
 use Rattle.std.specs.List.{list_any}
 use Rattle.dw_forms.specs.declared.decl.AttributeSpec.{AttributeSpec}
-use Rattle.dw_forms.specs.declared.abbrev_tables.KeptDecl.{KeptDecl}
+use Rattle.dw_forms.specs.declared.decl.Decls.{Decls}
 use Rattle.dw_forms.specs.Abbrev.{Declaration}
+use Rattle.dw_forms.specs.AttributeLists.{spec_of}
 use Rattle.dw_forms.specs.KeptDecls.{decl_of}
 use Rattle.dw_forms.specs.Value.{Datum}
 use Rattle.dw_entries.specs.declared.lookup.EntryHead.{EntryHead}
@@ -16,8 +17,12 @@ use Rattle.dw_entries.specs.Entries.{Entry, PlacedUnit}
 use Rattle.dw_entries.specs.Asked.{values_of}
 
 -- the declaration is one of these
-abbrev pub IsKeptIn : List KeptDecl → Declaration → Type 0
-IsKeptIn kept decl = (number : ℕ) × (decl_of kept number ≡ Some decl)
+abbrev pub IsKeptIn : Decls → Declaration → Type 0
+IsKeptIn decls decl = (number : ℕ) × (decl_of decls.lists.nodes.items decls.kept.items number ≡ Some decl)
+
+-- each attribute of the declaration is one of these
+abbrev pub HasSpecsIn : Decls → Declaration → Type 0
+HasSpecsIn decls decl = All (λ spec. Contains (map spec_of decls.lists.nodes.items) spec) decl.attributes
 
 -- the number k itself, where there are more entries than k
 abbrev pub nth_of : List Entry → ℕ → Option ℕ

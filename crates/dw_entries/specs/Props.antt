@@ -11,7 +11,7 @@ use Rattle.dw_entries.specs.declared.header.UnitHeader.{UnitHeader}
 use Rattle.dw_entries.specs.declared.record.Record.{Record}
 use Rattle.dw_entries.specs.declared.record.UnitRecord.{UnitRecord}
 use Rattle.std.specs.List.{AllZip}
-use Rattle.dw_forms.specs.KeptDecls.{Numbered}
+use Rattle.dw_forms.specs.KeptDecls.{Tables}
 use Rattle.dw_entries.specs.Entries.{PlacedUnit}
 use Rattle.dw_entries.specs.Choices.{size_unique}
 use Rattle.dw_entries.specs.Grammar.{Context, Attribute, IsAttribute, AreAttributes, Head, IsHead}
@@ -77,22 +77,22 @@ Spells-prop a us info = hlevel (props, AreUnits-prop)
 records_set : IsSet (List Record)
 records_set = hlevel props
 
-IsKept-prop : (tables : List (List Numbered)) (r : UnitRecord) (p : PlacedUnit) → IsProp (IsKept tables r p)
+IsKept-prop : (tables : Tables) (r : UnitRecord) (p : PlacedUnit) → IsProp (IsKept tables r p)
 IsKept-prop tables r p = hlevel props
 
-AllKept-prop : (tables : List (List Numbered)) (rs : List UnitRecord) (ps : List PlacedUnit)
+AllKept-prop : (tables : Tables) (rs : List UnitRecord) (ps : List PlacedUnit)
     → IsProp (AllZip (IsKept tables) rs ps)
 AllKept-prop tables [] [] = hlevel props
 AllKept-prop tables [] (p ∷ ps) = hlevel props
 AllKept-prop tables (r ∷ rs) [] = hlevel props
 AllKept-prop tables (r ∷ rs) (p ∷ ps) = ×_prop (IsKept-prop tables r p) (AllKept-prop tables rs ps)
 
-Holds-prop : (a info : List ℕ) (tables : List (List Numbered)) (rs : List UnitRecord) (records : List Record)
+Holds-prop : (a info : List ℕ) (tables : Tables) (rs : List UnitRecord) (records : List Record)
     (us : List DebugUnit) → IsProp (Holds a info tables rs records us)
 Holds-prop a info tables rs records us = hlevel (props, Spells-prop, AllKept-prop, records_set)
 
 -- the units of a section, with what is kept of them
-pub scanned_unique : (a info : List ℕ) (tables : List (List Numbered)) (rs : List UnitRecord) (records : List Record)
+pub scanned_unique : (a info : List ℕ) (tables : Tables) (rs : List UnitRecord) (records : List Record)
     → IsProp (Scanned a info tables rs records)
 scanned_unique a info tables rs records p q =
     Σ_prop_path (Holds-prop a info tables rs records) (one_list a info p.0 q.0 p.1.spells q.1.spells)

@@ -3,9 +3,15 @@ use Rattle.std.specs.Prelude.{◌≡◌, ◌<◌, ℕ, zero, suc, List, [], ◌�
 use Rattle.std.specs.List.{AllZip}
 use Rattle.dw_entries.specs.declared.record.Record.{Record}
 use Rattle.dw_entries.specs.declared.record.UnitRecord.{UnitRecord}
-use Rattle.dw_forms.specs.KeptDecls.{Numbered, numbered_in, table_in, number_in}
+use Rattle.dw_forms.specs.Chains.{chain_in}
+use Rattle.dw_forms.specs.declared.decl.Decls.{Decls}
+use Rattle.dw_forms.specs.KeptDecls.{Tables, table_in, tables_of, number_in}
 use Rattle.dw_entries.specs.Units.{DebugUnit, Spells}
 use Rattle.dw_entries.specs.Entries.{Entry, entries_of, PlacedUnit, placed}
+
+-- the tables of these declarations
+abbrev pub tables_among : Decls → Tables
+tables_among decls = tables_of decls.lists.nodes.items decls.kept.items
 
 -- the number of the table of the unit of this number
 abbrev pub table_of : List UnitRecord → ℕ → ℕ
@@ -14,8 +20,8 @@ table_of (u ∷ us) zero = u.table
 table_of (u ∷ us) (suc n) = table_of us n
 
 -- the numbers of declarations, by units and codes
-abbrev pub numbers_of : List (List Numbered) → List UnitRecord → ℕ → ℕ → ℕ
-numbers_of tables units unit = number_in (numbered_in tables (table_of units unit))
+abbrev pub numbers_of : Tables → List UnitRecord → ℕ → ℕ → ℕ
+numbers_of tables units unit = number_in (chain_in tables (table_of units unit))
 
 -- what is kept of an entry: where it is, and the number of its declaration
 abbrev pub record_of : (ℕ → ℕ → ℕ) → Entry → Record
@@ -31,7 +37,7 @@ abbrev pub records_of : (ℕ → ℕ → ℕ) → List DebugUnit → List Record
 records_of numbers us = map (record_of numbers) (entries_of us)
 
 -- what is kept of a unit, among these tables: where it is, its header, the number of its table, and its first entry
-pub record IsKept (tables : List (List Numbered)) (r : UnitRecord) (p : PlacedUnit) : Type 0 where
+pub record IsKept (tables : Tables) (r : UnitRecord) (p : PlacedUnit) : Type 0 where
   pub at : r.at ≡ p.at
   pub header : r.header ≡ p.unit.header
   pub within : r.table < length tables
@@ -39,28 +45,28 @@ pub record IsKept (tables : List (List Numbered)) (r : UnitRecord) (p : PlacedUn
   pub first : r.first ≡ p.first
 
 -- the bytes spell these units, and what is kept of them and of their entries is theirs
-pub record Holds («abbrev» info : List ℕ) (tables : List (List Numbered)) (unit_records : List UnitRecord)
+pub record Holds («abbrev» info : List ℕ) (tables : Tables) (unit_records : List UnitRecord)
     (records : List Record) (units : List DebugUnit) : Type 0 where
   pub spells : Spells «abbrev» units info
   pub kept : AllZip (IsKept tables) unit_records (placed units)
   pub entries : records ≡ records_of (numbers_of tables unit_records) units
 
 -- the units of the sections, of which there is one list at most
-abbrev pub Scanned : List ℕ → List ℕ → List (List Numbered) → List UnitRecord → List Record → Type 0
+abbrev pub Scanned : List ℕ → List ℕ → Tables → List UnitRecord → List Record → Type 0
 Scanned «abbrev» info tables unit_records records = (units : List DebugUnit)
     × Holds «abbrev» info tables unit_records records units
 
 -- the units that a scan found
-abbrev pub units_of : {a : List ℕ} {info : List ℕ} {tables : List (List Numbered)} {unit_records : List UnitRecord}
+abbrev pub units_of : {a : List ℕ} {info : List ℕ} {tables : Tables} {unit_records : List UnitRecord}
     {records : List Record} → Scanned a info tables unit_records records → List DebugUnit
 units_of s = s.0
 
 -- the entries that a scan found, by rising offset
-abbrev pub all_entries : {a info : List ℕ} {tables : List (List Numbered)} {unit_records : List UnitRecord}
+abbrev pub all_entries : {a info : List ℕ} {tables : Tables} {unit_records : List UnitRecord}
     {records : List Record} → Scanned a info tables unit_records records → List Entry
 all_entries s = entries_of (units_of s)
 
 -- the units that a scan found, each with its place
-abbrev pub all_units : {a info : List ℕ} {tables : List (List Numbered)} {unit_records : List UnitRecord}
+abbrev pub all_units : {a info : List ℕ} {tables : Tables} {unit_records : List UnitRecord}
     {records : List Record} → Scanned a info tables unit_records records → List PlacedUnit
 all_units s = placed (units_of s)

@@ -3,11 +3,12 @@ use Rattle.std.specs.Prelude.{ℕ, Option, Some, None}
 use Rattle.dw_entries.specs.declared.reading.Declared.{Declared}
 use Rattle.dw_entries.specs.declared.reading.Token.{Token}
 use Rattle.dw_entries.specs.declared.reading.Token.TheVariants.{Null, Entry}
-use Rattle.dw_forms.specs.Abbrev.{Declaration, view}
+use Rattle.dw_forms.specs.Abbrev.{Declaration}
+use Rattle.dw_forms.specs.KeptDecls.{view}
 
 -- the number of a declaration, and the declaration
 abbrev pub declared_view : Declared → ℕ × Declaration
-declared_view d = (d.number, view d.decl.now)
+declared_view d = (d.number, view d.decl)
 
 -- the number and the declaration of an entry; none at a null
 abbrev pub token_decl : Token → Option (ℕ × Declaration)

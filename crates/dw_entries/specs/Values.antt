@@ -1,7 +1,11 @@
 -- State: the attributes of an entry that are still to be read.
-use Rattle.std.specs.Prelude.{◌≡◌, ℕ, List, [], ◌++◌}
+use Rattle.std.specs.Prelude.{◌≡◌, ℕ, List, [], ◌++◌, Option, option_map, slice_get}
 use Rattle.std.specs.List.{flat_map}
+use Rattle.dw_forms.specs.declared.attributes.Attributes.{Attributes}
 use Rattle.dw_forms.specs.declared.decl.AttributeSpec.{AttributeSpec}
+use Rattle.dw_forms.specs.declared.form.Form.{Form}
+use Rattle.dw_forms.specs.AttributeLists.{list_in}
+use Rattle.dw_forms.specs.Suffixes.{nodes_of}
 use Rattle.dw_entries.specs.Grammar.{Context, Attribute, attribute_bytes, AreAttributes}
 
 -- what values are read by in a unit of this version with addresses of this size: no table is needed
@@ -17,3 +21,7 @@ pub record Begin (x : Context) (specs : List AttributeSpec) (bytes : List ℕ) (
 -- the attributes at the front of the bytes, and the bytes behind them
 abbrev pub Left : Context → List AttributeSpec → List ℕ → Type 0
 Left x specs bytes = (found : List Attribute × List ℕ) × Begin x specs bytes found
+
+-- the form of the attribute of this number, among those that are kept
+abbrev pub form_there : Attributes → ℕ → Option Form
+form_there a number = option_map (λ (spec : AttributeSpec). spec.form) (slice_get (list_in (nodes_of a) number) 0)

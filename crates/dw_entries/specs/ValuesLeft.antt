@@ -1,6 +1,5 @@
 -- State: what an iterator over the attributes of an entry has left.
-use Rattle.std.specs.Prelude.{ℕ, List, drop, map}
-use Rattle.dw_forms.specs.declared.decl.AttributeSpec.{AttributeSpec}
+use Rattle.std.specs.Prelude.{ℕ, List, map}
 use Rattle.dw_forms.specs.declared.value.Value.{Value}
 use Rattle.dw_forms.specs.Value.{Datum, view}
 use Rattle.dw_entries.specs.declared.values.Values.{Values}
@@ -13,7 +12,3 @@ viewed item = (item.0, view item.1)
 -- the attributes that are left, each with its value
 abbrev pub values_left : Values → List (ℕ × Datum)
 values_left it = map value_of it.left.0.0
-
--- the specifications of the attributes that are left, one for each
-abbrev pub specs_left : Values → List AttributeSpec
-specs_left it = drop it.at it.attributes.now

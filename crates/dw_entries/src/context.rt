@@ -24,7 +24,8 @@ pub struct UnitContext<'a> {
 
 impl<'a> UnitContext<'a> {
     ghost use Rattle.std.specs.Prelude.{◌≡◌};
-    ghost use Rattle.dw_forms.specs.KeptDecls.{numbered_in, table_in, number_in};
+    ghost use Rattle.dw_forms.specs.Chains.{chain_in};
+    ghost use Rattle.dw_forms.specs.KeptDecls.{table_in, number_in};
     ghost use Rattle.dw_entries.specs.Units.{context_by, context_in, numbers_in};
 
     /// The context of a unit with this header and table.
@@ -33,7 +34,7 @@ impl<'a> UnitContext<'a> {
         requires searchable { AreSearchable tables.now }
         requires table { table < length (tables_in tables.now) }
         ensures context { context_in result ≡ context_by header.now (table_in (tables_in tables.now) table) }
-        ensures numbers { numbers_in result ≡ number_in (numbered_in (tables_in tables.now) table) }
+        ensures numbers { numbers_in result ≡ number_in (chain_in (tables_in tables.now) table) }
     {
         UnitContext {
             tables,

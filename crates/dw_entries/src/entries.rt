@@ -2,28 +2,27 @@
 
 ghost use Rattle.std.specs.Prelude.{◌≡◌, ◌+◌, ◌^◌, ◌<◌, ◌≤◌, List, length, IfOk, IfErr, OnOk};
 ghost use Rattle.std.specs.List.Sorted.{IsNonDecreasingBy, IsPartitionPoint};
-ghost use Rattle.dw_forms.specs.KeptDecls.{tables_of};
 ghost use Rattle.dw_entries.specs.Units.{DebugUnit, Spells};
 ghost use Rattle.dw_entries.specs.Faults.{Fails};
-ghost use Rattle.dw_entries.specs.Scanned.{all_entries, Scanned};
+ghost use Rattle.dw_entries.specs.Scanned.{all_entries, tables_among, Scanned};
 ghost use Rattle.dw_entries.specs.Stopped.{IfBroken, IfFault};
 ghost use Rattle.dw_entries.specs.Props.{scanned_unique};
 
 use crate::id::EntryId;
 use crate::record::{Record, UnitRecord};
 use dw_elf::Sections;
-use dw_forms::KeptDecl;
+use dw_forms::Decls;
 
 /// The entries of sections whose .debug_info is a row of units, numbered in rising offset.
 #[derive(Drop)]
 pub struct Entries<'a> {
     pub(crate) sections: Sections<'a>,
-    pub(crate) decls: Vec<KeptDecl>,
+    pub(crate) decls: Decls,
     pub(crate) units: Vec<UnitRecord>,
     pub(crate) records: Vec<Record>,
-    pub ghost scanned: { Scanned sections.«abbrev».now sections.info.now (tables_of decls.items) units.items
+    pub ghost scanned: { Scanned sections.«abbrev».now sections.info.now (tables_among decls) units.items
         records.items } by { scanned_unique sections.«abbrev».now sections.info.now
-            (tables_of decls.items) units.items records.items },
+            (tables_among decls) units.items records.items },
 }
 
 /// The number of the first record that starts at an offset or after it.

@@ -2,9 +2,9 @@
 
 ghost use Rattle.std.specs.Prelude.{◌≡◌, ◌<◌, ◌++◌, ℕ, List, false, Some, Option, length, slice_get, IfSome};
 ghost use Rattle.std.specs.Prelude.{option_map};
-ghost use Rattle.std.specs.Bool.{OnFalse};
 ghost use Rattle.std.specs.List.{flat_map};
-ghost use Rattle.dw_forms.specs.Abbrev.{view as decl_view};
+ghost use Rattle.dw_forms.specs.KeptDecls.{view as decl_view};
+ghost use Rattle.dw_forms.specs.Suffixes.{specs_in, numbered};
 ghost use Rattle.dw_forms.specs.Codes.{is_type_tag};
 ghost use Rattle.dw_forms.specs.Value.{text, view};
 ghost use Rattle.dw_entries.specs.Cursors.{IsUnitAt};
@@ -14,7 +14,7 @@ ghost use Rattle.dw_entries.specs.Scanned.{all_entries, units_of};
 ghost use Rattle.dw_entries.specs.Asked.{values_of};
 ghost use Rattle.dw_entries.specs.ValuesLeft.{values_left};
 ghost use Rattle.dw_entries.specs.Leading.{leading_left};
-ghost use Rattle.dw_entries.specs.Lookups.{IsTextAt, declares, entry_head, value_at_entry};
+ghost use Rattle.dw_entries.specs.Lookups.{IsTextAt, entry_head, value_at_entry};
 
 use crate::cursor::{UnitAt, unit_at};
 use crate::entries::Entries;
@@ -25,17 +25,8 @@ use crate::lookup::EntryHead;
 use crate::reading::read_code;
 use crate::record::Record;
 use crate::values::Values;
-use dw_forms::{Attribute, Decl, Tag, Value};
+use dw_forms::{Attribute, Attributes, Decl, Tag, Value};
 use std::marker::Model;
-
-/// Whether entries with this declaration may have an attribute. False says that none has it.
-#[inline(always)]
-#[tactic(auto, using(crate::proofs::LeftLaws::declares_none))]
-fn may_have(decl: &Decl, attribute: Attribute) -> bool
-    ensures { OnFalse result (declares decl.now.attributes attribute ≡ false) }
-{
-    decl.may_have(attribute)
-}
 
 #[inline(always)]
 fn id_of(optional: OptionalId) -> Option<EntryId>
@@ -53,7 +44,7 @@ pub struct EntryAt<'e, 'a> {
     entries: &'e Entries<'a>,
     id: EntryId,
     kept: Record,
-    decl: &'e Decl,
+    decl: Decl<'e>,
     /// The number of its unit.
     unit: u32,
     header: UnitHeader,
@@ -67,7 +58,7 @@ impl<'e, 'a> Model for EntryAt<'e, 'a> {
     ghost invariant = { λ it. (it.id < length (all_entries it.entries.now.scanned))
         × (slice_get it.entries.now.records.items it.id ≡ Some it.kept)
         × IfSome (slice_get (all_entries it.entries.now.scanned) it.id)
-        (λ e. decl_view it.decl.now ≡ e.head.decl)
+        (λ e. decl_view it.decl ≡ e.head.decl)
         × IfSome (slice_get (all_entries it.entries.now.scanned) it.id)
         (λ e. IfSome (slice_get (units_of it.entries.now.scanned) e.unit) (λ u. it.header ≡ u.header))
         × IfSome (slice_get (all_entries it.entries.now.scanned) it.id) (λ e. it.unit ≡ e.unit) };
@@ -116,7 +107,7 @@ impl<'e, 'a> EntryAt<'e, 'a> {
             entries,
             id,
             kept,
-            decl: &entries.decls[(kept.decl - 1) as usize].decl,
+            decl: entries.decls.decl(kept.decl),
             unit: unit.number,
             header: unit.record.header,
         }
@@ -135,7 +126,7 @@ impl<'e, 'a> EntryAt<'e, 'a> {
     pub fn tag(&self) -> Tag
         ensures { IfSome self.now (λ e. result ≡ e.head.decl.tag) }
     {
-        self.decl.tag
+        self.decl.tag()
     }
 
     /// Whether it is a type, as `Tag::is_type` says.
@@ -164,8 +155,8 @@ impl<'e, 'a> EntryAt<'e, 'a> {
 
     /// Its declaration.
     #[inline(always)]
-    pub(crate) fn decl(&self) -> &'e Decl
-        ensures { IfSome self.now (λ e. decl_view result.now ≡ e.head.decl) }
+    pub(crate) fn decl(&self) -> Decl<'e>
+        ensures { IfSome self.now (λ e. decl_view result ≡ e.head.decl) }
     {
         self.decl
     }
@@ -177,7 +168,7 @@ impl<'e, 'a> EntryAt<'e, 'a> {
     {
         EntryHead {
             offset: self.kept.at,
-            tag: self.decl.tag,
+            tag: self.decl.tag(),
             unit: self.unit as usize,
             parent: id_of(self.kept.parent),
             next_sibling: id_of(self.kept.next),
@@ -197,15 +188,15 @@ impl<'e, 'a> EntryAt<'e, 'a> {
         }
     }
 
-    /// All its attributes.
+    /// These attributes, which are all that its declaration has.
     #[inline(always)]
-    fn all_values(&self) -> Values<'e, 'a>
+    fn values_in(&self, attributes: Attributes<'e>) -> Values<'e, 'a>
+        requires { IfSome self.now (λ e. specs_in attributes ≡ e.head.decl.attributes) }
         ensures left { IfSome self.now (λ e. values_left result ≡ values_of e.head) }
-        ensures first { result.at ≡ 0 }
+        ensures attributes { numbered result.attributes ≡ numbered attributes.entry }
     {
         Values {
-            attributes: &self.decl.attributes,
-            at: 0,
+            attributes,
             bytes: self.value_bytes(),
             version: self.header.kind.version(),
             address_size: self.header.address_size,
@@ -217,7 +208,7 @@ impl<'e, 'a> EntryAt<'e, 'a> {
     pub fn values(&self) -> Values<'e, 'a>
         ensures { IfSome self.now (λ e. values_left result ≡ values_of e.head) }
     {
-        self.all_values()
+        self.values_in(self.decl.attributes())
     }
 
     /// Its attributes whose values may lead elsewhere, in their order, each value decoded when it is asked.
@@ -225,12 +216,9 @@ impl<'e, 'a> EntryAt<'e, 'a> {
     pub fn leading(&self) -> Leading<'e, 'a>
         ensures { IfSome self.now (λ e. leading_left result ≡ values_of e.head) }
     {
-        let values = self.all_values();
-        let steps = values.attributes.steps();
         Leading {
-            values,
-            steps,
-            made: 0,
+            values: self.values_in(self.decl.attributes()),
+            step: self.decl.step(),
         }
     }
 
@@ -239,16 +227,13 @@ impl<'e, 'a> EntryAt<'e, 'a> {
     pub fn value(&self, attribute: Attribute) -> Option<Value<'a>>
         ensures { IfSome self.now (λ e. option_map view result ≡ value_at_entry e attribute) }
     {
-        if !may_have(self.decl, attribute) {
+        let attributes = self.decl.attributes();
+        if attributes.lacks(attribute) {
             return None;
         }
         let version = self.header.kind.version();
         let bytes = self.value_bytes();
-        match self
-            .decl
-            .attributes
-            .value(version, self.header.address_size, attribute, bytes)
-        {
+        match attributes.value(version, self.header.address_size, attribute, bytes) {
             Ok(value) => value,
             Err(_) => unreachable!(),
         }
@@ -265,13 +250,12 @@ impl<'e, 'a> EntryAt<'e, 'a> {
         let Ok((_, values)) = read_code(entry) else {
             unreachable!();
         };
-        let attributes = &self.decl.attributes;
-        let Some(place) = attributes.place(attribute) else {
+        let attributes = self.decl.attributes();
+        let Some((_, rest)) = attributes.find(attribute).split_first() else {
             unreachable!();
         };
-        let passed = &attributes.as_slice()[..=place];
         let version = self.header.kind.version();
-        match attributes.pass(version, self.header.address_size, 0, passed.len(), values) {
+        match attributes.pass(version, self.header.address_size, rest, values) {
             Ok(after) => entry.len() - after.len() - 1 - bytes.len(),
             Err(_) => unreachable!(),
         }

@@ -1,7 +1,8 @@
 //! The attributes of an entry whose values may lead elsewhere, each value decoded when it is asked.
 
-ghost use Rattle.std.specs.Prelude.{◌≡◌, Some, drop, IfNone};
-ghost use Rattle.dw_forms.specs.Walks.{steps_from};
+ghost use Rattle.std.specs.Prelude.{◌≡◌, Some, IfNone};
+ghost use Rattle.dw_forms.specs.Suffixes.{numbered};
+ghost use Rattle.dw_forms.specs.Walks.{IsStep};
 
 use crate::values::Values;
 use dw_forms::{Attribute, Form, Step, Value};
@@ -11,10 +12,9 @@ use dw_forms::{Attribute, Form, Step, Value};
 #[derive(Drop)]
 pub struct Leading<'e, 'a> {
     pub(crate) values: Values<'e, 'a>,
-    pub(crate) steps: &'e [Step],
-    /// How many steps were made.
-    pub(crate) made: usize,
-    pub ghost stepped: { steps_from values.at (drop values.at values.attributes.now) ≡ drop made steps.now },
+    /// The step to the next attribute.
+    pub(crate) step: Step,
+    pub ghost steps: { IsStep (numbered values.attributes) step },
 }
 
 impl<'a> Leading<'_, 'a> {
@@ -28,11 +28,10 @@ impl<'a> Leading<'_, 'a> {
         ensures form { result ≡ next_form self.now }
         ensures none { IfNone result (ArePassed DoesNotLead (leading_left self.now)) }
     {
-        if self.made >= self.steps.len() {
-            return None;
+        match self.values.attributes.stepped(self.step).split_first() {
+            Some((spec, _)) => Some(spec.form),
+            None => None,
         }
-        let step = self.steps[self.made];
-        Some(step.spec.form)
     }
 
     /// The next attribute, whose form is this one. Values before it are skipped.
@@ -41,9 +40,8 @@ impl<'a> Leading<'_, 'a> {
         requires { next_form self.old ≡ Some form }
         ensures { IsNextOf DoesNotLead (leading_left self.old) (viewed result) (leading_left self.new) }
     {
-        let step = self.steps[self.made];
-        let item = self.values.step_to(step, form);
-        self.made += 1;
+        let (item, next) = self.values.step_to(self.step, form);
+        self.step = next;
         item
     }
 }

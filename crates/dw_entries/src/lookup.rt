@@ -1,20 +1,21 @@
 //! What is told of entries and units.
 
 ghost use Rattle.std.specs.Prelude.{◌≡◌, ◌<◌, ℕ, Some, length, slice_get, IfSome, option_map};
-ghost use Rattle.dw_forms.specs.Abbrev.{view as decl_view};
+ghost use Rattle.dw_forms.specs.KeptDecls.{view as decl_view};
 ghost use Rattle.dw_forms.specs.Value.{text, view};
 ghost use Rattle.dw_entries.specs.Entries.{Entry};
 ghost use Rattle.dw_entries.specs.Scanned.{all_entries, all_units, units_of};
 ghost use Rattle.dw_entries.specs.Asked.{values_of};
 ghost use Rattle.dw_entries.specs.ValuesLeft.{values_left};
-ghost use Rattle.dw_entries.specs.Lookups.{IsKeptIn, IsTextAt, nth_of, full_head, unit_head, value_at_entry};
+ghost use Rattle.dw_entries.specs.Lookups.{IsKeptIn, HasSpecsIn, IsTextAt, nth_of, full_head, unit_head};
+ghost use Rattle.dw_entries.specs.Lookups.{value_at_entry};
 ghost use Rattle.dw_entries.specs.Views.{sections_of};
 
 use crate::entries::Entries;
 use crate::header::{UnitHeader, UnitType};
 use crate::id::EntryId;
 use crate::values::Values;
-use dw_forms::{Attribute, Decl, KeptDecl, Tag, Value};
+use dw_forms::{Attribute, Decl, Decls, Tag, Value};
 
 /// An entry without its attributes.
 #[derive(Clone, Copy, Debug, PartialEq, Eq)]
@@ -55,22 +56,23 @@ pub struct UnitHead {
 
 impl<'a> Entries<'a> {
     /// The declarations of the units' abbreviation tables, each once.
-    pub fn decls(&self) -> &[KeptDecl]
-        ensures { (id : ℕ) (e : Entry) → slice_get (all_entries self.now.scanned) id ≡ Some e
+    pub fn decls(&self) -> &Decls
+        ensures kept { (id : ℕ) (e : Entry) → slice_get (all_entries self.now.scanned) id ≡ Some e
             → IsKeptIn result.now e.head.decl }
+        ensures specs { (id : ℕ) (e : Entry) → slice_get (all_entries self.now.scanned) id ≡ Some e
+            → HasSpecsIn result.now e.head.decl }
     {
         &self.decls
     }
 
     /// The declaration of an entry. Its unit is not looked up.
-    pub fn decl(&self, id: EntryId) -> &Decl
+    pub fn decl(&self, id: EntryId) -> Decl<'_>
         requires { id < length (all_entries self.now.scanned) }
         ensures { IfSome (slice_get (all_entries self.now.scanned) id)
-            (λ e. decl_view result.now ≡ e.head.decl) }
+            (λ e. decl_view result ≡ e.head.decl) }
     {
         let kept = self.record(id);
-        let declared = &self.decls[(kept.decl - 1) as usize];
-        &declared.decl
+        self.decls.decl(kept.decl)
     }
 
     /// The tag of an entry, as its declaration says it. Its unit is not looked up.
@@ -78,7 +80,7 @@ impl<'a> Entries<'a> {
         requires { id < length (all_entries self.now.scanned) }
         ensures { IfSome (slice_get (all_entries self.now.scanned) id) (λ e. result ≡ e.head.decl.tag) }
     {
-        self.decl(id).tag
+        self.decl(id).tag()
     }
 
     /// The offset of an entry in .debug_info, in bytes. Its unit is not looked up.
@@ -140,7 +142,7 @@ impl<'a> Entries<'a> {
         UnitHead {
             offset: unit.at,
             header: unit.header,
-            unit_type: unit.header.kind.unit_type(self.decl(first).tag),
+            unit_type: unit.header.kind.unit_type(self.decl(first).tag()),
             first,
         }
     }

@@ -1,7 +1,8 @@
 //! One item of a unit, read from the left.
 
 ghost use Rattle.std.specs.Prelude.{◌≡◌, Some, option_map, IfSome};
-ghost use Rattle.dw_forms.specs.Abbrev.{view};
+ghost use Rattle.dw_forms.specs.KeptDecls.{view};
+ghost use Rattle.dw_forms.specs.Suffixes.{specs_in};
 ghost use Rattle.dw_entries.specs.Grammar.{declared_in};
 ghost use Rattle.dw_entries.specs.Items.{numbered_decl};
 ghost use Rattle.dw_entries.specs.Reading.{seen, after, code_at, value_rule as rule_of_value, attribute_at};
@@ -14,13 +15,15 @@ use crate::context::UnitContext;
 use crate::fault::Failing;
 use crate::header::HeaderKind;
 use crate::rule::Rule;
-use dw_forms::{Attribute, AttributeSpec, Decl, NumberFault, ValueFault, read_uleb, skip_value};
+use dw_forms::{
+    Attribute, AttributeSpec, Attributes, Decl, NumberFault, ValueFault, read_uleb, skip_value,
+};
 
 /// A declaration, and its number.
 #[derive(Clone, Copy)]
 pub struct Declared<'a> {
     pub number: u32,
-    pub decl: &'a Decl,
+    pub decl: Decl<'a>,
 }
 
 /// An item: a null, or an entry of this declaration.
@@ -101,15 +104,17 @@ fn skip_attribute<'b>(
 /// The bytes behind the values of these attributes, one after another.
 fn skip_each<'b>(
     context: UnitContext<'_>,
-    specs: &[AttributeSpec],
+    attributes: Attributes<'_>,
     bytes: &'b [u8],
 ) -> Result<&'b [u8], Failing>
     ensures { Gives (λ rest. rest.now) result
-        (after (attributes_at (context_in context.entry) specs.now bytes.now)) }
+        (after (attributes_at (context_in context.entry) (specs_in attributes.entry) bytes.now)) }
 {
     let mut rest = bytes;
-    for spec in specs {
-        rest = skip_attribute(context, *spec, rest)?;
+    let mut left = attributes;
+    while let Some((spec, after)) = left.split_first() {
+        rest = skip_attribute(context, spec, rest)?;
+        left = after;
     }
     Ok(rest)
 }
@@ -119,29 +124,30 @@ fn skip_each<'b>(
 #[inline(always)]
 fn skip_attributes<'b>(
     context: UnitContext<'_>,
-    decl: &Decl,
+    decl: Decl<'_>,
     bytes: &'b [u8],
 ) -> Result<&'b [u8], Failing>
     ensures { Gives (λ rest. rest.now) result
-        (after (attributes_at (context_in context.entry) decl.now.attributes bytes.now)) }
+        (after (attributes_at (context_in context.entry) (view decl.entry).attributes bytes.now)) }
 {
     let version = context.version;
-    let specs = decl.attributes.as_slice();
     if decl.allows(version) {
-        let size = context.address_size;
-        if let Ok(rest) = decl.attributes.pass(version, size, 0, specs.len(), bytes) {
+        if let Ok(rest) = decl
+            .attributes()
+            .pass_all(version, context.address_size, bytes)
+        {
             return Ok(rest);
         }
     }
-    skip_each(context, specs, bytes)
+    skip_each(context, decl.attributes(), bytes)
 }
 
 /// The declaration with this code.
 #[inline(always)]
 #[tactic(auto, unfolding(crate::specs::Grammar::declared_in))]
 fn find_decl(context: UnitContext<'_>, code: u64) -> Option<Declared<'_>>
-    ensures decl { option_map (λ d. view d.decl.now) result ≡ declared_in (context_in context.entry).table code }
-    ensures number { IfSome result (λ d. d.number ≡ numbers_in context.entry (view d.decl.now).code) }
+    ensures decl { option_map (λ d. view d.decl) result ≡ declared_in (context_in context.entry).table code }
+    ensures number { IfSome result (λ d. d.number ≡ numbers_in context.entry (view d.decl).code) }
 {
     match context.tables.get(context.table, code) {
         None => None,
@@ -202,7 +208,7 @@ pub fn read_first<'a, 'b>(
             attribute: 0,
         }),
         Some(declared) => {
-            if !kind.fits(declared.decl.tag) {
+            if !kind.fits(declared.decl.tag()) {
                 return Err(Failing {
                     rule: Rule::WrongUnitTag,
                     attribute: 0,

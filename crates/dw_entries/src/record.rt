@@ -92,7 +92,7 @@ pub fn enter(
         parent,
         next: OptionalId::none(),
     })?;
-    if declared.decl.has_children {
+    if declared.decl.has_children() {
         levels.push(Level {
             parent: OptionalId::some(id),
             last: OptionalId::none(),

@@ -2,7 +2,7 @@
 
 ghost use Rattle.std.specs.Prelude.{◌≡◌, ◌≤◌, List, length, IfOk, IfErr};
 ghost use Rattle.dw_elf.specs.declared.TheConstants.{SECTION_LIMIT};
-ghost use Rattle.dw_forms.specs.AbbrevTables.{tables_in};
+ghost use Rattle.dw_forms.specs.AbbrevTables.{tables_in, AreSearchable};
 ghost use Rattle.dw_entries.specs.Faults.{Fails};
 ghost use Rattle.dw_entries.specs.Scanned.{Scanned};
 ghost use Rattle.dw_entries.specs.Scanned.{units_of};
@@ -24,14 +24,11 @@ fn scan_units(alloc: Global, section: &[u8], info: &[u8]) -> Result<Kept, Break>
     requires info_fits { length info.now ≤ SECTION_LIMIT }
     ensures all { IfOk result
         (λ kept. Scanned section.now info.now (tables_in kept.tables) kept.units.items kept.records.items) }
+    ensures searchable { IfOk result (λ kept. AreSearchable kept.tables) }
     ensures fault { IfErr result (IfBroken (Fails section.now info.now)) }
 {
-    let tables = match AbbrevTables::new(alloc) {
-        Ok(tables) => tables,
-        Err(_) => return Err(Break::Memory),
-    };
     let mut kept = Kept {
-        tables,
+        tables: AbbrevTables::new(alloc),
         units: Vec::new(alloc),
         records: Vec::new(alloc),
     };
@@ -59,7 +56,7 @@ pub fn scan<'a>(alloc: Global, sections: &Sections<'a>) -> Result<Entries<'a>, S
     };
     Ok(Entries {
         sections: *sections,
-        decls: kept.tables.into_kept(),
+        decls: kept.tables.into_decls(),
         units: kept.units,
         records: kept.records,
     })

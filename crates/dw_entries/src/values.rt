@@ -1,13 +1,14 @@
 //! The attributes of an entry, each value decoded when it is asked.
 
-ghost use Rattle.std.specs.Prelude.{◌≡◌, ◌≤◌, ◌+◌, ◌-◌, ◌∷◌, List, length, drop, IfSome, IfNone};
+ghost use Rattle.std.specs.Prelude.{◌≡◌, List, Some, drop, length, IfSome, IfNone};
 ghost use Rattle.std.specs.Bool.{OnFalse};
-ghost use Rattle.dw_entries.specs.Chosen.{OthersPass, Unasked, IsNextAsked};
+ghost use Rattle.dw_entries.specs.Chosen.{OthersPass, AreUnasked, IsNextAsked};
 ghost use Rattle.dw_forms.specs.declared.decl.AttributeSpec.{AttributeSpec as SpecData};
-ghost use Rattle.dw_forms.specs.declared.steps.Step.{Step as StepData};
-ghost use Rattle.dw_forms.specs.Walks.{steps_from};
+ghost use Rattle.dw_forms.specs.Chains.{Numbered};
+ghost use Rattle.dw_forms.specs.Suffixes.{numbered, specs_in, Ends};
+ghost use Rattle.dw_forms.specs.Walks.{IsStep};
 ghost use Rattle.dw_entries.specs.Header.{IsSize};
-ghost use Rattle.dw_entries.specs.Values.{value_context, Left};
+ghost use Rattle.dw_entries.specs.Values.{value_context, Left, form_there};
 ghost use Rattle.dw_entries.specs.Choices.{size_unique};
 ghost use Rattle.dw_entries.specs.ValueLaws.{left_unique};
 
@@ -16,16 +17,13 @@ use dw_forms::{Attribute, AttributeSpec, Attributes, Form, Step, Value, read_val
 /// The attributes of an entry that are left, in their order. Its values lie in .debug_info.
 #[derive(Drop)]
 pub struct Values<'e, 'a> {
-    pub(crate) attributes: &'e Attributes,
-    /// The place of the first that is left.
-    pub(crate) at: usize,
+    pub(crate) attributes: Attributes<'e>,
     pub(crate) bytes: &'a [u8],
     pub(crate) version: u16,
     pub(crate) address_size: u8,
-    pub ghost within: { at ≤ length attributes.now },
     pub ghost sized: { IsSize address_size } by { size_unique address_size },
-    pub ghost left: { Left (value_context version address_size) (drop at attributes.now)
-        bytes.now } by { left_unique (value_context version address_size) (drop at attributes.now) bytes.now },
+    pub ghost left: { Left (value_context version address_size) (specs_in attributes)
+        bytes.now } by { left_unique (value_context version address_size) (specs_in attributes) bytes.now },
 }
 
 /// Which attributes are asked for, by how they are declared.
@@ -42,59 +40,60 @@ pub trait Choice {
         ensures { OthersPass (passes self.now) };
 }
 
-/// The place of the next attribute that is asked for, from a place on. Only attributes at which a search stops are
-/// looked at.
+/// The attributes from the next one on that is asked for. Only attributes at which a search stops are looked at.
 #[inline(always)]
-fn next_asked<C: Choice>(choice: &C, attributes: &Attributes, from: usize) -> Option<usize>
-    requires { from ≤ length attributes.now }
-    ensures found { IfSome result (IsNextAsked (C.passes choice.now) attributes.now from) }
-    ensures none { IfNone result (Unasked (C.passes choice.now) attributes.now from (length attributes.now)) }
+fn next_asked<'e, C: Choice>(choice: &C, attributes: Attributes<'e>) -> Option<Attributes<'e>>
+    ensures found { IfSome result (IsNextAsked (C.passes choice.now) attributes.entry) }
+    ensures none { IfNone result (AreUnasked (C.passes choice.now) (specs_in attributes.entry)) }
 {
     choice.keeps_to_stops();
-    let specs = attributes.as_slice();
-    let mut place = attributes.next_stop(from);
-    while place < specs.len() {
-        if choice.asks(&specs[place]) {
-            return Some(place);
+    let mut left = attributes.next_stop();
+    while let Some((spec, after)) = left.split_first() {
+        if choice.asks(&spec) {
+            return Some(left);
         }
-        place = attributes.next_stop(place + 1);
+        left = after.next_stop();
     }
     None
 }
 
-impl<'a> Values<'_, 'a> {
-    ghost use Rattle.dw_entries.specs.ValuesLeft.{viewed, values_left, specs_left};
+impl<'e, 'a> Values<'e, 'a> {
+    ghost use Rattle.dw_entries.specs.ValuesLeft.{viewed, values_left};
     ghost use Rattle.dw_entries.specs.Leading.{DoesNotLead};
     ghost use Rattle.dw_entries.specs.Chosen.{ArePassed, IsNextOf};
 
-    /// Passes the attributes up to this place.
+    /// Passes the attributes up to these.
     #[inline(always)]
-    fn pass(&mut self, to: usize)
-        requires on { self.old.at ≤ to }
-        requires within { to ≤ length self.old.attributes.now }
-        ensures { values_left self.new ≡ drop (to - self.old.at) (values_left self.old) }
+    fn pass(&mut self, to: Attributes<'e>)
+        requires { (before : List (Numbered SpecData)) × Ends self.old.attributes to before }
+        ensures { (before : List (Numbered SpecData)) → Ends self.old.attributes to.entry before
+            → values_left self.new ≡ drop (length before) (values_left self.old) }
     {
         match self
             .attributes
-            .pass(self.version, self.address_size, self.at, to, self.bytes)
+            .pass(self.version, self.address_size, to, self.bytes)
         {
             Ok(bytes) => {
-                self.at = to;
+                self.attributes = to;
                 self.bytes = bytes;
             }
             Err(_) => unreachable!(),
         }
     }
 
-    /// The attribute that a step goes to, whose form is this one. Values before it are skipped.
+    /// The attribute that a step goes to, whose form is this one, and the step from those after it. Values before it
+    /// are skipped.
     #[inline(always)]
-    pub(crate) fn step_to(&mut self, step: Step, form: Form) -> (Attribute, Value<'a>)
-        requires step { (others : List StepData) × (steps_from self.old.at (specs_left self.old) ≡ step ∷ others) }
-        requires form { step.spec.form ≡ form }
-        ensures found { IsNextOf DoesNotLead (values_left self.old) (viewed result) (values_left self.new) }
-        ensures at { self.new.at ≡ step.place + 1 }
-        ensures attributes { self.new.attributes.now ≡ self.old.attributes.now }
+    pub(crate) fn step_to(&mut self, step: Step, form: Form) -> ((Attribute, Value<'a>), Step)
+        requires step { IsStep (numbered self.old.attributes) step }
+        requires form { form_there self.old.attributes step.to ≡ Some form }
+        ensures found { IsNextOf DoesNotLead (values_left self.old) (viewed result.0) (values_left self.new) }
+        ensures step { IsStep (numbered self.new.attributes) result.1 }
     {
+        let there = self.attributes.stepped(step);
+        let Some((spec, rest, next)) = there.split_step() else {
+            unreachable!();
+        };
         let skip = if self.address_size == 8 {
             step.skip_with_8
         } else {
@@ -103,9 +102,9 @@ impl<'a> Values<'_, 'a> {
         let bytes = &self.bytes[skip as usize..];
         match read_value(self.version, form, self.address_size, bytes) {
             Ok((value, len)) => {
-                self.at = step.place as usize + 1;
+                self.attributes = rest;
                 self.bytes = &bytes[len..];
-                (step.spec.attribute, value)
+                ((spec.attribute, value), next)
             }
             Err(_) => unreachable!(),
         }
@@ -119,9 +118,9 @@ impl<'a> Values<'_, 'a> {
             (λ found. IsNextOf (C.passes choice.now) (values_left self.old) (viewed found) (values_left self.new)) }
         ensures none { IfNone result (ArePassed (C.passes choice.now) (values_left self.old)) }
     {
-        match next_asked(choice, self.attributes, self.at) {
-            Some(place) => {
-                self.pass(place);
+        match next_asked(choice, self.attributes) {
+            Some(asked) => {
+                self.pass(asked);
                 self.next()
             }
             None => None,
@@ -141,14 +140,12 @@ impl<'e, 'a> Iterator for Values<'e, 'a> {
 
     #[inline(always)]
     fn next(&mut self) -> Option<(Attribute, Value<'a>)> {
-        let specs = self.attributes.as_slice();
-        if self.at >= specs.len() {
+        let Some((spec, after)) = self.attributes.split_first() else {
             return None;
-        }
-        let spec = specs[self.at];
+        };
         match read_value(self.version, spec.form, self.address_size, self.bytes) {
             Ok((value, len)) => {
-                self.at += 1;
+                self.attributes = after;
                 self.bytes = &self.bytes[len..];
                 Some((spec.attribute, value))
             }

@@ -28,7 +28,7 @@ spec_some text s p =
     let n = uleb_some p.is_pair.first s.attribute p.is_pair.is_first in
     omega (arith, ap length p.parts, length-append p.pair p.constant, ap length p.is_pair.parts, length-append p.is_pair.first p.is_pair.second)
 
-none_allowed : AreAttributes []
+pub none_allowed : AreAttributes []
 none_allowed = record { each = All-nil (λ s. IsCode16 s.attribute); distinct = λ i j d lt long. absurd (omega arith) }
 
 push_allowed : (earlier : List AttributeSpec) (text : List ℕ) (s : AttributeSpec) → AreAttributes earlier → NextAttribute earlier text (Some s) → AreAttributes (earlier ++ s ∷ [])

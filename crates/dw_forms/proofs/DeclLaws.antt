@@ -1,6 +1,7 @@
 -- The next declaration of a table is read as it is spelled, and no other way.
 use Rattle.std.proofs.Common.{◌≡◌, ℕ, zero, suc, ◌<◌, Bool, true, false, cond, eqb, ltb, List, [], ◌∷◌, ◌++◌, Option, Some, None, Result, Ok, Err, refl, sym, ap, subst, ◌∙◌, inl, inr, append_assoc, arith}
 use Rattle.std.specs.Prelude.{MatchResult, ◌⊎◌, ◌||◌}
+use Rattle.std.proofs.lemmas.Result.{MatchResult-at_ok}
 use Rattle.std.proofs.lemmas.Bool.{ltb-false, eqb-true, eqb-false, ne_eqb, le-ltb, or_parts}
 use Rattle.dw_forms.specs.declared.decl.AttributeSpec.{AttributeSpec}
 use Rattle.dw_forms.specs.declared.abbrev_fault.DeclFault.{DeclFault}
@@ -9,8 +10,9 @@ use Rattle.dw_forms.specs.Steps.{◌>>=◌}
 use Rattle.dw_forms.specs.Front.{Takes}
 use Rattle.dw_forms.specs.Leb.{Uleb}
 use Rattle.dw_forms.specs.Abbrev.{Declaration, SpellsPair, SpellsDecl, children_byte, IsCode16, IsDeclaration, IsNewCode, broken, NumberFails, AttributesFail, DeclFails, code_number, code_twice, tag_number, bad_tag, children_cut, bad_children, attributes_fail}
-use Rattle.dw_forms.specs.AbbrevReading.{unsigned_at, children_at, attributes_of, has_code, decl_at}
+use Rattle.dw_forms.specs.AbbrevReading.{unsigned_at, children_at, attributes_of, has_code, tagged_at, decl_at}
 use Rattle.dw_forms.specs.Says.{bind_says, cond_says}
+use Rattle.dw_forms.specs.Readers.{takes}
 use Rattle.dw_forms.proofs.Keys.{Lacks, lacks_from, lacks_test, any_from}
 use Rattle.dw_forms.proofs.AttributeLaws.{number_reader, pair_takes}
 use Rattle.dw_forms.proofs.AttributesLaws.{SpellsAll, attributes_say, attributes_again}
@@ -141,3 +143,30 @@ module _ (earlier : List Declaration) (rest : List ℕ) where
       let once : has_code d.code earlier ≡ false = lacks_test code_of_decl d.code earlier lacks in
       let last : attributes_of (p.attributes ++ rest) ≡ Ok (d.attributes, rest) = attributes_again p.attributes rest d.attributes (record { spelled = p.are_attributes; allowed = good.attributes }) in
       rw (first, code_some, once, second, tag_some, tag_small, children_again d.has_children (p.attributes ++ rest), last) refl
+
+-- ---- the bytes after a code, and after a tag and the byte of the children
+
+-- the bytes end with these
+abbrev pub EndsIn : List ℕ → List ℕ → Type 0
+EndsIn bytes rest = (text : List ℕ) × (bytes ≡ text ++ rest)
+
+pub number_ends : (bytes : List ℕ) (number : ℕ) (rest : List ℕ) → unsigned_at bytes ≡ Ok (number, rest) → EndsIn bytes rest
+number_ends bytes number rest e = let t = takes unsigned_at Uleb NumberFails number_reader bytes number rest e in (t.text, t.parts)
+
+tagged_says : (bytes : List ℕ) → MatchResult (tagged_at bytes) (λ (x : ℕ × Bool × List ℕ). EndsIn bytes x.2) (λ (fault : DeclFault). Unit {0})
+unfolding tagged_at
+tagged_says bytes =
+    bind_says (unsigned_at bytes) (λ tag. cond (eqb tag.0 0 || ltb 65535 tag.0) (Err (broken BadTag 0)) (children_at tag.1 >>= λ children. Ok (tag.0, children.0, children.1)))
+    (λ (x : ℕ × List ℕ). Takes Uleb bytes x.0 x.1) (NumberFails bytes) (λ (x : ℕ × Bool × List ℕ). EndsIn bytes x.2) (λ (fault : DeclFault). Unit {0})
+    (number_reader.says bytes)
+    (λ tag t. cond_says (eqb tag.0 0 || ltb 65535 tag.0) _ _ (λ (x : ℕ × Bool × List ℕ). EndsIn bytes x.2) (λ (fault : DeclFault). Unit {0})
+    (λ wrong. tt)
+    (λ right. bind_says (children_at tag.1) (λ children. Ok (tag.0, children.0, children.1))
+    (λ (x : Bool × List ℕ). tag.1 ≡ children_byte x.0 ∷ x.1) (ChildrenFails tag.1) (λ (x : ℕ × Bool × List ℕ). EndsIn bytes x.2) (λ (fault : DeclFault). Unit {0})
+    (children_says tag.1)
+    (λ children e. (t.text ++ children_byte children.0 ∷ [], t.parts ∙ ap (λ (r : List ℕ). t.text ++ r) e ∙ sym (append_assoc t.text (children_byte children.0 ∷ []) children.1)))
+    (λ fault h. tt)))
+    (λ fault h. tt)
+
+pub tag_ends : (bytes : List ℕ) (tag : ℕ) (children : Bool) (rest : List ℕ) → tagged_at bytes ≡ Ok (tag, children, rest) → EndsIn bytes rest
+tag_ends bytes tag children rest e = MatchResult-at_ok (λ (x : ℕ × Bool × List ℕ). EndsIn bytes x.2) (λ (fault : DeclFault). Unit {0}) (tag, children, rest) e (tagged_says bytes)

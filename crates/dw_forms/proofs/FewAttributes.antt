@@ -1,5 +1,5 @@
 -- A declaration has no more attributes than there are codes.
-use Rattle.std.proofs.Common.{◌≡◌, ◌≢◌, ℕ, ◌<◌, ◌≤◌, eqb, List, length, map, Ok, sym, ◌∙◌, All, arith}
+use Rattle.std.proofs.Common.{◌≢◌, ℕ, ◌<◌, ◌≤◌, eqb, List, length, map, sym, ◌∙◌, All, arith}
 use Rattle.std.specs.Prelude.{AllPairs}
 use Rattle.std.proofs.lemmas.Bool.{eqb-true}
 use Rattle.std.proofs.lemmas.Bool.Decides.{Decides-eqb}
@@ -10,11 +10,8 @@ use Rattle.std.proofs.lemmas.Map.Steps.{length-le_from_distinct_below}
 use Rattle.std.proofs.lemmas.List.Elements.{All-map}
 use Rattle.dw_forms.specs.declared.form.Form.TheVariants.{Addr}
 use Rattle.dw_forms.specs.declared.decl.AttributeSpec.{AttributeSpec}
-use Rattle.dw_forms.specs.Abbrev.{AreAttributes, AttributesFail}
-use Rattle.dw_forms.specs.AbbrevReading.{attributes_of}
-use Rattle.dw_forms.specs.Readers.{takes}
+use Rattle.dw_forms.specs.Abbrev.{AreAttributes}
 use Rattle.dw_forms.proofs.AttributeLaws.{attribute_of}
-use Rattle.dw_forms.proofs.AttributesLaws.{SpellsAll, attributes_reader}
 
 codes : List AttributeSpec → List ℕ
 codes specs = map attribute_of specs
@@ -34,13 +31,10 @@ codes_small : (specs : List AttributeSpec) → AreAttributes specs → All (λ n
 unfolding codes
 codes_small specs a = All-map (λ n. n < 0x10000) attribute_of specs (λ k d lt. omega (arith, (a.each k d lt).small))
 
-few_specs : (specs : List AttributeSpec) → AreAttributes specs → length specs ≤ 0x10000
+pub few_specs : (specs : List AttributeSpec) → AreAttributes specs → length specs ≤ 0x10000
 unfolding codes
 few_specs specs a =
     let distinct = IsDistinct-from_AllPairs Decides-eqb (codes specs) (codes_apart specs a) in
     let few = length-le_from_distinct_below (codes specs) 0x10000 distinct (λ q h. let c = Any-from_list_any (eqb q) (codes specs) h in
     omega (arith, eqb-true q c.1 c.4, codes_small specs a c.0 c.1 c.2, c.3)) in
     omega (arith, few, length-map specs attribute_of)
-
-pub attributes_few : (bytes rest : List ℕ) (specs : List AttributeSpec) → attributes_of bytes ≡ Ok (specs, rest) → length specs ≤ 0x10000
-attributes_few bytes rest specs e = few_specs specs (takes attributes_of SpellsAll AttributesFail attributes_reader bytes specs rest e).spelled.allowed

@@ -1,348 +1,108 @@
--- Tables of declarations that are kept, as one more is kept.
-use Rattle.std.proofs.Common.{◌≡◌, ℕ, zero, suc, ◌+◌, ◌-◌, ◌<◌, ◌≤◌, Bool, true, false, cond, List, [], ◌∷◌, ◌++◌, length, Option, Some, None, refl, sym, ap, ◌∙◌, inl, inr, append_assoc, append-nil, arith}
-use Rattle.std.specs.Prelude.{◌==◌, ◌||◌, ◌⊎◌, find, get_or, slice_get, option_map}
-use Rattle.std.proofs.lemmas.Bool.{cases_eq}
-use Rattle.std.proofs.lemmas.List.{length-append, get_or_append_left, get_or_at}
-use Rattle.std.proofs.Math.ListN.{get_or-eq_default}
-use Rattle.std.proofs.lemmas.Option.{slice_get_past, slice_get-get_or}
-use Rattle.dw_forms.specs.declared.abbrev_tables.KeptDecl.{KeptDecl}
-use Rattle.dw_forms.specs.Abbrev.{Declaration, view}
+-- Tables of declarations that are kept, as one more is kept, and how codes are found in them.
+use Rattle.std.proofs.Common.{◌≡◌, ℕ, suc, ◌-◌, ◌<◌, ◌≤◌, Bool, true, false, cond, List, [], ◌∷◌, ◌++◌, length, map, Option, Some, refl, sym, ap, ◌∙◌, arith}
+use Rattle.std.specs.Prelude.{◌==◌, find, get_or}
+use Rattle.std.proofs.lemmas.List.{length-append, length-map, map-append, get_or-map}
+use Rattle.dw_forms.specs.declared.decl.AttributeSpec.{AttributeSpec}
+use Rattle.dw_forms.specs.declared.attribute_lists.Node.{Node}
+use Rattle.dw_forms.specs.declared.chains.Link.{Link}
+use Rattle.dw_forms.specs.declared.steps.Step.{Step}
+use Rattle.dw_forms.specs.declared.decl.KeptDecl.{KeptDecl}
+use Rattle.dw_forms.specs.Abbrev.{Declaration}
 use Rattle.dw_forms.specs.AbbrevReading.{has_code}
-use Rattle.dw_forms.specs.CodeBits.{parts}
-use Rattle.dw_forms.specs.KeptDecls.{Numbered, declarations, numbered_in, tables_from, tables_of, decl_of, number_where, number_in, AreNumbered, IsRun, AreBranches, AreBelow, IsFoundBy, AreKept}
-use Rattle.dw_forms.proofs.BitLaws.{differ, eq_true, parts_self}
+use Rattle.dw_forms.specs.Chains.{Numbered, items_of, chain_in, chains_of, number_where, AreNumbered, codes_of, codes_in, number_in as code_number}
+use Rattle.dw_forms.specs.KeptDecls.{kept_view, decls_of, tables_of, table_in, decl_of, number_in, AreWithin, AreCoded}
+use Rattle.dw_forms.specs.AttributeLists.{numbered_in, HasList}
+use Rattle.dw_forms.specs.ListOffsets.{StayNodes}
+use Rattle.dw_forms.proofs.ChainLaws.{chain_map, where_map, chains_long, chain_none, chains_more, are_numbered, item_read, none_has, some_has}
+use Rattle.dw_forms.proofs.CodeLaws.{codes_long}
+use Rattle.dw_forms.proofs.ListStarts.{lists_stay}
 
-abbrev pub numbered : ℕ → KeptDecl → Numbered
-numbered number k = record { number = number; decl = view k.decl }
+abbrev pub part : List Node → KeptDecl → Declaration × ℕ
+part nodes k = (kept_view nodes k, k.rest)
 
 -- ---- the tables
 
-more_from : (tables : List (List Numbered)) (kept : List KeptDecl) (k : KeptDecl)
-    → tables_from tables (kept ++ k ∷ []) ≡ tables_from tables kept ++ (numbered (length (tables_from tables kept)) k ∷ numbered_in (tables_from tables kept) k.rest) ∷ []
-unfolding tables_from
-more_from tables [] k = refl
-more_from tables (j ∷ kept) k = more_from (tables ++ (numbered (length tables) j ∷ numbered_in tables j.rest) ∷ []) kept k
+decls_long : (nodes : List Node) (kept : List KeptDecl) → length (decls_of nodes kept) ≡ length kept
+decls_long nodes kept = length-map kept (part nodes)
 
-long_from : (tables : List (List Numbered)) (kept : List KeptDecl) → length (tables_from tables kept) ≡ length tables + length kept
-unfolding tables_from
-long_from tables [] = omega arith
-long_from tables (j ∷ kept) =
-    let t = (numbered (length tables) j ∷ numbered_in tables j.rest) ∷ [] in
-    omega (arith, long_from (tables ++ t) kept, length-append tables t)
+pub tables_long : (nodes : List Node) (kept : List KeptDecl) → length (tables_of nodes kept) ≡ suc (length kept)
+tables_long nodes kept = chains_long (decls_of nodes kept) ∙ ap suc (decls_long nodes kept)
 
-first_from : (tables : List (List Numbered)) (kept : List KeptDecl) (n : ℕ) → n < length tables → numbered_in (tables_from tables kept) n ≡ numbered_in tables n
-unfolding tables_from
-first_from tables [] n within = refl
-first_from tables (j ∷ kept) n within =
-    let t = (numbered (length tables) j ∷ numbered_in tables j.rest) ∷ [] in
-    first_from (tables ++ t) kept n (omega (arith, within, length-append tables t)) ∙ get_or_append_left tables t [] n within
+pub table_none : (nodes : List Node) (kept : List KeptDecl) → chain_in (tables_of nodes kept) 0 ≡ []
+table_none nodes kept = chain_none (decls_of nodes kept)
 
-pub tables_long : (kept : List KeptDecl) → length (tables_of kept) ≡ suc (length kept)
-tables_long kept = omega (arith, long_from ([] ∷ []) kept)
+pub tables_more : (nodes : List Node) (kept : List KeptDecl) (k : KeptDecl)
+    → tables_of nodes (kept ++ k ∷ []) ≡ tables_of nodes kept ++ (record { number = length (tables_of nodes kept); item = kept_view nodes k } ∷ chain_in (tables_of nodes kept) k.rest) ∷ []
+tables_more nodes kept k = ap chains_of (map-append (part nodes) kept (k ∷ [])) ∙ chains_more (decls_of nodes kept) (part nodes k)
 
-pub table_none : (kept : List KeptDecl) → numbered_in (tables_of kept) 0 ≡ []
-table_none kept = first_from ([] ∷ []) kept 0 (omega arith)
+-- more attributes change no table
+pub view_stays : (old new : List Node) (k : KeptDecl) → StayNodes old new → k.first ≤ length old → kept_view new k ≡ kept_view old k
+view_stays old new k stay within =
+    let made : List (Numbered AttributeSpec) → Declaration = λ list. record { code = k.code; tag = k.tag; has_children = k.has_children; attributes = items_of list } in
+    ap made (ap (λ (nodes : List Node). numbered_in nodes k.first) stay.1 ∙ lists_stay stay.0 old k.first within)
 
-module _ (kept : List KeptDecl) (k : KeptDecl) where
-  pub tables_more : tables_of (kept ++ k ∷ []) ≡ tables_of kept ++ (numbered (length (tables_of kept)) k ∷ numbered_in (tables_of kept) k.rest) ∷ []
-  tables_more = more_from ([] ∷ []) kept k
+views_same : (nodes more : List Node) (kept : List KeptDecl) → AreWithin nodes kept → decls_of (nodes ++ more) kept ≡ decls_of nodes kept
+views_same nodes more [] within = refl
+views_same nodes more (k ∷ kept) within =
+    let same : kept_view (nodes ++ more) k ≡ kept_view nodes k = view_stays nodes (nodes ++ more) k (more, refl) (within 0 k (omega arith)).within in
+    ap (λ (d : Declaration). (d, k.rest) ∷ decls_of (nodes ++ more) kept) same
+    ∙ ap (λ (ds : List (Declaration × ℕ)). part nodes k ∷ ds) (views_same nodes more kept (λ i x less. within (suc i) x (omega (arith, less))))
 
-  -- the old tables stay
-  pub old_table : (n : ℕ) → n ≤ length kept → numbered_in (tables_of (kept ++ k ∷ [])) n ≡ numbered_in (tables_of kept) n
-  old_table n within =
-      ap (λ (ts : List (List Numbered)). numbered_in ts n) tables_more
-      ∙ get_or_append_left (tables_of kept) ((numbered (length (tables_of kept)) k ∷ numbered_in (tables_of kept) k.rest) ∷ []) [] n (omega (arith, within, tables_long kept))
+pub tables_same : (old new : List Node) (kept : List KeptDecl) → StayNodes old new → AreWithin old kept → tables_of new kept ≡ tables_of old kept
+tables_same old new kept stay within = ap (λ (nodes : List Node). tables_of nodes kept) stay.1 ∙ ap chains_of (views_same old stay.0 kept within)
 
-  -- the new one is the declaration and the table after it
-  pub new_table : numbered_in (tables_of (kept ++ k ∷ [])) (suc (length kept)) ≡ numbered (suc (length kept)) k ∷ numbered_in (tables_of kept) k.rest
-  new_table =
-      ap (λ (ts : List (List Numbered)). numbered_in ts (suc (length kept))) tables_more
-      ∙ get_or_at (tables_of kept) (numbered (length (tables_of kept)) k ∷ numbered_in (tables_of kept) k.rest) [] [] (suc (length kept)) (tables_long kept)
-      ∙ ap (λ (n : ℕ). numbered n k ∷ numbered_in (tables_of kept) k.rest) (tables_long kept)
+pub has_stays : (old new : List Node) (first : ℕ) (step : Step) → StayNodes old new → HasList old first step → HasList new first step
+has_stays old new first step stay has =
+    let w = has.within in
+    let same : numbered_in new first ≡ numbered_in old first = ap (λ (nodes : List Node). numbered_in nodes first) stay.1 ∙ lists_stay stay.0 old first w in
+    record { within = omega (arith, w, ap length stay.1, length-append old stay.0); step = rw same has.step }
+
+pub within_stays : (old new : List Node) (kept : List KeptDecl) → StayNodes old new → AreWithin old kept → AreWithin new kept
+within_stays old new kept stay within k d less = has_stays old new _ _ stay (within k d less)
 
 -- ---- how codes are found
 
--- the table without declarations
-pub none_number : (kept : List KeptDecl) (table code : ℕ) → table ≡ 0 → 0 ≡ number_in (numbered_in (tables_of kept) table) code
-unfolding number_where
-none_number kept table code none = rw (none, table_none kept) refl
+codes_parts : (nodes : List Node) (kept : List KeptDecl) → map {B = ℕ × ℕ} (λ (k : KeptDecl). (k.code, k.rest)) kept ≡ map {B = ℕ × ℕ} (λ (x : Declaration × ℕ). (x.0.code, x.1)) (decls_of nodes kept)
+codes_parts nodes [] = refl
+codes_parts nodes (k ∷ kept) = ap (λ (rest : List (ℕ × ℕ)). (k.code, k.rest) ∷ rest) (codes_parts nodes kept)
+
+pub code_is : (links : List Link) (nodes : List Node) (kept : List KeptDecl) (table code : ℕ) → AreCoded links kept → code_number (codes_in links table) code ≡ number_in (chain_in (tables_of nodes kept) table) code
+code_is links nodes kept table code are =
+    ap (λ (items : List (ℕ × ℕ)). code_number (chain_in (chains_of items) table) code) (are ∙ codes_parts nodes kept)
+    ∙ ap (λ (chain : List (Numbered ℕ)). code_number chain code) (chain_map (λ (d : Declaration). d.code) (decls_of nodes kept) table)
+    ∙ where_map (λ c. c == code) (λ (d : Declaration). d.code) (chain_in (tables_of nodes kept) table)
+
+pub links_long : (links : List Link) (kept : List KeptDecl) → AreCoded links kept → length links ≡ length kept
+links_long links kept are = sym (codes_long links) ∙ ap length are ∙ length-map {B = ℕ × ℕ} kept (λ (k : KeptDecl). (k.code, k.rest))
+
+pub coded_more : (old new : List Link) (kept : List KeptDecl) (k : KeptDecl) → AreCoded old kept → codes_of new ≡ codes_of old ++ (k.code, k.rest) ∷ [] → AreCoded new (kept ++ k ∷ [])
+coded_more old new kept k are more = more ∙ ap (λ (items : List (ℕ × ℕ)). items ++ (k.code, k.rest) ∷ []) are ∙ sym (map-append (λ (x : KeptDecl). (x.code, x.rest)) kept (k ∷ []))
 
 -- ---- the declaration of a code
 
--- the declaration of the number that is found is the first with the code
-found_first : (kept : List KeptDecl) (n : Numbered) (more : ℕ) (found : Option Declaration) (b : Bool) → decl_of kept n.number ≡ Some n.decl → decl_of kept more ≡ found → decl_of kept (cond b n.number more) ≡ cond b (Some n.decl) found
-found_first kept n more found true is rest = is
-found_first kept n more found false is rest = rest
+found_first : (nodes : List Node) (kept : List KeptDecl) (n : Numbered Declaration) (more : ℕ) (found : Option Declaration) (b : Bool) → decl_of nodes kept n.number ≡ Some n.item → decl_of nodes kept more ≡ found
+    → decl_of nodes kept (cond b n.number more) ≡ cond b (Some n.item) found
+found_first nodes kept n more found true is rest = is
+found_first nodes kept n more found false is rest = rest
 
-pub numbers_find : (kept : List KeptDecl) (table : List Numbered) (code : ℕ) → AreNumbered kept table → decl_of kept (number_in table code) ≡ find (λ d. d.code == code) (declarations table)
+pub numbers_find : (nodes : List Node) (kept : List KeptDecl) (table : List (Numbered Declaration)) (code : ℕ) → AreNumbered (decls_of nodes kept) table
+    → decl_of nodes kept (number_in table code) ≡ find (λ d. d.code == code) (items_of table)
 unfolding number_where
-numbers_find kept [] code are = refl
-numbers_find kept (n ∷ table) code are =
-    found_first kept n (number_in table code) (find (λ d. d.code == code) (declarations table)) (n.decl.code == code) are.0 (numbers_find kept table code are.1)
+numbers_find nodes kept [] code are = refl
+numbers_find nodes kept (n ∷ table) code are =
+    found_first nodes kept n (number_in table code) (find (λ d. d.code == code) (items_of table)) (n.item.code == code) are.0 (numbers_find nodes kept table code are.1)
 
--- a number that is some declaration's is above 0
-pub decl_some : (kept : List KeptDecl) (number : ℕ) (d : Declaration) → decl_of kept number ≡ Some d → 0 < number
-decl_some kept zero d is = let no : ◌≡◌ {A = Option Declaration} None (Some d) = is in absurd cc
-decl_some kept (suc number) d is = omega arith
+pub own_numbers : (nodes : List Node) (kept : List KeptDecl) (table : ℕ) → AreNumbered (decls_of nodes kept) (chain_in (tables_of nodes kept) table)
+own_numbers nodes kept table = are_numbered (decls_of nodes kept) table
 
-none_here : (number more : ℕ) (has b : Bool) → (number ≡ 0 → ⊥) → (more ≡ 0 → has ≡ false) → cond b number more ≡ 0 → (b || has) ≡ false
-none_here number more has true some rest e = absurd (some e)
-none_here number more has false some rest e = rest e
+pub none_code : (nodes : List Node) (kept : List KeptDecl) (table code : ℕ) → number_in (chain_in (tables_of nodes kept) table) code ≡ 0 → has_code code (table_in (tables_of nodes kept) table) ≡ false
+none_code nodes kept table code none = none_has (λ (d : Declaration). d.code == code) (decls_of nodes kept) (chain_in (tables_of nodes kept) table) (own_numbers nodes kept table) none
 
-pub none_has : (kept : List KeptDecl) (table : List Numbered) (code : ℕ) → AreNumbered kept table → number_in table code ≡ 0 → has_code code (declarations table) ≡ false
-unfolding number_where
-none_has kept [] code are none = refl
-none_has kept (n ∷ table) code are none =
-    none_here n.number (number_in table code) (has_code code (declarations table)) (n.decl.code == code) (λ e. let some = decl_some kept n.number n.decl are.0 in omega (arith, e, some)) (none_has kept table code are.1) none
-
-some_here : (number more : ℕ) (has b : Bool) → ((more ≡ 0 → ⊥) → has ≡ true) → (cond b number more ≡ 0 → ⊥) → (b || has) ≡ true
-some_here number more has true rest some = refl
-some_here number more has false rest some = rest some
-
-pub some_has : (table : List Numbered) (code : ℕ) → (number_in table code ≡ 0 → ⊥) → has_code code (declarations table) ≡ true
-unfolding number_where
-some_has [] code some = absurd (some refl)
-some_has (n ∷ table) code some = some_here n.number (number_in table code) (has_code code (declarations table)) (n.decl.code == code) (some_has table code) some
-
--- ---- one declaration more
-
-decl_more : (kept : List KeptDecl) (k : KeptDecl) (n : ℕ) (d : Declaration) → decl_of kept n ≡ Some d → decl_of (kept ++ k ∷ []) n ≡ Some d
-decl_more kept k zero d is = is
-decl_more [] k (suc n) d is =
-    let none : slice_get [] n ≡ None = slice_get_past {X = KeptDecl} [] n (omega arith) in
-    let no : ◌≡◌ {A = Option Declaration} None (Some d) = ap (option_map (λ (x : KeptDecl). view x.decl)) (sym none) ∙ is in
-    absurd cc
-decl_more (x ∷ kept) k (suc zero) d is = is
-decl_more (x ∷ kept) k (suc (suc n)) d is = decl_more kept k (suc n) d is
-
-decl_last : (kept : List KeptDecl) (k : KeptDecl) → decl_of (kept ++ k ∷ []) (suc (length kept)) ≡ Some (view k.decl)
-decl_last [] k = refl
-decl_last (x ∷ kept) k = decl_last kept k
-
-numbered_more : (kept : List KeptDecl) (k : KeptDecl) (table : List Numbered) → AreNumbered kept table → AreNumbered (kept ++ k ∷ []) table
-numbered_more kept k [] are = tt
-numbered_more kept k (n ∷ table) are = (decl_more kept k n.number n.decl are.0, numbered_more kept k table are.1)
-
-three_ways : (i j : ℕ) → ((i < j) ⊎ (i ≡ j)) ⊎ (j < i)
-three_ways i j = grind arith
-
--- the declarations of tables have their numbers, if those of the first tables have
-numbered_from : (front kept : List KeptDecl) (tables : List (List Numbered)) → length tables ≡ suc (length front) → ((n : ℕ) → AreNumbered front (numbered_in tables n)) → (n : ℕ) → AreNumbered (front ++ kept) (numbered_in (tables_from tables kept) n)
-unfolding tables_from
-numbered_from front [] tables long are n = rw (append-nil front) (are n)
-numbered_from front (k ∷ kept) tables long are n =
-    let new = numbered (length tables) k ∷ numbered_in tables k.rest in
-    rw (← append_assoc front (k ∷ []) kept)
-    (numbered_from (front ++ k ∷ []) kept (tables ++ new ∷ []) (omega (arith, long, length-append tables (new ∷ []), length-append front (k ∷ []))) (λ m. elim (three_ways m (length tables)) [
-      | inl (inl less) ↦ rw (get_or_append_left tables (new ∷ []) [] m less) (numbered_more front k (numbered_in tables m) (are m))
-      | inl (inr same) ↦ rw (get_or_at tables new [] [] m (sym same)) (ap (decl_of (front ++ k ∷ [])) long ∙ decl_last front k, numbered_more front k (numbered_in tables k.rest) (are k.rest))
-      | inr past ↦ rw (get_or-eq_default (tables ++ new ∷ []) [] {n = m} (omega (arith, past, length-append tables (new ∷ [])))) tt
-    ]) n)
-
-no_table : (n : ℕ) → numbered_in ([] ∷ []) n ≡ []
-no_table zero = refl
-no_table (suc n) = refl
-
--- the declarations of a table have their numbers
-pub are_numbered : (kept : List KeptDecl) (n : ℕ) → AreNumbered kept (numbered_in (tables_of kept) n)
-are_numbered kept n = numbered_from [] kept ([] ∷ []) refl (λ m. rw (no_table m) tt) n
-
--- a run with one declaration more
-run_more : (table : List Numbered) (k : KeptDecl) (last : ℕ) → ((i : ℕ) → i + 1 < k.run → number_in table (k.decl.code + (i + 1)) ≡ last - i) → IsRun (numbered (suc last) k ∷ table) k.run k.decl.code (suc last)
-unfolding number_where
-run_more table k last run zero few =
-    let all : suc last ≡ suc last - 0 = omega arith in
-    ap (λ (b : Bool). cond b (suc last) (number_in table (k.decl.code + 0))) (eq_true k.decl.code (k.decl.code + 0) (omega arith)) ∙ all
-run_more table k last run (suc i) few =
-    let one : i + 1 ≡ suc i = omega arith in
-    let less : last - i ≡ suc last - suc i = omega arith in
-    ap (λ (b : Bool). cond b (suc last) (number_in table (k.decl.code + suc i))) (differ k.decl.code (k.decl.code + suc i) (λ e. omega (arith, e)))
-    ∙ ap (λ (j : ℕ). number_in table (k.decl.code + j)) (sym one) ∙ run i (omega (arith, few)) ∙ less
-
--- ---- tests of codes
-
--- tests that pass the same codes pass the same declaration
-same_here : (number more others : ℕ) (b c : Bool) → b ≡ c → more ≡ others → cond b number more ≡ cond c number others
-same_here number more others b c same rest = rw (same, rest) refl
-
-pub where_same : (p q : ℕ → Bool) → ((c : ℕ) → p c ≡ q c) → (table : List Numbered) → number_where p table ≡ number_where q table
-unfolding number_where
-where_same p q same [] = refl
-where_same p q same (n ∷ table) = same_here n.number _ _ (p n.decl.code) (q n.decl.code) (same n.decl.code) (where_same p q same table)
-
--- the first declaration passes the test, or is passed over
-pub where_first : (p : ℕ → Bool) (n : Numbered) (table : List Numbered) → p n.decl.code ≡ true → number_where p (n ∷ table) ≡ n.number
-unfolding number_where
-where_first p n table is = rw is refl
-
-pub where_later : (p : ℕ → Bool) (n : Numbered) (table : List Numbered) → p n.decl.code ≡ false → number_where p (n ∷ table) ≡ number_where p table
-unfolding number_where
-where_later p n table is = rw is refl
-
-passes_here : (kept : List KeptDecl) (n : Numbered) (more : ℕ) (p : ℕ → Bool) (b : Bool) → p n.decl.code ≡ b → decl_of kept n.number ≡ Some n.decl
-    → (0 < more → (d : Declaration) × (decl_of kept more ≡ Some d) × (p d.code ≡ true)) → 0 < cond b n.number more → (d : Declaration) × (decl_of kept (cond b n.number more) ≡ Some d) × (p d.code ≡ true)
-passes_here kept n more p true is own rest some = (n.decl, own, is)
-passes_here kept n more p false is own rest some = rest some
-
--- the declaration of the number passes the test
-pub where_passes : (kept : List KeptDecl) (p : ℕ → Bool) (table : List Numbered) → AreNumbered kept table → 0 < number_where p table → (d : Declaration) × (decl_of kept (number_where p table) ≡ Some d) × (p d.code ≡ true)
-unfolding number_where
-where_passes kept p [] are some = absurd (omega (arith, some))
-where_passes kept p (n ∷ table) are some = passes_here kept n (number_where p table) p (p n.decl.code) refl are.0 (where_passes kept p table are.1) some
-
--- the declaration that passes the narrower test is in the table that begins with the one that passes the wider test
-module _ (p q : ℕ → Bool) (narrower : (c : ℕ) → p c ≡ true → q c ≡ true) where
-  not_narrower : (c : ℕ) → q c ≡ false → (b : Bool) → (b ≡ true → q c ≡ true) → b ≡ false
-  not_narrower c other true is = sym (is refl) ∙ other
-  not_narrower c other false is = refl
-
-  record Narrows (tables : List (List Numbered)) (n : ℕ) : Type 0 where
-    within : number_where q (numbered_in tables n) < length tables
-    same : number_where p (numbered_in tables n) ≡ number_where p (numbered_in tables (number_where q (numbered_in tables n)))
-
-  none_narrows : (tables : List (List Numbered)) (n : ℕ) → 0 < length tables → numbered_in tables 0 ≡ [] → numbered_in tables n ≡ [] → Narrows tables n
-  unfolding number_where
-  none_narrows tables n some none is = record { within = rw is some; same = rw (is, none) refl }
-
-  longer_narrows : (tables : List (List Numbered)) (new : List Numbered) (n : ℕ) → n < length tables → Narrows tables n → Narrows (tables ++ new ∷ []) n
-  longer_narrows tables new n less is =
-      let w = is.within in
-      record {
-        within = rw (get_or_append_left tables (new ∷ []) [] n less) (omega (arith, w, length-append tables (new ∷ [])));
-        same = rw (get_or_append_left tables (new ∷ []) [] n less) (is.same ∙ ap (number_where p) (sym (get_or_append_left tables (new ∷ []) [] (number_where q (numbered_in tables n)) w)));
-      }
-
-  new_narrows : (tables : List (List Numbered)) (first : Numbered) (rest : ℕ) (b : Bool) → q first.decl.code ≡ b → first.number ≡ length tables → Narrows tables rest
-      → Narrows (tables ++ (first ∷ numbered_in tables rest) ∷ []) (length tables)
-  new_narrows tables first rest true is number before =
-      let new = first ∷ numbered_in tables rest in
-      let here : numbered_in (tables ++ new ∷ []) (length tables) ≡ new = get_or_at tables new [] [] (length tables) refl in
-      let at : number_where q new ≡ length tables = where_first q first (numbered_in tables rest) is ∙ number in
-      record {
-        within = rw (here, at) (omega (arith, length-append tables (new ∷ [])));
-        same = ap (number_where p) (ap (numbered_in (tables ++ new ∷ [])) (sym (ap (number_where q) here ∙ at)));
-      }
-  new_narrows tables first rest false is number before =
-      let new = first ∷ numbered_in tables rest in
-      let here : numbered_in (tables ++ new ∷ []) (length tables) ≡ new = get_or_at tables new [] [] (length tables) refl in
-      let at : number_where q new ≡ number_where q (numbered_in tables rest) = where_later q first (numbered_in tables rest) is in
-      let w = before.within in
-      let passed : p first.decl.code ≡ false = not_narrower first.decl.code is (p first.decl.code) (narrower first.decl.code) in
-      record {
-        within = rw (here, at) (omega (arith, w, length-append tables (new ∷ [])));
-        same = ap (number_where p) here ∙ where_later p first (numbered_in tables rest) passed ∙ before.same
-            ∙ ap (number_where p) (sym (get_or_append_left tables (new ∷ []) [] (number_where q (numbered_in tables rest)) w) ∙ ap (numbered_in (tables ++ new ∷ [])) (sym (ap (number_where q) here ∙ at)));
-      }
-
-  narrows_from : (tables : List (List Numbered)) (kept : List KeptDecl) → 0 < length tables → numbered_in tables 0 ≡ [] → ((n : ℕ) → Narrows tables n) → (n : ℕ) → Narrows (tables_from tables kept) n
-  unfolding tables_from
-  narrows_from tables [] some none are n = are n
-  narrows_from tables (k ∷ kept) some none are n =
-      let first = numbered (length tables) k in
-      let new = first ∷ numbered_in tables k.rest in
-      let more : length (tables ++ new ∷ []) ≡ length tables + 1 = omega (arith, length-append tables (new ∷ [])) in
-      let still_none : numbered_in (tables ++ new ∷ []) 0 ≡ [] = get_or_append_left tables (new ∷ []) [] 0 some ∙ none in
-      narrows_from (tables ++ new ∷ []) kept (omega (arith, more)) still_none (λ m. elim (three_ways m (length tables)) [
-        | inl (inl less) ↦ longer_narrows tables new m less (are m)
-        | inl (inr same) ↦ rw same (new_narrows tables first k.rest (q first.decl.code) refl refl (are k.rest))
-        | inr past ↦ none_narrows (tables ++ new ∷ []) m (omega (arith, more)) still_none (get_or-eq_default (tables ++ new ∷ []) [] {n = m} (omega (arith, past, more)))
-      ]) n
-
-  pub narrowed : (kept : List KeptDecl) (n : ℕ) → number_where p (numbered_in (tables_of kept) n) ≡ number_where p (numbered_in (tables_of kept) (number_where q (numbered_in (tables_of kept) n)))
-  narrowed kept n = (narrows_from ([] ∷ []) kept (omega arith) refl (λ m. none_narrows ([] ∷ []) m (omega arith) refl (no_table m)) n).same
-
--- ---- how codes are found, with one declaration more
-
--- none of the branches that are there changes
-pub branches_stay : (branches : List ℕ) (more from count code : ℕ) (table : List Numbered) → AreBranches branches from count code table → AreBranches (branches ++ more ∷ []) from count code table
-branches_stay branches more from count code table are =
-    let w = are.within in
-    record {
-      within = omega (arith, w, length-append branches (more ∷ []));
-      each = λ bit less. get_or_append_left branches (more ∷ []) 0 (from + bit) (omega (arith, w, less)) ∙ are.each bit less;
-      others = are.others;
-    }
-
-below_stay : (branches : List ℕ) (more from count number : ℕ) → from + count ≤ length branches → AreBelow branches from count number → AreBelow (branches ++ more ∷ []) from count number
-below_stay branches more from count number within are = λ bit less.
-    let b = are bit less in rw (get_or_append_left branches (more ∷ []) 0 (from + bit) (omega (arith, within, less))) b
-
-pub kept_stay : (branches : List ℕ) (more : ℕ) (kept : List KeptDecl) → AreKept branches kept → AreKept (branches ++ more ∷ []) kept
-kept_stay branches more kept are = λ n x less read.
-    let is = are n x less read in
-    record {
-      first = is.first;
-      short = is.short;
-      run = is.run;
-      below = below_stay branches more x.branches x.branch_count (suc n) is.codes.within is.below;
-      codes = branches_stay branches more x.branches x.branch_count x.decl.code (numbered_in (tables_of kept) (suc n)) is.codes;
-    }
-
-module _ (branches : List ℕ) (kept : List KeptDecl) (k : KeptDecl) (are : AreKept branches kept) where
-  old_found : (n : ℕ) (x : KeptDecl) → n ≤ length kept → IsFoundBy branches kept n x → IsFoundBy branches (kept ++ k ∷ []) n x
-  old_found n x within is = record {
-    first = rw (old_table kept k n within) is.first;
-    short = is.short;
-    run = rw (old_table kept k n within) is.run;
-    below = is.below;
-    codes = rw (old_table kept k n within) is.codes;
-  }
-
-  module _ (short : k.run ≤ length kept + 1)
-      (run : (i : ℕ) → i + 1 < k.run → number_in (numbered_in (tables_of kept) k.rest) (k.decl.code + (i + 1)) ≡ length kept - i)
-      (below : AreBelow branches k.branches k.branch_count (length kept + 1))
-      (is : AreBranches branches k.branches k.branch_count k.decl.code (numbered_in (tables_of kept) k.rest)) where
-    later : (bit : ℕ) → number_where (parts k.decl.code bit) (numbered (suc (length kept)) k ∷ numbered_in (tables_of kept) k.rest) ≡ number_where (parts k.decl.code bit) (numbered_in (tables_of kept) k.rest)
-    later bit = where_later (parts k.decl.code bit) (numbered (suc (length kept)) k) (numbered_in (tables_of kept) k.rest) (parts_self k.decl.code bit)
-
-    new_found : IsFoundBy branches (kept ++ k ∷ []) (suc (length kept)) k
-    new_found = record {
-      first = λ test is_own. rw (new_table kept k) (where_first test (numbered (suc (length kept)) k) (numbered_in (tables_of kept) k.rest) is_own);
-      short = omega (arith, short);
-      run = rw (new_table kept k) (run_more (numbered_in (tables_of kept) k.rest) k (length kept) run);
-      below = λ bit less. let b = below bit less in omega (arith, b);
-      codes = rw (new_table kept k) (record {
-        within = is.within;
-        each = λ bit less. is.each bit less ∙ sym (later bit);
-        others = λ bit past fits. later bit ∙ is.others bit past fits;
-      });
-    }
-
-    pub kept_more : AreKept branches (kept ++ k ∷ [])
-    kept_more = λ n x within read. elim (cases_eq n (length kept)) [
-      | inl same ↦
-          let x_is : x ≡ k = read ∙ get_or_at kept k [] x n (sym same) in
-          rw (x_is, same) new_found
-      | inr other ↦
-          let less : n < length kept = omega (arith, other, within, length-append kept (k ∷ [])) in
-          old_found (suc n) x less (are n x less (read ∙ get_or_append_left kept (k ∷ []) x n less))
-    ]
-
--- ---- what is found
-
-pub decl_within : (kept : List KeptDecl) (number : ℕ) (d : Declaration) → decl_of kept number ≡ Some d → number ≤ length kept
-decl_within kept zero d is = omega arith
-decl_within [] (suc n) d is =
-    let none : slice_get [] n ≡ None = slice_get_past {X = KeptDecl} [] n (omega arith) in
-    let no : ◌≡◌ {A = Option Declaration} None (Some d) = ap (option_map (λ (x : KeptDecl). view x.decl)) (sym none) ∙ is in
-    absurd cc
-decl_within (x ∷ kept) (suc zero) d is = omega arith
-decl_within (x ∷ kept) (suc (suc n)) d is = let within = decl_within kept (suc n) d is in omega (arith, within)
-
-first_within : (number more bound : ℕ) (b : Bool) → number ≤ bound → more ≤ bound → cond b number more ≤ bound
-first_within number more bound true here rest = here
-first_within number more bound false here rest = rest
-
--- the number of a code is one of a declaration, or 0
-pub number_within : (kept : List KeptDecl) (table : List Numbered) (code : ℕ) → AreNumbered kept table → number_in table code ≤ length kept
-unfolding number_where
-number_within kept [] code are = omega arith
-number_within kept (n ∷ table) code are =
-    first_within n.number (number_in table code) (length kept) (n.decl.code == code) (decl_within kept n.number n.decl are.0) (number_within kept table code are.1)
+pub some_code : (nodes : List Node) (kept : List KeptDecl) (table code : ℕ) → 0 < number_in (chain_in (tables_of nodes kept) table) code → has_code code (table_in (tables_of nodes kept) table) ≡ true
+some_code nodes kept table code some = some_has (λ (d : Declaration). d.code == code) (chain_in (tables_of nodes kept) table) (λ none. omega (arith, some, none))
 
 -- the declaration that is read at the place before a number
-pub decl_read : (kept : List KeptDecl) (number : ℕ) (x : KeptDecl) → 0 < number → number ≤ length kept → x ≡ get_or kept (number - 1) x → decl_of kept number ≡ Some (view x.decl)
-decl_read kept zero x some within read = absurd (omega (arith, some))
-decl_read kept (suc n) x some within read =
-    let place : suc n - 1 ≡ n = omega arith in
-    ap (option_map (λ (y : KeptDecl). view y.decl)) (slice_get-get_or kept n x within ∙ ap (λ (y : KeptDecl). Some y) (sym (read ∙ ap (λ (i : ℕ). get_or kept i x) place)))
+pub decl_read : (nodes : List Node) (kept : List KeptDecl) (number : ℕ) (x : KeptDecl) → 0 < number → number ≤ length kept → x ≡ get_or kept (number - 1) x → decl_of nodes kept number ≡ Some (kept_view nodes x)
+decl_read nodes kept number x some within read =
+    let at : get_or (decls_of nodes kept) (number - 1) (part nodes x) ≡ part nodes (get_or kept (number - 1) x) = get_or-map (part nodes) kept (number - 1) x (part nodes x) (omega (arith, some, within)) in
+    item_read (decls_of nodes kept) number (part nodes x) some (omega (arith, within, decls_long nodes kept)) (sym (at ∙ ap (part nodes) (sym read)))

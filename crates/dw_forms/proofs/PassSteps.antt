@@ -1,22 +1,21 @@
 -- Values are passed run by run: from one value of no one size to the next.
-use Rattle.std.proofs.Common.{◌≡◌, ℕ, zero, suc, ◌+◌, ◌-◌, ◌<◌, ◌≤◌, ◌⊎◌, Bool, true, false, ltb, List, [], ◌∷◌, ◌++◌, length, get_or, take, drop, Some, Result, Ok, Err, inl, inr, refl, sym, ap, subst, ◌∙◌, arith, add-one, drop-cons}
-use Rattle.std.specs.Prelude.{slice_get}
-use Rattle.std.specs.List.{slice_range}
-use Rattle.std.proofs.Math.Seq.{take-add}
-use Rattle.std.proofs.lemmas.Bool.{lt-ltb, le-ltb, ltb-true, ltb-false}
-use Rattle.std.proofs.lemmas.List.{drop-drop, length-drop}
-use Rattle.std.proofs.lemmas.List.Sums.{sum_by-cons, sum_by-take-drop}
-use Rattle.std.proofs.lemmas.Option.{slice_get-get_or}
+use Rattle.std.proofs.Common.{◌≡◌, ℕ, ◌+◌, ◌<◌, ◌≤◌, ◌⊎◌, Bool, true, false, ltb, List, [], ◌∷◌, ◌++◌, length, drop, Some, Result, Ok, Err, inl, inr, refl, sym, ap, ◌∙◌, arith}
+use Rattle.std.specs.List.{list_any}
+use Rattle.std.proofs.lemmas.Bool.{lt-ltb, le-ltb, ltb-true, ltb-false, or_parts}
+use Rattle.std.proofs.lemmas.List.{drop-drop, length-drop, map-append}
+use Rattle.std.proofs.lemmas.List.Sums.{sum_by-cons}
 use Rattle.dw_forms.specs.declared.form.Form.{Form}
 use Rattle.dw_forms.specs.declared.form.Form.TheVariants as form
 use Rattle.dw_forms.specs.declared.value.ValueFault.{ValueFault}
 use Rattle.dw_forms.specs.declared.value.ValueFault.TheVariants.{Cut}
 use Rattle.dw_forms.specs.declared.decl.AttributeSpec.{AttributeSpec}
-use Rattle.dw_forms.specs.declared.plan.Ahead.{Ahead}
+use Rattle.dw_forms.specs.declared.attribute_lists.Node.{Node}
+use Rattle.dw_forms.specs.Chains.{Numbered, items_of}
+use Rattle.dw_forms.specs.AttributeLists.{Knows, EndsWith, known_of, varies, numbered_in, list_in}
 use Rattle.dw_forms.specs.Steps.{◌>>=◌}
 use Rattle.dw_forms.specs.Sizes.{fixed_size_of, rest_at}
 use Rattle.dw_forms.specs.SizeLaws.{rest_skips, rest_cuts}
-use Rattle.dw_forms.specs.Plans.{known_size, does_vary, known_sum, known_of, IsNext, IsAhead, cut_at, values_end}
+use Rattle.dw_forms.specs.Plans.{known_size, does_vary, known_sum, cut_at, values_end}
 
 -- ---- a form that does not vary has one size
 
@@ -100,80 +99,66 @@ bind_bind : (r : Result (List ℕ) ValueFault) (f g : List ℕ → Result (List 
 bind_bind (Ok b) f g = refl
 bind_bind (Err x) f g = refl
 
-ends_append : (version size : ℕ) (xs ys : List AttributeSpec) (bytes : List ℕ) → values_end version size (xs ++ ys) bytes ≡ (values_end version size xs bytes >>= λ rest. values_end version size ys rest)
+pub ends_append : (version size : ℕ) (xs ys : List AttributeSpec) (bytes : List ℕ) → values_end version size (xs ++ ys) bytes ≡ (values_end version size xs bytes >>= λ rest. values_end version size ys rest)
 unfolding values_end
 ends_append version size [] ys bytes = refl
 ends_append version size (x ∷ xs) ys bytes =
     bind_on (rest_at version x.form size bytes) (λ rest. values_end version size (xs ++ ys) rest) (λ rest. values_end version size xs rest >>= λ more. values_end version size ys more) (λ rest. ends_append version size xs ys rest)
     ∙ sym (bind_bind (rest_at version x.form size bytes) (λ rest. values_end version size xs rest) (λ rest. values_end version size ys rest))
 
--- ---- places
+-- ---- values up to those of a list
 
-range_split : (specs : List AttributeSpec) (i j k : ℕ) → i ≤ j → j ≤ k → slice_range specs i k ≡ slice_range specs i j ++ slice_range specs j k
-range_split specs i j k le le' =
-    let length_is : k - i ≡ (j - i) + (k - j) = omega (arith, le, le') in
-    let place_is : i + (j - i) ≡ j = omega (arith, le) in
-    ap (λ (n : ℕ). take n (drop i specs)) length_is ∙ take-add (j - i) (k - j) (drop i specs)
-    ∙ ap (λ (xs : List AttributeSpec). slice_range specs i j ++ take (k - j) xs) (drop-drop (j - i) i specs ∙ ap (λ (n : ℕ). drop n specs) place_is)
+none_vary : (list : List (Numbered AttributeSpec)) → list_any varies (items_of list) ≡ false → HaveSizes (items_of list)
+none_vary [] e = tt
+none_vary (n ∷ list) e =
+    let p = or_parts (varies n.item) (list_any varies (items_of list)) e in
+    (p.0, none_vary list p.1)
 
-range_cons : (specs : List AttributeSpec) (d : AttributeSpec) (j k : ℕ) → j < k → j < length specs → slice_range specs j k ≡ get_or specs j d ∷ slice_range specs (j + 1) k
-range_cons specs d j k lt within =
-    let length_is : k - j ≡ suc (k - (j + 1)) = omega (arith, lt) in
-    ap (λ (xs : List AttributeSpec). take (k - j) xs) (drop-cons specs j d within)
-    ∙ ap (λ (n : ℕ). take n (get_or specs j d ∷ drop (suc j) specs)) length_is
-    ∙ ap (λ (n : ℕ). get_or specs j d ∷ take (k - (j + 1)) (drop n specs)) (sym (add-one j))
+sum_append : (size : ℕ) (xs ys : List AttributeSpec) → known_sum size (xs ++ ys) ≡ known_sum size xs + known_sum size ys
+sum_append size [] ys = omega arith
+sum_append size (x ∷ xs) ys =
+    let all = sum_by-cons (λ (s : AttributeSpec). known_size size s.form) x (xs ++ ys) in
+    let some = sum_by-cons (λ (s : AttributeSpec). known_size size s.form) x xs in
+    omega (arith, all, some, sum_append size xs ys)
 
--- from one place up to the next of no one size all have one size
-run_has_sizes : (specs : List AttributeSpec) (n j k : ℕ) → j + n ≡ k → k ≤ length specs → ((i : ℕ) (spec : AttributeSpec) → j ≤ i → i < k → slice_get specs i ≡ Some spec → does_vary spec.form ≡ false) → HaveSizes (slice_range specs j k)
-run_has_sizes specs zero j k e le none =
-    let no : k - j ≡ 0 = omega (arith, e) in
-    subst HaveSizes (sym (ap (λ (n : ℕ). take n (drop j specs)) no)) tt
-run_has_sizes specs (suc n) j k e le none =
-    let any : AttributeSpec = record { attribute = 0; form = form.Flag } in
-    let within : j < length specs = omega (arith, e, le) in
-    subst HaveSizes (sym (range_cons specs any j k (omega (arith, e)) within))
-    (none j (get_or specs j any) (omega arith) (omega (arith, e)) (slice_get-get_or specs j any within), run_has_sizes specs n (j + 1) k (omega (arith, e)) le (λ i spec on less at. none i spec (omega (arith, on)) less at))
+pub items_append : (xs ys : List (Numbered AttributeSpec)) → items_of (xs ++ ys) ≡ items_of xs ++ items_of ys
+items_append xs ys = map-append (λ (n : Numbered AttributeSpec). n.item) xs ys
 
-pub run : (version size : ℕ) (specs : List AttributeSpec) (from next to : ℕ) (bytes : List ℕ) → IsNext (λ (s : AttributeSpec). does_vary s.form) specs from next → from ≤ to → to ≤ next
-    → values_end version size (slice_range specs from to) bytes ≡ cut_at (known_sum size (slice_range specs from to)) bytes
-run version size specs from next to bytes n le less =
-    run_ends version size (slice_range specs from to) bytes (run_has_sizes specs (to - from) from to (omega (arith, le)) (omega (arith, less, n.within)) (λ i spec on lt at. n.none i spec on (omega (arith, lt, less)) at))
+-- the sum of the known sizes before a list
+pub sum_goes : (size : ℕ) (nodes : List Node) (from to : ℕ) (before : List (Numbered AttributeSpec)) → EndsWith nodes from to before
+    → known_sum size (list_in nodes from) ≡ known_sum size (items_of before) + known_sum size (list_in nodes to)
+sum_goes size nodes from to before goes =
+    ap (λ (list : List (Numbered AttributeSpec)). known_sum size (items_of list)) goes
+    ∙ ap (known_sum size) (items_append before (numbered_in nodes to)) ∙ sum_append size (items_of before) (list_in nodes to)
 
--- ---- the sum over a run
+pub known_is : (size : ℕ) (list : List (Numbered AttributeSpec)) (n : Node) → (size ≡ 4) ⊎ (size ≡ 8) → Knows list n → known_of size n ≡ known_sum size (items_of list)
+known_is size list n (inl e) k = rw e k.known_with_4
+known_is size list n (inr e) k = rw e k.known_with_8
 
-pub sum_between : (size : ℕ) (specs : List AttributeSpec) (from to : ℕ) → from ≤ to → known_sum size (drop from specs) ≡ known_sum size (slice_range specs from to) + known_sum size (drop to specs)
-sum_between size specs from to le =
-    let there : from + (to - from) ≡ to = omega (arith, le) in
-    sym (sum_by-take-drop (λ (s : AttributeSpec). known_size size s.form) (drop from specs) (to - from))
-    ∙ ap (λ (xs : List AttributeSpec). known_sum size (slice_range specs from to) + known_sum size xs) (drop-drop (to - from) from specs ∙ ap (λ (n : ℕ). drop n specs) there)
+-- values that do not vary are cut off together
+pub run : (version size : ℕ) (before : List (Numbered AttributeSpec)) (bytes : List ℕ) → list_any varies (items_of before) ≡ false
+    → values_end version size (items_of before) bytes ≡ cut_at (known_sum size (items_of before)) bytes
+run version size before bytes none = run_ends version size (items_of before) bytes (none_vary before none)
 
-pub known_is : (size : ℕ) (specs : List AttributeSpec) (place : ℕ) (ahead : Ahead) → (size ≡ 4) ⊎ (size ≡ 8) → IsAhead specs place ahead → known_of size ahead ≡ known_sum size (drop place specs)
-known_is size specs place ahead (inl e) a = rw e a.known_with_4
-known_is size specs place ahead (inr e) a = rw e a.known_with_8
+-- values that do not vary, one, and others
+module _ (version size : ℕ) (front others : List (Numbered AttributeSpec)) (z : Numbered AttributeSpec) (bytes : List ℕ) (none : list_any varies (items_of front) ≡ false) where
+  one : values_end version size (items_of (front ++ z ∷ others)) bytes
+      ≡ (cut_at (known_sum size (items_of front)) bytes >>= λ mid. rest_at version z.item.form size mid >>= λ rest. values_end version size (items_of others) rest)
+  unfolding values_end
+  one =
+      ap (λ (specs : List AttributeSpec). values_end version size specs bytes) (items_append front (z ∷ others))
+      ∙ ends_append version size (items_of front) (z.item ∷ items_of others) bytes
+      ∙ ap (λ (r : Result (List ℕ) ValueFault). r >>= λ mid. rest_at version z.item.form size mid >>= λ rest. values_end version size (items_of others) rest) (run version size front bytes none)
 
--- ---- one value behind a run
+  pub run_fails : (f : ValueFault) → cut_at (known_sum size (items_of front)) bytes ≡ Err f → values_end version size (items_of (front ++ z ∷ others)) bytes ≡ Err f
+  run_fails f e = one ∙ ap (λ (r : Result (List ℕ) ValueFault). r >>= λ mid. rest_at version z.item.form size mid >>= λ rest. values_end version size (items_of others) rest) e
 
-one_step : (version size : ℕ) (specs : List AttributeSpec) (d : AttributeSpec) (place to : ℕ) (bytes : List ℕ) → place < to → place < length specs
-    → values_end version size (slice_range specs place to) bytes ≡ (rest_at version (get_or specs place d).form size bytes >>= λ rest. values_end version size (slice_range specs (place + 1) to) rest)
-unfolding values_end
-one_step version size specs d place to bytes lt within = ap (λ (xs : List AttributeSpec). values_end version size xs bytes) (range_cons specs d place to lt within)
+  module _ (mid : List ℕ) (cut : cut_at (known_sum size (items_of front)) bytes ≡ Ok mid) where
+    on : values_end version size (items_of (front ++ z ∷ others)) bytes ≡ (rest_at version z.item.form size mid >>= λ rest. values_end version size (items_of others) rest)
+    on = one ∙ ap (λ (r : Result (List ℕ) ValueFault). r >>= λ m. rest_at version z.item.form size m >>= λ rest. values_end version size (items_of others) rest) cut
 
-module _ (version size : ℕ) (specs : List AttributeSpec) (at place to : ℕ) (bytes : List ℕ) (n : IsNext (λ (s : AttributeSpec). does_vary s.form) specs at place) (less : place < to) (within : to ≤ length specs) where
-  split : values_end version size (slice_range specs at to) bytes ≡ (cut_at (known_sum size (slice_range specs at place)) bytes >>= λ rest. values_end version size (slice_range specs place to) rest)
-  split =
-      ap (λ (xs : List AttributeSpec). values_end version size xs bytes) (range_split specs at place to n.on (omega (arith, less)))
-      ∙ ends_append version size (slice_range specs at place) (slice_range specs place to) bytes
-      ∙ ap (λ (r : Result (List ℕ) ValueFault). r >>= λ rest. values_end version size (slice_range specs place to) rest) (run version size specs at place place bytes n n.on (omega arith))
+    pub one_fails : (f : ValueFault) → rest_at version z.item.form size mid ≡ Err f → values_end version size (items_of (front ++ z ∷ others)) bytes ≡ Err f
+    one_fails f e = on ∙ ap (λ (r : Result (List ℕ) ValueFault). r >>= λ rest. values_end version size (items_of others) rest) e
 
-  pub run_fails : (f : ValueFault) → cut_at (known_sum size (slice_range specs at place)) bytes ≡ Err f → values_end version size (slice_range specs at to) bytes ≡ Err f
-  run_fails f e = split ∙ ap (λ (r : Result (List ℕ) ValueFault). r >>= λ rest. values_end version size (slice_range specs place to) rest) e
-
-  module _ (d : AttributeSpec) (mid : List ℕ) (cut : cut_at (known_sum size (slice_range specs at place)) bytes ≡ Ok mid) where
-    one : values_end version size (slice_range specs at to) bytes ≡ (rest_at version (get_or specs place d).form size mid >>= λ rest. values_end version size (slice_range specs (place + 1) to) rest)
-    one = split ∙ ap (λ (r : Result (List ℕ) ValueFault). r >>= λ rest. values_end version size (slice_range specs place to) rest) cut ∙ one_step version size specs d place to mid less (omega (arith, less, within))
-
-    pub one_fails : (f : ValueFault) → rest_at version (get_or specs place d).form size mid ≡ Err f → values_end version size (slice_range specs at to) bytes ≡ Err f
-    one_fails f e = one ∙ ap (λ (r : Result (List ℕ) ValueFault). r >>= λ rest. values_end version size (slice_range specs (place + 1) to) rest) e
-
-    pub one_passes : (rest : List ℕ) → rest_at version (get_or specs place d).form size mid ≡ Ok rest → values_end version size (slice_range specs at to) bytes ≡ values_end version size (slice_range specs (place + 1) to) rest
-    one_passes rest e = one ∙ ap (λ (r : Result (List ℕ) ValueFault). r >>= λ rest. values_end version size (slice_range specs (place + 1) to) rest) e
+    pub one_passes : (rest : List ℕ) → rest_at version z.item.form size mid ≡ Ok rest → values_end version size (items_of (front ++ z ∷ others)) bytes ≡ values_end version size (items_of others) rest
+    one_passes rest e = on ∙ ap (λ (r : Result (List ℕ) ValueFault). r >>= λ more. values_end version size (items_of others) more) e

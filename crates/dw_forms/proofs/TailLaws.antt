@@ -1,6 +1,6 @@
 -- A declaration and the table behind it: they are a table where no code stands twice, and no other table begins there.
-use Rattle.std.proofs.Common.{◌≡◌, ◌≤◌, ℕ, zero, suc, ◌+◌, ◌-◌, ◌<◌, List, [], ◌∷◌, ◌++◌, length, take, drop, Option, Some, None, Result, Ok, Err, refl, sym, ap, subst, ◌∙◌, append_assoc, arith}
-use Rattle.std.proofs.lemmas.List.{length-append, length-take, length-drop, take-append-drop, take_all, drop_at}
+use Rattle.std.proofs.Common.{◌≡◌, ◌≤◌, ℕ, suc, ◌+◌, ◌-◌, ◌<◌, List, [], ◌∷◌, ◌++◌, length, take, drop, Option, Some, None, Result, Ok, Err, refl, sym, ap, subst, ◌∙◌, append_assoc, arith}
+use Rattle.std.proofs.lemmas.List.{length-append, length-take, length-drop, take-append-drop}
 use Rattle.std.proofs.lemmas.List.Elements.{All-cons}
 use Rattle.std.proofs.lemmas.Result.{MatchResult-at_ok}
 use Rattle.dw_forms.specs.declared.abbrev_fault.DeclFault.{DeclFault}
@@ -11,11 +11,16 @@ use Rattle.dw_forms.specs.declared.abbrev_fault.AbbrevFault.{AbbrevFault}
 use Rattle.dw_forms.specs.declared.abbrev_fault.AbbrevFault.TheVariants as table
 use Rattle.dw_forms.specs.AbbrevFaults.{fault_at, IfTableFault}
 use Rattle.dw_forms.specs.Front.{Takes}
-use Rattle.dw_forms.specs.Abbrev.{Declaration, view, SpellsTable, IsDeclaration, AreDeclarations, DeclFails, Decls, TableFails}
-use Rattle.dw_forms.specs.AbbrevReading.{FailsOrMemory, decl_at, decls_of, decls_from, table_at, TableFails as ReadingFails}
+use Rattle.dw_forms.specs.Abbrev.{Declaration, SpellsTable, IsDeclaration, AreDeclarations, DeclFails, Decls, TableFails}
+use Rattle.dw_forms.specs.AbbrevReading.{decl_at, decls_of, decls_from, table_at, TableFails as ReadingFails}
 use Rattle.dw_forms.specs.Readers.{read_is, not_both}
-use Rattle.dw_forms.specs.TableStarts.{NoTable, AreBehind, IfBroken}
-use Rattle.dw_forms.proofs.Keys.{Apart, Lacks}
+use Rattle.dw_forms.specs.declared.attribute_lists.Node.{Node}
+use Rattle.dw_forms.specs.AttributeLists.{HasList}
+use Rattle.dw_forms.specs.KeptDecls.{kept_view}
+use Rattle.dw_forms.specs.ListOffsets.{StayNodes}
+use Rattle.dw_forms.specs.TableStarts.{NoTable, AreBehind, IfBroken, IfNoDecl}
+use Rattle.dw_forms.proofs.KeptLaws.{view_stays, has_stays}
+use Rattle.dw_forms.proofs.Keys.{Lacks, apart_cons}
 use Rattle.dw_forms.proofs.AttributesLaws.{uleb_some}
 use Rattle.dw_forms.proofs.DeclLaws.{code_of_decl, NextDecl, decl_says, end_again, next_again}
 use Rattle.dw_forms.proofs.TableLaws.{table_found, table_fails, decls_again, decl_some, one_of}
@@ -25,25 +30,7 @@ use Rattle.dw_forms.proofs.TableLaws.{table_found, table_fails, decls_again, dec
 taken : (bytes : List ℕ) (o : Option Declaration) (rest : List ℕ) → decl_at [] bytes ≡ Ok (o, rest) → Takes (NextDecl []) bytes o rest
 taken bytes o rest e = MatchResult-at_ok (λ (x : Option Declaration × List ℕ). Takes (NextDecl []) bytes x.0 x.1) (DeclFails [] bytes) (o, rest) e (decl_says [] bytes)
 
--- what is left behind a declaration is an end of the section
-pub rest_at : (section : List ℕ) (offset : ℕ) (o : Option Declaration) (after : List ℕ) → decl_at [] (drop offset section) ≡ Ok (o, after) → after ≡ drop (length section - length after) section
-rest_at section offset o after e =
-    let t = taken (drop offset section) o after e in
-    let whole : section ≡ (take offset section ++ t.text) ++ after = sym (take-append-drop offset section) ∙ ap (λ (r : List ℕ). take offset section ++ r) t.parts ∙ sym (append_assoc (take offset section) t.text after) in
-    let long : length (take offset section ++ t.text) ≡ length section - length after = omega (arith, ap length whole, length-append (take offset section ++ t.text) after) in
-    sym (drop_at (take offset section ++ t.text) after (length section - length after) long) ∙ ap (drop (length section - length after)) (sym whole)
-
--- the bytes from an offset on
-pub bytes_from : (section : List ℕ) (offset : ℕ) → take (length section - offset) (drop offset section) ≡ drop offset section
-bytes_from section offset = take_all (length section - offset) (drop offset section) (omega (arith, length-drop offset section))
-
 -- ---- one declaration more
-
-apart_cons : (d : Declaration) (ds : List Declaration) → Lacks code_of_decl d.code ds → Apart code_of_decl ds → Apart code_of_decl (d ∷ ds)
-apart_cons d ds lacks apart zero zero e less long = absurd (omega arith)
-apart_cons d ds lacks apart zero (suc j) e less long = λ same. lacks j e (omega arith) (sym same)
-apart_cons d ds lacks apart (suc i) zero e less long = absurd (omega arith)
-apart_cons d ds lacks apart (suc i) (suc j) e less long = apart i j e (omega arith) (omega arith)
 
 module _ (section : List ℕ) where
   -- what is spelled at an offset is the table there
@@ -66,7 +53,7 @@ module _ (section : List ℕ) where
         spelled = (t.text, text, refl, t.spelled.0, b.spelled.spelled);
         allowed = record {
           each = All-cons IsDeclaration d ds t.spelled.1 b.spelled.allowed.each;
-          distinct = apart_cons d ds lacks b.spelled.allowed.distinct;
+          distinct = apart_cons code_of_decl d ds lacks b.spelled.allowed.distinct;
         };
       })
 
@@ -152,34 +139,35 @@ module _ (section : List ℕ) where
       let long : length (drop offset section) ≡ length t.text + length (drop next section) = ap length t.parts ∙ length-append t.text (drop next section) in
       (omega (arith, some, long, length-drop offset section, length-drop next section), omega (arith, some, long, length-drop offset section, length-drop next section))
 
-  -- so they end where they begin, or after it
-  pub behind_on : (xs : List Started) (offset end : ℕ) → AreBehind section xs offset end → offset ≤ end
-  behind_on [] offset end here = omega (arith, here)
-  behind_on (x ∷ xs) offset end p =
-      let less = decl_takes offset p.1 (view x.decl) p.2 in
-      omega (arith, less.0, behind_on xs p.1 end p.3)
-
   -- one more behind them
-  pub behind_push : (xs : List Started) (offset end next : ℕ) (s : Started) → AreBehind section xs offset end → s.start ≡ end → decl_at [] (drop end section) ≡ Ok (Some (view s.decl), drop next section)
-      → AreBehind section (xs ++ s ∷ []) offset next
-  behind_push [] offset end next s here start e = (start ∙ sym here, next, ap (λ (n : ℕ). decl_at [] (drop n section)) here ∙ e, refl)
-  behind_push (x ∷ xs) offset end next s p start e = (p.0, p.1, p.2, behind_push xs p.1 end next s p.3 start e)
+  pub behind_push : (nodes : List Node) (xs : List Started) (offset end next : ℕ) (s : Started) → AreBehind nodes section xs offset end → s.start ≡ end → HasList nodes s.decl.first s.decl.step
+      → decl_at [] (drop end section) ≡ Ok (Some (kept_view nodes s.decl), drop next section) → AreBehind nodes section (xs ++ s ∷ []) offset next
+  behind_push nodes [] offset end next s here start kept e = (start ∙ sym here, kept, next, ap (λ (n : ℕ). decl_at [] (drop n section)) here ∙ e, refl)
+  behind_push nodes (x ∷ xs) offset end next s p start kept e = (p.0, p.1, p.2, p.3, behind_push nodes xs p.2 end next s p.4 start kept e)
 
   -- the last of them, with those before it
-  pub behind_pop : (xs : List Started) (offset end : ℕ) (s : Started) → AreBehind section (xs ++ s ∷ []) offset end
-      → AreBehind section xs offset s.start × (decl_at [] (drop s.start section) ≡ Ok (Some (view s.decl), drop end section))
-  behind_pop [] offset end s p = (sym p.0, ap (λ (n : ℕ). decl_at [] (drop n section)) p.0 ∙ p.2 ∙ ap (λ (n : ℕ). Ok (Some (view s.decl), drop n section)) p.3)
-  behind_pop (x ∷ xs) offset end s p = let r = behind_pop xs p.1 end s p.3 in ((p.0, p.1, p.2, r.0), r.1)
+  pub behind_pop : (nodes : List Node) (xs : List Started) (offset end : ℕ) (s : Started) → AreBehind nodes section (xs ++ s ∷ []) offset end
+      → AreBehind nodes section xs offset s.start × HasList nodes s.decl.first s.decl.step × (decl_at [] (drop s.start section) ≡ Ok (Some (kept_view nodes s.decl), drop end section))
+  behind_pop nodes [] offset end s p =
+      (sym p.0, p.1, ap (λ (n : ℕ). decl_at [] (drop n section)) p.0 ∙ p.3 ∙ ap (λ (n : ℕ). Ok (Some (kept_view nodes s.decl), drop n section)) p.4)
+  behind_pop nodes (x ∷ xs) offset end s p = let r = behind_pop nodes xs p.2 end s p.4 in ((p.0, p.1, p.2, p.3, r.0), r.1, r.2)
+
+  -- they stay as more attributes are kept
+  pub behind_stays : (old new : List Node) (xs : List Started) (offset end : ℕ) → StayNodes old new → AreBehind old section xs offset end → AreBehind new section xs offset end
+  behind_stays old new [] offset end stay here = here
+  behind_stays old new (x ∷ xs) offset end stay p =
+      let same : kept_view new x.decl ≡ kept_view old x.decl = view_stays old new x.decl stay p.1.within in
+      (p.0, has_stays old new _ _ stay p.1, p.2, p.3 ∙ ap (λ (d : Declaration). Ok (Some d, drop p.2 section)) (sym same), behind_stays old new xs p.2 end stay p.4)
 
   -- where no table begins behind them, none begins with them
-  pub none_behind : (xs : List Started) (offset end : ℕ) → AreBehind section xs offset end → NoTable section end → NoTable section offset
-  none_behind [] offset end here none = subst (NoTable section) (sym here) none
-  none_behind (x ∷ xs) offset end p none = none_before offset p.1 (view x.decl) p.2 (none_behind xs p.1 end p.3 none)
+  pub none_behind : (nodes : List Node) (xs : List Started) (offset end : ℕ) → AreBehind nodes section xs offset end → NoTable section end → NoTable section offset
+  none_behind nodes [] offset end here none = subst (NoTable section) (sym here) none
+  none_behind nodes (x ∷ xs) offset end p none = none_before offset p.2 (kept_view nodes x.decl) p.3 (none_behind nodes xs p.2 end p.4 none)
 
-  pub front_fails : (error : DeclError) (xs : List Started) (offset end : ℕ) → AreBehind section xs offset end → FailsOrMemory error (decl_at [] (drop end section))
+  pub front_fails : (nodes : List Node) (error : DeclError) (xs : List Started) (offset end : ℕ) → AreBehind nodes section xs offset end → IfBroken (IfNoDecl section end) error
       → IfBroken (NoTable section offset) error
-  front_fails errors.Memory xs offset end behind e = tt
-  front_fails (errors.Fault fault) xs offset end behind e = none_behind xs offset end behind (table_broken end fault e)
+  front_fails nodes errors.Memory xs offset end behind e = tt
+  front_fails nodes (errors.Fault fault) xs offset end behind e = none_behind nodes xs offset end behind (table_broken end e.0 e.1)
 
 -- ---- a table and its bytes
 

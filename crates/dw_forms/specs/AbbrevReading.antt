@@ -65,6 +65,16 @@ new_form_of earlier attribute code =
     on_option (form_of code) (Err (record { rule = UnknownForm; attribute = attribute })) (λ form.
     if has_attribute attribute earlier then Err (record { rule = AttributeTwice; attribute = attribute }) else Ok form)
 
+-- the next attribute and its form, before the number of a constant, or none at the pair 0, 0
+unfoldable pub begun_at : List ℕ → Result (Option (ℕ × Form) × List ℕ) DeclFault
+begun_at bytes = do
+  a ← unsigned_at bytes
+  f ← unsigned_at a.1
+  if a.0 == 0 && f.0 == 0 then Ok (None, f.1) else (
+      if a.0 == 0 || f.0 == 0 || nat_lt 65535 a.0 then Err (record { rule = BadPair; attribute = 0 }) else (
+      on_option (form_of f.0) (Err (record { rule = UnknownForm; attribute = a.0 })) (λ form.
+      Ok (Some (a.0, form), f.1))))
+
 -- the next pair after the earlier ones of its declaration, or none at the pair 0, 0
 unfoldable pub pair_at : List AttributeSpec → List ℕ → Result (Option AttributeSpec × List ℕ) DeclFault
 pair_at earlier bytes = do
@@ -93,6 +103,14 @@ children_at [] = Err (record { rule = AbbrevCut; attribute = 0 })
 children_at (zero ∷ bytes) = Ok (false, bytes)
 children_at (suc zero ∷ bytes) = Ok (true, bytes)
 children_at (suc (suc byte) ∷ bytes) = Err (record { rule = BadChildren; attribute = 0 })
+
+-- a tag, and the byte that says whether there are children
+unfoldable pub tagged_at : List ℕ → Result (ℕ × Bool × List ℕ) DeclFault
+tagged_at bytes = do
+  tag ← unsigned_at bytes
+  if tag.0 == 0 || nat_lt 65535 tag.0 then Err (record { rule = BadTag; attribute = 0 }) else (
+      children_at tag.1 >>= λ children.
+      Ok (tag.0, children.0, children.1))
 
 -- whether one of these has the code
 abbrev pub has_code : ℕ → List Declaration → Bool

@@ -1,21 +1,21 @@
 -- State: the abbreviation tables that were read of a section.
-use Rattle.std.specs.Prelude.{ℕ, List, []}
+use Rattle.std.specs.Prelude.{ℕ, List}
 use Rattle.dw_forms.specs.declared.abbrev_tables.AbbrevTables.{AbbrevTables}
-use Rattle.dw_forms.specs.Marks.{AreMarks}
-use Rattle.dw_forms.specs.KeptDecls.{Numbered, tables_of, AreKept}
-use Rattle.dw_forms.specs.TableStarts.{AreStarts, AreFew}
+use Rattle.dw_forms.specs.KeptDecls.{Tables, tables_of, AreWithin, AreCoded}
+use Rattle.dw_forms.specs.ListOffsets.{AreListsOf}
+use Rattle.dw_forms.specs.TableStarts.{AreStarts}
 
 -- the tables by their numbers
-abbrev pub tables_in : AbbrevTables → List (List Numbered)
-tables_in t = tables_of t.kept.items
+abbrev pub tables_in : AbbrevTables → Tables
+tables_in t = tables_of t.lists.lists.nodes.items t.kept.items
 
--- codes are found in the tables
-abbrev pub AreSearchable : AbbrevTables → Type 0
-AreSearchable t = AreKept t.branches.items t.kept.items
+-- codes are found in the tables, and attributes in the declarations
+pub record AreSearchable (t : AbbrevTables) : Type 0 where
+  pub coded : AreCoded t.codes.links.items t.kept.items
+  pub within : AreWithin t.lists.lists.nodes.items t.kept.items
 
 -- the tables are those of this section
 pub record AreTablesOf (section : List ℕ) (t : AbbrevTables) : Type 0 where
-  pub kept : AreSearchable t
-  pub starts : AreStarts section (tables_in t) t.starts
-  pub few : AreFew section t.kept.items t.starts
-  pub marks : AreMarks [] t.marks.items
+  pub searchable : AreSearchable t
+  pub lists : AreListsOf section t.lists
+  pub starts : AreStarts section (tables_in t) t.starts.starts.items

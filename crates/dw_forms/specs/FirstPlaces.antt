@@ -1,7 +1,5 @@
 -- State: the place of the first attribute with a code, and its value.
 use Rattle.std.specs.Prelude.{◌≡◌, ◌≢◌, ℕ, ◌<◌, List, length, Option, Some, None, Result, Ok, Err, All, slice_index_or}
-use Rattle.std.specs.Ordering.{nat_cmp}
-use Rattle.std.specs.BTreeMap.{BTreeMap, get}
 use Rattle.std.specs.List.{slice_range}
 use Rattle.dw_forms.specs.declared.decl.AttributeSpec.{AttributeSpec}
 use Rattle.dw_forms.specs.declared.form.Form.{Form}
@@ -17,15 +15,6 @@ pub record StandsFirst (specs : List AttributeSpec) (code place : ℕ) : Type 0 
   pub within : place < length specs
   pub has : (d : AttributeSpec) → (slice_index_or specs place d).attribute ≡ code
   pub none_before : (k : ℕ) (d : AttributeSpec) → k < place → (slice_index_or specs k d).attribute ≢ code
-
--- the place is that of the first attribute with the code, or none has it
-abbrev pub IsFirst : List AttributeSpec → ℕ → Option ℕ → Type 0
-IsFirst specs code None = All (λ (spec : AttributeSpec). spec.attribute ≢ code) specs
-IsFirst specs code (Some place) = StandsFirst specs code place
-
--- the map has the first place of each code
-abbrev pub IsIndex : List AttributeSpec → BTreeMap ℕ ℕ → Type 0
-IsIndex specs places = (code : ℕ) → IsFirst specs code (get nat_cmp places code)
 
 -- the value of this form that is read behind those before it
 abbrev pub value_behind : ℕ → ℕ → Form → Result (List ℕ) ValueFault → Result Datum ValueFault

@@ -28,10 +28,14 @@ pub mod Marks
 pub mod Plans
 pub mod Remainders
 pub mod Places
-pub mod Walks
 pub mod FirstPlaces
-pub mod Planned
 pub mod CodeBits
+pub mod Chains
+pub mod Walks
+pub mod Offsets
+pub mod AttributeLists
+pub mod Suffixes
+pub mod ListOffsets
 pub mod KeptDecls
 pub mod TableStarts
 pub mod AbbrevTables

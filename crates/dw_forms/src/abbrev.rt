@@ -10,15 +10,28 @@ ghost use Rattle.dw_forms.specs.Places.{IsIndex, IsPlace, StandsAt};
 ghost use Rattle.dw_forms.specs.AbbrevReading.{has_code};
 
 use crate::abbrev_fault::AbbrevFault;
-use crate::decl::Decl;
+use crate::constants::Tag;
+use crate::decl::AttributeSpec;
 use std::alloc::Global;
 use std::collections::BTreeMap;
 use std::marker::Model;
 
+/// A declaration as its table has it.
+#[derive(Debug, Drop)]
+pub struct TableDecl {
+    /// The number by which entries name the declaration, at least 1.
+    pub code: u64,
+    pub tag: Tag,
+    /// Whether a list of children follows each entry.
+    pub has_children: bool,
+    /// In the order of their values in an entry. No attribute stands twice.
+    pub attributes: Vec<AttributeSpec>,
+}
+
 /// The declarations of one table, in their order.
 #[derive(Debug, Drop)]
 pub struct AbbrevTable {
-    decls: Vec<Decl>,
+    decls: Vec<TableDecl>,
     /// The places, from 0, of the declarations whose code isn't their place counted from 1.
     elsewhere: BTreeMap<u64, usize>,
 }
@@ -36,7 +49,7 @@ impl Model for AbbrevTable {
 }
 
 /// The place of the declaration with this code: the one that the code itself says, or one from the map.
-fn place_of(decls: &[Decl], elsewhere: &BTreeMap<u64, usize>, code: u64) -> Option<usize>
+fn place_of(decls: &[TableDecl], elsewhere: &BTreeMap<u64, usize>, code: u64) -> Option<usize>
     requires { IsIndex decls.now elsewhere.now }
     ensures { IsPlace decls.now code result }
 {
@@ -58,7 +71,7 @@ fn place_of(decls: &[Decl], elsewhere: &BTreeMap<u64, usize>, code: u64) -> Opti
 
 /// Enters the place of the declaration with this new code that will be the next.
 fn make_room(
-    decls: &[Decl],
+    decls: &[TableDecl],
     elsewhere: &mut BTreeMap<u64, usize>,
     code: u64,
 ) -> Result<(), AbbrevFault>
@@ -94,7 +107,7 @@ impl AbbrevTable {
     }
 
     /// Adds a declaration with a new code.
-    pub(crate) fn push(&mut self, decl: Decl) -> Result<(), AbbrevFault>
+    pub(crate) fn push(&mut self, decl: TableDecl) -> Result<(), AbbrevFault>
         requires { has_code decl.code self.old ≡ false }
         ensures ok { OnOk result (self.new ≡ self.old ++ view decl ∷ []) }
         ensures err { IfFault result (λ _. ⊥) }
@@ -123,7 +136,7 @@ impl AbbrevTable {
     }
 
     /// The declaration at this place, from 0.
-    pub fn decl(&self, place: usize) -> &Decl
+    pub fn decl(&self, place: usize) -> &TableDecl
         requires { place < length self.now }
         ensures { slice_get self.now place ≡ Some (view result.now) }
     {
@@ -131,7 +144,7 @@ impl AbbrevTable {
     }
 
     /// The declaration with this code.
-    pub fn get(&self, code: u64) -> Option<&Decl>
+    pub fn get(&self, code: u64) -> Option<&TableDecl>
         ensures { option_map view (option_copied result) ≡ find (λ d. d.code == code) self.now }
     {
         match self.place(code) {

@@ -4,17 +4,17 @@ ghost use Rattle.std.specs.Prelude.{◌≡◌, ◌<◌, ◌≤◌, ℕ, [], ◌�
 ghost use Rattle.std.specs.Prelude.{OnOk};
 ghost use Rattle.dw_forms.specs.Front.{BeginsWith, BeginsWithNone};
 ghost use Rattle.dw_forms.specs.AbbrevFaults.{IfFault};
-ghost use Rattle.dw_forms.specs.Abbrev.{view, Decls, TableFails};
+ghost use Rattle.dw_forms.specs.Abbrev.{view, Decls, IsCode16, TableFails};
 ghost use Rattle.dw_forms.specs.Marks.{AreMarks};
 ghost use Rattle.dw_forms.specs.AbbrevReading.{GivesOrMemory, has_attribute, has_code, unsigned_at, signed_at};
-ghost use Rattle.dw_forms.specs.AbbrevReading.{new_form_of};
-ghost use Rattle.dw_forms.specs.AbbrevReading.{form_at, pair_at, attributes_of, children_at, decl_at, TableGives};
+ghost use Rattle.dw_forms.specs.AbbrevReading.{form_at, begun_at, pair_at, tagged_at, attributes_of};
+ghost use Rattle.dw_forms.specs.AbbrevReading.{children_at, decl_at, TableGives};
 ghost use Rattle.dw_forms.specs.AbbrevReading.{placed, table_at};
 
-use crate::abbrev::AbbrevTable;
+use crate::abbrev::{AbbrevTable, TableDecl};
 use crate::abbrev_fault::{AbbrevFault, AbbrevRule, DeclError, DeclFault};
 use crate::constants::{Attribute, Tag};
-use crate::decl::{AttributeSpec, Decl};
+use crate::decl::AttributeSpec;
 use crate::form::Form;
 use crate::leb::{read_sleb, read_uleb};
 use std::alloc::Global;
@@ -37,14 +37,15 @@ fn signed(bytes: &[u8]) -> Result<(i64, &[u8]), DeclError>
     Ok((number, &bytes[len..]))
 }
 
-fn fault(rule: AbbrevRule, attribute: u16) -> DeclError
+/// The error of a declaration that breaks a rule.
+pub fn fault(rule: AbbrevRule, attribute: u16) -> DeclError
     ensures { result ≡ DeclError.Fault (record { rule = rule; attribute = attribute }) }
 {
     DeclError::Fault(DeclFault { rule, attribute })
 }
 
 /// The form, with the number that stands after an implicit constant.
-fn form_with_number(form: Form, bytes: &[u8]) -> Result<(Form, &[u8]), DeclError>
+pub fn form_with_number(form: Form, bytes: &[u8]) -> Result<(Form, &[u8]), DeclError>
     ensures exact { GivesOrMemory (λ x. (x.0, x.1.now)) result (form_at form bytes.now) }
     ensures within { IfOk result (λ x. length x.1.now ≤ length bytes.now) }
 {
@@ -58,7 +59,7 @@ fn form_with_number(form: Form, bytes: &[u8]) -> Result<(Form, &[u8]), DeclError
 }
 
 /// Marks for no attributes, one for each code of 16 bits.
-pub(crate) fn no_marks(alloc: Global) -> Result<Vec<bool>, AbbrevFault>
+fn no_marks(alloc: Global) -> Result<Vec<bool>, AbbrevFault>
     ensures marks { IfOk result (λ marks. AreMarks [] marks.items) }
     ensures err { IfFault result (λ _. ⊥) }
 {
@@ -93,35 +94,10 @@ fn has_attribute(earlier: &[AttributeSpec], marks: &[bool], attribute: u16) -> b
     marks[usize::from(attribute)]
 }
 
-/// The form of an attribute that none of the earlier ones is.
-#[tactic(auto, unfolding(crate::specs::AbbrevReading::new_form_of))]
-fn new_form(
-    earlier: &[AttributeSpec],
-    marks: &[bool],
-    attribute: u16,
-    code: u64,
-) -> Result<Form, DeclError>
-    requires { AreMarks earlier.now marks.now }
-    ensures { GivesOrMemory (λ form. form) result (new_form_of earlier.now attribute code) }
-{
-    let Some(form) = Form::from_code(code) else {
-        return Err(fault(AbbrevRule::UnknownForm, attribute));
-    };
-    if has_attribute(earlier, marks, attribute) {
-        return Err(fault(AbbrevRule::AttributeTwice, attribute));
-    }
-    Ok(form)
-}
-
-/// The next pair after the earlier ones of its declaration, or none at the pair 0, 0.
-#[tactic(auto, unfolding(crate::specs::AbbrevReading::pair_at))]
-fn next_attribute<'a>(
-    earlier: &[AttributeSpec],
-    marks: &[bool],
-    bytes: &'a [u8],
-) -> Result<(Option<AttributeSpec>, &'a [u8]), DeclError>
-    requires { AreMarks earlier.now marks.now }
-    ensures exact { GivesOrMemory (λ x. (x.0, x.1.now)) result (pair_at earlier.now bytes.now) }
+/// The next attribute and its form, without the number of a constant, or none at the pair 0, 0.
+#[tactic(auto, unfolding(crate::specs::AbbrevReading::begun_at))]
+pub fn pair_of(bytes: &[u8]) -> Result<(Option<(u16, Form)>, &[u8]), DeclError>
+    ensures exact { GivesOrMemory (λ x. (x.0, x.1.now)) result (begun_at bytes.now) }
     ensures shorter { IfOk result (λ x. length x.1.now < length bytes.now) }
 {
     let (attribute, rest) = unsigned(bytes)?;
@@ -133,7 +109,30 @@ fn next_attribute<'a>(
         return Err(fault(AbbrevRule::BadPair, 0));
     }
     let attribute = attribute as u16;
-    let form = new_form(earlier, marks, attribute, code)?;
+    match Form::from_code(code) {
+        Some(form) => Ok((Some((attribute, form)), rest)),
+        None => Err(fault(AbbrevRule::UnknownForm, attribute)),
+    }
+}
+
+/// The next pair after the earlier ones of its declaration, or none at the pair 0, 0.
+#[tactic(auto, using(crate::proofs::AbbrevSteps::pair_by))]
+fn next_attribute<'a>(
+    earlier: &[AttributeSpec],
+    marks: &[bool],
+    bytes: &'a [u8],
+) -> Result<(Option<AttributeSpec>, &'a [u8]), DeclError>
+    requires { AreMarks earlier.now marks.now }
+    ensures exact { GivesOrMemory (λ x. (x.0, x.1.now)) result (pair_at earlier.now bytes.now) }
+    ensures shorter { IfOk result (λ x. length x.1.now < length bytes.now) }
+{
+    let (pair, rest) = pair_of(bytes)?;
+    let Some((attribute, form)) = pair else {
+        return Ok((None, rest));
+    };
+    if has_attribute(earlier, marks, attribute) {
+        return Err(fault(AbbrevRule::AttributeTwice, attribute));
+    }
     let (form, rest) = form_with_number(form, rest)?;
     let spec = AttributeSpec {
         attribute: Attribute(attribute),
@@ -151,7 +150,6 @@ fn read_attributes<'a>(
     requires { AreMarks [] marks.old }
     ensures unmarked { OnOk result (AreMarks [] marks.new) }
     ensures exact { GivesOrMemory (λ x. (x.0.items, x.1.now)) result (attributes_of bytes.now) }
-    ensures few { IfOk result (λ x. length x.0.items ≤ 0x10000) }
     ensures shorter { IfOk result (λ x. length x.1.now < length bytes.now) }
 {
     let mut attributes = Vec::new(alloc);
@@ -184,35 +182,61 @@ fn read_children(bytes: &[u8]) -> Result<(bool, &[u8]), DeclError>
     }
 }
 
+/// The code of a declaration, and the bytes after it.
+pub fn code_of(bytes: &[u8]) -> Result<(u64, &[u8]), DeclError>
+    ensures exact { GivesOrMemory (λ x. (x.0, x.1.now)) result (unsigned_at bytes.now) }
+    ensures shorter { IfOk result (λ x. length x.1.now < length bytes.now) }
+{
+    unsigned(bytes)
+}
+
+/// The tag of a declaration, whether entries have children, and the bytes after both.
+#[tactic(auto, unfolding(crate::specs::AbbrevReading::tagged_at))]
+pub fn tag_and_children(bytes: &[u8]) -> Result<(Tag, bool, &[u8]), DeclError>
+    ensures exact { GivesOrMemory (λ x. (x.0, x.1, x.2.now)) result (tagged_at bytes.now) }
+    ensures code { IfOk result (λ x. IsCode16 x.0) }
+    ensures shorter { IfOk result (λ x. length x.2.now < length bytes.now) }
+{
+    let (tag, rest) = unsigned(bytes)?;
+    if tag == 0 || tag > 0xffff {
+        return Err(fault(AbbrevRule::BadTag, 0));
+    }
+    let (has_children, rest) = read_children(rest)?;
+    Ok((Tag(tag as u16), has_children, rest))
+}
+
 /// The next declaration after the earlier ones of its table, or none at the code 0.
-#[tactic(auto, unfolding(crate::specs::AbbrevReading::decl_at))]
-pub(crate) fn next_decl<'a>(
+#[tactic(auto, unfolding(crate::specs::AbbrevReading::decl_at, crate::specs::AbbrevReading::tagged_at))]
+fn next_decl<'a>(
     alloc: Global,
     earlier: &AbbrevTable,
     marks: &mut [bool],
     bytes: &'a [u8],
-) -> Result<(Option<Decl>, &'a [u8]), DeclError>
+) -> Result<(Option<TableDecl>, &'a [u8]), DeclError>
     requires { AreMarks [] marks.old }
     ensures unmarked { OnOk result (AreMarks [] marks.new) }
     ensures exact { GivesOrMemory (λ x. (option_map view x.0, x.1.now)) result (decl_at earlier.now bytes.now) }
     ensures new { IfOk result (λ x. IfSome x.0 (λ d. has_code d.code earlier.now ≡ false)) }
     ensures shorter { IfOk result (λ x. length x.1.now < length bytes.now) }
 {
-    let (code, rest) = unsigned(bytes)?;
+    let (code, rest) = code_of(bytes)?;
     if code == 0 {
         return Ok((None, rest));
     }
     if earlier.has_code(code) {
         return Err(fault(AbbrevRule::CodeTwice, 0));
     }
-    let (tag, rest) = unsigned(rest)?;
-    if tag == 0 || tag > 0xffff {
-        return Err(fault(AbbrevRule::BadTag, 0));
-    }
-    let (has_children, rest) = read_children(rest)?;
-    let (mut attributes, rest) = read_attributes(alloc, marks, rest)?;
-    attributes.shrink_to_fit();
-    let decl = Decl::new(alloc, code, Tag(tag as u16), has_children, attributes)?;
+    let (tag, has_children, rest) = match tag_and_children(rest) {
+        Ok(found) => found,
+        Err(error) => return Err(error),
+    };
+    let (attributes, rest) = read_attributes(alloc, marks, rest)?;
+    let decl = TableDecl {
+        code,
+        tag,
+        has_children,
+        attributes,
+    };
     Ok((Some(decl), rest))
 }
 
@@ -223,7 +247,7 @@ fn next_decl_at<'a>(
     marks: &mut [bool],
     bytes: &'a [u8],
     place: usize,
-) -> Result<(Option<Decl>, &'a [u8]), AbbrevFault>
+) -> Result<(Option<TableDecl>, &'a [u8]), AbbrevFault>
     requires { AreMarks [] marks.old }
     ensures unmarked { OnOk result (AreMarks [] marks.new) }
     ensures exact { TableGives

@@ -1,132 +1,234 @@
 //! The attributes of a declaration, and where their values begin.
 
-ghost use Rattle.std.specs.Prelude.{◌≡◌, ◌≤◌, ◌⊎◌, length, IfOk};
-ghost use Rattle.std.specs.List.{slice_range};
-ghost use Rattle.dw_forms.specs.Plans.{values_end, is_stop, IsNext};
-ghost use Rattle.dw_forms.specs.FirstPlaces.{IsFirst, AnswersFirst};
+ghost use Rattle.std.specs.Prelude.{◌≡◌, ◌≢◌, ◌≤◌, ◌⊎◌, List, [], length, All, IfSome, IfNone};
+ghost use Rattle.std.specs.Bool.{OnTrue};
+ghost use Rattle.dw_forms.specs.declared.decl.AttributeSpec.{AttributeSpec as SpecData};
+ghost use Rattle.dw_forms.specs.Chains.{Numbered, items_of};
+ghost use Rattle.dw_forms.specs.AttributeLists.{known_of, has_this, IsKnown};
+ghost use Rattle.dw_forms.specs.FirstPlaces.{AnswersFirst};
+ghost use Rattle.dw_forms.specs.Plans.{cut_at, known_sum, values_end, is_stop};
+ghost use Rattle.dw_forms.specs.Sizes.{are_allowed, rest_at};
 ghost use Rattle.dw_forms.specs.ValueReading.{Gives};
-ghost use Rattle.dw_forms.specs.Walks.{steps_of};
+ghost use Rattle.dw_forms.specs.Walks.{IsStep};
 
-use crate::attribute_index::{index_of, place_of};
+use crate::attribute_lists::{AttributeLists, Node};
 use crate::constants::Attribute;
 use crate::decl::AttributeSpec;
-use crate::plan::{Plan, next_stop, pass, plan_of};
-use crate::steps::{Step, steps_of};
+use crate::form::Form;
+use crate::known::remainder_bit;
+use crate::steps::Step;
 use crate::value::{Value, ValueFault};
-use crate::value_reader::read_any;
-use std::alloc::{AllocError, Global};
-use std::collections::BTreeMap;
-use std::marker::Model;
+use crate::value_reader::{read_any, skip_long};
 
-/// The attributes of a declaration in the order of their values in an entry, with what is known of the values before
-/// any entry is read.
-#[derive(Debug, Drop)]
-pub struct Attributes {
-    specs: Vec<AttributeSpec>,
-    plan: Plan,
-    /// The steps of a walk over the values that may lead elsewhere.
-    steps: Vec<Step>,
-    /// The place of the first attribute of each code, in a declaration of more than 16.
-    places: BTreeMap<u16, u32>,
+/// Attributes of a declaration in the order of their values in an entry: all of them, or those from one on.
+#[derive(Clone, Copy, Debug)]
+pub struct Attributes<'a> {
+    pub(crate) lists: &'a AttributeLists,
+    /// The number of the list.
+    pub(crate) first: u32,
+    ghost within: { first ≤ length lists.now.nodes.items },
 }
 
-impl Model for Attributes {
-    ghost use Rattle.std.specs.Prelude.{List};
-    ghost use Rattle.dw_forms.specs.declared.decl.AttributeSpec.{AttributeSpec as Spec};
-    ghost use Rattle.dw_forms.specs.Planned.{IsPlanned};
-
-    ghost Value = { List Spec };
-
-    ghost view = { λ a. a.specs.items };
-
-    ghost invariant = { λ a. IsPlanned a.specs.items a.plan a.steps.items a.places };
+/// The sum of the known sizes from a node on.
+#[inline(always)]
+fn known(node: &Node, address_size: u8) -> usize
+    ensures { result ≡ known_of address_size node.now }
+{
+    if address_size == 8 {
+        node.known_with_8 as usize
+    } else {
+        node.known_with_4 as usize
+    }
 }
 
-impl Attributes {
-    /// These attributes.
-    pub(crate) fn new(alloc: Global, specs: Vec<AttributeSpec>) -> Result<Attributes, AllocError>
-        requires { length specs.items ≤ 0x10000 }
-        ensures { IfOk result (λ attributes. attributes ≡ specs.items) }
-    {
-        let plan = plan_of(alloc, &specs)?;
-        let steps = steps_of(alloc, &specs)?;
-        let places = if specs.len() > 16 {
-            index_of(alloc, &specs)?
-        } else {
-            BTreeMap::new(alloc)
-        };
-        Ok(Attributes {
-            specs,
-            plan,
-            steps,
-            places,
-        })
+/// The bytes after so many.
+#[inline(always)]
+fn cut_at(bytes: &[u8], len: usize) -> Result<&[u8], ValueFault>
+    ensures { Gives (λ rest. rest.now) result (cut_at len bytes.now) }
+{
+    if bytes.len() < len {
+        return Err(ValueFault::Cut);
     }
+    Ok(&bytes[len..])
+}
 
-    /// The attributes in their order.
+/// The bytes after one value whose form has no one size.
+#[inline(always)]
+fn skip_one(version: u16, form: Form, address_size: u8, bytes: &[u8]) -> Result<&[u8], ValueFault>
+    requires { (address_size ≡ 4) ⊎ (address_size ≡ 8) }
+    ensures { Gives (λ rest. rest.now) result (rest_at version form address_size bytes.now) }
+{
+    match skip_long(version, form, address_size, bytes) {
+        Ok(len) => Ok(&bytes[len..]),
+        Err(fault) => Err(fault),
+    }
+}
+
+impl<'a> Attributes<'a> {
+    ghost use Rattle.dw_forms.specs.Suffixes.{specs_in, nodes_of, numbered, Ends, IsFrom, IsSplitFirst, IsSplitStep};
+
+    /// The list of a number.
     #[inline(always)]
-    pub fn as_slice(&self) -> &[AttributeSpec]
-        ensures { result.now ≡ self.now }
+    pub(crate) fn new(lists: &'a AttributeLists, first: u32) -> Attributes<'a>
+        requires { first ≤ length lists.now.nodes.items }
+        ensures lists { nodes_of result ≡ lists.now.nodes.items }
+        ensures first { result.first ≡ first }
     {
-        &self.specs
+        Attributes { lists, first }
     }
 
-    /// Where the first attribute with this code stands, from 0.
+    /// What is known of these, if there are any.
     #[inline(always)]
-    pub fn place(&self, attribute: Attribute) -> Option<usize>
-        ensures { IsFirst self.now attribute result }
+    fn node(&self) -> Option<&'a Node>
+        ensures known { IfSome result (λ node. IsKnown (nodes_of self.now) self.now.first node.now) }
+        ensures first { IfNone result (self.now.first ≡ 0) }
+        ensures none { IfNone result (numbered self.now ≡ []) }
     {
-        place_of(&self.specs, &self.places, attribute)
+        if self.first == 0 {
+            return None;
+        }
+        Some(&self.lists.nodes[(self.first - 1) as usize])
     }
 
-    /// The bytes behind the values from one place up to another, as they are read one by one. The work is bounded by
-    /// the bytes that are passed.
+    /// The first attribute, and those after it.
+    #[inline(always)]
+    pub fn split_first(&self) -> Option<(AttributeSpec, Attributes<'a>)>
+        ensures { IsSplitFirst self.now result }
+    {
+        match self.node() {
+            Some(node) => Some((node.spec(), Attributes::new(self.lists, node.next))),
+            None => None,
+        }
+    }
+
+    /// Whether each form is one of version 4.
+    #[inline(always)]
+    pub fn in_version_4(&self) -> bool
+        ensures { result ≡ are_allowed 4 (specs_in self.now) }
+    {
+        match self.node() {
+            Some(node) => node.in_version_4,
+            None => true,
+        }
+    }
+
+    /// Whether none of these has the attribute, as far as that is known at once.
+    #[inline(always)]
+    pub fn lacks(&self, attribute: Attribute) -> bool
+        ensures { OnTrue result (All (λ spec. spec.attribute ≢ attribute) (specs_in self.now)) }
+    {
+        match self.node() {
+            Some(node) => node.remainders & remainder_bit(attribute) == 0,
+            None => true,
+        }
+    }
+
+    /// The attributes from the one with this code on, or none.
+    #[inline(always)]
+    pub fn find(&self, attribute: Attribute) -> Attributes<'a>
+        ensures { IsFrom (has_this attribute) self.now result }
+    {
+        let found = self.lists.codes.search(self.first, u64::from(attribute.0));
+        Attributes::new(self.lists, found)
+    }
+
+    /// The attributes from the first one on at which a search stops, or none: its value takes bytes, or has a class
+    /// that is none of the attribute's.
+    #[inline(always)]
+    pub fn next_stop(&self) -> Attributes<'a>
+        ensures { IsFrom is_stop self.now result }
+    {
+        match self.node() {
+            Some(node) => Attributes::new(self.lists, node.next_stop),
+            None => *self,
+        }
+    }
+
+    /// The attributes from the one on that a step from these goes to, or none.
+    #[inline(always)]
+    pub fn stepped(&self, step: Step) -> Attributes<'a>
+        requires { IsStep (numbered self.now) step }
+        ensures nodes { nodes_of result ≡ nodes_of self.now }
+        ensures first { result.first ≡ step.to }
+    {
+        Attributes::new(self.lists, step.to)
+    }
+
+    /// The first attribute, those after it, and the step from these.
+    #[inline(always)]
+    pub fn split_step(&self) -> Option<(AttributeSpec, Attributes<'a>, Step)>
+        ensures { IsSplitStep self.now result }
+    {
+        match self.node() {
+            Some(node) => {
+                let rest = Attributes::new(self.lists, node.next);
+                Some((node.spec(), rest, node.after))
+            }
+            None => None,
+        }
+    }
+
+    /// The sum of the sizes of the values, as far as they are known.
+    #[inline(always)]
+    fn known(&self, address_size: u8) -> usize
+        requires { (address_size ≡ 4) ⊎ (address_size ≡ 8) }
+        ensures { result ≡ known_sum address_size (specs_in self.now) }
+    {
+        match self.node() {
+            Some(node) => known(node, address_size),
+            None => 0,
+        }
+    }
+
+    /// The bytes after the values up to those of other attributes, which come last among these, as they are read one by
+    /// one. Each turn passes a value that has no one size, so it takes a byte of the entry at least.
     #[inline(always)]
     pub fn pass<'b>(
         &self,
         version: u16,
         address_size: u8,
-        from: usize,
-        to: usize,
+        to: Attributes<'a>,
         bytes: &'b [u8],
     ) -> Result<&'b [u8], ValueFault>
-        requires order { from ≤ to }
-        requires within { to ≤ length self.now }
+        requires ends { (before : List (Numbered SpecData)) × Ends self.now to before }
         requires size { (address_size ≡ 4) ⊎ (address_size ≡ 8) }
-        ensures { Gives (λ rest. rest.now) result
-            (values_end version address_size (slice_range self.now from to) bytes.now) }
+        ensures { (before : List (Numbered SpecData)) → Ends self.now to.entry before
+            → Gives (λ rest. rest.now) result (values_end version address_size (items_of before) bytes.now) }
     {
-        pass(
-            &self.plan,
-            &self.specs,
-            version,
-            address_size,
-            from,
-            to,
-            bytes,
-        )
+        let nodes = &self.lists.nodes;
+        let mut rest = bytes;
+        let mut at = self.first;
+        while at != to.first {
+            let here = &nodes[(at - 1) as usize];
+            if here.next_varying <= to.first {
+                return cut_at(rest, known(here, address_size) - to.known(address_size));
+            }
+            let varying = &nodes[(here.next_varying - 1) as usize];
+            rest = cut_at(
+                rest,
+                known(here, address_size) - known(varying, address_size),
+            )?;
+            rest = skip_one(version, varying.form, address_size, rest)?;
+            at = varying.next;
+        }
+        Ok(rest)
     }
 
-    /// The first place from one on at which a search stops, or how many attributes there are: the value there takes
-    /// bytes, or has a class that is none of the attribute's.
+    /// The bytes after all values.
     #[inline(always)]
-    pub fn next_stop(&self, from: usize) -> usize
-        requires { from ≤ length self.now }
-        ensures { IsNext is_stop self.now from result }
+    pub fn pass_all<'b>(
+        &self,
+        version: u16,
+        address_size: u8,
+        bytes: &'b [u8],
+    ) -> Result<&'b [u8], ValueFault>
+        requires { (address_size ≡ 4) ⊎ (address_size ≡ 8) }
+        ensures { Gives (λ rest. rest.now) result (values_end version address_size (specs_in self.now) bytes.now) }
     {
-        next_stop(&self.plan, &self.specs, from)
+        self.pass(version, address_size, Attributes::new(self.lists, 0), bytes)
     }
 
-    /// The steps of a walk over the values that may lead elsewhere, up to the last of them. Each step reads a value
-    /// that takes bytes, but for that of a type or a base.
-    #[inline(always)]
-    pub fn steps(&self) -> &[Step]
-        ensures { result.now ≡ steps_of self.now }
-    {
-        &self.steps
-    }
-
-    /// The value of the first attribute with this code, if one is declared. The work is bounded by the bytes before it.
+    /// The value of the attribute with this code, if one is declared. The work is bounded by the bytes before it.
     #[inline(always)]
     pub fn value<'b>(
         &self,
@@ -136,16 +238,16 @@ impl Attributes {
         bytes: &'b [u8],
     ) -> Result<Option<Value<'b>>, ValueFault>
         requires { (address_size ≡ 4) ⊎ (address_size ≡ 8) }
-        ensures { AnswersFirst version address_size self.now attribute bytes.now result }
+        ensures { AnswersFirst version address_size (specs_in self.now) attribute bytes.now result }
     {
-        let Some(place) = self.place(attribute) else {
+        let found = self.find(attribute);
+        let Some((spec, _)) = found.split_first() else {
             return Ok(None);
         };
-        let rest = match self.pass(version, address_size, 0, place, bytes) {
+        let rest = match self.pass(version, address_size, found, bytes) {
             Ok(rest) => rest,
             Err(fault) => return Err(fault),
         };
-        let spec = self.specs[place];
         match read_any(version, spec.form, address_size, rest) {
             Ok((value, _)) => Ok(Some(value)),
             Err(fault) => Err(fault),

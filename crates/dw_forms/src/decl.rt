@@ -1,15 +1,14 @@
 //! Abbreviation declarations (DWARF 5, 7.5.3).
 
-ghost use Rattle.std.specs.Prelude.{◌≡◌, ◌≢◌, ◌≤◌, ◌%◌, ◌^◌, ◌⊎◌, All, bit_and, length, IfOk};
-ghost use Rattle.std.specs.Bool.{OnFalse};
-ghost use Rattle.dw_forms.specs.Sizes.{are_allowed};
+ghost use Rattle.std.specs.Prelude.{◌≡◌, ◌<◌, ◌≤◌, ◌⊎◌, Some, All, length, map, slice_get};
+ghost use Rattle.dw_forms.specs.AttributeLists.{HasList, spec_of};
 ghost use Rattle.dw_forms.specs.Codes.{is_type_tag};
-ghost use Rattle.dw_forms.specs.Remainders.{HasRemainders};
 
+use crate::attribute_lists::AttributeLists;
 use crate::attributes::Attributes;
 use crate::constants::{Attribute, Tag};
 use crate::form::Form;
-use std::alloc::{AllocError, Global};
+use crate::steps::Step;
 
 /// An attribute specification: an attribute, and the form of its values.
 #[derive(Clone, Copy, Debug, PartialEq, Eq)]
@@ -18,109 +17,130 @@ pub struct AttributeSpec {
     pub form: Form,
 }
 
-/// What the entries with one code have in common. Only the readers of tables make one.
-#[derive(Debug, Drop)]
-pub struct Decl {
-    /// The number by which entries name the declaration, at least 1.
-    pub code: u64,
-    pub tag: Tag,
-    /// Whether a list of children follows each entry.
-    pub has_children: bool,
+/// A declaration that is kept.
+#[derive(Clone, Copy, Debug)]
+pub struct KeptDecl {
+    pub(crate) code: u64,
+    pub(crate) tag: Tag,
+    pub(crate) has_children: bool,
     /// Whether entries with the tag are types.
-    is_type: bool,
-    /// Whether each form is one of version 4.
-    in_version_4: bool,
-    /// In the order of their values in an entry. No attribute stands twice.
-    pub attributes: Attributes,
-    /// The remainders of the attributes' codes modulo 64, one bit for each.
-    remainders: u64,
-    ghost allowed_in_4: { in_version_4 ≡ are_allowed 4 attributes },
+    pub(crate) is_type: bool,
+    /// The step to the first of its attributes at which a walk over values that may lead elsewhere stops.
+    pub(crate) step: Step,
+    /// The list of its attributes.
+    pub(crate) first: u32,
+    /// The table after it.
+    pub(crate) rest: u32,
     ghost type_tag: { is_type ≡ is_type_tag tag },
-    ghost remainders_are: { HasRemainders remainders attributes },
 }
 
-/// Whether a unit of this version may have all these forms.
-fn are_allowed(attributes: &[AttributeSpec], version: u16) -> bool
-    ensures { result ≡ are_allowed version attributes.now }
-{
-    attributes.iter().all(|spec| spec.form.allowed(version))
+/// What the entries with one code have in common.
+#[derive(Clone, Copy, Debug)]
+pub struct Decl<'a> {
+    pub(crate) kept: &'a KeptDecl,
+    pub(crate) lists: &'a AttributeLists,
+    ghost list: { HasList lists.now.nodes.items kept.now.first kept.now.step },
 }
 
-/// The bit of the remainder of an attribute's code modulo 64.
-#[inline(always)]
-fn remainder_bit(attribute: Attribute) -> u64
-    ensures { result ≡ 2 ^ (attribute % 64) }
-{
-    1 << (attribute.0 % 64)
+/// The declarations of the tables of a section, each once. They are numbered from 1.
+#[derive(Debug, Drop)]
+pub struct Decls {
+    pub(crate) kept: Vec<KeptDecl>,
+    pub(crate) lists: AttributeLists,
+    ghost all: { All (λ k. HasList lists.nodes.items k.first k.step) kept.items },
 }
 
-/// Whether the remainder of an attribute's code modulo 64 is among these.
-#[inline(always)]
-fn has_remainder(remainders: u64, attribute: Attribute) -> bool
-    ensures { OnFalse result (bit_and remainders (2 ^ (attribute % 64)) ≡ 0) }
-{
-    remainders & remainder_bit(attribute) != 0
-}
+impl Decls {
+    ghost use Rattle.dw_forms.specs.KeptDecls.{decl_of, view};
 
-/// The remainders of the codes of attributes modulo 64, one bit for each.
-#[tactic(auto, using(crate::proofs::RemainderLaws::stays, crate::proofs::RemainderLaws::comes))]
-fn remainders_of(attributes: &[AttributeSpec]) -> u64
-    ensures { HasRemainders result attributes.now }
-{
-    let mut remainders = 0;
-    for spec in attributes {
-        remainders |= remainder_bit(spec.attribute);
-    }
-    remainders
-}
-
-impl Decl {
-    ghost use Rattle.dw_forms.specs.Abbrev.{view};
-
-    /// A declaration, with what is known of its values.
-    pub(crate) fn new(
-        alloc: Global,
-        code: u64,
-        tag: Tag,
-        has_children: bool,
-        attributes: Vec<AttributeSpec>,
-    ) -> Result<Decl, AllocError>
-        requires { length attributes.items ≤ 0x10000 }
-        ensures { IfOk result (λ decl. view decl ≡ record {
-          code = code;
-          tag = tag;
-          has_children = has_children;
-          attributes = attributes.items;
-        }) }
+    /// The declaration of a number.
+    #[inline(always)]
+    pub fn decl(&self, number: u32) -> Decl<'_>
+        requires some { 0 < number }
+        requires within { number ≤ length self.now.kept.items }
+        ensures { decl_of self.now.lists.nodes.items self.now.kept.items number ≡ Some (view result) }
     {
-        let in_version_4 = are_allowed(&attributes, 4);
-        let remainders = remainders_of(&attributes);
-        let is_type = tag.is_type();
-        Ok(Decl {
-            code,
-            tag,
-            has_children,
-            is_type,
-            in_version_4,
-            attributes: Attributes::new(alloc, attributes)?,
-            remainders,
-        })
+        Decl::new(&self.kept[(number - 1) as usize], &self.lists)
+    }
+
+    /// How many attributes the declarations have, each counted once.
+    pub fn spec_count(&self) -> usize
+        ensures { result ≡ length self.now.lists.nodes.items }
+    {
+        self.lists.nodes.len()
+    }
+
+    /// The attribute with this number, from 0.
+    pub fn spec(&self, number: usize) -> AttributeSpec
+        requires { number < length self.now.lists.nodes.items }
+        ensures { slice_get (map spec_of self.now.lists.nodes.items) number ≡ Some result }
+    {
+        self.lists.nodes[number].spec()
+    }
+}
+
+impl<'a> Decl<'a> {
+    ghost use Rattle.dw_forms.specs.KeptDecls.{view};
+    ghost use Rattle.dw_forms.specs.Sizes.{are_allowed};
+    ghost use Rattle.dw_forms.specs.Suffixes.{numbered, numbered_of, specs_in};
+    ghost use Rattle.dw_forms.specs.Walks.{IsStep};
+
+    /// A declaration with the lists of its attributes.
+    #[inline(always)]
+    pub(crate) fn new(kept: &'a KeptDecl, lists: &'a AttributeLists) -> Decl<'a>
+        requires { HasList lists.now.nodes.items kept.now.first kept.now.step }
+        ensures kept { result.kept.now ≡ kept.now }
+        ensures lists { result.lists.now ≡ lists.now }
+    {
+        Decl { kept, lists }
+    }
+
+    /// The number by which entries name the declaration, at least 1.
+    #[inline(always)]
+    pub fn code(&self) -> u64
+        ensures { result ≡ (view self.now).code }
+    {
+        self.kept.code
+    }
+
+    #[inline(always)]
+    pub fn tag(&self) -> Tag
+        ensures { result ≡ (view self.now).tag }
+    {
+        self.kept.tag
+    }
+
+    /// Whether a list of children follows each entry.
+    #[inline(always)]
+    pub fn has_children(&self) -> bool
+        ensures { result ≡ (view self.now).has_children }
+    {
+        self.kept.has_children
+    }
+
+    /// In the order of their values in an entry. No attribute is there twice.
+    #[inline(always)]
+    pub fn attributes(&self) -> Attributes<'a>
+        ensures specs { specs_in result ≡ (view self.now).attributes }
+        ensures numbered { numbered result ≡ numbered_of self.now }
+    {
+        Attributes::new(self.lists, self.kept.first)
+    }
+
+    /// The step to the first attribute at which a walk over the values that may lead elsewhere stops.
+    #[inline(always)]
+    pub fn step(&self) -> Step
+        ensures { IsStep (numbered_of self.now) result }
+    {
+        self.kept.step
     }
 
     /// Whether the entries are types, as `Tag::is_type` says.
     #[inline(always)]
     pub fn is_type(&self) -> bool
-        ensures { result ≡ is_type_tag self.now.tag }
+        ensures { result ≡ is_type_tag (view self.now).tag }
     {
-        self.is_type
-    }
-
-    /// Whether the attribute may be one of those declared. False says that it is none; that is known at once.
-    #[inline(always)]
-    pub fn may_have(&self, attribute: Attribute) -> bool
-        ensures { OnFalse result (All (λ spec. spec.attribute ≢ attribute) self.now.attributes) }
-    {
-        has_remainder(self.remainders, attribute)
+        self.kept.is_type
     }
 
     /// Whether a unit of this version may have all forms of the declaration.
@@ -128,11 +148,11 @@ impl Decl {
     #[tactic(auto, using(crate::proofs::AllowedForms::all_allowed))]
     pub fn allows(&self, version: u16) -> bool
         requires { (version ≡ 4) ⊎ (version ≡ 5) }
-        ensures { result ≡ are_allowed version self.now.attributes }
+        ensures { result ≡ are_allowed version (view self.now).attributes }
     {
         if version != 4 {
             return true;
         }
-        self.in_version_4
+        self.attributes().in_version_4()
     }
 }

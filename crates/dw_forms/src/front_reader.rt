@@ -1,25 +1,24 @@
 //! Reading the declarations of a section that were not read before (DWARF 5, 7.5.3).
 
-ghost use Rattle.std.specs.Prelude.{◌≡◌, ◌<◌, ◌≤◌, [], length, drop, option_map, IfOk, IfErr, IfSome, OnOk};
-ghost use Rattle.std.specs.Ordering.{nat_cmp};
-ghost use Rattle.std.specs.BTreeMap.{get};
-ghost use Rattle.dw_forms.specs.Abbrev.{view};
-ghost use Rattle.dw_forms.specs.Marks.{AreMarks};
+ghost use Rattle.std.specs.Prelude.{◌≡◌, ◌<◌, ◌≤◌, [], length, drop, option_map, IfOk, IfErr, IfSome, OnOk, Ok};
 ghost use Rattle.dw_forms.specs.AbbrevReading.{GivesOrMemory, decl_at};
-ghost use Rattle.dw_forms.specs.TableStarts.{NoTable, AreBehind, AreNew, GoesOn, IfBroken};
+ghost use Rattle.dw_forms.specs.AttributeLists.{HasList};
+ghost use Rattle.dw_forms.specs.KeptDecls.{kept_view};
+ghost use Rattle.dw_forms.specs.ListOffsets.{AreListsOf, StayNodes};
+ghost use Rattle.dw_forms.specs.TableStarts.{NoTable, AreBehind, GoesOn, IfBroken, IfNoDecl};
 
-use crate::abbrev::AbbrevTable;
 use crate::abbrev_fault::DeclError;
-use crate::abbrev_reader::next_decl;
-use crate::decl::Decl;
+use crate::abbrev_reader::{code_of, tag_and_children};
+use crate::decl::KeptDecl;
+use crate::list_reader::KeptLists;
+use crate::offsets::Offsets;
 use std::alloc::Global;
-use std::collections::BTreeMap;
 
-/// A declaration, and the offset of its first byte.
-#[derive(Debug, Drop)]
+/// A declaration, and the offset of its first byte. No table comes after it yet.
+#[derive(Clone, Copy, Debug)]
 pub struct Started {
     pub start: usize,
-    pub decl: Decl,
+    pub decl: KeptDecl,
 }
 
 /// Declarations one after another, the offset after them, and the number of the table that begins there.
@@ -33,58 +32,87 @@ pub struct Front {
 /// The declaration that begins at an offset, and the offset after it; or none at the code 0. A code may be
 /// there twice.
 fn next_at(
-    alloc: Global,
-    marks: &mut [bool],
+    lists: &mut KeptLists,
     section: &[u8],
     offset: usize,
-) -> Result<(Option<Decl>, usize), DeclError>
+) -> Result<(Option<Started>, usize), DeclError>
     requires offset { offset ≤ length section.now }
-    requires marks { AreMarks [] marks.old }
-    ensures unmarked { OnOk result (AreMarks [] marks.new) }
-    ensures exact { GivesOrMemory (λ x. (option_map view x.0, drop x.1 section.now)) result
-        (decl_at [] (drop offset section.now)) }
+    requires fits { length section.now < 0xffffffff }
+    requires lists { AreListsOf section.now lists.old }
+    ensures lists { OnOk result (AreListsOf section.now lists.new) }
+    ensures stay { OnOk result (StayNodes lists.old.lists.nodes.items lists.new.lists.nodes.items) }
+    ensures exact { IfOk result (λ x. decl_at [] (drop offset section.now)
+        ≡ Ok (option_map (λ s. kept_view lists.new.lists.nodes.items s.decl) x.0, drop x.1 section.now)) }
+    ensures kept { IfOk result (λ x. IfSome x.0 (λ s. HasList lists.new.lists.nodes.items s.decl.first s.decl.step)) }
+    ensures start { IfOk result (λ x. IfSome x.0 (λ s. s.start ≡ offset)) }
     ensures behind { IfOk result (λ x. offset < x.1) }
     ensures within { IfOk result (λ x. x.1 ≤ length section.now) }
+    ensures fault { IfErr result (IfBroken (IfNoDecl section.now offset)) }
 {
-    let none = AbbrevTable::new(alloc);
-    match next_decl(alloc, &none, marks, &section[offset..]) {
-        Ok((next, after)) => Ok((next, section.len() - after.len())),
-        Err(error) => Err(error),
+    let (code, rest) = code_of(&section[offset..])?;
+    if code == 0 {
+        return Ok((None, section.len() - rest.len()));
     }
+    let (tag, has_children, rest) = match tag_and_children(rest) {
+        Ok(found) => found,
+        Err(error) => return Err(error),
+    };
+    let list = match lists.read(section, section.len() - rest.len()) {
+        Ok(list) => list,
+        Err(error) => return Err(error),
+    };
+    let step = lists.lists.step(list.first);
+    let decl = KeptDecl {
+        code,
+        tag,
+        has_children,
+        is_type: tag.is_type(),
+        step,
+        first: list.first,
+        rest: 0,
+    };
+    Ok((
+        Some(Started {
+            start: offset,
+            decl,
+        }),
+        list.end,
+    ))
 }
 
-/// The declarations from an offset on, up to the end of the table or to a declaration that is kept. No attribute is
-/// marked before and after.
+/// The declarations from an offset on, up to the end of the table or to a declaration that is kept.
 pub fn read_front(
     alloc: Global,
-    starts: &BTreeMap<usize, u32>,
-    marks: &mut [bool],
+    starts: &Offsets,
+    lists: &mut KeptLists,
     section: &[u8],
     offset: usize,
 ) -> Result<Front, DeclError>
     requires offset { offset ≤ length section.now }
-    requires marks { AreMarks [] marks.old }
-    ensures unmarked { OnOk result (AreMarks [] marks.new) }
-    ensures front { IfOk result (λ f. AreBehind section.now f.decls.items offset f.end) }
-    ensures new { IfOk result (λ f. AreNew starts.now f.decls.items) }
-    ensures goes_on { IfOk result (λ f. GoesOn section.now starts.now f.end f.rest) }
+    requires fits { length section.now < 0xffffffff }
+    requires lists { AreListsOf section.now lists.old }
+    ensures lists { OnOk result (AreListsOf section.now lists.new) }
+    ensures stay { OnOk result (StayNodes lists.old.lists.nodes.items lists.new.lists.nodes.items) }
+    ensures front { IfOk result
+        (λ f. AreBehind lists.new.lists.nodes.items section.now f.decls.items offset f.end) }
+    ensures goes_on { IfOk result (λ f. GoesOn section.now starts.now.starts.items f.end f.rest) }
     ensures fault { IfErr result (IfBroken (NoTable section.now offset)) }
 {
     let mut decls = Vec::new(alloc);
     let mut end = offset;
     loop {
-        if let Some(rest) = starts.get(&end).copied() {
+        let rest = starts.find(end);
+        if rest != 0 {
             return Ok(Front { decls, end, rest });
         }
-        let (next, after) = match next_at(alloc, marks, section, end) {
+        let (next, after) = match next_at(lists, section, end) {
             Ok(found) => found,
             Err(error) => return Err(error),
         };
-        let Some(decl) = next else {
-            let rest = 0;
+        let Some(started) = next else {
             return Ok(Front { decls, end, rest });
         };
-        decls.push(Started { start: end, decl })?;
+        decls.push(started)?;
         end = after;
     }
 }

@@ -5,28 +5,32 @@ mod abbrev;
 mod abbrev_fault;
 mod abbrev_reader;
 mod abbrev_tables;
-mod attribute_index;
+mod attribute_lists;
 mod attributes;
+mod chains;
 pub mod constants;
 mod decl;
 mod form;
 mod front_reader;
+mod known;
 mod laws;
 mod layout_reader;
 mod leb;
+mod list_reader;
 mod number;
-mod plan;
+mod offsets;
 mod steps;
 mod value;
 mod value_reader;
 
-pub use abbrev::AbbrevTable;
+pub use abbrev::{AbbrevTable, TableDecl};
 pub use abbrev_fault::{AbbrevFault, AbbrevRule, BrokenTable};
 pub use abbrev_reader::read_table;
-pub use abbrev_tables::{AbbrevTables, KeptDecl};
+pub use abbrev_tables::AbbrevTables;
+pub use attribute_lists::{AttributeLists, Node};
 pub use attributes::Attributes;
 pub use constants::{Attribute, Language, Tag};
-pub use decl::{AttributeSpec, Decl};
+pub use decl::{AttributeSpec, Decl, Decls, KeptDecl};
 pub use form::Form;
 pub use laws::{
     fixed_values_take_their_sum, signed_numbers_are_apart, tables_are_apart,

@@ -1,21 +1,20 @@
 -- No rule fails at an entry whose declaration has nothing that the rules are asked of.
 use Rattle.std.proofs.Common.{◌≡◌, ℕ, zero, suc, ◌+◌, ◌<◌, ◌≤◌, List, [], ◌∷◌, length, Some, refl, sym, ap, ◌∙◌, arith, subst, map, eq-or-lt_of_le, inl, inr}
-use Rattle.std.specs.Prelude.{Option, None, slice_get, option_map, IfSome, IsSome}
+use Rattle.std.specs.Prelude.{Option, None, slice_get, slice_index_or, All, Contains, IfSome, IsSome}
+use Rattle.std.proofs.lemmas.Option.{slice_get_within, slice_get-get_or, get_or_from_slice_get}
 use Rattle.dw_forms.specs.Value.{Datum}
-use Rattle.dw_forms.specs.declared.abbrev_tables.KeptDecl.{KeptDecl}
-use Rattle.dw_forms.specs.Abbrev.{Declaration, view}
-use Rattle.dw_forms.specs.KeptDecls.{decl_of}
+use Rattle.dw_forms.specs.Abbrev.{Declaration}
 use Rattle.dw_forms.specs.declared.decl.AttributeSpec.{AttributeSpec}
 use Rattle.dw_entries.specs.Grammar.{Context, Attribute, IsAttribute, AreAttributes}
 use Rattle.dw_entries.specs.Units.{DebugUnit, context_of, Spells}
 use Rattle.dw_entries.specs.Entries.{Entry, entries_of}
 use Rattle.dw_entries.specs.Asked.{value_of}
-use Rattle.dw_entries.specs.Lookups.{IsKeptIn, entry_head}
+use Rattle.dw_entries.specs.Lookups.{entry_head}
 use Rattle.dw_entries.specs.Failures.{HasNone}
 use Rattle.dw_entries.specs.Asked.{AtEntries}
 use Rattle.dw_entries.proofs.Firsts.{same_some, none_of_entries}
 use Rattle.dw_entries.proofs.HeadLaws.{head_stands}
-use Rattle.dw_links.specs.Concerns.{Rules, AtHead, AllPass, PassesAt}
+use Rattle.dw_links.specs.Concerns.{Rules, AtHead, Passes, AllPass, PassesAt}
 
 -- an entry that was looked up and is there
 pub found : (o : Option Entry) → IsSome o → (e : Entry) × (o ≡ Some e)
@@ -64,22 +63,21 @@ skipped «abbrev» info us id Fails d spells decl pass e is f fails =
     let P : (ℕ × Datum) → Type 0 = λ q. Fails (entry_head e) q.0 q.1 f.rule in
     pass fails.position here.spec at_spec (context_of stands.unit) here.attribute here.is_attribute (entry_head e) f.rule (subst P (sym here.item_is) fails.fails)
 
--- a declaration that is kept, with where it is
-kept_there : (kept : List KeptDecl) (number : ℕ) (d : Declaration) → decl_of kept number ≡ Some d → (k : ℕ) × (x : KeptDecl) × (slice_get kept k ≡ Some x) × (view x.decl ≡ d)
-kept_there kept zero d is = let no : ◌≡◌ {A = Option Declaration} None (Some d) = is in absurd cc
-kept_there kept (suc k) d is = go (slice_get kept k) refl is
-  where
-    go : (o : Option KeptDecl) → slice_get kept k ≡ o → option_map (λ (x : KeptDecl). view x.decl) o ≡ Some d → (k : ℕ) × (x : KeptDecl) × (slice_get kept k ≡ Some x) × (view x.decl ≡ d)
-    go None at e = let no : ◌≡◌ {A = Option Declaration} None (Some d) = e in absurd cc
-    go (Some x) at e = (k, x, at, same_some (Some d) (view x.decl) d (sym e) refl)
+-- an attribute that is kept, with where it is
+kept_there : (kept : List AttributeSpec) (spec : AttributeSpec) → Contains kept spec → (k : ℕ) × (slice_get kept k ≡ Some spec)
+kept_there kept spec (k, within, same) = (k, slice_get-get_or kept k spec within ∙ ap (λ (s : AttributeSpec). Some s) same)
 
-pub none_concerned : («abbrev» info : List ℕ) (us : List DebugUnit) (kept : List KeptDecl) (Fails : Rules) → Spells «abbrev» us info
-    → ((id : ℕ) (e : Entry) → slice_get (entries_of us) id ≡ Some e → IsKeptIn kept e.head.decl)
-    → ((k : ℕ) (x : KeptDecl) → slice_get kept k ≡ Some x → AllPass Fails x.decl.attributes)
+all_pass : (kept specs : List AttributeSpec) (Fails : Rules) → All (λ (spec : AttributeSpec). Contains kept spec) specs → ((k : ℕ) (spec : AttributeSpec) → slice_get kept k ≡ Some spec → Passes Fails spec) → AllPass Fails specs
+all_pass kept specs Fails are pass k spec is =
+    let at : slice_index_or specs k spec ≡ spec = get_or_from_slice_get specs k spec spec is in
+    let (j, there) = kept_there kept spec (subst (λ (s : AttributeSpec). Contains kept s) at (are k spec (slice_get_within specs k spec is))) in
+    pass j spec there
+
+-- where no rule fails at a value of one of these attributes, none fails at an entry whose declarations have no others
+pub none_concerned : («abbrev» info : List ℕ) (us : List DebugUnit) (kept : List AttributeSpec) (Fails : Rules) → Spells «abbrev» us info
+    → ((id : ℕ) (e : Entry) → slice_get (entries_of us) id ≡ Some e → All (λ (spec : AttributeSpec). Contains kept spec) e.head.decl.attributes)
+    → ((k : ℕ) (spec : AttributeSpec) → slice_get kept k ≡ Some spec → Passes Fails spec)
     → HasNone (AtEntries (entries_of us) (AtHead Fails))
 none_concerned «abbrev» info us kept Fails spells declared pass =
     none_of_entries (entries_of us) (AtHead Fails)
-    (λ id e below is.
-    let d = declared id e is in
-    let (k, x, there, same) = kept_there kept d.0 e.head.decl d.1 in
-    skipped «abbrev» info us id Fails (view x.decl) spells (rw is same) (pass k x there) e is)
+    (λ id e below is. skipped «abbrev» info us id Fails e.head.decl spells (rw is refl) (all_pass kept e.head.decl.attributes Fails (declared id e is) pass) e is)

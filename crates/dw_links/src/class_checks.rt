@@ -7,7 +7,7 @@ ghost use Rattle.dw_entries.specs.Entries.{Entry, PlacedUnit};
 ghost use Rattle.dw_entries.specs.Scanned.{all_units, units_of};
 ghost use Rattle.dw_entries.specs.Failures.{HasNone, IsFirst, IsLeast, IsPlainFault};
 ghost use Rattle.dw_links.specs.Classes.{ClassFails, ClassFailures};
-ghost use Rattle.dw_links.specs.Concerns.{AtHead, Passes, AllPass, PassesAt, FailsAt};
+ghost use Rattle.dw_links.specs.Concerns.{AtHead, Passes, PassesAt, FailsAt};
 
 use crate::class::{class_of_form, class_of_value, is_allowed, is_allowed_in};
 use crate::faults::{broken_at, fault_of};
@@ -25,24 +25,13 @@ fn is_open(spec: &AttributeSpec) -> bool
     }
 }
 
-/// Whether a value of a declaration's attributes may have none of its classes.
-fn is_any_open(specs: &[AttributeSpec]) -> bool
-    ensures { OnFalse result ((units : List PlacedUnit) → AllPass (ClassFails units) specs.now) }
-{
-    for spec in specs {
-        if is_open(spec) {
-            return true;
-        }
-    }
-    false
-}
-
 /// Whether a value of any entry may have none of its classes, by the declarations alone.
 fn leave_open(entries: &Entries<'_>) -> bool
     ensures { OnFalse result (HasNone (ClassFailures (units_of entries.now.scanned))) }
 {
-    for kept in entries.decls() {
-        if is_any_open(kept.decl.attributes.as_slice()) {
+    let decls = entries.decls();
+    for number in 0..decls.spec_count() {
+        if is_open(&decls.spec(number)) {
             return true;
         }
     }

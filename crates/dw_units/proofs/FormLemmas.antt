@@ -1,19 +1,17 @@
 -- Values that leave no unit, by the forms of the declarations.
 use Rattle.std.proofs.Common.{◌≡◌, ℕ, Bool, true, false, List, Some, refl, sym, ap, ◌∙◌}
-use Rattle.std.specs.Prelude.{slice_get}
+use Rattle.std.specs.Prelude.{slice_get, All, Contains}
 use mathlib.Core.Logic.{∥∥₁_elim}
 use Rattle.dw_forms.specs.declared.form.Form.{Form}
 use Rattle.dw_forms.specs.declared.form.Form.TheVariants as form
 use Rattle.dw_forms.specs.declared.decl.AttributeSpec.{AttributeSpec}
-use Rattle.dw_forms.specs.declared.abbrev_tables.KeptDecl.{KeptDecl}
 use Rattle.dw_forms.specs.Value.{Datum, Val}
 use Rattle.dw_entries.specs.declared.rule.Rule.TheVariants.{WrongClass}
 use Rattle.dw_entries.specs.Units.{DebugUnit, Spells}
 use Rattle.dw_entries.specs.Entries.{Entry, entries_of}
 use Rattle.dw_entries.specs.Places.{at_attribute}
 use Rattle.dw_entries.specs.Asked.{EachEntry}
-use Rattle.dw_entries.specs.Lookups.{IsKeptIn}
-use Rattle.dw_links.specs.Concerns.{Passes, AllPass}
+use Rattle.dw_links.specs.Concerns.{Passes}
 use Rattle.dw_links.proofs.Skips.{none_concerned}
 use Rattle.dw_units.specs.Alone.{leads_out, StaysInside, may_leave, Leaves}
 
@@ -69,9 +67,9 @@ not_true : (b : Bool) → (b ≡ true → ⊥) → b ≡ false
 not_true true never = absurd (never refl)
 not_true false never = refl
 
-pub none_leaves : (a info : List ℕ) (us : List DebugUnit) (kept : List KeptDecl) → Spells a us info
-    → ((id : ℕ) (e : Entry) → slice_get (entries_of us) id ≡ Some e → IsKeptIn kept e.head.decl)
-    → ((k : ℕ) (x : KeptDecl) → slice_get kept k ≡ Some x → AllPass Leaves x.decl.attributes)
+pub none_leaves : (a info : List ℕ) (us : List DebugUnit) (kept : List AttributeSpec) → Spells a us info
+    → ((id : ℕ) (e : Entry) → slice_get (entries_of us) id ≡ Some e → All (λ (spec : AttributeSpec). Contains kept spec) e.head.decl.attributes)
+    → ((k : ℕ) (spec : AttributeSpec) → slice_get kept k ≡ Some spec → Passes Leaves spec)
     → EachEntry StaysInside (entries_of us)
 none_leaves a info us kept spells declared pass id e is position attribute v has =
     let none = none_concerned a info us kept Leaves spells declared pass in

@@ -3,15 +3,14 @@
 ghost use Rattle.std.specs.Prelude.{◌≡◌, None, IfOk, IfSome};
 ghost use Rattle.std.specs.Bool.{OnTrue, OnFalse};
 ghost use Rattle.dw_entries.specs.Asked.{EachEntry};
-ghost use Rattle.dw_links.specs.Concerns.{AllPass};
 ghost use Rattle.dw_links.specs.Signatures.{type_in};
 ghost use Rattle.dw_entries.specs.Scanned.{all_entries};
-ghost use Rattle.dw_units.specs.Alone.{may_leave, Leaves, StaysInside};
+ghost use Rattle.dw_units.specs.Alone.{may_leave, StaysInside};
 ghost use Rattle.dw_units.specs.Parts.{IsOneAlone, IsAlone};
 
 use dw_elf::Sections;
 use dw_entries::{Entries, HeaderKind};
-use dw_forms::{AttributeSpec, Form};
+use dw_forms::Form;
 use dw_image::{NoMemory, Verdict, verify};
 use std::alloc::Global;
 
@@ -29,24 +28,13 @@ pub(crate) fn may_leave(form: Form) -> bool
     matches!(form, Form::RefAddr | Form::RefSig8 | Form::Indirect)
 }
 
-/// Whether the value of one of these attributes may refer to another unit.
-fn any_leaves(specs: &[AttributeSpec]) -> bool
-    ensures { OnFalse result (AllPass Leaves specs.now) }
-{
-    for spec in specs {
-        if may_leave(spec.form) {
-            return true;
-        }
-    }
-    false
-}
-
 /// Whether no form of the abbreviation tables lets a value refer to another unit.
 fn stays_inside(entries: &Entries<'_>) -> bool
     ensures { OnTrue result (EachEntry StaysInside (all_entries entries.now.scanned)) }
 {
-    for kept in entries.decls() {
-        if any_leaves(kept.decl.attributes.as_slice()) {
+    let decls = entries.decls();
+    for number in 0..decls.spec_count() {
+        if may_leave(decls.spec(number).form) {
             return false;
         }
     }

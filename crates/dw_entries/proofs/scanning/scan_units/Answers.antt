@@ -16,8 +16,11 @@ loop-at-preserved c =
 pub returns-clause-all : goal.returns-clause-all
 returns-clause-all c = upto_end c.args.section.now c.args.info.now c.loop-at.at c.loop-at.kept c.loop-at.invariant.upto (omega arith)
 
+pub returns-clause-searchable : goal.returns-clause-searchable
+returns-clause-searchable c = c.loop-at.invariant.upto.tables.searchable
+
 pub loop-at-init : goal.loop-at-init
 loop-at-init c = record {
-  upto = upto_start c.args.section.now c.args.info.now _ (c.in-Ok.ensures.tables c.args.section.now) c.new-2.ensures.items c.new-3.ensures.items;
+  upto = upto_start c.args.section.now c.args.info.now _ (c.new.ensures.tables c.args.section.now) c.new-2.ensures.items c.new-3.ensures.items;
   within = omega arith;
 }

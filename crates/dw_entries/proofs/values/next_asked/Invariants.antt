@@ -1,13 +1,10 @@
-use Rattle.std.proofs.Common.{◌≤◌, ◌-◌, length}
-use Rattle.dw_entries.specs.Chosen.{Unasked}
+use Rattle.std.proofs.Common.{length}
+use Rattle.dw_forms.specs.Suffixes.{specs_in}
+use Rattle.dw_entries.specs.Chosen.{IsNextAsked}
 use Rattle.dw_entries.proofs.values.next_asked.Given as goal
 
-abbrev pub invariant-loop-place : goal.invariant-loop-place
-invariant-loop-place g l = record {
-  on : l.from ≤ l.place;
-  within : l.place ≤ length l.attributes;
-  before : Unasked (g.C.Choice.passes l.choice) l.attributes l.from l.place;
-}
+abbrev pub invariant-loop-spec : goal.invariant-loop-spec
+invariant-loop-spec g l = IsNextAsked (g.C.Choice.passes l.choice) l.fn.attributes l.left
 
-abbrev pub decreases-loop-place : goal.decreases-loop-place
-decreases-loop-place g l = length l.attributes - l.place
+abbrev pub decreases-loop-spec : goal.decreases-loop-spec
+decreases-loop-spec g l = length (specs_in l.left)

@@ -1,6 +1,5 @@
 use Rattle.std.proofs.Common.{arith, refl}
 use Rattle.dw_forms.proofs.AbbrevSteps.{attributes_done, attributes_more, attributes_fail}
-use Rattle.dw_forms.proofs.FewAttributes.{attributes_few}
 use Rattle.dw_forms.proofs.abbrev_reader.read_attributes.Goals as goal
 
 pub returns-in-Err-clause-exact : goal.returns-in-Err-clause-exact
@@ -18,8 +17,3 @@ loop-found-preserved c = record {
   goes_on = rw c.in_ok-push.ensures.items
       (attributes_more _ _ _ c.in-Some.spec _ c.loop-found.invariant.goes_on (rw (c.deref.ensures.value, c.in-Some.is) at c.in-Ok.ensures.exact) c.in-Ok.ensures.shorter);
 }
-
-pub returns-in_default-clause-few : goal.returns-in_default-clause-few
-returns-in_default-clause-few c =
-    attributes_few c.args.bytes.now _ c.loop-found.attributes.items
-    (attributes_done _ _ _ _ c.loop-found.invariant.goes_on (rw (c.deref.ensures.value, c.in_default.is) at c.in-Ok.ensures.exact))

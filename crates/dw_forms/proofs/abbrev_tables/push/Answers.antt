@@ -1,29 +1,37 @@
-use Rattle.std.proofs.Common.{rules, ◌≡◌, ◌+◌, length, arith, refl}
-use Rattle.dw_forms.specs.KeptDecls.{numbered_in, tables_of}
-use Rattle.dw_forms.proofs.KeptLaws.{none_has, some_has, are_numbered, tables_long, tables_more, kept_more}
+use Rattle.std.proofs.Common.{◌≡◌, suc, length, refl, sym, ap, ◌∙◌, arith}
+use Rattle.std.proofs.lemmas.List.Elements.{All-push}
+use Rattle.dw_forms.specs.declared.decl.KeptDecl.{KeptDecl}
+use Rattle.dw_forms.specs.AttributeLists.{HasList}
+use Rattle.dw_forms.specs.KeptDecls.{tables_of}
+use Rattle.dw_forms.proofs.KeptLaws.{code_is, links_long, none_code, some_code, coded_more, tables_long, tables_more}
 use Rattle.dw_forms.proofs.abbrev_tables.push.Goals as goal
 
-pub returns-then-find_in-ne0-clause-added : goal.returns-then-find_in-ne0-clause-added
-returns-then-find_in-ne0-clause-added c =
-    let found = rw c.deref.ensures.value at c.find_in.ensures in
-    let some = c.if-find_in-ne0.true in
-    (some_has (numbered_in (tables_of c.args.kept.now.items) c.args.rest) c.args.decl.code (λ e. omega (arith, found, some, e)), refl)
-
-pub returns-clause-kept : goal.returns-clause-kept
-returns-clause-kept c =
-    let start : c.len-start.result ≡ length c.args.branches.now.items = search rules in
-    let kept = c.in_ok-branch_count.ensures.kept in
-    let below = c.in_ok-branch_count.ensures.below in
-    let branches = c.in_ok-branch_count.ensures.branches in
-    rw (c.in_ok-push.ensures.items, start)
-    (kept_more c.push_branches.new.branches.items c.args.kept.now.items _ (rw c.deref-5.ensures.value at kept) (search rules) (rw c.deref-3.ensures.value at c.run_before-run.ensures.run)
-    (rw c.deref-5.ensures.value at below) (rw c.deref-5.ensures.value at branches))
+pub returns-then-find-ne0-clause-added : goal.returns-then-find-ne0-clause-added
+returns-then-find-ne0-clause-added c =
+    let nodes = c.args.lists.now.nodes.items in
+    let kept = c.args.kept.now.items in
+    let same = code_is c.args.codes.now.links.items nodes kept c.args.rest c.args.decl.code c.requires.coded in
+    let some = c.if-find-ne0.true in
+    (some_code nodes kept c.args.rest c.args.decl.code (omega (arith, some, c.find.ensures, same)), refl)
 
 pub returns-clause-added : goal.returns-clause-added
 returns-clause-added c =
-    let found = rw c.deref.ensures.value at c.find_in.ensures in
-    let none = c.if-find_in-ne0.false in
-    let number : c.len.result + 1 ≡ length (tables_of c.args.kept.now.items) = omega (arith, c.len.ensures, tables_long c.args.kept.now.items) in
-    let table = numbered_in (tables_of c.args.kept.now.items) c.args.rest in
-    let own = are_numbered c.args.kept.now.items c.args.rest in
-    (none_has c.args.kept.now.items table c.args.decl.code own (omega (arith, found, none)), number, rw (c.in_ok-push.ensures.items, number) (tables_more c.args.kept.now.items _))
+    let nodes = c.args.lists.now.nodes.items in
+    let kept = c.args.kept.now.items in
+    let added = c.in_ok-number.ensures.added in
+    let same = code_is c.args.codes.now.links.items nodes kept c.args.rest c.args.decl.code c.requires.coded in
+    let none = c.if-find-ne0.false in
+    let number : c.in_ok-number.number ≡ length (tables_of nodes kept) = added.0 ∙ ap suc (links_long c.args.codes.now.links.items kept c.requires.coded) ∙ sym (tables_long nodes kept) in (
+      none_code nodes kept c.args.rest c.args.decl.code (omega (arith, none, c.find.ensures, same)),
+      number,
+      rw (c.push_reserved.ensures.items, c.reserve.ensures.items, number) (tables_more nodes kept _),
+    )
+
+pub returns-clause-coded : goal.returns-clause-coded
+returns-clause-coded c =
+    rw (c.push_reserved.ensures.items, c.reserve.ensures.items) (coded_more c.args.codes.now.links.items c.push.new.self.links.items c.args.kept.now.items _ c.requires.coded c.in_ok-number.ensures.added.1)
+
+pub returns-clause-within : goal.returns-clause-within
+returns-clause-within c =
+    rw (c.push_reserved.ensures.items, c.reserve.ensures.items)
+    (All-push (λ (k : KeptDecl). HasList c.args.lists.now.nodes.items k.first k.step) c.args.kept.now.items _ c.requires.within c.requires.list)

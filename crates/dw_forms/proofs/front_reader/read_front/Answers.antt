@@ -1,18 +1,40 @@
-use Rattle.std.proofs.Common.{rules, refl, inr}
-use Rattle.dw_forms.proofs.TailLaws.{table_end, behind_push, front_fails}
-use Rattle.dw_forms.proofs.StartCounts.{new_push}
+use Rattle.std.proofs.Common.{refl, inl, inr, arith}
+use Rattle.dw_forms.proofs.ListStarts.{nodes_stay, nodes_on}
+use Rattle.dw_forms.proofs.TailLaws.{table_end, behind_push, behind_stays, front_fails}
 use Rattle.dw_forms.proofs.front_reader.read_front.Goals as goal
 
+pub loop-decls-init : goal.loop-decls-init
+loop-decls-init c = record { within = c.requires.offset; lists = c.requires.lists; stay = nodes_stay _; behind = rw c.new-decls.ensures.items refl }
+
+pub returns-then-rest-ne0-clause-goes_on : goal.returns-then-rest-ne0-clause-goes_on
+returns-then-rest-ne0-clause-goes_on c =
+    let some = c.if-rest-ne0.true in
+    inl (omega (arith, some), c.find-rest.ensures (omega (arith, some)))
+
 pub returns-in-Err-clause-fault : goal.returns-in-Err-clause-fault
-returns-in-Err-clause-fault c = front_fails c.args.section.now c.in-Err.error c.loop-rest.decls.items c.args.offset c.loop-rest.end c.loop-rest.invariant.behind c.in-Err.ensures.exact
+returns-in-Err-clause-fault c =
+    front_fails c.args.section.now c.loop-decls.lists.lists.nodes.items c.in-Err.error c.loop-decls.decls.items c.args.offset c.loop-decls.end c.loop-decls.invariant.behind c.in-Err.ensures.fault
 
-pub returns-in_default-next-clause-goes_on : goal.returns-in_default-next-clause-goes_on
-returns-in_default-next-clause-goes_on c = inr (refl, table_end c.args.section.now c.loop-rest.end _ (rw c.in_default-next.is at c.in-Ok.ensures.exact))
+pub returns-in_default-clause-goes_on : goal.returns-in_default-clause-goes_on
+returns-in_default-clause-goes_on c =
+    let none = c.if-rest-ne0.false in
+    inr (omega (arith, none), table_end c.args.section.now c.loop-decls.end _ (rw c.in_default.is at c.in-Ok.ensures.exact))
 
-pub loop-rest-preserved : goal.loop-rest-preserved
-loop-rest-preserved c = record {
-  within = c.in-Ok.ensures.within;
-  unmarked = c.in-Ok.ensures.unmarked;
-  new = rw c.in_ok-push.ensures.items (new_push c.args.starts.now c.loop-rest.decls.items _ c.loop-rest.invariant.new (search rules));
-  behind = rw c.in_ok-push.ensures.items (behind_push c.args.section.now c.loop-rest.decls.items c.args.offset c.loop-rest.end c.in-Ok.found.1 _ c.loop-rest.invariant.behind refl (rw c.in-Some-next.is at c.in-Ok.ensures.exact));
-}
+pub returns-in_default-clause-front : goal.returns-in_default-clause-front
+returns-in_default-clause-front c = behind_stays c.args.section.now _ _ c.loop-decls.decls.items c.args.offset c.loop-decls.end c.in-Ok.ensures.stay c.loop-decls.invariant.behind
+
+pub returns-in_default-clause-stay : goal.returns-in_default-clause-stay
+returns-in_default-clause-stay c = nodes_on _ _ _ c.loop-decls.invariant.stay c.in-Ok.ensures.stay
+
+pub loop-decls-preserved : goal.loop-decls-preserved
+loop-decls-preserved c =
+    let s = c.in-Some.started in
+    let before = behind_stays c.args.section.now _ _ c.loop-decls.decls.items c.args.offset c.loop-decls.end c.in-Ok.ensures.stay c.loop-decls.invariant.behind in
+    let start = rw c.in-Some.is at c.in-Ok.ensures.start in
+    let kept = rw c.in-Some.is at c.in-Ok.ensures.kept in
+    record {
+      within = c.in-Ok.ensures.within;
+      lists = c.in-Ok.ensures.lists;
+      stay = nodes_on _ _ _ c.loop-decls.invariant.stay c.in-Ok.ensures.stay;
+      behind = rw c.in_ok-push.ensures.items (behind_push c.args.section.now _ c.loop-decls.decls.items c.args.offset c.loop-decls.end c.in-Ok.found.1 s before start kept (rw c.in-Some.is at c.in-Ok.ensures.exact));
+    }

@@ -1,21 +1,23 @@
-use Rattle.std.proofs.Common.{List, refl, arith}
-use Rattle.std.proofs.lemmas.Option.{slice_get_read, slice_get_within}
-use Rattle.dw_forms.specs.declared.abbrev_tables.KeptDecl.{KeptDecl}
+use Rattle.std.proofs.Common.{List, map, length, arith}
+use Rattle.std.proofs.lemmas.List.{length-map}
+use Rattle.std.proofs.lemmas.Option.{slice_get_within}
+use Rattle.dw_forms.specs.declared.decl.AttributeSpec.{AttributeSpec}
+use Rattle.dw_forms.specs.AttributeLists.{spec_of}
 use Rattle.dw_entries.specs.Entries.{PlacedUnit, placed}
 use Rattle.dw_entries.specs.Scanned.{units_of}
 use Rattle.dw_links.specs.Classes.{ClassFails}
-use Rattle.dw_links.specs.Concerns.{AllPass}
+use Rattle.dw_links.specs.Concerns.{Passes}
 use Rattle.dw_links.proofs.Skips.{none_concerned, one_more}
 use Rattle.dw_links.proofs.class_checks.leave_open.Goals as goal
 
-pub loop-kept-preserved : goal.loop-kept-preserved
-loop-kept-preserved c =
-    let P : KeptDecl → Type 0 = λ x. (units : List PlacedUnit) → AllPass (ClassFails units) x.decl.attributes in
-    one_more c.decls-kept-items.result.now P c.loop-kept.kept-index c.kept-item.result (slice_get_read c.decls-kept-items.result.now _ c.loop-kept.kept-index c.kept-item.result refl c.loop-kept-test.true c.kept-item.is) c.loop-kept.invariant (rw c.as_slice.ensures at c.if-is_any_open.ensures)
+pub loop-number-preserved : goal.loop-number-preserved
+loop-number-preserved c =
+    let P : AttributeSpec → Type 0 = λ s. (units : List PlacedUnit) → Passes (ClassFails units) s in
+    one_more (map spec_of c.decls-decls.result.now.lists.nodes.items) P c.loop-number.number c.spec.result c.spec.ensures c.loop-number.invariant c.if-is_open.ensures
 
 pub returns : goal.returns
 returns c =
-    let kept = c.decls-kept-items.result.now in
+    let nodes = c.decls-decls.result.now.lists.nodes.items in
     let us = units_of c.args.entries.now.scanned in
-    none_concerned _ _ us kept (ClassFails (placed us)) c.args.entries.now.scanned.1.spells c.decls-kept-items.ensures
-    (λ k x is. c.loop-kept.invariant k x (omega (arith, slice_get_within kept k x is, c.loop-kept-test.false)) is (placed us))
+    none_concerned _ _ us (map spec_of nodes) (ClassFails (placed us)) c.args.entries.now.scanned.1.spells c.decls-decls.ensures.specs
+    (λ k spec is. c.loop-number.invariant k spec (omega (arith, slice_get_within (map spec_of nodes) k spec is, length-map nodes spec_of, c.spec_count-number-end.ensures, c.loop-number-test.false)) is (placed us))

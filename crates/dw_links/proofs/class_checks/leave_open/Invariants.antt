@@ -1,10 +1,11 @@
-use Rattle.std.proofs.Common.{ℕ, ◌≡◌, ◌<◌, List, Some}
+use Rattle.std.proofs.Common.{ℕ, ◌≡◌, ◌<◌, List, Some, map}
 use Rattle.std.specs.Prelude.{slice_get}
-use Rattle.dw_forms.specs.declared.abbrev_tables.KeptDecl.{KeptDecl}
+use Rattle.dw_forms.specs.declared.decl.AttributeSpec.{AttributeSpec}
+use Rattle.dw_forms.specs.AttributeLists.{spec_of}
 use Rattle.dw_entries.specs.Entries.{PlacedUnit}
 use Rattle.dw_links.specs.Classes.{ClassFails}
-use Rattle.dw_links.specs.Concerns.{AllPass}
+use Rattle.dw_links.specs.Concerns.{Passes}
 use Rattle.dw_links.proofs.class_checks.leave_open.Given as goal
 
-abbrev pub invariant-loop-kept : goal.invariant-loop-kept
-invariant-loop-kept l = (k : ℕ) (x : KeptDecl) → k < l.kept-index → slice_get l.kept-items k ≡ Some x → (units : List PlacedUnit) → AllPass (ClassFails units) x.decl.attributes
+abbrev pub invariant-loop-number : goal.invariant-loop-number
+invariant-loop-number l = (k : ℕ) (spec : AttributeSpec) → k < l.number → slice_get (map spec_of l.decls.lists.nodes.items) k ≡ Some spec → (units : List PlacedUnit) → Passes (ClassFails units) spec

@@ -1,20 +1,21 @@
-use Rattle.std.proofs.Common.{arith, sym, ap, ◌∙◌, subst, Some}
-use Rattle.std.proofs.lemmas.Option.{slice_get_within, slice_get-get_or}
+use Rattle.std.proofs.Common.{map, length, sym, ◌∙◌, arith}
+use Rattle.std.proofs.lemmas.List.{length-map}
+use Rattle.std.proofs.lemmas.Option.{slice_get_within}
+use Rattle.dw_forms.specs.AttributeLists.{spec_of}
 use Rattle.dw_entries.specs.Scanned.{units_of}
-use Rattle.dw_forms.specs.declared.abbrev_tables.KeptDecl.{KeptDecl}
-use Rattle.dw_links.specs.Concerns.{AllPass}
+use Rattle.dw_links.specs.Concerns.{Passes}
 use Rattle.dw_links.proofs.Skips.{one_more}
 use Rattle.dw_units.specs.Alone.{Leaves}
-use Rattle.dw_units.proofs.FormLemmas.{none_leaves}
+use Rattle.dw_units.proofs.FormLemmas.{none_leaves, form_passes}
 use Rattle.dw_units.proofs.alone.stays_inside.Goals as goal
 
-pub loop-kept-preserved : goal.loop-kept-preserved
-loop-kept-preserved c =
-    one_more c.decls-kept-items.result.now (λ (x : KeptDecl). AllPass Leaves x.decl.attributes) c.loop-kept.kept-index c.kept-item.result
-    (slice_get-get_or c.decls-kept-items.result.now c.loop-kept.kept-index c.kept-item.result c.loop-kept-test.true ∙ ap Some (sym c.kept-item.is)) c.loop-kept.invariant
-    (subst (AllPass Leaves) c.as_slice.ensures (rw c.if-any_leaves.false at c.any_leaves.ensures))
+pub loop-number-preserved : goal.loop-number-preserved
+loop-number-preserved c =
+    one_more (map spec_of c.decls-decls.result.now.lists.nodes.items) (Passes Leaves) c.loop-number.number c.spec.result c.spec.ensures c.loop-number.invariant
+    (form_passes c.spec.result (sym c.may_leave.ensures ∙ c.if-may_leave.false))
 
 pub returns : goal.returns
 returns c =
-    none_leaves _ _ (units_of c.args.entries.now.scanned) c.decls-kept-items.result.now c.args.entries.now.scanned.1.spells c.decls-kept-items.ensures
-    (λ k x is. c.loop-kept.invariant k x (omega (arith, slice_get_within c.decls-kept-items.result.now k x is, c.loop-kept-test.false)) is)
+    let nodes = c.decls-decls.result.now.lists.nodes.items in
+    none_leaves _ _ (units_of c.args.entries.now.scanned) (map spec_of nodes) c.args.entries.now.scanned.1.spells c.decls-decls.ensures.specs
+    (λ k spec is. c.loop-number.invariant k spec (omega (arith, slice_get_within (map spec_of nodes) k spec is, length-map nodes spec_of, c.spec_count-number-end.ensures, c.loop-number-test.false)) is)

@@ -1,9 +1,10 @@
-use Rattle.std.proofs.Common.{ℕ, ◌≡◌, ◌<◌, Some}
+use Rattle.std.proofs.Common.{ℕ, ◌≡◌, ◌<◌, Some, map}
 use Rattle.std.specs.Prelude.{slice_get}
-use Rattle.dw_forms.specs.declared.abbrev_tables.KeptDecl.{KeptDecl}
-use Rattle.dw_links.specs.Concerns.{AllPass}
+use Rattle.dw_forms.specs.declared.decl.AttributeSpec.{AttributeSpec}
+use Rattle.dw_forms.specs.AttributeLists.{spec_of}
+use Rattle.dw_links.specs.Concerns.{Passes}
 use Rattle.dw_units.specs.Alone.{Leaves}
 use Rattle.dw_units.proofs.alone.stays_inside.Given as goal
 
-abbrev pub invariant-loop-kept : goal.invariant-loop-kept
-invariant-loop-kept l = (k : ℕ) (x : KeptDecl) → k < l.kept-index → slice_get l.kept-items k ≡ Some x → AllPass Leaves x.decl.attributes
+abbrev pub invariant-loop-number : goal.invariant-loop-number
+invariant-loop-number l = (k : ℕ) (spec : AttributeSpec) → k < l.number → slice_get (map spec_of l.decls.lists.nodes.items) k ≡ Some spec → Passes Leaves spec

@@ -1,16 +1,13 @@
-use Rattle.std.proofs.Common.{◌≡◌, arith}
+use Rattle.std.proofs.Common.{◌≡◌}
+use Rattle.dw_forms.specs.KeptDecls.{view}
 use Rattle.dw_entries.proofs.KeptLaws.{kept_entry, decl_numbered, decl_kept, decl_is, header_is, from_entry}
 use Rattle.dw_entries.proofs.entry_at.EntryAt.new.Goals as goal
 
-pub overflow_sub-kept : goal.overflow_sub-kept
-overflow_sub-kept c = decl_numbered c.args.entries.now.decls.items (kept_entry _ _ _ _ _ c.args.entries.now.scanned c.args.id c.requires.id) c.record-kept.result c.record-kept.ensures
+pub decl-requires-clause-some : goal.decl-requires-clause-some
+decl-requires-clause-some c = decl_numbered c.args.entries.now.decls (kept_entry _ _ _ _ _ c.args.entries.now.scanned c.args.id c.requires.id) c.record-kept.result c.record-kept.ensures
 
-pub index-requires : goal.index-requires
-index-requires c =
-    let kept = kept_entry _ _ _ _ _ c.args.entries.now.scanned c.args.id c.requires.id in
-    let some = decl_numbered c.args.entries.now.decls.items kept c.record-kept.result c.record-kept.ensures in
-    let within = decl_kept c.args.entries.now.decls.items kept c.record-kept.result c.record-kept.ensures in
-    omega (arith, some, within)
+pub decl-requires-clause-within : goal.decl-requires-clause-within
+decl-requires-clause-within c = decl_kept c.args.entries.now.decls (kept_entry _ _ _ _ _ c.args.entries.now.scanned c.args.id c.requires.id) c.record-kept.result c.record-kept.ensures
 
 pub invariant_of-result : goal.invariant_of-result
 invariant_of-result c =
@@ -19,7 +16,7 @@ invariant_of-result c =
     let number = from_entry kept (λ e. unit.number ≡ e.unit) c.requires.number in (
       c.requires.id,
       c.record-kept.ensures,
-      decl_is c.args.entries.now.decls.items kept c.record-kept.result c.record-kept.ensures c.index.result.now c.index.ensures,
+      decl_is c.args.entries.now.decls kept c.record-kept.result c.record-kept.ensures (view c.decl.result) c.decl.ensures,
       header_is kept unit.number unit.record number c.requires.unit,
       c.requires.number,
     )

@@ -1,3 +1,9 @@
+use Rattle.std.proofs.Common.{◌≡◌, length, sym}
+use Rattle.std.proofs.lemmas.List.{length-map}
+use Rattle.dw_forms.specs.declared.decl.AttributeSpec.{AttributeSpec}
+use Rattle.dw_forms.specs.Chains.{Numbered, items_of}
+use Rattle.dw_forms.specs.Suffixes.{specs_in}
+use Rattle.dw_forms.proofs.SuffixLaws.{specs_ends}
 use Rattle.dw_entries.specs.Values.{value_context}
 use Rattle.dw_entries.proofs.PassLaws.{never_cut, left_on, left_rest}
 use Rattle.dw_entries.proofs.values.Values.pass.Goals as goal
@@ -5,18 +11,20 @@ use Rattle.dw_entries.proofs.values.Values.pass.Goals as goal
 pub invariant_of-self : goal.invariant_of-self
 invariant_of-self c =
     let v = c.args.self.now in
+    let (before, ends) = c.requires in
     record {
-      within = c.requires.within;
       sized = v.sized;
-      left = (left_on (value_context v.version v.address_size) v.attributes.now v.at c.args.to v.bytes.now v.left c.requires.on c.requires.within c.in-Ok.bytes.now c.in-Ok.ensures).0;
+      left = (left_on (value_context v.version v.address_size) (specs_in v.attributes) (items_of before) (specs_in c.args.to) (specs_ends v.attributes c.args.to before ends) v.bytes.now v.left c.in-Ok.bytes.now (c.in-Ok.ensures before ends)).0;
     }
 
 pub unreachable-requires : goal.unreachable-requires
 unreachable-requires c =
     let v = c.args.self.now in
-    never_cut (value_context v.version v.address_size) v.attributes.now v.at c.args.to v.bytes.now v.left c.requires.on c.requires.within c.in-Err.field-0 c.in-Err.ensures
+    let (before, ends) = c.requires in
+    never_cut (value_context v.version v.address_size) (specs_in v.attributes) (items_of before) (specs_in c.args.to) (specs_ends v.attributes c.args.to before ends) v.bytes.now v.left c.in-Err.field-0 (c.in-Err.ensures before ends)
 
 pub returns : goal.returns
-returns c =
+returns c before ends =
     let v = c.args.self.now in
-    search (left_rest (value_context v.version v.address_size) v.attributes.now v.at c.args.to v.bytes.now v.left c.requires.on c.requires.within c.in-Ok.bytes.now c.in-Ok.ensures)
+    let long : length before ≡ length (items_of before) = sym (length-map before (λ (n : Numbered AttributeSpec). n.item)) in
+    search (left_rest (value_context v.version v.address_size) (specs_in v.attributes) (items_of before) (specs_in c.args.to) (specs_ends v.attributes c.args.to before ends) v.bytes.now v.left (length before) long c.in-Ok.bytes.now (c.in-Ok.ensures before ends))

@@ -1,33 +1,54 @@
-use Rattle.std.proofs.Common.{◌∙◌, sym, ap, arith}
-use Rattle.dw_forms.specs.KeptDecls.{decl_of}
-use Rattle.dw_forms.proofs.KeptLaws.{are_numbered, numbers_find, number_within, decl_read, tables_long}
+use Rattle.std.proofs.Common.{◌-◌, ◌<◌, Some, length, ◌∙◌, sym, ap, subst, arith}
+use Rattle.dw_forms.specs.declared.decl.KeptDecl.{KeptDecl}
+use Rattle.dw_forms.specs.AttributeLists.{HasList}
+use Rattle.dw_forms.specs.declared.attribute_lists.AttributeLists.{AttributeLists}
+use Rattle.dw_forms.specs.KeptDecls.{kept_view, decl_of}
+use Rattle.dw_forms.proofs.CodeLaws.{number_within}
+use Rattle.dw_forms.proofs.KeptLaws.{code_is, links_long, own_numbers, numbers_find, decl_read, tables_long}
 use Rattle.dw_forms.proofs.abbrev_tables.AbbrevTables.get.Goals as goal
 
-pub find_in-number-requires-clause-table : goal.find_in-number-requires-clause-table
-find_in-number-requires-clause-table c =
+pub find-number-requires : goal.find-number-requires
+find-number-requires c =
+    let a = c.args.self.now in
     let within = c.requires.table in
-    let long = tables_long c.args.self.now.kept.items in
-    rw c.deref.ensures.value (omega (arith, within, long))
+    omega (arith, within, tables_long a.lists.lists.nodes.items a.kept.items, links_long a.codes.links.items a.kept.items c.requires.searchable.coded)
 
 pub returns-then-number-eq0-clause-decl : goal.returns-then-number-eq0-clause-decl
 returns-then-number-eq0-clause-decl c =
-    let found = rw c.deref.ensures.value at c.find_in-number.ensures in
-    let own = are_numbered c.args.self.now.kept.items c.args.table in
-    ap (decl_of c.args.self.now.kept.items) (sym c.if-number-eq0.true ∙ found) ∙ numbers_find c.args.self.now.kept.items _ c.args.code own
+    let a = c.args.self.now in
+    let nodes = a.lists.lists.nodes.items in
+    let same = code_is a.codes.links.items nodes a.kept.items c.args.table c.args.code c.requires.searchable.coded in
+    ap (decl_of nodes a.kept.items) (sym c.if-number-eq0.true ∙ c.find-number.ensures ∙ same) ∙ numbers_find nodes a.kept.items _ c.args.code (own_numbers nodes a.kept.items c.args.table)
 
-pub index-requires : goal.index-requires
-index-requires c =
-    let found = rw c.deref.ensures.value at c.find_in-number.ensures in
-    let own = are_numbered c.args.self.now.kept.items c.args.table in
-    let within = number_within c.args.self.now.kept.items _ c.args.code own in
+pub index-kept-requires : goal.index-kept-requires
+index-kept-requires c =
+    let a = c.args.self.now in
+    let within = number_within a.codes.links.items c.args.table c.args.code in
     let some = c.if-number-eq0.false in
-    omega (arith, found, within, some)
+    omega (arith, c.find-number.ensures, within, some, links_long a.codes.links.items a.kept.items c.requires.searchable.coded)
 
 pub returns-clause-decl : goal.returns-clause-decl
 returns-clause-decl c =
-    let found = rw c.deref.ensures.value at c.find_in-number.ensures in
-    let own = are_numbered c.args.self.now.kept.items c.args.table in
-    let within = number_within c.args.self.now.kept.items _ c.args.code own in
+    let a = c.args.self.now in
+    let nodes = a.lists.lists.nodes.items in
+    let same = code_is a.codes.links.items nodes a.kept.items c.args.table c.args.code c.requires.searchable.coded in
+    let within = number_within a.codes.links.items c.args.table c.args.code in
+    let long = links_long a.codes.links.items a.kept.items c.requires.searchable.coded in
     let some = c.if-number-eq0.false in
-    sym (decl_read c.args.self.now.kept.items c.find_in-number.result c.index.result.now (omega (arith, some)) (omega (arith, found, within)) c.index.ensures)
-    ∙ ap (decl_of c.args.self.now.kept.items) found ∙ numbers_find c.args.self.now.kept.items _ c.args.code own
+    ap (λ (lists : AttributeLists). Some (kept_view lists.nodes.items c.new.result.kept.now)) c.new.ensures.lists ∙ ap (λ (k : KeptDecl). Some (kept_view nodes k)) c.new.ensures.kept
+    ∙ sym (decl_read nodes a.kept.items c.find-number.result c.index-kept.result.now (omega (arith, some)) (omega (arith, c.find-number.ensures, within, long)) c.index-kept.ensures)
+    ∙ ap (decl_of nodes a.kept.items) (c.find-number.ensures ∙ same) ∙ numbers_find nodes a.kept.items _ c.args.code (own_numbers nodes a.kept.items c.args.table)
+
+pub new-requires : goal.new-requires
+new-requires c =
+    let a = c.args.self.now in
+    let nodes = a.lists.lists.nodes.items in
+    let within = number_within a.codes.links.items c.args.table c.args.code in
+    let some = c.if-number-eq0.false in
+    let less : c.find-number.result - 1 < length a.kept.items = omega (arith, c.find-number.ensures, within, some, links_long a.codes.links.items a.kept.items c.requires.searchable.coded) in
+    subst (λ (k : KeptDecl). HasList nodes k.first k.step) (sym c.index-kept.ensures) (c.requires.searchable.within (c.find-number.result - 1) c.index-kept.result.now less)
+
+pub returns-clause-number : goal.returns-clause-number
+returns-clause-number c =
+    let a = c.args.self.now in
+    c.find-number.ensures ∙ code_is a.codes.links.items a.lists.lists.nodes.items a.kept.items c.args.table c.args.code c.requires.searchable.coded

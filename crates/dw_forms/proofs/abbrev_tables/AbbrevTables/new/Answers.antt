@@ -1,11 +1,13 @@
-use Rattle.std.proofs.Common.{rules, arith}
-use Rattle.dw_forms.proofs.StartLaws.{no_starts}
+use Rattle.std.proofs.Common.{[], refl, sym, arith}
+use Rattle.dw_forms.proofs.KeptLaws.{tables_long}
 use Rattle.dw_forms.proofs.abbrev_tables.AbbrevTables.new.Goals as goal
 
 pub returns-clause-tables : goal.returns-clause-tables
 returns-clause-tables c = λ section. record {
-  kept = rw c.new.ensures.items (λ k x within read. absurd (omega (arith, within)));
-  starts = no_starts section _ c.new-3.result (search rules);
-  few = rw c.new.ensures.items (omega arith);
-  marks = c.in_ok-no_marks.ensures.marks;
+  searchable = record {
+    coded = rw (c.new.ensures.items, c.new-2.ensures) refl;
+    within = rw c.new.ensures.items (λ k x less. absurd (omega (arith, less)));
+  };
+  lists = c.new-3.ensures.lists section;
+  starts = rw (c.new.ensures.items, c.new-4.ensures) (record { long = sym (tables_long c.new-3.result.lists.nodes.items []); each = λ k less. absurd (omega (arith, less)) });
 }

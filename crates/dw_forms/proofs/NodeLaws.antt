@@ -1,0 +1,146 @@
+-- Codes are found in lists of attributes.
+use Rattle.std.proofs.Common.{◌≡◌, ℕ, zero, suc, ◌<◌, ◌≤◌, true, false, List, [], ◌∷◌, ◌++◌, length, map, refl, sym, ap, subst, ◌∙◌, inl, inr, arith}
+use Rattle.std.specs.Prelude.{◌==◌, not, get_or}
+use Rattle.std.proofs.lemmas.Bool.{cases_eq}
+use Rattle.std.proofs.lemmas.List.{length-append, length-map, map-append, get_or_append_left, get_or_at, get_or_default}
+use Rattle.std.proofs.lemmas.List.Elements.{All-cons}
+use Rattle.dw_forms.specs.declared.decl.AttributeSpec.{AttributeSpec}
+use Rattle.dw_forms.specs.declared.attribute_lists.Node.{Node}
+use Rattle.dw_forms.specs.declared.chains.Link.{Link}
+use Rattle.dw_forms.specs.Abbrev.{IsCode16, AreAttributes}
+use Rattle.dw_forms.specs.AbbrevReading.{has_attribute}
+use Rattle.dw_forms.specs.AttributeLists.{spec_of, specs_of, numbered_in, list_in, Knows, IsKnown, AreKnown, AreCoded}
+use Rattle.dw_forms.specs.Chains.{Numbered, chain_in, chains_of, codes_of, codes_in, number_in, number_where}
+use Rattle.dw_forms.specs.Walks.{IsStep}
+use Rattle.dw_forms.proofs.AttributesLaws.{none_allowed}
+use Rattle.dw_forms.proofs.BitLaws.{eq_true, differ}
+use Rattle.dw_forms.proofs.CodeLaws.{codes_long}
+use Rattle.dw_forms.proofs.Keys.{apart_cons, lacks_from}
+use Rattle.dw_forms.proofs.ChainLaws.{chain_none, chain_map, where_map, are_numbered, none_has, some_has, old_chain, new_chain}
+
+abbrev pub attribute_of : AttributeSpec → ℕ
+attribute_of spec = spec.attribute
+
+-- the code of an attribute, with the number of the list after it
+abbrev pub code_part : (AttributeSpec × ℕ) → ℕ × ℕ
+code_part x = (x.0.attribute, x.1)
+
+codes_parts : (nodes : List Node) → map (λ (n : Node). (n.attribute, n.next)) nodes ≡ map code_part (specs_of nodes)
+codes_parts [] = refl
+codes_parts (n ∷ nodes) = ap (λ (rest : List (ℕ × ℕ)). (n.attribute, n.next) ∷ rest) (codes_parts nodes)
+
+-- the first attribute with the code
+abbrev pub attribute_in : List Node → ℕ → ℕ → ℕ
+attribute_in nodes number code = number_where (λ (s : AttributeSpec). s.attribute == code) (numbered_in nodes number)
+
+pub code_is : (links : List Link) (nodes : List Node) (number code : ℕ) → AreCoded links nodes → number_in (codes_in links number) code ≡ attribute_in nodes number code
+code_is links nodes number code are =
+    ap (λ (items : List (ℕ × ℕ)). number_in (chain_in (chains_of items) number) code) (are ∙ codes_parts nodes)
+    ∙ ap (λ (chain : List (Numbered ℕ)). number_in chain code) (chain_map attribute_of (specs_of nodes) number)
+    ∙ where_map (λ c. c == code) attribute_of (numbered_in nodes number)
+
+pub lacks : (links : List Link) (nodes : List Node) (number code : ℕ) → AreCoded links nodes → number_in (codes_in links number) code ≡ 0 → has_attribute code (list_in nodes number) ≡ false
+lacks links nodes number code are none =
+    none_has (λ (s : AttributeSpec). s.attribute == code) (specs_of nodes) (numbered_in nodes number) (are_numbered (specs_of nodes) number) (sym (code_is links nodes number code are) ∙ none)
+
+pub has : (links : List Link) (nodes : List Node) (number code : ℕ) → AreCoded links nodes → 0 < number_in (codes_in links number) code → has_attribute code (list_in nodes number) ≡ true
+has links nodes number code are some =
+    let same = code_is links nodes number code are in
+    some_has (λ (s : AttributeSpec). s.attribute == code) (numbered_in nodes number) (λ none. omega (arith, none, same, some))
+
+-- an attribute is in the list exactly if the search finds a link
+pub has_is : (links : List Link) (nodes : List Node) (number code found : ℕ) → AreCoded links nodes → found ≡ number_in (codes_in links number) code → not (found == 0) ≡ has_attribute code (list_in nodes number)
+has_is links nodes number code found are is = elim (cases_eq found 0) [
+  | inl none ↦ ap not (eq_true found 0 none) ∙ sym (lacks links nodes number code are (sym is ∙ none))
+  | inr some ↦ ap not (differ found 0 some) ∙ sym (has links nodes number code are (omega (arith, is, some)))
+]
+
+-- ---- one attribute more
+
+pub specs_more : (nodes : List Node) (n : Node) → specs_of (nodes ++ n ∷ []) ≡ specs_of nodes ++ (spec_of n, n.next) ∷ []
+specs_more nodes n = map-append (λ (x : Node). (spec_of x, x.next)) nodes (n ∷ [])
+
+-- the old lists stay
+pub old_list : (nodes : List Node) (n : Node) (number : ℕ) → number ≤ length nodes → numbered_in (nodes ++ n ∷ []) number ≡ numbered_in nodes number
+old_list nodes n number within =
+    ap (λ (items : List (AttributeSpec × ℕ)). chain_in (chains_of items) number) (specs_more nodes n)
+    ∙ old_chain (specs_of nodes) (spec_of n, n.next) number (omega (arith, within, length-map {B = AttributeSpec × ℕ} nodes (λ (x : Node). (spec_of x, x.next))))
+
+-- the new one is the attribute and the list after it
+pub new_list : (nodes : List Node) (n : Node) → numbered_in (nodes ++ n ∷ []) (suc (length nodes)) ≡ record { number = suc (length nodes); item = spec_of n } ∷ numbered_in nodes n.next
+new_list nodes n =
+    let long : length (specs_of nodes) ≡ length nodes = length-map {B = AttributeSpec × ℕ} nodes (λ (x : Node). (spec_of x, x.next)) in
+    ap (λ (items : List (AttributeSpec × ℕ)). chain_in (chains_of items) (suc (length nodes))) (specs_more nodes n)
+    ∙ ap (λ (m : ℕ). chain_in (chains_of (specs_of nodes ++ (spec_of n, n.next) ∷ [])) (suc m)) (sym long)
+    ∙ new_chain (specs_of nodes) (spec_of n, n.next)
+    ∙ ap (λ (m : ℕ). record { number = suc m; item = spec_of n } ∷ numbered_in nodes n.next) long
+
+-- the links have its code, too
+pub coded_more : (old new : List Link) (nodes : List Node) (n : Node) → AreCoded old nodes → codes_of new ≡ codes_of old ++ (n.attribute, n.next) ∷ [] → AreCoded new (nodes ++ n ∷ [])
+coded_more old new nodes n are more =
+    more ∙ ap (λ (items : List (ℕ × ℕ)). items ++ (n.attribute, n.next) ∷ []) are
+    ∙ sym (map-append (λ (x : Node). (x.attribute, x.next)) nodes (n ∷ []))
+
+pub coded_push : (old new : List Link) (nodes : List Node) (n : Node) (spec : AttributeSpec) (rest code : ℕ) → spec_of n ≡ spec → n.next ≡ rest → code ≡ spec.attribute → AreCoded old nodes
+    → codes_of new ≡ codes_of old ++ (code, rest) ∷ [] → AreCoded new (nodes ++ n ∷ [])
+coded_push old new nodes n spec rest code spec_is next_is code_is are more =
+    let same : code ≡ n.attribute = code_is ∙ ap attribute_of (sym spec_is) in
+    coded_more old new nodes n are (more ∙ ap (λ (x : ℕ). codes_of old ++ (x, rest) ∷ []) same ∙ ap (λ (x : ℕ). codes_of old ++ (n.attribute, x) ∷ []) (sym next_is))
+
+pub links_long : (links : List Link) (nodes : List Node) → AreCoded links nodes → length links ≡ length nodes
+links_long links nodes are = sym (codes_long links) ∙ ap length are ∙ length-map {B = ℕ × ℕ} nodes (λ (n : Node). (n.attribute, n.next))
+
+-- ---- what is known of the new list
+
+pub attributes_more : (spec : AttributeSpec) (specs : List AttributeSpec) → AreAttributes specs → IsCode16 spec.attribute → has_attribute spec.attribute specs ≡ false → AreAttributes (spec ∷ specs)
+attributes_more spec specs are code none = record {
+  each = All-cons (λ (s : AttributeSpec). IsCode16 s.attribute) spec specs code are.each;
+  distinct = apart_cons attribute_of spec specs (lacks_from attribute_of spec.attribute specs none) are.distinct;
+}
+
+pub attributes_in : (nodes : List Node) (number : ℕ) → AreKnown nodes → number ≤ length nodes → AreAttributes (list_in nodes number)
+attributes_in nodes zero known within = rw (chain_none (specs_of nodes)) none_allowed
+attributes_in [] (suc k) known within = absurd (omega (arith, within))
+attributes_in (d ∷ nodes) (suc k) known within =
+    (known k (get_or (d ∷ nodes) k d) (omega (arith, within)) (get_or_default (d ∷ nodes) k d (get_or (d ∷ nodes) k d) (omega (arith, within)))).attributes
+
+module _ (nodes : List Node) (n : Node) where
+  old_known : (number : ℕ) (x : Node) → number ≤ length nodes → IsKnown nodes number x → IsKnown (nodes ++ n ∷ []) number x
+  old_known number x within is =
+      let less = is.next in
+      record {
+        next = is.next;
+        begins = old_list nodes n number within ∙ is.begins
+            ∙ ap (λ (list : List (Numbered AttributeSpec)). record { number = number; item = spec_of x } ∷ list) (sym (old_list nodes n x.next (omega (arith, less, within))));
+        attributes = rw (old_list nodes n number within) is.attributes;
+        knows = rw (old_list nodes n number within) is.knows;
+        after = rw (old_list nodes n x.next (omega (arith, less, within))) is.after;
+      }
+
+  pub known_more : AreKnown nodes → n.next ≤ length nodes → IsCode16 n.attribute → has_attribute n.attribute (list_in nodes n.next) ≡ false
+      → Knows (record { number = suc (length nodes); item = spec_of n } ∷ numbered_in nodes n.next) n → IsStep (numbered_in nodes n.next) n.after → AreKnown (nodes ++ n ∷ [])
+  known_more known within code none knows after k x less read = elim (cases_eq k (length nodes)) [
+    | inl same ↦
+        let is : x ≡ n = read ∙ get_or_at nodes n [] x k (sym same) in
+        rw (is, same) (record {
+          next = omega (arith, within);
+          begins = new_list nodes n ∙ ap (λ (list : List (Numbered AttributeSpec)). record { number = suc (length nodes); item = spec_of n } ∷ list) (sym (old_list nodes n n.next within));
+          attributes = rw (new_list nodes n) (attributes_more (spec_of n) (list_in nodes n.next) (attributes_in nodes n.next known within) code none);
+          knows = rw (new_list nodes n) knows;
+          after = rw (old_list nodes n n.next within) after;
+        })
+    | inr other ↦
+        let before : k < length nodes = omega (arith, other, less, length-append nodes (n ∷ [])) in
+        old_known (suc k) x before (known k x before (read ∙ get_or_append_left nodes (n ∷ []) x k before))
+  ]
+
+  pub known_push : (spec : AttributeSpec) (rest number : ℕ) → spec_of n ≡ spec → n.next ≡ rest → number ≡ suc (length nodes) → AreKnown nodes → rest ≤ length nodes → IsCode16 spec.attribute
+      → has_attribute spec.attribute (list_in nodes rest) ≡ false → Knows (record { number = number; item = spec } ∷ numbered_in nodes rest) n → IsStep (numbered_in nodes rest) n.after → AreKnown (nodes ++ n ∷ [])
+  known_push spec rest number spec_is next_is number_is known within code none knows after =
+      let own : n.attribute ≡ spec.attribute = ap attribute_of spec_is in
+      let list =
+      ap (λ (m : ℕ). record { number = m; item = spec } ∷ numbered_in nodes rest) number_is
+      ∙ ap (λ (s : AttributeSpec). record { number = suc (length nodes); item = s } ∷ numbered_in nodes rest) (sym spec_is)
+      ∙ ap (λ (m : ℕ). record { number = suc (length nodes); item = spec_of n } ∷ numbered_in nodes m) (sym next_is) in
+      known_more known (rw next_is within) (subst IsCode16 (sym own) code) (rw (own, next_is) none)
+      (subst (λ (l : List (Numbered AttributeSpec)). Knows l n) list knows) (subst (λ (m : ℕ). IsStep (numbered_in nodes m) n.after) (sym next_is) after)

@@ -1,0 +1,182 @@
+-- Lists of attributes that go on as another list: where the next attribute of a kind is, and what comes before it.
+use Rattle.std.proofs.Common.{◌≡◌, ℕ, zero, suc, ◌-◌, ◌<◌, ◌≤◌, Bool, true, false, List, [], ◌∷◌, ◌++◌, length, refl, sym, ap, subst, ◌∙◌, inl, inr, arith}
+use Rattle.std.specs.Prelude.{◌⊎◌, ◌||◌, get_or}
+use Rattle.std.specs.List.{list_any}
+use Rattle.std.proofs.lemmas.List.{get_or_default}
+use Rattle.dw_forms.specs.declared.decl.AttributeSpec.{AttributeSpec}
+use Rattle.dw_forms.specs.declared.attribute_lists.Node.{Node}
+use Rattle.dw_forms.specs.Chains.{Numbered, items_of, number_where}
+use Rattle.dw_forms.specs.AttributeLists.{spec_of, specs_of, numbered_in, AreKnown, IsKnown, EndsWith}
+use Rattle.dw_forms.proofs.ChainLaws.{chain_none, where_first, where_later}
+use Rattle.dw_forms.proofs.NodeSteps.{node_read}
+
+-- ---- some list
+
+-- two ways to part a list
+pub Parted : {X : Type 0} → (xs ys us bs : List X) → Type 0
+Parted {X} xs ys us bs = ((c : List X) × (xs ≡ us ++ c) × (bs ≡ c ++ ys)) ⊎ ((c : List X) × (us ≡ xs ++ c) × (ys ≡ c ++ bs))
+
+first_is : {X : Type 0} → (x y : X) (xs ys : List X) → (x ∷ xs) ≡ (y ∷ ys) → (x ≡ y) × (xs ≡ ys)
+first_is x y xs ys e = (cc, cc)
+
+later : {X : Type 0} → (x : X) (xs ys us bs : List X) → Parted xs ys us bs → Parted (x ∷ xs) ys (x ∷ us) bs
+unfolding Parted
+later x xs ys us bs (inl (c, e, f)) = inl (c, ap (λ zs. x ∷ zs) e, f)
+later x xs ys us bs (inr (c, e, f)) = inr (c, ap (λ zs. x ∷ zs) e, f)
+
+pub parted : {X : Type 0} → (xs ys us bs : List X) → xs ++ ys ≡ us ++ bs → Parted xs ys us bs
+unfolding Parted
+parted [] ys us bs e = inr (us, refl, e)
+parted (x ∷ xs) ys [] bs e = inl (x ∷ xs, refl, sym e)
+parted {X} (x ∷ xs) ys (a ∷ us) bs e =
+    let same = first_is x a (xs ++ ys) (us ++ bs) e in
+    subst (λ (z : X). Parted (x ∷ xs) ys (z ∷ us) bs) same.0 (later x xs ys us bs (parted xs ys us bs same.1))
+
+-- ---- numbers fall along a list
+
+-- the numbers are above 0 and fall, the first one from this one at most
+abbrev pub Falls : ℕ → List (Numbered AttributeSpec) → Type 0
+Falls bound [] = Unit {0}
+Falls bound (n ∷ list) = (n.number ≤ bound) × (0 < n.number) × Falls (n.number - 1) list
+
+falls_less : (few many : ℕ) (list : List (Numbered AttributeSpec)) → few ≤ many → Falls few list → Falls many list
+falls_less few many [] le falls = tt
+falls_less few many (n ∷ list) le falls = (omega (arith, le, falls.0), falls.1, falls.2)
+
+-- a list begins with its number
+abbrev pub StartsAt : ℕ → List (Numbered AttributeSpec) → Type 0
+StartsAt number [] = number ≡ 0
+StartsAt number (n ∷ list) = n.number ≡ number
+
+module _ (nodes : List Node) (known : AreKnown nodes) where
+  -- what is known of the list of a number
+  pub known_at : (number : ℕ) → 0 < number → number ≤ length nodes → (n : Node) × IsKnown nodes number n
+  known_at number some within = at nodes refl
+    where
+      at : (all : List Node) → all ≡ nodes → (n : Node) × IsKnown nodes number n
+      at [] e = absurd (let none : length nodes ≡ 0 = ap length (sym e) in omega (arith, some, within, none))
+      at (d ∷ more) e =
+          let n = get_or nodes (number - 1) d in
+          (n, node_read nodes number n known some within (get_or_default nodes (number - 1) d n (omega (arith, some, within))))
+
+  falls_to : (bound number : ℕ) → number ≤ bound → number ≤ length nodes → Falls number (numbered_in nodes number)
+  falls_to bound zero le within = rw (chain_none (specs_of nodes)) tt
+  falls_to zero (suc k) le within = absurd (omega (arith, le))
+  falls_to (suc bound) (suc k) le within =
+      let (n, is) = known_at (suc k) (omega arith) within in
+      let less = is.next in
+      rw is.begins (omega arith, omega arith, falls_less n.next (suc k - 1) (numbered_in nodes n.next) (omega (arith, less)) (falls_to bound n.next (omega (arith, less, le)) (omega (arith, less, within))))
+
+  pub falls : (number : ℕ) → number ≤ length nodes → Falls number (numbered_in nodes number)
+  falls number within = falls_to number number (omega arith) within
+
+  pub starts : (number : ℕ) → number ≤ length nodes → StartsAt number (numbered_in nodes number)
+  starts zero within = rw (chain_none (specs_of nodes)) refl
+  starts (suc k) within = let (n, is) = known_at (suc k) (omega arith) within in rw is.begins refl
+
+-- a number before a list is above the list's
+pub head_above : (bound to : ℕ) (m : Numbered AttributeSpec) (before list : List (Numbered AttributeSpec)) → Falls bound (m ∷ (before ++ list)) → StartsAt to list → to < m.number
+head_above bound to m [] [] falls starts = omega (arith, starts, falls.1)
+head_above bound to m [] (n ∷ list) falls starts = omega (arith, starts, falls.1, falls.2.0)
+head_above bound to m (r ∷ before) list falls starts =
+    let less = head_above (m.number - 1) to r before list falls.2 starts in
+    omega (arith, less, falls.1, falls.2.0)
+
+-- a member of a list has a number of at most the list's
+pub member_below : (bound : ℕ) (before : List (Numbered AttributeSpec)) (n : Numbered AttributeSpec) (list : List (Numbered AttributeSpec)) → Falls bound (before ++ n ∷ list) → n.number ≤ bound
+member_below bound [] n list falls = falls.0
+member_below bound (m ∷ before) n list falls = let less = member_below (m.number - 1) before n list falls.2 in omega (arith, less, falls.0)
+
+-- ---- the next attribute of a kind
+
+-- a list up to the first attribute that passes the test, and the list of its number
+pub record IsSplit (test : AttributeSpec → Bool) (nodes : List Node) (number found : ℕ) : Type 0 where
+  pub before : List (Numbered AttributeSpec)
+  pub goes : EndsWith nodes number found before
+  pub none : list_any test (items_of before) ≡ false
+  pub within : found ≤ number
+  pub passes : (m : Numbered AttributeSpec) (list : List (Numbered AttributeSpec)) → numbered_in nodes found ≡ m ∷ list → test m.item ≡ true
+
+pub none_both : (a b : Bool) → a ≡ false → b ≡ false → (a || b) ≡ false
+none_both true b e f = absurd cc
+none_both false b e f = f
+
+first_passes : (test : AttributeSpec → Bool) (n m : Numbered AttributeSpec) (xs ys : List (Numbered AttributeSpec)) → n ∷ xs ≡ m ∷ ys → test n.item ≡ true → test m.item ≡ true
+first_passes test n m xs ys e is = ap (λ (x : Numbered AttributeSpec). test x.item) (sym (first_is n m xs ys e).0) ∙ is
+
+no_first : (m : Numbered AttributeSpec) (list : List (Numbered AttributeSpec)) → [] ≡ m ∷ list → ⊥
+no_first m list e = cc
+
+module _ (test : AttributeSpec → Bool) (nodes : List Node) (known : AreKnown nodes) where
+  split_here : (number : ℕ) (n : Node) (b : Bool) → IsKnown nodes number n → test (spec_of n) ≡ b → IsSplit test nodes n.next (number_where test (numbered_in nodes n.next)) → IsSplit test nodes number (number_where test (numbered_in nodes number))
+  split_here number n true is here rest =
+      let found : number_where test (numbered_in nodes number) ≡ number = ap (number_where test) is.begins ∙ where_first test (record { number = number; item = spec_of n }) (numbered_in nodes n.next) here in
+      rw found (record {
+        before = [];
+        goes = refl;
+        none = refl;
+        within = omega arith;
+        passes = λ m list e. first_passes test (record { number = number; item = spec_of n }) m (numbered_in nodes n.next) list (sym is.begins ∙ e) here;
+      })
+  split_here number n false is here rest =
+      let found : number_where test (numbered_in nodes number) ≡ number_where test (numbered_in nodes n.next) = ap (number_where test) is.begins ∙ where_later test (record { number = number; item = spec_of n }) (numbered_in nodes n.next) here in
+      let less = is.next in
+      let w = rest.within in
+      rw found (record {
+        before = record { number = number; item = spec_of n } ∷ rest.before;
+        goes = is.begins ∙ ap (λ (list : List (Numbered AttributeSpec)). record { number = number; item = spec_of n } ∷ list) rest.goes;
+        none = none_both (test (spec_of n)) (list_any test (items_of rest.before)) here rest.none;
+        within = omega (arith, less, w);
+        passes = rest.passes;
+      })
+
+  split_to : (bound number : ℕ) → number ≤ bound → number ≤ length nodes → IsSplit test nodes number (number_where test (numbered_in nodes number))
+  unfolding number_where
+  split_to bound zero le within =
+      let none : number_where test (numbered_in nodes 0) ≡ 0 = ap (number_where test) (chain_none (specs_of nodes)) in
+      rw none (record { before = []; goes = refl; none = refl; within = omega arith; passes = λ m list e. absurd (no_first m list (sym (chain_none (specs_of nodes)) ∙ e)) })
+  split_to zero (suc k) le within = absurd (omega (arith, le))
+  split_to (suc bound) (suc k) le within =
+      let (n, is) = known_at nodes known (suc k) (omega arith) within in
+      let less = is.next in
+      split_here (suc k) n (test (spec_of n)) is refl (split_to bound n.next (omega (arith, less, le)) (omega (arith, less, within)))
+
+  -- the list up to the next attribute of the kind
+  pub split : (number : ℕ) → number ≤ length nodes → IsSplit test nodes number (number_where test (numbered_in nodes number))
+  split number within = split_to number number (omega arith) within
+
+-- where the next attribute of a kind is not before a list, none before it is of the kind
+none_here : (test : AttributeSpec → Bool) (bound to : ℕ) (m : Numbered AttributeSpec) (before list : List (Numbered AttributeSpec)) (b : Bool) → test m.item ≡ b → Falls bound (m ∷ (before ++ list)) → StartsAt to list
+    → number_where test (m ∷ (before ++ list)) ≤ to → (number_where test (before ++ list) ≤ to → list_any test (items_of before) ≡ false) → list_any test (items_of (m ∷ before)) ≡ false
+none_here test bound to m before list true is falls starts le rest =
+    let found = where_first test m (before ++ list) is in
+    let less = head_above bound to m before list falls starts in
+    absurd (omega (arith, found, less, le))
+none_here test bound to m before list false is falls starts le rest =
+    let found = where_later test m (before ++ list) is in
+    none_both (test m.item) (list_any test (items_of before)) is (rest (omega (arith, found, le)))
+
+pub none_before : (test : AttributeSpec → Bool) (bound to : ℕ) (before list : List (Numbered AttributeSpec)) → Falls bound (before ++ list) → StartsAt to list → number_where test (before ++ list) ≤ to
+    → list_any test (items_of before) ≡ false
+none_before test bound to [] list falls starts le = refl
+none_before test bound to (m ∷ before) list falls starts le =
+    none_here test bound to m before list (test m.item) refl falls starts le (λ less. none_before test (m.number - 1) to before list falls.2 starts less)
+
+-- ---- an attribute before a list
+
+-- so the attributes before the list are some, it, and others
+pub record IsPart (z : Numbered AttributeSpec) (zs front before list : List (Numbered AttributeSpec)) : Type 0 where
+  pub others : List (Numbered AttributeSpec)
+  pub parts : before ≡ front ++ z ∷ others
+  pub goes : zs ≡ others ++ list
+
+part_by : (to : ℕ) (z : Numbered AttributeSpec) (zs front before list : List (Numbered AttributeSpec)) → Falls to list → StartsAt to list → to < z.number → Parted before list front (z ∷ zs) → IsPart z zs front before list
+unfolding Parted
+part_by to z zs front before list falls starts less (inl ([], e, f)) = absurd (let same : z.number ≡ to = subst (StartsAt to) (sym f) starts in omega (arith, same, less))
+part_by to z zs front before list falls starts less (inl (y ∷ others, e, f)) =
+    let same = first_is z y zs (others ++ list) f in
+    record { others = others; parts = e ∙ ap (λ (x : Numbered AttributeSpec). front ++ x ∷ others) (sym same.0); goes = same.1 }
+part_by to z zs front before list falls starts less (inr (c, e, f)) = absurd (let le = member_below to c z zs (subst (Falls to) f falls) in omega (arith, le, less))
+
+pub part_at : (to : ℕ) (z : Numbered AttributeSpec) (zs front before list : List (Numbered AttributeSpec)) → Falls to list → StartsAt to list → to < z.number → before ++ list ≡ front ++ z ∷ zs → IsPart z zs front before list
+part_at to z zs front before list falls starts less e = part_by to z zs front before list falls starts less (parted before list front (z ∷ zs) e)

@@ -1,0 +1,187 @@
+-- Attributes from one on: the first of them, those after it, and those from the next one of a kind on.
+use Rattle.std.proofs.Common.{◌≡◌, ◌≢◌, ℕ, ◌-◌, ◌≤◌, Bool, true, false, List, [], ◌∷◌, ◌++◌, length, take, Result, Ok, Err, refl, sym, ap, subst, ◌∙◌, append_assoc, append-nil, arith}
+use Rattle.std.specs.Prelude.{All, slice_index_or}
+use Rattle.std.specs.List.{list_any, slice_range}
+use Rattle.std.proofs.lemmas.Bool.{eqb-true}
+use Rattle.std.proofs.lemmas.List.{length-append, get_or_append_left, get_or_at}
+use Rattle.dw_forms.specs.declared.decl.AttributeSpec.{AttributeSpec}
+use Rattle.dw_forms.specs.declared.attribute_lists.Node.{Node}
+use Rattle.dw_forms.specs.declared.attributes.Attributes.{Attributes}
+use Rattle.dw_forms.specs.declared.value.ValueFault.{ValueFault}
+use Rattle.dw_forms.specs.AttributeLists.{IsKnown, spec_of, numbered_in, list_in, specs_of, has_this}
+use Rattle.dw_forms.specs.Chains.{Numbered, items_of, number_where, number_in, codes_in}
+use Rattle.dw_forms.specs.FirstPlaces.{StandsFirst, ReadsFirst, value_behind}
+use Rattle.dw_forms.specs.Plans.{known_sum, values_end}
+use Rattle.dw_forms.specs.Steps.{◌>>=◌}
+use Rattle.dw_forms.specs.Suffixes.{nodes_of, numbered, specs_in, Ends, IsFrom}
+use Rattle.dw_forms.specs.Value.{Datum}
+use Rattle.dw_forms.specs.ValueReading.{value_at}
+use Rattle.dw_forms.proofs.ChainLaws.{chain_none}
+use Rattle.dw_forms.proofs.Keys.{lacks_from}
+use Rattle.dw_forms.proofs.NodeLaws.{attribute_of, code_is, links_long}
+use Rattle.dw_forms.proofs.PartLaws.{IsSplit, split}
+use Rattle.dw_forms.proofs.PassSteps.{items_append}
+
+-- ---- one list, and another that it ends with
+
+-- there are none at the list 0
+pub none_there : (a : Attributes) → a.first ≡ 0 → numbered a ≡ []
+none_there a none = ap (numbered_in (nodes_of a)) none ∙ chain_none (specs_of (nodes_of a))
+
+-- the first attribute, and those after it
+pub first_ends : (a rest : Attributes) (n : Node) → IsKnown (nodes_of a) a.first n → nodes_of rest ≡ nodes_of a → rest.first ≡ n.next → Ends a rest (record { number = a.first; item = spec_of n } ∷ [])
+first_ends a rest n is same next = record {
+  nodes = same;
+  parts = is.begins ∙ ap (λ (number : ℕ). record { number = a.first; item = spec_of n } ∷ numbered_in (nodes_of a) number) (sym next);
+}
+
+-- all of them, and then none
+pub none_ends : (a rest : Attributes) → nodes_of rest ≡ nodes_of a → rest.first ≡ 0 → Ends a rest (numbered a)
+none_ends a rest same none = record {
+  nodes = same;
+  parts = sym (append-nil (numbered a)) ∙ ap (λ (list : List (Numbered AttributeSpec)). numbered a ++ list) (sym (ap (numbered_in (nodes_of a)) none ∙ chain_none (specs_of (nodes_of a))));
+}
+
+-- the attributes in another list that one ends with
+pub numbered_ends : (a b : Attributes) (before : List (Numbered AttributeSpec)) → Ends a b before → numbered a ≡ before ++ numbered b
+numbered_ends a b before e = e.parts ∙ ap (λ (nodes : List Node). before ++ numbered_in nodes b.first) (sym e.nodes)
+
+pub specs_ends : (a b : Attributes) (before : List (Numbered AttributeSpec)) → Ends a b before → specs_in a ≡ items_of before ++ specs_in b
+specs_ends a b before e = ap items_of (numbered_ends a b before e) ∙ items_append before (numbered b)
+
+-- the first attribute before those after it
+pub first_specs : (all rest : Attributes) (spec : AttributeSpec) → Ends all rest (record { number = all.first; item = spec } ∷ []) → specs_in all ≡ spec ∷ specs_in rest
+first_specs all rest spec ends = specs_ends all rest (record { number = all.first; item = spec } ∷ []) ends
+
+-- a list ends with what its end ends with
+pub ends_on : (a b c : Attributes) (xs ys : List (Numbered AttributeSpec)) → Ends a b xs → Ends b c ys → Ends a c (xs ++ ys)
+ends_on a b c xs ys e f = record {
+  nodes = f.nodes ∙ e.nodes;
+  parts = numbered_ends a b xs e ∙ ap (λ (list : List (Numbered AttributeSpec)). xs ++ list) (numbered_ends b c ys f) ∙ sym (append_assoc xs ys (numbered c))
+      ∙ ap (λ (nodes : List Node). (xs ++ ys) ++ numbered_in nodes c.first) (f.nodes ∙ e.nodes);
+}
+
+-- the sum of the sizes of a list, by the nodes of another that ends with it
+pub sum_there : (size sum : ℕ) (a b : Attributes) (before : List (Numbered AttributeSpec)) → Ends a b before → sum ≡ known_sum size (specs_in b) → sum ≡ known_sum size (list_in (nodes_of a) b.first)
+sum_there size sum a b before e is = is ∙ ap (λ (nodes : List Node). known_sum size (list_in nodes b.first)) e.nodes
+
+pub within_there : (a b : Attributes) (before : List (Numbered AttributeSpec)) → Ends a b before → b.first ≤ length (nodes_of a)
+within_there a b before e = subst (λ (nodes : List Node). b.first ≤ length nodes) e.nodes b.within
+
+-- ---- those from the next one of a kind on
+
+module _ (test : AttributeSpec → Bool) (all : Attributes) where
+  parted : IsSplit test (nodes_of all) all.first (number_where test (numbered all))
+  parted = split test (nodes_of all) all.lists.now.known all.first all.within
+
+  -- they are among those that are kept
+  pub number_is_within : number_where test (numbered all) ≤ length (nodes_of all)
+  number_is_within = let w = parted.within in let v = all.within in omega (arith, w, v)
+
+  -- those before them fail the test, and the first of them passes it
+  pub record Follow (found : Attributes) : Type 0 where
+    pub before : List (Numbered AttributeSpec)
+    pub ends : Ends all found before
+    pub none : list_any test (items_of before) ≡ false
+    pub passes : (spec : AttributeSpec) (rest : Attributes) → Ends found rest (record { number = found.first; item = spec } ∷ []) → test spec ≡ true
+
+  pub follow : (found : Attributes) → IsFrom test all found → Follow found
+  unfolding parted
+  follow found is =
+      let s = parted in
+      let here : numbered_in (nodes_of all) (number_where test (numbered all)) ≡ numbered found = ap (numbered_in (nodes_of all)) (sym is.first) ∙ ap (λ (nodes : List Node). numbered_in nodes found.first) (sym is.nodes) in
+      record {
+        before = s.before;
+        ends = record { nodes = is.nodes; parts = s.goes ∙ ap (λ (number : ℕ). s.before ++ numbered_in (nodes_of all) number) (sym is.first) };
+        none = s.none;
+        passes = λ spec rest first. s.passes (record { number = found.first; item = spec }) (numbered rest) (here ∙ numbered_ends found rest (record { number = found.first; item = spec } ∷ []) first);
+      }
+
+  -- where there are none from it on, all fail the test
+  pub none_follow : (found : Attributes) → IsFrom test all found → specs_in found ≡ [] → list_any test (specs_in all) ≡ false
+  none_follow found is none =
+      let f = follow found is in
+      ap (list_any test) (specs_ends all found f.before f.ends ∙ ap (λ (specs : List AttributeSpec). items_of f.before ++ specs) none ∙ append-nil (items_of f.before)) ∙ f.none
+
+-- none of no attributes is of the kind
+none_number : (test : AttributeSpec → Bool) → number_where test [] ≡ 0
+unfolding number_where
+none_number test = refl
+
+pub none_from : (test : AttributeSpec → Bool) (all : Attributes) → all.first ≡ 0 → numbered all ≡ [] → IsFrom test all all
+none_from test all none is = record { nodes = refl; first = none ∙ sym (ap (number_where test) is ∙ none_number test) }
+
+-- ---- the attribute of a code
+
+module _ (all : Attributes) (code : ℕ) where
+  pub first_within : all.first ≤ length all.lists.now.codes.links.items
+  first_within = let w = all.within in omega (arith, w, links_long all.lists.now.codes.links.items (nodes_of all) all.lists.now.coded)
+
+  module _ (found : ℕ) (is : found ≡ number_in (codes_in all.lists.now.codes.links.items all.first) code) where
+    pub found_is : found ≡ number_where (has_this code) (numbered all)
+    found_is = is ∙ code_is all.lists.now.codes.links.items (nodes_of all) all.first code all.lists.now.coded
+
+    pub found_within : found ≤ length (nodes_of all)
+    found_within = let w = number_is_within (has_this code) all in omega (arith, found_is, w)
+
+-- ---- its value
+
+-- the first one with the code comes after some that have another
+stands_first : (code : ℕ) (front : List AttributeSpec) (spec : AttributeSpec) (back : List AttributeSpec) → list_any (has_this code) front ≡ false → has_this code spec ≡ true → StandsFirst (front ++ spec ∷ back) code (length front)
+stands_first code front spec back none is = record {
+  within = omega (arith, length-append front (spec ∷ back));
+  has = λ d. ap attribute_of (get_or_at front spec back d (length front) refl) ∙ eqb-true spec.attribute code is;
+  none_before = λ k d less same. lacks_from attribute_of code front none k d less (ap attribute_of (sym (get_or_append_left front (spec ∷ back) d k less)) ∙ same);
+}
+
+take_front : (xs ys : List AttributeSpec) → take (length xs) (xs ++ ys) ≡ xs
+take_front [] ys = refl
+take_front (x ∷ xs) ys = ap (λ (zs : List AttributeSpec). x ∷ zs) (take_front xs ys)
+
+front_range : (xs ys : List AttributeSpec) → slice_range (xs ++ ys) 0 (length xs) ≡ xs
+front_range xs ys = let n : length xs - 0 ≡ length xs = omega arith in ap (λ (k : ℕ). take k (xs ++ ys)) n ∙ take_front xs ys
+
+reads_front : (version size code : ℕ) (front : List AttributeSpec) (spec : AttributeSpec) (back : List AttributeSpec) (bytes : List ℕ) (answer : Result Datum ValueFault)
+    → list_any (has_this code) front ≡ false → has_this code spec ≡ true → answer ≡ value_behind version size spec.form (values_end version size front bytes) → ReadsFirst version size (front ++ spec ∷ back) code bytes answer
+reads_front version size code front spec back bytes answer none is e = record {
+  place = length front;
+  first = stands_first code front spec back none is;
+  reads = λ d. e ∙ ap (λ (s : AttributeSpec). value_behind version size s.form (values_end version size front bytes)) (sym (get_or_at front spec back d (length front) refl))
+      ∙ ap (λ (specs : List AttributeSpec). value_behind version size (slice_index_or (front ++ spec ∷ back) (length front) d).form (values_end version size specs bytes)) (sym (front_range front (spec ∷ back)));
+}
+
+-- where there are none from it on, none has the code
+pub none_has_it : (code : ℕ) (all found : Attributes) → IsFrom (has_this code) all found → specs_in found ≡ [] → All (λ (spec : AttributeSpec). spec.attribute ≢ code) (specs_in all)
+none_has_it code all found is none = lacks_from attribute_of code (specs_in all) (none_follow (has_this code) all found is none)
+
+module _ (version size code : ℕ) (all found : Attributes) (is : IsFrom (has_this code) all found) where
+  before_it : Follow (has_this code) all found
+  before_it = follow (has_this code) all found is
+
+  -- what comes before it
+  pub before_found : (before : List (Numbered AttributeSpec)) × Ends all found before
+  before_found = (before_it.before, before_it.ends)
+
+  module _ (spec : AttributeSpec) (rest : Attributes) (first : Ends found rest (record { number = found.first; item = spec } ∷ [])) (bytes : List ℕ) where
+    reads_it : (answer : Result Datum ValueFault) → answer ≡ value_behind version size spec.form (values_end version size (items_of before_it.before) bytes) → ReadsFirst version size (specs_in all) code bytes answer
+    reads_it answer e =
+        let parts : specs_in all ≡ items_of before_it.before ++ (spec ∷ specs_in rest) =
+        specs_ends all found before_it.before before_it.ends ∙ ap (λ (specs : List AttributeSpec). items_of before_it.before ++ specs) (specs_ends found rest (record { number = found.first; item = spec } ∷ []) first) in
+        subst (λ (specs : List AttributeSpec). ReadsFirst version size specs code bytes answer) (sym parts)
+        (reads_front version size code (items_of before_it.before) spec (specs_in rest) bytes answer before_it.none (before_it.passes spec rest first) e)
+
+    -- the values before it fail
+    pub before_fails : (f : ValueFault) → values_end version size (items_of before_found.0) bytes ≡ Err f → ReadsFirst version size (specs_in all) code bytes (Err f)
+    unfolding before_found
+    before_fails f e = reads_it (Err f) (ap (value_behind version size spec.form) (sym e))
+
+    module _ (mid : List ℕ) (passed : values_end version size (items_of before_found.0) bytes ≡ Ok mid) where
+      value_here : (r : Result (Datum × List ℕ) ValueFault) → value_at version spec.form size mid ≡ r → value_behind version size spec.form (values_end version size (items_of before_it.before) bytes) ≡ (r >>= λ v. Ok v.0)
+      unfolding before_found
+      value_here r e = ap (value_behind version size spec.form) passed ∙ ap (λ (q : Result (Datum × List ℕ) ValueFault). q >>= λ v. Ok v.0) e
+
+      pub it_fails : (f : ValueFault) → value_at version spec.form size mid ≡ Err f → ReadsFirst version size (specs_in all) code bytes (Err f)
+      it_fails f e = reads_it (Err f) (sym (value_here (Err f) e))
+
+      pub it_reads : (v : Datum) (more : List ℕ) → value_at version spec.form size mid ≡ Ok (v, more) → ReadsFirst version size (specs_in all) code bytes (Ok v)
+      it_reads v more e = reads_it (Ok v) (sym (value_here (Ok (v, more)) e))

@@ -1,0 +1,130 @@
+-- Where the first step in the list of a number goes to, and what comes before that attribute.
+use Rattle.std.proofs.Common.{◌≡◌, ℕ, zero, suc, ◌+◌, ◌<◌, ◌≤◌, ◌⊎◌, Bool, true, false, not, List, [], ◌∷◌, length, refl, sym, ap, subst, ◌∙◌, inl, inr, arith}
+use Rattle.std.specs.Prelude.{◌==◌, ◌&&◌}
+use Rattle.std.specs.List.{list_any}
+use Rattle.std.proofs.lemmas.Bool.{ne_eqb, or_parts}
+use Rattle.std.proofs.lemmas.List.Sums.{sum_by-cons}
+use Rattle.dw_forms.specs.declared.decl.AttributeSpec.{AttributeSpec}
+use Rattle.dw_forms.specs.declared.attribute_lists.Node.{Node}
+use Rattle.dw_forms.specs.declared.steps.Step.{Step}
+use Rattle.dw_forms.specs.AttributeLists.{spec_of, specs_of, numbered_in, varies, IsKnown, AreKnown, EndsWith}
+use Rattle.dw_forms.specs.Chains.{Numbered, items_of}
+use Rattle.dw_forms.specs.Plans.{does_vary, known_size, known_sum}
+use Rattle.dw_forms.specs.Walks.{does_lead, stops_at, step_in, skip_in, IsStep}
+use Rattle.dw_forms.proofs.ChainLaws.{chain_none}
+use Rattle.dw_forms.proofs.PartLaws.{known_at, none_both}
+
+-- ---- one attribute
+
+stops_first : (n : Numbered AttributeSpec) (list : List (Numbered AttributeSpec)) → stops_at (step_in list) n.item ≡ true → step_in (n ∷ list) ≡ n.number
+unfolding step_in
+stops_first n list is = rw is refl
+
+stops_later : (n : Numbered AttributeSpec) (list : List (Numbered AttributeSpec)) → stops_at (step_in list) n.item ≡ false → step_in (n ∷ list) ≡ step_in list
+unfolding step_in
+stops_later n list is = rw is refl
+
+skips_none : (size : ℕ) (n : Numbered AttributeSpec) (list : List (Numbered AttributeSpec)) → stops_at (step_in list) n.item ≡ true → skip_in size (n ∷ list) ≡ 0
+unfolding skip_in
+skips_none size n list is = rw is refl
+
+skips_more : (size : ℕ) (n : Numbered AttributeSpec) (list : List (Numbered AttributeSpec)) → stops_at (step_in list) n.item ≡ false → skip_in size (n ∷ list) ≡ skip_in size list + known_size size n.item.form
+unfolding skip_in
+skips_more size n list is = rw is refl
+
+-- a value that is passed before a step does not vary
+never_varies : (next : ℕ) (b : Bool) → (next ≡ 0 → ⊥) → (b && not (next == 0)) ≡ false → b ≡ false
+never_varies next true some e = absurd (let other : (next == 0) ≡ false = ne_eqb next 0 some in let no : not (next == 0) ≡ true = ap not other in cc)
+never_varies next false some e = refl
+
+-- ---- the list of a number
+
+-- the values before an attribute have one size each and lead nowhere, and so many bytes are those that are passed
+pub record GoesTo (nodes : List Node) (number found : ℕ) : Type 0 where
+  pub before : List (Numbered AttributeSpec)
+  pub goes : EndsWith nodes number found before
+  pub none_leads : list_any does_lead (items_of before) ≡ false
+  pub none_varies : list_any varies (items_of before) ≡ false
+  pub skips : (size : ℕ) → skip_in size (numbered_in nodes number) ≡ known_sum size (items_of before)
+
+-- no step is made where no value leads elsewhere, or one is made to an attribute
+pub record Walks (nodes : List Node) (number found : ℕ) : Type 0 where
+  pub within : found ≤ number
+  pub none : found ≡ 0 → list_any does_lead (items_of (numbered_in nodes number)) ≡ false
+  pub goes : (found ≡ 0 → ⊥) → GoesTo nodes number found
+
+module _ (nodes : List Node) (known : AreKnown nodes) where
+  walks_here : (number : ℕ) (n : Node) (b : Bool) → 0 < number → IsKnown nodes number n → stops_at (step_in (numbered_in nodes n.next)) (spec_of n) ≡ b
+      → Walks nodes n.next (step_in (numbered_in nodes n.next)) → Walks nodes number (step_in (numbered_in nodes number))
+  walks_here number n true some is stops rest =
+      let first : Numbered AttributeSpec = record { number = number; item = spec_of n } in
+      let found : step_in (numbered_in nodes number) ≡ number = ap step_in is.begins ∙ stops_first first (numbered_in nodes n.next) stops in
+      rw found (record {
+        within = omega arith;
+        none = λ e. absurd (omega (arith, e, some));
+        goes = λ other. record {
+          before = [];
+          goes = refl;
+          none_leads = refl;
+          none_varies = refl;
+          skips = λ size. ap (skip_in size) is.begins ∙ skips_none size first (numbered_in nodes n.next) stops;
+        };
+      })
+  walks_here number n false some is stops rest =
+      let first : Numbered AttributeSpec = record { number = number; item = spec_of n } in
+      let found : step_in (numbered_in nodes number) ≡ step_in (numbered_in nodes n.next) = ap step_in is.begins ∙ stops_later first (numbered_in nodes n.next) stops in
+      let parts = or_parts (does_lead (spec_of n)) (does_vary n.form && not (step_in (numbered_in nodes n.next) == 0)) stops in
+      let less = is.next in
+      let w = rest.within in
+      rw found (record {
+        within = omega (arith, less, w);
+        none = λ e. ap (λ (list : List (Numbered AttributeSpec)). list_any does_lead (items_of list)) is.begins ∙ none_both (does_lead (spec_of n)) (list_any does_lead (items_of (numbered_in nodes n.next))) parts.0 (rest.none e);
+        goes = λ other.
+            let g = rest.goes other in
+            record {
+              before = first ∷ g.before;
+              goes = is.begins ∙ ap (λ (list : List (Numbered AttributeSpec)). first ∷ list) g.goes;
+              none_leads = none_both (does_lead (spec_of n)) (list_any does_lead (items_of g.before)) parts.0 g.none_leads;
+              none_varies = none_both (does_vary n.form) (list_any varies (items_of g.before)) (never_varies (step_in (numbered_in nodes n.next)) (does_vary n.form) other parts.1) g.none_varies;
+              skips = λ size.
+                  let more = sum_by-cons (λ (s : AttributeSpec). known_size size s.form) (spec_of n) (items_of g.before) in
+                  let here = ap (skip_in size) is.begins ∙ skips_more size first (numbered_in nodes n.next) stops in
+                  omega (arith, here, g.skips size, more);
+            };
+      })
+
+  walks_to : (bound number : ℕ) → number ≤ bound → number ≤ length nodes → Walks nodes number (step_in (numbered_in nodes number))
+  unfolding step_in
+  walks_to bound zero le within =
+      let empty : numbered_in nodes 0 ≡ [] = chain_none (specs_of nodes) in
+      let none : step_in (numbered_in nodes 0) ≡ 0 = ap step_in empty in
+      rw none (record {
+        within = omega arith;
+        none = λ e. ap (λ (list : List (Numbered AttributeSpec)). list_any does_lead (items_of list)) empty;
+        goes = λ other. absurd (other refl);
+      })
+  walks_to zero (suc k) le within = absurd (omega (arith, le))
+  walks_to (suc bound) (suc k) le within =
+      let (n, is) = known_at nodes known (suc k) (omega arith) within in
+      let less = is.next in
+      walks_here (suc k) n (stops_at (step_in (numbered_in nodes n.next)) (spec_of n)) (omega arith) is refl (walks_to bound n.next (omega (arith, less, le)) (omega (arith, less, within)))
+
+  module _ (number : ℕ) (within : number ≤ length nodes) (step : Step) (is : IsStep (numbered_in nodes number) step) where
+    walks : Walks nodes number step.to
+    walks = subst (Walks nodes number) (sym is.to) (walks_to number number (omega arith) within)
+
+    pub step_within : step.to ≤ length nodes
+    step_within = let w = walks.within in omega (arith, w, within)
+
+    -- where no step is made, no value leads elsewhere
+    pub step_none : step.to ≡ 0 → list_any does_lead (items_of (numbered_in nodes number)) ≡ false
+    step_none none = walks.none none
+
+    pub goes_to : (step.to ≡ 0 → ⊥) → GoesTo nodes number step.to
+    goes_to other = walks.goes other
+
+    -- how many bytes are passed
+    pub skip_is : (size : ℕ) → (size ≡ 4) ⊎ (size ≡ 8) → (skip : ℕ) → ((size ≡ 8) × (skip ≡ step.skip_with_8)) ⊎ ((size ≡ 8 → ⊥) × (skip ≡ step.skip_with_4)) → skip ≡ skip_in size (numbered_in nodes number)
+    skip_is size sized skip (inl eight) = eight.1 ∙ is.with_8 ∙ ap (λ (n : ℕ). skip_in n (numbered_in nodes number)) (sym eight.0)
+    skip_is size (inl four) skip (inr other) = other.1 ∙ is.with_4 ∙ ap (λ (n : ℕ). skip_in n (numbered_in nodes number)) (sym four)
+    skip_is size (inr eight) skip (inr other) = absurd (other.0 eight)

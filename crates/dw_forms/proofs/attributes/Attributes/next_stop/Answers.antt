@@ -1,0 +1,15 @@
+use Rattle.std.proofs.Common.{◌∙◌, arith}
+use Rattle.dw_forms.specs.Plans.{is_stop}
+use Rattle.dw_forms.proofs.SuffixLaws.{number_is_within, none_from}
+use Rattle.dw_forms.proofs.attributes.Attributes.next_stop.Goals as goal
+
+pub new-requires : goal.new-requires
+new-requires c =
+    let within = number_is_within is_stop c.args.self.now in
+    omega (arith, within, c.in-Some.ensures.known.knows.stop)
+
+pub returns-in-Some : goal.returns-in-Some
+returns-in-Some c = record { nodes = c.new.ensures.lists; first = c.new.ensures.first ∙ c.in-Some.ensures.known.knows.stop }
+
+pub returns-in-None : goal.returns-in-None
+returns-in-None c = none_from is_stop c.args.self.now c.in-None.ensures.first c.in-None.ensures.none

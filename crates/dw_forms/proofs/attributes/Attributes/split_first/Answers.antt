@@ -1,0 +1,21 @@
+use Rattle.std.proofs.Common.{[], ◌∷◌, ap, sym, subst, arith}
+use Rattle.dw_forms.specs.declared.decl.AttributeSpec.{AttributeSpec}
+use Rattle.dw_forms.specs.Chains.{items_of}
+use Rattle.dw_forms.specs.Suffixes.{Ends}
+use Rattle.dw_forms.proofs.SuffixLaws.{first_ends}
+use Rattle.dw_forms.proofs.attributes.Attributes.split_first.Goals as goal
+
+pub new-requires : goal.new-requires
+new-requires c =
+    let less = c.in-Some.ensures.known.next in
+    let within = c.args.self.now.within in
+    omega (arith, less, within)
+
+pub returns-in-Some : goal.returns-in-Some
+returns-in-Some c =
+    let a = c.args.self.now in
+    let rest = c.new.result in
+    subst (λ (spec : AttributeSpec). Ends a rest (record { number = a.first; item = spec } ∷ [])) (sym c.spec.ensures) (first_ends a rest c.in-Some.node.now c.in-Some.ensures.known c.new.ensures.lists c.new.ensures.first)
+
+pub returns-in-None : goal.returns-in-None
+returns-in-None c = ap items_of c.in-None.ensures.none

@@ -1,0 +1,22 @@
+use Rattle.std.proofs.Common.{rules, ◌≡◌, length, arith}
+use Rattle.dw_forms.proofs.CodeLaws.{found_more, found_either, codes_more}
+use Rattle.dw_forms.proofs.chains.Chains.push.Goals as goal
+
+pub invariant_of-self-2 : goal.invariant_of-self-2
+invariant_of-self-2 c =
+    let links = c.args.self.now.links.items in
+    let start : c.len-branches.result ≡ length c.args.self.now.branches.items = search rules in
+    let kept = c.in_ok-branch_count.ensures.found in
+    let below = c.in_ok-branch_count.ensures.below in
+    let branches = c.in_ok-branch_count.ensures.branches in
+    record {
+      found = found_either _ c.push_branches.new.branches.items links c.push.new.self.items _ c.push.ensures.items (rw c.deref-3.ensures.value at kept)
+          (rw start (found_more c.push_branches.new.branches.items links _ (rw c.deref-3.ensures.value at kept) (rw c.deref.ensures.value at c.run_before-run.ensures.short) (rw c.deref.ensures.value at c.run_before-run.ensures.run)
+          (rw c.deref-3.ensures.value at below) (rw c.deref-3.ensures.value at branches)));
+    }
+
+pub returns-clause-added : goal.returns-clause-added
+returns-clause-added c =
+    let links = c.args.self.now.links.items in
+    let long = c.len.ensures in
+    (omega (arith, long), rw c.in_ok-push.ensures.items (codes_more links _))

@@ -1,0 +1,26 @@
+use Rattle.std.proofs.Common.{◌∙◌, ◌-◌, ap, sym, Some, subst, arith}
+use Rattle.dw_forms.specs.declared.decl.KeptDecl.{KeptDecl}
+use Rattle.dw_forms.specs.Abbrev.{Declaration}
+use Rattle.dw_forms.specs.AttributeLists.{HasList}
+use Rattle.dw_forms.specs.KeptDecls.{kept_view}
+use Rattle.dw_forms.proofs.KeptLaws.{decl_read}
+use Rattle.dw_forms.proofs.decl.Decls.decl.Goals as goal
+
+pub index-requires : goal.index-requires
+index-requires c =
+    let some = c.requires.some in
+    let within = c.requires.within in
+    omega (arith, some, within)
+
+pub new-requires : goal.new-requires
+new-requires c =
+    let a = c.args.self.now in
+    let some = c.requires.some in
+    let within = c.requires.within in
+    subst (λ (k : KeptDecl). HasList a.lists.nodes.items k.first k.step) (sym c.index.ensures) (a.all (c.args.number - 1) c.index.result.now (omega (arith, some, within)))
+
+pub returns : goal.returns
+returns c =
+    let a = c.args.self.now in
+    decl_read a.lists.nodes.items a.kept.items c.args.number c.index.result.now c.requires.some c.requires.within c.index.ensures
+    ∙ ap (λ (d : Declaration). Some d) (λ i. kept_view (sym c.new.ensures.lists i).nodes.items (sym c.new.ensures.kept i))

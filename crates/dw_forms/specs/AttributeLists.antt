@@ -1,0 +1,94 @@
+-- State: lists of attributes, in which each attribute is kept once, with what is known of the values of a list before
+-- any entry is read. A list is a chain of attributes.
+use Rattle.std.specs.Prelude.{◌≡◌, ℕ, suc, ◌*◌, ◌<◌, ◌≤◌, ◌==◌, if◌then◌else◌, List, [], ◌∷◌, ◌++◌, length, map}
+use Rattle.std.specs.Prelude.{get_or, Bool, true, false, Option, Some, None}
+use Rattle.dw_forms.specs.declared.decl.AttributeSpec.{AttributeSpec}
+use Rattle.dw_forms.specs.declared.attribute_lists.Node.{Node}
+use Rattle.dw_forms.specs.declared.chains.Link.{Link}
+use Rattle.dw_forms.specs.declared.steps.Step.{Step}
+use Rattle.dw_forms.specs.Abbrev.{AreAttributes}
+use Rattle.dw_forms.specs.AbbrevReading.{has_attribute}
+use Rattle.dw_forms.specs.Chains.{Numbered, items_of, chain_in, chains_of, number_where, codes_of}
+use Rattle.dw_forms.specs.Plans.{known_sum, does_vary, is_stop}
+use Rattle.dw_forms.specs.Remainders.{HasRemainders}
+use Rattle.dw_forms.specs.Sizes.{are_allowed}
+use Rattle.dw_forms.specs.Walks.{IsStep}
+
+-- the attribute of the node
+abbrev pub spec_of : Node → AttributeSpec
+spec_of n = record { attribute = n.attribute; form = n.form }
+
+-- the attributes, each with the number of the list after it
+abbrev pub specs_of : List Node → List (AttributeSpec × ℕ)
+specs_of nodes = map (λ (n : Node). (spec_of n, n.next)) nodes
+
+-- the attributes of the list of this number, with their numbers
+abbrev pub numbered_in : List Node → ℕ → List (Numbered AttributeSpec)
+numbered_in nodes number = chain_in (chains_of (specs_of nodes)) number
+
+-- the attributes of the list of this number
+abbrev pub list_in : List Node → ℕ → List AttributeSpec
+list_in nodes number = items_of (numbered_in nodes number)
+
+-- the values of the attribute have no one size
+abbrev pub varies : AttributeSpec → Bool
+varies spec = does_vary spec.form
+
+-- the attribute has this code
+abbrev pub has_this : ℕ → AttributeSpec → Bool
+has_this code spec = spec.attribute == code
+
+-- this is known of a list: the next lists whose first attribute is of a kind, and the sums of the sizes of values
+pub record Knows (list : List (Numbered AttributeSpec)) (n : Node) : Type 0 where
+  pub varying : n.next_varying ≡ number_where varies list
+  pub stop : n.next_stop ≡ number_where is_stop list
+  pub known_with_4 : n.known_with_4 ≡ known_sum 4 (items_of list)
+  pub known_with_8 : n.known_with_8 ≡ known_sum 8 (items_of list)
+  pub small_4 : n.known_with_4 ≤ 0xff * length list
+  pub small_8 : n.known_with_8 ≤ 0xff * length list
+  pub remainders : HasRemainders n.remainders (items_of list)
+  pub allowed : n.in_version_4 ≡ are_allowed 4 (items_of list)
+
+-- the known sum of the sizes where addresses have this size
+abbrev pub known_of : ℕ → Node → ℕ
+known_of size n = if size == 8 then n.known_with_8 else n.known_with_4
+
+-- the node of this number tells what is known of the list that begins with it, which list comes after it, and the
+-- first step in that one
+pub record IsKnown (nodes : List Node) (number : ℕ) (n : Node) : Type 0 where
+  pub next : n.next < number
+  pub begins : numbered_in nodes number ≡ record { number = number; item = spec_of n } ∷ numbered_in nodes n.next
+  pub attributes : AreAttributes (list_in nodes number)
+  pub knows : Knows (numbered_in nodes number) n
+  pub after : IsStep (numbered_in nodes n.next) n.after
+
+-- each node tells what is known of its list
+abbrev pub AreKnown : List Node → Type 0
+AreKnown nodes = (k : ℕ) (n : Node) → k < length nodes → n ≡ get_or nodes k n → IsKnown nodes (suc k) n
+
+-- the list of this number is kept, and this is the first step in it
+pub record HasList (nodes : List Node) (first : ℕ) (s : Step) : Type 0 where
+  pub within : first ≤ length nodes
+  pub step : IsStep (numbered_in nodes first) s
+
+-- the links have the codes of the attributes
+abbrev pub AreCoded : List Link → List Node → Type 0
+AreCoded links nodes = codes_of links ≡ map (λ (n : Node). (n.attribute, n.next)) nodes
+
+-- a node of this attribute before this list comes after the others
+pub record IsLast (spec : AttributeSpec) (rest : ℕ) (old new : List Node) : Type 0 where
+  pub node : Node
+  pub spec_is : spec_of node ≡ spec
+  pub next_is : node.next ≡ rest
+  pub nodes : new ≡ old ++ node ∷ []
+
+-- the attribute and the list of this number are a new list, unless the attribute is in that list
+abbrev pub AddedSpec : AttributeSpec → ℕ → List Node → List Node → Option ℕ → Type 0
+AddedSpec spec rest old new (Some number) =
+    (has_attribute spec.attribute (list_in old rest) ≡ false) × (number ≡ suc (length old))
+    × IsLast spec rest old new
+AddedSpec spec rest old new None = (has_attribute spec.attribute (list_in old rest) ≡ true) × (new ≡ old)
+
+-- the list of one number is these attributes, and then the list of another
+abbrev pub EndsWith : List Node → ℕ → ℕ → List (Numbered AttributeSpec) → Type 0
+EndsWith nodes from to before = numbered_in nodes from ≡ before ++ numbered_in nodes to

@@ -1,0 +1,90 @@
+-- State: chains of items, in which each item is kept once. Items are numbered from 1 in the order in which they are
+-- kept. A chain is an item and the chain after it, and has the number of its first item; the chain 0 has no items.
+use Rattle.std.specs.Prelude.{◌≡◌, ℕ, zero, suc, ◌+◌, ◌-◌, ◌<◌, ◌≤◌, List, [], ◌∷◌, ◌++◌, length, map, Option}
+use Rattle.std.specs.Prelude.{Bool, true, None, Some, get_or, slice_get, option_map, ◌==◌, if◌then◌else◌}
+use Rattle.dw_forms.specs.declared.chains.Link.{Link}
+use Rattle.dw_forms.specs.CodeBits.{parts}
+
+-- an item of a chain, and its number
+pub record Numbered (X : Type 0) : Type 0 where
+  pub number : ℕ
+  pub item : X
+
+-- the items of a chain
+abbrev pub items_of : {X : Type 0} → List (Numbered X) → List X
+items_of chain = map (λ n. n.item) chain
+
+-- the chain of this number
+abbrev pub chain_in : {X : Type 0} → List (List (Numbered X)) → ℕ → List (Numbered X)
+chain_in chains number = get_or chains number []
+
+-- these chains, and one more for each of the items, which come with the numbers of the chains after them
+unfoldable pub chains_from : {X : Type 0} → List (List (Numbered X)) → List (X × ℕ) → List (List (Numbered X))
+chains_from chains [] = chains
+chains_from chains (x ∷ items) =
+    chains_from (chains ++ (record { number = length chains; item = x.0 } ∷ chain_in chains x.1) ∷ []) items
+
+-- all chains, by their numbers
+abbrev pub chains_of : {X : Type 0} → List (X × ℕ) → List (List (Numbered X))
+chains_of items = chains_from ([] ∷ []) items
+
+-- the item of this number
+abbrev pub item_of : {X : Type 0} → List (X × ℕ) → ℕ → Option X
+item_of items zero = None
+item_of {X} items (suc k) = option_map (λ (x : X × ℕ). x.0) (slice_get items k)
+
+-- the number of the chain's first item that passes the test, or 0
+unfoldable pub number_where : {X : Type 0} → (X → Bool) → List (Numbered X) → ℕ
+number_where test [] = 0
+number_where test (n ∷ chain) = if test n.item then n.number else number_where test chain
+
+-- each item of the chain is the one of its number
+abbrev pub AreNumbered : {X : Type 0} → List (X × ℕ) → List (Numbered X) → Type 0
+AreNumbered items [] = Unit {0}
+AreNumbered items (n ∷ chain) = (item_of items n.number ≡ Some n.item) × AreNumbered items chain
+
+-- ---- codes
+
+-- the codes of links, each with the number of the chain after it
+abbrev pub codes_of : List Link → List (ℕ × ℕ)
+codes_of links = map (λ (l : Link). (l.code, l.rest)) links
+
+-- the chain of codes of this number
+abbrev pub codes_in : List Link → ℕ → List (Numbered ℕ)
+codes_in links number = chain_in (chains_of (codes_of links)) number
+
+-- the number of the chain's link with this code, or 0
+abbrev pub number_in : List (Numbered ℕ) → ℕ → ℕ
+number_in chain code = number_where (λ c. c == code) chain
+
+-- so many codes from this one on have the numbers from this one down
+abbrev pub IsRun : List (Numbered ℕ) → ℕ → ℕ → ℕ → Type 0
+IsRun chain run code number = (i : ℕ) → i < run → number_in chain (code + i) ≡ number - i
+
+-- for each bit, the branches have the chain's first link whose code differs from this one in that bit and in none
+-- below it. Those that are left out have none
+pub record AreBranches (branches : List ℕ) (from count code : ℕ) (chain : List (Numbered ℕ)) : Type 0 where
+  pub within : from + count ≤ length branches
+  pub each : (bit : ℕ) → bit < count → get_or branches (from + bit) 0 ≡ number_where (parts code bit) chain
+  pub others : (bit : ℕ) → count ≤ bit → bit < 64 → number_where (parts code bit) chain ≡ 0
+
+-- the branches have numbers below this one
+abbrev pub AreBelow : List ℕ → ℕ → ℕ → ℕ → Type 0
+AreBelow branches from count number = (bit : ℕ) → bit < count → get_or branches (from + bit) 0 < number
+
+-- the link of this number says how codes are found in its chain
+pub record IsFoundBy (branches : List ℕ) (links : List Link) (number : ℕ) (l : Link) : Type 0 where
+  pub first : (test : ℕ → Bool) → test l.code ≡ true → number_where test (codes_in links number) ≡ number
+  pub short : l.run ≤ number
+  pub run : IsRun (codes_in links number) l.run l.code number
+  pub below : AreBelow branches l.branches l.branch_count number
+  pub codes : AreBranches branches l.branches l.branch_count l.code (codes_in links number)
+
+-- codes are found in the chains of these links
+abbrev pub AreFound : List ℕ → List Link → Type 0
+AreFound branches links =
+    (k : ℕ) (l : Link) → k < length links → l ≡ get_or links k l → IsFoundBy branches links (suc k) l
+
+-- the code and the chain of this number are a new chain
+abbrev pub Added : ℕ → ℕ → List Link → List Link → ℕ → Type 0
+Added code rest old new number = (number ≡ suc (length old)) × (codes_of new ≡ codes_of old ++ (code, rest) ∷ [])

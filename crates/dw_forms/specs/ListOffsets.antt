@@ -1,0 +1,47 @@
+-- State: the lists of attributes that begin at offsets of a section.
+use Rattle.std.specs.Prelude.{◌≡◌, ℕ, suc, ◌<◌, ◌≤◌, List, [], ◌∷◌, ◌++◌, length, drop, get_or, Some, Ok}
+use Rattle.dw_forms.specs.declared.decl.AttributeSpec.{AttributeSpec}
+use Rattle.dw_forms.specs.declared.attribute_lists.Node.{Node}
+use Rattle.dw_forms.specs.declared.list_reader.KeptLists.{KeptLists}
+use Rattle.dw_forms.specs.declared.list_reader.Pair.{Pair}
+use Rattle.dw_forms.specs.declared.list_reader.ReadList.{ReadList}
+use Rattle.dw_forms.specs.AbbrevReading.{pair_at, attributes_of}
+use Rattle.dw_forms.specs.AttributeLists.{list_in}
+
+-- the list of this number begins at an offset of the section, and ends before another
+pub record IsListAt (section : List ℕ) (nodes : List Node) (offset number end : ℕ) : Type 0 where
+  pub within : number ≤ length nodes
+  pub list : attributes_of (drop offset section) ≡ Ok (list_in nodes number, drop end section)
+  pub rises : offset < end
+  pub fits : end ≤ length section
+
+-- each list has an offset at which it begins and one at which it ends
+pub record ArePlaced (section : List ℕ) (nodes : List Node) (starts ends : List ℕ) : Type 0 where
+  pub starts_long : length starts ≡ length nodes
+  pub ends_long : length ends ≡ length nodes
+  pub lists : (k : ℕ) → k < length nodes → IsListAt section nodes (get_or starts k 0) (suc k) (get_or ends k 0)
+
+-- no list begins at this offset of the section
+abbrev pub NoListAt : List ℕ → ℕ → Type 0
+NoListAt section offset = (specs : List AttributeSpec) (rest : List ℕ)
+    → attributes_of (drop offset section) ≡ Ok (specs, rest) → ⊥
+
+-- attributes one after another, from an offset of the section up to the end of the last one
+abbrev pub AreAfter : List ℕ → List Pair → ℕ → ℕ → Type 0
+AreAfter section [] offset end = offset ≡ end
+AreAfter section (p ∷ pairs) offset end =
+    (p.at ≡ offset) × (next : ℕ) × (pair_at [] (drop offset section) ≡ Ok (Some p.spec, drop next section))
+    × AreAfter section pairs next end
+
+-- the attributes go on as a list that is kept
+abbrev pub Leads : List ℕ → List Node → List Pair → ℕ → ReadList → Type 0
+Leads section nodes pairs offset rest =
+    (next : ℕ) × AreAfter section pairs offset next × IsListAt section nodes next rest.first rest.end
+
+-- the old nodes stay, and others come after them
+abbrev pub StayNodes : List Node → List Node → Type 0
+StayNodes old new = (more : List Node) × (new ≡ old ++ more)
+
+-- the lists that are kept are those of this section
+abbrev pub AreListsOf : List ℕ → KeptLists → Type 0
+AreListsOf section t = ArePlaced section t.lists.nodes.items t.starts.starts.items t.ends.items

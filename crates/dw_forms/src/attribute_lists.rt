@@ -1,0 +1,185 @@
+//! The lists of attributes of a section, with each attribute kept once.
+
+ghost use Rattle.std.specs.Prelude.{◌≡◌, ◌<◌, ◌≤◌, ◌∷◌, List, [], length, IfOk, if◌then◌else◌};
+ghost use Rattle.dw_forms.specs.declared.decl.AttributeSpec.{AttributeSpec as SpecData};
+ghost use Rattle.dw_forms.specs.Abbrev.{IsCode16};
+ghost use Rattle.dw_forms.specs.AbbrevReading.{has_attribute};
+ghost use Rattle.dw_forms.specs.Chains.{Numbered};
+ghost use Rattle.dw_forms.specs.AttributeLists.{Knows, AreKnown, AreCoded, AddedSpec, numbered_in, list_in, spec_of};
+ghost use Rattle.dw_forms.specs.Walks.{IsStep};
+
+use crate::chains::Chains;
+use crate::constants::Attribute;
+use crate::decl::AttributeSpec;
+use crate::form::Form;
+use crate::known::{does_vary, is_stop, known_size, remainder_bit};
+use crate::steps::{Step, no_step, step_before};
+use std::alloc::{AllocError, Global};
+
+/// An attribute and the list after it, with what is known of the values of both before any entry is read.
+#[derive(Clone, Copy, Debug)]
+pub struct Node {
+    pub form: Form,
+    /// The list after it.
+    pub next: u32,
+    /// The first list from here on whose first value has no one size, or 0.
+    pub next_varying: u32,
+    /// The first list from here on at whose first attribute a search stops, or 0.
+    pub next_stop: u32,
+    /// The sum of the sizes of the values that have one size each, where addresses have 4 bytes.
+    pub known_with_4: u32,
+    /// The same where addresses have 8 bytes.
+    pub known_with_8: u32,
+    /// The remainders of the attributes' codes modulo 32, one bit for each.
+    pub remainders: u32,
+    /// The first step in the list after it.
+    pub after: Step,
+    pub attribute: Attribute,
+    /// Whether each form is one of version 4.
+    pub in_version_4: bool,
+}
+
+impl Node {
+    /// The attribute and its form.
+    #[inline(always)]
+    pub fn spec(&self) -> AttributeSpec
+        ensures { result ≡ spec_of self.now }
+    {
+        AttributeSpec {
+            attribute: self.attribute,
+            form: self.form,
+        }
+    }
+}
+
+/// Lists of attributes. Attributes are numbered from 1. A list has the number of its first attribute; the list 0 has
+/// none.
+#[derive(Debug, Drop)]
+pub struct AttributeLists {
+    pub(crate) nodes: Vec<Node>,
+    pub(crate) codes: Chains,
+    ghost known: { AreKnown nodes.items },
+    ghost coded: { AreCoded codes.links.items nodes.items },
+}
+
+/// The number, if this is true, and else another one.
+#[inline(always)]
+fn number_or(number: u32, is: bool, next: u32) -> u32
+    ensures { result ≡ (if is then number else next) }
+{
+    if is { number } else { next }
+}
+
+/// The node of an attribute before a list of which this is known, with the first step in it.
+fn node_before(number: u32, spec: AttributeSpec, rest: u32, next: Node, after: Step) -> Node
+    requires small_4 { next.known_with_4 ≤ 0xffffff }
+    requires small_8 { next.known_with_8 ≤ 0xffffff }
+    ensures spec { spec_of result ≡ spec }
+    ensures next { result.next ≡ rest }
+    ensures after { result.after ≡ after }
+    ensures knows { (list : List (Numbered SpecData)) → Knows list next
+        → Knows (record { number = number; item = spec } ∷ list) result }
+{
+    Node {
+        form: spec.form,
+        next: rest,
+        next_varying: number_or(number, does_vary(spec.form), next.next_varying),
+        next_stop: number_or(number, is_stop(&spec), next.next_stop),
+        known_with_4: next.known_with_4 + known_size(spec.form, 4),
+        known_with_8: next.known_with_8 + known_size(spec.form, 8),
+        remainders: next.remainders | remainder_bit(spec.attribute),
+        after,
+        attribute: spec.attribute,
+        in_version_4: next.in_version_4 && spec.form.allowed(4),
+    }
+}
+
+/// What is known of no attributes.
+fn no_node() -> Node
+    ensures { Knows [] result }
+{
+    Node {
+        form: Form::Flag,
+        next: 0,
+        next_varying: 0,
+        next_stop: 0,
+        known_with_4: 0,
+        known_with_8: 0,
+        remainders: 0,
+        after: no_step(),
+        attribute: Attribute(0),
+        in_version_4: true,
+    }
+}
+
+impl AttributeLists {
+    /// No lists.
+    pub(crate) fn new(alloc: Global) -> AttributeLists
+        ensures { result.nodes.items ≡ [] }
+    {
+        AttributeLists {
+            nodes: Vec::new(alloc),
+            codes: Chains::new(alloc),
+        }
+    }
+
+    /// What is known of the list of a number.
+    fn node(&self, number: u32) -> Node
+        requires { number ≤ length self.now.nodes.items }
+        ensures knows { Knows (numbered_in self.now.nodes.items number) result }
+        ensures small_4 { result.known_with_4 ≤ 0xffffff }
+        ensures small_8 { result.known_with_8 ≤ 0xffffff }
+    {
+        if number == 0 {
+            return no_node();
+        }
+        self.nodes[(number - 1) as usize]
+    }
+
+    /// The first step in the list of a number.
+    pub(crate) fn step(&self, number: u32) -> Step
+        requires { number ≤ length self.now.nodes.items }
+        ensures step { IsStep (numbered_in self.now.nodes.items number) result }
+    {
+        if number == 0 {
+            return no_step();
+        }
+        let node = &self.nodes[(number - 1) as usize];
+        step_before(number, &node.spec(), node.after)
+    }
+
+    /// Whether a list of which this is known has the attribute.
+    fn has(&self, list: u32, known: &Node, attribute: Attribute) -> bool
+        requires list { list ≤ length self.now.nodes.items }
+        requires known { Knows (numbered_in self.now.nodes.items list) known.now }
+        ensures { result ≡ has_attribute attribute (list_in self.now.nodes.items list) }
+    {
+        if known.remainders & remainder_bit(attribute) == 0 {
+            return false;
+        }
+        self.codes.search(list, u64::from(attribute.0)) != 0
+    }
+
+    /// Adds an attribute before a list, and returns the list that begins with it. None if the list has it already.
+    pub(crate) fn push(&mut self, spec: AttributeSpec, rest: u32) -> Result<Option<u32>, AllocError>
+        requires rest { rest ≤ length self.old.nodes.items }
+        requires few { length self.old.nodes.items < 0xffffffff }
+        requires code { IsCode16 spec.attribute }
+        ensures added { IfOk result (AddedSpec spec rest self.old.nodes.items self.new.nodes.items) }
+    {
+        let next = self.node(rest);
+        if self.has(rest, &next, spec.attribute) {
+            return Ok(None);
+        }
+        let after = self.step(rest);
+        self.nodes.reserve(1)?;
+        match self.codes.push(rest, u64::from(spec.attribute.0)) {
+            Ok(number) => {
+                let node = node_before(number, spec, rest, next, after);
+                self.nodes.push_reserved(node);
+                Ok(Some(number))
+            }
+            Err(error) => Err(error),
+        }
+    }
+}

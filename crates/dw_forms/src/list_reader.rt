@@ -1,0 +1,201 @@
+//! Reading the lists of attributes of a section that were not read before (DWARF 5, 7.5.3).
+
+ghost use Rattle.std.specs.Prelude.{◌≡◌, ◌<◌, ◌≤◌, ℕ, List, [], length, drop, IfOk, IfErr, OnOk};
+ghost use Rattle.dw_forms.specs.AbbrevReading.{GivesOrMemory, pair_at};
+ghost use Rattle.dw_forms.specs.ListOffsets.{IsListAt, ArePlaced, AreListsOf, NoListAt, Leads, StayNodes};
+ghost use Rattle.dw_forms.specs.TableStarts.{IfBroken};
+
+use crate::abbrev_fault::{AbbrevRule, DeclError};
+use crate::abbrev_reader::{fault, form_with_number, pair_of};
+use crate::attribute_lists::AttributeLists;
+use crate::constants::Attribute;
+use crate::decl::AttributeSpec;
+use crate::offsets::Offsets;
+use std::alloc::Global;
+
+/// An attribute, and the offset of its first byte.
+#[derive(Clone, Copy, Debug)]
+pub struct Pair {
+    pub at: usize,
+    pub spec: AttributeSpec,
+}
+
+/// A list of attributes, and the offset after it.
+#[derive(Clone, Copy, Debug)]
+pub struct ReadList {
+    pub first: u32,
+    pub end: usize,
+}
+
+/// The lists of attributes that are kept, and where they are in the section.
+#[derive(Debug, Drop)]
+pub struct KeptLists {
+    pub(crate) lists: AttributeLists,
+    /// The offsets at which they begin.
+    pub(crate) starts: Offsets,
+    /// The offset after each list.
+    pub(crate) ends: Vec<u32>,
+    /// The attributes of the list that is read.
+    pairs: Vec<Pair>,
+}
+
+/// The attribute at an offset, and the offset after it; or none at the pair 0, 0. An attribute may be there twice.
+#[tactic(auto, using(crate::proofs::AbbrevSteps::pair_by))]
+fn next_pair(section: &[u8], offset: usize) -> Result<(Option<AttributeSpec>, usize), DeclError>
+    requires { offset ≤ length section.now }
+    ensures exact { GivesOrMemory (λ x. (x.0, drop x.1 section.now)) result (pair_at [] (drop offset section.now)) }
+    ensures rises { IfOk result (λ x. offset < x.1) }
+    ensures within { IfOk result (λ x. x.1 ≤ length section.now) }
+{
+    let (pair, rest) = pair_of(&section[offset..])?;
+    let Some((attribute, form)) = pair else {
+        return Ok((None, section.len() - rest.len()));
+    };
+    let (form, rest) = form_with_number(form, rest)?;
+    let spec = AttributeSpec {
+        attribute: Attribute(attribute),
+        form,
+    };
+    Ok((Some(spec), section.len() - rest.len()))
+}
+
+/// The fault of a list that has an attribute twice.
+fn twice(spec: &AttributeSpec) -> DeclError
+    ensures { result ≡ DeclError.Fault (record { rule = AbbrevRule.AttributeTwice; attribute = spec.now.attribute }) }
+{
+    fault(AbbrevRule::AttributeTwice, spec.attribute.0)
+}
+
+/// Reads the attributes from an offset on, and returns the list after them: none at the pair 0, 0, or one that is kept.
+/// The lists are what the clauses are about.
+fn read_pairs(
+    pairs: &mut Vec<Pair>,
+    lists: &AttributeLists,
+    starts: &Offsets,
+    ends: &[u32],
+    section: &[u8],
+    offset: usize,
+) -> Result<ReadList, DeclError>
+    requires none { pairs.old.items ≡ [] }
+    requires offset { offset ≤ length section.now }
+    requires placed { ArePlaced section.now lists.now.nodes.items starts.now.starts.items ends.now }
+    ensures leads { IfOk result (Leads section.now lists.now.nodes.items pairs.new.items offset) }
+    ensures fault { IfErr result (IfBroken (NoListAt section.now offset)) }
+{
+    let mut at = offset;
+    loop {
+        let first = starts.find(at);
+        if first != 0 {
+            let end = ends[(first - 1) as usize] as usize;
+            return Ok(ReadList { first, end });
+        }
+        let (next, after) = match next_pair(section, at) {
+            Ok(found) => found,
+            Err(error) => return Err(error),
+        };
+        let Some(spec) = next else {
+            return Ok(ReadList {
+                first: 0,
+                end: after,
+            });
+        };
+        pairs.push(Pair { at, spec })?;
+        at = after;
+    }
+}
+
+/// Keeps the attributes before a list, the last one first, and returns the list that begins with the first. The section
+/// and the offset are what the clauses are about. More attributes than four bytes can count are as much as memory for
+/// them: they would take 400 GB.
+fn keep_pairs(
+    lists: &mut AttributeLists,
+    starts: &mut Offsets,
+    ends: &mut Vec<u32>,
+    pairs: &mut Vec<Pair>,
+    section: &[u8],
+    offset: usize,
+    rest: ReadList,
+) -> Result<ReadList, DeclError>
+    requires leads { Leads section.now lists.old.nodes.items pairs.old.items offset rest }
+    requires placed { ArePlaced section.now lists.old.nodes.items starts.old.starts.items ends.old.items }
+    requires fits { length section.now < 0xffffffff }
+    ensures list { IfOk result (λ list. IsListAt section.now lists.new.nodes.items offset list.first list.end) }
+    ensures placed { OnOk result
+        (ArePlaced section.now lists.new.nodes.items starts.new.starts.items ends.new.items) }
+    ensures stay { OnOk result (StayNodes lists.old.nodes.items lists.new.nodes.items) }
+    ensures fault { IfErr result (IfBroken (NoListAt section.now offset)) }
+{
+    let mut first = rest.first;
+    while let Some(Pair { at, spec }) = pairs.pop() {
+        if lists.nodes.len() >= 0xffff_ffff {
+            return Err(DeclError::Memory);
+        }
+        let Some(longer) = lists.push(spec, first)? else {
+            return Err(twice(&spec));
+        };
+        starts.push(at as u32)?;
+        ends.push(rest.end as u32)?;
+        first = longer;
+    }
+    Ok(ReadList {
+        first,
+        end: rest.end,
+    })
+}
+
+impl KeptLists {
+    /// No lists.
+    pub(crate) fn new(alloc: Global) -> KeptLists
+        ensures none { result.lists.nodes.items ≡ [] }
+        ensures lists { (section : List ℕ) → AreListsOf section result }
+    {
+        KeptLists {
+            lists: AttributeLists::new(alloc),
+            starts: Offsets::new(alloc),
+            ends: Vec::new(alloc),
+            pairs: Vec::new(alloc),
+        }
+    }
+
+    /// The lists without the offsets.
+    pub(crate) fn into_lists(self) -> AttributeLists
+        ensures { result.nodes.items ≡ self.lists.nodes.items }
+    {
+        self.lists
+    }
+
+    /// Reads the list of attributes that begins at an offset. Attributes that are kept are not read again.
+    pub(crate) fn read(&mut self, section: &[u8], offset: usize) -> Result<ReadList, DeclError>
+        requires offset { offset ≤ length section.now }
+        requires fits { length section.now < 0xffffffff }
+        requires lists { AreListsOf section.now self.old }
+        ensures list { IfOk result
+            (λ list. IsListAt section.now self.new.lists.nodes.items offset list.first list.end) }
+        ensures lists { OnOk result (AreListsOf section.now self.new) }
+        ensures stay { OnOk result (StayNodes self.old.lists.nodes.items self.new.lists.nodes.items) }
+        ensures fault { IfErr result (IfBroken (NoListAt section.now offset)) }
+    {
+        self.starts.enter_from(offset)?;
+        self.pairs.clear();
+        let rest = match read_pairs(
+            &mut self.pairs,
+            &self.lists,
+            &self.starts,
+            &self.ends,
+            section,
+            offset,
+        ) {
+            Ok(rest) => rest,
+            Err(error) => return Err(error),
+        };
+        keep_pairs(
+            &mut self.lists,
+            &mut self.starts,
+            &mut self.ends,
+            &mut self.pairs,
+            section,
+            offset,
+            rest,
+        )
+    }
+}
