@@ -32,28 +32,13 @@ joined-row (q ∷ qs) d =
     ∙ sym (append_assoc (gap (has_elements qs || has_elements d)) (pointer_row qs (has_elements d)) d))
 
 enclosed-open : (t : Term) (d : List Token) → enclosed t d ≡ opened t ++ (d ++ closed t)
-enclosed-open Void d = sym (append-nil d)
-enclosed-open (Named name) d = sym (append-nil d)
-enclosed-open (Basic words) d = sym (append-nil d)
-enclosed-open (Tagged tag name) d = sym (append-nil d)
-enclosed-open (Body tag members) d = sym (append-nil d)
-enclosed-open (Enumeration cs) d = sym (append-nil d)
-enclosed-open (Qualified q t) d = sym (append-nil d)
-enclosed-open (Pointer t) d = sym (append-nil d)
 enclosed-open (Array n t) d = refl
 enclosed-open (Function t s) d = refl
+enclosed-open _ d = sym (append-nil d)
 
 there-enclosed : (t : Term) (x : Token) (d : List Token) → has_elements (enclosed t (x ∷ d)) ≡ true
-there-enclosed Void x d = refl
-there-enclosed (Named name) x d = refl
-there-enclosed (Basic words) x d = refl
-there-enclosed (Tagged tag name) x d = refl
-there-enclosed (Body tag members) x d = refl
-there-enclosed (Enumeration cs) x d = refl
-there-enclosed (Qualified q t) x d = refl
-there-enclosed (Pointer t) x d = refl
 there-enclosed (Array n t) x d = refl
-there-enclosed (Function t s) x d = refl
+there-enclosed _ x d = refl
 
 there-behind : (d : List Token) (x : Token) (e : List Token) → has_elements (d ++ x ∷ e) ≡ true
 there-behind [] x e = refl

@@ -46,17 +46,15 @@ abbrev pub Closed : List Token → Option (List ℕ) → Shape → Type 0
 Closed d name shape = (q p : Shape) (place : Place) (r : List Token)
     → checked false (Inside q p place) (d ++ r) ≡ checked false (Behind name (λ t. q (p t)) shape place) r
 
-closed_end : (name : Option (List ℕ)) (p s : Shape) (place : Place) (end : End) (r : List Token)
-    → checked false (Behind name p s place) (end_tokens end ++ r)
+closed_end : (touching : Bool) (name : Option (List ℕ)) (p s : Shape) (place : Place) (end : End) (r : List Token)
+    → checked touching (Behind name p s place) (end_tokens end ++ r)
     ≡ checked false (finished end name (λ t. s (p t)) place) r
-closed_end name p s place AtClose r = refl
-closed_end name p s place AtComma r = refl
-closed_end name p s place AtSemicolon r = refl
-closed_end name p s place AtColon r = refl
+closed_end touching name p s place AtClose r = refl
+closed_end touching name p s place _ r = refl
 
 ends_closed : (d : List Token) (name : Option (List ℕ)) (shape : Shape) → Closed d name shape → Ends d name shape
 ends_closed d name shape h q p place end r =
-    h q p place (end_tokens end ++ r) ∙ closed_end name (λ t. q (p t)) shape place end r
+    h q p place (end_tokens end ++ r) ∙ closed_end false name (λ t. q (p t)) shape place end r
 
 goes_on_closed : (d : List Token) (name : Option (List ℕ)) (shape : Shape) → Closed d name shape → GoesOn d name shape
 goes_on_closed d name shape h q p place true r = h q p place (LeftBracket ∷ r)
@@ -64,25 +62,15 @@ goes_on_closed d name shape h q p place false r = h q p place (Open ∷ r)
 
 ends_nothing : Ends [] None same
 ends_nothing q p place AtClose r = refl
-ends_nothing q p place AtComma r = refl
-ends_nothing q p place AtSemicolon r = refl
-ends_nothing q p place AtColon r = refl
+ends_nothing q p place _ r = refl
 
 goes_on_nothing : GoesOn [] None same
 goes_on_nothing q p place true r = refl
 goes_on_nothing q p place false r = refl
 
-named_end : (name : List ℕ) (q p : Shape) (place : Place) (end : End) (r : List Token)
-    → checked true (Behind (Some name) (λ t. q (p t)) same place) (end_tokens end ++ r)
-    ≡ checked false (finished end (Some name) (λ t. q (p t)) place) r
-named_end name q p place AtClose r = refl
-named_end name q p place AtComma r = refl
-named_end name q p place AtSemicolon r = refl
-named_end name q p place AtColon r = refl
-
 ends_name : (name : List ℕ) → IsIdentifier name → Ends (Identifier name ∷ []) (Some name) same
 ends_name name h q p place end r =
-    checked-name name h (Inside q p place) (end_tokens end ++ r) ∙ named_end name q p place end r
+    checked-name name h (Inside q p place) (end_tokens end ++ r) ∙ closed_end true (Some name) (λ t. q (p t)) same place end r
 
 goes_on_name : (name : List ℕ) → IsIdentifier name → GoesOn (Identifier name ∷ []) (Some name) same
 goes_on_name name h q p place true r = checked-name name h (Inside q p place) (LeftBracket ∷ r)
@@ -160,9 +148,7 @@ spaced_end : (d : List Token) (touching : Bool) (q p : Shape) (place : Place) (e
     → checked touching (Inside q p place) (spaced d ++ (end_tokens end ++ r))
     ≡ checked false (Inside q p place) (d ++ (end_tokens end ++ r))
 spaced_end [] touching q p place AtClose r = refl
-spaced_end [] touching q p place AtComma r = refl
-spaced_end [] touching q p place AtSemicolon r = refl
-spaced_end [] touching q p place AtColon r = refl
+spaced_end [] touching q p place _ r = refl
 spaced_end (t ∷ ts) touching q p place end r = refl
 
 -- after the type that a declarator stands around

@@ -56,15 +56,12 @@ subject_legible k shapes subject none own fit d e =
     own_identifier s n none bad = not_false (is_identifier n) (λ w. none BadName (omega arith) (own_name (bad w)))
 
     by_subject : (s : SubjectOf) → HoldsNoneBelow 5 shapes s → IsRegularSubject s → ((n : ℕ) → Contains (first_steps s) n → ReadsAt (term_at k shapes) (Some n)) → declaration_by (term_at k shapes) s ≡ Some d → IsDeclaration d
-    by_subject (typedef_subject None at) none own h e = absurd (cc)
     by_subject (typedef_subject (Some n) at) none own h e =
         let f = map_inverted (Typedef n) (term_at k shapes at) d e in
         subst IsDeclaration f.2 (own_identifier (typedef_subject (Some n) at) n none (λ w. typedef_name w), head_of (ReadsAt (term_at k shapes)) (void_legible k shapes) at [] h f.0 f.1)
-    by_subject (variable_subject None at) none own h e = absurd (cc)
     by_subject (variable_subject (Some n) at) none own h e =
         let f = map_inverted (Variable n) (term_at k shapes at) d e in
         subst IsDeclaration f.2 (own_identifier (variable_subject (Some n) at) n none (λ w. variable_name w), head_of (ReadsAt (term_at k shapes)) (void_legible k shapes) at [] h f.0 f.1)
-    by_subject (aggregate_subject word None odd ms) none own h e = absurd (cc)
     by_subject (aggregate_subject word (Some n) odd ms) none own h e =
         let f = map_inverted (Aggregate word n) (members_by (term_at k shapes) ms) d e in
         subst IsDeclaration f.2 (
@@ -72,15 +69,13 @@ subject_legible k shapes subject none own fit d e =
           own_identifier (aggregate_subject word (Some n) odd ms) n none (λ w. aggregate_name w),
           members_legible (term_at k shapes) (void_legible k shapes) shapes ms (λ w. none BadName (omega arith) (own_name (member_name w))) h f.0 f.1,
         )
-    by_subject (enumeration_subject None odd es) none own h e = absurd (cc)
     by_subject (enumeration_subject (Some n) odd es) none own h e =
         let f = map_inverted (Constants n) (constants_of es) d e in
         subst IsDeclaration f.2 (
           own_identifier (enumeration_subject (Some n) odd es) n none (λ w. enumeration_name w),
           constants_legible es (λ w. none BadName (omega arith) (own_name (enumerator_name w))) f.0 f.1,
         )
-    by_subject (declared_subject word None) none own h e = absurd (cc)
     by_subject (declared_subject word (Some n)) none own h e =
         let same : Declared word n ≡ d = cc in
         subst IsDeclaration same (own_identifier (declared_subject word (Some n)) n none (λ w. tag_name w))
-    by_subject no_subject none own h e = absurd (cc)
+    by_subject _ none own h e = absurd (cc)

@@ -10,13 +10,13 @@ use Rattle.dw_cprint.specs.Steps.{first_steps}
 use Rattle.dw_cprint.specs.Surveys.{AreAmong, IsSurveyOf}
 use Rattle.dw_cprint.specs.declared.survey.Survey.{Survey}
 use Rattle.dw_cprint.proofs.DeclaredLemmas.{subject_legible}
+use Rattle.dw_cprint.proofs.ReachedFaultLemmas.{reached-wider}
 use Rattle.dw_cprint.proofs.SameLemmas.{declaration-same}
-use Rattle.dw_cprint.proofs.SurveyLemmas.{reached-among}
 use Rattle.dw_cprint.proofs.TextLaws.{one_text}
 
 -- the kept shapes are the same for each declaration that was surveyed
 pub kept-same : (shapes : ℕ → ShapeOf) (roots : List ℕ) (s : Survey) (subject : SubjectOf) → IsSurveyOf shapes roots s → AreAmong (first_steps subject) roots → AreSameFor shapes (kept s) subject
-kept-same shapes roots s subject survey among entry r = sym (survey.keeps entry (reached-among among r))
+kept-same shapes roots s subject survey among entry r = sym (survey.keeps entry (reached-wider among r))
 
 -- so its declaration is the same
 pub declaration-kept : (shapes : ℕ → ShapeOf) (roots : List ℕ) (s : Survey) (subject : SubjectOf) → IsSurveyOf shapes roots s → AreAmong (first_steps subject) roots → declaration_of (kept s) subject ≡ declaration_of shapes subject
@@ -30,4 +30,4 @@ printed-one shapes subject printed regular d another e legible text =
 
 -- what was surveyed is regular
 pub survey-regular : (shapes : ℕ → ShapeOf) (roots : List ℕ) (s : Survey) (subject : SubjectOf) → IsSurveyOf shapes roots s → AreAmong (first_steps subject) roots → IsRegularSubject subject → AreRegular shapes subject
-survey-regular shapes roots s subject survey among own = record { own = own; reached = λ entry r. survey.regular entry (reached-among among r) }
+survey-regular shapes roots s subject survey among own = record { own = own; reached = λ entry r. survey.regular entry (reached-wider among r) }

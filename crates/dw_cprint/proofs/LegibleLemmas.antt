@@ -1,6 +1,5 @@
 -- The term of an entry that is not wrong can be read back from its text.
-use Rattle.std.proofs.Common.{◌≡◌, ℕ, zero, suc, ℤ, true, false, List, [], ◌∷◌, Option, Some, None, refl, sym, ◌∙◌, ap}
-use Rattle.std.proofs.Common.{subst}
+use Rattle.std.proofs.Common.{◌≡◌, ℕ, zero, suc, ℤ, Bool, true, false, List, [], ◌∷◌, Option, Some, None, refl, sym, ◌∙◌, ap, subst}
 use Rattle.std.specs.Prelude.{option_map, option_and_then, Any, Contains}
 use Rattle.dw_cprint.specs.Declarations.{is_miscounted, is_misplaced, arrays, bits_of, constants_of, has_more}
 use Rattle.dw_cprint.specs.Declarations.{parameters_by, members_by, term_by, term_at}
@@ -8,14 +7,13 @@ use Rattle.dw_cprint.specs.Legible.{is_identifier, IsIdentifier, IsName, AreCons
 use Rattle.dw_cprint.specs.Legible.{IsPresent, IsLegible, IsSignature, AreParameters, AreMembers}
 use Rattle.dw_cprint.specs.Regular.{IsRegular}
 use Rattle.dw_cprint.specs.Shapes.{Parameter, Typed, More, Name, TypeAt, MemberOf, EnumeratorOf, ShapeOf, base, typedef}
-use Rattle.dw_cprint.specs.Shapes.{qualified, pointer, array, function, tagged, nameless, body, enumeration, foreign}
-use Rattle.dw_cprint.specs.Shapes.{other}
+use Rattle.dw_cprint.specs.Shapes.{Qualifier, qualified, pointer, array, function, tagged, body, enumeration}
 use Rattle.dw_cprint.specs.Steps.{entries_of, parameter_types, member_types, types_reached}
 use Rattle.dw_cprint.specs.Terms.{Constant, Valued, Term, Void, Named, Tagged, Body, Enumeration, Qualified, Pointer}
 use Rattle.dw_cprint.specs.Terms.{Function, Unprototyped, Prototyped, Parameters, NoParameter}
 use Rattle.dw_cprint.specs.Terms.{Parameter as ParameterTerm, Members, NoMember, Member as MemberTerm}
 use Rattle.dw_cprint.specs.Wrong.{LacksName, LacksMemberName, HasWrongMemberName, HasWrongEnumeratorName, IsVoidLike}
-use Rattle.dw_cprint.specs.Wrong.{StandsUnder, nothing, itself, is_array, is_function, shape_of, count, void_parameter}
+use Rattle.dw_cprint.specs.Wrong.{StandsUnder, nothing, itself, is_array, is_function, shape_of, void_parameter}
 use Rattle.dw_cprint.specs.Wrong.{over_array, over_function}
 use Rattle.dw_cprint.proofs.OptionLemmas.{map_inverted, then_inverted, unless_inverted, not_false}
 use Rattle.dw_cprint.proofs.HasTermLemmas.{AreKept, IsBaseTerm, IsFine, among_here, among_there}
@@ -101,32 +99,31 @@ arrays_legible : (counts : List (Option ℕ)) (t : Term) → IsLegible t → IsL
 arrays_legible [] t h = h
 arrays_legible (c ∷ cs) t h = arrays_legible cs t h
 
--- a type of an entry is no void
-shape_present : (shapes : ℕ → ShapeOf) (term : TypeAt → Option Term) (s : ShapeOf) → IsFine shapes s → (t : Term)
-    → term_by term s ≡ Some t → IsPresent t
-shape_present shapes term (base None) fine t e = absurd (cc)
-shape_present shapes term (base (Some n)) fine t e = IsBaseTerm.present (base_is n t e)
-shape_present shapes term (typedef None) fine t e = absurd (cc)
-shape_present shapes term (typedef (Some n)) fine t e = let same : Named n ≡ t = cc in subst IsPresent same tt
-shape_present shapes term (qualified q at) fine t e = let f = map_inverted (Qualified q) (term at) t e in subst IsPresent f.2 tt
-shape_present shapes term (pointer at) fine t e = let f = map_inverted Pointer (term at) t e in subst IsPresent f.2 tt
-shape_present shapes term (array [] strange at) fine t e = absurd (fine.speakable (count refl))
-shape_present shapes term (array (c ∷ cs) strange at) fine t e =
+-- no void, and an array or a function only where the shape is one
+abbrev IsHead : ShapeOf → Term → Type 0
+IsHead s t = IsPresent t × ((is_array (Some s) ≡ true → ⊥) → (is_function (Some s) ≡ true → ⊥) → IsQualifiable t)
+
+-- the type of an entry
+head_is : (term : TypeAt → Option Term) (s : ShapeOf) (t : Term) → term_by term s ≡ Some t → IsHead s t
+head_is term (base (Some n)) t e = (IsBaseTerm.present (base_is n t e), λ a b. IsBaseTerm.qualifiable (base_is n t e))
+head_is term (typedef (Some n)) t e = let same : Named n ≡ t = cc in subst (IsHead (typedef (Some n))) same (tt, λ a b. tt)
+head_is term (qualified q at) t e = let f = map_inverted (Qualified q) (term at) t e in subst (IsHead (qualified q at)) f.2 (tt, λ a b. tt)
+head_is term (pointer at) t e = let f = map_inverted Pointer (term at) t e in subst (IsHead (pointer at)) f.2 (tt, λ a b. tt)
+head_is term (array (c ∷ cs) strange at) t e =
     let u = unless_inverted (is_miscounted (c ∷ cs)) (option_map (arrays (c ∷ cs)) (term at)) t e in
-    let f = map_inverted (arrays (c ∷ cs)) (term at) t u.1 in subst IsPresent f.2 tt
-shape_present shapes term (function at None) fine t e = let f = map_inverted (λ (t : Term). Function t Unprototyped) (term at) t e in subst IsPresent f.2 tt
-shape_present shapes term (function at (Some ps)) fine t e =
+    let f = map_inverted (arrays (c ∷ cs)) (term at) t u.1 in subst (IsHead (array (c ∷ cs) strange at)) f.2 (tt, λ a b. absurd (a refl))
+head_is term (function at None) t e =
+    let f = map_inverted (λ (t : Term). Function t Unprototyped) (term at) t e in subst (IsHead (function at None)) f.2 (tt, λ a b. absurd (b refl))
+head_is term (function at (Some ps)) t e =
     let called : Term → Option Term = λ (t : Term). option_map (λ (us : Parameters). Function t (Prototyped us (has_more ps))) (parameters_by term ps) in
     let u = unless_inverted (is_misplaced ps) (option_and_then called (term at)) t e in
     let r = then_inverted called (term at) t u.1 in
     let f = map_inverted (λ (us : Parameters). Function r.0 (Prototyped us (has_more ps))) (parameters_by term ps) t r.2 in
-    subst IsPresent f.2 tt
-shape_present shapes term (tagged word name) fine t e = let same : Tagged word name ≡ t = cc in subst IsPresent same tt
-shape_present shapes term (nameless word) fine t e = absurd (cc)
-shape_present shapes term (body word odd ms) fine t e = let f = map_inverted (Body word) (members_by term ms) t e in subst IsPresent f.2 tt
-shape_present shapes term (enumeration odd es) fine t e = let f = map_inverted Enumeration (constants_of es) t e in subst IsPresent f.2 tt
-shape_present shapes term foreign fine t e = absurd (cc)
-shape_present shapes term other fine t e = absurd (cc)
+    subst (IsHead (function at (Some ps))) f.2 (tt, λ a b. absurd (b refl))
+head_is term (tagged word name) t e = let same : Tagged word name ≡ t = cc in subst (IsHead (tagged word name)) same (tt, λ a b. tt)
+head_is term (body word odd ms) t e = let f = map_inverted (Body word) (members_by term ms) t e in subst (IsHead (body word odd ms)) f.2 (tt, λ a b. tt)
+head_is term (enumeration odd es) t e = let f = map_inverted Enumeration (constants_of es) t e in subst (IsHead (enumeration odd es)) f.2 (tt, λ a b. tt)
+head_is term _ t e = absurd (cc)
 
 -- what a qualifier stands over is no array and no function
 module _ (shapes : ℕ → ShapeOf) where
@@ -136,28 +133,11 @@ module _ (shapes : ℕ → ShapeOf) where
   qualifiable : (k : ℕ) (at : TypeAt) → IsNotBracketed at → (t : Term) → term_at k shapes at ≡ Some t → IsQualifiable t
   qualifiable zero at free t e = absurd (cc)
   qualifiable (suc k) None free t e = let same : Void ≡ t = cc in subst IsQualifiable same tt
-  qualifiable (suc k) (Some n) free t e = by_shape (shapes n) refl e
+  qualifiable (suc k) (Some n) free t e =
+      (head_is (term_at k shapes) (shapes n) t e).1 (λ w. (free (Some n) (alone is_array (λ q to. refl) w)).0 w) (λ w. (free (Some n) (alone is_function (λ q to. refl) w)).1 w)
     where
-      term : TypeAt → Option Term
-      term = term_at k shapes
-
-      by_shape : (s : ShapeOf) → shapes n ≡ s → term_by (term_at k shapes) s ≡ Some t → IsQualifiable t
-      by_shape (base None) is e = absurd (cc)
-      by_shape (base (Some name)) is e = IsBaseTerm.qualifiable (base_is name t e)
-      by_shape (typedef None) is e = absurd (cc)
-      by_shape (typedef (Some name)) is e = let same : Named name ≡ t = cc in subst IsQualifiable same tt
-      by_shape (qualified q at) is e = let f = map_inverted (Qualified q) (term_at k shapes at) t e in subst IsQualifiable f.2 tt
-      by_shape (pointer at) is e = let f = map_inverted Pointer (term_at k shapes at) t e in subst IsQualifiable f.2 tt
-      by_shape (array counts strange at) is e =
-          absurd ((free (Some n) (itself (λ q to same. let clash : array counts strange at ≡ qualified q to = sym is ∙ same in absurd (cc)))).0 (ap (λ (s : ShapeOf). is_array (Some s)) is))
-      by_shape (function at ps) is e =
-          absurd ((free (Some n) (itself (λ q to same. let clash : function at ps ≡ qualified q to = sym is ∙ same in absurd (cc)))).1 (ap (λ (s : ShapeOf). is_function (Some s)) is))
-      by_shape (tagged word name) is e = let same : Tagged word name ≡ t = cc in subst IsQualifiable same tt
-      by_shape (nameless word) is e = absurd (cc)
-      by_shape (body word odd ms) is e = let f = map_inverted (Body word) (members_by (term_at k shapes) ms) t e in subst IsQualifiable f.2 tt
-      by_shape (enumeration odd es) is e = let f = map_inverted Enumeration (constants_of es) t e in subst IsQualifiable f.2 tt
-      by_shape foreign is e = absurd (cc)
-      by_shape other is e = absurd (cc)
+      alone : (test : Option ShapeOf → Bool) → ((q : Qualifier) (to : TypeAt) → test (Some (qualified q to)) ≡ false) → test (Some (shapes n)) ≡ true → StandsUnder shapes (Some n) (Some n)
+      alone test none w = itself (λ q to same. (let clash : true ≡ false = sym w ∙ (ap (λ (s : ShapeOf). test (Some s)) same ∙ none q to) in absurd (cc)))
 
 pub void_legible : (k : ℕ) (shapes : ℕ → ShapeOf) (t : Term) → term_at k shapes None ≡ Some t → IsLegible t
 void_legible zero shapes t e = absurd (cc)
@@ -168,9 +148,7 @@ module _ (shapes : ℕ → ShapeOf) (k : ℕ) where
       → ((n : ℕ) → Contains (entries_of (types_reached s)) n → (t : Term) → term_at k shapes (Some n) ≡ Some t → IsPresent t)
       → ((n : ℕ) → Contains (entries_of (types_reached s)) n → ReadsAt (term_at k shapes) (Some n)) → (t : Term)
       → term_by (term_at k shapes) s ≡ Some t → IsLegible t
-  shape_legible (base None) fine fit there h t e = absurd (cc)
   shape_legible (base (Some n)) fine fit there h t e = IsBaseTerm.legible (base_is n t e)
-  shape_legible (typedef None) fine fit there h t e = absurd (cc)
   shape_legible (typedef (Some n)) fine fit there h t e = let same : Named n ≡ t = cc in subst IsLegible same (not_false (is_identifier n) fine.named)
   shape_legible (qualified q at) fine fit there h t e =
       let f = map_inverted (Qualified q) (term_at k shapes at) t e in
@@ -205,19 +183,16 @@ module _ (shapes : ℕ → ShapeOf) (k : ℕ) where
       further_in None ats n c = c
       further_in (Some m) ats n c = among_there m n (entries_of ats) c
   shape_legible (tagged word name) fine fit there h t e = let same : Tagged word name ≡ t = cc in subst IsLegible same (not_false (is_identifier name) fine.named)
-  shape_legible (nameless word) fine fit there h t e = absurd (cc)
   shape_legible (body word odd ms) fine fit there h t e =
       let f = map_inverted (Body word) (members_by (term_at k shapes) ms) t e in
       subst IsLegible f.2 (fit, members_legible (term_at k shapes) (void_legible k shapes) shapes ms fine.named h f.0 f.1)
   shape_legible (enumeration odd es) fine fit there h t e =
       let f = map_inverted Enumeration (constants_of es) t e in subst IsLegible f.2 (constants_legible es fine.named f.0 f.1)
-  shape_legible foreign fine fit there h t e = absurd (cc)
-  shape_legible other fine fit there h t e = absurd (cc)
+  shape_legible _ fine fit there h t e = absurd (cc)
 
-entry_present : (shapes : ℕ → ShapeOf) (Good : ℕ → Type 0) → AreKept shapes Good → (k n : ℕ) → Good n → (t : Term)
-    → term_at k shapes (Some n) ≡ Some t → IsPresent t
-entry_present shapes Good kept zero n good t e = absurd (cc)
-entry_present shapes Good kept (suc k) n good t e = shape_present shapes (term_at k shapes) (shapes n) (kept.fine n good) t e
+entry_present : (shapes : ℕ → ShapeOf) (k n : ℕ) (t : Term) → term_at k shapes (Some n) ≡ Some t → IsPresent t
+entry_present shapes zero n t e = absurd (cc)
+entry_present shapes (suc k) n t e = (head_is (term_at k shapes) (shapes n) t e).0
 
 pub entry_legible : (shapes : ℕ → ShapeOf) (Good : ℕ → Type 0) → AreKept shapes Good
     → ((entry : ℕ) → Good entry → IsRegular (shapes entry))
@@ -225,5 +200,5 @@ pub entry_legible : (shapes : ℕ → ShapeOf) (Good : ℕ → Type 0) → AreKe
 entry_legible shapes Good kept fit zero n good t e = absurd (cc)
 entry_legible shapes Good kept fit (suc k) n good t e =
     shape_legible shapes k (shapes n) (kept.fine n good) (fit n good)
-    (λ m leads. entry_present shapes Good kept k m (kept.on n m good leads))
+    (λ m leads. entry_present shapes k m)
     (λ m leads. entry_legible shapes Good kept fit k m (kept.on n m good leads)) t e

@@ -15,7 +15,7 @@ use Rattle.dw_image.specs.Images.{units_in, entries_in, steps_in}
 use Rattle.dw_cprint.proofs.LongestLemmas.{has-or-not}
 
 -- as many rows as entries
-pub steps-long : (image : Image) → length (steps_in image) ≡ length (entries_in image)
+steps-long : (image : Image) → length (steps_in image) ≡ length (entries_in image)
 unfolding units_in steps_in
 steps-long image =
     let us = units_of image.entries.scanned in

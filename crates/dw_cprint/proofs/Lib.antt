@@ -27,7 +27,6 @@ pub mod ListingLemmas
 pub mod NamedTypeLemmas
 pub mod HeldLemmas
 pub mod KeptLemmas
-pub mod ListingTextLemmas
 pub mod RefusalLemmas
 pub mod KindLemmas
 pub mod FaultLemmas

@@ -1,11 +1,11 @@
 -- The listing: the named types in order, judged one after another, and those that are refused, sorted by offset.
-use Rattle.std.proofs.Common.{◌≡◌, ◌≢◌, ℕ, zero, suc, ◌+◌, ◌<◌, Bool, true, false, not, cond, List, [], ◌∷◌, ◌++◌, refl, sym, ◌∙◌, ap, subst, inl, inr, length, get_or, arith, map}
+use Rattle.std.proofs.Common.{◌≡◌, ◌≢◌, ℕ, zero, suc, ◌+◌, ◌<◌, ◌≤◌, Bool, true, false, not, cond, List, [], ◌∷◌, ◌++◌, refl, sym, ◌∙◌, ap, subst, inl, inr, length, get_or, arith, append_assoc, drop, map}
 use Rattle.std.specs.Prelude.{◌⊎◌, ◌&&◌, All, Contains, AllPairs, IsPermutation, filter, flat_map}
 use Rattle.std.specs.List.Sorted.{IsNonDecreasingBy, IsStableByKey, ties}
 use Rattle.std.specs.Ordering.{nat_cmp, is_lt}
 use Rattle.std.proofs.lemmas.Bool.{cases_lt}
 use Rattle.std.proofs.lemmas.Bool.Decides.{nat_tests}
-use Rattle.std.proofs.lemmas.List.{get_or_default, flat_map_more, length-map}
+use Rattle.std.proofs.lemmas.List.{get_or_default, drop_more, flat_map_more, length-map}
 use Rattle.std.proofs.lemmas.List.Elements.{All-contains, Contains-append_left, Contains-append_right, Contains-get_or, Contains-push, Contains-push_cases}
 use Rattle.std.proofs.lemmas.List.Kept.{AllPairs-filter}
 use Rattle.std.proofs.lemmas.List.Quantifiers.{all_pairs_push}
@@ -26,7 +26,7 @@ use Rattle.dw_cprint.proofs.RefusalLemmas.{one-rule, printed-or-refused}
 -- ---- sorting
 
 -- an element that passes a test is one of those that do
-kept-there : {X : Type 0} (p : X → Bool) (ys : List X) (k : ℕ) (d : X) → k < length ys → p (get_or ys k d) ≡ true → Contains (filter p ys) (get_or ys k d)
+pub kept-there : {X : Type 0} (p : X → Bool) (ys : List X) (k : ℕ) (d : X) → k < length ys → p (get_or ys k d) ≡ true → Contains (filter p ys) (get_or ys k d)
 kept-there p [] k d w is = absurd (omega arith)
 kept-there {X = X} p (y ∷ ys) zero d w is =
     let P : Bool → Type 0 = λ t. Contains (cond t (y ∷ filter p ys) (filter p ys)) y in
@@ -107,121 +107,108 @@ steps-among (y ∷ xs) zero x w e entry has =
     Contains-append_left (first_steps (view_subject y)) (roots_of (map view_subject xs)) entry (subst P e has)
 steps-among (y ∷ xs) (suc i) x w e entry has = Contains-append_right (first_steps (view_subject y)) (roots_of (map view_subject xs)) entry (steps-among xs i x (omega arith) e entry has)
 
--- an entry is one of the first so many
-abbrev IsBelow : List ℕ → ℕ → ℕ → Type 0
-IsBelow named count entry = (place : ℕ) × (place < count) × (entry ≡ get_or named place 0)
-
-below-more : (named : List ℕ) (count entry : ℕ) → IsBelow named count entry → IsBelow named (count + 1) entry
-below-more named count entry (place, w, at) = (place, (omega arith), at)
-
 stands-apart : (level : ℕ → ℕ) (a b : ℕ) → StandsBefore level a b → a ≢ b
 stands-apart level a b (inl less) same = (let e = ap level same in omega arith)
 stands-apart level a b (inr (level_same, less)) same = omega arith
 
+-- an entry is one of the first so many
+abbrev IsBelow : List ℕ → ℕ → ℕ → Type 0
+IsBelow named count entry = (place : ℕ) × (place < count) × (place < length named) × (get_or named place 0 ≡ entry)
+
+-- one entry comes before another
+abbrev ComesBefore : List ℕ → ℕ → ℕ → Type 0
+ComesBefore named a b = (i j : ℕ) × (i < j) × (j < length named) × (get_or named i 0 ≡ a) × (get_or named j 0 ≡ b)
+
 -- the first so many of some entries are judged
-pub record AreJudged (image : Image) (level : ℕ → ℕ) (named : List ℕ) (count : ℕ) (it : Listing) : Type 0 where
-  pub printed_below : (entry : ℕ) → Contains it.order.items entry → IsBelow named count entry × IsPrinted (shape_in image) (subject_in image entry)
-  pub refused_below : (r : ℕ × PrintFault) → Contains it.refused.items r → IsBelow named count r.0 × Refuses (shape_in image) (subject_in image r.0) r.1
-  pub each : (place : ℕ) → place < count → Contains it.order.items (get_or named place 0) ⊎ ((rule : PrintFault) × Contains it.refused.items (get_or named place 0, rule))
-  pub rising : AllPairs (λ a b. StandsBefore level a b) it.order.items
-  pub apart : AllPairs (λ (a b : ℕ × PrintFault). a.0 ≢ b.0) it.refused.items
-  pub text : it.text.items ≡ flat_map (declared_line image) it.order.items
+pub record AreJudged (image : Image) (named : List ℕ) (count : ℕ) (order : List ℕ) (refusals : List (ℕ × PrintFault)) (text : List ℕ) : Type 0 where
+  pub printed_below : (entry : ℕ) → Contains order entry → IsBelow named count entry × IsPrinted (shape_in image) (subject_in image entry)
+  pub refused_below : (r : ℕ × PrintFault) → Contains refusals r → IsBelow named count r.0 × Refuses (shape_in image) (subject_in image r.0) r.1
+  pub each : (place : ℕ) → place < count → Contains order (get_or named place 0) ⊎ ((rule : PrintFault) × Contains refusals (get_or named place 0, rule))
+  pub rising : AllPairs (λ a b. ComesBefore named a b) order
+  pub apart : AllPairs (λ (a b : ℕ × PrintFault). ComesBefore named a.0 b.0) refusals
+  pub lines : text ≡ flat_map (declared_line image) order
 
-pushed-cases : {X : Type 0} (xs ys : List X) (y x : X) → ys ≡ xs ++ y ∷ [] → Contains ys x → Contains xs x ⊎ (y ≡ x)
-pushed-cases {X = X} xs ys y x pushed has = let P : List X → Type 0 = λ zs. Contains zs x in Contains-push_cases xs y x (subst P pushed has)
+module _ (image : Image) (named : List ℕ) (count : ℕ) (order : List ℕ) (refusals : List (ℕ × PrintFault)) (text : List ℕ) (h : AreJudged image named count order refusals text) (entry : ℕ) (within : count < length named) (at : get_or named count 0 ≡ entry) where
+  more : (e : ℕ) → IsBelow named count e → IsBelow named (count + 1) e
+  more e (place, w, v, is) = (place, (omega arith), v, is)
 
-pushed-left : {X : Type 0} (xs ys : List X) (y x : X) → ys ≡ xs ++ y ∷ [] → Contains xs x → Contains ys x
-pushed-left {X = X} xs ys y x pushed has = let P : List X → Type 0 = λ zs. Contains zs x in subst P (sym pushed) (Contains-append_left xs (y ∷ []) x has)
+  last : IsBelow named (count + 1) entry
+  last = (count, (omega arith), within, at)
 
-pushed-last : {X : Type 0} (xs ys : List X) (y : X) → ys ≡ xs ++ y ∷ [] → Contains ys y
-pushed-last {X = X} xs ys y pushed = let P : List X → Type 0 = λ zs. Contains zs y in subst P (sym pushed) (Contains-push xs y)
+  before : (e : ℕ) → IsBelow named count e → ComesBefore named e entry
+  before e (place, w, v, is) = (place, count, w, within, is, at)
 
-module _ (image : Image) (level : ℕ → ℕ) (named : List ℕ) where
-  pub judged-more : (count entry : ℕ) (old new : Listing) → AllPairs (λ a b. StandsBefore level a b) named → count < length named → entry ≡ get_or named count 0
-      → IsAdded (shape_in image) entry (subject_in image entry) old new → AreJudged image level named count old → AreJudged image level named (count + 1) new
-  judged-more count entry old new rising within at (printed is order text same) h = record {
-    printed_below = λ e has. elim (pushed-cases old.order.items new.order.items entry e order has) [
-      | inl before ↦ (let (below, p) = h.printed_below e before in (below-more named count e below, p))
-      | inr one ↦ (let P : ℕ → Type 0 = λ n. IsBelow named (count + 1) n × IsPrinted (shape_in image) (subject_in image n) in subst P one ((count, (omega arith), at), is))
+  each-more : (order' : List ℕ) (refusals' : List (ℕ × PrintFault)) → ((e : ℕ) → Contains order e → Contains order' e) → ((r : ℕ × PrintFault) → Contains refusals r → Contains refusals' r)
+      → Contains order' entry ⊎ ((rule : PrintFault) × Contains refusals' (entry, rule))
+      → (place : ℕ) → place < count + 1 → Contains order' (get_or named place 0) ⊎ ((rule : PrintFault) × Contains refusals' (get_or named place 0, rule))
+  each-more order' refusals' kept stay here place w = elim (cases_lt place count) [
+    | inl less ↦ elim (h.each place less) [ inl p ↦ inl (kept (get_or named place 0) p) | inr (rule, r) ↦ inr (rule, stay (get_or named place 0, rule) r) ]
+    | inr past ↦
+        let same : count ≡ place = omega arith in
+        let P : ℕ → Type 0 = λ e. Contains order' e ⊎ ((rule : PrintFault) × Contains refusals' (e, rule)) in
+        subst P (sym at ∙ ap (λ (n : ℕ). get_or named n 0) same) here
+  ]
+
+  judged-printed : IsPrinted (shape_in image) (subject_in image entry) → AreJudged image named (count + 1) (order ++ entry ∷ []) refusals (text ++ declared_line image entry)
+  judged-printed is = record {
+    printed_below = λ e has. elim (Contains-push_cases order entry e has) [
+      | inl old ↦ (let (below, p) = h.printed_below e old in (more e below, p))
+      | inr same ↦ (let P : ℕ → Type 0 = λ n. IsBelow named (count + 1) n × IsPrinted (shape_in image) (subject_in image n) in subst P same (last, is))
     ];
-    refused_below = λ r has. (let (below, f) = h.refused_below r (let C : List (ℕ × PrintFault) → Type 0 = λ rs. Contains rs r in subst C same has) in (below-more named count r.0 below, f));
-    each = λ place w. elim (cases_lt place count) [
-      | inl less ↦ elim (h.each place less) [
-        | inl there ↦ inl (pushed-left old.order.items new.order.items entry (get_or named place 0) order there)
-        | inr (rule, there) ↦ (let C : List (ℕ × PrintFault) → Type 0 = λ rs. Contains rs (get_or named place 0, rule) in inr (rule, subst C (sym same) there))
-      ]
-      | inr more ↦
-          let here : count ≡ place = omega arith in
-          let C : ℕ → Type 0 = λ n. Contains new.order.items n in
-          inl (subst C (at ∙ ap (λ n. get_or named n 0) here) (pushed-last old.order.items new.order.items entry order))
-    ];
-    rising =
-        let P : List ℕ → Type 0 = λ es. AllPairs (λ a b. StandsBefore level a b) es in
-        subst P (sym order) (all_pairs_push (λ a b. StandsBefore level a b) old.order.items entry h.rising (λ i d w. before (get_or old.order.items i d) (h.printed_below (get_or old.order.items i d) (Contains-get_or old.order.items i d w)).0));
-    apart = (let P : List (ℕ × PrintFault) → Type 0 = λ rs. AllPairs (λ (a b : ℕ × PrintFault). a.0 ≢ b.0) rs in subst P (sym same) h.apart);
-    text =
-        text ∙ ap (λ (u : List ℕ). u ++ declared_line image entry) h.text ∙ flat_map_more (declared_line image) [] old.order.items entry
-        ∙ ap (flat_map (declared_line image)) (sym order);
+    refused_below = λ r has. (let (below, f) = h.refused_below r has in (more r.0 below, f));
+    each = each-more (order ++ entry ∷ []) refusals (λ e has. Contains-append_left order (entry ∷ []) e has) (λ r has. has) (inl (Contains-push order entry));
+    rising = all_pairs_push (λ a b. ComesBefore named a b) order entry h.rising (λ i d w. before (get_or order i d) (h.printed_below (get_or order i d) (Contains-get_or order i d w)).0);
+    apart = h.apart;
+    lines = ap (λ (u : List ℕ). u ++ declared_line image entry) h.lines ∙ flat_map_more (declared_line image) [] order entry;
   }
-    where
-      before : (e : ℕ) → IsBelow named count e → StandsBefore level e entry
-      before e (place, w, is) = (let S : ℕ → ℕ → Type 0 = λ a b. StandsBefore level a b in subst (λ (a : ℕ). S a entry) (sym is) (subst (λ (b : ℕ). S (get_or named place 0) b) (sym at) (rising place count 0 w within)))
-  judged-more count entry old new rising within at (refused rule is order text more) h = record {
-    printed_below = λ e has. (let (below, p) = h.printed_below e (let C : List ℕ → Type 0 = λ es. Contains es e in subst C order has) in (below-more named count e below, p));
-    refused_below = λ r has. elim (pushed-cases old.refused.items new.refused.items (entry, rule) r more has) [
-      | inl before ↦ (let (below, f) = h.refused_below r before in (below-more named count r.0 below, f))
-      | inr one ↦ (let P : ℕ × PrintFault → Type 0 = λ x. IsBelow named (count + 1) x.0 × Refuses (shape_in image) (subject_in image x.0) x.1 in subst P one ((count, (omega arith), at), is))
+
+  judged-refused : (rule : PrintFault) → Refuses (shape_in image) (subject_in image entry) rule → AreJudged image named (count + 1) order (refusals ++ (entry, rule) ∷ []) text
+  judged-refused rule is = record {
+    printed_below = λ e has. (let (below, p) = h.printed_below e has in (more e below, p));
+    refused_below = λ r has. elim (Contains-push_cases refusals (entry, rule) r has) [
+      | inl old ↦ (let (below, f) = h.refused_below r old in (more r.0 below, f))
+      | inr same ↦ (let P : ℕ × PrintFault → Type 0 = λ x. IsBelow named (count + 1) x.0 × Refuses (shape_in image) (subject_in image x.0) x.1 in subst P same (last, is))
     ];
-    each = λ place w. elim (cases_lt place count) [
-      | inl less ↦ elim (h.each place less) [
-        | inl there ↦ (let C : List ℕ → Type 0 = λ es. Contains es (get_or named place 0) in inl (subst C (sym order) there))
-        | inr (rule', there) ↦ inr (rule', pushed-left old.refused.items new.refused.items (entry, rule) (get_or named place 0, rule') more there)
-      ]
-      | inr past ↦
-          let here : count ≡ place = omega arith in
-          let C : ℕ → Type 0 = λ n. Contains new.refused.items (n, rule) in
-          inr (rule, subst C (at ∙ ap (λ n. get_or named n 0) here) (pushed-last old.refused.items new.refused.items (entry, rule) more))
-    ];
-    rising = (let P : List ℕ → Type 0 = λ es. AllPairs (λ a b. StandsBefore level a b) es in subst P (sym order) h.rising);
-    apart =
-        let P : List (ℕ × PrintFault) → Type 0 = λ rs. AllPairs (λ (a b : ℕ × PrintFault). a.0 ≢ b.0) rs in
-        subst P (sym more) (all_pairs_push (λ (a b : ℕ × PrintFault). a.0 ≢ b.0) old.refused.items (entry, rule) h.apart (λ i d w. stands-apart level (get_or old.refused.items i d).0 entry (before (get_or old.refused.items i d).0 (h.refused_below (get_or old.refused.items i d) (Contains-get_or old.refused.items i d w)).0)));
-    text = text ∙ h.text ∙ ap (flat_map (declared_line image)) (sym order);
+    each = each-more order (refusals ++ (entry, rule) ∷ []) (λ e has. has) (λ r has. Contains-append_left refusals ((entry, rule) ∷ []) r has) (inr (rule, Contains-push refusals (entry, rule)));
+    rising = h.rising;
+    apart = all_pairs_push (λ (a b : ℕ × PrintFault). ComesBefore named a.0 b.0) refusals (entry, rule) h.apart (λ i d w. before (get_or refusals i d).0 (h.refused_below (get_or refusals i d) (Contains-get_or refusals i d w)).0);
+    lines = h.lines;
   }
-    where
-      before : (e : ℕ) → IsBelow named count e → StandsBefore level e entry
-      before e (place, w, is) = (let S : ℕ → ℕ → Type 0 = λ a b. StandsBefore level a b in subst (λ (a : ℕ). S a entry) (sym is) (subst (λ (b : ℕ). S (get_or named place 0) b) (sym at) (rising place count 0 w within)))
+
+-- and the next one
+pub judged-more : (image : Image) (named : List ℕ) (count entry : ℕ) (old new : Listing) → count < length named → get_or named count 0 ≡ entry → IsAdded (shape_in image) entry (subject_in image entry) old new
+    → AreJudged image named count old.order.items old.refused.items old.text.items → AreJudged image named (count + 1) new.order.items new.refused.items new.text.items
+judged-more image named count entry old new within at (printed is order text same) h =
+    rw (order, text, same) (judged-printed image named count old.order.items old.refused.items old.text.items h entry within at is)
+judged-more image named count entry old new within at (refused rule is order text more) h =
+    rw (order, text, more) (judged-refused image named count old.order.items old.refused.items old.text.items h entry within at rule is)
 
 -- ---- the listing
 
-module _ (image : Image) (named sorted : List ℕ) (level : ℕ → ℕ) (it : Listing) (rs : List (ℕ × PrintFault)) (names : AreNamedTypes image named) (permuted : IsPermutation named sorted)
-    (judged : AreJudged image level sorted (length sorted) it) (moved : IsPermutation it.refused.items rs) where
-  -- each that is judged is a named type, and each of these is judged
-  is-named : (entry : ℕ) → IsBelow sorted (length sorted) entry → IsNamedType image entry
-  is-named entry (place, w, at) =
+module _ (image : Image) (named sorted : List ℕ) (count : ℕ) (order : List ℕ) (refusals rs : List (ℕ × PrintFault)) (text : List ℕ) (names : AreNamedTypes image named) (permuted : IsPermutation named sorted)
+    (judged : AreJudged image sorted count order refusals text) (moved : IsPermutation refusals rs) where
+  -- each that is judged is a named type
+  is-named : (entry : ℕ) → IsBelow sorted count entry → IsNamedType image entry
+  is-named entry (place, w, v, is) =
       let C : ℕ → Type 0 = λ n. Contains sorted n in
-      (names.all entry).0 (Contains-permutation sorted named entry (IsPermutation-sym named sorted permuted) (subst C (sym at) (Contains-get_or sorted place 0 w)))
+      (names.all entry).0 (Contains-permutation sorted named entry (IsPermutation-sym named sorted permuted) (subst C is (Contains-get_or sorted place 0 v)))
 
-  each-named : (entry : ℕ) → IsNamedType image entry → Contains it.order.items entry ⊎ ((rule : PrintFault) × Contains rs (entry, rule))
-  each-named entry is =
-      let (k, w, e) = Contains-permutation named sorted entry permuted ((names.all entry).1 is) in
-      let at : get_or sorted k 0 ≡ entry = get_or_default sorted k 0 entry w ∙ e in
-      elim (judged.each k w) [
-        | inl has ↦ (let C : ℕ → Type 0 = λ n. Contains it.order.items n in inl (subst C at has))
-        | inr (rule, has) ↦ (let C : ℕ → Type 0 = λ n. Contains rs (n, rule) in inr (rule, subst C at (Contains-permutation it.refused.items rs (get_or sorted k 0, rule) moved has)))
-      ]
-
-  printed-there : (entry : ℕ) → Contains it.order.items entry → IsNamedType image entry × IsPrinted (shape_in image) (subject_in image entry)
+  printed-there : (entry : ℕ) → Contains order entry → IsNamedType image entry × IsPrinted (shape_in image) (subject_in image entry)
   printed-there entry has = (let (below, is) = judged.printed_below entry has in (is-named entry below, is))
 
   refused-there : (entry : ℕ) (rule : PrintFault) → Contains rs (entry, rule) → IsNamedType image entry × Refuses (shape_in image) (subject_in image entry) rule
   refused-there entry rule has =
-      let (below, is) = judged.refused_below (entry, rule) (Contains-permutation rs it.refused.items (entry, rule) (IsPermutation-sym it.refused.items rs moved) has) in
+      let (below, is) = judged.refused_below (entry, rule) (Contains-permutation rs refusals (entry, rule) (IsPermutation-sym refusals rs moved) has) in
       (is-named entry below, is)
 
-  pub listing-done : AreLevels image level → IsNonDecreasingBy (λ (r : ℕ × PrintFault). r.0) rs → IsStableByKey (λ (r : ℕ × PrintFault). r.0) nat_cmp it.refused.items rs
-      → IsListing image it.order.items rs
-  listing-done levels rises stable = record {
+  -- each that is refused is an entry
+  pub refused-within : All (λ (r : ℕ × PrintFault). r.0 < length (entries_in image)) rs
+  refused-within k d w = (let r = get_or rs k d in (refused-there r.0 r.1 (Contains-get_or rs k d w)).0.0)
+
+  -- all are judged
+  pub listing-done : (level : ℕ → ℕ) → length sorted ≤ count → AllPairs (λ a b. StandsBefore level a b) sorted → AreLevels image level → IsNonDecreasingBy (λ (r : ℕ × PrintFault). r.0) rs
+      → IsStableByKey (λ (r : ℕ × PrintFault). r.0) nat_cmp refusals rs → IsListing image order rs
+  listing-done level over rising levels rises stable = record {
     level = level;
     levels = levels;
     printed = λ entry. (
@@ -231,7 +218,7 @@ module _ (image : Image) (named sorted : List ℕ) (level : ℕ → ℕ) (it : L
         | inr (rule, has) ↦ absurd (printed-or-refused (shape_in image) (subject_in image entry) rule p (refused-there entry rule has).1)
       ],
     );
-    by_level = judged.rising;
+    by_level = λ i j d less w. ranked (get_or order i d) (get_or order j d) (judged.rising i j d less w);
     others = λ entry rule. (
       refused-there entry rule,
       λ (is, f). elim (each-named entry is) [
@@ -241,13 +228,21 @@ module _ (image : Image) (named sorted : List ℕ) (level : ℕ → ℕ) (it : L
             subst C (one-rule (shape_in image) (subject_in image entry) other rule (refused-there entry other has).1 f) has
       ],
     );
-    by_offset = by-offset it.refused.items rs judged.apart rises stable;
+    by_offset = by-offset refusals rs (λ i j d less w. stands-apart level (get_or refusals i d).0 (get_or refusals j d).0 (ranked (get_or refusals i d).0 (get_or refusals j d).0 (judged.apart i j d less w))) rises stable;
     each = each-named;
   }
+    where
+      ranked : (a b : ℕ) → ComesBefore sorted a b → StandsBefore level a b
+      ranked a b (i, j, less, w, is, same) = rw (← is, ← same) (rising i j 0 less w)
 
-  -- each that is refused is an entry
-  pub refused-within : All (λ (r : ℕ × PrintFault). r.0 < length (entries_in image)) rs
-  refused-within k d w = (let r = get_or rs k d in (refused-there r.0 r.1 (Contains-get_or rs k d w)).0.0)
+      each-named : (entry : ℕ) → IsNamedType image entry → Contains order entry ⊎ ((rule : PrintFault) × Contains rs (entry, rule))
+      each-named entry is =
+          let (k, w, e) = Contains-permutation named sorted entry permuted ((names.all entry).1 is) in
+          let at : get_or sorted k 0 ≡ entry = get_or_default sorted k 0 entry w ∙ e in
+          elim (judged.each k (omega arith)) [
+            | inl has ↦ (let C : ℕ → Type 0 = λ n. Contains order n in inl (subst C at has))
+            | inr (rule, has) ↦ (let C : ℕ → Type 0 = λ n. Contains rs (n, rule) in inr (rule, subst C at (Contains-permutation refusals rs (get_or sorted k 0, rule) moved has)))
+          ]
 
 -- each named type is an entry
 pub named-within : (image : Image) (named sorted : List ℕ) → AreNamedTypes image named → IsPermutation named sorted → All (λ id. id < length (entries_in image)) sorted
@@ -257,3 +252,19 @@ named-within image named sorted names permuted k d w =
 -- there are as many declarations as named types
 pub as-many : (f : ℕ → SubjectOf) (xs : List Subject) (named : List ℕ) → map view_subject xs ≡ map f named → length xs ≡ length named
 as-many f xs named same = sym (length-map xs view_subject) ∙ (ap length same ∙ length-map named f)
+
+-- ---- the text
+
+-- the line of one more
+pub lines-more : {X : Type 0} (f : X → List ℕ) (out out' all : List ℕ) (xs : List X) (i : ℕ) (x : X) → out' ≡ out ++ f x
+    → i < length xs → x ≡ get_or xs i x
+    → out ++ flat_map f (drop i xs) ≡ all → out' ++ flat_map f (drop (i + 1) xs) ≡ all
+lines-more {X = X} f out out' all xs i x written within at so_far =
+    let split : drop i xs ≡ x ∷ drop (i + 1) xs = drop_more xs i x within ∙ ap (λ (y : X). y ∷ drop (i + 1) xs) (sym at) in
+    rw written (append_assoc out (f x) (flat_map f (drop (i + 1) xs)) ∙ (ap (λ (ys : List X). out ++ flat_map f ys) (sym split) ∙ so_far))
+
+-- seven parts, each written after the one before
+pub seven-parts : (o o1 o2 o3 o4 o5 o6 o7 a b c d e f g : List ℕ) → o1 ≡ o ++ a → o2 ≡ o1 ++ b → o3 ≡ o2 ++ c
+    → o4 ≡ o3 ++ d → o5 ≡ o4 ++ e → o6 ≡ o5 ++ f → o7 ≡ o6 ++ g
+    → o7 ≡ o ++ (a ++ b ++ c ++ d ++ e ++ f ++ g)
+seven-parts o o1 o2 o3 o4 o5 o6 o7 a b c d e f g e1 e2 e3 e4 e5 e6 e7 = rw (e7, e6, e5, e4, e3, e2, e1) (simp append_assoc)

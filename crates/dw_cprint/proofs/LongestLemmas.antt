@@ -117,7 +117,7 @@ fewer-steps graph (suc k) zero node below row = absurd (omega arith)
 fewer-steps graph (suc k) (suc n) node below (next, step, row) = (next, step, fewer-steps graph k n next (omega arith) row)
 
 -- a row that goes on where some steps lead
-row-after : (graph : Graph) (k n from to : ℕ) → Leads graph k from to → HasRow graph to n → HasRow graph from (k + n)
+pub row-after : (graph : Graph) (k n from to : ℕ) → Leads graph k from to → HasRow graph to n → HasRow graph from (k + n)
 row-after graph zero n from to same row =
     let P : ℕ → Type 0 = λ m. HasRow graph from m in
     let Q : ℕ → Type 0 = λ x. HasRow graph x n in

@@ -21,11 +21,11 @@ read_there {X = X} es id f r within says = go (slice_get es id) (λ gone. none_p
     go None past says = absurd (omega (arith, past refl))
     go (Some e) past says = says
 
--- the tag of an entry, as it is told
-pub tag_there : (es : List Entry) (id tag : ℕ) → id < length es → IfSome (slice_get es id) (λ e. tag ≡ e.head.decl.tag) → tag ≡ option_map_or (λ (e : Entry). e.head.decl.tag) (slice_get es id) 0
-tag_there es id tag within says = go (slice_get es id) (λ gone. none_past es id gone) says
+-- the same of a function that every entry has, and d where none stands there
+pub read_or : {X : Type 0} (es : List Entry) (id : ℕ) (f : Entry → X) (r d : X) → id < length es → IfSome (slice_get es id) (λ e. r ≡ f e) → r ≡ option_map_or f (slice_get es id) d
+read_or {X = X} es id f r d within says = go (slice_get es id) (λ gone. none_past es id gone) says
   where
-    go : (found : Option Entry) → (found ≡ None → length es ≤ id) → IfSome found (λ e. tag ≡ e.head.decl.tag) → tag ≡ option_map_or (λ (e : Entry). e.head.decl.tag) found 0
+    go : (found : Option Entry) → (found ≡ None → length es ≤ id) → IfSome found (λ e. r ≡ f e) → r ≡ option_map_or f found d
     go None past says = absurd (omega (arith, past refl))
     go (Some e) past says = says
 

@@ -1,17 +1,25 @@
 -- The words of a base type's name, and its text.
 use Rattle.std.proofs.Common.{◌≡◌, ℕ, zero, suc, ◌+◌, ◌*◌, ◌<◌, ◌≤◌, Bool, true, false, cond, List, [], ◌∷◌, ◌++◌, Option, Some, None, refl, sym, ◌∙◌, ap, subst, length, take, drop, append-nil, arith}
-use Rattle.std.specs.Prelude.{◌==◌, ◌&&◌, ◌-◌, count_by, position, nat_lt, codes, bytes_eq, option_map, option_and_then, is_some, if◌then◌else◌}
-use Rattle.std.specs.List.{slice_split, position_or_len, join_with_byte}
+use Rattle.std.specs.Prelude.{◌==◌, ◌&&◌, ◌||◌, ◌-◌, count_by, position, nat_lt, codes, bytes_eq, option_map, option_and_then, is_some, if◌then◌else◌}
+use Rattle.std.specs.List.{list_any, slice_split, position_or_len, join_with_byte}
 use Rattle.std.proofs.lemmas.Bool.Decides.{nat_tests}
 use Rattle.std.proofs.lemmas.Option.{cond_some}
 use Rattle.std.proofs.lemmas.List.{length-append}
 use Rattle.std.proofs.lemmas.Slice.Eq.{bytes_eq-Decides}
 use Rattle.std.proofs.lemmas.List.Splits.{slice_split_first, slice_split-cons_no, length-slice_split, join_with_byte-slice_split}
+use Rattle.std.proofs.lemmas.List.Folds.{list_any-append}
 use Rattle.dw_cprint.specs.Declarations.{parts_of, word_of, words_of}
+use Rattle.dw_cprint.specs.Legible.{is_keyword}
+use Rattle.dw_cprint.specs.declared.names.TheConstants.{KEYWORDS, LONG_KEYWORDS}
 use Rattle.dw_cprint.specs.Terms.{TypeWord, Char, Short, Int, Long, Signed, Unsigned, Float, Double, BoolWord, Complex}
 use Rattle.dw_cprint.specs.Tokens.{type_word_spelling, text_of}
 use Rattle.dw_cprint.specs.Writing.{basic}
 use Rattle.dw_cprint.proofs.OptionLemmas.{map_inverted, then_inverted}
+
+-- a keyword is one of the short ones or one of the longest
+pub keyword-parts : (word : List ℕ) → is_keyword word ≡ (list_any (λ k. bytes_eq word k.now) KEYWORDS || list_any (λ k. bytes_eq word k.now) LONG_KEYWORDS)
+unfolding is_keyword
+keyword-parts word = list_any-append (λ k. bytes_eq word k.now) KEYWORDS LONG_KEYWORDS
 
 module _ {X : Type 0} (p : X → Bool) where
   split-whole : (xs : List X) → length xs ≤ position_or_len p xs → slice_split p xs ≡ xs ∷ []

@@ -1,22 +1,22 @@
 -- Finding what is reached: the loop over the entries that are found.
-use Rattle.std.proofs.Common.{◌≡◌, ◌≢◌, ℕ, zero, suc, ◌+◌, ◌-◌, ◌<◌, ◌≤◌, true, false, List, [], ◌∷◌, ◌++◌, refl, sym, ◌∙◌, ap, subst, inl, inr, length, get_or, arith, length-append, append_assoc, map, take, drop, Option}
+use Rattle.std.proofs.Common.{◌≡◌, ◌≢◌, ℕ, suc, ◌+◌, ◌-◌, ◌<◌, ◌≤◌, true, false, List, [], ◌∷◌, ◌++◌, refl, sym, ◌∙◌, ap, subst, inl, inr, length, get_or, arith, length-append, append_assoc, map, take, drop, Option}
 use Rattle.std.specs.Prelude.{Contains}
 use Rattle.std.proofs.lemmas.Bool.{cases_lt}
 use Rattle.std.proofs.lemmas.Map.Steps.{length-le_from_distinct_below}
-use Rattle.std.proofs.lemmas.List.{take_more, take_more_same, take_all, drop_more, map-append}
+use Rattle.std.proofs.lemmas.List.{get_or_append_left, get_or-append_right, get_or_push, take_more, take_all, take-append-le, drop_more, map-append}
+use Rattle.std.proofs.lemmas.List.Elements.{Contains-append_left, Contains-append_cases, Contains-get_or}
 use Rattle.std.specs.List.{IsDistinct, AllByRecursion, list_any}
 use Rattle.std.proofs.lemmas.Bool.Decides.{eqb_tells}
 use lib.Dec.{eqb}
-use Rattle.dw_cprint.proofs.PlaceLemmas.{row-grows, found-in-row, entries-append}
+use Rattle.dw_cprint.proofs.PlaceLemmas.{row-grows, found-in-row, entries-append, keeps-places, no-shorter}
 use Rattle.dw_cprint.specs.Shapes.{ShapeOf, view_subject}
 use Rattle.dw_cprint.specs.Steps.{entries_of, roots_of, types_declared, steps_reached, IsReachedFrom, root, further}
 use Rattle.dw_cprint.specs.declared.shape.Subject.{Subject}
-use Rattle.std.proofs.lemmas.List.{get_or_default, get_or_append_left, get_or-append_right, get_or_push}
 use Rattle.dw_types.specs.Graphs.{Graph, steps_of}
 use Rattle.dw_types.specs.Packing.{cut, LeadsBelow}
 use Rattle.dw_types.specs.PackingLaws.{cut-more}
 use Rattle.dw_types.proofs.PackingLemmas.{AreEnds, ends-more}
-use Rattle.dw_cprint.specs.Reach.{Grows, ArePlaces, IsRow, FindsAll, IsReachOf}
+use Rattle.dw_cprint.specs.Reach.{ArePlaces, IsRow, FindsAll, IsReachOf}
 
 -- the rows of the first entries that are found are made, and their shapes are read
 pub record IsSoFar (shapes : ℕ → ShapeOf) (roots places found : List ℕ) (rows : Graph) (read : List ShapeOf) : Type 0 where
@@ -25,7 +25,7 @@ pub record IsSoFar (shapes : ℕ → ShapeOf) (roots places found : List ℕ) (r
   pub shapes_are : read ≡ map shapes (take (length rows) found)
   pub rows_are : (node : ℕ) → node < length rows → IsRow found (steps_reached shapes (get_or found node 0)) (steps_of rows node)
   pub roots_found : (to : ℕ) → Contains roots to → Contains found to
-  pub reached : (node : ℕ) → node < length found → IsReachedFrom shapes roots (get_or found node 0)
+  pub reached : (entry : ℕ) → Contains found entry → IsReachedFrom shapes roots entry
 
 pub so_far-start : (shapes : ℕ → ShapeOf) (roots places places' found : List ℕ) (row : List ℕ) → FindsAll roots places places' [] found row → IsSoFar shapes roots places' found [] []
 so_far-start shapes roots places places' found row f = record {
@@ -34,69 +34,58 @@ so_far-start shapes roots places places' found row f = record {
   shapes_are = refl;
   rows_are = λ node w. absurd (omega arith);
   roots_found = found-in-row found roots row f.is_row;
-  reached = λ node w. root (f.grows.adds node (omega arith) w);
+  reached = λ entry has. root (f.grows.among entry (subst (λ (xs : List ℕ). Contains xs entry) f.grows.is has));
 }
 
-keeps-found : (steps old new : List ℕ) (to : ℕ) → Grows steps old new → Contains old to → Contains new to
-keeps-found steps old new to g (k, w, e) = (let l = g.longer in (k, (omega arith), get_or_default new k to 0 (omega arith) ∙ (g.keeps k w ∙ (get_or_default old k 0 to w ∙ e))))
+module _ (shapes : ℕ → ShapeOf) (roots places places' found found' : List ℕ) (rows : Graph) (read : List ShapeOf) (r : List ℕ) where
+  pub so_far-more : IsSoFar shapes roots places found rows read → length rows < length found
+      → FindsAll (steps_reached shapes (get_or found (length rows) 0)) places places' found found' r
+      → IsSoFar shapes roots places' found' (rows ++ r ∷ []) (read ++ shapes (get_or found (length rows) 0) ∷ [])
+  so_far-more s more f = record {
+    placed = f.placed;
+    made = (let long = no-shorter steps found found' f.grows in omega (arith, length-append rows (r ∷ [])));
+    shapes_are = shapes_are;
+    rows_are = rows_are;
+    roots_found = λ to has. subst (λ (xs : List ℕ). Contains xs to) (sym f.grows.is) (Contains-append_left found f.grows.more to (s.roots_found to has));
+    reached = λ entry has. elim (Contains-append_cases found f.grows.more entry (subst (λ (xs : List ℕ). Contains xs entry) f.grows.is has)) [
+      | inl before ↦ s.reached entry before
+      | inr new ↦ further (s.reached (get_or found (length rows) 0) (Contains-get_or found (length rows) 0 more)) (f.grows.among entry new)
+    ];
+  }
+    where
+      steps : List ℕ
+      steps = steps_reached shapes (get_or found (length rows) 0)
 
--- the first entries stay while more are found
-take-grows : (n : ℕ) (old new : List ℕ) → n ≤ length old → length old ≤ length new → ((k : ℕ) → k < length old → get_or new k 0 ≡ get_or old k 0) → take n new ≡ take n old
-take-grows zero old new below long keeps = refl
-take-grows (suc n) old new below long keeps =
-    let e : n + 1 ≡ suc n = omega arith in
-    let P : ℕ → Type 0 = λ m. take m new ≡ take m old in
-    subst P e (take_more_same new old n 0 (omega arith) (omega arith) (take-grows n old new (omega arith) long keeps) (keeps n (omega arith)))
+      seen : List ShapeOf
+      seen = read ++ shapes (get_or found (length rows) 0) ∷ []
 
-pub so_far-more : (shapes : ℕ → ShapeOf) (roots places places' found found' : List ℕ) (rows : Graph) (read : List ShapeOf) (r : List ℕ)
-    → IsSoFar shapes roots places found rows read → length rows < length found
-    → FindsAll (steps_reached shapes (get_or found (length rows) 0)) places places' found found' r
-    → IsSoFar shapes roots places' found' (rows ++ r ∷ []) (read ++ shapes (get_or found (length rows) 0) ∷ [])
-so_far-more shapes roots places places' found found' rows read r s more f = record {
-  placed = f.placed;
-  made = (let long = f.grows.longer in omega (arith, length-append rows (r ∷ [])));
-  shapes_are = shapes_are;
-  rows_are = rows_are;
-  roots_found = λ to has. keeps-found (steps_reached shapes (get_or found (length rows) 0)) found found' to f.grows (s.roots_found to has);
-  reached = reached;
-}
-  where
-    seen : List ShapeOf
-    seen = read ++ shapes (get_or found (length rows) 0) ∷ []
+      shapes_are : seen ≡ map shapes (take (length (rows ++ r ∷ [])) found')
+      shapes_are =
+          let n = length rows in
+          let long : n + 1 ≡ length (rows ++ r ∷ []) = omega (arith, length-append rows (r ∷ [])) in
+          let P : ℕ → Type 0 = λ m. seen ≡ map shapes (take m found') in
+          let front : take (n + 1) found' ≡ take n found ++ get_or found (length rows) 0 ∷ [] =
+          ap (take (n + 1)) f.grows.is ∙ take-append-le (n + 1) found f.grows.more (omega arith) ∙ take_more found n 0 more in
+          let all : map shapes (take (n + 1) found') ≡ seen =
+          ap (map shapes) front ∙ map-append shapes (take n found) (get_or found (length rows) 0 ∷ []) ∙ ap (λ (xs : List ShapeOf). xs ++ shapes (get_or found (length rows) 0) ∷ []) (sym s.shapes_are) in
+          subst P long (sym all)
 
-    shapes_are : seen ≡ map shapes (take (length (rows ++ r ∷ [])) found')
-    shapes_are =
-        let n = length rows in
-        let long : n + 1 ≡ length (rows ++ r ∷ []) = omega (arith, length-append rows (r ∷ [])) in
-        let P : ℕ → Type 0 = λ m. seen ≡ map shapes (take m found') in
-        let front : take (n + 1) found' ≡ take n found ++ get_or found n 0 ∷ [] =
-        take-grows (n + 1) found found' (omega arith) f.grows.longer f.grows.keeps ∙ take_more found n 0 more in
-        let all : map shapes (take (n + 1) found') ≡ seen =
-        ap (map shapes) front ∙ map-append shapes (take n found) (get_or found n 0 ∷ []) ∙ ap (λ (xs : List ShapeOf). xs ++ shapes (get_or found n 0) ∷ []) (sym s.shapes_are) in
-        subst P long (sym all)
+      moved : (node : ℕ) → node < length found → (row : List ℕ) → IsRow found' (steps_reached shapes (get_or found node 0)) row → IsRow found' (steps_reached shapes (get_or found' node 0)) row
+      moved node w row i = let P : ℕ → Type 0 = λ x. IsRow found' (steps_reached shapes x) row in subst P (sym (keeps-places steps found found' f.grows node w)) i
 
-    moved : (node : ℕ) → node < length found → (row : List ℕ) → IsRow found' (steps_reached shapes (get_or found node 0)) row → IsRow found' (steps_reached shapes (get_or found' node 0)) row
-    moved node w row i = let P : ℕ → Type 0 = λ x. IsRow found' (steps_reached shapes x) row in subst P (sym (f.grows.keeps node w)) i
-
-    rows_are : (node : ℕ) → node < length (rows ++ r ∷ []) → IsRow found' (steps_reached shapes (get_or found' node 0)) (steps_of (rows ++ r ∷ []) node)
-    rows_are node w =
-        let Goal : List ℕ → Type 0 = λ row. IsRow found' (steps_reached shapes (get_or found' node 0)) row in
-        elim (cases_lt node (length rows)) [
-          | inl before ↦
-              subst Goal (sym (get_or_append_left rows (r ∷ []) [] node before))
-              (moved node (omega arith) (steps_of rows node)
-              (row-grows (steps_reached shapes (get_or found node 0)) (steps_reached shapes (get_or found (length rows) 0)) found found' (steps_of rows node) f.grows (s.rows_are node before)))
-          | inr after ↦
-              let e : node ≡ length rows = omega (arith, length-append rows (r ∷ [])) in
-              let P : ℕ → Type 0 = λ n. IsRow found' (steps_reached shapes (get_or found n 0)) r in
-              subst Goal (sym (get_or_push rows r [] node (sym e))) (moved node (omega arith) r (subst P (sym e) f.is_row))
-        ]
-
-    reached : (node : ℕ) → node < length found' → IsReachedFrom shapes roots (get_or found' node 0)
-    reached node w = elim (cases_lt node (length found)) [
-      | inl before ↦ (let P : ℕ → Type 0 = λ x. IsReachedFrom shapes roots x in subst P (sym (f.grows.keeps node before)) (s.reached node before))
-      | inr after ↦ further (s.reached (length rows) more) (f.grows.adds node after w)
-    ]
+      rows_are : (node : ℕ) → node < length (rows ++ r ∷ []) → IsRow found' (steps_reached shapes (get_or found' node 0)) (steps_of (rows ++ r ∷ []) node)
+      rows_are node w =
+          let Goal : List ℕ → Type 0 = λ row. IsRow found' (steps_reached shapes (get_or found' node 0)) row in
+          elim (cases_lt node (length rows)) [
+            | inl before ↦
+                subst Goal (sym (get_or_append_left rows (r ∷ []) [] node before))
+                (moved node (omega arith) (steps_of rows node)
+                (row-grows (steps_reached shapes (get_or found node 0)) steps found found' (steps_of rows node) f.grows (s.rows_are node before)))
+            | inr after ↦
+                let e : node ≡ length rows = omega (arith, length-append rows (r ∷ [])) in
+                let P : ℕ → Type 0 = λ m. IsRow found' (steps_reached shapes (get_or found m 0)) r in
+                subst Goal (sym (get_or_push rows r [] node (sym e))) (moved node (omega arith) r (subst P (sym e) f.is_row))
+          ]
 
 pub so_far-done : (shapes : ℕ → ShapeOf) (roots places found : List ℕ) (rows : Graph) (read : List ShapeOf) → IsSoFar shapes roots places found rows read → length found ≤ length rows → IsReachOf shapes roots places found rows
 so_far-done shapes roots places found rows read s over = record {
@@ -130,10 +119,10 @@ packed-more reached places places' found found' steps ends row h f = record { ar
   where
     leads : LeadsBelow (steps ++ row) (length found')
     leads k w = elim (cases_lt k (length steps)) [
-      | inl before ↦ (let low = h.leads k before in let long = f.grows.longer in rw (get_or_append_left steps row 0 k before) (omega arith))
+      | inl before ↦ (let low = h.leads k before in let long = no-shorter reached found found' f.grows in rw (get_or_append_left steps row 0 k before) (omega arith))
       | inr after ↦
           let here : k - length steps < length row = omega (arith, length-append steps row) in
-          rw (get_or-append_right steps row (length steps) k 0 refl after) (f.is_row.below (k - length steps) here)
+          rw (get_or-append_right steps row (length steps) k 0 refl after) (f.is_row.below (k - length steps) 0 here)
     ]
 
 -- one more row
@@ -164,7 +153,7 @@ among_below q n (x ∷ xs) h has = elim (eqb_tells q x) [
 
 pub room : (places found : List ℕ) → ArePlaces places found → length found ≤ length places
 room places found placed =
-    length-le_from_distinct_below found (length places) (distinct (λ x. get_or places x 0) 0 found (λ k w. (let e = placed.back k w in omega arith))) (λ q h. among_below q (length places) found placed.below h)
+    length-le_from_distinct_below found (length places) (distinct (λ x. get_or places x 0) 0 found (λ k w. (let e = placed.back k w in omega arith))) (λ q h. among_below q (length places) found (λ k w. placed.below k 0 w) h)
 
 -- ROOTS
 

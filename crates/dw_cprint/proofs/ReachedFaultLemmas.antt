@@ -1,5 +1,5 @@
 -- What is wrong with an entry that is reached: with itself, or with those that it leads to.
-use Rattle.std.proofs.Common.{◌≡◌, ℕ, zero, suc, true, false, List, [], ◌∷◌, ◌++◌, Some, None, refl, sym, ap}
+use Rattle.std.proofs.Common.{◌≡◌, ℕ, zero, suc, true, false, List, [], ◌∷◌, ◌++◌, Some, refl, sym}
 use Rattle.std.proofs.Common.{subst, ◌⊎◌, inl, inr, arith}
 use Rattle.std.specs.Prelude.{IsTrue, Contains, ◌↔◌, ◌||◌}
 use Rattle.std.proofs.lemmas.List.Elements.{Contains-append_left, Contains-append_right, Contains-append_cases}
@@ -12,18 +12,14 @@ use Rattle.dw_cprint.specs.Summaries.{Faults, Summary, ReachesOne, IsForeign, Ar
 use Rattle.dw_cprint.specs.Wrong.{HasBadName, HasBadNameItself, is_foreign, is_foreign_itself, IsUnspeakable}
 use Rattle.dw_cprint.specs.Wrong.{IsUnspeakableItself}
 use Rattle.dw_cprint.proofs.FaultLemmas.{iff-through, or-means, test-itself, test-same}
-
-entries-append : (us bs : List TypeAt) → entries_of (us ++ bs) ≡ entries_of us ++ entries_of bs
-entries-append [] bs = refl
-entries-append (None ∷ us) bs = entries-append us bs
-entries-append (Some entry ∷ us) bs = ap (λ (es : List ℕ). entry ∷ es) (entries-append us bs)
+use Rattle.dw_cprint.proofs.PlaceLemmas.{entries-append}
 
 reached-cases : {shapes : ℕ → ShapeOf} (us bs : List ℕ) {entry : ℕ} → IsReachedFrom shapes (us ++ bs) entry
     → IsReachedFrom shapes us entry ⊎ IsReachedFrom shapes bs entry
 reached-cases us bs (root {to} c) = elim (Contains-append_cases us bs to c) [ inl x ↦ inl (root x) | inr y ↦ inr (root y) ]
 reached-cases us bs (further r c) = elim (reached-cases us bs r) [ inl x ↦ inl (further x c) | inr y ↦ inr (further y c) ]
 
-reached-wider : {shapes : ℕ → ShapeOf} {us bs : List ℕ} {entry : ℕ} → ((x : ℕ) → Contains us x → Contains bs x)
+pub reached-wider : {shapes : ℕ → ShapeOf} {us bs : List ℕ} {entry : ℕ} → ((x : ℕ) → Contains us x → Contains bs x)
     → IsReachedFrom shapes us entry → IsReachedFrom shapes bs entry
 reached-wider among (root {to} c) = root (among to c)
 reached-wider among (further r c) = further (reached-wider among r) c

@@ -1,9 +1,10 @@
 -- The least refusal that holds, by the tests of each.
-use Rattle.std.proofs.Common.{◌≡◌, ℕ, zero, suc, ◌<◌, ◌≤◌, true, false, List, [], Option, Some, refl, sym, ◌∙◌, ap, subst, inl, inr, arith}
+use Rattle.std.proofs.Common.{◌≡◌, ℕ, zero, suc, ◌<◌, ◌≤◌, true, false, List, [], Option, Some, None, refl, sym, ◌∙◌, ap, subst, inl, inr, arith}
 use Rattle.std.specs.Prelude.{is_none}
 use Rattle.std.proofs.lemmas.Bool.{cases_lt}
 use Rattle.dw_cprint.specs.Declarations.{declaration_by, declaration_of, term_at}
 use Rattle.dw_cprint.specs.Drafts.{appended}
+use Rattle.dw_cprint.specs.Judgements.{IsRefusalBelow}
 use Rattle.dw_cprint.specs.Kept.{WritesDeclaration}
 use Rattle.dw_cprint.specs.Refusals.{PrintFault, NotPrintable, BadName, Foreign, Unspeakable, TooDeep, TooLong, Memory, IsLonger, Holds, other_kind, cycle, deep, long, HoldsNoneBelow, Refuses, IsPrinted, number_of}
 use Rattle.dw_cprint.specs.Shapes.{ShapeOf, SubjectOf, no_subject}
@@ -25,24 +26,18 @@ use Rattle.dw_cprint.proofs.SurveyLemmas.{types-known}
 -- ---- one refusal
 
 rule_of : ℕ → PrintFault
-rule_of zero = Memory
 rule_of (suc zero) = NotPrintable
 rule_of (suc (suc zero)) = BadName
 rule_of (suc (suc (suc zero))) = Foreign
 rule_of (suc (suc (suc (suc zero)))) = Unspeakable
 rule_of (suc (suc (suc (suc (suc zero))))) = TooDeep
 rule_of (suc (suc (suc (suc (suc (suc zero)))))) = TooLong
-rule_of (suc (suc (suc (suc (suc (suc (suc n))))))) = Memory
+rule_of _ = Memory
 
 rule-back : (a : PrintFault) → rule_of (number_of a) ≡ a
 unfolding rule_of
 rule-back NotPrintable = refl
-rule-back BadName = refl
-rule-back Foreign = refl
-rule-back Unspeakable = refl
-rule-back TooDeep = refl
-rule-back TooLong = refl
-rule-back Memory = refl
+rule-back _ = refl
 
 one-number : (a b : PrintFault) → number_of a ≡ number_of b → a ≡ b
 one-number a b same = sym (rule-back a) ∙ (ap rule_of same ∙ rule-back b)
@@ -50,13 +45,8 @@ one-number a b same = sym (rule-back a) ∙ (ap rule_of same ∙ rule-back b)
 module _ (shapes : ℕ → ShapeOf) (subject : SubjectOf) where
   -- no declaration is refused for want of memory
   below-seven : (rule : PrintFault) → Holds shapes subject rule → number_of rule < 7
-  below-seven NotPrintable h = omega arith
-  below-seven BadName h = omega arith
-  below-seven Foreign h = omega arith
-  below-seven Unspeakable h = omega arith
-  below-seven TooDeep h = omega arith
-  below-seven TooLong h = omega arith
   below-seven Memory h = elim h [ ]
+  below-seven _ h = omega arith
 
   -- what is printed is not refused
   pub printed-or-refused : (rule : PrintFault) → IsPrinted shapes subject → Refuses shapes subject rule → ⊥
@@ -77,12 +67,7 @@ module _ (shapes : ℕ → ShapeOf) (subject : SubjectOf) where
   -- no rule comes before the first
   pub none-first : HoldsNoneBelow 1 shapes subject
   none-first NotPrintable less holds = absurd (omega arith)
-  none-first BadName less holds = absurd (omega arith)
-  none-first Foreign less holds = absurd (omega arith)
-  none-first Unspeakable less holds = absurd (omega arith)
-  none-first TooDeep less holds = absurd (omega arith)
-  none-first TooLong less holds = absurd (omega arith)
-  none-first Memory less holds = absurd (omega arith)
+  none-first _ less holds = absurd (omega arith)
 
   -- the next one does not hold either
   pub none-more : (rule : PrintFault) → HoldsNoneBelow (number_of rule) shapes subject → (Holds shapes subject rule → ⊥)
@@ -121,7 +106,10 @@ module _ (shapes : ℕ → ShapeOf) (subject : SubjectOf) where
 
   -- ---- the length of its text
 
-  module _ (roots : List ℕ) (s : Survey) (survey : IsSurveyOf shapes roots s) (among : AreAmong (first_steps subject) roots) (none : HoldsNoneBelow 6 shapes subject) where
+  module _ (roots : List ℕ) (s : Survey) (survey : IsSurveyOf shapes roots s) (among : AreAmong (first_steps subject) roots) (o : Option PrintFault) (refused : IsRefusalBelow 6 shapes subject o) (is : o ≡ None) where
+    none : HoldsNoneBelow 6 shapes subject
+    none = subst (λ (p : Option PrintFault). IsRefusalBelow 6 shapes subject p) is refused
+
     -- it is too long, if it has at least a number of bytes that is greater than the limit
     pub long-by-least : (n : ℕ) → n ≤ least_declared (least_known s.summaries) subject → 65536 < n → Refuses shapes subject TooLong
     unfolding declaration_of

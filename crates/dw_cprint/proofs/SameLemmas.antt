@@ -4,7 +4,7 @@ use Rattle.std.specs.Prelude.{◌&&◌, option_map, Any, Contains, if◌then◌e
 use Rattle.dw_cprint.specs.Declarations.{arrays, is_miscounted, parameters_by, members_by, term_by, declaration_by, term_at, declaration_of}
 use Rattle.dw_cprint.specs.Refusals.{PrintFault, Holds, other_kind, cycle, own_name, name_reached, own_child, foreign_reached, own_shape, shape_reached, deep, long, number_of, HoldsNoneBelow, Refuses, HasOneReading}
 use Rattle.dw_cprint.specs.SameShapes.{AreSameFor}
-use Rattle.dw_cprint.specs.Shapes.{Qualifier, Struct, Union, Enum, Parameter, Typed, More, Name, TypeAt, MemberOf, ShapeOf, base, typedef, qualified, pointer, array, function, tagged, nameless, body, enumeration, foreign, other, SubjectOf, typedef_subject, variable_subject, aggregate_subject, enumeration_subject, declared_subject, no_subject}
+use Rattle.dw_cprint.specs.Shapes.{Qualifier, Enum, Parameter, Typed, More, Name, TypeAt, MemberOf, ShapeOf, base, typedef, qualified, pointer, array, function, body, SubjectOf, typedef_subject, variable_subject, aggregate_subject, enumeration_subject, declared_subject, no_subject}
 use Rattle.dw_cprint.specs.Steps.{entries_of, parameter_types, member_types, types_reached, types_declared, steps_reached, first_steps, IsReachedFrom, root, further, IsReached, Leads}
 use Rattle.dw_cprint.specs.Terms.{Term, Qualified, Pointer, Function, Unprototyped, Body, Typedef, Variable, Aggregate}
 use Rattle.dw_cprint.specs.Wrong.{shape_of, StandsUnder, nothing, itself, below, LacksMemberName, HasBadName, HasBadNameItself, typedef_name, variable_name, aggregate_name, member_name, enumeration_name, enumerator_name, tag_name, is_unnamed_aggregate, is_whole, is_foreign, is_function, is_array, is_restrictable, begins_open, IsWrongBits, IsWrongMember, void_member, function_member, bit_member, IsWrongArray, odd_child_or_stride, count, void_element, function_element, open_element, IsWrongFunction, array_result, function_result, void_parameter, misplaced, IsWrongRow, over_array, over_function, restrict, IsVoidLike, IsUnspeakable, IsUnspeakableItself}
@@ -69,18 +69,8 @@ module _ (shapes others : ℕ → ShapeOf) (Good : ℕ → Type 0) (s : AreSame 
       by_name (Some n) h = h
 
   bad-same : (shape : ShapeOf) → GoodAmong (types_reached shape) → HasBadName shapes shape → HasBadName others shape
-  bad-same (base name) goods h = h
-  bad-same (typedef name) goods h = h
-  bad-same (qualified q at) goods h = absurd h
-  bad-same (pointer at) goods h = absurd h
-  bad-same (array counts strange at) goods h = absurd h
-  bad-same (function at ps) goods h = absurd h
-  bad-same (tagged word name) goods h = h
-  bad-same (nameless word) goods h = h
   bad-same (body word odd ms) goods h = any-members (λ m. LacksMemberName shapes m m.name) (λ m. LacksMemberName others m m.name) ms goods lacks-same h
-  bad-same (enumeration odd es) goods h = h
-  bad-same foreign goods h = absurd h
-  bad-same other goods h = absurd h
+  bad-same _ goods h = h
 
   void-same : (at : TypeAt) → GoodAt at → IsVoidLike shapes at → IsVoidLike others at
   void-same at good h = (stands-same h good).0
@@ -118,18 +108,11 @@ module _ (shapes others : ℕ → ShapeOf) (Good : ℕ → Type 0) (s : AreSame 
       restrict under is u.0 (subst P (shape-same under u.1) h)
 
   wrong-same : (shape : ShapeOf) → GoodAmong (types_reached shape) → IsUnspeakable shapes shape → IsUnspeakable others shape
-  wrong-same (base name) goods h = absurd h
-  wrong-same (typedef name) goods h = absurd h
   wrong-same (qualified q at) goods h = row-same q at (good-first at [] goods) h
-  wrong-same (pointer at) goods h = absurd h
   wrong-same (array counts strange at) goods h = array-same counts strange at (good-first at [] goods) h
   wrong-same (function at ps) goods h = function-same at ps goods h
-  wrong-same (tagged word name) goods h = absurd h
-  wrong-same (nameless word) goods h = absurd h
   wrong-same (body word odd ms) goods h = any-members (IsWrongMember shapes) (IsWrongMember others) ms goods member-same h
-  wrong-same (enumeration odd es) goods h = h
-  wrong-same foreign goods h = absurd h
-  wrong-same other goods h = absurd h
+  wrong-same _ goods h = h
 
   -- ---- terms
 
@@ -154,9 +137,7 @@ module _ (shapes others : ℕ → ShapeOf) (Good : ℕ → Type 0) (s : AreSame 
 
     by-shape-same : (shape : ShapeOf) → ((n : ℕ) → Contains (entries_of (types_reached shape)) n → SameTerm (Some n)) → term_by one shape ≡ term_by two shape
     by-shape-same (base None) h = refl
-    by-shape-same (base (Some name)) h = refl
     by-shape-same (typedef None) h = refl
-    by-shape-same (typedef (Some name)) h = refl
     by-shape-same (qualified q at) h = ap (option_map (Qualified q)) (head_of SameTerm void at [] h)
     by-shape-same (pointer at) h = ap (option_map Pointer) (head_of SameTerm void at [] h)
     by-shape-same (array counts strange at) h = ap (λ (o : Option Term). if is_miscounted counts then None else option_map (arrays counts) o) (head_of SameTerm void at [] h)
@@ -165,12 +146,8 @@ module _ (shapes others : ℕ → ShapeOf) (Good : ℕ → Type 0) (s : AreSame 
         let first = head_of SameTerm void at (parameter_types ps) h in
         let rest = parameters-same ps (rest_of SameTerm void at (parameter_types ps) h) in
         rw (first, rest) refl
-    by-shape-same (tagged word name) h = refl
-    by-shape-same (nameless word) h = refl
     by-shape-same (body word odd ms) h = ap (option_map (Body word)) (members-same ms h)
-    by-shape-same (enumeration odd es) h = refl
-    by-shape-same foreign h = refl
-    by-shape-same other h = refl
+    by-shape-same _ h = refl
 
     by-subject-same : (subject : SubjectOf) → ((n : ℕ) → Contains (first_steps subject) n → SameTerm (Some n)) → declaration_by one subject ≡ declaration_by two subject
     by-subject-same (typedef_subject None at) h = refl
@@ -180,10 +157,8 @@ module _ (shapes others : ℕ → ShapeOf) (Good : ℕ → Type 0) (s : AreSame 
     by-subject-same (aggregate_subject word None odd ms) h = refl
     by-subject-same (aggregate_subject word (Some name) odd ms) h = ap (option_map (Aggregate word name)) (members-same ms h)
     by-subject-same (enumeration_subject None odd es) h = refl
-    by-subject-same (enumeration_subject (Some name) odd es) h = refl
     by-subject-same (declared_subject word None) h = refl
-    by-subject-same (declared_subject word (Some name)) h = refl
-    by-subject-same no_subject h = refl
+    by-subject-same _ h = refl
 
   void-term : (k : ℕ) → term_at k shapes None ≡ term_at k others None
   void-term zero = refl
@@ -237,18 +212,14 @@ module _ (shapes others : ℕ → ShapeOf) (subject : SubjectOf) (same : AreSame
   bad-itself no_subject goods h = elim h [ ]
 
   wrong-itself : (s : SubjectOf) → GoodAmong shapes others (IsReached shapes subject) (all-reached shapes others subject same) (types_declared s) → IsUnspeakableItself shapes s → IsUnspeakableItself others s
-  wrong-itself (typedef_subject name at) goods h = absurd h
   wrong-itself (variable_subject name at) goods h =
       void-same shapes others (IsReached shapes subject) (all-reached shapes others subject same) at
       (good-first shapes others (IsReached shapes subject) (all-reached shapes others subject same) at [] goods) h
   wrong-itself (aggregate_subject word name odd ms) goods h =
       any-members shapes others (IsReached shapes subject) (all-reached shapes others subject same) (IsWrongMember shapes) (IsWrongMember others) ms goods
       (member-same shapes others (IsReached shapes subject) (all-reached shapes others subject same)) h
-  wrong-itself (enumeration_subject name odd es) goods h = h
   wrong-itself (declared_subject Enum name) goods h = h
-  wrong-itself (declared_subject Struct name) goods h = absurd h
-  wrong-itself (declared_subject Union name) goods h = absurd h
-  wrong-itself no_subject goods h = absurd h
+  wrong-itself _ goods h = h
 
   pub holds-same : (rule : PrintFault) → Holds shapes subject rule → Holds others subject rule
   holds-same rule (other_kind e) = other_kind e

@@ -10,7 +10,7 @@ use Rattle.std.proofs.lemmas.List.Folds.{list_all-append}
 use Rattle.dw_image.specs.Contributions.{string_at}
 use Rattle.dw_cprint.specs.Legible.{is_word_byte}
 use Rattle.dw_cprint.specs.StringSpans.{AreSpans, IsSpan}
-use Rattle.dw_cprint.specs.declared.string_table.Span.{Span}
+use Rattle.dw_cprint.specs.declared.source.Span.{Span}
 
 module _ {X : Type 0} (p : X → Bool) where
   before-stop : (x : X) (xs : List X) → p x ≡ true → before_first p (x ∷ xs) ≡ []

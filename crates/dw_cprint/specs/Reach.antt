@@ -1,24 +1,24 @@
 -- State: the entries that are reached from some declared ones, and the graph of the steps between them.
-use Rattle.std.specs.Prelude.{◌≡◌, ℕ, ◌<◌, ◌≤◌, ◌++◌, List, length, map, slice_index, Contains}
+use Rattle.std.specs.Prelude.{◌≡◌, ℕ, ◌<◌, ◌++◌, List, length, map, slice_index, All, Contains}
 use Rattle.dw_types.specs.Graphs.{Graph, steps_of}
 use Rattle.dw_cprint.specs.Shapes.{ShapeOf}
 use Rattle.dw_cprint.specs.Steps.{steps_reached, IsReachedFrom}
 
 -- the place of each entry that is found, by its number
 pub record ArePlaces (places found : List ℕ) : Type 0 where
-  pub below : (k : ℕ) → k < length found → slice_index found k < length places
+  pub below : All (λ entry. entry < length places) found
   pub back : (k : ℕ) → k < length found → slice_index places (slice_index found k) ≡ k
 
 -- some entries are found after those that were
 pub record Grows (steps old new : List ℕ) : Type 0 where
-  pub longer : length old ≤ length new
-  pub keeps : (k : ℕ) → k < length old → slice_index new k ≡ slice_index old k
-  pub adds : (k : ℕ) → length old ≤ k → k < length new → Contains steps (slice_index new k)
+  pub more : List ℕ
+  pub is : new ≡ old ++ more
+  pub among : (entry : ℕ) → Contains more entry → Contains steps entry
 
 -- the places of some steps
 pub record IsRow (found steps row : List ℕ) : Type 0 where
   pub leads : map (slice_index found) row ≡ steps
-  pub below : (k : ℕ) → k < length row → slice_index row k < length found
+  pub below : All (λ node. node < length found) row
 
 -- the steps have places
 pub record FindsAll (steps places places' found found' row : List ℕ) : Type 0 where
@@ -39,4 +39,4 @@ pub record IsReachOf (shapes : ℕ → ShapeOf) (roots places found : List ℕ) 
   pub rows : (node : ℕ) → node < length found
       → IsRow found (steps_reached shapes (slice_index found node)) (steps_of graph node)
   pub roots_found : (to : ℕ) → Contains roots to → Contains found to
-  pub reached : (node : ℕ) → node < length found → IsReachedFrom shapes roots (slice_index found node)
+  pub reached : (entry : ℕ) → Contains found entry → IsReachedFrom shapes roots entry

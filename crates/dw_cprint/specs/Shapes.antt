@@ -10,7 +10,7 @@ pub use Rattle.dw_cprint.specs.declared.shape.Bits.{Bits}
 pub use Rattle.dw_cprint.specs.declared.shape.Bits.TheVariants.{Absent, Number, Wrong}
 pub use Rattle.dw_cprint.specs.declared.shape.Parameter.{Parameter}
 pub use Rattle.dw_cprint.specs.declared.shape.Parameter.TheVariants.{Typed, More}
-use Rattle.dw_cprint.specs.declared.text.Text.{Text}
+use Rattle.dw_cprint.specs.declared.words.Text.{Text}
 use Rattle.dw_cprint.specs.declared.shape.Member.{Member}
 use Rattle.dw_cprint.specs.declared.shape.Enumerator.{Enumerator}
 use Rattle.dw_cprint.specs.declared.shape.Shape.{Shape}

@@ -3,7 +3,7 @@ use Rattle.std.specs.Prelude.{◌≡◌, ℕ, ◌+◌, ◌-◌, ◌*◌, ◌/◌
 use Rattle.std.specs.List.{list_all}
 use Rattle.dw_image.specs.Contributions.{string_at}
 use Rattle.dw_cprint.specs.Legible.{is_word_byte}
-use Rattle.dw_cprint.specs.declared.string_table.Span.{Span}
+use Rattle.dw_cprint.specs.declared.source.Span.{Span}
 
 -- what is known of the string at the front of some bytes
 pub record IsSpan (bytes : List ℕ) (span : Span) : Type 0 where

@@ -16,6 +16,13 @@ fn add(a: usize, b: usize) -> usize
     a.saturating_add(b).min(LIMIT + 1)
 }
 
+/// The same number, or one more than the limit, whichever is less.
+pub fn capped(bytes: usize) -> u32
+    ensures { result ≤ bytes }
+{
+    bytes.min(LIMIT + 1) as u32
+}
+
 /// The bytes of a name, if there is one.
 fn name_size(name: Name<'_>) -> usize
     ensures { result ≡ name_size (view_name name.entry) }
@@ -30,7 +37,7 @@ fn name_size(name: Name<'_>) -> usize
 fn member_least(summaries: &Summaries, member: &Member<'_>) -> usize
     ensures { result ≤ least_members (least_known summaries.now) (view_member member.now ∷ []) }
 {
-    let named = add(summaries.of(member.type_at).least, name_size(member.name));
+    let named = add(summaries.least(member.type_at), name_size(member.name));
     add(named, 1)
 }
 
@@ -50,7 +57,7 @@ fn parameter_least(summaries: &Summaries, parameter: Parameter) -> usize
     ensures { result ≤ least_parameters (least_known summaries.now) (parameter ∷ []) }
 {
     match parameter {
-        Parameter::Typed(at) => add(summaries.of(at).least, 1),
+        Parameter::Typed(at) => add(summaries.least(at), 1),
         Parameter::More => 0,
     }
 }
@@ -73,13 +80,13 @@ pub fn least_of(summaries: &Summaries, shape: &Shape<'_>) -> usize
     match shape {
         Shape::Base(name) => name_size(*name),
         Shape::Typedef(name) => name_size(*name),
-        Shape::Qualified(_, at) => summaries.of(*at).least,
-        Shape::Pointer(at) => summaries.of(*at).least,
-        Shape::Array(counts, _, at) => add(counts.len(), summaries.of(*at).least),
-        Shape::Function(at, None) => summaries.of(*at).least,
+        Shape::Qualified(_, at) => summaries.least(*at),
+        Shape::Pointer(at) => summaries.least(*at),
+        Shape::Array(counts, _, at) => add(counts.len(), summaries.least(*at)),
+        Shape::Function(at, None) => summaries.least(*at),
         Shape::Function(at, Some(parameters)) => {
             add(
-                summaries.of(*at).least,
+                summaries.least(*at),
                 parameters_least(summaries, parameters),
             )
         }
@@ -95,8 +102,8 @@ pub fn least_declared(summaries: &Summaries, subject: &Subject<'_>) -> usize
     ensures { result ≤ least_declared (least_known summaries.now) (view_subject subject.now) }
 {
     match subject {
-        Subject::Typedef(_, at) => summaries.of(*at).least,
-        Subject::Variable(_, at) => summaries.of(*at).least,
+        Subject::Typedef(_, at) => summaries.least(*at),
+        Subject::Variable(_, at) => summaries.least(*at),
         Subject::Aggregate(_, _, _, members) => members_least(summaries, members),
         _ => 0,
     }

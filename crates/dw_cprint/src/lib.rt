@@ -4,7 +4,6 @@
 mod bad_names;
 mod body_reader;
 mod declaring;
-mod digits;
 mod draft;
 mod fault;
 mod faults;
@@ -20,17 +19,14 @@ mod reaching;
 mod shape;
 mod shape_reader;
 mod source;
-mod string_table;
 mod subject_reader;
 mod summary;
 mod survey;
-mod text;
 mod unspeakable;
 mod words;
 mod writing;
 
 pub use declaring::declare;
-pub use digits::{digit_of, put_eight_digits};
 pub use dw_image::{EntryId, Image, NoMemory};
 pub use fault::PrintFault;
 pub use laws::{
@@ -39,4 +35,4 @@ pub use laws::{
 };
 pub use listing::{Listing, declare_all};
 pub use source::{Source, Strings};
-pub use text::Text;
+pub use words::{Text, digit_of, put_eight_digits};

@@ -11,18 +11,18 @@ ghost use Rattle.dw_cprint.specs.Shapes.{view_subject};
 ghost use Rattle.dw_cprint.specs.Steps.{first_steps};
 ghost use Rattle.dw_cprint.specs.Surveys.{BySurvey};
 
-use crate::digits::put_eight_digits;
 use crate::draft::Draft;
 use crate::fault::PrintFault;
-use crate::longest::longest_rows;
+use crate::longest::{longest_at, longest_rows};
 use crate::look_ups::{declared_at, has_name, tag_at};
 use crate::shape::Subject;
 use crate::source::{Source, Strings};
 use crate::subject_reader::subject_of;
 use crate::survey::Survey;
+use crate::words::put_eight_digits;
 use dw_entries::constants::*;
 use dw_image::{EntryId, Image, NoMemory};
-use dw_types::clear_nodes;
+use dw_types::{Numbers, clear_nodes};
 use std::alloc::{AllocError, Global};
 
 /// The named types of an image: those that are printed, those that are refused, and the text of both.
@@ -108,9 +108,8 @@ fn subjects_of<'a>(
 }
 
 /// The level of each entry: how many steps by value the longest path from it has.
-fn levels_of(alloc: Global, image: &Image<'_>) -> Result<Vec<usize>, AllocError>
-    ensures entries { IfOk result (λ levels. length levels.items ≡ length (entries_in image.now)) }
-    ensures levels { IfOk result (λ levels. AreLevels image.now (slice_index levels.items)) }
+fn levels_of(alloc: Global, image: &Image<'_>) -> Result<Numbers, AllocError>
+    ensures { IfOk result (λ levels. AreLevels image.now (slice_index levels)) }
 {
     let steps = image.by_value();
     let clear = clear_nodes(alloc, steps)?;
@@ -118,24 +117,14 @@ fn levels_of(alloc: Global, image: &Image<'_>) -> Result<Vec<usize>, AllocError>
     Ok(levels)
 }
 
-/// The level of an entry, 0 where there is none.
-fn level_at(levels: &[usize], id: EntryId) -> usize
-    ensures { result ≡ slice_index levels.now id }
-{
-    match levels.get(id.number()) {
-        Some(level) => *level,
-        None => 0,
-    }
-}
-
 /// Sorts entries, which are in rising offset, by rising level. Those of one level stay in rising offset.
-fn sort_by_level(entries: &mut Vec<EntryId>, levels: &[usize]) -> Result<(), AllocError>
+fn sort_by_level(entries: &mut Vec<EntryId>, levels: &Numbers) -> Result<(), AllocError>
     requires { AllPairs (λ a b. a < b) entries.old.items }
     ensures permutation { IsPermutation entries.old.items entries.new.items }
     ensures sorted { OnOk result
         (AllPairs (λ a b. StandsBefore (slice_index levels.now) a b) entries.new.items) }
 {
-    entries.sort_by_key(|id| level_at(levels, *id))?;
+    entries.sort_by_key(|id| longest_at(levels, id.number()))?;
     Ok(())
 }
 

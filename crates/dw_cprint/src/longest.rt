@@ -5,11 +5,11 @@ ghost use Rattle.dw_types.specs.Cycles.{AreClear};
 ghost use Rattle.dw_types.specs.Graphs.{step_at, steps_of};
 ghost use Rattle.dw_cprint.specs.LongestRows.{AreLongest, IsAbove};
 
-use dw_types::{Order, StepGraph};
+use dw_types::{Numbers, Order, StepGraph};
 use std::alloc::{AllocError, Global};
 
 /// One more than the largest count at the steps of a node, and 0 if it has none.
-fn one_above<G: StepGraph>(graph: &G, counts: &[usize], node: usize) -> usize
+fn one_above<G: StepGraph>(graph: &G, counts: &Numbers, node: usize) -> usize
     requires node { node < length (G.graph graph.now) }
     requires counts { length counts.now ≡ length (G.graph graph.now) }
     requires fits { (k : ℕ) → k < length (steps_of (G.graph graph.now) node)
@@ -18,7 +18,7 @@ fn one_above<G: StepGraph>(graph: &G, counts: &[usize], node: usize) -> usize
 {
     let mut most = 0;
     for k in 0..graph.steps(node) {
-        let count = counts[graph.step(node, k)] + 1;
+        let count = counts.get(graph.step(node, k)) + 1;
         if most < count {
             most = count;
         }
@@ -31,17 +31,26 @@ pub fn longest_rows<G: StepGraph>(
     alloc: Global,
     graph: &G,
     clear: &Order,
-) -> Result<Vec<usize>, AllocError>
+) -> Result<Numbers, AllocError>
     requires { AreClear (G.graph graph.now) clear.now.by_rank }
-    ensures nodes { IfOk result (λ counts. length counts.items ≡ length (G.graph graph.now)) }
-    ensures longest { IfOk result (λ counts. AreLongest (G.graph graph.now) clear.now.by_rank
-        (slice_index counts.items)) }
+    ensures { IfOk result (λ counts. AreLongest (G.graph graph.now) clear.now.by_rank (slice_index counts)) }
 {
-    let mut counts = vec![in alloc; 0; graph.nodes()]?;
+    let mut counts = Numbers::zeros(alloc, graph.nodes())?;
     for rank in 0..clear.count() {
         let node = clear.node(rank);
-        let most = one_above(graph, counts.as_slice(), node);
-        counts[node] = most;
+        let most = one_above(graph, &counts, node);
+        counts.set(alloc, node, most)?;
     }
     Ok(counts)
+}
+
+/// The count of a node; 0 where there is none.
+pub fn longest_at(counts: &Numbers, node: usize) -> usize
+    ensures { result ≡ slice_index counts.now node }
+{
+    if node < counts.len() {
+        counts.get(node)
+    } else {
+        0
+    }
 }

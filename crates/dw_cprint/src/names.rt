@@ -6,62 +6,25 @@ ghost use Rattle.dw_cprint.specs.Declarations.{parts_of, word_of, words_of};
 ghost use Rattle.dw_cprint.specs.Legible.{is_identifier, is_keyword, is_word_byte};
 ghost use Rattle.dw_cprint.specs.Wrong.{is_base_name};
 
-use crate::text::Text;
+use crate::words::Text;
 
-/// The keywords of C11.
-const KEYWORDS: [&str; 44] = [
-    "auto",
-    "break",
-    "case",
-    "char",
-    "const",
-    "continue",
-    "default",
-    "do",
-    "double",
-    "else",
-    "enum",
-    "extern",
-    "float",
-    "for",
-    "goto",
-    "if",
-    "inline",
-    "int",
-    "long",
-    "register",
-    "restrict",
-    "return",
-    "short",
-    "signed",
-    "sizeof",
-    "static",
-    "struct",
-    "switch",
-    "typedef",
-    "union",
-    "unsigned",
-    "void",
-    "volatile",
-    "while",
-    "_Alignas",
-    "_Alignof",
-    "_Atomic",
-    "_Bool",
-    "_Complex",
-    "_Generic",
-    "_Imaginary",
-    "_Noreturn",
-    "_Static_assert",
-    "_Thread_local",
+/// The keywords of C11, except the longest.
+const KEYWORDS: [&str; 40] = [
+    "auto", "break", "case", "char", "const", "continue", "default", "do", "double", "else",
+    "enum", "extern", "float", "for", "goto", "if", "inline", "int", "long", "register",
+    "restrict", "return", "short", "signed", "sizeof", "static", "struct", "switch", "typedef",
+    "union", "unsigned", "void", "volatile", "while", "_Alignas", "_Alignof", "_Atomic", "_Bool",
+    "_Complex", "_Generic",
 ];
 
+/// The longest keywords of C11.
+const LONG_KEYWORDS: [&str; 4] = ["_Imaginary", "_Noreturn", "_Static_assert", "_Thread_local"];
+
 /// Whether the text is a keyword of C.
-#[tactic(auto, unfolding(crate::specs::Legible::is_keyword))]
 fn is_keyword_text(word: &[u8]) -> bool
     ensures { result ≡ is_keyword word.now }
 {
-    is_one_of(word, &KEYWORDS)
+    is_one_of(word, &KEYWORDS) || is_one_of(word, &LONG_KEYWORDS)
 }
 
 /// Whether the text is one of these.

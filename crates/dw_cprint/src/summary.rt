@@ -4,11 +4,11 @@ ghost use Rattle.std.specs.Prelude.{◌≡◌, ◌<◌, ℕ, List, Some, length,
 ghost use Rattle.dw_cprint.specs.Shapes.{ShapeOf, view_shape};
 ghost use Rattle.dw_cprint.specs.Steps.{types_reached};
 ghost use Rattle.dw_cprint.specs.Summaries.{AreNodes, AreRight, HaveSummaries, IsBase, IsSummary, Knows, known_of};
-ghost use Rattle.dw_cprint.specs.Summaries.{summary_at};
+ghost use Rattle.dw_cprint.specs.Summaries.{least_known, summary_at};
 
 use crate::faults::{Faults, faults_of};
 use crate::kinds::{TypeKind, kind_of};
-use crate::least::least_of;
+use crate::least::{capped, least_of};
 use crate::shape::{Shape, TypeAt};
 use dw_types::Order;
 use std::alloc::{AllocError, Global};
@@ -21,8 +21,8 @@ pub struct Summary {
     pub base: TypeKind,
     /// What is wrong with an entry that it reaches, or with itself.
     pub faults: Faults,
-    /// How many bytes its text has at least.
-    pub least: usize,
+    /// How many bytes its text has at least, up to one more than the limit.
+    pub least: u32,
 }
 
 /// What is known of void.
@@ -72,6 +72,13 @@ impl Summaries {
             None => VOID,
         }
     }
+
+    /// How many bytes the text of a type has at least.
+    pub fn least(&self, at: TypeAt) -> usize
+        ensures { result ≡ least_known self.now at }
+    {
+        self.of(at).least as usize
+    }
 }
 
 /// The kind of the type under the row of qualifiers that begins with this shape.
@@ -100,7 +107,7 @@ fn summary_of(
         kind: kind_of(shape),
         base: base_of(summaries, shape),
         faults,
-        least: least_of(summaries, shape),
+        least: capped(least_of(summaries, shape)),
     })
 }
 

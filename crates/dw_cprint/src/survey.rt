@@ -1,25 +1,26 @@
 //! What some declarations need, found once for all of them: what they reach, what of that reaches a cycle, and what is
 //! known of the rest.
 
-ghost use Rattle.std.specs.Prelude.{◌≡◌, ◌↔◌, ◌<◌, length, map, All, IfOk, IsTrue};
+ghost use Rattle.std.specs.Prelude.{◌≡◌, ◌<◌, length, map, nat_le, All, IfOk};
+ghost use Rattle.std.specs.List.{list_any};
 ghost use Rattle.dw_image.specs.Images.{entries_in};
 ghost use Rattle.dw_cprint.specs.EntryShapes.{shape_in};
 ghost use Rattle.dw_cprint.specs.Judgements.{IsJudgement, IsRefusalBelow};
 ghost use Rattle.dw_cprint.specs.Shapes.{view_subject};
-ghost use Rattle.dw_cprint.specs.Steps.{IsDeepFrom, ReachACycle, entries_of, first_steps, roots_of, types_declared};
-ghost use Rattle.dw_cprint.specs.Surveys.{BySurvey, IsSurveyOf, depth_at};
+ghost use Rattle.dw_cprint.specs.Steps.{first_steps, roots_of, types_declared};
+ghost use Rattle.dw_cprint.specs.Surveys.{BySurvey, IsSurveyOf, depth_at, lacks_summary};
 
 use crate::draft::{Draft, LIMIT};
 use crate::fault::PrintFault;
 use crate::faults::subject_faults;
 use crate::least::least_declared;
-use crate::longest::longest_rows;
+use crate::longest::{longest_at, longest_rows};
 use crate::reaching::{all_types, declared_types, reach};
 use crate::shape::{Shape, Subject, TypeAt};
 use crate::source::Source;
 use crate::summary::{Summaries, summarize};
 use dw_image::Image;
-use dw_types::clear_nodes;
+use dw_types::{Numbers, clear_nodes};
 use std::alloc::{AllocError, Global};
 
 /// The most spelling steps of a path that is printed.
@@ -31,7 +32,7 @@ pub struct Survey<'a> {
     pub shapes: Vec<Shape<'a>>,
     pub summaries: Summaries,
     /// How many steps the longest path from each node has that reaches no cycle.
-    depths: Vec<usize>,
+    depths: Numbers,
 }
 
 impl<'a> Survey<'a> {
@@ -60,45 +61,31 @@ impl<'a> Survey<'a> {
         })
     }
 
-    /// How many steps the longest path from an entry has.
-    fn depth(&self, entry: usize) -> usize
-        ensures { result ≡ depth_at self.now entry }
+    /// How many steps the longest path from a type has, if it reaches no cycle.
+    fn depth(&self, at: TypeAt) -> usize
+        ensures { result ≡ depth_at self.now at }
     {
-        match self.summaries.places.get(entry) {
-            Some(place) => match self.depths.get(*place as usize) {
-                Some(depth) => *depth,
-                None => 0,
-            },
+        match at {
             None => 0,
+            Some(entry) => match self.summaries.places.get(entry) {
+                None => 0,
+                Some(place) => longest_at(&self.depths, *place as usize),
+            },
         }
     }
 
     /// Whether one of these types reaches a cycle.
     fn reaches_cycle(&self, types: &[TypeAt]) -> bool
-        ensures { BySurvey self.now (entries_of types.now) (λ shapes. IsTrue result
-            ↔ ReachACycle shapes (entries_of types.now)) }
+        ensures { result ≡ list_any (lacks_summary self.now) types.now }
     {
-        for at in types {
-            if self.summaries.get(*at).is_none() {
-                return true;
-            }
-        }
-        false
+        types.iter().any(|at| self.summaries.get(*at).is_none())
     }
 
     /// Whether a path of more than 64 steps begins with one to these types, of which none reaches a cycle.
     fn is_deep(&self, types: &[TypeAt]) -> bool
-        ensures { BySurvey self.now (entries_of types.now) (λ shapes. (ReachACycle shapes (entries_of types.now) → ⊥)
-            → IsTrue result ↔ IsDeepFrom shapes (entries_of types.now)) }
+        ensures { result ≡ list_any (λ at. nat_le 64 (depth_at self.now at)) types.now }
     {
-        for at in types {
-            if let Some(entry) = *at {
-                if self.depth(entry) >= STEP_LIMIT {
-                    return true;
-                }
-            }
-        }
-        false
+        types.iter().any(|at| self.depth(*at) >= STEP_LIMIT)
     }
 
     /// Why a declaration is refused by what it leads to, if it is: by one of the first five refusals.

@@ -31,7 +31,7 @@ impl Numbers {
     }
 
     /// The number 0 so many times.
-    pub(crate) fn zeros(alloc: Global, count: usize) -> Result<Self, AllocError>
+    pub fn zeros(alloc: Global, count: usize) -> Result<Self, AllocError>
         ensures { IfOk result (λ it. it ≡ replicate count 0) }
     {
         Ok(Numbers {
@@ -133,7 +133,7 @@ impl Numbers {
 
     /// Writes a number at a place.
     #[inline]
-    pub(crate) fn set(
+    pub fn set(
         &mut self,
         alloc: Global,
         place: usize,

@@ -1,5 +1,6 @@
-use Rattle.dw_cprint.proofs.NamedTypeLemmas.{AreNamedBelow}
+use Rattle.std.proofs.Common.{◌≡◌}
+use Rattle.dw_cprint.proofs.NamedTypeLemmas.{named_below}
 use Rattle.dw_cprint.proofs.listing.named_types.Given as goal
 
 abbrev pub invariant-loop-k : goal.invariant-loop-k
-invariant-loop-k l = AreNamedBelow l.image l.k l.named.items
+invariant-loop-k l = l.named.items ≡ named_below l.image l.k

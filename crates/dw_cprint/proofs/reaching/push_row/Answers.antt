@@ -1,5 +1,6 @@
-use Rattle.std.proofs.Common.{ℕ, ◌<◌, ◌+◌, [], ◌∷◌, ◌++◌, length, arith, List, Option, refl, sym, ap, ◌∙◌, take, append-nil, append_assoc, Vec}
+use Rattle.std.proofs.Common.{ℕ, ◌<◌, ◌+◌, [], ◌∷◌, ◌++◌, length, arith, List, Option, Some, None, refl, sym, ap, ◌∙◌, take, append-nil, append_assoc, Vec}
 use Rattle.std.specs.Global.{Global}
+use Rattle.std.proofs.lemmas.List.{get_or_default}
 use Rattle.std.proofs.lemmas.List.Elements.{All-contains}
 use Rattle.dw_cprint.specs.Steps.{entries_of}
 use Rattle.dw_cprint.proofs.PlaceLemmas.{finds-none, finds-both, entries-take, entry-among, finds-as}
@@ -12,7 +13,7 @@ loop-at-init c = ([], finds-none c.args.places.now.items c.args.found.now c.requ
 pub place_of-requires-clause-within : goal.place_of-requires-clause-within
 place_of-requires-clause-within c =
     let types = c.args.types.now in
-    let below = All-contains (λ to. to < length c.args.places.now.items) (entries_of types) c.in-Some.entry c.requires.within (entry-among types c.loop-at.at-index c.in-Some.entry c.loop-at-test.true (c.in-Some.is)) in
+    let below = All-contains (λ to. to < length c.args.places.now.items) (entries_of types) c.in-Some.entry c.requires.within (entry-among types c.in-Some.entry (c.loop-at.at-index, c.loop-at-test.true, get_or_default types c.loop-at.at-index (Some c.in-Some.entry) None c.loop-at-test.true ∙ c.in-Some.is)) in
     let same = c.loop-at.invariant.1.len in
     omega arith
 

@@ -1,3 +1,4 @@
+use Rattle.std.proofs.Common.{arith}
 use Rattle.dw_cprint.specs.Declarations.{term_at}
 use Rattle.dw_cprint.specs.Least.{least_in}
 use Rattle.dw_cprint.specs.Shapes.{view_shape}
@@ -12,5 +13,5 @@ returns c = λ shapes entry is known.
     let s = view_shape c.args.shape.now in
     let n = least_known c.args.summaries.now in
     entry_summary shapes entry s _ is c.kind_of.ensures (c.base_of.ensures shapes entry is known) (c.in_ok-faults.ensures shapes entry is known)
-    (λ k t e. fewer-least t (least_in n s) c.least_of.result c.least_of.ensures
+    (λ k t e. fewer-least t (least_in n s) c.capped.result (omega (arith, c.capped.ensures, c.least_of.ensures))
     (shape-least (term_at k shapes) n s t (knows-counts shapes c.args.summaries.now k (types_reached s) known) e))

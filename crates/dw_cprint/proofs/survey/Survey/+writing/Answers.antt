@@ -11,7 +11,7 @@ use Rattle.dw_cprint.specs.Kept.{WritesParameters, WritesEnumerators}
 use Rattle.dw_cprint.specs.Shapes.{Qualifier, Parameter, Typed, MemberOf, ShapeOf, pointer, array, function}
 use Rattle.dw_cprint.specs.Shapes.{EnumeratorOf, view_name, view_shape, view_member, view_enumerator, parameter_items}
 use Rattle.dw_cprint.specs.Terms.{Term}
-use Rattle.dw_cprint.specs.declared.text.Text.{Text}
+use Rattle.dw_cprint.specs.declared.words.Text.{Text}
 use Rattle.dw_cprint.specs.Tokens.{VoidWord, TagWord, RightBrace, spelling, text_of}
 use Rattle.dw_cprint.specs.Writing.{count_tokens, qualifying, name_tokens}
 use Rattle.dw_cprint.proofs.OptionLemmas.{ok_then}

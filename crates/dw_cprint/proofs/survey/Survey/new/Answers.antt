@@ -1,6 +1,5 @@
-use Rattle.std.proofs.Common.{◌≡◌, ℕ, ◌<◌, List, length, map, get_or, ap, sym, ◌∙◌, subst, arith}
-use Rattle.std.proofs.lemmas.List.{length-map}
-use Rattle.std.proofs.lemmas.Option.{slice_get-get_or, same_Some}
+use Rattle.std.proofs.Common.{ℕ, List, length, map, ap, sym, ◌∙◌, subst, arith}
+use Rattle.std.proofs.lemmas.List.{get_or_default, length-map}
 use Rattle.dw_types.specs.Packing.{cut}
 use Rattle.dw_cprint.specs.EntryShapes.{shape_in}
 use Rattle.dw_cprint.specs.Reach.{IsReachOf}
@@ -12,11 +11,6 @@ use Rattle.dw_cprint.specs.declared.survey.Survey.{Survey}
 use Rattle.dw_cprint.proofs.SurveyLemmas.{survey-done, nodes-of}
 use Rattle.dw_cprint.proofs.survey.Survey.new.Goals as goal
 
--- a number of a list does not depend on what stands for none
-any_default : (xs : List ℕ) (k d e : ℕ) → k < length xs → get_or xs k d ≡ get_or xs k e
-any_default xs k d e below =
-    same_Some (get_or xs k d) (get_or xs k e) (sym (slice_get-get_or xs k d below) ∙ slice_get-get_or xs k e below)
-
 pub summarize-requires : goal.summarize-requires
 summarize-requires c =
     let r = c.in_ok-reached.reached in
@@ -24,7 +18,7 @@ summarize-requires c =
     let shapes = shape_in c.args.source.now.image.now in
     λ k d below.
     let within = c.in_ok-clear.ensures.within k below in
-    let same = any_default clear k d 0 below in
+    let same = get_or_default clear k d 0 below in
     let nodes = c.in_ok-reached.ensures.reach.nodes in
     let long = ap length c.in_ok-reached.ensures.shapes in
     let kept = ap length c.deref-2.ensures.value in
@@ -46,4 +40,4 @@ returns c =
     let nodes = nodes-of shapes roots r.places.items r.found graph reach r.shapes.items clear c.in_ok-reached.ensures.shapes c.in_ok-clear.ensures in
     let right = c.in_ok-summaries.ensures.right shapes r.found (subst N (sym c.deref-2.ensures.value) nodes) in
     survey-done shapes roots r.places.items r.found graph reach s c.in_ok-summaries.ensures.places clear c.in_ok-summaries.ensures.clear
-    c.in_ok-reached.ensures.shapes c.in_ok-reached.ensures.fit right c.in_ok-clear.ensures c.in_ok-depths.ensures.nodes c.in_ok-depths.ensures.longest
+    c.in_ok-reached.ensures.shapes c.in_ok-reached.ensures.fit right c.in_ok-clear.ensures c.in_ok-depths.ensures

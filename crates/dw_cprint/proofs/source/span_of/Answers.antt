@@ -1,7 +1,7 @@
 use Rattle.std.proofs.Common.{ℕ, List, ◌∙◌, ap, refl}
 use Rattle.dw_image.specs.Contributions.{string_at}
 use Rattle.dw_cprint.proofs.SpanLemmas.{span-front, span-joined}
-use Rattle.dw_cprint.proofs.string_table.span_of.Goals as goal
+use Rattle.dw_cprint.proofs.source.span_of.Goals as goal
 
 pub returns-then-front-offset : goal.returns-then-front-offset
 returns-then-front-offset c =

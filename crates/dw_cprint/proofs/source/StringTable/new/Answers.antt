@@ -1,5 +1,5 @@
 use Rattle.dw_cprint.proofs.SpanLemmas.{span-before, spans-more}
-use Rattle.dw_cprint.proofs.string_table.StringTable.new.Goals as goal
+use Rattle.dw_cprint.proofs.source.StringTable.new.Goals as goal
 
 pub span_of-span-requires-clause-next : goal.span_of-span-requires-clause-next
 span_of-span-requires-clause-next c =

@@ -1,5 +1,5 @@
 use Rattle.dw_cprint.proofs.SpanLemmas.{SpansTo}
-use Rattle.dw_cprint.proofs.string_table.StringTable.new.Given as goal
+use Rattle.dw_cprint.proofs.source.StringTable.new.Given as goal
 
 abbrev pub invariant-loop-k : goal.invariant-loop-k
 invariant-loop-k l = SpansTo l.section l.k l.spans.items l.span

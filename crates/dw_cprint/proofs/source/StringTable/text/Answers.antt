@@ -1,5 +1,5 @@
 use Rattle.dw_cprint.proofs.SpanLemmas.{text-next}
-use Rattle.dw_cprint.proofs.string_table.StringTable.text.Goals as goal
+use Rattle.dw_cprint.proofs.source.StringTable.text.Goals as goal
 
 pub span_of-span-requires-clause-next : goal.span_of-span-requires-clause-next
 span_of-span-requires-clause-next c =
