@@ -1,3 +1,2 @@
 pub mod ObjectLemmas
 pub mod ShownLemmas
-pub mod GlyphLemmas

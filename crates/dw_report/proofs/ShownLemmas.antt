@@ -1,18 +1,45 @@
--- The line of an entry, and the lines of the entries so far.
-use Rattle.std.proofs.Common.{◌≡◌, ℕ, zero, suc, ◌+◌, ◌<◌, List, [], ◌∷◌, ◌++◌, length, take, Option, Some, None, IfSome, refl, sym, ap, ◌∙◌, append_assoc, append-nil, arith}
+-- The line of an entry, the lines of the entries so far, and the bytes of a name as they are shown.
+use Rattle.std.proofs.Common.{◌≡◌, ℕ, zero, suc, ◌+◌, ◌<◌, List, [], ◌∷◌, ◌++◌, length, slice_index, take, drop, Option, Some, None, IfSome, refl, sym, ap, ◌∙◌, append_assoc, append-nil, arith}
 use Rattle.std.specs.Prelude.{slice_get}
-use Rattle.std.specs.List.{enumerate_from, flat_map}
+use Rattle.std.specs.List.{enumerate_from, flat_map, All}
+use Rattle.std.proofs.lemmas.List.{take-append-drop, drop_more}
+use Rattle.std.proofs.lemmas.List.Concat.{flat_map-append}
 use Rattle.dw_entries.specs.declared.lookup.Head.{Head}
 use Rattle.dw_entries.specs.Entries.{Entry}
 use Rattle.dw_entries.specs.Lookups.{full_head}
 use Rattle.dw_image.specs.declared.image.Image.{Image}
 use Rattle.dw_image.specs.Images.{name_in}
 use Rattle.dw_image.proofs.LookupLemmas.{slice_get_none}
-use Rattle.dw_report.specs.Shown.{shown_line, shown_size, entry_line}
+use Rattle.dw_report.specs.Shown.{glyph, shown_line, entry_size, entry_line}
+
+-- bytes that are shown as they are
+pub glyphs_plain : (xs : List ℕ) → All (λ b. glyph b ≡ b ∷ []) xs → flat_map glyph xs ≡ xs
+glyphs_plain [] plain = refl
+glyphs_plain (x ∷ xs) plain =
+    ap (λ u. u ++ flat_map glyph xs) (plain 0 x (omega arith))
+    ∙ ap (λ u. x ∷ u) (glyphs_plain xs (λ k d below. plain (suc k) d (omega arith)))
+
+-- such bytes, the escape of the next one, and the rest
+pub glyphs_split : (text copied new escape rest : List ℕ) (at : ℕ) → at < length rest
+    → All (λ b. glyph b ≡ b ∷ []) (take at rest) → glyph (slice_index rest at) ≡ escape
+    → copied ≡ text ++ take at rest → new ≡ copied ++ escape
+    → new ++ flat_map glyph (drop (at + 1) rest) ≡ text ++ flat_map glyph rest
+glyphs_split text copied new escape rest at within plain escaped is_copied is_new =
+    let after = flat_map glyph (drop (at + 1) rest) in
+    let parts : flat_map glyph rest ≡ take at rest ++ (escape ++ after) =
+    ap (flat_map glyph) (sym (take-append-drop at rest))
+    ∙ flat_map-append glyph (take at rest) (drop at rest)
+    ∙ ap (λ u. u ++ flat_map glyph (drop at rest)) (glyphs_plain (take at rest) plain)
+    ∙ ap (λ u. take at rest ++ flat_map glyph u) (drop_more rest at 0 within)
+    ∙ ap (λ u. take at rest ++ (u ++ after)) escaped in
+    ap (λ u. u ++ after) (is_new ∙ ap (λ u. u ++ escape) is_copied)
+    ∙ append_assoc (text ++ take at rest) escape after
+    ∙ append_assoc text (take at rest) (escape ++ after)
+    ∙ ap (λ u. text ++ u) (sym parts)
 
 -- what the look-ups of an entry tell makes its line
 pub entry_line_told : (i : Image) (number : ℕ) (found : Option Entry) (head : Head) (name : Option (List ℕ)) (size : Option ℕ)
-    (old new : List ℕ) → IfSome found (λ e. head ≡ full_head e) → IfSome found (λ e. name ≡ name_in i e) → IfSome found (λ e. size ≡ shown_size i number e)
+    (old new : List ℕ) → IfSome found (λ e. head ≡ full_head e) → IfSome found (λ e. name ≡ name_in i e) → IfSome found (λ e. size ≡ entry_size i number e)
     → new ≡ old ++ shown_line head.offset head.depth head.tag name size → IfSome found (λ e. new ≡ old ++ entry_line i (number, e))
 unfolding entry_line
 entry_line_told i number None head name size old new is_head is_name is_size is = tt
@@ -35,7 +62,7 @@ more_lines f (x ∷ es) n (suc k) e there =
     ap (λ l. f (n, x) ++ l) (more_lines f es (n + 1) k e there ∙ ap (λ m. flat_map f (take k (enumerate_from (n + 1) es)) ++ f (m, e)) at)
     ∙ sym (append_assoc (f (n, x)) _ _)
 
--- the line of the entry with the number k stands behind those before it
+-- the line of the entry with the number k comes after those before it
 pub one_more_line : (f : ℕ × Entry → List ℕ) (es : List Entry) (k : ℕ) (first old new : List ℕ) → k < length es
     → IfSome (slice_get es k) (λ e. new ≡ old ++ f (k, e)) → old ≡ first ++ flat_map f (take k (enumerate_from 0 es))
     → new ≡ first ++ flat_map f (take (k + 1) (enumerate_from 0 es))

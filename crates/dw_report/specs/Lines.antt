@@ -1,5 +1,5 @@
--- Chapter: the lines of a report.
-use Rattle.std.specs.Prelude.{ℕ, List, [], ◌∷◌, ◌++◌, codes}
+-- Chapter: the lines of a report, and the digits of numbers in them.
+use Rattle.std.specs.Prelude.{ℕ, nat_lt, if◌then◌else◌, List, [], ◌∷◌, ◌++◌, codes}
 use Rattle.std.specs.List.{flat_map}
 use Rattle.std.specs.Fmt.{decimal}
 use Rattle.dw_elf.specs.declared.fault.ElfFault.{ElfFault}
@@ -7,7 +7,14 @@ use Rattle.dw_elf.specs.RuleTexts as elf
 use Rattle.dw_entries.specs.declared.fault.Fault.{Fault}
 use Rattle.dw_entries.specs.RuleTexts.{code_text, name_text, section_text}
 use Rattle.dw_cprint.specs.Digits.{places}
-use Rattle.dw_report.specs.Digits.{hex}
+
+-- the digits of a number of 16 bits, without leading zeros
+unfoldable pub hex : ℕ → List ℕ
+hex n =
+    if nat_lt n 16 then places 1 n
+    else if nat_lt n 256 then places 2 n
+    else if nat_lt n 4096 then places 3 n
+    else places 4 n
 
 -- a text that ends with a line feed
 abbrev pub line : List ℕ → List ℕ

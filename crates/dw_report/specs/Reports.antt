@@ -47,7 +47,7 @@ abbrev pub counts_text : (json : Bool) → Counts → List ℕ
 counts_text true c = object_line (sound_object c.units c.entries c.types)
 counts_text false c = sound_line c.units c.entries c.types
 
--- what is returned and written of sound sections: their counts, or what is asked of an image of them
+-- what is returned and written of sound sections: their counts, or what is requested of an image of them
 pub data SoundReport (s : Sections) : Request → Status → List ℕ → Type 0 where
   counted : (json : Bool) (c : Counts) → AreCounts s c → SoundReport s (Check json) Sound (counts_text json c)
   shown : (i : Image) → IsImageOf s i → SoundReport s Show Sound (show_lines i)

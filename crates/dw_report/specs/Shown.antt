@@ -36,12 +36,12 @@ unfoldable pub shown_line : (offset depth tag : ℕ) → (name : Option (List �
 shown_line offset depth tag name size = line (entry_part offset depth tag ++ name_part name ++ size_part size)
 
 -- the size of the entry with a number, if it is a type and has one
-unfoldable pub shown_size : Image → ℕ → Entry → Option ℕ
-shown_size i number e = if is_type_entry e then size_table_in i number else None
+unfoldable pub entry_size : Image → ℕ → Entry → Option ℕ
+entry_size i number e = if is_type_entry e then size_table_in i number else None
 
 -- the line of an entry and its number
 unfoldable pub entry_line : Image → ℕ × Entry → List ℕ
-entry_line i (number, e) = shown_line e.at e.depth e.head.decl.tag (name_in i e) (shown_size i number e)
+entry_line i (number, e) = shown_line e.at e.depth e.head.decl.tag (name_in i e) (entry_size i number e)
 
 -- a line for each entry, in order
 unfoldable pub show_lines : Image → List ℕ

@@ -1,7 +1,6 @@
 //! The text for a request over the bytes of a file, and how the request ends.
 #![tactic(auto)]
 
-mod digits;
 mod json;
 mod lines;
 mod reporting;
@@ -11,3 +10,4 @@ mod shown;
 pub use dw_image::NoMemory;
 pub use reporting::{Answer, longest_file, report};
 pub use request::{Request, Status};
+pub use shown::size_of_entry;

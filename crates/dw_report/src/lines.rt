@@ -1,12 +1,13 @@
-//! The lines of a report, one function a kind of line or part.
+//! The lines of a report, one function a kind of line or part, and the digits of numbers.
 
 ghost use Rattle.std.specs.Prelude.{◌≡◌, ◌++◌, OnOk};
 ghost use Rattle.std.specs.List.{flat_map};
+ghost use Rattle.std.specs.Fmt.{decimal};
+ghost use Rattle.dw_cprint.specs.Digits.{places};
 ghost use Rattle.dw_report.specs.Lines.{offset_text, sound_line, elf_fault_line, fault_lines, cycle_line, cycle_offset};
-ghost use Rattle.dw_report.specs.Lines.{rule_part, place_part};
+ghost use Rattle.dw_report.specs.Lines.{rule_part, place_part, hex};
 
-use crate::digits::{put_decimal, put_hex};
-use dw_cprint::put_eight_digits;
+use dw_cprint::{digit_of, put_eight_digits};
 use dw_elf::ElfFault;
 use dw_image::Fault;
 use dw_units::Counts;
@@ -23,27 +24,17 @@ pub fn put_offset(text: &mut Vec<u8>, n: u32) -> Result<(), AllocError>
 
 /// `sound: U units, E entries, T types`.
 #[tactic(auto, unfolding(crate::specs::Lines::sound_line))]
-fn put_counts(text: &mut Vec<u8>, units: u64, entries: u64, types: u64) -> Result<(), AllocError>
-    ensures ok { OnOk result (text.new.items ≡ text.old.items ++ sound_line units entries types) }
-{
-    text.extend_from_slice(b"sound: ")?;
-    put_decimal(text, units)?;
-    text.extend_from_slice(b" units, ")?;
-    put_decimal(text, entries)?;
-    text.extend_from_slice(b" entries, ")?;
-    put_decimal(text, types)?;
-    text.extend_from_slice(b" types\n")
-}
-
-/// The line of sound sections.
 pub fn put_sound_line(text: &mut Vec<u8>, counts: Counts) -> Result<(), AllocError>
     ensures ok { OnOk result (text.new.items
         ≡ text.old.items ++ sound_line counts.units counts.entries counts.types) }
 {
-    let units = counts.units as u64;
-    let entries = counts.entries as u64;
-    let types = counts.types as u64;
-    put_counts(text, units, entries, types)
+    text.extend_from_slice(b"sound: ")?;
+    put_decimal(text, counts.units as u64)?;
+    text.extend_from_slice(b" units, ")?;
+    put_decimal(text, counts.entries as u64)?;
+    text.extend_from_slice(b" entries, ")?;
+    put_decimal(text, counts.types as u64)?;
+    text.extend_from_slice(b" types\n")
 }
 
 /// `fault RULE NAME`.
@@ -127,4 +118,58 @@ pub fn put_fault_lines(text: &mut Vec<u8>, fault: &Fault) -> Result<(), AllocErr
     put_place(text, section, fault.at, fault.attribute)?;
     text.extend_from_slice(b"\n")?;
     put_cycle_line(text, fault.cycle.as_slice())
+}
+
+/// Appends two hexadecimal digits of a number.
+pub fn put_two_digits(text: &mut Vec<u8>, n: u8) -> Result<(), AllocError>
+    ensures ok { OnOk result (text.new.items ≡ text.old.items ++ places 2 n) }
+{
+    let n = u32::from(n);
+    text.extend_from_slice(&[digit_of(n / 0x10 % 16), digit_of(n % 16)])
+}
+
+/// Appends four hexadecimal digits of a number.
+pub fn put_four_digits(text: &mut Vec<u8>, n: u16) -> Result<(), AllocError>
+    ensures ok { OnOk result (text.new.items ≡ text.old.items ++ places 4 n) }
+{
+    let n = u32::from(n);
+    text.extend_from_slice(&[
+        digit_of(n / 0x1000 % 16),
+        digit_of(n / 0x100 % 16),
+        digit_of(n / 0x10 % 16),
+        digit_of(n % 16),
+    ])
+}
+
+/// Appends the hexadecimal digits of a number, without leading zeros.
+#[tactic(auto, unfolding(crate::specs::Lines::hex))]
+fn put_hex(text: &mut Vec<u8>, n: u16) -> Result<(), AllocError>
+    ensures ok { OnOk result (text.new.items ≡ text.old.items ++ hex n) }
+{
+    let n = u32::from(n);
+    let fourth = digit_of(n % 16);
+    if n < 0x10 {
+        return text.extend_from_slice(&[fourth]);
+    }
+    let third = digit_of(n / 0x10 % 16);
+    if n < 0x100 {
+        return text.extend_from_slice(&[third, fourth]);
+    }
+    let second = digit_of(n / 0x100 % 16);
+    if n < 0x1000 {
+        return text.extend_from_slice(&[second, third, fourth]);
+    }
+    text.extend_from_slice(&[digit_of(n / 0x1000 % 16), second, third, fourth])
+}
+
+/// Appends a number in decimal.
+#[tactic(auto, using(std::proofs::lemmas::Fmt::decimal_digit, std::proofs::lemmas::Fmt::decimal_step))]
+pub fn put_decimal(text: &mut Vec<u8>, n: u64) -> Result<(), AllocError>
+    ensures ok { OnOk result (text.new.items ≡ text.old.items ++ decimal n) }
+{
+    if n < 10 {
+        return text.extend_from_slice(&[b'0' + n as u8]);
+    }
+    put_decimal(text, n / 10)?;
+    text.extend_from_slice(&[b'0' + (n % 10) as u8])
 }

@@ -3,13 +3,12 @@
 ghost use Rattle.std.specs.Prelude.{◌≡◌, ◌<◌, ◌++◌, ◌∷◌, [], ◌*◌, codes, length, slice_get, slice_index, take};
 ghost use Rattle.std.specs.Prelude.{replicate, option_copied, All, MatchBool, IfNone, IfSome, IfOk, OnOk};
 ghost use Rattle.std.specs.List.{flat_map};
-ghost use Rattle.dw_cprint.specs.Digits.{places};
 ghost use Rattle.dw_image.specs.Images.{entries_in};
-ghost use Rattle.dw_report.specs.Shown.{glyph, name_part, size_part, entry_part, shown_line, shown_size, entry_line};
+ghost use Rattle.dw_cprint.specs.Digits.{places};
+ghost use Rattle.dw_report.specs.Shown.{glyph, name_part, size_part, entry_part, shown_line, entry_size, entry_line};
 ghost use Rattle.dw_report.specs.Shown.{show_lines, size_line, size_text, size_status, type_at_offset};
 
-use crate::digits::{put_decimal, put_four_digits, put_two_digits};
-use crate::lines::put_offset;
+use crate::lines::{put_decimal, put_four_digits, put_offset, put_two_digits};
 use crate::request::Status;
 use dw_image::{EntryId, Head, Image, TypeId};
 use std::alloc::AllocError;
@@ -18,7 +17,7 @@ use std::alloc::AllocError;
 fn put_indent(text: &mut Vec<u8>, depth: usize) -> Result<(), AllocError>
     ensures ok { OnOk result (text.new.items ≡ text.old.items ++ replicate (2 * depth) 32) }
 {
-    // A length that saturates is more than a vector can have, so its growth is refused.
+    // A length that saturates is more than a vector can have, so `resize` returns an error.
     let len = text.len().saturating_add(depth.saturating_mul(2));
     text.resize(len, b' ')
 }
@@ -118,10 +117,10 @@ fn put_shown_line(
 }
 
 /// The size of an entry, if it is a type and has one.
-#[tactic(auto, unfolding(crate::specs::Shown::shown_size))]
-fn size_of_entry(image: &Image<'_>, id: EntryId) -> Option<u64>
+#[tactic(auto, unfolding(crate::specs::Shown::entry_size))]
+pub fn size_of_entry(image: &Image<'_>, id: EntryId) -> Option<u64>
     requires { id < length (entries_in image.now) }
-    ensures { IfSome (slice_get (entries_in image.now) id) (λ e. result ≡ shown_size image.now id e) }
+    ensures { IfSome (slice_get (entries_in image.now) id) (λ e. result ≡ entry_size image.now id e) }
 {
     match image.type_at(id) {
         Some(of_type) => image.size_of(of_type),

@@ -2,7 +2,7 @@ use Rattle.std.proofs.Common.{◌+◌, ◌++◌, ap, sym, ◌∙◌, rules}
 use Rattle.std.proofs.lemmas.List.{take_rest}
 use Rattle.std.specs.List.{flat_map}
 use Rattle.dw_report.specs.Shown.{glyph}
-use Rattle.dw_report.proofs.GlyphLemmas.{glyphs_plain, glyphs_split}
+use Rattle.dw_report.proofs.ShownLemmas.{glyphs_plain, glyphs_split}
 use Rattle.dw_report.proofs.shown.put_glyphs.Goals as goal
 
 pub loop-at-preserved : goal.loop-at-preserved

@@ -1,7 +1,7 @@
 use Rattle.std.proofs.Common.{arith, append_assoc}
 use Rattle.std.proofs.lemmas.Grind.{common_steps}
 use Rattle.std.proofs.lemmas.Fmt.{decimal_step}
-use Rattle.dw_report.proofs.digits.+put_decimal.Goals as goal
+use Rattle.dw_report.proofs.lines.+put_decimal.Goals as goal
 
 pub returns : goal.returns
 returns t c =
