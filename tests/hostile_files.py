@@ -30,6 +30,14 @@ TABLES = 40_000
 DECLARATIONS = 1 << 19
 # Tables that begin inside declarations of another one.
 INSIDE = 16_000
+# Tables that begin inside the attributes of one declaration.
+INSIDE_ATTRIBUTES = 8_000
+# Declarations with codes of ten bytes, at each of which a table begins, and the attributes that each declaration has.
+LONG_CODES = 40_000
+LONG_CODES_ATTRIBUTES = 35
+# Bytes of memory for each byte of .debug_abbrev, and seconds, that tables may take which overlap in these ways.
+OVERLAP_MEMORY = 80
+OVERLAP_TIME = 5
 # Bytes after each of many tables that no unit names.
 UNNAMED = 66
 # Seconds of processor time and bytes of memory that runs with limits of their own may take.
@@ -274,6 +282,35 @@ def inside():
         sections = [(".debug_abbrev", row), (".debug_info", some)]
         yield (f"{INSIDE:,} units with tables inside declarations, {order}", sections,
                f"sound: {INSIDE} units, {INSIDE} entries, 0 types")
+
+
+def inside_attributes():
+    """Units with a table at every second attribute of one declaration: the number in its specification is a code."""
+    row, starts = bytearray(b"\x09\x34\0"), []
+    for n in range(INSIDE_ATTRIBUTES):
+        # An attribute in the form implicit_const with the number 5, and one in the form addr. In the table that begins
+        # at the number, 5 is a code, the attribute after it is a tag, and the form says that there are children.
+        row += uleb(128 + 2 * n) + b"\x21"
+        starts.append(len(row))
+        row += b"\x05" + uleb(129 + 2 * n) + b"\x01"
+    row += b"\0\0" + b"\x01\x11\0\0\0" + b"\0"
+    units = b"".join(unit(b"\x01", table=start) for start in starts)
+    return (f"{INSIDE_ATTRIBUTES:,} units with tables inside the attributes of one declaration", bytes(row), units,
+            INSIDE_ATTRIBUTES)
+
+
+def inside_codes():
+    """Units with a table at each byte of the codes of declarations with many attributes."""
+    flags = b"".join(uleb(1 + n) + b"\x19" for n in range(LONG_CODES_ATTRIBUTES)) + b"\0\0"
+    row, starts = bytearray(), []
+    for n in range(LONG_CODES):
+        code = uleb(n * 0x9e3779b97f4a7c15 % 2**63 + 2**63)
+        starts += [len(row) + k for k in range(len(code))]
+        row += code + b"\x34\0" + flags
+    row += b"\x03\x11\0\0\0" + b"\0"
+    units = b"".join(unit(b"\x03", table=start) for start in starts)
+    count = len(starts)
+    return f"{count:,} units with tables inside {LONG_CODES:,} codes of ten bytes", bytes(row), units, count
 
 
 def flagged():
@@ -539,14 +576,17 @@ def asking(command, *words, **limits):
     return ask
 
 
-def kept_within(memory):
-    """What returns what `check` says of a file, or the bytes of memory that it had, if it had more than these."""
+def kept_within(memory, seconds=LIMIT):
+    """What returns what `check` says of a file, or what it took: its bytes of memory or its seconds of processor time,
+    if it took more than these."""
     def ask(path):
         with subprocess.Popen([DWV, "check", path], stdout=subprocess.PIPE, text=True) as run:
             text = run.stdout.read()
             _, run.returncode, used = os.wait4(run.pid, 0)
-        had = used.ru_maxrss << 10
-        return text if had <= memory else f"{had} bytes of memory\n"
+        had, took = used.ru_maxrss << 10, used.ru_utime + used.ru_stime
+        if had > memory:
+            return f"{had} bytes of memory\n"
+        return text if took <= seconds else f"{took:.1f} seconds\n"
 
     return ask
 
@@ -587,6 +627,10 @@ def runs():
             yield name, elf(sections), check_soon, want
     for name, sections, memory in coded():
         yield name, elf(sections), kept_within(memory), "sound: 1 units, 1 entries, 0 types"
+    for name, row, units, count in (inside_attributes(), inside_codes()):
+        yield (name, elf([(".debug_abbrev", row), (".debug_info", units)]),
+               kept_within(len(row) * OVERLAP_MEMORY + PROGRAM_MEMORY + len(units), OVERLAP_TIME),
+               f"sound: {count} units, {count} entries, 0 types")
     count = SIGNED * DECLARED
     yield (f"{SIGNED:,} type units and {count:,} declared structures", elf(signed()),
            asking("check", memory=SOON_MEMORY, seconds=SIGNED_TIME),

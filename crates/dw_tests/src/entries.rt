@@ -111,26 +111,28 @@ fn units(rt: HostRuntime) -> Result<(), Fail> {
     Ok(())
 }
 
-/// Three compile units without attributes, with the codes 1, 2 and 3, at 0, 5 and 10.
-const ROW: [u8; 16] = [1, 0x11, 0, 0, 0, 2, 0x11, 0, 0, 0, 3, 0x11, 0, 0, 0, 0];
-
-/// Three with the codes 129, 130 and 131 of two bytes, at 0, 6 and 12. The second bytes start declarations of code 1.
-const INSIDE: [u8; 19] = [
-    0x81, 1, 0x11, 0, 0, 0, 0x82, 1, 0x11, 0, 0, 0, 0x83, 1, 0x11, 0, 0, 0, 0,
+/// Three compile units with one attribute each and the codes 1, 2 and 3, at 0, 7 and 14.
+const ROW: [u8; 22] = [
+    1, 0x11, 0, 0x3c, 0x19, 0, 0, 2, 0x11, 0, 0x3c, 0x19, 0, 0, 3, 0x11, 0, 0x3c, 0x19, 0, 0, 0,
 ];
 
-/// Tables that share declarations: the section, of each unit the offset of its table and the code of its one entry, and
-/// how many declarations are kept.
-const SHARED: [(&[u8], &[(u8, u8)], usize); 9] = [
-    (&ROW, &[(0, 3), (5, 3), (10, 3), (0, 1), (5, 2)], 3),
-    (&ROW, &[(10, 3), (5, 3), (0, 3), (0, 1), (5, 2)], 3),
-    (&ROW, &[(5, 3), (0, 3), (10, 3), (0, 1), (5, 2)], 3),
-    (&ROW, &[(5, 3), (10, 3), (0, 3), (0, 1), (5, 2)], 3),
-    (&ROW, &[(10, 3), (0, 3), (5, 3), (0, 1), (5, 2)], 3),
-    (&INSIDE, &[(0, 129), (1, 1), (0, 131), (1, 130)], 4),
-    (&INSIDE, &[(0, 129), (7, 1), (0, 130), (7, 131)], 4),
-    (&INSIDE, &[(1, 1), (0, 129), (1, 131), (0, 130)], 4),
-    (&INSIDE, &[(7, 1), (1, 1), (7, 131), (1, 130)], 4),
+/// Three with the codes 129, 130 and 131 of two bytes, at 0, 8 and 16. The second bytes start declarations of code 1.
+const INSIDE: [u8; 25] = [
+    0x81, 1, 0x11, 0, 0x3c, 0x19, 0, 0, 0x82, 1, 0x11, 0, 0x3c, 0x19, 0, 0, 0x83, 1, 0x11, 0, 0x3c, 0x19, 0, 0, 0,
+];
+
+/// Tables that share declarations or their attributes, of which there are three: the section, and of each unit the
+/// offset of its table and the code of its one entry.
+const SHARED: [(&[u8], &[(u8, u8)]); 9] = [
+    (&ROW, &[(0, 3), (7, 3), (14, 3), (0, 1), (7, 2)]),
+    (&ROW, &[(14, 3), (7, 3), (0, 3), (0, 1), (7, 2)]),
+    (&ROW, &[(7, 3), (0, 3), (14, 3), (0, 1), (7, 2)]),
+    (&ROW, &[(7, 3), (14, 3), (0, 3), (0, 1), (7, 2)]),
+    (&ROW, &[(14, 3), (0, 3), (7, 3), (0, 1), (7, 2)]),
+    (&INSIDE, &[(0, 129), (1, 1), (0, 131), (1, 130)]),
+    (&INSIDE, &[(0, 129), (9, 1), (0, 130), (9, 131)]),
+    (&INSIDE, &[(1, 1), (0, 129), (1, 131), (0, 130)]),
+    (&INSIDE, &[(9, 1), (1, 1), (9, 131), (1, 130)]),
 ];
 
 /// Units of 14 bytes with an entry each. The codes have two bytes.
@@ -146,17 +148,17 @@ fn units_of(alloc: Global, rows: &[(u8, u8)]) -> Result<Vec<u8>, AllocError> {
 /// The unit of an entry, and the code of its declaration.
 fn unit_and_code(entries: &Entries<'_>, number: usize) -> Option<(usize, u64)> {
     let id = entries.nth(number)?;
-    Some((entries.unit_of(id), entries.decl(id).code))
+    Some((entries.unit_of(id), entries.decl(id).code()))
 }
 
 #[test]
 fn shared_declarations(rt: HostRuntime) -> Result<(), Fail> {
-    for (table, rows, kept) in &SHARED {
+    for (table, rows) in &SHARED {
         let info = units_of(rt.alloc(), rows)?;
         let entries = scanned(rt.alloc(), table, &info)?;
         assert_eq!(rt;
-            (entries.unit_count(), entries.decls().len()),
-            (rows.len(), *kept)
+            (entries.unit_count(), entries.decls().spec_count()),
+            (rows.len(), 3)
         );
         for (number, (_, code)) in rows.iter().enumerate() {
             let want = (number, u64::from(*code));
