@@ -10,6 +10,17 @@ use dw_elf::Sections;
 use dw_image::NoMemory;
 use std::alloc::Global;
 
+/// How many bytes of memory `keep_memory` asks for.
+const KEPT: usize = 4 << 20;
+
+/// Asks for memory and gives it back, so that what one unit gives back is used again for the next one. The C library
+/// keeps up to twice as much from then on (mallopt(3), `M_TRIM_THRESHOLD`), and the system does not clear its pages once
+/// more. It does no harm if there is no such memory.
+fn keep_memory(alloc: Global) {
+    let mut room: Vec<u8> = Vec::new(alloc);
+    let _ = room.reserve(KEPT);
+}
+
 /// The counts of sound sections, if each unit is valid alone and refers to no other unit. None if that is not so, or if
 /// `verify` costs less: for one unit, and for units whose abbreviation tables are large. None says nothing.
 pub fn count_by_unit<'a>(alloc: Global, sections: &Sections<'a>) -> Result<Option<Counts>, NoMemory>
@@ -18,6 +29,7 @@ pub fn count_by_unit<'a>(alloc: Global, sections: &Sections<'a>) -> Result<Optio
     if !are_apart(sections) {
         return Ok(None);
     }
+    keep_memory(alloc);
     let mut rest = sections.info;
     let mut counts = Counts {
         units: 0,

@@ -7,9 +7,6 @@ use byteorder::{ByteOrder, LittleEndian};
 use dw_elf::Sections;
 use dw_forms::{Form, read_sleb, read_uleb};
 
-/// What it costs to start with a unit, in bytes of tables that could be read instead: the marks of 64 KiB are made.
-const UNIT_COST: usize = 2_048;
-
 /// The size of the unit at the front, by its unit_length. None if the bytes end before.
 pub fn unit_size(info: &[u8]) -> Option<usize>
     ensures { IfSome result (λ n. (0 < n) × (n ≤ length info.now)) }
@@ -109,13 +106,13 @@ fn after_unit<'a>(
     }
     let table = table_size(&sections.abbrev[offset..])?;
     let budget = budget.saturating_add(size / 16);
-    let left = budget.checked_sub(table.saturating_add(UNIT_COST))?;
+    let left = budget.checked_sub(table)?;
     Some((&rest[size..], left))
 }
 
 /// Whether to verify each unit alone: there are several, no form of their tables may lead to another unit, and what
-/// each unit costs besides its bytes is little beside them. The tables may have the bytes of .debug_abbrev, and one
-/// more for each 16 bytes of the units so far; `UNIT_COST` is added for each table.
+/// each unit costs besides its bytes is little beside them: the tables may have the bytes of .debug_abbrev, and one more
+/// for each 16 bytes of the units so far.
 pub fn are_apart(sections: &Sections<'_>) -> bool {
     if !ends_with_zero(sections.str) || !ends_with_zero(sections.line_str) {
         return false;
