@@ -13,13 +13,13 @@ use Rattle.dw_forms.specs.declared.abbrev_fault.DeclError.TheVariants as errors
 use Rattle.dw_forms.specs.AbbrevReading.{FailsOrMemory, pair_at}
 use Rattle.dw_forms.specs.Chains.{Numbered, items_of}
 use Rattle.dw_forms.specs.AttributeLists.{specs_of, numbered_in, list_in, IsLast, AddedSpec}
-use Rattle.dw_forms.specs.Offsets.{BeginsAt}
+use Rattle.dw_forms.specs.Offsets.{BeginsAt, NothingAt}
 use Rattle.dw_forms.specs.TableStarts.{IfBroken}
-use Rattle.dw_forms.specs.ListOffsets.{IsListAt, ArePlaced, NoListAt, AreAfter, Leads, StayNodes}
+use Rattle.dw_forms.specs.ListOffsets.{IsListAt, ArePlaced, AreNew, NoListAt, AreAfter, Leads, StayNodes}
 use Rattle.dw_forms.proofs.ChainLaws.{chain_none}
 use Rattle.dw_forms.proofs.ListLaws.{rest_of, taken, pair_takes, pair_code, list_more, list_end, none_before, none_twice, none_broken}
 use Rattle.dw_forms.proofs.NodeLaws.{old_list, new_list}
-use Rattle.dw_forms.proofs.OffsetLaws.{begins_within}
+use Rattle.dw_forms.proofs.OffsetLaws.{begins_within, nothing_push, few_push}
 
 -- ---- what stays
 
@@ -49,9 +49,10 @@ nodes_on old middle new first second = (first.0 ++ second.0, second.1 ∙ ap (λ
 -- ---- one attribute more
 
 -- the lists stay where they are, and so does one more
-pub placed_more : (section : List ℕ) (nodes : List Node) (n : Node) (starts ends : List ℕ) (at end : ℕ) → ArePlaced section nodes starts ends → IsListAt section (nodes ++ n ∷ []) at (suc (length nodes)) end
+pub placed_more : (section : List ℕ) (nodes : List Node) (n : Node) (starts ends : List ℕ) (at end : ℕ) → ArePlaced section nodes starts ends → NothingAt starts at → at < length section → IsListAt section (nodes ++ n ∷ []) at (suc (length nodes)) end
     → ArePlaced section (nodes ++ n ∷ []) (starts ++ at ∷ []) (ends ++ end ∷ [])
-placed_more section nodes n starts ends at end placed is = record {
+placed_more section nodes n starts ends at end placed nothing less_at is = record {
+  few = few_push starts at (length section) placed.few nothing less_at;
   starts_long = omega (arith, placed.starts_long, length-append starts (at ∷ []), length-append nodes (n ∷ []));
   ends_long = omega (arith, placed.ends_long, length-append ends (end ∷ []), length-append nodes (n ∷ []));
   lists = λ k less. elim (cases_eq k (length nodes)) [
@@ -77,6 +78,22 @@ module _ (section : List ℕ) where
       → AreAfter section pairs offset p.at × (pair_at [] (drop p.at section) ≡ Ok (Some p.spec, drop end section))
   after_pop [] offset end p a = (sym a.0, ap (λ (n : ℕ). pair_at [] (drop n section)) a.0 ∙ a.2 ∙ ap (λ (n : ℕ). Ok (Some p.spec, drop n section)) a.3)
   after_pop (x ∷ pairs) offset end p a = let r = after_pop pairs a.1 end p a.3 in ((a.0, a.1, a.2, r.0), r.1)
+
+  -- an attribute ends after its offset
+  pair_rises : (offset next : ℕ) (spec : AttributeSpec) → pair_at [] (drop offset section) ≡ Ok (Some spec, drop next section) → offset < next
+  pair_rises offset next spec e = let less = pair_takes (drop offset section) (drop next section) spec e in omega (arith, less, length-drop offset section, length-drop next section)
+
+  after_on : (pairs : List Pair) (offset end : ℕ) → AreAfter section pairs offset end → offset ≤ end
+  after_on [] offset end here = omega (arith, here)
+  after_on (p ∷ pairs) offset end a = let less = pair_rises offset a.1 p.spec a.2 in let on = after_on pairs a.1 end a.3 in omega (arith, less, on)
+
+  -- attributes before an offset are new when a list begins there
+  new_stay : (starts : List ℕ) (pairs : List Pair) (offset end : ℕ) → AreAfter section pairs offset end → AreNew starts pairs → AreNew (starts ++ end ∷ []) pairs
+  new_stay starts [] offset end a new = tt
+  new_stay starts (p ∷ pairs) offset end a new =
+      let less = pair_rises offset a.1 p.spec a.2 in
+      let on = after_on pairs a.1 end a.3 in
+      (nothing_push starts end p.at new.0 (λ e. omega (arith, e, a.0, less, on)), new_stay starts pairs a.1 end a.3 new.1)
 
   -- where no list begins after attributes, none begins with them
   pub none_after : (pairs : List Pair) (offset end : ℕ) → AreAfter section pairs offset end → NoListAt section end → NoListAt section offset
@@ -110,11 +127,21 @@ module _ (section : List ℕ) where
       turn_list : IsListAt section new at number end
       turn_list = subst (λ (n : ℕ). IsListAt section new at n end) (sym added.1) (subst (λ (ns : List Node). IsListAt section ns at (suc (length old)) end) (sym last.nodes) here)
 
-      turn_placed : (starts ends : List ℕ) → ArePlaced section old starts ends → ArePlaced section new (starts ++ at ∷ []) (ends ++ end ∷ [])
-      turn_placed starts ends placed = subst (λ (ns : List Node). ArePlaced section ns (starts ++ at ∷ []) (ends ++ end ∷ [])) (sym last.nodes) (placed_more section old last.node starts ends at end placed here)
+      turn_placed : (starts ends : List ℕ) → ArePlaced section old starts ends → NothingAt starts at → at < length section → ArePlaced section new (starts ++ at ∷ []) (ends ++ end ∷ [])
+      turn_placed starts ends placed nothing less = subst (λ (ns : List Node). ArePlaced section ns (starts ++ at ∷ []) (ends ++ end ∷ [])) (sym last.nodes) (placed_more section old last.node starts ends at end placed nothing less here)
 
       turn_stay : StayNodes old new
       turn_stay = (last.node ∷ [], last.nodes)
+
+-- ---- attributes with which no list begins
+
+pub new_pair : (starts : List ℕ) (pairs : List Pair) (p : Pair) → AreNew starts pairs → NothingAt starts p.at → AreNew starts (pairs ++ p ∷ [])
+new_pair starts [] p new nothing = (nothing, tt)
+new_pair starts (x ∷ pairs) p new nothing = (new.0, new_pair starts pairs p new.1 nothing)
+
+new_pop : (starts : List ℕ) (pairs : List Pair) (p : Pair) → AreNew starts (pairs ++ p ∷ []) → AreNew starts pairs × NothingAt starts p.at
+new_pop starts [] p new = (tt, new.0)
+new_pop starts (x ∷ pairs) p new = let r = new_pop starts pairs p new.1 in ((new.0, r.0), r.1)
 
 -- ---- a turn: the last attribute before a list, and the list
 
@@ -133,12 +160,17 @@ module _ (section : List ℕ) (old new : List Node) (offset : ℕ) (all left : L
   pub no_list : AddedSpec p.spec list.first old new None → NoListAt section offset
   no_list added = none_after section left offset p.at popped.0 (turn_none section old new p.at leads.0 list.first list.end p.spec popped.1 leads.2 added)
 
+  pub next_new : (starts : List ℕ) → AreNew starts all → NothingAt starts p.at × AreNew (starts ++ p.at ∷ []) left
+  next_new starts are =
+      let r = new_pop starts left p (subst (AreNew starts) parts are) in
+      (r.1, new_stay section starts left offset p.at popped.0 r.0)
+
   module _ (number : ℕ) (added : AddedSpec p.spec list.first old new (Some number)) where
     pub next_leads : Leads section new left offset (record { first = number; end = list.end })
     next_leads = (p.at, popped.0, turn_list section old new p.at leads.0 list.first list.end p.spec popped.1 leads.2 number pair_before.0 added)
 
-    pub next_placed : (starts ends : List ℕ) → ArePlaced section old starts ends → ArePlaced section new (starts ++ p.at ∷ []) (ends ++ list.end ∷ [])
-    next_placed = turn_placed section old new p.at leads.0 list.first list.end p.spec popped.1 leads.2 number pair_before.0 added
+    pub next_placed : (starts ends : List ℕ) → ArePlaced section old starts ends → NothingAt starts p.at → ArePlaced section new (starts ++ p.at ∷ []) (ends ++ list.end ∷ [])
+    next_placed starts ends placed nothing = turn_placed section old new p.at leads.0 list.first list.end p.spec popped.1 leads.2 number pair_before.0 added starts ends placed nothing pair_before.1
 
     pub next_stay : StayNodes old new
     next_stay = turn_stay section old new p.at leads.0 list.first list.end p.spec popped.1 leads.2 number pair_before.0 added

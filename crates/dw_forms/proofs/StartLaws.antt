@@ -11,12 +11,13 @@ use Rattle.dw_forms.specs.Chains.{Numbered, items_of, chain_in}
 use Rattle.dw_forms.specs.AbbrevReading.{has_code, decl_at}
 use Rattle.dw_forms.specs.AttributeLists.{HasList}
 use Rattle.dw_forms.specs.KeptDecls.{Tables, kept_view, table_in, tables_of}
-use Rattle.dw_forms.specs.TableStarts.{IsTableIn, AreStarts, Stay, NoTable, AreBehind, GoesOn, Added}
+use Rattle.dw_forms.specs.Offsets.{NothingAt}
+use Rattle.dw_forms.specs.TableStarts.{IsTableIn, AreStarts, AreNew, Stay, NoTable, AreBehind, GoesOn, Added}
 use Rattle.dw_forms.proofs.Keys.{Lacks, lacks_from, lacks_test}
 use Rattle.dw_forms.proofs.DeclLaws.{code_of_decl}
 use Rattle.dw_forms.proofs.KeptLaws.{tables_long, table_none}
-use Rattle.dw_forms.proofs.OffsetLaws.{begins_within}
-use Rattle.dw_forms.proofs.TailLaws.{table_more, none_twice, behind_pop, none_behind, table_allowed, table_fewer}
+use Rattle.dw_forms.proofs.OffsetLaws.{begins_within, nothing_push, few_push}
+use Rattle.dw_forms.proofs.TailLaws.{table_more, none_twice, decl_takes, behind_on, behind_pop, none_behind, table_allowed, table_fewer}
 
 -- ---- what stays
 
@@ -37,8 +38,9 @@ is_table_stays section old new offset number stay is = record {
 
 -- one start more, with its table
 pub starts_more : (section : List ℕ) (old new : Tables) (starts : List ℕ) (start number : ℕ) → AreStarts section old starts → Stay old new → length new ≡ suc (length old) → number ≡ length old → IsTableIn section new start number
-    → AreStarts section new (starts ++ start ∷ [])
-starts_more section old new starts start number are stay long number_is here = record {
+    → NothingAt starts start → start < length section → AreStarts section new (starts ++ start ∷ [])
+starts_more section old new starts start number are stay long number_is here nothing less_start = record {
+  few = few_push starts start (length section) are.few nothing less_start;
   long = omega (arith, are.long, long, length-append starts (start ∷ []));
   each = λ k less. elim (cases_eq k (length starts)) [
     | inl same ↦
@@ -51,6 +53,24 @@ starts_more section old new starts start number are stay long number_is here = r
         rw start_is (is_table_stays section old new (get_or starts k 0) (suc k) stay (are.each k before))
   ];
 }
+
+-- ---- declarations with which no table begins
+
+pub new_decl : (starts : List ℕ) (xs : List Started) (s : Started) → AreNew starts xs → NothingAt starts s.start → AreNew starts (xs ++ s ∷ [])
+new_decl starts [] s new nothing = (nothing, tt)
+new_decl starts (x ∷ xs) s new nothing = (new.0, new_decl starts xs s new.1 nothing)
+
+new_pop : (starts : List ℕ) (xs : List Started) (s : Started) → AreNew starts (xs ++ s ∷ []) → AreNew starts xs × NothingAt starts s.start
+new_pop starts [] s new = (tt, new.0)
+new_pop starts (x ∷ xs) s new = let r = new_pop starts xs s new.1 in ((new.0, r.0), r.1)
+
+-- declarations before an offset are new when a table begins there
+new_stay : (nodes : List Node) (section starts : List ℕ) (xs : List Started) (offset end : ℕ) → AreBehind nodes section xs offset end → AreNew starts xs → AreNew (starts ++ end ∷ []) xs
+new_stay nodes section starts [] offset end p new = tt
+new_stay nodes section starts (x ∷ xs) offset end p new =
+    let less = decl_takes section offset p.2 (kept_view nodes x.decl) p.3 in
+    let on = behind_on section nodes xs p.2 end p.4 in
+    (nothing_push starts end x.start new.0 (λ e. omega (arith, e, p.0, less.0, on)), new_stay nodes section starts xs p.2 end p.4 new.1)
 
 -- ---- one declaration more
 
@@ -82,6 +102,12 @@ module _ (nodes : List Node) (section : List ℕ) (kept new : List KeptDecl) (ta
   turn_none added =
       none_behind section nodes rest offset s.start popped.0
       (none_twice section s.start leads.0 (kept_view nodes s.decl) (table_in (tables_of nodes kept) table) popped.2 leads.2.table (code_twice s.decl.code (table_in (tables_of nodes kept) table) added.0))
+
+  pub turn_new : (starts : List ℕ) → AreNew starts all → NothingAt starts s.start × (s.start < length section) × AreNew (starts ++ s.start ∷ []) rest
+  turn_new starts are =
+      let r = new_pop starts rest s (subst (AreNew starts) parts are) in
+      let less = decl_takes section s.start leads.0 (kept_view nodes s.decl) popped.2 in
+      (r.1, less.1, new_stay nodes section starts rest offset s.start popped.0 r.0)
 
   module _ (number : ℕ) (added : Added (kept_view nodes s.decl) table (tables_of nodes kept) (tables_of nodes new) (Some number)) where
     pub turn_stay : Stay (tables_of nodes kept) (tables_of nodes new)

@@ -139,6 +139,14 @@ module _ (section : List ℕ) where
       let long : length (drop offset section) ≡ length t.text + length (drop next section) = ap length t.parts ∙ length-append t.text (drop next section) in
       (omega (arith, some, long, length-drop offset section, length-drop next section), omega (arith, some, long, length-drop offset section, length-drop next section))
 
+  -- they end at their offset or after it
+  pub behind_on : (nodes : List Node) (xs : List Started) (offset end : ℕ) → AreBehind nodes section xs offset end → offset ≤ end
+  behind_on nodes [] offset end here = omega (arith, here)
+  behind_on nodes (x ∷ xs) offset end p =
+      let less = decl_takes offset p.2 (kept_view nodes x.decl) p.3 in
+      let on = behind_on nodes xs p.2 end p.4 in
+      omega (arith, less.0, on)
+
   -- one more behind them
   pub behind_push : (nodes : List Node) (xs : List Started) (offset end next : ℕ) (s : Started) → AreBehind nodes section xs offset end → s.start ≡ end → HasList nodes s.decl.first s.decl.step
       → decl_at [] (drop end section) ≡ Ok (Some (kept_view nodes s.decl), drop next section) → AreBehind nodes section (xs ++ s ∷ []) offset next

@@ -7,6 +7,7 @@ use Rattle.dw_forms.specs.declared.list_reader.Pair.{Pair}
 use Rattle.dw_forms.specs.declared.list_reader.ReadList.{ReadList}
 use Rattle.dw_forms.specs.AbbrevReading.{pair_at, attributes_of}
 use Rattle.dw_forms.specs.AttributeLists.{list_in}
+use Rattle.dw_forms.specs.Offsets.{NothingAt, AreFew}
 
 -- the list of this number begins at an offset of the section, and ends before another
 pub record IsListAt (section : List ℕ) (nodes : List Node) (offset number end : ℕ) : Type 0 where
@@ -15,11 +16,12 @@ pub record IsListAt (section : List ℕ) (nodes : List Node) (offset number end 
   pub rises : offset < end
   pub fits : end ≤ length section
 
--- each list has an offset at which it begins and one at which it ends
+-- each list has an offset of its own at which it begins, and one at which it ends
 pub record ArePlaced (section : List ℕ) (nodes : List Node) (starts ends : List ℕ) : Type 0 where
   pub starts_long : length starts ≡ length nodes
   pub ends_long : length ends ≡ length nodes
   pub lists : (k : ℕ) → k < length nodes → IsListAt section nodes (get_or starts k 0) (suc k) (get_or ends k 0)
+  pub few : AreFew (length section) starts
 
 -- no list begins at this offset of the section
 abbrev pub NoListAt : List ℕ → ℕ → Type 0
@@ -32,6 +34,11 @@ AreAfter section [] offset end = offset ≡ end
 AreAfter section (p ∷ pairs) offset end =
     (p.at ≡ offset) × (next : ℕ) × (pair_at [] (drop offset section) ≡ Ok (Some p.spec, drop next section))
     × AreAfter section pairs next end
+
+-- no list that is kept begins with one of the attributes
+abbrev pub AreNew : List ℕ → List Pair → Type 0
+AreNew starts [] = Unit {0}
+AreNew starts (p ∷ pairs) = NothingAt starts p.at × AreNew starts pairs
 
 -- the attributes go on as a list that is kept
 abbrev pub Leads : List ℕ → List Node → List Pair → ℕ → ReadList → Type 0

@@ -1,5 +1,6 @@
 -- State: what begins at which offset of a section. What begins there is numbered from 1.
-use Rattle.std.specs.Prelude.{◌≡◌, ℕ, ◌<◌, ◌-◌, List, get_or, slice_get, Some, All}
+use Rattle.std.specs.Prelude.{◌≡◌, ℕ, zero, suc, ◌+◌, ◌<◌, ◌≤◌, ◌-◌, Bool, false, true, ◌==◌, if◌then◌else◌}
+use Rattle.std.specs.Prelude.{List, [], ◌∷◌, length, get_or, slice_get, Some, All}
 
 -- what has this number begins at this offset
 abbrev pub BeginsAt : List ℕ → ℕ → ℕ → Type 0
@@ -12,3 +13,30 @@ AreBefore end starts = All (λ start. start < end) starts
 -- each number that is entered at an offset is that of what begins there
 abbrev pub AreEntered : List ℕ → List ℕ → Type 0
 AreEntered starts numbers = (offset : ℕ) → 0 < get_or numbers offset 0 → BeginsAt starts (get_or numbers offset 0) offset
+
+-- the first so many of the offsets have their numbers
+abbrev pub HaveNumbers : ℕ → List ℕ → List ℕ → Type 0
+HaveNumbers entered starts numbers = (k : ℕ) → k < entered → 0 < get_or numbers (get_or starts k 0) 0
+
+-- the offsets from this one on have their numbers
+abbrev pub AreKnownFrom : ℕ → List ℕ → List ℕ → Type 0
+AreKnownFrom from starts numbers = (k : ℕ) → k < length starts → from ≤ get_or starts k 0
+    → 0 < get_or numbers (get_or starts k 0) 0
+
+-- nothing begins at this offset
+abbrev pub NothingAt : List ℕ → ℕ → Type 0
+NothingAt starts offset = (k : ℕ) → k < length starts → get_or starts k 0 ≡ offset → ⊥
+
+-- whether something begins at an offset
+unfoldable pub begins : List ℕ → ℕ → Bool
+begins [] offset = false
+begins (start ∷ starts) offset = if start == offset then true else begins starts offset
+
+-- at how many offsets before this one something begins
+unfoldable pub starts_below : List ℕ → ℕ → ℕ
+starts_below starts zero = 0
+starts_below starts (suc offset) = (if begins starts offset then 1 else 0) + starts_below starts offset
+
+-- each thing begins at an offset of its own before this one, so there are no more of them than offsets
+abbrev pub AreFew : ℕ → List ℕ → Type 0
+AreFew end starts = length starts ≤ starts_below starts end

@@ -11,17 +11,18 @@ use Rattle.dw_forms.specs.AbbrevReading.{has_code, decl_at, table_at}
 use Rattle.dw_forms.specs.Chains.{chain_in}
 use Rattle.dw_forms.specs.AttributeLists.{HasList}
 use Rattle.dw_forms.specs.KeptDecls.{Tables, kept_view, table_in}
-use Rattle.dw_forms.specs.Offsets.{BeginsAt}
+use Rattle.dw_forms.specs.Offsets.{BeginsAt, NothingAt, AreFew}
 
 -- the table that begins at this offset of the section is the one of this number
 pub record IsTableIn (section : List ℕ) (tables : Tables) (offset number : ℕ) : Type 0 where
   pub within : number < length tables
   pub table : table_at section offset ≡ Ok (table_in tables number)
 
--- each table of a declaration begins at its offset
+-- each table of a declaration begins at its offset, which is no other one's
 pub record AreStarts (section : List ℕ) (tables : Tables) (starts : List ℕ) : Type 0 where
   pub long : suc (length starts) ≡ length tables
   pub each : (k : ℕ) → k < length starts → IsTableIn section tables (get_or starts k 0) (suc k)
+  pub few : AreFew (length section) starts
 
 -- the old tables keep their numbers
 abbrev pub Stay : Tables → Tables → Type 0
@@ -39,6 +40,11 @@ AreBehind nodes section (s ∷ rest) offset end =
     (s.start ≡ offset) × HasList nodes s.decl.first s.decl.step × (next : ℕ)
     × (decl_at [] (drop offset section) ≡ Ok (Some (kept_view nodes s.decl), drop next section))
     × AreBehind nodes section rest next end
+
+-- no table that is kept begins with one of the declarations
+abbrev pub AreNew : List ℕ → List Started → Type 0
+AreNew starts [] = Unit {0}
+AreNew starts (s ∷ rest) = NothingAt starts s.start × AreNew starts rest
 
 -- the table that begins at this offset was kept, or it has no declarations
 abbrev pub GoesOn : List ℕ → List ℕ → ℕ → ℕ → Type 0

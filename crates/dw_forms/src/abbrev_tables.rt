@@ -10,7 +10,8 @@ ghost use Rattle.dw_forms.specs.AttributeLists.{HasList};
 ghost use Rattle.dw_forms.specs.Chains.{chain_in};
 ghost use Rattle.dw_forms.specs.KeptDecls.{kept_view, view, table_in, tables_of, number_in};
 ghost use Rattle.dw_forms.specs.KeptDecls.{AreCoded, AreWithin};
-ghost use Rattle.dw_forms.specs.TableStarts.{IsTableIn, AreStarts, Stay, NoTable, AreBehind, GoesOn, Added, IsWhole};
+ghost use Rattle.dw_forms.specs.TableStarts.{IsTableIn, AreStarts, Stay, NoTable, AreBehind, AreNew, GoesOn};
+ghost use Rattle.dw_forms.specs.TableStarts.{Added, IsWhole};
 
 use crate::abbrev_fault::{AbbrevFault, DeclError};
 use crate::abbrev_reader::read_table;
@@ -74,7 +75,7 @@ fn push(
 
 /// Keeps the declarations before a table, the last one first, and returns the number of the table that begins with the
 /// first. None if a code would be in a table twice. The lists, the section and the offset are what the clauses are
-/// about. More declarations than four bytes can count are as much as memory for them.
+/// about. Each declaration begins at an offset of its own, so that four bytes can say how many there are.
 fn keep(
     kept: &mut Vec<KeptDecl>,
     codes: &mut Chains,
@@ -89,6 +90,7 @@ fn keep(
     requires starts { AreStarts section.now (tables_of lists.now.nodes.items kept.old.items) starts.old.starts.items }
     requires fits { length section.now < 0xffffffff }
     requires front { AreBehind lists.now.nodes.items section.now front.decls.items offset front.end }
+    requires new { AreNew starts.old.starts.items front.decls.items }
     requires goes_on { GoesOn section.now starts.old.starts.items front.end front.rest }
     ensures coded { OnOk result (AreCoded codes.new.links.items kept.new.items) }
     ensures within { OnOk result (AreWithin lists.now.nodes.items kept.new.items) }
@@ -102,9 +104,6 @@ fn keep(
     let mut table = front.rest;
     let mut decls = front.decls;
     while let Some(Started { start, decl }) = decls.pop() {
-        if kept.len() >= 0xffff_ffff {
-            return Err(AbbrevFault::Memory);
-        }
         let Some(longer) = push(kept, codes, lists, table, decl)? else {
             return Ok(None);
         };

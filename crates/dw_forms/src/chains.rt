@@ -10,11 +10,11 @@ use std::alloc::{AllocError, Global};
 pub struct Link {
     pub code: u64,
     /// The place of its branches among those of all links.
-    pub branches: u32,
+    pub branches: usize,
     /// The chain after it.
     pub rest: u32,
-    /// How many codes count up from its own while their links' numbers count down.
-    pub run: u32,
+    /// How many codes count up from its own while their links' numbers count down, as far as is known.
+    pub run: u16,
     /// How many branches it has.
     pub branch_count: u8,
 }
@@ -37,7 +37,7 @@ fn branch(first: &Link, branches: &[u32], bit: u32) -> u32
     ensures none { first.now.branch_count ≤ bit → result ≡ 0 }
 {
     if bit < first.branch_count as u32 {
-        branches[first.branches as usize + bit as usize]
+        branches[first.branches + bit as usize]
     } else {
         0
     }
@@ -97,7 +97,7 @@ fn push_branches(
 }
 
 /// How many codes count up from this one while their links' numbers count down, for the next link.
-fn run_before(links: &[Link], branches: &[u32], rest: u32, code: u64) -> u32
+fn run_before(links: &[Link], branches: &[u32], rest: u32, code: u64) -> u16
     requires rest { rest ≤ length links.now }
     requires found { AreFound branches.now links.now }
     ensures short { result ≤ length links.now + 1 }
@@ -106,8 +106,8 @@ fn run_before(links: &[Link], branches: &[u32], rest: u32, code: u64) -> u32
 {
     if rest != 0 && rest as usize == links.len() {
         let next = &links[(rest - 1) as usize];
-        if code < next.code && next.code - code == 1 && next.run < 0xffff_ffff {
-            return next.run + 1;
+        if code < next.code && next.code - code == 1 {
+            return next.run.saturating_add(1);
         }
     }
     1
@@ -152,8 +152,7 @@ impl Chains {
         }
     }
 
-    /// Adds a code before a chain, and returns the number of the chain that begins with it. More branches than four bytes
-    /// can count are as much as memory for them.
+    /// Adds a code before a chain, and returns the number of the chain that begins with it.
     pub fn push(&mut self, rest: u32, code: u64) -> Result<u32, AllocError>
         requires rest { rest ≤ length self.old.links.items }
         requires few { length self.old.links.items < 0xffffffff }
@@ -163,13 +162,10 @@ impl Chains {
         let number = self.links.len() as u32 + 1;
         let run = run_before(&self.links, &self.branches, rest, code);
         let branches = self.branches.len();
-        if branches > 0xffff_ffff {
-            return Err(AllocError);
-        }
         let branch_count = push_branches(&self.links, &mut self.branches, rest, code)?;
         self.links.push(Link {
             code,
-            branches: branches as u32,
+            branches,
             rest,
             run,
             branch_count: branch_count as u8,

@@ -5,7 +5,8 @@ ghost use Rattle.dw_forms.specs.AbbrevReading.{GivesOrMemory, decl_at};
 ghost use Rattle.dw_forms.specs.AttributeLists.{HasList};
 ghost use Rattle.dw_forms.specs.KeptDecls.{kept_view};
 ghost use Rattle.dw_forms.specs.ListOffsets.{AreListsOf, StayNodes};
-ghost use Rattle.dw_forms.specs.TableStarts.{NoTable, AreBehind, GoesOn, IfBroken, IfNoDecl};
+ghost use Rattle.dw_forms.specs.Offsets.{AreKnownFrom};
+ghost use Rattle.dw_forms.specs.TableStarts.{NoTable, AreBehind, AreNew, GoesOn, IfBroken, IfNoDecl};
 
 use crate::abbrev_fault::DeclError;
 use crate::abbrev_reader::{code_of, tag_and_children};
@@ -91,8 +92,10 @@ pub fn read_front(
     requires offset { offset ≤ length section.now }
     requires fits { length section.now < 0xffffffff }
     requires lists { AreListsOf section.now lists.old }
+    requires known { AreKnownFrom offset starts.now.starts.items starts.now.numbers.items }
     ensures lists { OnOk result (AreListsOf section.now lists.new) }
     ensures stay { OnOk result (StayNodes lists.old.lists.nodes.items lists.new.lists.nodes.items) }
+    ensures new { IfOk result (λ f. AreNew starts.now.starts.items f.decls.items) }
     ensures front { IfOk result
         (λ f. AreBehind lists.new.lists.nodes.items section.now f.decls.items offset f.end) }
     ensures goes_on { IfOk result (λ f. GoesOn section.now starts.now.starts.items f.end f.rest) }

@@ -2,7 +2,8 @@
 
 ghost use Rattle.std.specs.Prelude.{◌≡◌, ◌<◌, ◌≤◌, ℕ, List, [], length, drop, IfOk, IfErr, OnOk};
 ghost use Rattle.dw_forms.specs.AbbrevReading.{GivesOrMemory, pair_at};
-ghost use Rattle.dw_forms.specs.ListOffsets.{IsListAt, ArePlaced, AreListsOf, NoListAt, Leads, StayNodes};
+ghost use Rattle.dw_forms.specs.ListOffsets.{IsListAt, ArePlaced, AreListsOf, AreNew, NoListAt, Leads, StayNodes};
+ghost use Rattle.dw_forms.specs.Offsets.{AreKnownFrom};
 ghost use Rattle.dw_forms.specs.TableStarts.{IfBroken};
 
 use crate::abbrev_fault::{AbbrevRule, DeclError};
@@ -79,7 +80,9 @@ fn read_pairs(
     requires none { pairs.old.items ≡ [] }
     requires offset { offset ≤ length section.now }
     requires placed { ArePlaced section.now lists.now.nodes.items starts.now.starts.items ends.now }
+    requires known { AreKnownFrom offset starts.now.starts.items starts.now.numbers.items }
     ensures leads { IfOk result (Leads section.now lists.now.nodes.items pairs.new.items offset) }
+    ensures new { OnOk result (AreNew starts.now.starts.items pairs.new.items) }
     ensures fault { IfErr result (IfBroken (NoListAt section.now offset)) }
 {
     let mut at = offset;
@@ -105,8 +108,8 @@ fn read_pairs(
 }
 
 /// Keeps the attributes before a list, the last one first, and returns the list that begins with the first. The section
-/// and the offset are what the clauses are about. More attributes than four bytes can count are as much as memory for
-/// them: they would take 400 GB.
+/// and the offset are what the clauses are about. Each list begins at an offset of its own, so that four bytes can say
+/// how many there are.
 fn keep_pairs(
     lists: &mut AttributeLists,
     starts: &mut Offsets,
@@ -118,6 +121,7 @@ fn keep_pairs(
 ) -> Result<ReadList, DeclError>
     requires leads { Leads section.now lists.old.nodes.items pairs.old.items offset rest }
     requires placed { ArePlaced section.now lists.old.nodes.items starts.old.starts.items ends.old.items }
+    requires new { AreNew starts.old.starts.items pairs.old.items }
     requires fits { length section.now < 0xffffffff }
     ensures list { IfOk result (λ list. IsListAt section.now lists.new.nodes.items offset list.first list.end) }
     ensures placed { OnOk result
@@ -127,9 +131,6 @@ fn keep_pairs(
 {
     let mut first = rest.first;
     while let Some(Pair { at, spec }) = pairs.pop() {
-        if lists.nodes.len() >= 0xffff_ffff {
-            return Err(DeclError::Memory);
-        }
         let Some(longer) = lists.push(spec, first)? else {
             return Err(twice(&spec));
         };

@@ -1,7 +1,7 @@
 //! What begins at which offset of a section.
 
 ghost use Rattle.std.specs.Prelude.{◌≡◌, ◌<◌, ◌≤◌, ◌∷◌, ◌++◌, ℕ, [], length, get_or, OnOk};
-ghost use Rattle.dw_forms.specs.Offsets.{AreEntered, AreBefore, BeginsAt};
+ghost use Rattle.dw_forms.specs.Offsets.{AreEntered, AreBefore, BeginsAt, HaveNumbers, AreKnownFrom, NothingAt};
 
 use std::alloc::{AllocError, Global};
 
@@ -19,6 +19,8 @@ pub struct Offsets {
     ghost few: { length starts.items ≤ 0xffffffff },
     ghost before: { AreBefore end starts.items },
     ghost known: { AreEntered starts.items numbers.items },
+    ghost within: { entered ≤ length starts.items },
+    ghost numbered: { HaveNumbers entered starts.items numbers.items },
 }
 
 /// The offset after all things, with one more that begins at an offset.
@@ -46,7 +48,10 @@ fn enter(starts: &[u32], entered: usize, numbers: &mut [u32])
     requires few { length starts.now ≤ 0xffffffff }
     requires before { AreBefore (length numbers.old) starts.now }
     requires known { AreEntered starts.now numbers.old }
-    ensures { AreEntered starts.now numbers.new }
+    requires within { entered ≤ length starts.now }
+    requires numbered { HaveNumbers entered starts.now numbers.old }
+    ensures known { AreEntered starts.now numbers.new }
+    ensures numbered { HaveNumbers (length starts.now) starts.now numbers.new }
 {
     for place in entered..starts.len() {
         numbers[starts[place] as usize] = place as u32 + 1;
@@ -80,7 +85,8 @@ impl Offsets {
     /// Enters the number of each offset, if something begins at this offset or after it. Where things are read in the
     /// order of their offsets, that never happens.
     pub fn enter_from(&mut self, offset: usize) -> Result<(), AllocError>
-        ensures { self.new.starts.items ≡ self.old.starts.items }
+        ensures same { self.new.starts.items ≡ self.old.starts.items }
+        ensures known { OnOk result (AreKnownFrom offset self.new.starts.items self.new.numbers.items) }
     {
         if offset >= self.end {
             return Ok(());
@@ -94,7 +100,9 @@ impl Offsets {
     /// The number of what begins at an offset, if it was entered, or 0.
     #[inline(always)]
     pub fn find(&self, offset: usize) -> u32
-        ensures { 0 < result → BeginsAt self.now.starts.items result offset }
+        ensures begins { 0 < result → BeginsAt self.now.starts.items result offset }
+        ensures none { result ≡ 0 → (from : ℕ) → AreKnownFrom from self.now.starts.items self.now.numbers.items
+            → from ≤ offset → NothingAt self.now.starts.items offset }
     {
         if offset < self.numbers.len() {
             self.numbers[offset]

@@ -1,8 +1,9 @@
-use Rattle.std.proofs.Common.{rules, arith}
+use Rattle.std.proofs.Common.{length, rules, arith}
 use Rattle.dw_forms.specs.KeptDecls.{kept_view, tables_of}
 use Rattle.dw_forms.proofs.KeptLaws.{tables_long}
+use Rattle.dw_forms.proofs.OffsetLaws.{few_long}
 use Rattle.dw_forms.proofs.TailLaws.{decl_takes}
-use Rattle.dw_forms.proofs.StartLaws.{popped, turn_long, stay_same, stay_on, starts_more, goes_on, turn_none, turn_stay, turn_table, turn_leads}
+use Rattle.dw_forms.proofs.StartLaws.{popped, turn_long, stay_same, stay_on, starts_more, goes_on, turn_none, turn_new, turn_stay, turn_table, turn_leads}
 use Rattle.dw_forms.proofs.abbrev_tables.keep.Goals as goal
 
 pub loop-start-init : goal.loop-start-init
@@ -11,8 +12,16 @@ loop-start-init c = record {
   within = c.requires.within;
   starts = c.requires.starts;
   stay = stay_same _;
+  new = c.requires.new;
   leads = (c.args.front.end, c.requires.front, goes_on c.args.lists.now.nodes.items c.args.section.now c.args.kept.now.items c.args.starts.now.starts.items c.args.front.end c.args.front.rest c.requires.starts c.requires.goes_on);
 }
+
+pub push-requires-clause-few : goal.push-requires-clause-few
+push-requires-clause-few c =
+    let are = c.loop-start.invariant.starts in
+    let few = few_long c.loop-start.starts.starts.items (length c.args.section.now) are.few in
+    let long = tables_long c.args.lists.now.nodes.items c.loop-start.kept.items in
+    omega (arith, are.long, few, long, c.requires.fits)
 
 pub push-requires-clause-rest : goal.push-requires-clause-rest
 push-requires-clause-rest c =
@@ -45,10 +54,12 @@ loop-start-preserved c =
     let table = turn_table nodes c.args.section.now old new c.loop-start.table c.args.offset c.loop-start.decls.items left s c.in-Some.ensures.items c.loop-start.invariant.leads c.in-Some-2.longer (search rules) in
     let long = turn_long nodes c.args.section.now old new c.loop-start.table c.args.offset c.loop-start.decls.items left s c.in-Some.ensures.items c.loop-start.invariant.leads c.in-Some-2.longer (search rules) in
     let added = rw c.in-Some-2.is at c.in_ok-longer.ensures.added in
+    let new_on = turn_new nodes c.args.section.now old old c.loop-start.table c.args.offset c.loop-start.decls.items left s c.in-Some.ensures.items c.loop-start.invariant.leads c.loop-start.starts.starts.items c.loop-start.invariant.new in
     record {
       coded = c.in_ok-longer.ensures.coded;
       within = c.in_ok-longer.ensures.within;
-      starts = rw c.in_ok-push.ensures (starts_more c.args.section.now (tables_of nodes old) (tables_of nodes new) c.loop-start.starts.starts.items s.start c.in-Some-2.longer c.loop-start.invariant.starts stay long added.1 table);
+      starts = rw c.in_ok-push.ensures (starts_more c.args.section.now (tables_of nodes old) (tables_of nodes new) c.loop-start.starts.starts.items s.start c.in-Some-2.longer c.loop-start.invariant.starts stay long added.1 table new_on.0 new_on.1);
+      new = rw c.in_ok-push.ensures new_on.2;
       stay = stay_on (tables_of nodes c.args.kept.now.items) (tables_of nodes old) (tables_of nodes new) c.loop-start.invariant.stay stay;
       leads = turn_leads nodes c.args.section.now old new c.loop-start.table c.args.offset c.loop-start.decls.items left s c.in-Some.ensures.items c.loop-start.invariant.leads c.in-Some-2.longer (search rules);
     }

@@ -1,14 +1,14 @@
 use Rattle.std.proofs.Common.{refl, arith}
-use Rattle.dw_forms.proofs.ListStarts.{after_push, end_list, kept_list, pairs_break}
+use Rattle.dw_forms.proofs.ListStarts.{after_push, end_list, kept_list, new_pair, pairs_break}
 use Rattle.dw_forms.proofs.list_reader.read_pairs.Goals as goal
 
 pub loop-end-init : goal.loop-end-init
-loop-end-init c = record { within = c.requires.offset; after = rw c.requires.none refl }
+loop-end-init c = record { from = omega arith; within = c.requires.offset; after = rw c.requires.none refl; new = rw c.requires.none tt }
 
 pub returns-then-first-ne0-clause-leads : goal.returns-then-first-ne0-clause-leads
 returns-then-first-ne0-clause-leads c =
     let some = c.if-first-ne0.true in
-    let begins = c.find-first.ensures (omega (arith, some)) in (
+    let begins = c.find-first.ensures.begins (omega (arith, some)) in (
       c.loop-end.at,
       c.loop-end.invariant.after,
       kept_list c.args.section.now c.args.lists.now.nodes.items c.args.starts.now.starts.items c.args.ends.now c.loop-end.at c.find-first.result _ c.requires.placed begins (omega (arith, some)) refl,
@@ -23,7 +23,13 @@ returns-in_default-clause-leads c =
     (at, c.loop-end.invariant.after, end_list c.args.section.now c.args.lists.now.nodes.items at c.in-Ok.found.1 (rw c.in_default.is at c.in-Ok.ensures.exact) c.in-Ok.ensures.rises c.in-Ok.ensures.within)
 
 pub loop-end-preserved : goal.loop-end-preserved
-loop-end-preserved c = record {
-  within = c.in-Ok.ensures.within;
-  after = rw c.in_ok-push.ensures.items (after_push c.args.section.now c.loop-end.pairs.items c.args.offset c.loop-end.at c.in-Ok.found.1 _ c.loop-end.invariant.after refl (rw c.in-Some.is at c.in-Ok.ensures.exact));
-}
+loop-end-preserved c =
+    let none = c.if-first-ne0.false in
+    let nothing = c.find-first.ensures.none (omega (arith, none)) c.args.offset c.requires.known c.loop-end.invariant.from in
+    let from = c.loop-end.invariant.from in
+    record {
+      from = omega (arith, from, c.in-Ok.ensures.rises);
+      new = rw c.in_ok-push.ensures.items (new_pair c.args.starts.now.starts.items c.loop-end.pairs.items _ c.loop-end.invariant.new nothing);
+      within = c.in-Ok.ensures.within;
+      after = rw c.in_ok-push.ensures.items (after_push c.args.section.now c.loop-end.pairs.items c.args.offset c.loop-end.at c.in-Ok.found.1 _ c.loop-end.invariant.after refl (rw c.in-Some.is at c.in-Ok.ensures.exact));
+    }

@@ -15,7 +15,7 @@ pub keep-requires-clause-starts : goal.keep-requires-clause-starts
 keep-requires-clause-starts c =
     let a = c.args.self.now in
     let same = tables_same a.lists.lists.nodes.items c.read_front.new.lists.lists.nodes.items a.kept.items c.in-Ok.ensures.stay c.requires.tables.searchable.within in
-    subst (λ (starts : List ℕ). AreStarts c.args.section.now (tables_of c.read_front.new.lists.lists.nodes.items a.kept.items) starts) (sym c.enter_from.ensures)
+    subst (λ (starts : List ℕ). AreStarts c.args.section.now (tables_of c.read_front.new.lists.lists.nodes.items a.kept.items) starts) (sym c.enter_from.ensures.same)
     (subst (λ (tables : Tables). AreStarts c.args.section.now tables a.starts.starts.items) (sym same) c.requires.tables.starts)
 
 pub returns-in-Some-clause-stay : goal.returns-in-Some-clause-stay
