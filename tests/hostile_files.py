@@ -30,12 +30,13 @@ TABLES = 40_000
 DECLARATIONS = 1 << 19
 # Tables that begin inside declarations of another one.
 INSIDE = 16_000
-# Tables that begin inside the attributes of one declaration.
+# Tables that begin inside the attributes of one declaration, and the bytes of memory that they may take.
 INSIDE_ATTRIBUTES = 8_000
+INSIDE_MEMORY = 64 << 20
 # Declarations with codes of ten bytes, at each of which a table begins, and the attributes that each declaration has.
 LONG_CODES = 40_000
 LONG_CODES_ATTRIBUTES = 35
-# Bytes of memory for each byte of .debug_abbrev, and seconds, that tables may take which overlap in these ways.
+# Bytes of memory for each byte of .debug_abbrev, and seconds, that they may take.
 OVERLAP_MEMORY = 80
 OVERLAP_TIME = 5
 # Bytes after each of many tables that no unit names.
@@ -627,10 +628,13 @@ def runs():
             yield name, elf(sections), check_soon, want
     for name, sections, memory in coded():
         yield name, elf(sections), kept_within(memory), "sound: 1 units, 1 entries, 0 types"
-    for name, row, units, count in (inside_attributes(), inside_codes()):
-        yield (name, elf([(".debug_abbrev", row), (".debug_info", units)]),
-               kept_within(len(row) * OVERLAP_MEMORY + PROGRAM_MEMORY + len(units), OVERLAP_TIME),
-               f"sound: {count} units, {count} entries, 0 types")
+    name, row, units, count = inside_attributes()
+    yield (name, elf([(".debug_abbrev", row), (".debug_info", units)]),
+           asking("check", memory=INSIDE_MEMORY, seconds=SOON_TIME), f"sound: {count} units, {count} entries, 0 types")
+    name, row, units, count = inside_codes()
+    yield (name, elf([(".debug_abbrev", row), (".debug_info", units)]),
+           kept_within(len(row) * OVERLAP_MEMORY + PROGRAM_MEMORY + len(units), OVERLAP_TIME),
+           f"sound: {count} units, {count} entries, 0 types")
     count = SIGNED * DECLARED
     yield (f"{SIGNED:,} type units and {count:,} declared structures", elf(signed()),
            asking("check", memory=SOON_MEMORY, seconds=SIGNED_TIME),
