@@ -5,8 +5,8 @@ use Rattle.std.proofs.lemmas.List.{get_or-drop, length-take, take-take, take_all
 use Rattle.std.proofs.lemmas.List.Sums.{position_or_len_is}
 use Rattle.std.proofs.lemmas.Bool.{cases_Bool, eqb-true, eq-eqb}
 use Rattle.memchr.specs.Find.{Nowhere, NoneBefore, NoneAfter, Passes, is_byte}
-use Rattle.dw_elf.specs.declared.names.DebugSection.{DebugSection}
-use Rattle.dw_elf.specs.declared.names.DebugSection.TheVariants.{Abbrev, Info, Str, LineStr, StrOffsets, Addr}
+use Rattle.dw_elf.specs.declared.sections.DebugSection.{DebugSection}
+use Rattle.dw_elf.specs.declared.sections.DebugSection.TheVariants.{Abbrev, Info, Str, LineStr, StrOffsets, Addr}
 use Rattle.dw_elf.specs.Elf.{HasText}
 use Rattle.dw_elf.specs.Names.{name_of}
 use Rattle.dw_elf.specs.Reading.{IsAfterLastZero, StandsFor}

@@ -3,9 +3,9 @@ use Rattle.std.proofs.Common.{◌≡◌, ◌≢◌, ℕ, ◌+◌, ◌*◌, ◌<�
 use Rattle.std.specs.Option.{option_copied}
 use Rattle.std.proofs.lemmas.Bool.{cases_eq}
 use denote.Ref.{Bor}
-use Rattle.dw_elf.specs.declared.names.DebugSection.{DebugSection}
-use Rattle.dw_elf.specs.declared.names.DebugSection.TheVariants.{Abbrev, Info, Str, LineStr, StrOffsets, Addr}
-use Rattle.dw_elf.specs.declared.found.Found.{Found}
+use Rattle.dw_elf.specs.declared.sections.DebugSection.{DebugSection}
+use Rattle.dw_elf.specs.declared.sections.DebugSection.TheVariants.{Abbrev, Info, Str, LineStr, StrOffsets, Addr}
+use Rattle.dw_elf.specs.declared.sections.Found.{Found}
 use Rattle.dw_elf.specs.Limits.{section_limit}
 use Rattle.dw_elf.specs.Elf.{section_name, section_bytes, section_count}
 use Rattle.dw_elf.specs.Names.{name_of, IsWanted}

@@ -2,7 +2,7 @@
 -- for section header k, and the count of the headers for all headers together. Sums are of whole numbers, so none of
 -- them wraps.
 use Rattle.std.specs.Prelude.{◌≡◌, ◌≢◌, ℕ, ◌+◌, ◌*◌, ◌<◌, ◌≤◌, ◌⊎◌, List, length, take, bit_and}
-use Rattle.dw_elf.specs.declared.names.DebugSection.TheVariants.{Info}
+use Rattle.dw_elf.specs.declared.sections.DebugSection.TheVariants.{Info}
 use Rattle.dw_elf.specs.Limits.{section_limit}
 use Rattle.dw_elf.specs.Elf.{identification, FILE_HEADER_SIZE, file_type, ET_EXEC, ET_DYN, table_offset, header_size}
 use Rattle.dw_elf.specs.Elf.{section_count, names_index, SECTION_HEADER_SIZE, IsHeader, HasText, name_offset}

@@ -1,7 +1,7 @@
 -- Chapter: the names of the six sections that are read (DWARF 5, 7.5, 7.26 and 7.27).
 use Rattle.std.specs.Prelude.{◌≡◌, ℕ, List, take, codes}
-use Rattle.dw_elf.specs.declared.names.DebugSection.{DebugSection}
-use Rattle.dw_elf.specs.declared.names.DebugSection.TheVariants.{Abbrev, Info, Str, LineStr, StrOffsets, Addr}
+use Rattle.dw_elf.specs.declared.sections.DebugSection.{DebugSection}
+use Rattle.dw_elf.specs.declared.sections.DebugSection.TheVariants.{Abbrev, Info, Str, LineStr, StrOffsets, Addr}
 
 -- the name that a section header gives to one of the six
 abbrev pub name_of : DebugSection → List ℕ

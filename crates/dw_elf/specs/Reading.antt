@@ -3,10 +3,10 @@
 use Rattle.std.specs.Prelude.{◌≡◌, ◌≢◌, ℕ, ◌-◌, ◌<◌, ◌≤◌, ◌↔◌, List, length, slice_index, Option, Some, None}
 use Rattle.std.specs.Option.{option_copied}
 use Rattle.dw_elf.specs.declared.header.FileHeader.{FileHeader}
-use Rattle.dw_elf.specs.declared.section_header.SectionHeader.{SectionHeader}
-use Rattle.dw_elf.specs.declared.found.Found.{Found}
-use Rattle.dw_elf.specs.declared.names.DebugSection.{DebugSection}
-use Rattle.dw_elf.specs.declared.names.DebugSection.TheVariants.{Abbrev, Info, Str, LineStr, StrOffsets, Addr}
+use Rattle.dw_elf.specs.declared.section_table.SectionHeader.{SectionHeader}
+use Rattle.dw_elf.specs.declared.sections.Found.{Found}
+use Rattle.dw_elf.specs.declared.sections.DebugSection.{DebugSection}
+use Rattle.dw_elf.specs.declared.sections.DebugSection.TheVariants.{Abbrev, Info, Str, LineStr, StrOffsets, Addr}
 use Rattle.dw_elf.specs.Limits.{section_limit}
 use Rattle.dw_elf.specs.Elf.{file_type, table_offset, header_size, section_count, names_index, name_offset}
 use Rattle.dw_elf.specs.Elf.{section_type, section_flags, section_offset, section_size, section_name, section_bytes}

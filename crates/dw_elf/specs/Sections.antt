@@ -1,7 +1,7 @@
 -- Chapter: the bytes of a section by its name, and the six sections of a file.
 use Rattle.std.specs.Prelude.{◌≡◌, ◌⊎◌, List, [], ℕ, length, take, drop}
 use Rattle.dw_elf.specs.declared.sections.Sections.{Sections}
-use Rattle.dw_elf.specs.declared.names.DebugSection.TheVariants.{Abbrev, Info, Str, LineStr, StrOffsets, Addr}
+use Rattle.dw_elf.specs.declared.sections.DebugSection.TheVariants.{Abbrev, Info, Str, LineStr, StrOffsets, Addr}
 use Rattle.dw_elf.specs.Elf.{IsHeader, section_name, section_bytes}
 use Rattle.dw_elf.specs.Names.{name_of}
 use Rattle.dw_elf.specs.Checks.{HasNoSection}

@@ -1,18 +1,18 @@
-//! The search for the six sections: the checks of the file, then of each header in order, then of all.
+//! The search for the six sections: the checks of the file, then of each header in order, then of all; and where one of
+//! them starts.
 
 ghost use Rattle.std.specs.Prelude.{◌≡◌, ℕ, List, ◌+◌, IfOk, IfErr, OnOk};
 ghost use Rattle.dw_elf.specs.declared.fault.ElfFault.{ElfFault as AnyFault};
 ghost use Rattle.dw_elf.specs.Elf.{IsHeader, section_count};
 ghost use Rattle.dw_elf.specs.Checks.{ChecksPass, Passes};
 ghost use Rattle.dw_elf.specs.Rules.{FailsAt, IsFault};
-ghost use Rattle.dw_elf.specs.Sections.{AreSections, IsSection};
+ghost use Rattle.dw_elf.specs.Sections.{AreSections, IsAt, IsSection};
 ghost use Rattle.dw_elf.specs.Reading.{SlotsUpTo};
+ghost use Rattle.dw_elf.specs.Names.{name_of};
 
 use crate::fault::{ElfFault, ElfRule};
-use crate::found::Found;
-use crate::names::DebugSection;
-use crate::section_table::SectionTable;
-use crate::sections::Sections;
+use crate::section_table::{SectionHeader, SectionTable};
+use crate::sections::{DebugSection, Found, Sections, section_named};
 
 /// What is found once header `k` is taken in.
 fn with_header<'a>(table: &SectionTable<'a>, k: u16, found: Found<'a>) -> Result<Found<'a>, ElfRule>
@@ -69,6 +69,27 @@ pub fn find<'a>(file: &'a [u8]) -> Result<Sections<'a>, ElfFault>
         });
     }
     Ok(sections_of(file, &found))
+}
+
+/// Where the bytes of a section start, from the file's first byte. Any number if no header names the section.
+pub fn section_start(file: &[u8], section: DebugSection) -> usize
+    requires { ChecksPass file.now }
+    ensures { (bytes : List ℕ) → IsSection file.now (name_of section) bytes → IsAt file.now result bytes }
+{
+    let table = match SectionTable::of(file) {
+        Ok(table) => table,
+        Err(_) => return 0,
+    };
+    for k in 1..table.count {
+        let header = SectionHeader::read(table.file, table.start, k);
+        let Some(front) = table.names.front_at(header.name_offset) else {
+            return 0;
+        };
+        if section_named(front) == Some(section) {
+            return header.offset as usize;
+        }
+    }
+    0
 }
 
 /// A file has one fault at most, and none if no check fails: so `find` has one possible result.

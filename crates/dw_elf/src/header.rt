@@ -1,10 +1,38 @@
-//! The file header: its first bytes, and the fields that are read (System V ABI, chapter 4, ELF Header).
+//! The file header: its first bytes, and the fields that are read (System V ABI, chapter 4, ELF Header). A number in the
+//! file has its lowest byte first, and an offset counts from the first byte of the file.
 
-ghost use Rattle.std.specs.Prelude.{◌↔◌, ◌≤◌, length, IsTrue};
-ghost use Rattle.dw_elf.specs.Elf.{FILE_HEADER_SIZE};
+ghost use Rattle.std.specs.Prelude.{◌≡◌, ◌↔◌, ◌+◌, ◌≤◌, length, IsTrue};
+ghost use Rattle.dw_elf.specs.Elf.{number_at, FILE_HEADER_SIZE};
 ghost use Rattle.dw_elf.specs.Checks.{IsElf64, IsLinked};
 
-use crate::fields::{u16_at, u64_at};
+use byteorder::{ByteOrder, LittleEndian};
+
+/// The number in the two bytes at an offset.
+#[tactic(auto, unfolding(crate::specs::Elf::number_at))]
+fn u16_at(file: &[u8], offset: usize) -> u16
+    requires { offset + 2 ≤ length file.now }
+    ensures { result ≡ number_at 2 file.now offset }
+{
+    LittleEndian::read_u16(&file[offset..])
+}
+
+/// The number in the four bytes at an offset.
+#[tactic(auto, unfolding(crate::specs::Elf::number_at))]
+pub(crate) fn u32_at(file: &[u8], offset: usize) -> u32
+    requires { offset + 4 ≤ length file.now }
+    ensures { result ≡ number_at 4 file.now offset }
+{
+    LittleEndian::read_u32(&file[offset..])
+}
+
+/// The number in the eight bytes at an offset.
+#[tactic(auto, unfolding(crate::specs::Elf::number_at))]
+pub(crate) fn u64_at(file: &[u8], offset: usize) -> u64
+    requires { offset + 8 ≤ length file.now }
+    ensures { result ≡ number_at 8 file.now offset }
+{
+    LittleEndian::read_u64(&file[offset..])
+}
 
 /// The magic number, then 64-bit (ELFCLASS64), little-endian (ELFDATA2LSB), version 1 (EV_CURRENT).
 const IDENTIFICATION: &[u8; 7] = b"\x7fELF\x02\x01\x01";

@@ -1,10 +1,30 @@
-//! The six sections within the size limit, as `find` gives them or as a caller has them.
+//! The six sections: their names, their bytes within the size limit, and what headers so far name of them.
 
-ghost use Rattle.std.specs.Prelude.{◌≡◌, ◌<◌, ◌≤◌, ◌↔◌, ◌⊎◌, length, IfOk, IsErr};
+ghost use Rattle.std.specs.Prelude.{◌≡◌, ◌≢◌, ◌↔◌, ◌<◌, ◌≤◌, ◌⊎◌, Some, None, [], length, unwrap_or, IfOk, IsErr, IfSome};
+ghost use Rattle.std.specs.Prelude.{IfNone, IsTrue};
+ghost use Rattle.std.specs.Option.{option_copied};
+ghost use Rattle.dw_elf.specs.Names.{name_of, IsWanted, IsZdebug};
 ghost use Rattle.dw_elf.specs.Limits.{section_limit};
 
 use crate::SECTION_LIMIT;
 use crate::fault::TooLarge;
+
+/// A section that is looked for.
+#[derive(Clone, Copy, Debug, PartialEq, Eq)]
+pub enum DebugSection {
+    /// .debug_abbrev
+    Abbrev,
+    /// .debug_info
+    Info,
+    /// .debug_str
+    Str,
+    /// .debug_line_str
+    LineStr,
+    /// .debug_str_offsets
+    StrOffsets,
+    /// .debug_addr
+    Addr,
+}
 
 /// The bytes of the six sections that are checked, each within `SECTION_LIMIT`. A section that a file
 /// does not have is empty.
@@ -68,5 +88,106 @@ impl<'a> Sections<'a> {
             str_offsets,
             addr,
         })
+    }
+}
+
+/// Whether the name says that the section's bytes are compressed in the older way.
+pub(crate) fn is_zdebug(name: &[u8]) -> bool
+    ensures { IsTrue result ↔ IsZdebug name.now }
+{
+    name.starts_with(b".zdebug_")
+}
+
+/// The section that has this name, if it is looked for.
+pub(crate) fn section_named(name: &[u8]) -> Option<DebugSection>
+    ensures some { IfSome result (λ section. name.now ≡ name_of section) }
+    ensures none { IfNone result (¬ IsWanted name.now) }
+{
+    if name == b".debug_abbrev".as_slice() {
+        return Some(DebugSection::Abbrev);
+    }
+    if name == b".debug_info".as_slice() {
+        return Some(DebugSection::Info);
+    }
+    if name == b".debug_str".as_slice() {
+        return Some(DebugSection::Str);
+    }
+    if name == b".debug_line_str".as_slice() {
+        return Some(DebugSection::LineStr);
+    }
+    if name == b".debug_str_offsets".as_slice() {
+        return Some(DebugSection::StrOffsets);
+    }
+    if name == b".debug_addr".as_slice() {
+        return Some(DebugSection::Addr);
+    }
+    None
+}
+
+/// The bytes of each of the six sections that a header named so far.
+#[derive(Clone, Copy)]
+pub(crate) struct Found<'a> {
+    pub abbrev: Option<&'a [u8]>,
+    pub info: Option<&'a [u8]>,
+    pub str: Option<&'a [u8]>,
+    pub line_str: Option<&'a [u8]>,
+    pub str_offsets: Option<&'a [u8]>,
+    pub addr: Option<&'a [u8]>,
+}
+
+impl<'a> Found<'a> {
+    ghost use Rattle.dw_elf.specs.Reading.{slot};
+    ghost use Rattle.dw_elf.specs.declared.sections.DebugSection.{DebugSection as AnySection};
+
+    /// Nothing is found yet.
+    pub(crate) fn new() -> Found<'a>
+        ensures { (s : AnySection) → slot result s ≡ None }
+    {
+        Found {
+            abbrev: None,
+            info: None,
+            str: None,
+            line_str: None,
+            str_offsets: None,
+            addr: None,
+        }
+    }
+
+    /// The bytes that were found for a section.
+    pub(crate) fn get(&self, section: DebugSection) -> Option<&'a [u8]>
+        ensures { option_copied result ≡ slot self.now section }
+    {
+        match section {
+            DebugSection::Abbrev => self.abbrev,
+            DebugSection::Info => self.info,
+            DebugSection::Str => self.str,
+            DebugSection::LineStr => self.line_str,
+            DebugSection::StrOffsets => self.str_offsets,
+            DebugSection::Addr => self.addr,
+        }
+    }
+
+    /// The bytes of a section, or no bytes if no header names it.
+    pub(crate) fn bytes(&self, section: DebugSection) -> &'a [u8]
+        ensures { result.now ≡ unwrap_or (slot self.now section) [] }
+    {
+        self.get(section).unwrap_or(&[])
+    }
+
+    /// The same with the bytes of one more section.
+    pub(crate) fn put(self, section: DebugSection, bytes: &'a [u8]) -> Found<'a>
+        ensures at { slot result section ≡ Some bytes.now }
+        ensures others { (s : AnySection) → s ≢ section → slot result s ≡ slot self.entry s }
+    {
+        let mut found = self;
+        match section {
+            DebugSection::Abbrev => found.abbrev = Some(bytes),
+            DebugSection::Info => found.info = Some(bytes),
+            DebugSection::Str => found.str = Some(bytes),
+            DebugSection::LineStr => found.line_str = Some(bytes),
+            DebugSection::StrOffsets => found.str_offsets = Some(bytes),
+            DebugSection::Addr => found.addr = Some(bytes),
+        }
+        found
     }
 }

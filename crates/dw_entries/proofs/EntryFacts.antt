@@ -3,7 +3,7 @@ use Rattle.std.proofs.Common.{◌≡◌, ℕ, zero, suc, ◌+◌, ◌<◌, ◌�
 use Rattle.std.specs.Prelude.{slice_get, IfSome}
 use Rattle.std.specs.List.{AllByRecursion}
 use Rattle.std.proofs.lemmas.Option.{slice_get-map}
-use Rattle.dw_entries.specs.declared.record.Record.{Record}
+use Rattle.dw_entries.specs.declared.walk.Record.{Record}
 use Rattle.dw_entries.specs.Grammar.{head_bytes}
 use Rattle.dw_entries.specs.Header.{header_size}
 use Rattle.dw_entries.specs.Tree.{Node, Nodes, leaf, parent, none, ◌then◌, node_bytes}

@@ -19,8 +19,8 @@ use Rattle.dw_entries.specs.declared.header.HeaderKind.TheVariants.{Version4}
 use Rattle.dw_entries.specs.declared.header.UnitHeader.{UnitHeader}
 use Rattle.dw_entries.specs.declared.header.UnitType.{UnitType}
 use Rattle.dw_entries.specs.declared.lookup.UnitHead.{UnitHead}
-use Rattle.dw_entries.specs.declared.record.Record.{Record}
-use Rattle.dw_entries.specs.declared.record.UnitRecord.{UnitRecord}
+use Rattle.dw_entries.specs.declared.walk.Record.{Record}
+use Rattle.dw_entries.specs.declared.walk.UnitRecord.{UnitRecord}
 use Rattle.dw_entries.specs.Grammar.{declared_in, attribute_bytes, Head, head_bytes}
 use Rattle.dw_entries.specs.Header.{type_of}
 use Rattle.dw_entries.specs.Tree.{leaf}

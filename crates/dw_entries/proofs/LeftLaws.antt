@@ -9,8 +9,8 @@ use Rattle.dw_forms.specs.Abbrev.{Declaration}
 use Rattle.dw_forms.specs.KeptDecls.{Tables}
 use Rattle.dw_forms.specs.Value.{Datum}
 use Rattle.dw_entries.specs.declared.header.UnitHeader.{UnitHeader}
-use Rattle.dw_entries.specs.declared.record.Record.{Record}
-use Rattle.dw_entries.specs.declared.record.UnitRecord.{UnitRecord}
+use Rattle.dw_entries.specs.declared.walk.Record.{Record}
+use Rattle.dw_entries.specs.declared.walk.UnitRecord.{UnitRecord}
 use Rattle.dw_entries.specs.Grammar.{Context, AreAttributes, attribute_bytes}
 use Rattle.dw_entries.specs.Header.{version_of, IsSize}
 use Rattle.dw_entries.specs.Units.{context_of, IsUnit}

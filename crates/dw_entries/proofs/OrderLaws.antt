@@ -1,8 +1,8 @@
 -- The entries stand in rising offset.
 use Rattle.std.proofs.Common.{ℕ, suc, ◌+◌, ◌≤◌, List, [], ◌∷◌, ◌++◌, length, Option, Some, None, ap, ◌∙◌, arith, length-append}
 use Rattle.dw_entries.specs.Scanned.{numbers_of, Scanned}
-use Rattle.dw_entries.specs.declared.record.Record.{Record}
-use Rattle.dw_entries.specs.declared.record.UnitRecord.{UnitRecord}
+use Rattle.dw_entries.specs.declared.walk.Record.{Record}
+use Rattle.dw_entries.specs.declared.walk.UnitRecord.{UnitRecord}
 use Rattle.dw_forms.specs.KeptDecls.{Tables}
 use Rattle.dw_entries.specs.Grammar.{Context, head_bytes}
 use Rattle.dw_entries.specs.Header.{header_size, header_bytes}

@@ -22,8 +22,8 @@ use Rattle.dw_entries.specs.Asked.{value_of}
 use Rattle.dw_entries.specs.Grammar.{Context, Attribute, IsAttribute, AreAttributes, attribute_bytes, Head, head_bytes}
 use Rattle.dw_entries.specs.Lookups.{IsTextAt, value_at_entry, value_in}
 use Rattle.dw_entries.specs.Values.{value_context}
-use Rattle.dw_entries.specs.declared.record.Record.{Record}
-use Rattle.dw_entries.specs.declared.record.UnitRecord.{UnitRecord}
+use Rattle.dw_entries.specs.declared.walk.Record.{Record}
+use Rattle.dw_entries.specs.declared.walk.UnitRecord.{UnitRecord}
 use Rattle.dw_entries.specs.Entries.{entries_of}
 use Rattle.dw_entries.specs.Scanned.{Scanned, units_of}
 use Rattle.dw_forms.specs.KeptDecls.{Tables}

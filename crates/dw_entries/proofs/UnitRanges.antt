@@ -5,8 +5,8 @@ use Rattle.std.specs.List.{AllByRecursion}
 use Rattle.std.specs.List.Sorted.{IsPartitionPoint, IsNonDecreasingBy}
 use Rattle.std.proofs.lemmas.Option.{slice_get_within, slice_get-get_or, slice_get_cases, get_or_from_slice_get}
 use Rattle.dw_forms.specs.KeptDecls.{Tables}
-use Rattle.dw_entries.specs.declared.record.Record.{Record}
-use Rattle.dw_entries.specs.declared.record.UnitRecord.{UnitRecord}
+use Rattle.dw_entries.specs.declared.walk.Record.{Record}
+use Rattle.dw_entries.specs.declared.walk.UnitRecord.{UnitRecord}
 use Rattle.dw_entries.specs.Grammar.{head_bytes}
 use Rattle.dw_entries.specs.Header.{header_size}
 use Rattle.dw_entries.specs.Tree.{Node, Nodes, leaf, parent, none, ◌then◌, node_bytes}

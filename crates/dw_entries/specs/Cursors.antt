@@ -1,6 +1,6 @@
 -- State: the unit that a cursor keeps: its header (DWARF 5, 7.5.1) and its abbreviation table (7.5.3).
 use Rattle.std.specs.Prelude.{◌≡◌, ◌<◌, ◌≤◌, ℕ, List, Option, Some, slice_get}
-use Rattle.dw_entries.specs.declared.record.UnitRecord.{UnitRecord}
+use Rattle.dw_entries.specs.declared.walk.UnitRecord.{UnitRecord}
 use Rattle.dw_entries.specs.declared.cursor.UnitAt.{UnitAt}
 use Rattle.dw_entries.specs.Entries.{Entry}
 

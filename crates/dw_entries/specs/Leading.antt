@@ -4,7 +4,7 @@ use Rattle.dw_forms.specs.declared.decl.AttributeSpec.{AttributeSpec}
 use Rattle.dw_forms.specs.declared.form.Form.{Form}
 use Rattle.dw_forms.specs.Value.{Datum}
 use Rattle.dw_forms.specs.Walks.{does_lead}
-use Rattle.dw_entries.specs.declared.leading.Leading.{Leading}
+use Rattle.dw_entries.specs.declared.values.Leading.{Leading}
 use Rattle.dw_entries.specs.Values.{form_there}
 use Rattle.dw_entries.specs.ValuesLeft.{values_left}
 

@@ -1,8 +1,8 @@
 -- State: the declaration that a code names, and its place in the table.
 use Rattle.std.specs.Prelude.{ℕ, Option, Some, None}
-use Rattle.dw_entries.specs.declared.reading.Declared.{Declared}
-use Rattle.dw_entries.specs.declared.reading.Token.{Token}
-use Rattle.dw_entries.specs.declared.reading.Token.TheVariants.{Null, Entry}
+use Rattle.dw_entries.specs.declared.scanning.Declared.{Declared}
+use Rattle.dw_entries.specs.declared.scanning.Token.{Token}
+use Rattle.dw_entries.specs.declared.scanning.Token.TheVariants.{Null, Entry}
 use Rattle.dw_forms.specs.Abbrev.{Declaration}
 use Rattle.dw_forms.specs.KeptDecls.{view}
 

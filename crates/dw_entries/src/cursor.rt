@@ -11,7 +11,7 @@ ghost use Rattle.dw_entries.specs.Scanned.{all_entries, all_units, units_of};
 use crate::entries::Entries;
 use crate::entry_at::EntryAt;
 use crate::id::EntryId;
-use crate::record::UnitRecord;
+use crate::walk::UnitRecord;
 
 /// A unit, its number, and which entries are of it: those from its first one on, and before `end`.
 #[derive(Clone, Copy, Debug)]

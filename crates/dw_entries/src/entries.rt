@@ -1,17 +1,151 @@
 //! The entries of .debug_info.
 
-ghost use Rattle.std.specs.Prelude.{◌≡◌, ◌+◌, ◌^◌, ◌<◌, ◌≤◌, List, length, IfOk, IfErr, OnOk};
+ghost use Rattle.std.specs.Prelude.{◌^◌, ◌<◌, length, ◌≡◌, ℕ, slice_get, IfSome, IfNone, ◌+◌, ◌≤◌, List, IfOk, IfErr};
+ghost use Rattle.std.specs.Prelude.{OnOk};
 ghost use Rattle.std.specs.List.Sorted.{IsNonDecreasingBy, IsPartitionPoint};
+ghost use Rattle.dw_entries.specs.Scanned.{all_entries, all_units, units_of, tables_among, Scanned};
+ghost use Rattle.dw_entries.specs.Runs.{ReachesInUnit};
 ghost use Rattle.dw_entries.specs.Units.{DebugUnit, Spells};
 ghost use Rattle.dw_entries.specs.Faults.{Fails};
-ghost use Rattle.dw_entries.specs.Scanned.{all_entries, tables_among, Scanned};
 ghost use Rattle.dw_entries.specs.Stopped.{IfBroken, IfFault};
 ghost use Rattle.dw_entries.specs.Props.{scanned_unique};
 
+use crate::cursor::unit_at;
 use crate::id::EntryId;
-use crate::record::{Record, UnitRecord};
+use crate::walk::{Record, UnitRecord};
 use dw_elf::Sections;
 use dw_forms::Decls;
+use std::alloc::{AllocError, Global};
+
+/// How many bytes of .debug_info have one hint.
+const BLOCK: usize = 64;
+
+/// Which entries start in a block.
+#[derive(Clone, Copy, Debug)]
+struct Hint {
+    /// The number of the first entry that starts in the block.
+    first: u32,
+    /// A bit for each byte of the block: whether an entry starts there.
+    starts: u64,
+}
+
+impl Hint {
+    /// The number of the entry that starts at an offset of the block, if one does, and some number otherwise.
+    #[inline(always)]
+    fn guess(self, offset: u64) -> u64 {
+        let before = self.starts & ((1 << (offset % BLOCK as u64)) - 1);
+        u64::from(self.first) + u64::from(before.count_ones())
+    }
+
+    /// Notes that an entry starts at an offset of the block.
+    #[inline(always)]
+    fn note(&mut self, offset: usize, number: u32) {
+        if self.starts == 0 {
+            self.first = number;
+        }
+        self.starts |= 1 << (offset % BLOCK);
+    }
+}
+
+/// Which entries start in each block of .debug_info. Nothing is proved of them: whoever goes by a guess looks at where
+/// that entry starts.
+#[derive(Drop)]
+pub struct Hints {
+    blocks: Vec<Hint>,
+}
+
+impl Hints {
+    /// The number of the entry that starts at an offset of .debug_info, if one does; some number or none otherwise.
+    #[inline(always)]
+    pub fn guess(&self, offset: u64) -> Option<usize> {
+        let block = (offset / BLOCK as u64) as usize;
+        if block >= self.blocks.len() {
+            return None;
+        }
+        Some(self.blocks[block].guess(offset) as usize)
+    }
+}
+
+/// Notes where records start.
+fn note_all(blocks: &mut Vec<Hint>, records: &[Record])
+    requires { length records.now < 2 ^ 32 }
+{
+    for number in 0..records.len() {
+        let at = records[number].at as usize;
+        if at / BLOCK < blocks.len() {
+            blocks[at / BLOCK].note(at, number as u32);
+        }
+    }
+}
+
+impl Entries<'_> {
+    /// Hints at where entries start.
+    pub fn hints(&self, alloc: Global) -> Result<Hints, AllocError> {
+        let count = self.sections.info.len() / BLOCK + 1;
+        let mut blocks = vec![in alloc; Hint {
+            first: 0,
+            starts: 0
+        }; count]?;
+        note_all(&mut blocks, &self.records);
+        Ok(Hints { blocks })
+    }
+}
+
+impl Entries<'_> {
+    /// The entry with this number.
+    #[inline(always)]
+    pub fn id(&self, number: usize) -> EntryId
+        requires { number < length (all_entries self.now.scanned) }
+        ensures { result ≡ number }
+    {
+        EntryId::new(number as u32)
+    }
+
+    /// The number of an entry's unit.
+    #[inline(always)]
+    pub fn unit_of(&self, id: EntryId) -> usize
+        requires { id < length (all_entries self.now.scanned) }
+        ensures { IfSome (slice_get (all_entries self.now.scanned) id) (λ e. result ≡ e.unit) }
+    {
+        unit_at(self, id).number as usize
+    }
+
+    /// How many entries are above an entry. Each of them is looked at.
+    pub(crate) fn depth(&self, id: EntryId) -> usize
+        requires { id < length (all_entries self.now.scanned) }
+        ensures { IfSome (slice_get (all_entries self.now.scanned) id) (λ e. result ≡ e.depth) }
+    {
+        let mut depth = 0;
+        let mut above = self.record(id).parent.get();
+        while let Some(parent) = above {
+            depth += 1;
+            above = self.records[parent as usize].parent.get();
+        }
+        depth
+    }
+
+    /// The entry of a unit that begins so far behind the first byte of the unit's header.
+    #[inline(always)]
+    pub fn find_in_unit(&self, unit: usize, offset: u64) -> Option<EntryId>
+        requires { unit < length (units_of self.now.scanned) }
+        ensures found { IfSome result
+            (ReachesInUnit (all_entries self.now.scanned) (all_units self.now.scanned) unit offset) }
+        ensures none { IfNone result ((id : ℕ)
+            → ReachesInUnit (all_entries self.now.scanned) (all_units self.now.scanned) unit offset id → ⊥) }
+    {
+        let Some(at) = offset.checked_add(self.units[unit].at as u64) else {
+            return None;
+        };
+        let Some(id) = self.find_at(at) else {
+            return None;
+        };
+        if self.unit_of(id) == unit {
+            Some(id)
+        } else {
+            None
+        }
+    }
+}
 
 /// The entries of sections whose .debug_info is a row of units, numbered in rising offset.
 #[derive(Drop)]

@@ -20,11 +20,10 @@ use crate::cursor::{UnitAt, unit_at};
 use crate::entries::Entries;
 use crate::header::UnitHeader;
 use crate::id::{EntryId, OptionalId};
-use crate::leading::Leading;
 use crate::lookup::EntryHead;
-use crate::reading::read_code;
-use crate::record::Record;
-use crate::values::Values;
+use crate::scanning::read_code;
+use crate::values::{Leading, Values};
+use crate::walk::Record;
 use dw_forms::{Attribute, Attributes, Decl, Tag, Value};
 use std::marker::Model;
 

@@ -1,8 +1,13 @@
 //! Unit headers (DWARF 5, section 7.5.1; DWARF 4, section 7.5.1.1).
 
-ghost use Rattle.std.specs.Prelude.{◌≡◌, ◌≤◌, length};
-ghost use Rattle.dw_entries.specs.Header.{version_of, type_of, code_of_type, fits_tag, header_size};
+ghost use Rattle.std.specs.Prelude.{◌≡◌, ◌≤◌, length, ◌⊎◌, ◌<◌, IfOk};
+ghost use Rattle.dw_forms.specs.ValueReading.{Gives};
+ghost use Rattle.dw_entries.specs.Header.{version_of, type_of, code_of_type, fits_tag, header_size, IsSize, field_at};
+ghost use Rattle.dw_entries.specs.Header.{address_size_at, abbrev_offset_at, version4_at, kind_at, version5_at};
+ghost use Rattle.dw_entries.specs.Header.{fields_at, unit_at, header_at};
 
+use crate::rule::Rule;
+use byteorder::{ByteOrder, LittleEndian};
 use dw_forms::Tag;
 use dw_forms::constants::{DW_TAG_compile_unit, DW_TAG_partial_unit, DW_TAG_type_unit};
 
@@ -99,4 +104,153 @@ impl HeaderKind {
             HeaderKind::PartialUnit => tag == DW_TAG_partial_unit,
         }
     }
+}
+
+/// A field of so many bytes.
+#[tactic(auto, unfolding(crate::specs::Header::field_at))]
+fn field(bytes: &[u8], size: usize) -> Result<(u64, &[u8]), Rule>
+    requires some { 1 ≤ size }
+    requires few { size ≤ 8 }
+    ensures { Gives (λ x. (x.0, x.1.now)) result (field_at size bytes.now) }
+{
+    if bytes.len() < size {
+        return Err(Rule::UnitCut);
+    }
+    let (front, rest) = bytes.split_at(size);
+    Ok((LittleEndian::read_uint(front, size), rest))
+}
+
+/// A field of 4 bytes.
+#[tactic(auto, unfolding(crate::specs::Header::field_at))]
+fn word(bytes: &[u8]) -> Result<(u32, &[u8]), Rule>
+    ensures { Gives (λ x. (x.0, x.1.now)) result (field_at 4 bytes.now) }
+{
+    if bytes.len() < 4 {
+        return Err(Rule::UnitCut);
+    }
+    let (front, rest) = bytes.split_at(4);
+    Ok((LittleEndian::read_u32(front), rest))
+}
+
+/// The size of an address.
+#[tactic(auto, unfolding(crate::specs::Header::address_size_at))]
+fn address_size(bytes: &[u8]) -> Result<(u8, &[u8]), Rule>
+    ensures { Gives (λ x. (x.0, x.1.now)) result (address_size_at bytes.now) }
+{
+    let (size, rest) = field(bytes, 1)?;
+    if size == 4 || size == 8 {
+        Ok((size as u8, rest))
+    } else {
+        Err(Rule::BadAddressSize)
+    }
+}
+
+/// The offset of the unit's table, where .debug_abbrev has so many bytes.
+#[tactic(auto, unfolding(crate::specs::Header::abbrev_offset_at))]
+fn abbrev_offset(abbrev_size: usize, bytes: &[u8]) -> Result<(u32, &[u8]), Rule>
+    ensures { Gives (λ x. (x.0, x.1.now)) result (abbrev_offset_at abbrev_size bytes.now) }
+{
+    let (offset, rest) = word(bytes)?;
+    if (offset as usize) < abbrev_size {
+        Ok((offset, rest))
+    } else {
+        Err(Rule::BadAbbrevOffset)
+    }
+}
+
+/// The fields behind a version of 4 (DWARF 4, 7.5.1.1).
+#[tactic(auto, unfolding(crate::specs::Header::version4_at))]
+fn version4(abbrev_size: usize, unit_length: u32, bytes: &[u8]) -> Result<(UnitHeader, &[u8]), Rule>
+    ensures { Gives (λ x. (x.0, x.1.now)) result (version4_at abbrev_size unit_length bytes.now) }
+{
+    let (abbrev_offset, rest) = abbrev_offset(abbrev_size, bytes)?;
+    let (address_size, rest) = address_size(rest)?;
+    let header = UnitHeader {
+        unit_length,
+        kind: HeaderKind::Version4,
+        address_size,
+        abbrev_offset,
+    };
+    Ok((header, rest))
+}
+
+/// The fields that a type unit has behind those of all units.
+#[tactic(auto, unfolding(crate::specs::Header::kind_at))]
+fn kind(code: u64, bytes: &[u8]) -> Result<(HeaderKind, &[u8]), Rule>
+    ensures { Gives (λ x. (x.0, x.1.now)) result (kind_at code bytes.now) }
+{
+    if code == 1 {
+        return Ok((HeaderKind::CompileUnit, bytes));
+    }
+    if code == 3 {
+        return Ok((HeaderKind::PartialUnit, bytes));
+    }
+    let (signature, rest) = field(bytes, 8)?;
+    let (type_offset, rest) = word(rest)?;
+    let kind = HeaderKind::TypeUnit {
+        signature,
+        type_offset,
+    };
+    Ok((kind, rest))
+}
+
+/// The fields behind a version of 5 (DWARF 5, 7.5.1).
+#[tactic(auto, unfolding(crate::specs::Header::version5_at))]
+fn version5(abbrev_size: usize, unit_length: u32, bytes: &[u8]) -> Result<(UnitHeader, &[u8]), Rule>
+    ensures { Gives (λ x. (x.0, x.1.now)) result (version5_at abbrev_size unit_length bytes.now) }
+{
+    let (code, rest) = field(bytes, 1)?;
+    if code == 1 || code == 2 || code == 3 {
+        let (address_size, rest) = address_size(rest)?;
+        let (abbrev_offset, rest) = abbrev_offset(abbrev_size, rest)?;
+        let (kind, rest) = kind(code, rest)?;
+        let header = UnitHeader {
+            unit_length,
+            kind,
+            address_size,
+            abbrev_offset,
+        };
+        Ok((header, rest))
+    } else {
+        Err(Rule::BadUnitType)
+    }
+}
+
+/// The fields behind unit_length.
+#[tactic(auto, unfolding(crate::specs::Header::fields_at))]
+fn fields(abbrev_size: usize, unit_length: u32, bytes: &[u8]) -> Result<(UnitHeader, &[u8]), Rule>
+    ensures { Gives (λ x. (x.0, x.1.now)) result (fields_at abbrev_size unit_length bytes.now) }
+{
+    let (version, rest) = field(bytes, 2)?;
+    if version == 4 {
+        return version4(abbrev_size, unit_length, rest);
+    }
+    if version == 5 {
+        return version5(abbrev_size, unit_length, rest);
+    }
+    Err(Rule::BadVersion)
+}
+
+/// The bytes from behind unit_length to the unit's end.
+#[tactic(auto, unfolding(crate::specs::Header::unit_at))]
+fn unit_bytes(bytes: &[u8]) -> Result<(u32, &[u8]), Rule>
+    ensures { Gives (λ x. (x.0, x.1.now)) result (unit_at bytes.now) }
+{
+    let (len, rest) = word(bytes)?;
+    if len < 0xfffffff0 {
+        if rest.len() < len as usize {
+            return Err(Rule::UnitCut);
+        }
+        return Ok((len, &rest[..len as usize]));
+    }
+    Err(Rule::Not32Bit)
+}
+
+/// The header at the front, and the bytes behind it to the unit's end.
+#[tactic(auto, unfolding(crate::specs::Header::header_at))]
+pub fn read_header(abbrev_size: usize, bytes: &[u8]) -> Result<(UnitHeader, &[u8]), Rule>
+    ensures { Gives (λ x. (x.0, x.1.now)) result (header_at abbrev_size bytes.now) }
+{
+    let (unit_length, rest) = unit_bytes(bytes)?;
+    fields(abbrev_size, unit_length, rest)
 }

@@ -1,6 +1,6 @@
 //! What is told of entries and units.
 
-ghost use Rattle.std.specs.Prelude.{◌≡◌, ◌<◌, ℕ, Some, length, slice_get, IfSome, option_map};
+ghost use Rattle.std.specs.Prelude.{◌≡◌, ◌<◌, ℕ, Some, length, slice_get, IfSome, option_map, map};
 ghost use Rattle.dw_forms.specs.KeptDecls.{view as decl_view};
 ghost use Rattle.dw_forms.specs.Value.{text, view};
 ghost use Rattle.dw_entries.specs.Entries.{Entry};
@@ -10,6 +10,7 @@ ghost use Rattle.dw_entries.specs.ValuesLeft.{values_left};
 ghost use Rattle.dw_entries.specs.Lookups.{IsKeptIn, HasSpecsIn, IsTextAt, nth_of, full_head, unit_head};
 ghost use Rattle.dw_entries.specs.Lookups.{value_at_entry};
 ghost use Rattle.dw_entries.specs.Views.{sections_of};
+ghost use Rattle.dw_entries.specs.UnitsLeft.{units_left};
 
 use crate::entries::Entries;
 use crate::header::{UnitHeader, UnitType};
@@ -174,5 +175,44 @@ impl<'a> Entries<'a> {
     {
         let entry = self.at(id);
         entry.offset() as usize + entry.text_start(attribute, bytes)
+    }
+}
+
+/// The units that are left, in rising offset.
+#[derive(Drop)]
+pub struct Units<'e, 'a> {
+    pub(crate) entries: &'e Entries<'a>,
+    pub(crate) number: usize,
+}
+
+impl<'e, 'a> Iterator for Units<'e, 'a> {
+    type Item = UnitHead;
+
+    ghost use Rattle.std.specs.Iterator.{YieldsFirst, item_count};
+
+    ghost next_gives = { YieldsFirst units_left };
+
+    ghost remaining = { item_count units_left };
+
+    fn next(&mut self) -> Option<UnitHead> {
+        if self.number < self.entries.unit_count() {
+            let unit = self.entries.unit(self.number);
+            self.number += 1;
+            Some(unit)
+        } else {
+            None
+        }
+    }
+}
+
+impl<'a> Entries<'a> {
+    /// The units in rising offset.
+    pub fn units(&self) -> Units<'_, 'a>
+        ensures { units_left result ≡ map unit_head (all_units self.now.scanned) }
+    {
+        Units {
+            entries: self,
+            number: 0,
+        }
     }
 }

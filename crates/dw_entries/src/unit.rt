@@ -8,11 +8,10 @@ ghost use Rattle.dw_entries.specs.Stopped.{IfBroken, UnitTaken};
 
 use crate::context::UnitContext;
 use crate::fault::{Break, Broken, Section};
-use crate::header_reader::read_header;
-use crate::record::{Kept, UnitRecord};
+use crate::header::read_header;
 use crate::rule::Rule;
-use crate::tables::unit_table;
-use crate::walk::{UnitPlace, walk_unit};
+use crate::scanning::unit_table;
+use crate::walk::{Kept, UnitPlace, UnitRecord, walk_unit};
 use std::alloc::Global;
 
 /// The fault of a header at this offset.

@@ -5,7 +5,7 @@ use Rattle.std.proofs.lemmas.Bool.{cases_eq}
 use Rattle.std.proofs.lemmas.List.{length-append, get_or_append_left, get_or_at}
 use Rattle.dw_forms.specs.declared.attribute_lists.Node.{Node}
 use Rattle.dw_forms.specs.declared.decl.KeptDecl.{KeptDecl}
-use Rattle.dw_forms.specs.declared.front_reader.Started.{Started}
+use Rattle.dw_forms.specs.declared.abbrev_tables.Started.{Started}
 use Rattle.dw_forms.specs.Abbrev.{Declaration, AreDeclarations}
 use Rattle.dw_forms.specs.Chains.{Numbered, items_of, chain_in}
 use Rattle.dw_forms.specs.AbbrevReading.{has_code, decl_at}

@@ -1,7 +1,7 @@
 -- The first step in a list with one attribute more.
 use Rattle.std.proofs.Common.{◌≡◌, ℕ, ◌+◌, ◌≤◌, true, false, List, ◌∷◌, refl, sym, ap, ◌∙◌, arith}
 use Rattle.dw_forms.specs.declared.decl.AttributeSpec.{AttributeSpec}
-use Rattle.dw_forms.specs.declared.steps.Step.{Step}
+use Rattle.dw_forms.specs.declared.attribute_lists.Step.{Step}
 use Rattle.dw_forms.specs.Chains.{Numbered}
 use Rattle.dw_forms.specs.Plans.{known_size}
 use Rattle.dw_forms.specs.Walks.{stops_at, step_in, skip_in, IsStep}

@@ -5,7 +5,7 @@ use Rattle.std.specs.Prelude.{get_or, Bool, true, false, Option, Some, None}
 use Rattle.dw_forms.specs.declared.decl.AttributeSpec.{AttributeSpec}
 use Rattle.dw_forms.specs.declared.attribute_lists.Node.{Node}
 use Rattle.dw_forms.specs.declared.chains.Link.{Link}
-use Rattle.dw_forms.specs.declared.steps.Step.{Step}
+use Rattle.dw_forms.specs.declared.attribute_lists.Step.{Step}
 use Rattle.dw_forms.specs.Abbrev.{AreAttributes}
 use Rattle.dw_forms.specs.AbbrevReading.{has_attribute}
 use Rattle.dw_forms.specs.Chains.{Numbered, items_of, chain_in, chains_of, number_where, codes_of}

@@ -1,9 +1,9 @@
 -- State: which value a number or an offset is, by its form (DWARF 5, 7.5.5).
 use Rattle.std.specs.Prelude.{ℕ}
-use Rattle.dw_forms.specs.declared.number.Number.{Number}
-use Rattle.dw_forms.specs.declared.number.Number.TheVariants as number
-use Rattle.dw_forms.specs.declared.number.SectionOffset.{SectionOffset}
-use Rattle.dw_forms.specs.declared.number.SectionOffset.TheVariants as offset
+use Rattle.dw_forms.specs.declared.leb.Number.{Number}
+use Rattle.dw_forms.specs.declared.leb.Number.TheVariants as number
+use Rattle.dw_forms.specs.declared.leb.SectionOffset.{SectionOffset}
+use Rattle.dw_forms.specs.declared.leb.SectionOffset.TheVariants as offset
 use Rattle.dw_forms.specs.Value.{Datum, unsigned, flag_of, ref_unit, ref_sig, str_index, addr_index, loc_index}
 use Rattle.dw_forms.specs.Value.{rng_index, str, line_str, ref_info, sec_offset}
 

@@ -5,7 +5,7 @@ use Rattle.dw_forms.specs.declared.abbrev_fault.DeclFault.{DeclFault}
 use Rattle.dw_forms.specs.declared.abbrev_fault.DeclError.{DeclError}
 use Rattle.dw_forms.specs.declared.abbrev_fault.DeclError.TheVariants as errors
 use Rattle.dw_forms.specs.declared.attribute_lists.Node.{Node}
-use Rattle.dw_forms.specs.declared.front_reader.Started.{Started}
+use Rattle.dw_forms.specs.declared.abbrev_tables.Started.{Started}
 use Rattle.dw_forms.specs.Abbrev.{Declaration}
 use Rattle.dw_forms.specs.AbbrevReading.{has_code, decl_at, table_at}
 use Rattle.dw_forms.specs.Chains.{chain_in}

@@ -11,12 +11,10 @@ ghost use Rattle.dw_forms.specs.Sizes.{are_allowed, rest_at};
 ghost use Rattle.dw_forms.specs.ValueReading.{Gives};
 ghost use Rattle.dw_forms.specs.Walks.{IsStep};
 
-use crate::attribute_lists::{AttributeLists, Node};
+use crate::attribute_lists::{AttributeLists, Node, Step, remainder_bit};
 use crate::constants::Attribute;
 use crate::decl::AttributeSpec;
 use crate::form::Form;
-use crate::known::remainder_bit;
-use crate::steps::Step;
 use crate::value::{Value, ValueFault};
 use crate::value_reader::{read_any, skip_long};
 

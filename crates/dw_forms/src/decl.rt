@@ -4,11 +4,10 @@ ghost use Rattle.std.specs.Prelude.{◌≡◌, ◌<◌, ◌≤◌, ◌⊎◌, So
 ghost use Rattle.dw_forms.specs.AttributeLists.{HasList, spec_of};
 ghost use Rattle.dw_forms.specs.Codes.{is_type_tag};
 
-use crate::attribute_lists::AttributeLists;
+use crate::attribute_lists::{AttributeLists, Step};
 use crate::attributes::Attributes;
 use crate::constants::{Attribute, Tag};
 use crate::form::Form;
-use crate::steps::Step;
 
 /// An attribute specification: an attribute, and the form of its values.
 #[derive(Clone, Copy, Debug, PartialEq, Eq)]

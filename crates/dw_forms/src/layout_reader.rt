@@ -7,8 +7,7 @@ ghost use Rattle.dw_forms.specs.Value.{block as block_datum, signed, wide, text 
 ghost use Rattle.dw_forms.specs.NumberValues.{number_datum, offset_datum};
 ghost use Rattle.dw_forms.specs.ValueReading.{Gives, GivesIn, fixed_at, block_at, counted_at, leb_counted_at, ended_at};
 
-use crate::leb::{read_sleb, read_uleb};
-use crate::number::{Number, SectionOffset};
+use crate::leb::{Number, SectionOffset, read_sleb, read_uleb};
 use crate::value::{Value, ValueFault};
 use byteorder::{ByteOrder, LittleEndian};
 use memchr::memchr;

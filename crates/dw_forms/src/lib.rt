@@ -11,15 +11,11 @@ mod chains;
 pub mod constants;
 mod decl;
 mod form;
-mod front_reader;
-mod known;
 mod laws;
 mod layout_reader;
 mod leb;
 mod list_reader;
-mod number;
 mod offsets;
-mod steps;
 mod value;
 mod value_reader;
 
@@ -27,7 +23,7 @@ pub use abbrev::{AbbrevTable, TableDecl};
 pub use abbrev_fault::{AbbrevFault, AbbrevRule, BrokenTable};
 pub use abbrev_reader::read_table;
 pub use abbrev_tables::AbbrevTables;
-pub use attribute_lists::{AttributeLists, Node};
+pub use attribute_lists::{AttributeLists, Node, Step};
 pub use attributes::Attributes;
 pub use constants::{Attribute, Language, Tag};
 pub use decl::{AttributeSpec, Decl, Decls, KeptDecl};
@@ -37,6 +33,5 @@ pub use laws::{
     tables_are_read_by_grammar, unsigned_numbers_are_apart, values_are_apart,
 };
 pub use leb::{NumberFault, read_sleb, read_uleb};
-pub use steps::Step;
 pub use value::{Value, ValueFault};
 pub use value_reader::{read_value, skip_value};

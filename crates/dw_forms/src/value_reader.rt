@@ -13,8 +13,7 @@ use crate::layout_reader::{
     address_value, counted, counted_block, expression, fixed, fixed_number, leb_block, leb_counted,
     leb_number, offset, section_offset, signed_number, text, text_value, wide_constant,
 };
-use crate::leb::{read_sleb, read_uleb};
-use crate::number::{Number, SectionOffset};
+use crate::leb::{Number, SectionOffset, read_sleb, read_uleb};
 use crate::value::{Value, ValueFault};
 
 /// The value of a form that names no other form, and how many bytes it has.

@@ -1,12 +1,18 @@
--- The entry that starts at an offset: offsets rise, so there is one at most.
-use Rattle.std.proofs.Common.{◌≡◌, ◌≢◌, ℕ, zero, suc, ◌+◌, ◌<◌, ◌==◌, true, false, List, [], ◌∷◌, Option, Some, None, IfSome, refl, sym, ap, ◌∙◌, arith, length, ne_eqb, eq-eqb}
+-- The entry that starts at an offset: offsets rise, so there is one at most; and a text is no longer than its section.
+use Rattle.std.proofs.Common.{◌≡◌, ◌≢◌, ℕ, zero, suc, ◌+◌, ◌<◌, ◌==◌, true, false, List, [], ◌∷◌, Option, Some, None, IfSome, refl, sym, ap, ◌∙◌, arith, length, ne_eqb, eq-eqb, ◌≤◌, drop, length-take, length-drop}
 use Rattle.std.specs.Prelude.{slice_get, All, IfNone}
-use Rattle.std.specs.List.{position_from}
+use Rattle.std.specs.List.{position_from, position_or_len}
 use Rattle.std.proofs.lemmas.List.Elements.{All-head, All-tail}
+use Rattle.dw_elf.specs.declared.sections.Sections.{Sections}
+use Rattle.dw_elf.specs.Limits.{section_limit}
 use Rattle.dw_entries.specs.Asked.{OffsetsRise}
 use Rattle.dw_entries.specs.Entries.{Entry}
-use Rattle.dw_image.specs.Lookups.{entry_at}
+use Rattle.dw_links.specs.declared.texts.TextPlace.{TextPlace}
+use Rattle.dw_links.specs.declared.texts.TextPlace.TheVariants.{Info, Str, LineStr}
+use Rattle.dw_links.specs.Contributions.{string_at}
+use Rattle.dw_links.specs.ValueTexts.{text_there}
 pub use Rattle.dw_types.proofs.ChildSteps.{slice_get_none}
+use Rattle.dw_image.specs.Lookups.{entry_at}
 
 found_from : (es : List Entry) (offset k i : ℕ) (e : Entry) → slice_get es i ≡ Some e → e.at ≡ offset → ((j : ℕ) (d : Entry) → j < i → slice_get es j ≡ Some d → (d.at == offset) ≡ false)
     → position_from (λ d. d.at == offset) k es ≡ Some (k + i)
@@ -47,3 +53,13 @@ pub entry_is : (es : List Entry) (offset : ℕ) (found : Option ℕ) → Offsets
     → IfNone found (All (λ (e : Entry). e.at ≢ offset) es) → found ≡ entry_at es offset
 entry_is es offset None rise there within gone = sym (entry_gone es offset gone)
 entry_is es offset (Some id) rise there within gone = sym (entry_found es offset id rise within there)
+
+string_short : (section : List ℕ) (offset : ℕ) → length (string_at section offset) ≤ length section
+string_short section offset =
+    let rest : List ℕ = drop offset section in
+    omega (arith, length-take (position_or_len (λ byte. byte == 0) rest) rest, length-drop offset section)
+
+pub text_short : (s : Sections) (place : TextPlace) → length (text_there s place) ≤ section_limit
+text_short s (Info offset) = omega (arith, string_short s.info.now offset, s.info_fits)
+text_short s (Str offset) = omega (arith, string_short s.str.now offset, s.str_fits)
+text_short s (LineStr offset) = omega (arith, string_short s.line_str.now offset, s.line_str_fits)

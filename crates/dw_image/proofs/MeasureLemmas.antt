@@ -1,19 +1,138 @@
--- What is made of the types of entries, and how it fails.
-use Rattle.std.proofs.Common.{◌<◌, List, arith}
+-- Cycles of steps by value, and the rules on sizes by the one table: what is made of the types of entries, and how it
+-- fails.
+use Rattle.std.proofs.Common.{◌≡◌, ℕ, ◌+◌, ◌-◌, ◌<◌, ◌≤◌, ◌⊎◌, List, [], length, refl, sym, ap, ◌∙◌, subst, arith, inl, inr, Option, Some, None}
+use Rattle.std.specs.Prelude.{slice_index, slice_get, IfSome}
+use Rattle.std.proofs.lemmas.List.{get_or_past}
+use Rattle.std.proofs.lemmas.Option.{slice_get_within}
 use Rattle.dw_elf.specs.declared.sections.Sections.{Sections}
-use Rattle.dw_entries.specs.declared.fault.Fault.{Fault}
-use Rattle.dw_entries.specs.Failures.{HasNone, IsFirst, IsPlainFault}
+use Rattle.dw_entries.specs.Entries.{entries_of, placed}
+use Rattle.dw_entries.specs.declared.rule.Rule.TheVariants.{ContainsItself}
+use Rattle.dw_entries.specs.Failures.{Failure, HasNone, IsFirst, IsPlainFault}
+use Rattle.dw_entries.specs.Places.{at_entry}
 use Rattle.dw_entries.specs.Units.{DebugUnit}
+use Rattle.dw_entries.specs.declared.rule.Rule.{Rule}
+use Rattle.dw_entries.specs.declared.fault.Broken.{Broken}
+use Rattle.dw_entries.specs.declared.fault.Fault.{Fault}
+use Rattle.dw_links.proofs.Skips.{there}
+use Rattle.dw_types.proofs.FactsLemmas.{facts-get, facts-offset, length-facts_of, facts-parents_first, facts-targets}
+use Rattle.dw_types.specs.Graphs.{Graph, IsStep, steps_of, IsCycle, HasNoCycle}
+use Rattle.dw_types.proofs.StepLemmas.{length-by_value, by_value-from_step, step-from_by_value}
+use Rattle.dw_types.specs.declared.facts.Facts.{Facts}
 use Rattle.dw_types.specs.FactsOf.{facts_in}
-use Rattle.dw_types.specs.Graphs.{HasNoCycle}
 use Rattle.dw_types.specs.Shapes.{ShapeFailures}
-use Rattle.dw_types.specs.SizeFaults.{IsFirstSizeFault}
 use Rattle.dw_types.specs.Steps.{by_value}
-use Rattle.dw_types.proofs.FactsLemmas.{facts-parents_first, facts-targets}
-use Rattle.dw_image.specs.First.{Group, classes, strings, references, shapes, cycles, sizes, turn_of, failures_of, NamesCycle}
+use Rattle.dw_types.specs.Entries.{entry_of, ParentsComeFirst, TargetsAreEntries}
+use Rattle.dw_types.specs.SizeTables.{Size}
+use Rattle.dw_types.specs.Sizes.{IsSizeTable, size_to}
+use Rattle.dw_types.specs.SizeFaults.{fails_size, SizeFailures, IsFirstSizeFault}
+use Rattle.dw_image.specs.First.{offset_at, ContainsItselfAt, FailsBySize, Group, classes, strings, references, shapes, cycles, sizes, turn_of, failures_of, NamesCycle}
+use Rattle.dw_image.specs.Headline.{HoldsNoneOfItself}
 use Rattle.dw_image.specs.Measures.{FailsInTypes}
-use Rattle.dw_image.proofs.CycleLaws.{no_cycle_holds}
-use Rattle.dw_image.proofs.SizeLaws.{first_by_size}
+
+-- without a closed list of steps no entry contains itself
+pub no_cycle_holds : (facts : List Facts) → HasNoCycle (by_value facts) → HasNone (ContainsItselfAt facts)
+no_cycle_holds facts none f fails = none fails.nodes fails.is_cycle.closed
+
+-- a cycle fails where it begins
+abbrev pub cycle_failure : List Facts → List ℕ → Failure
+cycle_failure facts nodes = record { rule = ContainsItself; place = at_entry (offset_at facts (slice_index nodes 0)); attribute = 0 }
+
+pub cycle_fails : (facts : List Facts) (nodes : List ℕ) → IsCycle (by_value facts) nodes → ContainsItselfAt facts (cycle_failure facts nodes)
+cycle_fails facts nodes cycle = record { nodes = nodes; is_cycle = cycle; rule = refl; place = refl; attribute = refl }
+
+pub contained_of : (units : List DebugUnit) → HasNone (ShapeFailures (facts_in units)) → HasNoCycle (by_value (facts_in units)) → HoldsNoneOfItself units
+contained_of units sound none = record {
+  shapes = sound;
+  steps = λ from to. (by_value-from_step (facts_in units) from to, step-from_by_value (facts_in units) from to);
+  none = none;
+}
+
+-- ---- the nodes of a cycle are entries
+
+from_below : (graph : Graph) (from to : ℕ) → IsStep graph from to → from < length graph
+from_below graph from to step = go two_ways
+  where
+    two_ways : (from < length graph) ⊎ (length graph ≤ from)
+    two_ways = grind arith
+
+    go : (from < length graph) ⊎ (length graph ≤ from) → from < length graph
+    go (inl below) = below
+    go (inr past) =
+        let none : steps_of graph from ≡ [] = get_or_past graph from [] past in
+        let within : step.0 < length (steps_of graph from) = step.1 in
+        absurd (omega (arith, within, ap length none))
+
+pub node_below : (graph : Graph) (nodes : List ℕ) → IsCycle graph nodes → (k : ℕ) → k < length nodes → slice_index nodes k < length graph
+node_below graph nodes cycle k within = go two_ways
+  where
+    two_ways : (k + 1 < length nodes) ⊎ (k ≡ length nodes - 1)
+    two_ways = grind (arith, within)
+
+    go : (k + 1 < length nodes) ⊎ (k ≡ length nodes - 1) → slice_index nodes k < length graph
+    go (inl more) = from_below graph (slice_index nodes k) (slice_index nodes (k + 1)) (cycle.closed.steps k more)
+    go (inr last) =
+        let two = cycle.closed.two in
+        let first = from_below graph (slice_index nodes 0) (slice_index nodes 1) (cycle.closed.steps 0 (omega (arith, two))) in
+        subst (λ n. n < length graph) (cycle.closed.closed ∙ ap (slice_index nodes) (sym last)) first
+
+pub entry_below : (units : List DebugUnit) (nodes : List ℕ) → IsCycle (by_value (facts_in units)) nodes → (k : ℕ) → k < length nodes → slice_index nodes k < length (entries_of units)
+entry_below units nodes cycle k within =
+    let p = node_below (by_value (facts_in units)) nodes cycle k within in
+    let long = length-by_value (facts_in units) in
+    let same = length-facts_of (entries_of units) (placed units) in
+    omega (arith, p, long, same)
+
+-- where an entry begins
+pub offset_told : (units : List DebugUnit) (number offset : ℕ) → number < length (entries_of units) → IfSome (slice_get (entries_of units) number) (λ e. offset ≡ e.at)
+    → offset ≡ offset_at (facts_in units) number
+offset_told units number offset below tells =
+    let (e, is) = there (entries_of units) number below in
+    let same : offset ≡ e.at = rw is at tells in
+    same ∙ sym (ap (λ (f : Facts). f.offset) (facts-get (entries_of units) (placed units) number e is) ∙ facts-offset (entries_of units) (placed units) e)
+
+module _ (facts : List Facts) (parents : ParentsComeFirst facts) (targets : TargetsAreEntries facts) where
+  -- two size tables are one at each entry
+  same_at : (table other : ℕ → Size) → IsSizeTable facts table → IsSizeTable facts other → (node : ℕ) → node < length facts → other node ≡ table node
+  same_at table other one two node below = one.only other two.obeys node below
+
+  same_to : (table other : ℕ → Size) → IsSizeTable facts table → IsSizeTable facts other → (target : Option ℕ) → ((to : ℕ) → target ≡ Some to → to < length facts)
+      → size_to other target ≡ size_to table target
+  same_to table other one two None within = refl
+  same_to table other one two (Some to) within = same_at table other one two to (within to refl)
+
+  same_fails : (table other : ℕ → Size) → IsSizeTable facts table → IsSizeTable facts other → (node : ℕ) → node < length facts → (rule : Rule)
+      → fails_size facts other node rule ≡ fails_size facts table node rule
+  same_fails table other one two node below rule =
+      let here = same_at table other one two node below in
+      let above = same_to table other one two (entry_of facts node).parent (λ to is. let p = parents node to is in omega (arith, p, below)) in
+      let under = same_to table other one two (entry_of facts node).type_target (λ to is. (targets node to).0 is) in
+      cc
+
+  -- what fails by one fails by the other
+  pub same_failures : (table other : ℕ → Size) → IsSizeTable facts table → IsSizeTable facts other → (f : Failure) → SizeFailures facts other f → SizeFailures facts table f
+  same_failures table other one two f fails =
+      let below = slice_get_within facts fails.number fails.item fails.is_item in
+      record {
+        number = fails.number;
+        item = fails.item;
+        is_item = fails.is_item;
+        fails = record {
+          stands = fails.fails.stands;
+          attribute = fails.fails.attribute;
+          fails = sym (same_fails table other one two fails.number below f.rule) ∙ fails.fails.fails;
+        };
+      }
+
+  pub none_by_size : (table : ℕ → Size) → IsSizeTable facts table → HasNone (SizeFailures facts table) → HasNone (FailsBySize facts)
+  none_by_size table one none f fails = none f (same_failures table fails.table one fails.one f fails.fails)
+
+  pub first_by_size : (broken : Broken) → IsFirstSizeFault facts broken → IsFirst (FailsBySize facts) broken
+  first_by_size broken fault = record {
+    failure = fault.first.failure;
+    fails = record { table = fault.table; one = fault.is_table; fails = fault.first.fails };
+    named = fault.first.named;
+    first = λ g fails precedes. fault.first.first g (same_failures fault.table fails.table fault.is_table fails.one g fails.fails) precedes;
+  }
 
 none_late : (s : Sections) (us : List DebugUnit) (earlier : Group) → 4 < turn_of earlier → turn_of earlier < 5 → HasNone (failures_of s us earlier)
 none_late s us earlier late less = absurd (omega (arith, late, less))

@@ -1,20 +1,17 @@
 //! The verifier: what sections are found to be, and look-ups in those that are sound.
 #![tactic(auto)]
 
-mod children;
-mod id;
 mod image;
 mod laws;
 mod lookup;
-mod measuring;
 mod types;
 mod verifying;
 
-pub use children::Children;
 pub use dw_entries::{EntryId, Fault, Head, Rule, Section, Tag};
 pub use dw_links::{TextPlace, string_from};
 pub use dw_types::NoMemory;
-pub use id::TypeId;
 pub use image::Image;
 pub use laws::{images_are_sound, one_first_fault, one_list, valid_has_no_fault};
+pub use lookup::Children;
+pub use types::TypeId;
 pub use verifying::{Verdict, verify};

@@ -1,12 +1,14 @@
-//! Look-ups of entries in an image.
+//! Look-ups of entries in an image, and the children of an entry, one by one.
 
 ghost use Rattle.std.specs.Prelude.{◌≡◌, ◌<◌, length, slice_get, IfSome, option_map, option_copied};
 ghost use Rattle.dw_forms.specs.Value.{view};
 ghost use Rattle.dw_entries.specs.Lookups.{nth_of, full_head, value_at_entry};
 ghost use Rattle.dw_entries.specs.Entries.{placed};
+ghost use Rattle.dw_entries.specs.Scanned.{all_entries};
 ghost use Rattle.dw_links.specs.Slots.{IsPlace};
 ghost use Rattle.dw_links.specs.Targets.{target_of};
 ghost use Rattle.dw_links.specs.ValueTexts.{text_there};
+ghost use Rattle.dw_types.specs.Children.{children_of, IsChild};
 ghost use Rattle.dw_image.specs.Images.{units_in, entries_in, name_in, sections_in};
 ghost use Rattle.dw_image.specs.Lookups.{entry_at};
 
@@ -14,6 +16,7 @@ use crate::image::Image;
 use dw_entries::constants::DW_AT_name;
 use dw_entries::{Attribute, Entries, EntryId, Head, Tag, Value};
 use dw_links::TextPlace;
+use dw_types::first_child;
 
 impl<'a> Image<'a> {
     /// The entries of the image, as they were scanned.
@@ -116,5 +119,49 @@ impl<'a> Image<'a> {
         ensures { IfSome (slice_get (entries_in self.now) id) (λ e. option_copied result ≡ name_in self.now e) }
     {
         self.tables.text(&self.entries, id, DW_AT_name)
+    }
+}
+
+/// The children of an entry that are left, in rising offset.
+#[derive(Drop)]
+pub struct Children<'i, 'a> {
+    entries: &'i Entries<'a>,
+    parent: EntryId,
+    next: Option<EntryId>,
+    ghost linked: { IsChild (all_entries entries.now.scanned) parent next },
+}
+
+impl<'i, 'a> Iterator for Children<'i, 'a> {
+    type Item = EntryId;
+
+    ghost use Rattle.std.specs.Iterator.{YieldsFirst, item_count};
+    ghost use Rattle.dw_image.specs.ChildrenLeft.{children_left};
+
+    ghost next_gives = { YieldsFirst children_left };
+
+    ghost remaining = { item_count children_left };
+
+    fn next(&mut self) -> Option<EntryId> {
+        let id = self.next?;
+        self.next = self.entries.next_sibling(id);
+        Some(id)
+    }
+}
+
+impl<'a> Image<'a> {
+    ghost use Rattle.dw_image.specs.Images.{entries_in};
+    ghost use Rattle.dw_image.specs.ChildrenLeft.{children_left};
+
+    /// The children of an entry, in rising offset.
+    #[tactic(auto, unfolding(crate::specs::Images::units_in))]
+    pub fn children(&self, id: EntryId) -> Children<'_, 'a>
+        requires { id < length (entries_in self.now) }
+        ensures { children_left result ≡ children_of (entries_in self.now) id }
+    {
+        Children {
+            entries: &self.entries,
+            parent: id,
+            next: first_child(&self.entries, id),
+        }
     }
 }

@@ -1,4 +1,5 @@
-//! Look-ups of types in an image: what holds which by value, how large they are, how many elements a dimension has.
+//! Types in an image: which entries they are, what holds which by value, how large they are, how many elements a
+//! dimension has.
 
 ghost use Rattle.std.specs.Prelude.{◌≡◌, ◌<◌, length, slice_get, IfSome};
 ghost use Rattle.dw_types.specs.Counts.{count_at};
@@ -7,11 +8,43 @@ ghost use Rattle.dw_types.specs.Graphs.{steps_of};
 ghost use Rattle.dw_image.specs.Images.{units_in, entries_in, steps_in, size_table_in, type_in};
 ghost use Rattle.dw_image.specs.Lookups.{type_number};
 
-use crate::id::TypeId;
 use crate::image::Image;
 use dw_entries::EntryId;
 use dw_entries::constants::DW_AT_type;
 use dw_types::{ByValue, StepGraph, count_at};
+use std::marker::Model;
+
+/// The number of an entry with a type tag. The look-ups of an image make it.
+#[derive(Clone, Copy, Debug, PartialEq, Eq, Hash, PartialOrd, Ord)]
+pub struct TypeId {
+    entry: EntryId,
+}
+
+impl Model for TypeId {
+    ghost use Rattle.std.specs.Prelude.{ℕ};
+
+    ghost Value = { ℕ };
+
+    ghost view = { λ id. id.entry };
+
+    ghost inverse = { λ n. record { entry = n } };
+}
+
+impl TypeId {
+    /// The type at an entry.
+    pub(crate) fn new(entry: EntryId) -> TypeId
+        ensures { result ≡ entry }
+    {
+        TypeId { entry }
+    }
+
+    /// The entry.
+    pub fn entry(self) -> EntryId
+        ensures { result ≡ self }
+    {
+        self.entry
+    }
+}
 
 impl Image<'_> {
     /// The type at an entry. None if its tag is not a type's.

@@ -1,18 +1,27 @@
--- Which rule on references has the least number of those that fail.
-use Rattle.std.proofs.Common.{◌≡◌, ℕ, ◌<◌, true, false, List, Option, Some, None, refl, sym, ap, ◌∙◌, arith, subst, inl, inr}
-use Rattle.std.specs.Prelude.{slice_get, IsSome}
+-- Which rule on strings, addresses and references has the least number of those that fail.
+use Rattle.std.proofs.Common.{◌≡◌, ℕ, false, Option, Some, None, refl, ◌<◌, true, List, sym, ap, ◌∙◌, arith, subst, inl, inr}
+use Rattle.std.specs.Prelude.{is_some, slice_get, IsSome}
 use Rattle.dw_forms.specs.Value.{Datum, ref_sig}
 use Rattle.dw_entries.specs.declared.rule.Rule.{Rule}
+use Rattle.dw_entries.specs.Failures.{IsLeast}
 use Rattle.dw_entries.specs.declared.rule.Rule.TheVariants as rule
 use Rattle.dw_entries.specs.declared.lookup.EntryHead.{EntryHead}
 use Rattle.dw_entries.specs.Entries.{Entry, PlacedUnit}
-use Rattle.dw_entries.specs.Failures.{IsLeast}
 use Rattle.dw_entries.specs.Rules.{number_of}
 use Rattle.dw_entries.proofs.Firsts.{same_some}
 use Rattle.dw_links.specs.References.{permits, permits_form, is_signature, is_reference_value, NoEntryThere, IsWrongKind, IsOtherThan, NoSignatureThere, ReferenceFails}
 use Rattle.dw_links.specs.SignedTypes.{AreTyped}
 use Rattle.dw_links.specs.Targets.{reach_of}
 use Rattle.dw_links.proofs.TargetLaws.{at_type}
+
+-- where a premise holds, the least rule is that of what comes under it
+pub least_under : (P Q : Type 0) (F : Rule → Type 0) (o : Option Rule) → P → Q → IsLeast F o → IsLeast (λ r. P × Q × F r) o
+least_under P Q F None p q least = λ rule fails. least rule fails.2
+least_under P Q F (Some r) p q least = ((p, q, least.0), λ rule fails less. least.1 rule fails.2 less)
+
+pub none_of : (o : Option ℕ) → is_some o ≡ false → o ≡ None
+none_of None is = refl
+none_of (Some n) is = absurd cc
 
 -- a signature that reaches no entry is no unit's
 pub no_signature : (entries : List Entry) (units : List PlacedUnit) (unit : ℕ) (v : Datum) → AreTyped entries units → is_signature v ≡ true → reach_of entries units unit v ≡ None → NoSignatureThere units v

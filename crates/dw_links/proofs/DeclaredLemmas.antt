@@ -4,7 +4,7 @@ use Rattle.std.specs.Prelude.{slice_get}
 use Rattle.std.proofs.lemmas.List.{length-set}
 use Rattle.std.proofs.lemmas.Option.{slice_get_within, slice_get-get_or}
 use Rattle.dw_entries.specs.Entries.{Entry}
-use Rattle.dw_links.specs.declared.declared_entries.Known.{Known}
+use Rattle.dw_links.specs.declared.targets.Known.{Known}
 use Rattle.dw_links.specs.References.{is_declared}
 use Rattle.dw_links.specs.DeclaredEntries.{known_as, IsKnownOf, KeepsDeclared}
 

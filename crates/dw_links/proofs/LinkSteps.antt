@@ -3,7 +3,7 @@
 use Rattle.std.proofs.Common.{◌≡◌, ℕ, suc, Bool, true, false, List, [], ◌∷◌, ◌++◌, Option, Some, None, refl, sym, ap, ◌∙◌, append_assoc}
 use Rattle.std.specs.Prelude.{◌==◌, option_map}
 use Rattle.std.specs.Option.{option_flatten, option_and_then}
-use Rattle.dw_forms.specs.Codes.{DW_AT_type, DW_AT_str_offsets_base, DW_AT_addr_base}
+use Rattle.dw_forms.specs.Codes.{DW_AT_type}
 use Rattle.dw_forms.specs.Value.{Datum}
 use Rattle.dw_entries.specs.Asked.{values_of}
 use Rattle.dw_entries.specs.Chosen.{ArePassed, IsNextOf}
@@ -13,12 +13,11 @@ use Rattle.dw_entries.specs.Lookups.{entry_head, value_in}
 use Rattle.dw_links.specs.declared.linking.Failed.{Failed}
 use Rattle.dw_links.specs.declared.linking.Failed.TheVariants.{String, Reference}
 use Rattle.dw_links.specs.declared.references.References.{References}
-use Rattle.dw_links.specs.Kept.{kept_after}
+use Rattle.dw_links.specs.Linking.{kept_after, LinksNext, HasFailedNext, IsLinked, HasFailed}
 use Rattle.dw_links.specs.Linkable.{entries_in, units_in, reached_by, FailsByTarget}
-use Rattle.dw_links.specs.Linking.{LinksNext, HasFailedNext, IsLinked, HasFailed}
 use Rattle.dw_links.specs.Ready.{FailsByTexts}
 use Rattle.dw_links.specs.Targets.{reach_of, target_of}
-use Rattle.dw_links.proofs.FormClasses.{leads, passes_texts, passes_targets}
+use Rattle.dw_links.proofs.ClassLaws.{leads, passes_texts, passes_targets}
 use Rattle.dw_links.proofs.RuleSteps.{Checked, none_checked, checked_more, checked_fails, checked_all}
 
 -- ---- the first type

@@ -21,7 +21,7 @@ use Rattle.dw_entries.proofs.Firsts.{same_some}
 use Rattle.dw_links.specs.Contributions.{IsContribution, slot_count, slot_at}
 use Rattle.dw_links.specs.Bases.{section_offset_in, section_offset_of, base_in}
 use Rattle.dw_links.specs.Strings.{IsStringContribution, IsAddressContribution, StringIndexFails, AddressIndexFails, StringFailsIn, StringFailures}
-use Rattle.dw_links.specs.declared.link_tables.UnitBases.{UnitBases}
+use Rattle.dw_links.specs.declared.links.UnitBases.{UnitBases}
 use Rattle.dw_links.specs.Tables.{bases_in}
 use Rattle.dw_links.specs.ValueTexts.{text_of, address_of}
 use Rattle.dw_links.specs.AttributeTexts.{text_at, address_at}

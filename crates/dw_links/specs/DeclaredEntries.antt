@@ -1,8 +1,8 @@
 -- State: which entries are known to be declarations, while references are followed.
 use Rattle.std.specs.Prelude.{◌≡◌, ℕ, Bool, true, false, List, Some, length, slice_get}
 use Rattle.dw_entries.specs.Entries.{Entry}
-use Rattle.dw_links.specs.declared.declared_entries.Known.{Known}
-use Rattle.dw_links.specs.declared.declared_entries.Known.TheVariants.{Unread, Declared, NotDeclared}
+use Rattle.dw_links.specs.declared.targets.Known.{Known}
+use Rattle.dw_links.specs.declared.targets.Known.TheVariants.{Unread, Declared, NotDeclared}
 use Rattle.dw_links.specs.References.{is_declared}
 
 -- what is kept of an entry once it has been read

@@ -16,7 +16,6 @@ pub mod Ready
 pub mod Slots
 pub mod SignedTypes
 pub mod Linkable
-pub mod Kept
 pub mod DeclaredEntries
 pub mod Tables
 pub mod Linking

@@ -1,6 +1,7 @@
 -- State: what is found at an entry and at its values, while the links of all entries are read.
-use Rattle.std.specs.Prelude.{◌≡◌, ℕ, List, Option, None, Some}
+use Rattle.std.specs.Prelude.{ℕ, ◌==◌, if◌then◌else◌, Option, None, Some, ◌≡◌, List}
 use Rattle.dw_elf.specs.declared.sections.Sections.{Sections}
+use Rattle.dw_forms.specs.Codes.{DW_AT_type}
 use Rattle.dw_forms.specs.Value.{Datum}
 use Rattle.dw_entries.specs.declared.fault.Broken.{Broken}
 use Rattle.dw_entries.specs.declared.fault.Section.TheVariants.{Info}
@@ -20,6 +21,11 @@ use Rattle.dw_links.specs.Ready.{FailsByTexts}
 use Rattle.dw_links.specs.References.{ReferenceFailures}
 use Rattle.dw_links.specs.Strings.{StringFailures}
 use Rattle.dw_links.specs.Tables.{type_target}
+
+-- what the first type reaches, behind one attribute more
+abbrev pub kept_after : Option (Option ℕ) → (attribute : ℕ) → (reached : Option ℕ) → Option (Option ℕ)
+kept_after (Some target) attribute reached = Some target
+kept_after None attribute reached = if attribute == DW_AT_type then Some reached else None
 
 -- no rule fails at the next attribute, which reaches this entry, if any; those behind it are left
 pub record LinksNext (it : References) (head : EntryHead) (left behind : List (ℕ × Datum)) (linked : ℕ × Option ℕ)

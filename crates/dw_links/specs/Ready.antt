@@ -6,8 +6,8 @@ use Rattle.dw_entries.specs.declared.rule.Rule.{Rule}
 use Rattle.dw_entries.specs.declared.lookup.EntryHead.{EntryHead}
 use Rattle.dw_entries.specs.Header.{IsSize}
 use Rattle.dw_entries.specs.Entries.{Entry}
-use Rattle.dw_links.specs.declared.string_rules.StringEnds.{StringEnds}
-use Rattle.dw_links.specs.declared.string_rules.UnitTexts.{UnitTexts}
+use Rattle.dw_links.specs.declared.strings.StringEnds.{StringEnds}
+use Rattle.dw_links.specs.declared.strings.UnitTexts.{UnitTexts}
 use Rattle.dw_forms.specs.Codes.{DW_AT_str_offsets_base, DW_AT_addr_base}
 use Rattle.dw_entries.specs.Entries.{PlacedUnit}
 use Rattle.dw_links.specs.Contributions.{IsRead, base_of, IsEndOfStrings}

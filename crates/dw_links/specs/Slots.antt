@@ -4,8 +4,8 @@ use Rattle.dw_elf.specs.declared.sections.Sections.{Sections}
 use Rattle.dw_forms.specs.Value.{Datum, str, line_str, str_index, addr_index}
 use Rattle.dw_entries.specs.declared.header.UnitHeader.{UnitHeader}
 use Rattle.dw_entries.specs.Header.{IsSize}
-use Rattle.dw_links.specs.declared.text_place.TextPlace.{TextPlace}
-use Rattle.dw_links.specs.declared.text_place.TextPlace.TheVariants.{Info, Str, LineStr}
+use Rattle.dw_links.specs.declared.texts.TextPlace.{TextPlace}
+use Rattle.dw_links.specs.declared.texts.TextPlace.TheVariants.{Info, Str, LineStr}
 use Rattle.dw_links.specs.Contributions.{slot_at}
 
 -- the slot of an index lies within .debug_str_offsets, and the string that it leads to within .debug_str

@@ -4,8 +4,8 @@ use Rattle.dw_forms.specs.Codes.{DW_AT_str_offsets_base, DW_AT_addr_base, DW_AT_
 use Rattle.dw_entries.specs.declared.entries.Entries.{Entries}
 use Rattle.dw_entries.specs.Entries.{Entry, PlacedUnit}
 use Rattle.dw_entries.specs.Scanned.{all_entries, all_units}
-use Rattle.dw_links.specs.declared.link_tables.UnitBases.{UnitBases}
-use Rattle.dw_links.specs.declared.link_tables.LinkTables.{LinkTables}
+use Rattle.dw_links.specs.declared.links.UnitBases.{UnitBases}
+use Rattle.dw_links.specs.declared.links.LinkTables.{LinkTables}
 use Rattle.dw_links.specs.Bases.{base_in}
 use Rattle.dw_links.specs.SignedTypes.{HasSignedTypes}
 use Rattle.dw_links.specs.Targets.{target_of}

@@ -3,8 +3,8 @@ use Rattle.std.specs.Prelude.{ℕ, List, Option, None, Some}
 use Rattle.dw_elf.specs.declared.sections.Sections.{Sections}
 use Rattle.dw_forms.specs.Value.{Datum, address, text, str, line_str, str_index, addr_index}
 use Rattle.dw_entries.specs.declared.header.UnitHeader.{UnitHeader}
-use Rattle.dw_links.specs.declared.text_place.TextPlace.{TextPlace}
-use Rattle.dw_links.specs.declared.text_place.TextPlace.TheVariants.{Info, Str, LineStr}
+use Rattle.dw_links.specs.declared.texts.TextPlace.{TextPlace}
+use Rattle.dw_links.specs.declared.texts.TextPlace.TheVariants.{Info, Str, LineStr}
 use Rattle.dw_links.specs.Contributions.{slot_at, string_at}
 
 -- the text of an indexed string: the one that its slot leads to

@@ -2,28 +2,18 @@
 #![tactic(auto)]
 
 mod class;
-mod class_checks;
 mod contribution;
-mod declared_entries;
-mod faults;
-mod headers;
-mod kinds;
 mod laws;
-mod link_tables;
 mod linking;
 mod links;
 mod references;
-mod slots;
-mod string_checks;
-mod string_rules;
+mod signatures;
+mod strings;
 mod targets;
-mod text_lookups;
-mod text_place;
+mod texts;
 
-pub use class::{Class, class_of_value};
-pub use class_checks::check_classes;
+pub use class::{Class, check_classes, class_of_value};
 pub use laws::{one_entry_is_reached, references_have_targets, strings_have_texts};
-pub use link_tables::LinkTables;
-pub use links::{Links, link};
-pub use string_checks::check_strings;
-pub use text_place::{TextPlace, string_from};
+pub use links::{LinkTables, Links, link};
+pub use strings::check_strings;
+pub use texts::{TextPlace, string_from};

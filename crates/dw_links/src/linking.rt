@@ -11,20 +11,18 @@ ghost use Rattle.dw_entries.specs.Leading.{next_form, leading_left};
 ghost use Rattle.dw_entries.specs.Failures.{HasNone, IsFirst, IsLeast};
 ghost use Rattle.dw_entries.specs.Stopped.{IfFault};
 ghost use Rattle.dw_links.specs.DeclaredEntries.{KeepsDeclared};
-ghost use Rattle.dw_links.specs.Kept.{kept_after};
+ghost use Rattle.dw_links.specs.Linking.{kept_after, LinksNext, HasFailedNext, IsLinked, HasFailed, IsFirstOfGroup};
 ghost use Rattle.dw_links.specs.Linkable.{entries_in, FailsByTarget, reached_by, MayAsk};
 ghost use Rattle.dw_links.specs.LinkFaults.{IsFirstOfTargets};
-ghost use Rattle.dw_links.specs.Linking.{LinksNext, HasFailedNext, IsLinked, HasFailed, IsFirstOfGroup};
 ghost use Rattle.dw_links.specs.References.{HeaderFailures, ReferenceFailures};
 ghost use Rattle.dw_links.specs.SignedTypes.{HasSignedTypes, AreTyped};
 ghost use Rattle.dw_links.specs.Strings.{StringFailures};
 ghost use Rattle.dw_links.specs.Tables.{type_target};
 
-use crate::declared_entries::DeclaredEntries;
-use crate::faults::{broken_at, fault_of};
+use crate::class::broken_at;
 use crate::references::References;
-use crate::string_checks::{check_strings, keep_texts, read_texts};
-use crate::string_rules::string_ends;
+use crate::strings::{check_strings, keep_texts, read_texts, string_ends};
+use crate::targets::DeclaredEntries;
 use dw_entries::constants::*;
 use dw_entries::{
     Broken, Entries, EntryAt, EntryHead, EntryId, Hints, Leading, OptionalId, Rule, Stop,
@@ -187,9 +185,9 @@ fn stop_of(alloc: Global, entries: &Entries<'_>, failed: Failed) -> Stop
     ensures { IfFault (IsFirstOfTargets (sections_of entries.now) (units_of entries.now.scanned)) result }
 {
     match failed {
-        Failed::String(broken) => Stop::Fault(fault_of(alloc, broken)),
+        Failed::String(broken) => Stop::Fault(broken.into_fault(alloc)),
         Failed::Reference(broken) => {
-            strings_first(alloc, entries, Stop::Fault(fault_of(alloc, broken)))
+            strings_first(alloc, entries, Stop::Fault(broken.into_fault(alloc)))
         }
     }
 }

@@ -8,10 +8,11 @@ ghost use Rattle.dw_links.specs.DeclaredEntries.{KeepsDeclared};
 ghost use Rattle.dw_links.specs.Linkable.{entries_in, FailsByTarget, reached_in, reached_by, IsLinkable, MayAsk};
 ghost use Rattle.dw_links.specs.References.{is_reference_value};
 
-use crate::declared_entries::DeclaredEntries;
-use crate::kinds::{is_permitted, is_permitted_form, is_reference, is_sig8};
-use crate::string_rules::UnitTexts;
-use crate::targets::{entry_from_header, reach};
+use crate::strings::UnitTexts;
+use crate::targets::{
+    DeclaredEntries, entry_from_header, is_permitted, is_permitted_form, is_reference, is_sig8,
+    reach,
+};
 use dw_entries::constants::*;
 use dw_entries::{Cursor, EntryHead, EntryId, Hints, Rule};
 use dw_forms::{Attribute, Value};

@@ -1,14 +1,22 @@
-//! The entry that a reference reaches (DWARF 5, section 7.5.5), and the target of an attribute.
+//! The targets of references (DWARF 5, sections 2.3 and 7.5.5): the entry that a value reaches, and which entries an
+//! attribute may reach.
 
-ghost use Rattle.std.specs.Prelude.{◌≡◌, ◌<◌, length, slice_get, IfSome};
+ghost use Rattle.std.specs.Prelude.{◌≡◌, ◌<◌, length, replicate, slice_get, IfSome, IfOk, Some};
 ghost use Rattle.dw_forms.specs.Value.{view};
 ghost use Rattle.dw_entries.specs.Scanned.{all_entries, all_units, units_of};
+ghost use Rattle.dw_entries.specs.Entries.{Entry};
+ghost use Rattle.dw_links.specs.References.{is_declared, is_signed, is_signature, is_reference_value, permits};
+ghost use Rattle.dw_links.specs.References.{permits_form};
+ghost use Rattle.dw_links.specs.DeclaredEntries.{known_as, KeepsDeclared};
 ghost use Rattle.dw_links.specs.SignedTypes.{HasSignedTypes};
 ghost use Rattle.dw_links.specs.Targets.{entry_at, reach_in_unit, signed_type, reach_of, target_of};
 
-use dw_entries::{Entries, EntryId};
+use dw_entries::constants::*;
+use dw_entries::{Cursor, Entries, EntryAt, EntryHead, EntryId};
 use dw_forms::{Attribute, Value};
+use std::alloc::{AllocError, Global};
 use std::collections::BTreeMap;
+use std::marker::Model;
 
 /// The entry that begins at an offset of .debug_info.
 #[inline(always)]
@@ -82,4 +90,162 @@ pub(crate) fn find_target(
         Some(value) => reach(entries, signatures, entries.unit_of(id), &value),
         None => None,
     }
+}
+
+/// What is known of an entry.
+#[derive(Clone, Copy, Debug, PartialEq, Eq)]
+enum Known {
+    /// It was not read yet.
+    Unread,
+    Declared,
+    NotDeclared,
+}
+
+/// Which entries are declared and not defined. An entry is read when that is first asked, and the answer is kept.
+#[derive(Drop)]
+pub struct DeclaredEntries {
+    known: Vec<Known>,
+}
+
+impl Model for DeclaredEntries {
+    ghost use Rattle.std.specs.Prelude.{List};
+    ghost use Rattle.dw_links.specs.declared.targets.Known.{Known as KnownOf};
+
+    ghost Value = { List KnownOf };
+
+    ghost view = { λ it. it.known.items };
+}
+
+/// Whether DW_AT_declaration of an entry is true.
+fn read_declared(entries: &Entries<'_>, id: EntryId) -> bool
+    requires { id < length (all_entries entries.now.scanned) }
+    ensures { IfSome (slice_get (all_entries entries.now.scanned) id) (λ e. result ≡ is_declared e) }
+{
+    matches!(
+        entries.value(id, DW_AT_declaration),
+        Some(Value::Flag(true))
+    )
+}
+
+/// What is known of an entry that was read.
+fn known_as(declared: bool) -> Known
+    ensures { result ≡ known_as declared }
+{
+    if declared {
+        Known::Declared
+    } else {
+        Known::NotDeclared
+    }
+}
+
+impl DeclaredEntries {
+    /// Nothing is known of any entry.
+    pub fn new(alloc: Global, entries: &Entries<'_>) -> Result<Self, AllocError>
+        ensures { IfOk result (KeepsDeclared (all_entries entries.now.scanned)) }
+    {
+        Ok(DeclaredEntries {
+            known: vec![in alloc; Known::Unread; entries.count()]?,
+        })
+    }
+
+    /// Whether an entry is declared and not defined.
+    pub fn has(&mut self, entries: &Entries<'_>, id: EntryId) -> bool
+        requires id { id < length (all_entries entries.now.scanned) }
+        requires kept { KeepsDeclared (all_entries entries.now.scanned) self.old }
+        ensures exact { IfSome (slice_get (all_entries entries.now.scanned) id) (λ e. result ≡ is_declared e) }
+        ensures kept { KeepsDeclared (all_entries entries.now.scanned) self.new }
+    {
+        match self.known[id.number()] {
+            Known::Declared => true,
+            Known::NotDeclared => false,
+            Known::Unread => {
+                let declared = read_declared(entries, id);
+                self.known[id.number()] = known_as(declared);
+                declared
+            }
+        }
+    }
+}
+
+/// Whether a value is a reference.
+#[inline(always)]
+pub fn is_reference(value: &Value<'_>) -> bool
+    ensures { result ≡ is_reference_value (view value.now) }
+{
+    matches!(
+        value,
+        Value::RefInfo(_) | Value::RefUnit(_) | Value::RefSig(_)
+    )
+}
+
+/// Whether a value is a signature.
+#[inline(always)]
+pub fn is_sig8(value: &Value<'_>) -> bool
+    ensures { result ≡ is_signature (view value.now) }
+{
+    matches!(value, Value::RefSig(_))
+}
+
+/// Whether an attribute is the signature of a structure, union or enumeration.
+#[inline(always)]
+fn is_signed_by(head: &EntryHead, attribute: Attribute) -> bool
+    ensures { result ≡ is_signed head.now attribute }
+{
+    attribute == DW_AT_signature
+        && matches!(
+            head.tag,
+            DW_TAG_structure_type | DW_TAG_union_type | DW_TAG_enumeration_type
+        )
+}
+
+/// Whether an attribute of an entry may have a value of this form.
+#[inline(always)]
+pub fn is_permitted_form(head: &EntryHead, attribute: Attribute, value: &Value<'_>) -> bool
+    ensures { result ≡ permits_form head.now attribute (view value.now) }
+{
+    !is_signed_by(head, attribute) || matches!(value, Value::RefSig(_))
+}
+
+/// An entry, sooner if it is one of the unit at hand.
+#[inline(always)]
+fn entry_at<'e, 'a>(cursor: &Cursor<'e, 'a>, id: EntryId) -> EntryAt<'e, 'a>
+    requires { id < length (all_entries cursor.now.entries.now.scanned) }
+    ensures { result ≡ slice_get (all_entries cursor.now.entries.now.scanned) id }
+{
+    match cursor.beside(id) {
+        Some(entry) => entry,
+        None => cursor.entries.at(id),
+    }
+}
+
+/// Whether an attribute of an entry may reach a target. This project's choice: the type, the specification, the
+/// signature and the import of a unit have targets of their kinds, and other attributes may reach any entry.
+#[inline(always)]
+pub fn is_permitted(
+    cursor: &Cursor<'_, '_>,
+    declared: &mut DeclaredEntries,
+    head: &EntryHead,
+    attribute: Attribute,
+    id: EntryId,
+) -> bool
+    requires id { id < length (all_entries cursor.now.entries.now.scanned) }
+    requires kept { KeepsDeclared (all_entries cursor.now.entries.now.scanned) declared.old }
+    ensures kept { KeepsDeclared (all_entries cursor.now.entries.now.scanned) declared.new }
+    ensures exact { (target : Entry) → slice_get (all_entries cursor.now.entries.now.scanned) id ≡ Some target
+        → result ≡ permits head.now attribute target }
+{
+    let target = entry_at(cursor, id);
+    if attribute == DW_AT_type {
+        return target.is_type();
+    }
+    if attribute == DW_AT_specification {
+        return target.offset() != head.offset && declared.has(cursor.entries, id);
+    }
+    if is_signed_by(head, attribute) {
+        return target.tag() == head.tag;
+    }
+    if attribute == DW_AT_import && head.tag == DW_TAG_imported_unit {
+        return matches!(target.tag(), DW_TAG_compile_unit | DW_TAG_partial_unit);
+    }
+    true
 }

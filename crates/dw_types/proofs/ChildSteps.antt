@@ -1,13 +1,19 @@
--- The children of an entry, in the words of the look-ups.
-use Rattle.std.proofs.Common.{◌≡◌, ℕ, zero, suc, ◌+◌, ◌<◌, ◌≤◌, Bool, true, false, if◌then◌else◌, List, [], ◌∷◌, length, Option, Some, None, IfSome, refl, sym, ap, subst, ◌∙◌, arith, eqb-true, nat_lt, ltb-true, ltb-false}
-use Rattle.std.specs.Prelude.{slice_get, option_map}
-use Rattle.std.proofs.lemmas.Option.{slice_get_within}
+-- The children of an entry, in the words of the look-ups and by the facts of entries, and a loop over them.
+use Rattle.std.proofs.Common.{◌≡◌, ℕ, zero, suc, ◌+◌, ◌<◌, ◌≤◌, Bool, true, false, if◌then◌else◌, List, [], ◌∷◌, length, Option, Some, None, IfSome, refl, sym, ap, subst, ◌∙◌, arith, eqb-true, nat_lt, ltb-true, ltb-false, ◌-◌, drop, inl, inr, length-drop, ◌++◌, append_assoc}
+use Rattle.std.specs.Prelude.{slice_get, option_map, All}
+use Rattle.std.proofs.lemmas.Option.{slice_get_within, slice_get_cases}
+use Rattle.std.specs.List.{filter, range_with_len}
+use Rattle.std.proofs.lemmas.List.Elements.{All-append, All-cons, All-nil}
 use Rattle.dw_entries.specs.Lookups.{nth_of}
 use Rattle.dw_entries.specs.Tree.{◌then◌}
 use Rattle.dw_entries.specs.Units.{DebugUnit}
-use Rattle.dw_entries.specs.Entries.{Entry, entries_of}
-use Rattle.dw_types.specs.Children.{is_number, children_from, children_of, siblings_from, IsChild}
+use Rattle.dw_entries.specs.Entries.{Entry, entries_of, placed}
+use Rattle.dw_types.specs.Children.{is_number, children_from, children_of, siblings_from, IsChild, rest_of_children, IsChildOf}
 use Rattle.dw_types.proofs.ChildLemmas.{linked_there, next_of_child, no_first, none_behind, first_behind, Steps}
+use Rattle.dw_types.specs.declared.facts.Facts.{Facts}
+use Rattle.dw_types.specs.Entries.{entry_of, is_parent, is_child, children}
+use Rattle.dw_types.specs.FactsOf.{facts_in}
+use Rattle.dw_types.proofs.FactsLemmas.{facts-get, facts-parent, length-facts_of}
 
 pub slice_get_none : (es : List Entry) (i : ℕ) → slice_get es i ≡ None → length es ≤ i
 slice_get_none [] i is = omega arith
@@ -91,3 +97,94 @@ none_cases k n false found lt is gone = ltb-false k n lt
 
 pub nth_gone : (es : List Entry) (k : ℕ) (found : Option ℕ) → found ≡ nth_of es k → found ≡ None → length es ≤ k
 nth_gone es k found is = none_cases k (length es) (nat_lt k (length es)) found refl is
+
+parent-number : (above : Option ℕ) (p : ℕ) → is_parent above p ≡ is_number p above
+parent-number None p = refl
+parent-number (Some q) p = refl
+
+-- the facts of these entries stand from number k on
+abbrev AreFactsFrom : List Facts → ℕ → List Entry → Type 0
+AreFactsFrom facts k es = (i : ℕ) (e : Entry) → slice_get es i ≡ Some e → (entry_of facts (k + i)).parent ≡ e.parent
+
+rest-are : (facts : List Facts) (k : ℕ) (e : Entry) (es : List Entry) → AreFactsFrom facts k (e ∷ es) → AreFactsFrom facts (k + 1) es
+rest-are facts k e es are i d is = let same : k + suc i ≡ (k + 1) + i = omega arith in ap (λ (n : ℕ). (entry_of facts n).parent) (sym same) ∙ are (suc i) d is
+
+children-here : (facts : List Facts) (p k : ℕ) (es : List Entry) → AreFactsFrom facts k es → filter (is_child facts p) (range_with_len k (length es)) ≡ children_from es p k
+children-here facts p k [] are = refl
+children-here facts p k (e ∷ es) are =
+    let first : k ≡ k + 0 = omega arith in
+    let next : k + 1 ≡ suc k = omega arith in
+    let above : (entry_of facts k).parent ≡ e.parent = ap (λ (n : ℕ). (entry_of facts n).parent) first ∙ are 0 e refl in
+    let test : is_child facts p k ≡ is_number p e.parent = ap (λ (o : Option ℕ). is_parent o p) above ∙ parent-number e.parent p in
+    let more : filter (is_child facts p) (range_with_len (k + 1) (length es)) ≡ children_from es p (suc k) = children-here facts p (k + 1) es (rest-are facts k e es are) ∙ ap (children_from es p) next in
+    rw test (ap (λ (rest : List ℕ). if is_number p e.parent then k ∷ rest else rest) more)
+
+get-drop : (es : List Entry) (m i : ℕ) → slice_get (drop m es) i ≡ slice_get es (m + i)
+get-drop es zero i = let same : i ≡ 0 + i = omega arith in ap (slice_get es) same
+get-drop [] (suc m) i = refl
+get-drop (e ∷ es) (suc m) i = let same : suc (m + i) ≡ suc m + i = omega arith in get-drop es m i ∙ ap (slice_get (e ∷ es)) same
+
+module _ (us : List DebugUnit) where
+  facts-from : (m : ℕ) → AreFactsFrom (facts_in us) m (drop m (entries_of us))
+  facts-from m i e is =
+      let there : slice_get (entries_of us) (m + i) ≡ Some e = sym (get-drop (entries_of us) m i) ∙ is in
+      ap (λ (x : Facts). x.parent) (facts-get (entries_of us) (placed us) (m + i) e there) ∙ facts-parent (entries_of us) (placed us) e
+
+  pub children-same : (node : ℕ) → children (facts_in us) node ≡ children_of (entries_of us) node
+  unfolding children_of
+  children-same node =
+      ap (λ (n : ℕ). filter (is_child (facts_in us) node) (range_with_len 0 n)) (length-facts_of (entries_of us) (placed us))
+      ∙ children-here (facts_in us) node 0 (entries_of us) (facts-from 0)
+
+  pub rest-same : (parent : ℕ) (next : Option ℕ) → rest_of_children (facts_in us) parent next ≡ siblings_from (entries_of us) parent next
+  rest-same parent None = refl
+  rest-same parent (Some m) =
+      let long : length (facts_in us) - m ≡ length (drop m (entries_of us)) = ap (λ (n : ℕ). n - m) (length-facts_of (entries_of us) (placed us)) ∙ sym (length-drop m (entries_of us)) in
+      ap (λ (n : ℕ). filter (is_child (facts_in us) parent) (range_with_len m n)) long ∙ children-here (facts_in us) parent m (drop m (entries_of us)) (facts-from m)
+
+  -- what stands there is a child
+  pub child-linked : (parent : ℕ) (next : Option ℕ) → IsChild (entries_of us) parent next → IfSome next (IsChildOf (facts_in us) parent)
+  child-linked parent None linked = tt
+  child-linked parent (Some m) linked =
+      let long = length-facts_of (entries_of us) (placed us) in
+      let inside = linked_within (entries_of us) parent m linked in
+      elim (slice_get_cases (entries_of us) m).1 [
+        | inr over ↦ absurd (omega (arith, over.0))
+        | inl here ↦ record {
+          inside = omega arith;
+          parent_is =
+              ap (λ (x : Facts). x.parent) (facts-get (entries_of us) (placed us) m here.0 here.2)
+              ∙ (facts-parent (entries_of us) (placed us) here.0 ∙ linked_parent (entries_of us) parent m here.0 linked here.2);
+        }
+      ]
+
+  pub linked-child : (parent m : ℕ) → m < length (entries_of us) → (entry_of (facts_in us) m).parent ≡ Some parent → IsChild (entries_of us) parent (Some m)
+  linked-child parent m inside is =
+      elim (slice_get_cases (entries_of us) m).1 [
+        | inr over ↦ absurd (omega (arith, over.0))
+        | inl here ↦
+            linked_there (entries_of us) parent m here.0 here.2
+            (sym (facts-parent (entries_of us) (placed us) here.0) ∙ (ap (λ (x : Facts). x.parent) (sym (facts-get (entries_of us) (placed us) m here.0 here.2)) ∙ is))
+      ]
+
+-- the children that were passed and those that are left are the children, and something is true of those that were passed
+pub record HasPassed (entries : List Facts) (parent : ℕ) (P : ℕ → Type 0) (Q : List ℕ → Type 0) (next : Option ℕ) : Type 0 where
+  pub visited : List ℕ
+  pub whole : visited ++ rest_of_children entries parent next ≡ children entries parent
+  pub next_is : IfSome next (IsChildOf entries parent)
+  pub passed : All P visited
+  pub value : Q visited
+
+module _ (entries : List Facts) (parent : ℕ) (P : ℕ → Type 0) (Q : List ℕ → Type 0) where
+  pub passed-none : (next : Option ℕ) → rest_of_children entries parent next ≡ children entries parent → IfSome next (IsChildOf entries parent) → Q [] → HasPassed entries parent P Q next
+  passed-none next whole is value = record { visited = []; whole = whole; next_is = is; passed = All-nil P; value = value }
+
+  pub passed-more : (R : List ℕ → Type 0) (child : ℕ) (next : Option ℕ) → HasPassed entries parent P Q (Some child) → rest_of_children entries parent (Some child) ≡ child ∷ rest_of_children entries parent next
+      → IfSome next (IsChildOf entries parent) → P child → ((visited : List ℕ) → Q visited → R (visited ++ child ∷ [])) → HasPassed entries parent P R next
+  passed-more R child next h rest is here more = record {
+    visited = h.visited ++ child ∷ [];
+    whole = append_assoc h.visited (child ∷ []) (rest_of_children entries parent next) ∙ (ap (λ (xs : List ℕ). h.visited ++ xs) (sym rest) ∙ h.whole);
+    next_is = is;
+    passed = All-append P h.visited (child ∷ []) h.passed (All-cons P child [] here (All-nil P));
+    value = more h.visited h.value;
+  }

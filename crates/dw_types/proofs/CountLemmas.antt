@@ -11,10 +11,10 @@ use Rattle.dw_entries.specs.Units.{DebugUnit, Spells}
 use Rattle.dw_entries.proofs.EntryFacts.{links_below}
 use Rattle.dw_entries.proofs.HeadLaws.{head_stands}
 use Rattle.dw_forms.specs.Codes.{DW_AT_count, DW_AT_lower_bound, DW_AT_upper_bound, DW_TAG_subrange_type}
-use Rattle.dw_types.specs.declared.constant.Constant.{Constant}
-use Rattle.dw_types.specs.declared.constant.Constant.TheVariants.{Absent}
+use Rattle.dw_types.specs.declared.facts.Constant.{Constant}
+use Rattle.dw_types.specs.declared.facts.Constant.TheVariants.{Absent}
 use Rattle.dw_types.specs.declared.facts.Facts.{Facts}
-use Rattle.dw_types.specs.declared.unit_facts.UnitFacts.{UnitFacts}
+use Rattle.dw_types.specs.declared.facts.UnitFacts.{UnitFacts}
 use Rattle.dw_types.specs.declared.kind.Role.TheVariants.{Members, Dimensions, Other}
 use Rattle.dw_types.specs.Counts.{count_at, count_from, is_array_tag, is_dimension, is_subrange_tag, known_natural}
 use Rattle.dw_types.specs.Entries.{entry_of}

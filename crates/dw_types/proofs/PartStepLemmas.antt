@@ -1,12 +1,10 @@
 -- The steps of an entry through its children, one after another.
-use Rattle.std.proofs.Common.{◌≡◌, ℕ, suc, ◌+◌, ◌-◌, ◌<◌, Bool, true, false, ◌&&◌, not, List, [], ◌∷◌, ◌++◌, Option, Some, None, length, get_or, inl, inr, refl, sym, ap, ◌∙◌, arith, append-nil, append_assoc, nat_eq, length-append}
+use Rattle.std.proofs.Common.{◌≡◌, ℕ, ◌-◌, ◌<◌, Bool, true, false, ◌&&◌, not, List, [], ◌∷◌, ◌++◌, Option, length, get_or, inl, inr, refl, sym, ap, ◌∙◌, arith, append-nil, append_assoc, nat_eq, length-append}
 use Rattle.std.specs.List.{filter, flat_map}
-use Rattle.std.specs.Prelude.{slice_get}
 use Rattle.std.specs.Option.{option_to_list}
 use Rattle.std.proofs.lemmas.Bool.{and_right, cases_lt}
 use Rattle.std.proofs.lemmas.List.{get_or_append_left}
-use Rattle.std.proofs.lemmas.Option.{get_or_from_slice_get, slice_get-get_or, slice_get_past, slice_get_within}
-use Rattle.std.proofs.Math.Seq.{get_or-append_right, get_or-append_seam}
+use Rattle.std.proofs.Math.Seq.{get_or-append_right}
 use Rattle.std.proofs.lemmas.List.Concat.{flat_map-append}
 use Rattle.std.proofs.lemmas.List.Elements.{Contains-get_or}
 use Rattle.dw_forms.specs.Codes.{DW_TAG_member, is_type_tag}
@@ -16,11 +14,9 @@ use Rattle.dw_types.specs.Entries.{entry_of, entry_numbers, is_child, children, 
 use Rattle.dw_types.specs.Kinds.{has_members, is_declared_type, passes_type_on}
 use Rattle.dw_types.specs.Packing.{LeadsBelow}
 use Rattle.dw_types.specs.Shapes.{is_plain}
-use Rattle.dw_types.specs.Graphs.{steps_of}
-use Rattle.dw_types.specs.Steps.{by_value, is_plain_member, member_step, part_step, steps_by_value, targets_if}
-use Rattle.dw_types.proofs.RowLemmas.{flat_map-none, no-signature_step, step-to_entry}
-use Rattle.dw_types.proofs.StepLemmas.{by_value-at, steps-from}
-use Rattle.dw_types.proofs.UntypedLemmas.{untyped-declared, untyped-members, untyped-passes}
+use Rattle.dw_types.specs.Steps.{is_plain_member, member_step, part_step, steps_by_value, targets_if}
+use Rattle.dw_types.proofs.StepLemmas.{flat_map-none, no-signature_step, step-to_entry, steps-from}
+use Rattle.dw_types.proofs.RoleLemmas.{untyped-declared, untyped-members, untyped-passes}
 
 pub part-some : (entries : List Facts) (child : ℕ) (to : Option ℕ) → is_plain Members (entry_of entries child) ≡ true → to ≡ (entry_of entries child).type_target → option_to_list to ≡ part_step entries child
 part-some entries child to plain is = rw plain (ap option_to_list is)

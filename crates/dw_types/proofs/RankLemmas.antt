@@ -1,15 +1,52 @@
--- A node on top of the stack, all of whose steps were looked at, is ranked.
-use Rattle.std.proofs.Common.{◌≡◌, ◌≢◌, ℕ, ◌+◌, ◌-◌, ◌<◌, ◌⊎◌, [], ◌∷◌, cond, length, get_or, take, inl, inr, arith, refl, sym, ◌∙◌, length-set, get_or-set_same}
+-- A node on top of the stack, all of whose steps were looked at, is ranked, and a fresh node without steps at once;
+-- ranks by the nodes in their order.
+use Rattle.std.proofs.Common.{◌≡◌, ◌≢◌, ℕ, ◌+◌, ◌<◌, List, [], ◌∷◌, ◌++◌, length, get_or, replicate, set, take, suc, arith, refl, sym, ap, ◌∙◌, length-set, get_or-set_same, get_or-set_other, ◌-◌, ◌⊎◌, cond, inl, inr, ◌≤◌}
+use Rattle.std.proofs.lemmas.List.{length-replicate, length-take-le, take_more, length_push, get_or_push, get_or_append_left, get_or-take}
 use Rattle.std.proofs.lemmas.Bool.{cases_lt}
-use Rattle.std.proofs.lemmas.List.{length_push, get_or_push, get_or_append_left, get_or-take, length-take-le}
 use Rattle.std.proofs.lemmas.List.Sums.{sum_by-set}
+use Rattle.std.proofs.Math.Seq.{take-append_seam}
+use Rattle.dw_types.specs.RanksListed.{ranks_from, ranks_listed}
 use Rattle.dw_types.specs.declared.walk.Mark.{Mark}
 use Rattle.dw_types.specs.declared.walk.Mark.TheVariants.{Fresh, Open, Ranked}
 use Rattle.dw_types.specs.Graphs.{Graph, steps_of, step_at}
-use Rattle.dw_types.specs.Walks.{HasStack, HasRanks, IsWalk, stack_step, KeepsTaken, is_taken}
-use Rattle.dw_types.specs.WalkStates.{State, mark_of, with_rank}
+use Rattle.dw_types.specs.Walks.{HasStack, HasRanks, IsWalk, stack_step, KeepsTaken, is_taken, IsMet, work_left}
+use Rattle.dw_types.specs.WalkStates.{State, mark_of, with_rank, taken_up}
 use Rattle.dw_types.proofs.ListLemmas.{at_set, at_push}
 use Rattle.dw_types.proofs.WalkLemmas.{IsTop, top-opened, in-graph}
+
+ranks_from-push : (ranks : List ℕ) (first : ℕ) (nodes : List ℕ) (node : ℕ) → ranks_from ranks first (nodes ++ node ∷ []) ≡ set (ranks_from ranks first nodes) node (first + length nodes)
+ranks_from-push ranks first [] node = ap (λ (rank : ℕ). set ranks node rank) (let e : first ≡ first + 0 = omega arith in e)
+ranks_from-push ranks first (other ∷ rest) node =
+    ranks_from-push (set ranks other first) (suc first) rest node
+    ∙ ap (λ (rank : ℕ). set (ranks_from (set ranks other first) (suc first) rest) node rank) (let e : suc first + length rest ≡ first + suc (length rest) = omega arith in e)
+
+length-ranks_from : (ranks : List ℕ) (first : ℕ) (nodes : List ℕ) → length (ranks_from ranks first nodes) ≡ length ranks
+length-ranks_from ranks first [] = refl
+length-ranks_from ranks first (node ∷ rest) = length-ranks_from (set ranks node first) (suc first) rest ∙ length-set ranks node first
+
+-- the next rank
+pub ranks_listed-push : (nodes : ℕ) (by_rank : List ℕ) (node : ℕ) → ranks_listed nodes (by_rank ++ node ∷ []) ≡ set (ranks_listed nodes by_rank) node (length by_rank)
+ranks_listed-push nodes by_rank node =
+    ranks_from-push (replicate nodes 0) 0 by_rank node ∙ ap (λ (rank : ℕ). set (ranks_listed nodes by_rank) node rank) (let e : 0 + length by_rank ≡ length by_rank = omega arith in e)
+
+pub length-ranks_listed : (nodes : ℕ) (by_rank : List ℕ) → length (ranks_listed nodes by_rank) ≡ nodes
+length-ranks_listed nodes by_rank = length-ranks_from (replicate nodes 0) 0 by_rank ∙ length-replicate nodes 0
+
+-- the rank of a node once one more node has its rank
+module _ (nodes node : ℕ) (by_rank : List ℕ) (place : ℕ) (inside : node < nodes) (below : place < length by_rank) where
+  more : ranks_listed nodes (take (place + 1) by_rank) ≡ set (ranks_listed nodes (take place by_rank)) (get_or by_rank place 0) place
+  more =
+      ap (ranks_listed nodes) (take_more by_rank place 0 below)
+      ∙ (ranks_listed-push nodes (take place by_rank) (get_or by_rank place 0)
+      ∙ ap (λ (rank : ℕ). set (ranks_listed nodes (take place by_rank)) (get_or by_rank place 0) rank) (length-take-le place by_rank (omega arith)))
+
+  pub rank-here : node ≡ get_or by_rank place 0 → place ≡ get_or (ranks_listed nodes (take (place + 1) by_rank)) node 0
+  rank-here same =
+      let long = length-ranks_listed nodes (take place by_rank) in
+      rw (more, ← same) (sym (get_or-set_same (ranks_listed nodes (take place by_rank)) node place 0 (omega arith)))
+
+  pub rank-other : node ≢ get_or by_rank place 0 → get_or (ranks_listed nodes (take place by_rank)) node 0 ≡ get_or (ranks_listed nodes (take (place + 1) by_rank)) node 0
+  rank-other other = rw more (sym (get_or-set_other (ranks_listed nodes (take place by_rank)) (get_or by_rank place 0) node place 0 other))
 
 -- ranking the node on top of the stack, all of whose steps were looked at
 
@@ -168,3 +205,41 @@ module _ (graph : Graph) (s : State) (node : ℕ) (h : IsWalk graph s) (t : IsTo
               ]
         ]);
   }
+
+-- a list without the element that was just added
+pub take-push : (xs : List ℕ) (x : ℕ) → take (length (xs ++ x ∷ []) - 1) (xs ++ x ∷ []) ≡ xs
+take-push xs x = let long = length_push xs x in let e : length (xs ++ x ∷ []) - 1 ≡ length xs = omega arith in rw e (take-append_seam xs (x ∷ []))
+
+module _ (graph : Graph) (s : State) (node : ℕ) (h : IsWalk graph (taken_up s node)) (none : length (steps_of graph node) ≡ 0) where
+  leaf-top : IsTop (taken_up s node) node
+  leaf-top =
+      let long = length_push s.stack node in
+      let last : length (s.stack ++ node ∷ []) - 1 ≡ length s.stack = omega arith in
+      record { some = omega arith; top = rw last (get_or_push s.stack node 0 (length s.stack) refl) }
+
+  leaf-all : get_or (taken_up s node).next node 0 ≡ length (steps_of graph node)
+  leaf-all = let within = h.coherent.counters.within node in omega arith
+
+  leaf-walk : IsWalk graph (with_rank (taken_up s node) node)
+  leaf-walk = done-walk graph (taken_up s node) node h leaf-top leaf-all
+
+  leaf-keeps : KeepsTaken (taken_up s node) (with_rank (taken_up s node) node)
+  leaf-keeps = done-keeps_taken graph (taken_up s node) node h leaf-top leaf-all
+
+-- what holds where a fresh node was taken up, holds where it was met
+
+module _ (graph : Graph) (s : State) (node : ℕ) (new : State) (h : IsWalk graph (taken_up s node)) (met : IsMet graph s node new) where
+  pub met-walk : IsWalk graph new
+  met-walk = elim met [ inl up ↦ rw up h | inr leaf ↦ rw leaf.1 (leaf-walk graph s node h leaf.0) ]
+
+  pub met-keeps : KeepsTaken (taken_up s node) new
+  met-keeps = elim met [ inl up ↦ rw up (λ a fresh. fresh) | inr leaf ↦ rw leaf.1 (leaf-keeps graph s node h leaf.0) ]
+
+  pub met-gave_up : new.gave_up ≡ s.gave_up
+  met-gave_up = elim met [ inl up ↦ rw up refl | inr leaf ↦ rw leaf.1 refl ]
+
+  pub met-less : work_left graph new ≤ work_left graph (taken_up s node)
+  met-less = elim met [
+    | inl up ↦ rw up (omega arith)
+    | inr leaf ↦ let long = length_push s.stack node in let short = ap length (take-push s.stack node) in rw leaf.1 (omega arith)
+  ]

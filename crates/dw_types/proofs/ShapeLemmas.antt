@@ -1,5 +1,5 @@
 -- The entries whose shapes a pass over entries has seen, and what is noted of them.
-use Rattle.std.proofs.Common.{◌≡◌, ◌≢◌, ℕ, suc, zero, ◌+◌, ◌<◌, ◌≤◌, ◌⊎◌, inl, inr, Bool, true, false, ◌||◌, List, [], ◌∷◌, ◌++◌, Option, Some, None, length, refl, sym, subst, ap, ◌∙◌, arith, append-nil}
+use Rattle.std.proofs.Common.{◌≡◌, ℕ, suc, zero, ◌+◌, ◌<◌, ◌≤◌, ◌⊎◌, inl, inr, Bool, true, false, List, [], ◌∷◌, ◌++◌, Option, Some, None, length, refl, sym, subst, ap, ◌∙◌, arith, append-nil}
 use Rattle.std.specs.Prelude.{All, Contains, IfSome, IsSomeAnd}
 use Rattle.std.proofs.lemmas.Bool.{cases_lt, eqb-true, false≢true, or_parts, true≢false}
 use Rattle.std.proofs.lemmas.List.{get_or_past}
@@ -19,12 +19,10 @@ use Rattle.dw_types.specs.Entries.{children, entry_of, no_entry, OffsetsRise, Pa
 use Rattle.dw_types.specs.Kinds.{has_members, is_array, parent_role, role_in, role_of}
 use Rattle.dw_types.specs.Noted.{IsNoted, with_rule}
 use Rattle.dw_types.specs.Shapes.{breaks_shape, fails_shape, ShapeFailures}
-use Rattle.dw_types.specs.ShapesSeen.{has_parts, HasSeenArray, HasSeenShapes, array, part}
+use Rattle.dw_types.specs.ShapesSeen.{has_parts, HasSeenShapes, array, part}
 use Rattle.dw_types.specs.TypeFailures.{PassesAt}
-use Rattle.dw_types.proofs.FirstLemmas.{broken_at, first-of_entries, none-of_entries}
-use Rattle.dw_types.proofs.RoleLemmas.{child-in, counted-other, other-role, plain-other}
-use Rattle.dw_types.proofs.NotedLemmas.{noted-first, noted-more, noted-none, noted-pass, noted-same}
-use Rattle.dw_types.proofs.UntypedLemmas.{untyped-array, untyped-members}
+use Rattle.dw_types.proofs.NotedLemmas.{broken_at, first-of_entries, none-of_entries, noted-first, noted-more, noted-none, noted-pass, noted-same}
+use Rattle.dw_types.proofs.RoleLemmas.{child-in, counted-other, other-role, plain-other, untyped-array, untyped-members}
 
 -- the least rule that fails
 

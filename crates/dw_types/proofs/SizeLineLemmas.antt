@@ -1,9 +1,9 @@
 -- The size lines read a table at steps by value alone, and may take capped sizes.
-use Rattle.std.proofs.Common.{◌⊎◌, inl, inr, ◌≡◌, ℕ, ◌*◌, ◌^◌, ◌<◌, min, Bool, true, false, not, ◌&&◌, if◌then◌else◌, List, map, Option, Some, None, length, arith, refl, sym, ap, ◌∙◌, get_or}
+use Rattle.std.proofs.Common.{◌⊎◌, inl, inr, ◌≡◌, ℕ, ◌*◌, ◌^◌, ◌<◌, min, Bool, true, false, not, ◌&&◌, if◌then◌else◌, List, map, Option, Some, None, length, arith, refl, sym, ap, ◌∙◌}
 use Rattle.std.proofs.Math.Nat.{mul_comm}
 use Rattle.dw_types.specs.declared.facts.Facts.{Facts}
-use Rattle.dw_types.specs.declared.constant.Constant.{Constant}
-use Rattle.dw_types.specs.declared.constant.Constant.TheVariants.{Absent, NotNumber, Unsigned, Signed}
+use Rattle.dw_types.specs.declared.facts.Constant.{Constant}
+use Rattle.dw_types.specs.declared.facts.Constant.TheVariants.{Absent, NotNumber, Unsigned, Signed}
 use Rattle.dw_types.specs.declared.kind.Kind.{Kind}
 use Rattle.dw_types.specs.declared.kind.Kind.TheVariants.{Declared, OwnSized, Pointer, Alias, Enumeration, Array, Subroutine, NoType}
 use Rattle.dw_types.specs.Constants.{is_present}
@@ -14,13 +14,11 @@ use Rattle.std.proofs.lemmas.Bool.{and_parts}
 use Rattle.dw_forms.specs.Codes.{DW_TAG_structure_type, DW_TAG_union_type}
 use Rattle.dw_types.specs.Kinds.{container_tags, has_members, passes_type_on, is_declared_type, kind_of}
 use Rattle.dw_links.specs.Classes.{is_one_of}
-use Rattle.dw_types.specs.Orders.{Ranking, IsOrderOf}
 use Rattle.dw_types.specs.SizeTables.{Size, cap_size}
 use Rattle.dw_types.specs.Sizes.{has_elements, is_other_index, has_stride, size_of_kind, size_line, size_to, constant_or, times, array_size, is_regular, product_of, factor_of, dimensions}
 use Rattle.dw_types.specs.Steps.{by_value, by_type, by_signature}
-use Rattle.dw_types.proofs.CapLemmas.{cap-product}
-use Rattle.dw_types.proofs.ElementCountLemmas.{element_count_value}
-use Rattle.dw_types.proofs.StepLemmas.{step-from_by_value, length-by_value}
+use Rattle.dw_types.proofs.ElementCountLemmas.{cap-product, element_count_value}
+use Rattle.dw_types.proofs.StepLemmas.{step-from_by_value}
 use Rattle.dw_types.proofs.TableLemmas.{IsLocal, Lines, SameAtSteps}
 use Rattle.std.specs.List.{list_any}
 

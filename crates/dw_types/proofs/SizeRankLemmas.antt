@@ -9,7 +9,7 @@ use Rattle.dw_entries.specs.declared.fault.Stop.{Stop}
 use Rattle.dw_entries.specs.declared.fault.Stop.TheVariants.{Fault, Memory}
 use Rattle.dw_entries.specs.Failures.{HasNone}
 use Rattle.dw_entries.specs.Stopped.{IfFault}
-use Rattle.dw_types.specs.CappedSizes.{ObeysCappedLines}
+use Rattle.dw_types.specs.StoredSizes.{ObeysCappedLines}
 use Rattle.dw_forms.specs.Codes.{DW_TAG_member, is_type_tag}
 use Rattle.dw_types.specs.declared.facts.Facts.{Facts}
 use Rattle.dw_types.specs.declared.kind.Role.{Role}
@@ -25,11 +25,9 @@ use Rattle.dw_types.specs.SizeTables.{Size, size_at, OnlyTypesAreSized}
 use Rattle.dw_types.specs.Sizes.{size_to, IsSizeTable}
 use Rattle.dw_types.specs.Steps.{by_value, is_plain_member, IsStepByValue, by_type, by_member}
 use Rattle.dw_types.specs.TypeFailures.{PassAll}
-use Rattle.dw_types.proofs.FirstLemmas.{broken_at, none-of_entries}
+use Rattle.dw_types.proofs.NotedLemmas.{broken_at, none-of_entries, noted-first, noted-none, noted-rules, noted-same}
 use Rattle.dw_types.proofs.ListLemmas.{at_set}
-use Rattle.dw_types.proofs.NotedLemmas.{noted-first, noted-none, noted-rules, noted-same}
-use Rattle.dw_types.proofs.OneTableLemmas.{first-is_first, found-is_table}
-use Rattle.dw_types.proofs.SizeFaultLemmas.{and-same}
+use Rattle.dw_types.proofs.SizeFaultLemmas.{first-is_first, found-is_table, and-same}
 use Rattle.dw_types.proofs.SizeLineLemmas.{capped_line, capped_line-local, to-same}
 use Rattle.dw_types.proofs.StepLemmas.{length-by_value, step-from_by_value}
 use Rattle.dw_types.proofs.TableLemmas.{HasFilled, has-filled_all, has-filled_more}

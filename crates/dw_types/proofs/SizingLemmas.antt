@@ -1,5 +1,5 @@
 -- The rules on sizes at an entry and at its members: which entries are checked there, and what is noted.
-use Rattle.std.proofs.Common.{◌≡◌, ◌≢◌, ℕ, ◌+◌, ◌^◌, ◌<◌, Bool, true, false, ◌||◌, not, if◌then◌else◌, List, [], ◌∷◌, ◌++◌, Option, Some, None, length, get_or, set, nat_eq, ◌⊎◌, inl, inr, refl, sym, ap, ◌∙◌, arith, suc, zero}
+use Rattle.std.proofs.Common.{◌≡◌, ℕ, ◌^◌, ◌<◌, Bool, true, false, ◌||◌, not, if◌then◌else◌, List, [], ◌∷◌, ◌++◌, Option, Some, None, length, get_or, set, nat_eq, ◌⊎◌, inl, inr, refl, sym, ap, ◌∙◌, arith, suc, zero}
 use Rattle.std.specs.Option.{option_map_or}
 use Rattle.std.specs.List.{Contains}
 use Rattle.std.specs.Prelude.{All}
@@ -23,11 +23,10 @@ use Rattle.dw_types.specs.SizeFaults.{breaks_size, fails_size, is_too_great}
 use Rattle.dw_types.specs.SizeTables.{Size, cap_size, size_at, OnlyTypesAreSized}
 use Rattle.dw_types.specs.Sizes.{size_of_kind, size_to}
 use Rattle.dw_types.specs.TypeFailures.{PassesAt}
-use Rattle.dw_types.proofs.RoleLemmas.{child-in, members-role, parent-true, plain-other}
+use Rattle.dw_types.proofs.RoleLemmas.{child-in, members-role, parent-true, plain-other, untyped-enumeration, untyped-kind, untyped-members, untyped-size_none}
 use Rattle.dw_types.proofs.ListLemmas.{at_set}
 use Rattle.dw_types.proofs.NotedLemmas.{noted-more, noted-pass, noted-same}
 use Rattle.dw_types.proofs.SizeLineLemmas.{capped_line}
-use Rattle.dw_types.proofs.UntypedLemmas.{untyped-enumeration, untyped-kind, untyped-members, untyped-size_none}
 
 -- where the rules are checked at an entry
 

@@ -1,13 +1,14 @@
--- The graph of steps by value has exactly the steps by value.
-use Rattle.std.proofs.Common.{◌≡◌, ℕ, ◌+◌, ◌<◌, ◌≤◌, Bool, true, false, List, [], ◌∷◌, ◌++◌, Option, Some, None, length, get_or, inl, inr, arith, refl, ap, ◌∙◌, suc, zero}
+-- The graph of steps by value has exactly the steps by value, and the steps of one entry.
+use Rattle.std.proofs.Common.{◌≡◌, ℕ, ◌+◌, ◌<◌, ◌≤◌, Bool, true, false, List, [], ◌∷◌, ◌++◌, Option, Some, None, length, get_or, inl, inr, arith, refl, ap, ◌∙◌, suc, zero, not}
 use Rattle.std.specs.List.{flat_map, range_with_len, Contains}
-use Rattle.std.proofs.lemmas.Bool.{cases_lt}
+use Rattle.std.proofs.lemmas.Bool.{cases_lt, and_right, and_parts}
 use Rattle.std.proofs.lemmas.List.{length-map, get_or-map, get_or_past, get_or_default}
 use Rattle.std.proofs.lemmas.List.Elements.{Contains-append_left, Contains-append_right, Contains-append_cases}
 use Rattle.std.proofs.lemmas.List.FromFn.{length-range_with_len, get_or-range_with_len}
-use Rattle.dw_types.specs.Entries.{no_entry, entry_of, entry_numbers}
-use Rattle.dw_types.specs.Graphs.{steps_of, IsStep}
-use Rattle.dw_types.specs.Kinds.{passes_type_on, is_declared_type}
+use Rattle.dw_links.specs.Classes.{is_one_of}
+use Rattle.dw_types.specs.Entries.{no_entry, entry_of, entry_numbers, TargetsAreEntries}
+use Rattle.dw_types.specs.Graphs.{steps_of, IsStep, step_at, LeadsToNodes}
+use Rattle.dw_types.specs.Kinds.{passes_type_on, is_declared_type, has_members, container_tags, declarable_tags}
 use Rattle.dw_types.specs.Steps.{is_plain_member, IsStepByValue, by_type, by_member, by_signature, targets_if, member_step, steps_by_value, by_value}
 use Rattle.dw_types.specs.declared.facts.Facts.{Facts}
 
@@ -122,3 +123,28 @@ step-from_by_value entries from to step =
           rw at (has.0, has.1, get_or_default (steps_by_value entries from) has.0 0 to has.1 ∙ has.2)
       | inr above ↦ absurd (step-inside entries from to above step)
     ]
+
+pub flat_map-none : (f : ℕ → List ℕ) (xs : List ℕ) → ((k : ℕ) → k < length xs → f (get_or xs k 0) ≡ []) → flat_map f xs ≡ []
+flat_map-none f [] none = refl
+flat_map-none f (x ∷ xs) none = rw (none 0 (omega arith), flat_map-none f xs (λ k below. none (suc k) (omega arith))) refl
+
+not-true : (b : Bool) → not b ≡ true → b ≡ false
+not-true true e = cc
+not-true false e = refl
+
+-- a structure with members has no step by signature
+pub no-signature_step : (entry : Facts) (target : Option ℕ) → has_members entry ≡ true → targets_if (is_declared_type entry) target ≡ []
+no-signature_step entry target has =
+    let kept = and_parts (is_one_of container_tags entry.tag) (not entry.declared) has in
+    let plain : is_declared_type entry ≡ false = and_right (is_one_of declarable_tags entry.tag) entry.declared (not-true entry.declared kept.1) in
+    rw plain refl
+
+-- a step by value leads to an entry
+pub step-to_entry : (entries : List Facts) → TargetsAreEntries entries → (from to : ℕ) → IsStepByValue entries from to → to < length entries
+step-to_entry entries targets from to (by_type passes is) = (targets from to).0 is
+step-to_entry entries targets from to (by_member member below plain is) = (targets member to).0 is
+step-to_entry entries targets from to (by_signature declared is) = (targets from to).1 is
+
+pub by_value-leads : (entries : List Facts) → TargetsAreEntries entries → LeadsToNodes (by_value entries)
+by_value-leads entries targets node k below =
+    rw (length-by_value entries) (step-to_entry entries targets node (step_at (by_value entries) node k) (by_value-from_step entries node (step_at (by_value entries) node k) (k, below, refl)))

@@ -12,8 +12,8 @@ use Rattle.dw_entries.specs.Lookups.{unit_head, value_in}
 use Rattle.dw_entries.specs.Units.{DebugUnit, Spells}
 use Rattle.dw_entries.proofs.EntryFacts.{first_entry, length-placed_from, placed_get}
 use Rattle.dw_entries.proofs.HeadLaws.{head_stands}
-use Rattle.dw_types.specs.declared.constant.Constant.{Constant}
-use Rattle.dw_types.specs.declared.unit_facts.UnitFacts.{UnitFacts}
+use Rattle.dw_types.specs.declared.facts.Constant.{Constant}
+use Rattle.dw_types.specs.declared.facts.UnitFacts.{UnitFacts}
 use Rattle.dw_types.specs.FactsOf.{constant_at, constant_of, language_of}
 use Rattle.dw_types.specs.UnitsRead.{all_unit_facts, unit_facts, unit_facts_at}
 

@@ -3,7 +3,7 @@ use Rattle.std.specs.Prelude.{◌≡◌, ℕ, ◌<◌, Bool, false, List, Option
 use Rattle.std.specs.Prelude.{slice_index_or}
 use Rattle.std.specs.List.{range_with_len}
 use Rattle.dw_types.specs.declared.facts.Facts.{Facts}
-use Rattle.dw_types.specs.declared.constant.Constant.TheVariants.{Absent}
+use Rattle.dw_types.specs.declared.facts.Constant.TheVariants.{Absent}
 
 -- the facts of a number past the last entry
 abbrev pub no_entry : Facts

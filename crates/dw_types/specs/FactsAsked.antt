@@ -4,8 +4,8 @@ use Rattle.dw_forms.specs.Value.{Datum}
 use Rattle.dw_entries.specs.Entries.{Entry, PlacedUnit}
 use Rattle.dw_entries.specs.Lookups.{value_at_entry}
 use Rattle.dw_links.specs.Targets.{target_of}
-use Rattle.dw_types.specs.declared.constant.Constant.{Constant}
-use Rattle.dw_types.specs.declared.constant.Constant.TheVariants.{Absent}
+use Rattle.dw_types.specs.declared.facts.Constant.{Constant}
+use Rattle.dw_types.specs.declared.facts.Constant.TheVariants.{Absent}
 use Rattle.dw_types.specs.declared.facts.Facts.{Facts}
 use Rattle.dw_types.specs.FactsOf.{constant_at, facts_at, is_type_or_member}
 

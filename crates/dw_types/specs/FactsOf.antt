@@ -13,8 +13,8 @@ use Rattle.dw_entries.specs.Units.{DebugUnit, head_of}
 use Rattle.dw_links.specs.References.{is_declared}
 use Rattle.dw_links.specs.Targets.{target_of}
 use Rattle.dw_types.specs.declared.facts.Facts.{Facts}
-use Rattle.dw_types.specs.declared.constant.Constant.{Constant}
-use Rattle.dw_types.specs.declared.constant.Constant.TheVariants.{Absent, NotNumber, Unsigned, Signed}
+use Rattle.dw_types.specs.declared.facts.Constant.{Constant}
+use Rattle.dw_types.specs.declared.facts.Constant.TheVariants.{Absent, NotNumber, Unsigned, Signed}
 use Rattle.dw_types.specs.Entries.{no_entry}
 
 -- a value as a number: data1 to data8 and udata have no sign, sdata and implicit_const have one (7.5.5)

@@ -28,6 +28,5 @@ pub mod WalkStates
 pub mod Walks
 pub mod RanksListed
 pub mod ElementCounts
-pub mod CappedSizes
 pub mod StoredSizes
 pub mod Noted

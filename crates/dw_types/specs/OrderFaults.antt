@@ -1,6 +1,6 @@
 -- Chapter: why a graph has no order.
-use Rattle.dw_types.specs.declared.ranking.OrderFault.{OrderFault}
-use Rattle.dw_types.specs.declared.ranking.OrderFault.TheVariants.{Cycle, Memory}
+use Rattle.dw_types.specs.declared.ordering.OrderFault.{OrderFault}
+use Rattle.dw_types.specs.declared.ordering.OrderFault.TheVariants.{Cycle, Memory}
 use Rattle.dw_types.specs.Graphs.{Graph, IsCycle}
 
 -- a fault that names a cycle names one of the graph

@@ -1,6 +1,8 @@
--- State: sizes as they are stored, in one number each.
-use Rattle.std.specs.Prelude.{ℕ, suc, zero, List, None, Some, map}
-use Rattle.dw_types.specs.SizeTables.{Size}
+-- State: sizes as they are stored, in one number each, and sizes in which 2^63 represents all that are no smaller.
+use Rattle.std.specs.Prelude.{ℕ, suc, zero, List, None, Some, map, ◌≡◌, ◌^◌, ◌<◌, length}
+use Rattle.dw_types.specs.SizeTables.{Size, cap_size}
+use Rattle.dw_types.specs.declared.facts.Facts.{Facts}
+use Rattle.dw_types.specs.Sizes.{size_line}
 
 -- the size that a number represents: none for 0, or the number before it
 abbrev pub size_in : ℕ → Size
@@ -10,3 +12,8 @@ size_in (suc n) = Some n
 -- the sizes that numbers represent
 abbrev pub sizes_in : List ℕ → List Size
 sizes_in numbers = map size_in numbers
+
+-- at each entry the table has the size that its line says of it, capped
+abbrev pub ObeysCappedLines : List Facts → (ℕ → Size) → Type 0
+ObeysCappedLines entries table =
+    (node : ℕ) → node < length entries → table node ≡ cap_size (2 ^ 63) (size_line entries table node)

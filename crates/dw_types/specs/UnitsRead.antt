@@ -3,8 +3,8 @@ use Rattle.std.specs.Prelude.{ℕ, List, map, slice_get}
 use Rattle.std.specs.Option.{option_map_or}
 use Rattle.dw_entries.specs.Entries.{PlacedUnit, placed}
 use Rattle.dw_entries.specs.Units.{DebugUnit}
-use Rattle.dw_types.specs.declared.constant.Constant.TheVariants.{Absent}
-use Rattle.dw_types.specs.declared.unit_facts.UnitFacts.{UnitFacts}
+use Rattle.dw_types.specs.declared.facts.Constant.TheVariants.{Absent}
+use Rattle.dw_types.specs.declared.facts.UnitFacts.{UnitFacts}
 use Rattle.dw_types.specs.FactsOf.{address_size_of, language_of}
 
 -- the size of an address, and the language

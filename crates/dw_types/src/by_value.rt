@@ -1,36 +1,94 @@
-//! The graph of steps by value: what an entry holds, and so may not hold itself (DWARF 5, chapter 5).
+//! The graph of steps by value: what an entry holds, and so may not hold itself (DWARF 5, chapter 5); and the shapes of
+//! arrays and members that are wrong (5.5, 5.7.6 and 5.13), which are found on the way.
 
-ghost use Rattle.std.specs.Prelude.{◌≡◌, ◌++◌, ◌+◌, ℕ, ◌^◌, ◌<◌, ◌↔◌, true, false, Some, length, IfOk, IfErr};
-ghost use Rattle.std.specs.Prelude.{OnOk};
+ghost use Rattle.std.specs.Prelude.{◌≡◌, ◌++◌, ◌+◌, ℕ, ◌^◌, ◌<◌, ◌↔◌, true, false, Some, length, IfOk, IfErr, OnOk};
 ghost use Rattle.std.specs.List.{flat_map};
 ghost use Rattle.std.specs.Option.{option_to_list};
-ghost use Rattle.dw_entries.specs.Failures.{HasNone, IsFirst};
+ghost use Rattle.dw_entries.specs.Failures.{HasNone, IsFirst, IsLeast};
 ghost use Rattle.dw_entries.specs.Stopped.{IfFault};
+ghost use Rattle.dw_types.specs.Shapes.{breaks_shape, has_bad_count, is_plain, misses_type, stands_alone, fails_shape};
+ghost use Rattle.dw_types.specs.Shapes.{ShapeFailures};
 ghost use Rattle.dw_types.specs.Entries.{children, entry_of, ParentsComeFirst, TargetsAreEntries, OffsetsRise};
 ghost use Rattle.dw_types.specs.Graphs.{IsStep};
 ghost use Rattle.dw_types.specs.Held.{all_facts};
 ghost use Rattle.dw_types.specs.Kinds.{has_members, is_array, is_declared_type, passes_type_on, type_count};
 ghost use Rattle.dw_types.specs.Noted.{IsNoted};
-ghost use Rattle.dw_types.specs.Shapes.{fails_shape, ShapeFailures};
 ghost use Rattle.dw_types.specs.ShapesSeen.{HasSeenArray, HasSeenShapes};
 ghost use Rattle.dw_types.specs.Steps.{by_value, part_step, steps_by_value, targets_if, IsStepByValue};
 
+use crate::facts::UnitFacts;
 use crate::facts_at::FactsAt;
 use crate::facts_list::{FactsCursor, FactsList};
-use crate::graph::StepGraph;
+use crate::fault::LeastFault;
+use crate::graph::{Packed, StepGraph};
 use crate::kind::Role;
-use crate::least_fault::LeastFault;
 use crate::numbers::Numbers;
-use crate::packed::Packed;
-use crate::unit_facts::UnitFacts;
-use dw_entries::Stop;
+use dw_entries::constants::*;
+use dw_entries::{Rule, Stop};
 use dw_links::Links;
 use std::alloc::{AllocError, Global};
 
 impl FactsAt<'_, '_> {
+    /// Whether the entry, whose parent is this to it, is a plain member.
+    #[inline(always)]
+    fn is_plain(&self, parent: Role) -> bool
+        ensures { result ≡ is_plain parent self.now }
+    {
+        matches!(self.tag(), DW_TAG_member) && parent.is_members() && !self.declared()
+    }
+
+    /// Whether the entry takes nothing over from another one.
+    #[inline(always)]
+    pub(crate) fn stands_alone(&self) -> bool
+        ensures { result ≡ stands_alone self.now }
+    {
+        !self.has_specification() && !self.has_abstract_origin()
+    }
+
+    /// Whether a type is missing.
+    #[inline(always)]
+    fn misses_type(&self, parent: Role) -> bool
+        ensures { result ≡ misses_type parent self.now }
+    {
+        matches!(self.tag(), DW_TAG_array_type | DW_TAG_member)
+            && self.type_target().is_none()
+            && (self.is_array() || self.is_plain(parent))
+            && self.stands_alone()
+    }
+
+    /// Whether it is a dimension with a known count below 0.
+    #[inline(always)]
+    fn has_bad_count(&self, parent: Role) -> bool
+        ensures { result ≡ has_bad_count parent self.now }
+    {
+        if !self.is_dimension(parent) {
+            return false;
+        }
+        match self.known_count() {
+            Some(n) => n < 0,
+            None => false,
+        }
+    }
+
+    /// The rule on shapes that the entry breaks: the one with the least number.
+    #[inline(always)]
+    pub(crate) fn broken_shape(&self, parent: Role) -> Option<Rule>
+        ensures { IsLeast (λ rule. breaks_shape parent self.now rule ≡ true) result }
+    {
+        if self.misses_type(parent) {
+            return Some(Rule::MissingType);
+        }
+        if self.has_bad_count(parent) {
+            return Some(Rule::BadCount);
+        }
+        None
+    }
+}
+
+impl FactsAt<'_, '_> {
     /// The step that the entry makes to its type.
     #[inline(always)]
-    pub(crate) fn type_step(&self) -> Option<usize>
+    fn type_step(&self) -> Option<usize>
         ensures step { option_to_list result ≡ targets_if (passes_type_on self.now) self.now.type_target }
         ensures named { (to : ℕ) → result ≡ Some to → self.now.type_target ≡ Some to }
     {
@@ -43,7 +101,7 @@ impl FactsAt<'_, '_> {
 
     /// The step that the entry makes by its signature.
     #[inline(always)]
-    pub(crate) fn signature_step(&self) -> Option<usize>
+    fn signature_step(&self) -> Option<usize>
         ensures step { option_to_list result ≡ targets_if (is_declared_type self.now) self.now.signature_target }
         ensures named { (to : ℕ) → result ≡ Some to → self.now.signature_target ≡ Some to }
     {

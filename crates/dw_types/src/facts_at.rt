@@ -5,7 +5,7 @@ ghost use Rattle.std.specs.Prelude.{if◌then◌else◌};
 ghost use Rattle.dw_forms.specs.Codes.{is_type_tag};
 ghost use Rattle.dw_forms.specs.Value.{view};
 ghost use Rattle.dw_links.specs.References.{is_true};
-ghost use Rattle.dw_types.specs.declared.constant.Constant.{Constant as ConstantOf};
+ghost use Rattle.dw_types.specs.declared.facts.Constant.{Constant as ConstantOf};
 ghost use Rattle.dw_types.specs.declared.facts.Facts.{Facts as FactsOf};
 ghost use Rattle.dw_types.specs.Entries.{entry_of};
 ghost use Rattle.dw_types.specs.FactsAsked.{IsConstantAt, IsPresenceOf, IsTargetOf, asked_value};
@@ -13,8 +13,7 @@ ghost use Rattle.dw_types.specs.FactsOf.{is_type_or_member};
 ghost use Rattle.dw_types.specs.Held.{all_facts, entries_held, units_held};
 ghost use Rattle.dw_types.specs.UnitsRead.{all_unit_facts};
 
-use crate::constant::Constant;
-use crate::unit_facts::{UnitFacts, number_of, unit_at};
+use crate::facts::{Constant, UnitFacts, number_of, unit_at};
 use dw_entries::constants::*;
 use dw_entries::{Attribute, EntryAt, EntryId, Value};
 use dw_links::Links;

@@ -1,17 +1,18 @@
-//! The entries, each with its facts.
+//! The entries, each with its facts, and the children of an entry, one after another.
 
-ghost use Rattle.std.specs.Prelude.{◌≡◌, ◌^◌, ◌<◌, length, List};
+ghost use Rattle.std.specs.Prelude.{◌≡◌, ◌^◌, ◌<◌, ◌∷◌, ℕ, List, Some, length, slice_get, IfSome};
 ghost use Rattle.dw_forms.specs.Codes.{is_type_tag};
-ghost use Rattle.dw_entries.specs.Scanned.{units_of};
+ghost use Rattle.dw_entries.specs.Scanned.{units_of, all_entries};
 ghost use Rattle.dw_types.specs.declared.facts.Facts.{Facts as FactsOf};
-ghost use Rattle.dw_types.specs.Entries.{entry_of, OffsetsRise, ParentsComeFirst, TargetsAreEntries};
+ghost use Rattle.dw_types.specs.Entries.{children, entry_of, OffsetsRise, ParentsComeFirst, TargetsAreEntries};
 ghost use Rattle.dw_types.specs.FactsOf.{facts_in};
 ghost use Rattle.dw_types.specs.Held.{all_facts, units_held};
 ghost use Rattle.dw_types.specs.UnitsRead.{all_unit_facts};
+ghost use Rattle.dw_types.specs.Children.{children_of, is_number, rest_of_children, siblings_from, IsChildOf, IsChild};
 
+use crate::facts::{UnitFacts, number_of};
 use crate::facts_at::FactsAt;
-use crate::unit_facts::UnitFacts;
-use dw_entries::{Cursor, Entries};
+use dw_entries::{Cursor, Entries, EntryId};
 use dw_links::Links;
 use std::marker::Model;
 
@@ -119,5 +120,64 @@ impl<'e, 'a> FactsCursor<'e, 'a> {
         ensures { facts_in (units_of result.now.scanned) ≡ self.now }
     {
         self.cursor.entries
+    }
+}
+
+/// Whether an entry is a child of another.
+#[inline(always)]
+fn is_child(entries: &Entries<'_>, id: EntryId, parent: EntryId) -> bool
+    requires { id < length (all_entries entries.now.scanned) }
+    ensures { IfSome (slice_get (all_entries entries.now.scanned) id)
+        (λ e. result ≡ is_number parent e.parent) }
+{
+    match entries.parent(id) {
+        Some(above) => above == parent,
+        None => false,
+    }
+}
+
+/// The first child of an entry: the entry after it, if that is a child.
+#[inline(always)]
+pub fn first_child(entries: &Entries<'_>, id: EntryId) -> Option<EntryId>
+    requires { id < length (all_entries entries.now.scanned) }
+    ensures children { siblings_from (all_entries entries.now.scanned) id result
+        ≡ children_of (all_entries entries.now.scanned) id }
+    ensures linked { IsChild (all_entries entries.now.scanned) id result }
+{
+    match entries.nth(id.number() + 1) {
+        Some(behind) => {
+            if is_child(entries, behind, id) {
+                Some(behind)
+            } else {
+                None
+            }
+        }
+        None => None,
+    }
+}
+
+impl FactsCursor<'_, '_> {
+    /// The first child of an entry.
+    #[inline(always)]
+    pub(crate) fn first_child(&self, node: usize) -> Option<usize>
+        requires { node < length self.now }
+        ensures children { rest_of_children self.now node result ≡ children self.now node }
+        ensures child { IfSome result (IsChildOf self.now node) }
+    {
+        let entries = self.entries();
+        number_of(first_child(entries, entries.id(node)))
+    }
+
+    /// The next sibling of an entry.
+    #[inline(always)]
+    pub(crate) fn next_sibling(&self, child: usize) -> Option<usize>
+        requires { child < length self.now }
+        ensures children { (parent : ℕ) → (entry_of self.now child).parent ≡ Some parent
+            → rest_of_children self.now parent (Some child) ≡ child ∷ rest_of_children self.now parent result }
+        ensures child { (parent : ℕ) → (entry_of self.now child).parent ≡ Some parent
+            → IfSome result (IsChildOf self.now parent) }
+    {
+        let entries = self.entries();
+        number_of(entries.next_sibling(entries.id(child)))
     }
 }

@@ -1,7 +1,13 @@
-//! Graphs of steps.
+//! Graphs of steps, a graph in two vectors, and an order of the nodes of a graph.
 
-ghost use Rattle.std.specs.Prelude.{◌≡◌, ◌<◌, length};
+ghost use Rattle.std.specs.Prelude.{◌≡◌, ◌<◌, length, slice_index, IfOk};
 ghost use Rattle.dw_types.specs.Graphs.{Graph, LeadsToNodes, steps_of, step_at};
+ghost use Rattle.dw_types.specs.Packing.{cut, begin_of, CutsInOrder, LeadsBelow};
+ghost use Rattle.dw_types.specs.RanksListed.{ranks_listed};
+
+use crate::numbers::{NoMemory, Numbers};
+use std::alloc::Global;
+use std::marker::Model;
 
 /// Nodes with steps between them. A node is a number below the count of nodes, and steps of a node are
 /// numbered from 0 too.
@@ -26,4 +32,155 @@ pub trait StepGraph {
 
     /// Each step leads to a node.
     ghost leads_to_nodes: { (it : Self) → LeadsToNodes (graph it) };
+}
+
+/// How many steps a graph has, where they can be counted.
+fn step_count<G: StepGraph>(graph: &G) -> usize {
+    let mut count: usize = 0;
+    for node in 0..graph.nodes() {
+        count = count.saturating_add(graph.steps(node));
+    }
+    count
+}
+
+/// A graph in two vectors: the steps of all nodes, one node after another, and where those of each node end.
+#[derive(Drop)]
+pub struct Packed {
+    steps: Numbers,
+    ends: Numbers,
+    ghost in_order: { CutsInOrder steps ends },
+    ghost leads: { LeadsBelow steps (length ends) },
+}
+
+impl Packed {
+    /// The same graph: its nodes, and the steps of each in their order.
+    pub fn new<G: StepGraph>(alloc: Global, graph: &G) -> Result<Self, NoMemory>
+        ensures { IfOk result (λ packed. ⟦<Packed as StepGraph>⟧.graph packed ≡ G.graph graph.now) }
+    {
+        let nodes = graph.nodes();
+        let mut steps = Numbers::with_room(alloc, step_count(graph))?;
+        let mut ends = Numbers::with_room(alloc, nodes)?;
+        for node in 0..nodes {
+            let count = graph.steps(node);
+            for k in 0..count {
+                steps.push(graph.step(node, k))?;
+            }
+            ends.push(steps.len())?;
+        }
+        Ok(Packed { steps, ends })
+    }
+
+    /// The graph of these steps, one node after another, where those of each node end here.
+    pub fn from_rows(steps: Numbers, ends: Numbers) -> Self
+        requires in_order { CutsInOrder steps ends }
+        requires leads { LeadsBelow steps (length ends) }
+        ensures { ⟦<Packed as StepGraph>⟧.graph result ≡ cut steps 0 ends }
+    {
+        Packed { steps, ends }
+    }
+
+    /// The place of a node's first step among all.
+    fn begin(&self, node: usize) -> usize
+        requires { node < length self.now.ends }
+        ensures { result ≡ begin_of self.now.ends node }
+    {
+        if node == 0 {
+            0
+        } else {
+            self.ends.get(node - 1)
+        }
+    }
+}
+
+impl StepGraph for Packed {
+    ghost use Rattle.dw_types.specs.PackingLaws.{cut-leads};
+
+    ghost graph = { λ it. cut it.steps 0 it.ends };
+
+    ghost leads_to_nodes = { λ it. cut-leads it.steps it.ends it.in_order it.leads };
+
+    fn nodes(&self) -> usize {
+        self.ends.len()
+    }
+
+    fn steps(&self, node: usize) -> usize {
+        self.ends.get(node) - self.begin(node)
+    }
+
+    fn step(&self, node: usize, k: usize) -> usize {
+        self.steps.get_behind(self.begin(node), k)
+    }
+}
+
+/// The ranks of a graph's nodes, from 0: each step leads to a node of smaller rank.
+#[derive(Drop)]
+pub struct Order {
+    nodes: usize,
+    by_rank: Numbers,
+    turns: u128,
+}
+
+impl Model for Order {
+    ghost use Rattle.dw_types.specs.Orders.{Ranking};
+    ghost use Rattle.dw_types.specs.RanksListed.{ranks_listed};
+
+    ghost Value = { Ranking };
+
+    ghost view = { λ it. record { ranks = ranks_listed it.nodes it.by_rank; by_rank = it.by_rank; turns = it.turns } };
+}
+
+impl Order {
+    pub(crate) fn new(nodes: usize, by_rank: Numbers, turns: u128) -> Self
+        ensures { result ≡ record { ranks = ranks_listed nodes by_rank; by_rank = by_rank; turns = turns } }
+    {
+        Order {
+            nodes,
+            by_rank,
+            turns,
+        }
+    }
+
+    /// The rank of a node. It is searched, since the nodes alone are kept, in the order of their ranks.
+    pub fn rank(&self, node: usize) -> usize
+        requires { node < length self.now.ranks }
+        ensures { result ≡ slice_index self.now.ranks node }
+    {
+        rank_in(&self.by_rank, self.nodes, node)
+    }
+
+    /// How many turns the walk took. A turn is one node taken up or one step looked at.
+    pub fn turns(&self) -> u128
+        ensures { result ≡ self.now.turns }
+    {
+        self.turns
+    }
+
+    /// How many ranks there are.
+    pub fn count(&self) -> usize
+        ensures { result ≡ length self.now.by_rank }
+    {
+        self.by_rank.len()
+    }
+
+    /// The node of a rank.
+    pub fn node(&self, rank: usize) -> usize
+        requires { rank < length self.now.by_rank }
+        ensures { result ≡ slice_index self.now.by_rank rank }
+    {
+        self.by_rank.get(rank)
+    }
+}
+
+/// The rank of one of so many nodes, by those that have one, in the order of their ranks.
+fn rank_in(by_rank: &Numbers, nodes: usize, node: usize) -> usize
+    requires { node < nodes }
+    ensures { result ≡ slice_index (ranks_listed nodes by_rank.now) node }
+{
+    let mut rank = 0;
+    for place in 0..by_rank.len() {
+        if by_rank.get(place) == node {
+            rank = place;
+        }
+    }
+    rank
 }

@@ -6,6 +6,16 @@ ghost use Rattle.std.specs.Prelude.{slice_set, take, IfOk, MatchOption, OnOk};
 use std::alloc::{AllocError, Global};
 use std::marker::Model;
 
+/// An allocation failed.
+#[derive(Clone, Copy, Debug, PartialEq, Eq)]
+pub struct NoMemory;
+
+impl From<AllocError> for NoMemory {
+    fn from(_error: AllocError) -> NoMemory {
+        NoMemory
+    }
+}
+
 /// Numbers in four bytes each. From the first one on that is added and does not fit, each has eight.
 #[derive(Drop)]
 pub struct Numbers {
@@ -133,12 +143,7 @@ impl Numbers {
 
     /// Writes a number at a place.
     #[inline]
-    pub fn set(
-        &mut self,
-        alloc: Global,
-        place: usize,
-        number: usize,
-    ) -> Result<(), AllocError>
+    pub fn set(&mut self, alloc: Global, place: usize, number: usize) -> Result<(), AllocError>
         requires { place < length self.old }
         ensures { OnOk result (self.new ≡ slice_set self.old place number) }
     {

@@ -1,21 +1,38 @@
-//! The order of a graph: one walk with a stack, which looks at each step once.
+//! The order of a graph, or a cycle in it: one walk with a stack, which looks at each step once.
 
-ghost use Rattle.std.specs.Prelude.{◌≡◌, ◌≢◌, ℕ, ◌+◌, ◌-◌, ◌^◌, ◌<◌, [], None, length, slice_index, Contains};
-ghost use Rattle.std.specs.Prelude.{IfErr, IfOk, OnOk};
+ghost use Rattle.std.specs.Prelude.{◌≡◌, ◌≢◌, ℕ, ◌+◌, ◌-◌, ◌^◌, ◌<◌, ◌≤◌, [], ◌∷◌, ◌++◌, None, length, take, drop};
+ghost use Rattle.std.specs.Prelude.{slice_index, Contains, IfErr, IfOk, OnOk};
 ghost use Rattle.dw_types.specs.Cycles.{AreClear};
 ghost use Rattle.dw_types.specs.Graphs.{steps_of, FollowsSteps, IsStep, IsCycle, HasNoCycle};
 ghost use Rattle.dw_types.specs.OrderFaults.{IsFaultOf};
 ghost use Rattle.dw_types.specs.Orders.{IsOrderOf};
 ghost use Rattle.dw_types.specs.Walks.{ComesTo, IsMet, IsWalk, KeepsTaken, work_left};
 ghost use Rattle.dw_types.specs.WalkStates.{mark_of, taken_up};
+ghost use Rattle.dw_types.specs.declared.ordering.OrderFault.TheVariants.{Memory};
 ghost use Rattle.dw_types.specs.declared.walk.Mark.TheVariants.{Fresh};
 
-use crate::cycle::{place_of, place_of_least, round_from};
-use crate::graph::StepGraph;
+use crate::graph::{Order, StepGraph};
 use crate::numbers::Numbers;
-use crate::ranking::{Order, OrderFault};
 use crate::walk::{Mark, Walk};
 use std::alloc::{AllocError, Global};
+
+/// Why a graph has no order.
+#[derive(Drop)]
+pub enum OrderFault {
+    /// Nodes, each a step from the one before, that begin and end with the least of them and have every
+    /// other node once. Where a graph has several, any of them.
+    Cycle(Vec<usize>),
+    /// A growth was refused.
+    Memory,
+}
+
+impl From<AllocError> for OrderFault {
+    ghost from_gives = { λ _ fault. fault ≡ Memory };
+
+    fn from(_e: AllocError) -> OrderFault {
+        OrderFault::Memory
+    }
+}
 
 /// Ranks that fall along each step of a graph, or a cycle in it. Each node is taken up once, and each step
 /// looked at once.
@@ -146,4 +163,41 @@ fn cycle_to<G: StepGraph>(
     let stack = stack.as_slice();
     let ring = &stack[place_of(stack, to)..];
     Ok(round_from(alloc, ring, place_of_least(ring))?)
+}
+
+/// Where a node stands among others.
+fn place_of(nodes: &[usize], node: usize) -> usize
+    requires { Contains nodes.now node }
+    ensures place_in { result < length nodes.now }
+    ensures found { slice_index nodes.now result ≡ node }
+{
+    nodes.iter().position(|other| *other == node).unwrap()
+}
+
+/// Where the least node stands.
+fn place_of_least(nodes: &[usize]) -> usize
+    requires { 0 < length nodes.now }
+    ensures place_in { result < length nodes.now }
+    ensures least { (k : ℕ) → k < length nodes.now → slice_index nodes.now result ≤ slice_index nodes.now k }
+{
+    let mut least = 0;
+    for (place, node) in nodes.iter().enumerate() {
+        if *node < nodes[least] {
+            least = place;
+        }
+    }
+    least
+}
+
+/// A closed walk round a ring of nodes, from the one at a place back to it.
+fn round_from(alloc: Global, ring: &[usize], place: usize) -> Result<Vec<usize>, AllocError>
+    requires { place < length ring.now }
+    ensures { IfOk result (λ round. round.items
+        ≡ (drop place ring.now ++ take place ring.now) ++ slice_index ring.now place ∷ []) }
+{
+    let mut round = Vec::new(alloc);
+    round.extend_from_slice(&ring[place..])?;
+    round.extend_from_slice(&ring[..place])?;
+    round.push(ring[place])?;
+    Ok(round)
 }

@@ -1,13 +1,32 @@
-//! The table of sizes.
+//! The one table of sizes, filled in the order of the ranks.
 
-ghost use Rattle.std.specs.Prelude.{◌≡◌, ◌<◌, ◌≤◌, ◌^◌, ℕ, None, Some, length, replicate, IfOk, IfSome, List, OnOk};
-ghost use Rattle.std.specs.Prelude.{slice_set};
-ghost use Rattle.dw_types.specs.Sizes.{size_to};
-ghost use Rattle.dw_types.specs.SizeTables.{Size, size_at};
+ghost use Rattle.std.specs.Prelude.{◌≡◌, ◌<◌, ◌≤◌, ◌^◌, ◌⊎◌, ℕ, List, None, Some, Bool, true, length, replicate};
+ghost use Rattle.std.specs.Prelude.{slice_set, IfOk, IfErr, IfSome, OnOk};
+ghost use Rattle.dw_entries.specs.Failures.{HasNone};
+ghost use Rattle.dw_entries.specs.Stopped.{IfFault};
+ghost use Rattle.dw_types.specs.Sizes.{size_to, array_size, constant_or, size_line, times, IsSizeTable};
+ghost use Rattle.dw_types.specs.SizeTables.{Size, size_at, cap_size, OnlyTypesAreSized};
 ghost use Rattle.dw_types.specs.StoredSizes.{size_in, sizes_in};
+ghost use Rattle.dw_types.specs.ElementCounts.{element_count_by, size_from};
+ghost use Rattle.dw_types.specs.Entries.{children, entry_of, TargetsAreEntries, OffsetsRise, ParentsComeFirst};
+ghost use Rattle.dw_types.specs.Kinds.{kind_of, has_members};
+ghost use Rattle.dw_types.specs.declared.kind.Kind.TheVariants.{Array};
+ghost use Rattle.dw_types.specs.Held.{all_facts, entries_held};
+ghost use Rattle.dw_types.specs.Noted.{asked_at, is_member_of, IsNoted};
+ghost use Rattle.dw_types.specs.Orders.{IsOrderOf};
+ghost use Rattle.dw_types.specs.SizeFaults.{IsFirstSizeFault, SizeFailures, fails_size};
+ghost use Rattle.dw_types.specs.Steps.{by_value};
 
+use crate::count::{ElementCount, count_elements};
+use crate::facts::{Constant, UnitFacts};
+use crate::facts_at::FactsAt;
+use crate::facts_list::{FactsCursor, FactsList};
+use crate::fault::LeastFault;
+use crate::graph::Order;
+use crate::kind::Kind;
 use crate::numbers::Numbers;
-use dw_entries::EntryId;
+use dw_entries::{EntryId, Stop};
+use dw_links::Links;
 use std::alloc::{AllocError, Global};
 use std::marker::Model;
 
@@ -19,6 +38,10 @@ pub struct SizeTable {
 }
 
 impl Model for SizeTable {
+    ghost use Rattle.std.specs.Prelude.{List};
+    ghost use Rattle.dw_types.specs.SizeTables.{Size};
+    ghost use Rattle.dw_types.specs.StoredSizes.{sizes_in};
+
     ghost Value = { List Size };
 
     ghost view = { λ it. sizes_in it.sizes };
@@ -97,4 +120,230 @@ fn stored(size: Option<u64>) -> usize
         Some(size) => size as usize + 1,
         None => 0,
     }
+}
+
+/// A size, where 2^63 stands for all that is no smaller.
+fn capped(size: Option<u64>) -> Option<u64>
+    ensures value { result ≡ cap_size (2 ^ 63) size }
+    ensures small { IfSome result (λ n. n ≤ 2 ^ 63) }
+{
+    match size {
+        Some(size) => Some(size.min(1 << 63)),
+        None => None,
+    }
+}
+
+/// The product where both are known, capped.
+fn capped_times(a: Option<u64>, b: Option<u64>) -> Option<u64>
+    ensures value { result ≡ cap_size (2 ^ 63) (times a b) }
+    ensures small { IfSome result (λ n. n ≤ 2 ^ 63) }
+{
+    let (a, b) = (a?, b?);
+    Some((u128::from(a) * u128::from(b)).min(1 << 63) as u64)
+}
+
+impl Constant {
+    /// The number of 0 or more, or another size where the attribute is absent.
+    #[inline(always)]
+    fn natural_or(&self, other: Option<u64>) -> Option<u64>
+        ensures { result ≡ constant_or self.now other }
+    {
+        match self {
+            Constant::Absent => other,
+            _ => self.natural(),
+        }
+    }
+}
+
+/// The capped size of an array without a byte size of its own: element storage times all counts.
+#[inline(always)]
+fn capped_array(
+    entries: &FactsList<'_, '_>,
+    elements: ElementCount,
+    sizes: &SizeTable,
+    node: usize,
+    entry: &FactsAt<'_, '_>,
+) -> Option<u64>
+    requires entry { entry.now ≡ entry_of entries.now node }
+    requires targets { TargetsAreEntries entries.now }
+    requires sizes_in { length sizes.now ≡ length entries.now }
+    requires elements { elements ≡ element_count_by entries.now (children entries.now node) }
+    ensures value { result ≡ cap_size (2 ^ 63) (array_size entries.now (size_at sizes.now) node) }
+    ensures small { IfSome result (λ n. n ≤ 2 ^ 63) }
+{
+    if entry.bit_stride().is_present() {
+        return None;
+    }
+    let storage = entry
+        .byte_stride()
+        .natural_or(sizes.get_to(entry.type_target()));
+    capped_times(storage, elements.size())
+}
+
+/// The capped size of an entry, by those of others.
+#[inline(always)]
+fn capped_size(
+    entries: &FactsList<'_, '_>,
+    elements: ElementCount,
+    sizes: &SizeTable,
+    node: usize,
+    entry: &FactsAt<'_, '_>,
+) -> Option<u64>
+    requires entry { entry.now ≡ entry_of entries.now node }
+    requires node_in { node < length entries.now }
+    requires targets { TargetsAreEntries entries.now }
+    requires sizes_in { length sizes.now ≡ length entries.now }
+    requires elements { kind_of (entry_of entries.now node) ≡ Array
+        → elements ≡ element_count_by entries.now (children entries.now node) }
+    ensures value { result ≡ cap_size (2 ^ 63) (size_line entries.now (size_at sizes.now) node) }
+    ensures small { IfSome result (λ n. n ≤ 2 ^ 63) }
+{
+    match entry.kind() {
+        Kind::Declared => capped(sizes.get_to(entry.signature_target())),
+        Kind::OwnSized => capped(entry.byte_size().natural()),
+        Kind::Pointer => {
+            let own = entry.byte_size();
+            capped(own.natural_or(Some(u64::from(entry.address_size()))))
+        }
+        Kind::Alias => capped(sizes.get_to(entry.type_target())),
+        Kind::Enumeration => {
+            let own = entry.byte_size();
+            capped(own.natural_or(sizes.get_to(entry.type_target())))
+        }
+        Kind::Array => {
+            let own = entry.byte_size();
+            capped(own.natural_or(capped_array(entries, elements, sizes, node, entry)))
+        }
+        Kind::Subroutine | Kind::NoType => None,
+    }
+}
+
+/// How many elements an array has. Any other entry has no dimension.
+#[inline(always)]
+fn elements_of(
+    cursor: &mut FactsCursor<'_, '_>,
+    node: usize,
+    entry: &FactsAt<'_, '_>,
+) -> ElementCount
+    requires node { node < length cursor.old }
+    requires entry { entry.now ≡ entry_of cursor.old node }
+    ensures same { cursor.new ≡ cursor.old }
+    ensures counted { kind_of (entry_of cursor.old node) ≡ Array
+        → result ≡ element_count_by cursor.old (children cursor.old node) }
+{
+    if entry.is_array() {
+        count_elements(cursor, node)
+    } else {
+        ElementCount::NoDimension
+    }
+}
+
+/// Notes the members of a structure or union of this size that end outside it.
+fn note_members(
+    cursor: &mut FactsCursor<'_, '_>,
+    sizes: &SizeTable,
+    least: &mut LeastFault,
+    node: usize,
+    size: Option<u64>,
+)
+    requires node { node < length cursor.old }
+    requires members { has_members (entry_of cursor.old node) ≡ true }
+    requires sizes_in { length sizes.now ≡ length cursor.old }
+    requires size { size_at sizes.now node ≡ size }
+    requires targets { TargetsAreEntries cursor.old }
+    requires untyped { OnlyTypesAreSized cursor.old (size_at sizes.now) }
+    ensures same { cursor.new ≡ cursor.old }
+    ensures noted { (seen : ℕ → Bool)
+        → IsNoted (fails_size cursor.old (size_at sizes.now)) (λ k. seen k ≡ true) least.old.found
+        → IsNoted (fails_size cursor.old (size_at sizes.now))
+        (λ k. (seen k ≡ true) ⊎ (is_member_of cursor.old node k ≡ true)) least.new.found }
+{
+    let mut next = cursor.first_child(node);
+    while let Some(child) = next {
+        let entry = cursor.at(child);
+        least.note(child, entry.broken_as_member(size, sizes));
+        next = cursor.next_sibling(child);
+    }
+}
+
+/// Writes the size of an entry, by those of what it holds by value, and notes what is wrong with it and its members.
+fn measure(
+    alloc: Global,
+    entries: &FactsList<'_, '_>,
+    cursor: &mut FactsCursor<'_, '_>,
+    sizes: &mut SizeTable,
+    least: &mut LeastFault,
+    node: usize,
+) -> Result<(), AllocError>
+    requires node { node < length cursor.old }
+    requires entries { entries.now ≡ cursor.old }
+    requires sizes_in { length sizes.old ≡ length cursor.old }
+    requires targets { TargetsAreEntries cursor.old }
+    requires untyped { OnlyTypesAreSized cursor.old (size_at sizes.old) }
+    ensures same { OnOk result (cursor.new ≡ cursor.old) }
+    ensures size { OnOk result (sizes.new
+        ≡ slice_set sizes.old node (cap_size (2 ^ 63) (size_line cursor.old (size_at sizes.old) node))) }
+    ensures noted { OnOk result ((seen : ℕ → Bool)
+        → IsNoted (fails_size cursor.old (size_at sizes.new)) (λ k. seen k ≡ true) least.old.found
+        → IsNoted (fails_size cursor.old (size_at sizes.new))
+        (λ k. (seen k ≡ true) ⊎ (asked_at cursor.old k ≡ node)) least.new.found) }
+{
+    let entry = cursor.at(node);
+    if !entry.is_type() {
+        return Ok(());
+    }
+    let elements = elements_of(cursor, node, &entry);
+    let size = capped_size(entries, elements, sizes, node, &entry);
+    sizes.set(alloc, node, size)?;
+    least.note(node, entry.broken_size(size, sizes));
+    if !entry.has_members() {
+        return Ok(());
+    }
+    note_members(cursor, sizes, least, node, size);
+    Ok(())
+}
+
+/// The one table of sizes of entries with these facts, or the first fault of sizes.
+fn sizes_of_facts(
+    alloc: Global,
+    entries: &FactsList<'_, '_>,
+    order: &Order,
+) -> Result<SizeTable, Stop>
+    requires parents { ParentsComeFirst entries.now }
+    requires targets { TargetsAreEntries entries.now }
+    requires rising { OffsetsRise entries.now }
+    requires order { IsOrderOf (by_value entries.now) order.now }
+    ensures long { IfOk result (λ table. length table ≡ length entries.now) }
+    ensures only { IfOk result (λ table. IsSizeTable entries.now (size_at table)) }
+    ensures sound { IfOk result (λ table. HasNone (SizeFailures entries.now (size_at table))) }
+    ensures fault { IfErr result (IfFault (IsFirstSizeFault entries.now)) }
+{
+    let mut sizes = SizeTable::none(alloc, entries.count())?;
+    let mut least = LeastFault::none();
+    let mut cursor = entries.cursor();
+    for rank in 0..order.count() {
+        measure(
+            alloc,
+            entries,
+            &mut cursor,
+            &mut sizes,
+            &mut least,
+            order.node(rank),
+        )?;
+    }
+    least.check(alloc, entries)?;
+    Ok(sizes)
+}
+
+/// The one table of sizes, or the first fault of sizes. The order is that of the graph of the entries' steps by value.
+pub fn sizes(alloc: Global, links: &Links<'_, '_>, order: &Order) -> Result<SizeTable, Stop>
+    requires order { IsOrderOf (by_value (all_facts links.now)) order.now }
+    ensures long { IfOk result (λ table. length table ≡ length (entries_held links.now)) }
+    ensures only { IfOk result (λ table. IsSizeTable (all_facts links.now) (size_at table)) }
+    ensures sound { IfOk result (λ table. HasNone (SizeFailures (all_facts links.now) (size_at table))) }
+    ensures fault { IfErr result (IfFault (IsFirstSizeFault (all_facts links.now))) }
+{
+    let units = UnitFacts::read_all(alloc, links.entries)?;
+    let facts = FactsList::new(links, &units);
+    sizes_of_facts(alloc, &facts, order)
 }

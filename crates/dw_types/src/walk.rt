@@ -4,8 +4,8 @@ ghost use Rattle.std.specs.Prelude.{◌≡◌, ◌+◌, ◌-◌, ◌^◌, ◌<�
 ghost use Rattle.std.specs.Prelude.{MatchOption};
 ghost use Rattle.dw_types.specs.WalkStates.{mark_of, taken_up, with_step, with_rank, given_up};
 
+use crate::graph::Order;
 use crate::numbers::Numbers;
-use crate::ranking::Order;
 use std::alloc::{AllocError, Global};
 use std::marker::Model;
 

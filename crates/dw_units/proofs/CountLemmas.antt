@@ -21,7 +21,7 @@ use Rattle.dw_links.specs.Bases.{base_in}
 use Rattle.dw_entries.specs.Lookups.{entry_head}
 use Rattle.dw_links.specs.Contributions.{IsContribution, slot_count, slot_at, Ends}
 use Rattle.dw_links.specs.Strings.{StringIndexFails, AddressIndexFails, OffsetFails, BaseFails, StringFailsIn, StringFailures}
-use Rattle.dw_units.specs.declared.counts.Counts.{Counts}
+use Rattle.dw_units.specs.declared.counting.Counts.{Counts}
 use Rattle.dw_image.specs.declared.image.Image.{Image}
 use Rattle.dw_image.specs.Lookups.{is_type_entry}
 use Rattle.dw_entries.specs.Scanned.{all_entries, units_of}

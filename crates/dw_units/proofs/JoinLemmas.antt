@@ -1,10 +1,11 @@
--- Sizes: one table for all, made of those of the units, and no rule on sizes fails.
-use Rattle.std.proofs.Common.{◌≡◌, ℕ, ◌+◌, ◌-◌, ◌<◌, ◌≤◌, zero, suc, Bool, true, false, List, [], ◌∷◌, length, Option, Some, None, refl, sym, ap, subst, ◌∙◌, arith, nat_lt, lt-ltb, append-nil}
-use Rattle.std.specs.Prelude.{slice_get, if◌then◌else◌}
+-- Sizes: one table for all, made of those of the units, and no rule on sizes fails; and units that each stand alone
+-- spell their bytes, joined.
+use Rattle.std.proofs.Common.{◌≡◌, List, [], ◌∷◌, ℕ, ◌+◌, ◌-◌, ◌<◌, ◌≤◌, zero, suc, Bool, true, false, length, Option, Some, None, refl, sym, ap, subst, ◌∙◌, arith, nat_lt, lt-ltb, append-nil}
 use Rattle.std.specs.List.{AllByRecursion}
+use Rattle.std.specs.Prelude.{slice_get, if◌then◌else◌}
 use Rattle.std.proofs.lemmas.Option.{slice_get_within}
 use Rattle.dw_elf.specs.declared.sections.Sections.{Sections}
-use Rattle.dw_entries.specs.Units.{DebugUnit, unit_bytes}
+use Rattle.dw_entries.specs.Units.{DebugUnit, AreUnits, units_bytes, unit_bytes}
 use Rattle.dw_entries.specs.Header.{header_size}
 use Rattle.dw_entries.specs.Entries.{node_count, node_entries, entries_of, PlacedUnit, placed_from, placed}
 use Rattle.dw_entries.specs.Places.{at_entry}
@@ -16,13 +17,19 @@ use Rattle.dw_types.specs.SizeTables.{Size}
 use Rattle.dw_types.specs.Sizes.{ObeysSizeLines, size_line}
 use Rattle.dw_types.specs.SizeFaults.{fails_size, SizeFailures}
 use Rattle.dw_types.proofs.FactsLemmas.{length-facts_of}
-use Rattle.dw_image.specs.Valid.{HasSizes}
+use Rattle.dw_image.specs.Valid.{SpellsInfo, HasSizes}
 use Rattle.dw_units.specs.Alone.{StandsAlone, JoinsUnits}
 use Rattle.dw_units.proofs.TypeLemmas.{in_window, shapes_join, contained_join}
 use Rattle.dw_units.proofs.WindowSizes.{line_moved, fails_moved}
-use Rattle.dw_units.proofs.TreeLemmas.{trees_join}
 use Rattle.dw_units.proofs.TextLemmas.{classes_join, strings_join}
 use Rattle.dw_units.proofs.ReferenceLemmas.{references_join}
+
+are_units : (s : Sections) (us : List DebugUnit) → AllByRecursion (StandsAlone s) us → AreUnits s.«abbrev».now us
+are_units s [] all = tt
+are_units s (u ∷ us) (one, more) = (one.is_unit, are_units s us more)
+
+pub trees_join : (s : Sections) (us : List DebugUnit) → AllByRecursion (StandsAlone s) us → s.info.now ≡ units_bytes us → SpellsInfo s us
+trees_join s us all parts = record { are = are_units s us all; parts = parts }
 
 count_alone : (u : DebugUnit) → length (facts_in (u ∷ [])) ≡ node_count u.root
 count_alone u =

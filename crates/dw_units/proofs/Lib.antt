@@ -1,4 +1,3 @@
-pub mod TreeLemmas
 pub mod MovedEntries
 pub mod TextLemmas
 pub mod ReachLemmas

@@ -14,8 +14,8 @@ use Rattle.dw_entries.proofs.EntryFacts.{entries_rise}
 use Rattle.dw_links.specs.References.{is_declared}
 use Rattle.dw_links.specs.Targets.{reach_of, target_of}
 use Rattle.dw_types.specs.declared.facts.Facts.{Facts}
-use Rattle.dw_types.specs.declared.constant.Constant.{Constant}
-use Rattle.dw_types.specs.declared.constant.Constant.TheVariants.{Absent}
+use Rattle.dw_types.specs.declared.facts.Constant.{Constant}
+use Rattle.dw_types.specs.declared.facts.Constant.TheVariants.{Absent}
 use Rattle.dw_types.specs.Entries.{entry_of}
 use Rattle.dw_types.specs.FactsOf.{facts_in, facts_at, facts_read, facts_unread, constant_at, address_size_of, language_of, is_type_or_member}
 use Rattle.dw_types.proofs.FactsLemmas.{facts-get}

@@ -6,7 +6,7 @@ use Rattle.dw_entries.specs.Units.{DebugUnit}
 use Rattle.dw_entries.specs.Entries.{entries_of}
 use Rattle.dw_image.specs.Headline.{IsSoundBy}
 use Rattle.dw_image.specs.Lookups.{is_type_entry}
-use Rattle.dw_units.specs.declared.counts.Counts.{Counts}
+use Rattle.dw_units.specs.declared.counting.Counts.{Counts}
 
 -- the sections are sound, and these are the counts of their units, entries and types
 pub record AreCounts (s : Sections) (c : Counts) : Type 0 where

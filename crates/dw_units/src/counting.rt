@@ -1,14 +1,53 @@
-//! The counts of sound sections, unit after unit.
+//! How many units, entries and types sound sections have, counted unit after unit.
 
-ghost use Rattle.std.specs.Prelude.{IfOk, IfSome};
+ghost use Rattle.std.specs.Prelude.{◌≡◌, ◌+◌, IfOk, IfSome};
+ghost use Rattle.dw_image.specs.Images.{sections_in};
+ghost use Rattle.dw_units.specs.Alone.{JoinsUnits};
 ghost use Rattle.dw_units.specs.Counted.{AreCounts};
 
 use crate::alone::verify_alone;
-use crate::counts::Counts;
 use crate::tables::{are_apart, unit_size};
 use dw_elf::Sections;
-use dw_image::NoMemory;
+use dw_image::{Image, NoMemory};
 use std::alloc::Global;
+
+/// How many units, entries and types there are.
+#[derive(Clone, Copy, Debug, PartialEq, Eq)]
+pub struct Counts {
+    pub units: usize,
+    pub entries: usize,
+    /// How many entries are types, by their tags.
+    pub types: usize,
+}
+
+impl Counts {
+    /// The counts of an image.
+    pub fn of(image: &Image<'_>) -> Counts
+        ensures { AreCounts (sections_in image.now) result }
+    {
+        Counts {
+            units: image.units(),
+            entries: image.entries(),
+            types: image.types(),
+        }
+    }
+
+    /// The counts with one unit more, which has so many entries and types. None if they exceed usize.
+    pub(crate) fn with_unit(self, entries: usize, types: usize) -> Option<Counts>
+        ensures units { IfSome result (λ c. c.units ≡ self.units + 1) }
+        ensures entries { IfSome result (λ c. c.entries ≡ self.entries + entries) }
+        ensures types { IfSome result (λ c. c.types ≡ self.types + types) }
+    {
+        let units = self.units.checked_add(1)?;
+        let entries = self.entries.checked_add(entries)?;
+        let types = self.types.checked_add(types)?;
+        Some(Counts {
+            units,
+            entries,
+            types,
+        })
+    }
+}
 
 /// How many bytes of memory `keep_memory` asks for.
 const KEPT: usize = 4 << 20;
@@ -53,3 +92,8 @@ pub fn count_by_unit<'a>(alloc: Global, sections: &Sections<'a>) -> Result<Optio
     }
     Ok(Some(counts))
 }
+
+/// Units that are each valid alone, and refer to no other unit, are valid together.
+pub fn units_join()
+    ensures { JoinsUnits }
+{}

@@ -3,10 +3,6 @@
 
 mod alone;
 mod counting;
-mod counts;
-mod laws;
 mod tables;
 
-pub use counting::count_by_unit;
-pub use counts::Counts;
-pub use laws::units_join;
+pub use counting::{Counts, count_by_unit, units_join};

@@ -1,4 +1,4 @@
-use Rattle.dw_elf.specs.declared.names.DebugSection.TheVariants.{Abbrev, Info, Str, LineStr, StrOffsets, Addr}
+use Rattle.dw_elf.specs.declared.sections.DebugSection.TheVariants.{Abbrev, Info, Str, LineStr, StrOffsets, Addr}
 use Rattle.dw_elf.proofs.SlotLemmas.{small_at, section_at}
 use Rattle.dw_elf.proofs.finding.sections_of.Goals as goal
 

@@ -1,7 +1,6 @@
 use Rattle.std.proofs.lemmas.Result.{err_from_is_err_and}
 use Rattle.dw_entries.proofs.StopLaws.{faulty_weaker}
-use Rattle.dw_image.proofs.AskLemmas.{wrong_link, wrong_type}
-use Rattle.dw_image.proofs.JoinLemmas.{image_of}
+use Rattle.dw_image.proofs.JoinLemmas.{wrong_link, wrong_type, image_of}
 use Rattle.dw_image.proofs.verifying.image_of.Goals as goal
 
 pub returns-in_err-links-clause-fault : goal.returns-in_err-links-clause-fault

@@ -1,4 +1,4 @@
-use Rattle.dw_links.proofs.LinkedTexts.{have_texts, have_addresses}
+use Rattle.dw_links.proofs.LinkedEntries.{have_texts, have_addresses}
 use Rattle.dw_links.proofs.laws.strings_have_texts.Goals as goal
 
 pub returns-clause-texts : goal.returns-clause-texts

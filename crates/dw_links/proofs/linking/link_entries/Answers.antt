@@ -11,7 +11,7 @@ use Rattle.dw_links.specs.Strings.{StringFails}
 use Rattle.dw_links.specs.Tables.{type_target}
 use Rattle.dw_links.specs.declared.references.References.{References}
 use Rattle.dw_links.proofs.ClassLaws.{in_units}
-use Rattle.dw_links.proofs.LinkedLoop.{linkable, strings_none, references_none, is_target, failed_first}
+use Rattle.dw_links.proofs.Transfers.{linkable, strings_none, references_none, is_target, failed_first}
 use Rattle.dw_links.proofs.Skips.{there, one_more}
 use Rattle.dw_links.proofs.TableLaws.{map_one_more}
 use Rattle.dw_links.proofs.linking.link_entries.Goals as goal

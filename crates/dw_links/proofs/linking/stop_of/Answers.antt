@@ -8,12 +8,12 @@ use Rattle.dw_links.proofs.linking.stop_of.Goals as goal
 
 pub returns-in-String : goal.returns-in-String
 returns-in-String c = record {
-  holds = inl (subst (IsFirst (StringFailures (sections_of c.args.entries.now) (units_of c.args.entries.now.scanned))) (sym c.fault_of.ensures.broken) (rw c.in-String.is at c.requires));
-  cycle = c.fault_of.ensures.cycle;
+  holds = inl (subst (IsFirst (StringFailures (sections_of c.args.entries.now) (units_of c.args.entries.now.scanned))) (sym c.into_fault.ensures.holds) (rw c.in-String.is at c.requires));
+  cycle = c.into_fault.ensures.cycle;
 }
 
 pub strings_first-requires : goal.strings_first-requires
 strings_first-requires c = record {
-  holds = subst (IsFirst (ReferenceFailures (units_of c.args.entries.now.scanned))) (sym c.fault_of-in-Reference.ensures.broken) (rw c.in-Reference.is at c.requires);
-  cycle = c.fault_of-in-Reference.ensures.cycle;
+  holds = subst (IsFirst (ReferenceFailures (units_of c.args.entries.now.scanned))) (sym c.into_fault-in-Reference.ensures.holds) (rw c.in-Reference.is at c.requires);
+  cycle = c.into_fault-in-Reference.ensures.cycle;
 }

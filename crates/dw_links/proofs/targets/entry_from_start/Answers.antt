@@ -3,8 +3,7 @@ use Rattle.dw_entries.specs.Entries.{entries_of}
 use Rattle.dw_entries.specs.Scanned.{units_of}
 use Rattle.dw_entries.specs.Runs.{IsEntryAt}
 use Rattle.dw_entries.proofs.EntryFacts.{entries_rise}
-use Rattle.dw_links.proofs.Reached.{none_map}
-use Rattle.dw_links.proofs.ReferenceLaws.{found_some, no_entry}
+use Rattle.dw_links.proofs.Reached.{none_map, found_some, no_entry}
 use Rattle.dw_links.proofs.TargetLaws.{entry_at_answer}
 use Rattle.dw_links.proofs.targets.entry_from_start.Goals as goal
 

@@ -1,4 +1,4 @@
-use Rattle.std.proofs.Common.{◌≡◌, ◌+◌, ◌⊎◌, ℕ, List, None, Some, true, inl, inr, refl, subst, sym, ◌∙◌, arith}
+use Rattle.std.proofs.Common.{◌≡◌, ◌⊎◌, ℕ, List, None, Some, true, inl, inr, refl, subst, sym, ◌∙◌, arith}
 use Rattle.std.specs.Prelude.{Contains}
 use Rattle.dw_types.specs.declared.kind.Role.TheVariants.{Dimensions}
 use Rattle.dw_types.specs.Children.{IsChildOf}
@@ -6,9 +6,9 @@ use Rattle.dw_types.specs.Entries.{entry_of}
 use Rattle.dw_types.specs.Kinds.{is_array}
 use Rattle.dw_types.specs.Noted.{IsNoted}
 use Rattle.dw_types.specs.Shapes.{fails_shape}
-use Rattle.dw_types.specs.ShapesSeen.{HasSeenArray, HasSeenShapes, array}
+use Rattle.dw_types.specs.ShapesSeen.{HasSeenArray, array}
 use Rattle.dw_types.proofs.RoleLemmas.{dimensions-role}
-use Rattle.dw_types.proofs.PassedLemmas.{HasPassed, passed-more, passed-none}
+use Rattle.dw_types.proofs.ChildSteps.{HasPassed, passed-more, passed-none}
 use Rattle.dw_types.proofs.ShapeLemmas.{array-no_members, noted-child, noted-no_child, noted-parts, part-least, seen-later}
 use Rattle.dw_types.proofs.by_value.note_dimensions.Goals as goal
 

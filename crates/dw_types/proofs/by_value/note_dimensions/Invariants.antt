@@ -4,7 +4,7 @@ use Rattle.dw_types.specs.Children.{rest_of_children, IsChildOf}
 use Rattle.dw_types.specs.Noted.{IsNoted}
 use Rattle.dw_types.specs.Shapes.{fails_shape}
 use Rattle.dw_types.specs.ShapesSeen.{HasSeenArray}
-use Rattle.dw_types.proofs.PassedLemmas.{HasPassed}
+use Rattle.dw_types.proofs.ChildSteps.{HasPassed}
 use Rattle.dw_types.proofs.by_value.note_dimensions.Given as goal
 
 abbrev pub invariant-loop-next : goal.invariant-loop-next

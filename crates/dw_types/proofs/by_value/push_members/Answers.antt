@@ -10,7 +10,7 @@ use Rattle.dw_types.specs.ShapesSeen.{HasSeenShapes}
 use Rattle.dw_types.specs.Steps.{part_step}
 use Rattle.dw_types.proofs.RoleLemmas.{members-role}
 use Rattle.dw_types.proofs.PartStepLemmas.{part-none, part-some, parts-push}
-use Rattle.dw_types.proofs.PassedLemmas.{HasPassed, passed-more, passed-none}
+use Rattle.dw_types.proofs.ChildSteps.{HasPassed, passed-more, passed-none}
 use Rattle.dw_types.proofs.ShapeLemmas.{members-no_array, noted-child, noted-no_child, noted-parts, part-least, seen-later}
 use Rattle.dw_types.proofs.by_value.push_members.Goals as goal
 use Rattle.dw_types.proofs.by_value.push_members.Goals.{then-is_plain+in_ok-push_to, else-is_plain}

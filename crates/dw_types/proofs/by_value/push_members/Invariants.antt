@@ -6,7 +6,7 @@ use Rattle.dw_types.specs.Noted.{IsNoted}
 use Rattle.dw_types.specs.Shapes.{fails_shape}
 use Rattle.dw_types.specs.ShapesSeen.{HasSeenShapes}
 use Rattle.dw_types.specs.Steps.{part_step}
-use Rattle.dw_types.proofs.PassedLemmas.{HasPassed}
+use Rattle.dw_types.proofs.ChildSteps.{HasPassed}
 use Rattle.dw_types.proofs.by_value.push_members.Given as goal
 
 abbrev pub invariant-loop-next : goal.invariant-loop-next

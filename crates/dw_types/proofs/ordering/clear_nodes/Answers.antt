@@ -1,6 +1,5 @@
 use Rattle.std.proofs.Common.{◌<◌, below_more, length, arith, refl, ◌∙◌}
-use Rattle.dw_types.proofs.ClearLemmas.{given_up-walk, clear-at_end}
-use Rattle.dw_types.proofs.EndLemmas.{start-walk, taken-more}
+use Rattle.dw_types.proofs.EndLemmas.{given_up-walk, clear-at_end, start-walk, taken-more}
 use Rattle.dw_types.proofs.ordering.clear_nodes.Goals as goal
 use Rattle.dw_types.proofs.ordering.clear_nodes.Goals.{in-Fresh+in_ok-walk_from+in-Some, in-Fresh+in_ok-walk_from+in_default-2, in_default}
 

@@ -1,8 +1,7 @@
 use Rattle.std.proofs.Common.{◌≡◌, ◌<◌, length, arith, sym}
 use Rattle.dw_types.specs.WalkStates.{mark_of, with_step}
-use Rattle.dw_types.proofs.MeetLemmas.{met-gave_up, met-less, met-walk}
-use Rattle.dw_types.proofs.TurnLemmas.{turns-room}
-use Rattle.dw_types.proofs.WalkLemmas.{IsTop, look-fresh_less, look-fresh_walk, look-less, look-open, look-ranked_walk}
+use Rattle.dw_types.proofs.RankLemmas.{met-gave_up, met-less, met-walk}
+use Rattle.dw_types.proofs.WalkLemmas.{turns-room, IsTop, look-fresh_less, look-fresh_walk, look-less, look-open, look-ranked_walk}
 use Rattle.dw_types.specs.declared.walk.Mark.TheVariants.{Fresh, Open, Ranked}
 use Rattle.dw_types.proofs.ordering.follow_step.Goals as goal
 

@@ -1,10 +1,8 @@
 use Rattle.std.proofs.Common.{ℕ, ◌<◌, below_more, length, arith, refl, ◌∙◌}
 use Rattle.dw_types.specs.Walks.{IsAtCycle, IsWalk}
-use Rattle.dw_types.proofs.ClearLemmas.{on-stack}
+use Rattle.dw_types.proofs.EndLemmas.{on-stack, start-walk, taken-more, ranked-from_taken, falls-from_ranked}
 use Rattle.dw_types.proofs.CycleLemmas.{no_cycle-from_falls}
-use Rattle.dw_types.proofs.EndLemmas.{start-walk, taken-more, ranked-from_taken, falls-from_ranked}
-use Rattle.dw_types.proofs.TurnLemmas.{turns-all}
-use Rattle.dw_types.proofs.WalkLemmas.{in-graph}
+use Rattle.dw_types.proofs.WalkLemmas.{turns-all, in-graph}
 use Rattle.dw_types.proofs.ordering.order.Goals as goal
 use Rattle.dw_types.proofs.ordering.order.Goals.{in-Fresh+in_ok-to+in_default-2, in_default}
 

@@ -1,9 +1,7 @@
 use Rattle.std.proofs.Common.{◌≡◌, length, slice_index, arith}
 use Rattle.dw_types.specs.Graphs.{steps_of}
-use Rattle.dw_types.proofs.MeetLemmas.{met-gave_up, met-keeps, met-walk}
-use Rattle.dw_types.proofs.RankLemmas.{done-walk, done-keeps_taken}
-use Rattle.dw_types.proofs.TurnLemmas.{turns-room}
-use Rattle.dw_types.proofs.WalkLemmas.{IsTop, first-walk}
+use Rattle.dw_types.proofs.RankLemmas.{met-gave_up, met-keeps, met-walk, done-walk, done-keeps_taken}
+use Rattle.dw_types.proofs.WalkLemmas.{turns-room, IsTop, first-walk}
 use Rattle.dw_types.proofs.ordering.walk_from.Goals as goal
 
 pub meet_fresh-requires-clause-room : goal.meet_fresh-requires-clause-room

@@ -1,7 +1,7 @@
 use Rattle.std.proofs.Common.{◌≡◌, ◌+◌, ◌<◌, ℕ, suc, Option, Some, sym, ap, subst, ◌∙◌, arith}
 use Rattle.std.specs.Prelude.{slice_get}
 use Rattle.std.proofs.lemmas.Option.{slice_get-get_or}
-use Rattle.dw_entries.specs.declared.record.Record.{Record}
+use Rattle.dw_entries.specs.declared.walk.Record.{Record}
 use Rattle.dw_entries.specs.Entries.{entries_of}
 use Rattle.dw_entries.specs.Scanned.{units_of}
 use Rattle.dw_entries.proofs.FindLaws.{entries_counted}

@@ -1,6 +1,6 @@
 use Rattle.std.proofs.Common.{◌<◌, length, sym, subst}
 use Rattle.dw_image.specs.Images.{entries_in}
-use Rattle.dw_image.proofs.StepLaws.{size_within}
+use Rattle.dw_image.proofs.HeldLaws.{size_within}
 use Rattle.dw_image.proofs.image.Image.size_of.Goals as goal
 
 pub get-requires : goal.get-requires

@@ -4,7 +4,7 @@ use Rattle.dw_entries.specs.Scanned.{units_of}
 use Rattle.dw_types.specs.Graphs.{steps_of}
 use Rattle.dw_types.specs.Packing.{cut}
 use Rattle.dw_image.specs.Images.{steps_in, units_in}
-use Rattle.dw_image.proofs.HeldSteps.{nodes-are, step-below, step-past, step-there}
+use Rattle.dw_image.proofs.HeldLaws.{nodes-are, step-below, step-past, step-there}
 use Rattle.dw_image.proofs.image.Image.step.Goals as goal
 
 pub steps-requires : goal.steps-requires

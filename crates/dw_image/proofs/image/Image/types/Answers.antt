@@ -1,7 +1,7 @@
 use Rattle.std.proofs.Common.{◌∙◌}
 use Rattle.dw_entries.specs.Scanned.{units_of}
 use Rattle.dw_image.specs.Images.{type_count, units_in}
-use Rattle.dw_image.proofs.CountLemmas.{types-counted}
+use Rattle.dw_image.proofs.HeldLaws.{types-counted}
 use Rattle.dw_image.proofs.image.Image.types.Goals as goal
 
 pub returns : goal.returns

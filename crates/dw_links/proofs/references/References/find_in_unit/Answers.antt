@@ -1,5 +1,5 @@
 use Rattle.dw_entries.specs.Scanned.{units_of}
-use Rattle.dw_links.proofs.UnitLaws.{number_within}
+use Rattle.dw_links.proofs.TableLaws.{number_within}
 use Rattle.dw_links.proofs.references.References.find_in_unit.Goals as goal
 
 pub entry_from_header-requires : goal.entry_from_header-requires

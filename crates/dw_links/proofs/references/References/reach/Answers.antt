@@ -1,5 +1,5 @@
 use Rattle.dw_entries.specs.Scanned.{units_of}
-use Rattle.dw_links.proofs.UnitLaws.{number_within}
+use Rattle.dw_links.proofs.TableLaws.{number_within}
 use Rattle.dw_links.proofs.references.References.reach.Goals as goal
 
 pub reach-requires-clause-unit : goal.reach-requires-clause-unit

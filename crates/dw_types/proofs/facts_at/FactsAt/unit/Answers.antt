@@ -3,9 +3,9 @@ use Rattle.std.specs.Prelude.{slice_get}
 use Rattle.std.proofs.lemmas.Option.{IfSome_then, get_or_from_slice_get}
 use Rattle.dw_entries.specs.Entries.{Entry, entries_of, placed}
 use Rattle.dw_entries.specs.Scanned.{units_of}
-use Rattle.dw_types.specs.declared.constant.Constant.TheVariants.{Absent}
+use Rattle.dw_types.specs.declared.facts.Constant.TheVariants.{Absent}
 use Rattle.dw_types.specs.declared.facts.Facts.{Facts}
-use Rattle.dw_types.specs.declared.unit_facts.UnitFacts.{UnitFacts}
+use Rattle.dw_types.specs.declared.facts.UnitFacts.{UnitFacts}
 use Rattle.dw_types.specs.UnitsRead.{all_unit_facts, unit_facts_at}
 use Rattle.dw_types.proofs.ReaderLemmas.{address_size-is, asked-read, fact-here, language-is, unasked-read}
 use Rattle.dw_types.proofs.UnitLemmas.{unit-is, unit-listed}

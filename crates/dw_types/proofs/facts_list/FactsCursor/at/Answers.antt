@@ -1,4 +1,3 @@
-use Rattle.std.proofs.Common.{sym}
 use Rattle.dw_types.specs.Held.{units_held}
 use Rattle.dw_types.proofs.FactsLemmas.{facts-below}
 use Rattle.dw_types.proofs.facts_list.FactsCursor.at.Goals as goal

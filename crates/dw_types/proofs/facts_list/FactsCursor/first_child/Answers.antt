@@ -1,6 +1,6 @@
 use Rattle.std.proofs.Common.{sym, ◌∙◌}
 use Rattle.dw_entries.specs.Scanned.{units_of}
-use Rattle.dw_types.proofs.ChildFacts.{child-linked, children-same, rest-same}
+use Rattle.dw_types.proofs.ChildSteps.{child-linked, children-same, rest-same}
 use Rattle.dw_types.proofs.FactsLemmas.{facts-below}
 use Rattle.dw_types.proofs.facts_list.FactsCursor.first_child.Goals as goal
 

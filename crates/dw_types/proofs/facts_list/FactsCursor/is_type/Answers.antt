@@ -1,7 +1,3 @@
-use Rattle.std.proofs.Common.{◌≡◌, ap, ◌∙◌}
-use Rattle.dw_entries.specs.Entries.{Entry}
-use Rattle.dw_forms.specs.Codes.{is_type_tag}
-use Rattle.dw_types.specs.declared.facts.Facts.{Facts}
 use Rattle.dw_types.specs.Held.{units_held}
 use Rattle.dw_types.proofs.FactsLemmas.{facts-below, type-known}
 use Rattle.dw_types.proofs.facts_list.FactsCursor.is_type.Goals as goal

@@ -2,8 +2,7 @@ use Rattle.std.proofs.Common.{◌≡◌, ◌∷◌, ℕ, List, Some, sym, ap, �
 use Rattle.dw_entries.specs.Scanned.{units_of}
 use Rattle.dw_types.specs.Entries.{entry_of}
 use Rattle.dw_types.specs.FactsOf.{facts_in}
-use Rattle.dw_types.proofs.ChildFacts.{child-linked, linked-child, rest-same}
-use Rattle.dw_types.proofs.ChildSteps.{next_of_linked}
+use Rattle.dw_types.proofs.ChildSteps.{child-linked, linked-child, rest-same, next_of_linked}
 use Rattle.dw_types.proofs.FactsLemmas.{facts-below}
 use Rattle.dw_types.proofs.facts_list.FactsCursor.next_sibling.Goals as goal
 

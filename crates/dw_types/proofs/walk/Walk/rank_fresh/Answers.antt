@@ -1,6 +1,5 @@
 use Rattle.std.proofs.Common.{refl, set-set}
-use Rattle.dw_types.proofs.MeetLemmas.{take-push}
-use Rattle.dw_types.proofs.RankListLemmas.{ranks_listed-push}
+use Rattle.dw_types.proofs.RankLemmas.{take-push, ranks_listed-push}
 use Rattle.dw_types.specs.declared.walk.Mark.TheVariants.{Open, Ranked}
 use Rattle.dw_types.proofs.walk.Walk.rank_fresh.Goals as goal
 

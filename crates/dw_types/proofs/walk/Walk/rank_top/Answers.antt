@@ -1,5 +1,5 @@
 use Rattle.std.proofs.Common.{refl}
-use Rattle.dw_types.proofs.RankListLemmas.{ranks_listed-push}
+use Rattle.dw_types.proofs.RankLemmas.{ranks_listed-push}
 use Rattle.dw_types.proofs.walk.Walk.rank_top.Goals as goal
 
 pub returns : goal.returns

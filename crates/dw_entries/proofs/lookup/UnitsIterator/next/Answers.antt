@@ -1,0 +1,18 @@
+use Rattle.std.proofs.Common.{arith}
+use Rattle.dw_entries.specs.Scanned.{units_of}
+use Rattle.dw_entries.proofs.UnitTurns.{unit_turn, fewer_units, no_units}
+use Rattle.dw_entries.proofs.lookup.UnitsIterator.next.Goals as goal
+
+pub returns-then-self-unit_count-clause-steps : goal.returns-then-self-unit_count-clause-steps
+returns-then-self-unit_count-clause-steps c = unit_turn (units_of c.args.self.now.entries.now.scanned) c.args.self.now.number c.unit-unit.result (omega arith) c.unit-unit.ensures
+
+pub returns-then-self-unit_count-clause-goes : goal.returns-then-self-unit_count-clause-goes
+returns-then-self-unit_count-clause-goes c = record {
+  on = λ _. (tt, tt, fewer_units (units_of c.args.self.now.entries.now.scanned) c.args.self.now.number c.unit-unit.result (omega arith) c.unit-unit.ensures);
+  keeps = tt;
+  rests = λ _. tt;
+}
+
+pub returns-else-self-unit_count-clause-steps : goal.returns-else-self-unit_count-clause-steps
+returns-else-self-unit_count-clause-steps c =
+    let none = no_units (units_of c.args.self.now.entries.now.scanned) c.args.self.now.number (omega arith) in (none, none)

@@ -1,0 +1,20 @@
+use Rattle.std.proofs.Common.{sym}
+use Rattle.dw_entries.specs.Values.{value_context}
+use Rattle.dw_entries.proofs.LeadingSteps.{some_there, none_there, lead_none}
+use Rattle.dw_entries.proofs.values.Leading.form.Goals as goal
+
+pub returns-in-Some-clause-form : goal.returns-in-Some-clause-form
+returns-in-Some-clause-form c =
+    let it = c.args.self.now in
+    sym (some_there it.values.attributes it.step it.steps c.stepped.result c.stepped.ensures.nodes c.stepped.ensures.first c.in-Some.spec _ c.in-Some.ensures)
+
+pub returns-in-None-clause-form : goal.returns-in-None-clause-form
+returns-in-None-clause-form c =
+    let it = c.args.self.now in
+    sym (none_there it.values.attributes it.step it.steps c.stepped.result c.stepped.ensures.nodes c.stepped.ensures.first c.in-None.ensures)
+
+pub returns-in-None-clause-none : goal.returns-in-None-clause-none
+returns-in-None-clause-none c =
+    let it = c.args.self.now in
+    let v = it.values in
+    lead_none v.attributes it.step it.steps c.stepped.result c.stepped.ensures.nodes c.stepped.ensures.first (value_context v.version v.address_size) v.bytes.now v.left c.in-None.ensures

@@ -1,0 +1,33 @@
+use Rattle.std.proofs.Common.{List, ℕ, sym, ap, subst, ◌∙◌}
+use Rattle.std.proofs.lemmas.Result.{err_from_is_err_and}
+use Rattle.dw_forms.specs.AbbrevReading.{FailsOrMemory, unsigned_at}
+use Rattle.dw_forms.proofs.FrontLaws.{code_breaks, next_none, tag_breaks, next_some, list_breaks}
+use Rattle.dw_forms.proofs.ListLaws.{bytes_from}
+use Rattle.dw_forms.proofs.abbrev_tables.next_at.Goals as goal
+
+pub returns-in_err-code-clause-fault : goal.returns-in_err-code-clause-fault
+returns-in_err-code-clause-fault c =
+    let p = err_from_is_err_and c.from_residual.result c.from_residual.ensures.1 in
+    let fails = subst (λ (bytes : List ℕ). FailsOrMemory c.in_err-code.field-0.0 (unsigned_at bytes)) (bytes_from c.args.section.now c.args.offset) c.in_err-code.ensures.exact in
+    rw (p.1, p.2) (code_breaks c.args.section.now c.args.offset c.in_err-code.field-0.0 fails)
+
+pub returns-then-code-eq0-clause-exact : goal.returns-then-code-eq0-clause-exact
+returns-then-code-eq0-clause-exact c =
+    let code = sym (ap unsigned_at (bytes_from c.args.section.now c.args.offset)) ∙ c.in_ok-code.ensures.exact in
+    next_none c.args.section.now c.args.offset c.in_ok-code.code c.in_ok-code.rest.now code c.if-code-eq0.true
+
+pub returns-in-Err-clause-fault : goal.returns-in-Err-clause-fault
+returns-in-Err-clause-fault c =
+    let code = sym (ap unsigned_at (bytes_from c.args.section.now c.args.offset)) ∙ c.in_ok-code.ensures.exact in
+    tag_breaks c.args.section.now c.args.offset c.in_ok-code.code c.in_ok-code.rest.now code c.if-code-eq0.false c.in-Err.error c.in-Err.ensures.exact
+
+pub returns-in-Err-read-clause-fault : goal.returns-in-Err-read-clause-fault
+returns-in-Err-read-clause-fault c =
+    let code = sym (ap unsigned_at (bytes_from c.args.section.now c.args.offset)) ∙ c.in_ok-code.ensures.exact in
+    list_breaks c.args.section.now c.args.offset c.in_ok-code.code c.in_ok-code.rest.now code c.if-code-eq0.false c.in-Ok.found.0 c.in-Ok.found.1 c.in-Ok.found.2.now c.in-Ok.ensures.exact c.in-Err-read.error c.in-Err-read.ensures.fault
+
+pub returns-clause-exact : goal.returns-clause-exact
+returns-clause-exact c =
+    let code = sym (ap unsigned_at (bytes_from c.args.section.now c.args.offset)) ∙ c.in_ok-code.ensures.exact in
+    next_some c.args.section.now c.args.offset c.in_ok-code.code c.in_ok-code.rest.now code c.if-code-eq0.false c.in-Ok.found.0 c.in-Ok.found.1 c.in-Ok.found.2.now c.in-Ok.ensures.exact
+    c.read.new.self.lists.nodes.items c.in-Ok-read.list.first c.in-Ok-read.list.end c.in-Ok-read.ensures.list

@@ -1,0 +1,37 @@
+use Rattle.std.proofs.Common.{subst, ap, ◌∙◌}
+use Rattle.dw_entries.specs.Entries.{entries_of}
+use Rattle.dw_entries.specs.Scanned.{units_of}
+use Rattle.dw_types.specs.Children.{siblings_from, IsChild}
+use Rattle.dw_types.proofs.ChildSteps.{linked_within, next_of_linked, fewer_left}
+use Rattle.dw_image.proofs.lookup.ChildrenIterator.next.Goals as goal
+
+pub next_sibling-self-requires : goal.next_sibling-self-requires
+next_sibling-self-requires c =
+    let es = entries_of (units_of c.args.self.now.entries.now.scanned) in
+    linked_within es c.args.self.now.parent c.in_ok-id.id (subst (IsChild es c.args.self.now.parent) c.in_ok-id.was c.args.self.now.linked)
+
+pub invariant_of-self : goal.invariant_of-self
+invariant_of-self c =
+    let us = units_of c.args.self.now.entries.now.scanned in
+    let p = c.args.self.now.parent in
+    let linked = subst (IsChild (entries_of us) p) c.in_ok-id.was c.args.self.now.linked in
+    record { linked = (next_of_linked us p c.in_ok-id.id c.next_sibling-self.result linked c.next_sibling-self.ensures).linked }
+
+pub returns-clause-steps : goal.returns-clause-steps
+returns-clause-steps c =
+    let us = units_of c.args.self.now.entries.now.scanned in
+    let p = c.args.self.now.parent in
+    let linked = subst (IsChild (entries_of us) p) c.in_ok-id.was c.args.self.now.linked in
+    ap (siblings_from (entries_of us) p) c.in_ok-id.was ∙ (next_of_linked us p c.in_ok-id.id c.next_sibling-self.result linked c.next_sibling-self.ensures).left
+
+pub returns-clause-goes : goal.returns-clause-goes
+returns-clause-goes c =
+    let us = units_of c.args.self.now.entries.now.scanned in
+    let p = c.args.self.now.parent in
+    let linked = subst (IsChild (entries_of us) p) c.in_ok-id.was c.args.self.now.linked in
+    let left = ap (siblings_from (entries_of us) p) c.in_ok-id.was ∙ (next_of_linked us p c.in_ok-id.id c.next_sibling-self.result linked c.next_sibling-self.ensures).left in
+    record {
+      on = λ _. (tt, tt, fewer_left c.in_ok-id.id _ _ left);
+      keeps = tt;
+      rests = λ _. tt;
+    }

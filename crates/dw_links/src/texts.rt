@@ -1,0 +1,228 @@
+//! The texts and addresses of attributes (DWARF 5, sections 7.26 and 7.27), and where a text is.
+
+ghost use Rattle.std.specs.Prelude.{◌≡◌, ◌+◌, ◌*◌, ◌<◌, ◌≤◌, length, slice_get, Some, IfSome, option_copied};
+ghost use Rattle.std.specs.Prelude.{option_map};
+ghost use Rattle.dw_forms.specs.Value.{view};
+ghost use Rattle.dw_entries.specs.Lookups.{value_at_entry};
+ghost use Rattle.dw_entries.specs.Scanned.{all_entries, all_units, units_of};
+ghost use Rattle.dw_entries.specs.Views.{sections_of};
+ghost use Rattle.dw_entries.specs.Failures.{HasNone};
+ghost use Rattle.dw_links.specs.Contributions.{string_at, slot_at};
+ghost use Rattle.dw_links.specs.Slots.{IsAddressSlot, IsPlace, IsTextSlot, AddressLies, TextLies};
+ghost use Rattle.dw_links.specs.ValueTexts.{text_there, indexed_text, indexed_address, text_of, address_of};
+ghost use Rattle.dw_links.specs.Strings.{StringFailures};
+ghost use Rattle.dw_links.specs.Tables.{bases_in, AreTables};
+ghost use Rattle.dw_links.specs.AttributeTexts.{text_at, address_at};
+
+use crate::contribution::number;
+use crate::links::{LinkTables, UnitBases};
+use dw_elf::Sections;
+use dw_entries::{Entries, EntryId, UnitHeader};
+use dw_forms::{Attribute, Value};
+use memchr::memchr;
+
+/// Where the text of a value of class string is.
+#[derive(Clone, Copy, Debug, PartialEq, Eq)]
+pub enum TextPlace {
+    /// At this offset of .debug_info, in the value itself.
+    Info(usize),
+    /// At this offset of .debug_str.
+    Str(usize),
+    /// At this offset of .debug_line_str.
+    LineStr(usize),
+}
+
+/// The bytes before the first zero byte from an offset on.
+pub fn string_from(section: &[u8], offset: usize) -> &[u8]
+    requires { offset ≤ length section.now }
+    ensures { result.now ≡ string_at section.now offset }
+{
+    let (_, rest) = section.split_at(offset);
+    match memchr(0, rest) {
+        Some(len) => &rest[..len],
+        None => rest,
+    }
+}
+
+impl TextPlace {
+    /// The text at a place. It is read to its end.
+    pub fn text<'a>(self, sections: &Sections<'a>) -> &'a [u8]
+        requires { IsPlace sections.now self }
+        ensures { result.now ≡ text_there sections.now self }
+    {
+        match self {
+            TextPlace::Info(offset) => string_from(sections.info, offset),
+            TextPlace::Str(offset) => string_from(sections.str, offset),
+            TextPlace::LineStr(offset) => string_from(sections.line_str, offset),
+        }
+    }
+}
+
+/// The number in the slot of an index, where slots of so many bytes begin at a base.
+fn slot(section: &[u8], size: u8, base: u32, index: u64) -> u64
+    requires some { 1 ≤ size }
+    requires few { size ≤ 8 }
+    requires within { base + size * index + size ≤ length section.now }
+    ensures { result ≡ slot_at section.now size base index }
+{
+    let size = size as usize;
+    number(section, base as usize + size * index as usize, size)
+}
+
+/// Where the string is that the slot of an index leads to, if there is a base.
+pub(crate) fn place_in_slot(
+    sections: &Sections<'_>,
+    base: Option<u32>,
+    index: u64,
+) -> Option<TextPlace>
+    requires { IfSome base (IsTextSlot sections.now index) }
+    ensures text { option_map (text_there sections.now) result ≡ indexed_text sections.now base index }
+    ensures within { IfSome result (IsPlace sections.now) }
+{
+    match base {
+        Some(base) => {
+            let offset = slot(sections.str_offsets, 4, base, index);
+            Some(TextPlace::Str(offset as usize))
+        }
+        None => None,
+    }
+}
+
+/// The address in the slot of an index, if there is a base.
+pub(crate) fn address_in_slot(
+    sections: &Sections<'_>,
+    header: UnitHeader,
+    base: Option<u32>,
+    index: u64,
+) -> Option<u64>
+    requires { IfSome base (IsAddressSlot sections.now header index) }
+    ensures { result ≡ indexed_address sections.now header base index }
+{
+    match base {
+        Some(base) => Some(slot(sections.addr, header.address_size, base, index)),
+        None => None,
+    }
+}
+
+/// Where the text of the value of an entry's attribute is, if that is a string.
+fn place_of_value(
+    entries: &Entries<'_>,
+    id: EntryId,
+    attribute: Attribute,
+    base: Option<u32>,
+    value: Value<'_>,
+) -> Option<TextPlace>
+    requires id { id < length (all_entries entries.now.scanned) }
+    requires value { IfSome (slice_get (all_entries entries.now.scanned) id)
+        (λ e. value_at_entry e attribute ≡ Some (view value)) }
+    requires lies { TextLies (sections_of entries.now) base (view value) }
+    ensures text { option_map (text_there (sections_of entries.now)) result
+        ≡ text_of (sections_of entries.now) base (view value.entry) }
+    ensures within { IfSome result (IsPlace (sections_of entries.now)) }
+{
+    match value {
+        Value::Text(bytes) => {
+            let offset = entries.text_start(id, attribute, bytes);
+            Some(TextPlace::Info(offset))
+        }
+        Value::Str(offset) => Some(TextPlace::Str(offset as usize)),
+        Value::LineStr(offset) => Some(TextPlace::LineStr(offset as usize)),
+        Value::StrIndex(index) => place_in_slot(entries.sections(), base, index),
+        _ => None,
+    }
+}
+
+/// The address of a value, if that is an address.
+fn address_of_value(
+    sections: &Sections<'_>,
+    header: UnitHeader,
+    base: Option<u32>,
+    value: Value<'_>,
+) -> Option<u64>
+    requires { AddressLies sections.now header base (view value) }
+    ensures { result ≡ address_of sections.now header base (view value.entry) }
+{
+    match value {
+        Value::Addr(address) => Some(address),
+        Value::AddrIndex(index) => address_in_slot(sections, header, base, index),
+        _ => None,
+    }
+}
+
+impl LinkTables {
+    /// The bases of an entry's unit.
+    fn bases_of(&self, entries: &Entries<'_>, id: EntryId) -> UnitBases
+        requires id { id < length (all_entries entries.now.scanned) }
+        requires tables { AreTables entries.now self.now }
+        ensures { IfSome (slice_get (all_entries entries.now.scanned) id)
+            (λ e. IfSome (slice_get (all_units entries.now.scanned) e.unit)
+            (λ p. result ≡ bases_in (all_entries entries.now.scanned) p)) }
+    {
+        self.bases[entries.unit_of(id)]
+    }
+
+    /// Where the text of an entry's attribute is. None where the attribute is absent or no string.
+    pub fn text_place(
+        &self,
+        entries: &Entries<'_>,
+        id: EntryId,
+        attribute: Attribute,
+    ) -> Option<TextPlace>
+        requires id { id < length (all_entries entries.now.scanned) }
+        requires tables { AreTables entries.now self.now }
+        requires strings { HasNone (StringFailures (sections_of entries.now) (units_of entries.now.scanned)) }
+        ensures text { IfSome (slice_get (all_entries entries.now.scanned) id)
+            (λ e. option_map (text_there (sections_of entries.now)) result
+            ≡ text_at (sections_of entries.now) (all_entries entries.now.scanned)
+            (all_units entries.now.scanned) e attribute) }
+        ensures within { IfSome result (IsPlace (sections_of entries.now)) }
+    {
+        match entries.value(id, attribute) {
+            Some(value) => {
+                let base = self.bases_of(entries, id).strings;
+                place_of_value(entries, id, attribute, base, value)
+            }
+            None => None,
+        }
+    }
+
+    /// The text of an entry's attribute. None where the attribute is absent or no string.
+    pub fn text<'a>(
+        &self,
+        entries: &Entries<'a>,
+        id: EntryId,
+        attribute: Attribute,
+    ) -> Option<&'a [u8]>
+        requires id { id < length (all_entries entries.now.scanned) }
+        requires tables { AreTables entries.now self.now }
+        requires strings { HasNone (StringFailures (sections_of entries.now) (units_of entries.now.scanned)) }
+        ensures { IfSome (slice_get (all_entries entries.now.scanned) id)
+            (λ e. option_copied result
+            ≡ text_at (sections_of entries.now) (all_entries entries.now.scanned)
+            (all_units entries.now.scanned) e attribute) }
+    {
+        match self.text_place(entries, id, attribute) {
+            Some(place) => Some(place.text(entries.sections())),
+            None => None,
+        }
+    }
+
+    /// The address of an entry's attribute. None where the attribute is absent or no address.
+    pub fn address(&self, entries: &Entries<'_>, id: EntryId, attribute: Attribute) -> Option<u64>
+        requires id { id < length (all_entries entries.now.scanned) }
+        requires tables { AreTables entries.now self.now }
+        requires strings { HasNone (StringFailures (sections_of entries.now) (units_of entries.now.scanned)) }
+        ensures { IfSome (slice_get (all_entries entries.now.scanned) id)
+            (λ e. result ≡ address_at (sections_of entries.now) (all_entries entries.now.scanned)
+            (all_units entries.now.scanned) e attribute) }
+    {
+        match entries.value(id, attribute) {
+            Some(value) => {
+                let header = entries.unit(entries.unit_of(id)).header;
+                let base = self.bases_of(entries, id).addresses;
+                address_of_value(entries.sections(), header, base, value)
+            }
+            None => None,
+        }
+    }
+}

@@ -1,0 +1,28 @@
+use Rattle.std.proofs.Common.{◌≡◌, ◌++◌, ◌∙◌, ◌<◌, length, ap}
+use Rattle.std.proofs.lemmas.List.{take_all}
+use Rattle.dw_types.specs.Graphs.{step_at, steps_of}
+use Rattle.dw_types.proofs.PackingLemmas.{leads-more, packs-more, row-more}
+use Rattle.dw_types.proofs.graph.Packed.new.Goals as goal
+
+pub loop-k-preserved : goal.loop-k-preserved
+loop-k-preserved g c =
+    let graph = g.G.StepGraph.graph c.args.graph.now in
+    let node = c.loop-node.node in
+    let inside : c.loop-k.k < length (steps_of graph node) = rw (← c.steps-count.ensures) c.loop-k-test.true in
+    let below : step_at graph node c.loop-k.k < c.nodes-nodes.result = rw c.nodes-nodes.ensures (g.met.G.StepGraph.leads_to_nodes c.args.graph.now node c.loop-k.k inside) in
+    rw (c.in_ok-push.ensures, c.step.ensures)
+    (row-more c.loop-node.steps c.loop-k.steps (steps_of graph node) c.loop-k.k inside c.loop-k.invariant.0, leads-more c.loop-k.steps (step_at graph node c.loop-k.k) c.nodes-nodes.result c.loop-k.invariant.1 below)
+
+pub loop-node-preserved : goal.loop-node-preserved
+loop-node-preserved g c =
+    let graph = g.G.StepGraph.graph c.args.graph.now in
+    let steps = c.loop-node.steps in
+    let node = c.loop-node.node in
+    let row = steps_of graph node in
+    let below : node < length graph = rw (← c.nodes-nodes.ensures) c.loop-node-test.true in
+    let over = rw c.steps-count.ensures at c.loop-k-test.false in
+    let whole : c.loop-k.steps ≡ steps ++ row = rw (← take_all c.loop-k.k row over) c.loop-k.invariant.0 in
+    let more = packs-more graph steps c.loop-node.ends node below c.loop-node.invariant.0 in
+    let size : length c.loop-k.steps ≡ length (steps ++ row) = ap length whole in
+    let end : c.len.result ≡ length (steps ++ row) = c.len.ensures ∙ size in
+    (rw (c.in_ok-push-2.ensures, whole, end) more, c.loop-k.invariant.1)

@@ -1,0 +1,19 @@
+use Rattle.std.proofs.Common.{◌≡◌, ℕ, ◌⊎◌, Bool, true, length}
+use Rattle.dw_types.specs.Children.{rest_of_children, IsChildOf}
+use Rattle.dw_types.specs.Noted.{IsNoted}
+use Rattle.dw_types.specs.SizeFaults.{fails_size}
+use Rattle.dw_types.specs.SizeTables.{size_at}
+use Rattle.dw_types.proofs.ChildSteps.{HasPassed}
+use Rattle.dw_types.proofs.SizingLemmas.{IsVisited}
+use Rattle.dw_types.proofs.size_table.note_members.Given as goal
+
+abbrev pub invariant-loop-next : goal.invariant-loop-next
+invariant-loop-next l =
+    HasPassed l.fn.cursor l.node (IsChildOf l.fn.cursor l.node)
+    (λ visited.
+    (seen : ℕ → Bool) → IsNoted (fails_size l.fn.cursor (size_at l.sizes)) (λ k. seen k ≡ true) l.fn.least.found
+    → IsNoted (fails_size l.fn.cursor (size_at l.sizes)) (λ k. (seen k ≡ true) ⊎ IsVisited l.fn.cursor visited k) l.least.found) l.next
+    × (l.cursor ≡ l.fn.cursor)
+
+abbrev pub decreases-loop-next : goal.decreases-loop-next
+decreases-loop-next l = length (rest_of_children l.fn.cursor l.node l.next)

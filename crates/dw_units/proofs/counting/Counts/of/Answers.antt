@@ -1,0 +1,13 @@
+use Rattle.dw_image.specs.Images.{units_in, type_count}
+use Rattle.dw_image.proofs.JoinLemmas.{sound_image}
+use Rattle.dw_units.proofs.counting.Counts.of.Goals as goal
+
+pub returns : goal.returns
+unfolding type_count
+returns c = record {
+  units = units_in c.args.image.now;
+  sound = (sound_image c.args.image.now).sound;
+  unit_count = c.units.ensures;
+  entry_count = c.entries.ensures;
+  type_count = c.types.ensures;
+}
