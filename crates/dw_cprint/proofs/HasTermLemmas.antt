@@ -1,6 +1,6 @@
 -- An entry that is not wrong has a term.
 use Rattle.std.proofs.Common.{◌≡◌, ℕ, zero, suc, ℤ, ◌<◌, Bool, true, false, List, [], ◌∷◌, Option, Some, None, refl}
-use Rattle.std.proofs.Common.{subst, inr, length, arith}
+use Rattle.std.proofs.Common.{subst, length, arith}
 use Rattle.std.specs.Prelude.{IsSome, is_some, ◌==◌, not, ◌||◌, option_map, option_and_then, Any, Contains}
 use Rattle.std.specs.Prelude.{if◌then◌else◌}
 use Rattle.std.specs.List.{list_any}
@@ -15,10 +15,10 @@ use Rattle.dw_cprint.specs.Steps.{entries_of, parameter_types, member_types, typ
 use Rattle.dw_cprint.specs.Terms.{TypeWord, Constant, Valued, Term, Named, Basic, Body, Enumeration, Qualified, Pointer}
 use Rattle.dw_cprint.specs.Terms.{Function, Unprototyped, Prototyped, Parameters, Parameter as ParameterTerm}
 use Rattle.dw_cprint.specs.Terms.{Member as MemberTerm}
-use Rattle.dw_cprint.specs.Wrong.{LacksName, LacksBaseName, is_base_name, HasWrongEnumeratorName, HasBadName}
-use Rattle.dw_cprint.specs.Wrong.{is_foreign, count, misplaced, lacks_value, IsUnspeakable}
+use Rattle.dw_cprint.specs.Wrong.{lacks_name, lacks_base_name, is_base_name, HasBadName, is_foreign, lacks_value}
+use Rattle.dw_cprint.specs.Wrong.{is_wrong_enumeration, IsUnspeakable, wrong}
 use Rattle.dw_cprint.proofs.NameLemmas.{words-length}
-use Rattle.dw_cprint.proofs.OptionLemmas.{map_some, then_some, unless_some, not_false, or_left, or_right}
+use Rattle.dw_cprint.proofs.OptionLemmas.{map_some, then_some, unless_some, not_refuted, or_left, or_right}
 
 -- ---- lists
 
@@ -48,12 +48,12 @@ module _ (P : TypeAt → Type 0) (void : P None) where
 
 -- ---- names
 
-pub name_there : (name : Name) → (LacksName name → ⊥) → (n : List ℕ) × (name ≡ Some n) × IsIdentifier n
-name_there None h = absurd (h tt)
-name_there (Some n) h = (n, refl, not_false (is_identifier n) h)
+pub name_there : (name : Name) → (lacks_name name ≡ true → ⊥) → (n : List ℕ) × (name ≡ Some n) × IsIdentifier n
+name_there None h = absurd (h refl)
+name_there (Some n) h = (n, refl, not_refuted (is_identifier n) h)
 
-name_some : (name : Name) → (LacksName name → ⊥) → IsSome name
-name_some None h = absurd (h tt)
+pub name_some : (name : Name) → (lacks_name name ≡ true → ⊥) → IsSome name
+name_some None h = absurd (h refl)
 name_some (Some n) h = refl
 
 -- what a base type's name makes
@@ -62,9 +62,9 @@ pub record IsBaseTerm (t : Term) : Type 0 where
   pub present : IsPresent t
   pub qualifiable : IsQualifiable t
 
-base_some : (name : Name) (term : TypeAt → Option Term) → (LacksBaseName name → ⊥) → IsSome (term_by term (base name))
-base_some None term h = absurd (h tt)
-base_some (Some n) term h = by_name (is_identifier n) (words_of 4 (parts_of n)) (not_false (is_base_name n) h)
+base_some : (name : Name) (term : TypeAt → Option Term) → (lacks_base_name name ≡ true → ⊥) → IsSome (term_by term (base name))
+base_some None term h = absurd (h refl)
+base_some (Some n) term h = by_name (is_identifier n) (words_of 4 (parts_of n)) (not_refuted (is_base_name n) h)
   where
     by_name : (b : Bool) (o : Option (List TypeWord)) → (b || is_some o) ≡ true
         → IsSome (if b then Some (Named n) else option_map Basic o)
@@ -95,6 +95,15 @@ pub record IsFine (shapes : ℕ → ShapeOf) (s : ShapeOf) : Type 0 where
   pub ours : is_foreign s ≡ true → ⊥
   pub speakable : IsUnspeakable shapes s → ⊥
 
+-- an enumerator without an identifier
+abbrev pub nameless_at : EnumeratorOf → Bool
+nameless_at e = lacks_name e.name
+
+-- one without a number
+pub unvalued : (es : List EnumeratorOf) → list_any lacks_value es ≡ true → is_wrong_enumeration es ≡ true
+unvalued [] w = refl
+unvalued (e ∷ es) w = w
+
 value_some : (e : EnumeratorOf) → (lacks_value e ≡ true → ⊥) → IsSome e.value
 value_some e h = by_value e.value h
   where
@@ -102,15 +111,15 @@ value_some e h = by_value e.value h
     by_value None h = absurd (h refl)
     by_value (Some v) h = refl
 
-pub constants_some : (es : List EnumeratorOf) → (HasWrongEnumeratorName es → ⊥) → (list_any lacks_value es ≡ true → ⊥)
+pub constants_some : (es : List EnumeratorOf) → (list_any nameless_at es ≡ true → ⊥) → (list_any lacks_value es ≡ true → ⊥)
     → IsSome (constants_of es)
 constants_some [] named valued = refl
 constants_some (e ∷ es) named valued =
     let rest = constants_some es
-    (λ w. named (any_there (λ (e : EnumeratorOf). LacksName e.name) e es w))
+    (λ w. named (or_right (nameless_at e) (list_any nameless_at es) w))
     (λ w. valued (or_right (lacks_value e) (list_any lacks_value es) w)) in
     then_some (λ (name : List ℕ). option_and_then (λ (value : ℤ). option_map (λ (cs : List Constant). Valued name value ∷ cs) (constants_of es)) e.value) e.name
-    (name_some e.name (λ w. named (any_here (λ (e : EnumeratorOf). LacksName e.name) e es w)))
+    (name_some e.name (λ w. named (or_left (nameless_at e) (list_any nameless_at es) w)))
     (λ name. then_some (λ (value : ℤ). option_map (λ (cs : List Constant). Valued name value ∷ cs) (constants_of es)) e.value
     (value_some e (λ w. valued (or_left (lacks_value e) (list_any lacks_value es) w)))
     (λ value. map_some (λ (cs : List Constant). Valued name value ∷ cs) (constants_of es) rest))
@@ -137,22 +146,22 @@ module _ (term : TypeAt → Option Term) (void : IsSome (term None)) where
   shape_some : (shapes : ℕ → ShapeOf) (s : ShapeOf) → IsFine shapes s
       → ((n : ℕ) → Contains (entries_of (types_reached s)) n → HasTerm (Some n)) → IsSome (term_by term s)
   shape_some shapes (base name) fine h = base_some name term fine.named
-  shape_some shapes (typedef None) fine h = absurd (fine.named tt)
+  shape_some shapes (typedef None) fine h = absurd (fine.named refl)
   shape_some shapes (typedef (Some n)) fine h = refl
   shape_some shapes (qualified q at) fine h = map_some (Qualified q) (term at) (head_of HasTerm void at [] h)
   shape_some shapes (pointer at) fine h = map_some Pointer (term at) (head_of HasTerm void at [] h)
   shape_some shapes (array counts strange at) fine h =
-      unless_some (is_miscounted counts) (option_map (arrays counts) (term at)) (λ w. fine.speakable (count w)) (map_some (arrays counts) (term at) (head_of HasTerm void at [] h))
+      unless_some (is_miscounted counts) (option_map (arrays counts) (term at)) (λ w. fine.speakable (wrong (or_right strange _ (or_left (is_miscounted counts) _ w)))) (map_some (arrays counts) (term at) (head_of HasTerm void at [] h))
   shape_some shapes (function at None) fine h = map_some (λ (t : Term). Function t Unprototyped) (term at) (head_of HasTerm void at [] h)
   shape_some shapes (function at (Some ps)) fine h =
       let called : Term → Option Term = λ (t : Term). option_map (λ (us : Parameters). Function t (Prototyped us (has_more ps))) (parameters_by term ps) in
-      unless_some (is_misplaced ps) (option_and_then called (term at)) (λ w. fine.speakable (misplaced w))
+      unless_some (is_misplaced ps) (option_and_then called (term at)) (λ w. fine.speakable (wrong (or_right _ _ w)))
       (then_some called (term at) (head_of HasTerm void at (parameter_types ps) h)
       (λ t. map_some (λ (us : Parameters). Function t (Prototyped us (has_more ps))) (parameters_by term ps) (parameters_some ps (rest_of HasTerm void at (parameter_types ps) h))))
   shape_some shapes (tagged word name) fine h = refl
-  shape_some shapes (nameless word) fine h = absurd (fine.named tt)
+  shape_some shapes (nameless word) fine h = absurd (fine.named refl)
   shape_some shapes (body word odd ms) fine h = map_some (Body word) (members_by term ms) (members_some ms h)
-  shape_some shapes (enumeration odd es) fine h = map_some Enumeration (constants_of es) (constants_some es fine.named (λ w. fine.speakable (inr w)))
+  shape_some shapes (enumeration odd es) fine h = map_some Enumeration (constants_of es) (constants_some es fine.named (λ w. fine.speakable (wrong (unvalued es w))))
   shape_some shapes foreign fine h = absurd (fine.ours refl)
   shape_some shapes other fine h = absurd (fine.ours refl)
 

@@ -1,185 +1,46 @@
--- What the kind of a type says of its shape.
-use Rattle.std.proofs.Common.{◌≡◌, Bool, true, false, Option, Some, None, refl, sym, ap, ◌∙◌}
-use Rattle.std.specs.Prelude.{◌||◌, is_none}
-use Rattle.dw_cprint.specs.Shapes.{Struct, Union, Enum, ShapeOf, base, typedef, qualified, pointer, array, function, tagged, nameless, body, enumeration, foreign, other}
-use Rattle.dw_cprint.specs.Summaries.{TypeKind, kind_in}
-use Rattle.dw_cprint.specs.declared.kinds.TypeKind.TheVariants as kind
-use Rattle.dw_cprint.specs.Wrong.{begins_open, is_array, is_function, is_pointer, is_restrictable, is_unnamed_aggregate}
+-- Tests of a shape by the kinds of the types that it names: they are the same where these kinds are.
+use Rattle.std.proofs.Common.{◌≡◌, suc, Bool, List, [], ◌∷◌, Some, None, refl, ap, arith}
+use Rattle.std.specs.Prelude.{All, ◌||◌}
+use Rattle.std.specs.List.{list_any}
+use Rattle.dw_cprint.specs.Declarations.{is_miscounted, is_misplaced}
+use Rattle.dw_cprint.specs.Shapes.{TypeAt, MemberOf, ShapeOf, array, function, body, SubjectOf, tag_subject}
+use Rattle.dw_cprint.specs.Steps.{member_types, parameter_types, types_declared, types_reached}
+use Rattle.dw_cprint.specs.Wrong.{TypeKind, has_bad_name, has_own_bad_name, is_bracketed, is_function, is_open}
+use Rattle.dw_cprint.specs.Wrong.{is_wrong, is_wrong_bits, lacks_member_name, lacks_name}
 
-abbrev names_function : TypeKind → Bool
-names_function kind.Function = true
-names_function _ = false
+pub first-of : (P : TypeAt → Type 0) (at : TypeAt) (ats : List TypeAt) → All P (at ∷ ats) → P at
+first-of P at ats all = all 0 at (omega arith)
 
--- a function
-pub function_kind : (type : Option ShapeOf) (k : TypeKind) → k ≡ kind_in type → is_function type ≡ names_function k
-function_kind type k is = there type ∙ ap names_function (sym is)
-  where
-    there : (type : Option ShapeOf) → is_function type ≡ names_function (kind_in type)
-    there None = refl
-    there (Some (base name)) = refl
-    there (Some (typedef name)) = refl
-    there (Some (qualified q at)) = refl
-    there (Some (pointer at)) = refl
-    there (Some (array counts strange at)) = refl
-    there (Some (function at parameters)) = refl
-    there (Some (tagged word name)) = refl
-    there (Some (nameless Struct)) = refl
-    there (Some (nameless Union)) = refl
-    there (Some (nameless Enum)) = refl
-    there (Some (body word odd members)) = refl
-    there (Some (enumeration odd enumerators)) = refl
-    there (Some (foreign)) = refl
-    there (Some (other)) = refl
+pub others-of : (P : TypeAt → Type 0) (at : TypeAt) (ats : List TypeAt) → All P (at ∷ ats) → All P ats
+others-of P at ats all = λ k d within. all (suc k) d (omega arith)
 
-abbrev names_bracketed : TypeKind → Bool
-names_bracketed kind.Function = true
-names_bracketed (kind.Array b) = true
-names_bracketed _ = false
+module _ (f g : TypeAt → TypeKind) where
+  abbrev Same : TypeAt → Type 0
+  Same at = f at ≡ g at
 
--- an array or a function
-pub bracketed_kind : (type : Option ShapeOf) (k : TypeKind) → k ≡ kind_in type → (is_array type || is_function type) ≡ names_bracketed k
-bracketed_kind type k is = there type ∙ ap names_bracketed (sym is)
-  where
-    there : (type : Option ShapeOf) → (is_array type || is_function type) ≡ names_bracketed (kind_in type)
-    there None = refl
-    there (Some (base name)) = refl
-    there (Some (typedef name)) = refl
-    there (Some (qualified q at)) = refl
-    there (Some (pointer at)) = refl
-    there (Some (array counts strange at)) = refl
-    there (Some (function at parameters)) = refl
-    there (Some (tagged word name)) = refl
-    there (Some (nameless Struct)) = refl
-    there (Some (nameless Union)) = refl
-    there (Some (nameless Enum)) = refl
-    there (Some (body word odd members)) = refl
-    there (Some (enumeration odd enumerators)) = refl
-    there (Some (foreign)) = refl
-    there (Some (other)) = refl
+  -- a test of each member and of the kind of its type
+  members-alike : (test : TypeKind → MemberOf → Bool) (ms : List MemberOf) → All Same (member_types ms)
+      → list_any (λ (m : MemberOf). test (f m.type_at) m) ms ≡ list_any (λ (m : MemberOf). test (g m.type_at) m) ms
+  members-alike test [] same = refl
+  members-alike test (m ∷ ms) same =
+      let here = first-of Same m.type_at (member_types ms) same in
+      let rest = members-alike test ms (others-of Same m.type_at (member_types ms) same) in
+      rw (here, rest) refl
 
-abbrev names_address : TypeKind → Bool
-names_address kind.Pointer = true
-names_address (kind.Array b) = true
-names_address _ = false
+  pub names-alike : (shape : ShapeOf) → All Same (types_reached shape) → has_bad_name f shape ≡ has_bad_name g shape
+  names-alike (body word odd ms) same = members-alike (λ k m. lacks_member_name k m.bits m.name) ms same
+  names-alike _ same = refl
 
--- an array or a pointer
-pub address_kind : (type : Option ShapeOf) (k : TypeKind) → k ≡ kind_in type → (is_array type || is_pointer type) ≡ names_address k
-address_kind type k is = there type ∙ ap names_address (sym is)
-  where
-    there : (type : Option ShapeOf) → (is_array type || is_pointer type) ≡ names_address (kind_in type)
-    there None = refl
-    there (Some (base name)) = refl
-    there (Some (typedef name)) = refl
-    there (Some (qualified q at)) = refl
-    there (Some (pointer at)) = refl
-    there (Some (array counts strange at)) = refl
-    there (Some (function at parameters)) = refl
-    there (Some (tagged word name)) = refl
-    there (Some (nameless Struct)) = refl
-    there (Some (nameless Union)) = refl
-    there (Some (nameless Enum)) = refl
-    there (Some (body word odd members)) = refl
-    there (Some (enumeration odd enumerators)) = refl
-    there (Some (foreign)) = refl
-    there (Some (other)) = refl
+  pub own-names-alike : (subject : SubjectOf) → All Same (types_declared subject)
+      → has_own_bad_name f subject ≡ has_own_bad_name g subject
+  own-names-alike (tag_subject name shape) same = ap (λ (b : Bool). lacks_name name || b) (names-alike shape same)
+  own-names-alike _ same = refl
 
-abbrev names_open : TypeKind → Bool
-names_open (kind.Array b) = b
-names_open _ = false
-
--- an array of unknown length
-pub open_kind : (type : Option ShapeOf) (k : TypeKind) → k ≡ kind_in type → begins_open type ≡ names_open k
-open_kind type k is = there type ∙ ap names_open (sym is)
-  where
-    there : (type : Option ShapeOf) → begins_open type ≡ names_open (kind_in type)
-    there None = refl
-    there (Some (base name)) = refl
-    there (Some (typedef name)) = refl
-    there (Some (qualified q at)) = refl
-    there (Some (pointer at)) = refl
-    there (Some (array counts strange at)) = refl
-    there (Some (function at parameters)) = refl
-    there (Some (tagged word name)) = refl
-    there (Some (nameless Struct)) = refl
-    there (Some (nameless Union)) = refl
-    there (Some (nameless Enum)) = refl
-    there (Some (body word odd members)) = refl
-    there (Some (enumeration odd enumerators)) = refl
-    there (Some (foreign)) = refl
-    there (Some (other)) = refl
-
-abbrev names_restrictable : TypeKind → Bool
-names_restrictable kind.Pointer = true
-names_restrictable kind.Typedef = true
-names_restrictable _ = false
-
--- what restrict may stand over
-pub restrictable_kind : (type : Option ShapeOf) (k : TypeKind) → k ≡ kind_in type → is_restrictable type ≡ names_restrictable k
-restrictable_kind type k is = there type ∙ ap names_restrictable (sym is)
-  where
-    there : (type : Option ShapeOf) → is_restrictable type ≡ names_restrictable (kind_in type)
-    there None = refl
-    there (Some (base name)) = refl
-    there (Some (typedef name)) = refl
-    there (Some (qualified q at)) = refl
-    there (Some (pointer at)) = refl
-    there (Some (array counts strange at)) = refl
-    there (Some (function at parameters)) = refl
-    there (Some (tagged word name)) = refl
-    there (Some (nameless Struct)) = refl
-    there (Some (nameless Union)) = refl
-    there (Some (nameless Enum)) = refl
-    there (Some (body word odd members)) = refl
-    there (Some (enumeration odd enumerators)) = refl
-    there (Some (foreign)) = refl
-    there (Some (other)) = refl
-
-abbrev names_unnamed : TypeKind → Bool
-names_unnamed kind.UnnamedAggregate = true
-names_unnamed _ = false
-
--- a structure or union without a name
-pub unnamed_kind : (type : Option ShapeOf) (k : TypeKind) → k ≡ kind_in type → is_unnamed_aggregate type ≡ names_unnamed k
-unnamed_kind type k is = there type ∙ ap names_unnamed (sym is)
-  where
-    there : (type : Option ShapeOf) → is_unnamed_aggregate type ≡ names_unnamed (kind_in type)
-    there None = refl
-    there (Some (base name)) = refl
-    there (Some (typedef name)) = refl
-    there (Some (qualified q at)) = refl
-    there (Some (pointer at)) = refl
-    there (Some (array counts strange at)) = refl
-    there (Some (function at parameters)) = refl
-    there (Some (tagged word name)) = refl
-    there (Some (nameless Struct)) = refl
-    there (Some (nameless Union)) = refl
-    there (Some (nameless Enum)) = refl
-    there (Some (body word odd members)) = refl
-    there (Some (enumeration odd enumerators)) = refl
-    there (Some (foreign)) = refl
-    there (Some (other)) = refl
-
-abbrev names_void : TypeKind → Bool
-names_void kind.Void = true
-names_void _ = false
-
--- void
-pub void_kind : (type : Option ShapeOf) (k : TypeKind) → k ≡ kind_in type → is_none type ≡ names_void k
-void_kind type k is = there type ∙ ap names_void (sym is)
-  where
-    there : (type : Option ShapeOf) → is_none type ≡ names_void (kind_in type)
-    there None = refl
-    there (Some (base name)) = refl
-    there (Some (typedef name)) = refl
-    there (Some (qualified q at)) = refl
-    there (Some (pointer at)) = refl
-    there (Some (array counts strange at)) = refl
-    there (Some (function at parameters)) = refl
-    there (Some (tagged word name)) = refl
-    there (Some (nameless Struct)) = refl
-    there (Some (nameless Union)) = refl
-    there (Some (nameless Enum)) = refl
-    there (Some (body word odd members)) = refl
-    there (Some (enumeration odd enumerators)) = refl
-    there (Some (foreign)) = refl
-    there (Some (other)) = refl
+  pub wrong-alike : (shape : ShapeOf) → All Same (types_reached shape) → is_wrong f shape ≡ is_wrong g shape
+  wrong-alike (array counts strange at) same =
+      ap (λ (k : TypeKind). strange || (is_miscounted counts || (is_function k || is_open k))) (first-of Same at [] same)
+  wrong-alike (function at None) same = ap is_bracketed (first-of Same at [] same)
+  wrong-alike (function at (Some ps)) same =
+      ap (λ (k : TypeKind). is_bracketed k || is_misplaced ps) (first-of Same at (parameter_types ps) same)
+  wrong-alike (body word odd ms) same = members-alike (λ k m. is_function k || is_wrong_bits k m.bits) ms same
+  wrong-alike _ same = refl

@@ -1,17 +1,18 @@
 -- The text of a type has at least as many bytes as are counted for it.
-use Rattle.std.proofs.Common.{◌≡◌, ℕ, suc, ℤ, ◌+◌, ◌≤◌, Bool, true, List, [], ◌∷◌, ◌++◌, Option, Some, None, refl, ap, subst, ◌∙◌, length, length-append, arith}
+use Rattle.std.proofs.Common.{◌≡◌, ℕ, ℤ, ◌+◌, ◌≤◌, Bool, true, List, [], ◌∷◌, ◌++◌, Option, Some, None, refl, ap, subst, ◌∙◌, length, length-append, arith}
 use Rattle.std.specs.Prelude.{All, option_map, option_and_then}
 use Rattle.std.proofs.lemmas.Grind.{flat_map-append}
 use Rattle.dw_types.specs.Sizes.{has_elements}
 use Rattle.dw_cprint.specs.Declarations.{arrays, bits_of, constants_of, declaration_by, has_more, is_miscounted, is_misplaced, members_by, parameters_by, term_by}
 use Rattle.dw_cprint.specs.Declarators.{gap, opened, closed, pointer_row, before, after, core}
 use Rattle.dw_cprint.specs.Least.{byte_count, IsLeast, name_size, least_members, least_parameters, least_in, least_declared}
-use Rattle.dw_cprint.specs.Shapes.{Parameter, Typed, More, Name, TypeAt, MemberOf, EnumeratorOf, ShapeOf, base, typedef, qualified, pointer, array, function, tagged, nameless, body, enumeration, foreign, other, SubjectOf, typedef_subject, variable_subject, aggregate_subject, enumeration_subject, declared_subject, no_subject}
+use Rattle.dw_cprint.specs.Shapes.{Parameter, Typed, More, Name, TypeAt, MemberOf, EnumeratorOf, ShapeOf, base, typedef, qualified, pointer, array, function, tagged, body, enumeration, SubjectOf, typedef_subject, variable_subject, tag_subject}
 use Rattle.dw_cprint.specs.Steps.{member_types, parameter_types, types_declared, types_reached}
-use Rattle.dw_cprint.specs.Terms.{Enum, Constant, Valued, Term, Void, Named, Tagged, Body, Enumeration, Qualified, Pointer, Function, Unprototyped, Prototyped, Parameters, NoParameter, Parameter as ParameterTerm, Members, Member as MemberTerm, Declaration, Typedef, Variable, Aggregate}
+use Rattle.dw_cprint.specs.Terms.{Enum, Constant, Valued, Term, Void, Named, Tagged, Body, Enumeration, Qualified, Pointer, Function, Unprototyped, Prototyped, Parameters, NoParameter, Parameter as ParameterTerm, Members, Member as MemberTerm, Declaration, Typedef, Variable, Aggregate, Constants, Declared}
 use Rattle.dw_cprint.specs.Tokens.{Token, Blank, Star, Open, Close, LeftBrace, RightBrace, Semicolon, Comma, TypedefWord, TagWord, Identifier, spelling, text_of}
 use Rattle.dw_cprint.specs.Writing.{spell, qualifying, bits_tokens, constant, constants, count_tokens, ellipsis, members_tokens, more_constants, more_parameters, name_tokens, signature_tokens, written}
 use Rattle.dw_cprint.proofs.DeclaratorLemmas.{in_parts}
+use Rattle.dw_cprint.proofs.KindLemmas.{first-of, others-of}
 use Rattle.dw_cprint.proofs.OptionLemmas.{map_inverted, then_inverted, unless_inverted}
 use Rattle.dw_cprint.proofs.WriterLemmas.{IsSpecifier, specifier-of, base-core}
 
@@ -26,23 +27,13 @@ count-cons x ts = length-append (spelling x) (text_of ts)
 -- the text of a type with a declarator inside
 spell-least : (t : Term) (d : List Token) (n : ℕ) → IsLeast t n → n + byte_count d ≤ byte_count (spell [] t d)
 spell-least t d n least =
-    let parts = ap (λ (u : List Token). byte_count u) (in_parts [] t d) in
-    let front = count-append (before [] t (has_elements d)) (d ++ after t) in
-    let back = count-append d (after t) in
-    let own = least [] (has_elements d) in
-    omega arith
+    omega (arith, ap (λ (u : List Token). byte_count u) (in_parts [] t d), count-append (before [] t (has_elements d)) (d ++ after t), count-append d (after t), least [] (has_elements d))
 
 -- ---- the terms of what an entry names
 
 -- what is counted for a type is right, if it has a term
 abbrev pub Counts : (TypeAt → Option Term) → (TypeAt → ℕ) → TypeAt → Type 0
 Counts term n at = (t : Term) → term at ≡ Some t → IsLeast t (n at)
-
-first-of : (P : TypeAt → Type 0) (at : TypeAt) (ats : List TypeAt) → All P (at ∷ ats) → P at
-first-of P at ats all = all 0 at (omega arith)
-
-others-of : (P : TypeAt → Type 0) (at : TypeAt) (ats : List TypeAt) → All P (at ∷ ats) → All P ats
-others-of P at ats all = λ k d within. all (suc k) d (omega arith)
 
 name-count : (name : Name) → byte_count (name_tokens name) ≡ name_size name
 name-count None = refl
@@ -58,12 +49,9 @@ module _ (term : TypeAt → Option Term) (n : TypeAt → ℕ) where
       let inner = members-least ms rest.0 (others-of (Counts term n) m.type_at (member_types ms) all) rest.1 in
       let own = spell-least t (name_tokens m.name) (n m.type_at) (first-of (Counts term n) m.type_at (member_types ms) all t first.1) in
       let named = name-count m.name in
-      let whole = ap (λ (u : Members). byte_count (members_tokens u)) rest.2 in
       let a = count-append (spell [] t (name_tokens m.name)) (bits_tokens (bits_of m.bits) ++ Semicolon ∷ Blank ∷ members_tokens rest.0) in
       let b = count-append (bits_tokens (bits_of m.bits)) (Semicolon ∷ Blank ∷ members_tokens rest.0) in
-      let c = count-cons Semicolon (Blank ∷ members_tokens rest.0) in
-      let d = count-cons Blank (members_tokens rest.0) in
-      omega arith
+      omega (arith, ap (λ (u : Members). byte_count (members_tokens u)) rest.2, count-cons Semicolon (Blank ∷ members_tokens rest.0), count-cons Blank (members_tokens rest.0))
 
   parameters-least : (ps : List Parameter) (us : Parameters) → All (Counts term n) (parameter_types ps) → parameters_by term ps ≡ Some us → least_parameters n ps ≤ byte_count (more_parameters us)
   parameters-least [] us all e = omega arith
@@ -75,9 +63,7 @@ module _ (term : TypeAt → Option Term) (n : TypeAt → ℕ) where
       let own = spell-least t [] (n at) (first-of (Counts term n) at (parameter_types ps) all t first.1) in
       let whole = ap (λ (u : Parameters). byte_count (more_parameters u)) rest.2 in
       let a = count-cons Comma (Blank ∷ (spell [] t [] ++ more_parameters rest.0)) in
-      let b = count-cons Blank (spell [] t [] ++ more_parameters rest.0) in
-      let c = count-append (spell [] t []) (more_parameters rest.0) in
-      omega arith
+      omega (arith, count-cons Blank (spell [] t [] ++ more_parameters rest.0), count-append (spell [] t []) (more_parameters rest.0))
   parameters-least (More ∷ ps) us all e = parameters-least ps us all e
 
 -- the parentheses make up for the comma and the space that are not before the first parameter
@@ -86,10 +72,7 @@ signature-least NoParameter more = omega arith
 signature-least (ParameterTerm t us) more =
     let a = count-cons Comma (Blank ∷ (spell [] t [] ++ more_parameters us)) in
     let b = count-cons Blank (spell [] t [] ++ more_parameters us) in
-    let c = count-append (spell [] t []) (more_parameters us) in
-    let d = count-append (spell [] t []) (more_parameters us ++ ellipsis more) in
-    let f = count-append (more_parameters us) (ellipsis more) in
-    omega arith
+    omega (arith, count-append (spell [] t []) (more_parameters us), count-append (spell [] t []) (more_parameters us ++ ellipsis more), count-append (more_parameters us) (ellipsis more))
 
 constants-least : (es : List EnumeratorOf) (cs : List Constant) → constants_of es ≡ Some cs → length es ≤ byte_count (more_constants cs)
 constants-least [] cs e = omega arith
@@ -101,28 +84,20 @@ constants-least (x ∷ es) cs e =
     let inner = constants-least es others.0 others.1 in
     let one = constant (Valued name.0 value.0) in
     let whole = ap (λ (u : List Constant). byte_count (more_constants u)) others.2 in
-    let a = count-cons Comma (Blank ∷ (one ++ more_constants others.0)) in
-    let b = count-cons Blank (one ++ more_constants others.0) in
-    let c = count-append one (more_constants others.0) in
-    omega arith
+    omega (arith, count-cons Comma (Blank ∷ (one ++ more_constants others.0)), count-cons Blank (one ++ more_constants others.0), count-append one (more_constants others.0))
 
 -- the braces make up for the comma and the space that are not before the first enumerator
 more-least : (cs : List Constant) → byte_count (more_constants cs) ≤ byte_count (constants cs) + 2
 more-least [] = omega arith
 more-least (c ∷ cs) =
-    let a = count-cons Comma (Blank ∷ (constant c ++ more_constants cs)) in
-    let b = count-cons Blank (constant c ++ more_constants cs) in
-    omega arith
+    omega (arith, count-cons Comma (Blank ∷ (constant c ++ more_constants cs)), count-cons Blank (constant c ++ more_constants cs))
 
 -- ---- types
 
 -- a specifier
 core-least : (t : Term) (n : ℕ) → IsSpecifier t → n ≤ byte_count (core t) → IsLeast t n
 core-least t n spec within = λ qs inside.
-    let whole = ap (λ (u : List Token). byte_count u) (spec.front qs inside) in
-    let a = count-append (qualifying qs) (core t ++ gap inside) in
-    let b = count-append (core t) (gap inside) in
-    omega arith
+    omega (arith, ap (λ (u : List Token). byte_count u) (spec.front qs inside), count-append (qualifying qs) (core t ++ gap inside), count-append (core t) (gap inside))
 
 pub void-least : IsLeast Void 4
 void-least = core-least Void 4 (record { front = λ qs inside. refl; back = refl }) (omega arith)
@@ -138,58 +113,35 @@ arrays-before (c ∷ cs) t n least = arrays-before cs t n least
 arrays-after : (counts : List (Option ℕ)) (t : Term) → length counts + byte_count (after t) ≤ byte_count (after (arrays counts t))
 arrays-after [] t = omega arith
 arrays-after (None ∷ cs) t =
-    let inner = arrays-after cs t in
-    let a = count-append (count_tokens None) (after (arrays cs t)) in
-    omega arith
+    omega (arith, arrays-after cs t, count-append (count_tokens None) (after (arrays cs t)))
 arrays-after (Some k ∷ cs) t =
-    let inner = arrays-after cs t in
-    let a = count-append (count_tokens (Some k)) (after (arrays cs t)) in
-    omega arith
+    omega (arith, arrays-after cs t, count-append (count_tokens (Some k)) (after (arrays cs t)))
 
 array-least : (c : Option ℕ) (cs : List (Option ℕ)) (t : Term) (n : ℕ) → IsLeast t n → IsLeast (arrays (c ∷ cs) t) (length (c ∷ cs) + n)
 array-least c cs t n least = λ qs inside.
-    let front = arrays-before cs t n least in
-    let back = arrays-after (c ∷ cs) t in
-    omega arith
+    omega (arith, arrays-before cs t n least, arrays-after (c ∷ cs) t)
 
 function-least : (t : Term) (us : Parameters) (more : Bool) (n m : ℕ) → IsLeast t n → m ≤ byte_count (more_parameters us) → IsLeast (Function t (Prototyped us more)) (n + m)
 function-least t us more n m least within = λ qs inside.
-    let own = least [] true in
     let s = signature_tokens (Prototyped us more) in
-    let most = signature-least us more in
-    let a = count-cons Open (s ++ Close ∷ after t) in
-    let b = count-append s (Close ∷ after t) in
-    let c = count-cons Close (after t) in
-    omega arith
+    omega (arith, least [] true, signature-least us more, count-cons Open (s ++ Close ∷ after t), count-append s (Close ∷ after t), count-cons Close (after t))
 
 pointer-least : (t : Term) (n : ℕ) → IsLeast t n → IsLeast (Pointer t) n
 pointer-least t n least = λ qs inside.
-    let own = least [] true in
-    let a = count-append (before [] t true) (opened t ++ Star ∷ pointer_row qs inside) in
-    let b = count-append (closed t) (after t) in
-    omega arith
+    omega (arith, least [] true, count-append (before [] t true) (opened t ++ Star ∷ pointer_row qs inside), count-append (closed t) (after t))
 
 bare-least : (t : Term) (n : ℕ) → IsLeast t n → IsLeast (Function t Unprototyped) n
 bare-least t n least = λ qs inside.
-    let own = least [] true in
-    let a = count-cons Open (Close ∷ after t) in
-    let b = count-cons Close (after t) in
-    omega arith
+    omega (arith, least [] true, count-cons Open (Close ∷ after t), count-cons Close (after t))
 
 module _ (term : TypeAt → Option Term) (n : TypeAt → ℕ) where
   -- what is counted for a shape is right
   pub shape-least : (s : ShapeOf) (t : Term) → All (Counts term n) (types_reached s) → term_by term s ≡ Some t → IsLeast t (least_in n s)
-  shape-least (base None) t all e = absurd (cc)
   shape-least (base (Some name)) t all e =
-      let long = ap (λ (u : List ℕ). length u) (base-core name t e) in
-      let own = count-cons (Identifier name) [] in
-      core-least t (length name) (specifier-of term (base (Some name)) t refl e) (omega arith)
-  shape-least (typedef None) t all e = absurd (cc)
+      core-least t (length name) (specifier-of term (base (Some name)) t refl e) (omega (arith, ap (λ (u : List ℕ). length u) (base-core name t e), count-cons (Identifier name) []))
   shape-least (typedef (Some name)) t all e =
       let same : Named name ≡ t = cc in
-      let long = ap (λ (u : Term). byte_count (core u)) same in
-      let own = count-cons (Identifier name) [] in
-      core-least t (length name) (specifier-of term (typedef (Some name)) t refl e) (omega arith)
+      core-least t (length name) (specifier-of term (typedef (Some name)) t refl e) (omega (arith, ap (λ (u : Term). byte_count (core u)) same, count-cons (Identifier name) []))
   shape-least (qualified q at) t all e =
       let u = map_inverted (Qualified q) (term at) t e in
       let P : Term → Type 0 = λ x. IsLeast x (n at) in
@@ -199,7 +151,6 @@ module _ (term : TypeAt → Option Term) (n : TypeAt → ℕ) where
       let u = map_inverted Pointer (term at) t e in
       let P : Term → Type 0 = λ x. IsLeast x (n at) in
       subst P u.2 (pointer-least u.0 (n at) (first-of (Counts term n) at [] all u.0 u.1))
-  shape-least (array [] strange at) t all e = absurd (cc)
   shape-least (array (c ∷ cs) strange at) t all e =
       let there = unless_inverted (is_miscounted (c ∷ cs)) (option_map (arrays (c ∷ cs)) (term at)) t e in
       let u = map_inverted (arrays (c ∷ cs)) (term at) t there.1 in
@@ -221,10 +172,7 @@ module _ (term : TypeAt → Option Term) (n : TypeAt → ℕ) where
       let same : Tagged word name ≡ t = cc in
       let long = ap (λ (u : Term). byte_count (core u)) same in
       let a = count-cons (TagWord word) (Blank ∷ Identifier name ∷ []) in
-      let b = count-cons Blank (Identifier name ∷ []) in
-      let c = count-cons (Identifier name) [] in
-      core-least t (length name) (specifier-of term (tagged word name) t refl e) (omega arith)
-  shape-least (nameless word) t all e = absurd (cc)
+      core-least t (length name) (specifier-of term (tagged word name) t refl e) (omega (arith, count-cons Blank (Identifier name ∷ []), count-cons (Identifier name) []))
   shape-least (body word odd ms) t all e =
       let f = map_inverted (Body word) (members_by term ms) t e in
       let inner = members-least term n ms f.0 all f.1 in
@@ -233,49 +181,46 @@ module _ (term : TypeAt → Option Term) (n : TypeAt → ℕ) where
       let b = count-cons Blank (LeftBrace ∷ Blank ∷ (members_tokens f.0 ++ RightBrace ∷ [])) in
       let c = count-cons LeftBrace (Blank ∷ (members_tokens f.0 ++ RightBrace ∷ [])) in
       let d = count-cons Blank (members_tokens f.0 ++ RightBrace ∷ []) in
-      let g = count-append (members_tokens f.0) (RightBrace ∷ []) in
-      core-least t (least_members n ms) (specifier-of term (body word odd ms) t refl e) (omega arith)
+      core-least t (least_members n ms) (specifier-of term (body word odd ms) t refl e) (omega (arith, count-append (members_tokens f.0) (RightBrace ∷ [])))
   shape-least (enumeration odd es) t all e =
       let f = map_inverted Enumeration (constants_of es) t e in
       let inner = constants-least es f.0 f.1 in
-      let most = more-least f.0 in
       let long = ap (λ (u : Term). byte_count (core u)) f.2 in
       let a = count-cons (TagWord Enum) (Blank ∷ LeftBrace ∷ Blank ∷ (constants f.0 ++ Blank ∷ RightBrace ∷ [])) in
       let b = count-cons Blank (LeftBrace ∷ Blank ∷ (constants f.0 ++ Blank ∷ RightBrace ∷ [])) in
       let c = count-cons LeftBrace (Blank ∷ (constants f.0 ++ Blank ∷ RightBrace ∷ [])) in
       let d = count-cons Blank (constants f.0 ++ Blank ∷ RightBrace ∷ []) in
-      let g = count-append (constants f.0) (Blank ∷ RightBrace ∷ []) in
-      core-least t (length es) (specifier-of term (enumeration odd es) t refl e) (omega arith)
-  shape-least foreign t all e = absurd (cc)
-  shape-least other t all e = absurd (cc)
+      core-least t (length es) (specifier-of term (enumeration odd es) t refl e) (omega (arith, more-least f.0, count-append (constants f.0) (Blank ∷ RightBrace ∷ [])))
+  shape-least _ t all e = absurd (cc)
 
   -- and for a declaration
   pub declared-least : (subject : SubjectOf) (d : Declaration) → All (Counts term n) (types_declared subject) → declaration_by term subject ≡ Some d → least_declared n subject ≤ length (written d)
-  declared-least (typedef_subject None at) d all e = absurd (cc)
   declared-least (typedef_subject (Some name) at) d all e =
       let f = map_inverted (Typedef name) (term at) d e in
       let own = spell-least f.0 (Identifier name ∷ []) (n at) (first-of (Counts term n) at [] all f.0 f.1) in
       let whole = ap (λ (x : Declaration). length (written x)) f.2 in
       let a = count-cons TypedefWord (Blank ∷ (spell [] f.0 (Identifier name ∷ []) ++ Semicolon ∷ [])) in
-      let b = count-cons Blank (spell [] f.0 (Identifier name ∷ []) ++ Semicolon ∷ []) in
-      let c = count-append (spell [] f.0 (Identifier name ∷ [])) (Semicolon ∷ []) in
-      omega arith
-  declared-least (variable_subject None at) d all e = absurd (cc)
+      omega (arith, count-cons Blank (spell [] f.0 (Identifier name ∷ []) ++ Semicolon ∷ []), count-append (spell [] f.0 (Identifier name ∷ [])) (Semicolon ∷ []))
   declared-least (variable_subject (Some name) at) d all e =
       let f = map_inverted (Variable name) (term at) d e in
       let own = spell-least f.0 (Identifier name ∷ []) (n at) (first-of (Counts term n) at [] all f.0 f.1) in
-      let whole = ap (λ (x : Declaration). length (written x)) f.2 in
-      let c = count-append (spell [] f.0 (Identifier name ∷ [])) (Semicolon ∷ []) in
-      omega arith
-  declared-least (aggregate_subject word None odd ms) d all e = absurd (cc)
-  declared-least (aggregate_subject word (Some name) odd ms) d all e =
+      omega (arith, ap (λ (x : Declaration). length (written x)) f.2, count-append (spell [] f.0 (Identifier name ∷ [])) (Semicolon ∷ []))
+  declared-least (tag_subject (Some name) (body word odd ms)) d all e =
       let f = map_inverted (Aggregate word name) (members_by term ms) d e in
       let inner = members-least term n ms f.0 all f.1 in
       let whole = ap (λ (x : Declaration). length (written x)) f.2 in
       let head = TagWord word ∷ Blank ∷ Identifier name ∷ Blank ∷ LeftBrace ∷ Blank ∷ [] in
-      let a = count-append head (members_tokens f.0 ++ RightBrace ∷ Semicolon ∷ []) in
-      let b = count-append (members_tokens f.0) (RightBrace ∷ Semicolon ∷ []) in
-      omega arith
-  declared-least (enumeration_subject name odd es) d all e = omega arith
-  declared-least (declared_subject word name) d all e = omega arith
-  declared-least no_subject d all e = omega arith
+      omega (arith, count-append head (members_tokens f.0 ++ RightBrace ∷ Semicolon ∷ []), count-append (members_tokens f.0) (RightBrace ∷ Semicolon ∷ []))
+  declared-least (tag_subject (Some name) (enumeration odd es)) d all e =
+      let f = map_inverted (Constants name) (constants_of es) d e in
+      let inner = constants-least es f.0 f.1 in
+      let most = more-least f.0 in
+      let whole = ap (λ (x : Declaration). length (written x)) f.2 in
+      let head = TagWord Enum ∷ Blank ∷ Identifier name ∷ Blank ∷ LeftBrace ∷ Blank ∷ [] in
+      let a = count-append head (constants f.0 ++ Blank ∷ RightBrace ∷ Semicolon ∷ []) in
+      omega (arith, count-append (constants f.0) (Blank ∷ RightBrace ∷ Semicolon ∷ []), count-cons Blank (RightBrace ∷ Semicolon ∷ []), count-cons RightBrace (Semicolon ∷ []))
+  declared-least (tag_subject (Some name) (tagged word tag)) d all e =
+      let same : Declared word tag ≡ d = cc in
+      let whole = ap (λ (x : Declaration). length (written x)) same in
+      omega (arith, count-cons (TagWord word) (Blank ∷ Identifier tag ∷ Semicolon ∷ []), count-cons Blank (Identifier tag ∷ Semicolon ∷ []), count-cons (Identifier tag) (Semicolon ∷ []))
+  declared-least _ d all e = absurd (cc)

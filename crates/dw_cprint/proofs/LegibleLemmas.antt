@@ -1,34 +1,45 @@
 -- The term of an entry that is not wrong can be read back from its text.
-use Rattle.std.proofs.Common.{◌≡◌, ℕ, zero, suc, ℤ, Bool, true, false, List, [], ◌∷◌, Option, Some, None, refl, sym, ◌∙◌, ap, subst}
-use Rattle.std.specs.Prelude.{option_map, option_and_then, Any, Contains}
+use Rattle.std.proofs.Common.{◌≡◌, ℕ, zero, suc, ℤ, Bool, true, false, List, [], ◌∷◌, Option, Some, None, refl, sym}
+use Rattle.std.proofs.Common.{◌∙◌, ap, subst, arith}
+use Rattle.std.specs.Prelude.{option_map, option_and_then, Any, Contains, IsSome, not}
+use Rattle.std.specs.List.{list_any}
 use Rattle.dw_cprint.specs.Declarations.{is_miscounted, is_misplaced, arrays, bits_of, constants_of, has_more}
-use Rattle.dw_cprint.specs.Declarations.{parameters_by, members_by, term_by, term_at}
-use Rattle.dw_cprint.specs.Legible.{is_identifier, IsIdentifier, IsName, AreConstants, IsQualifiable}
-use Rattle.dw_cprint.specs.Legible.{IsPresent, IsLegible, IsSignature, AreParameters, AreMembers}
-use Rattle.dw_cprint.specs.Regular.{IsRegular}
+use Rattle.dw_cprint.specs.Declarations.{parameters_by, members_by, term_by, term_at, declaration_by}
+use Rattle.dw_cprint.specs.Legible.{is_identifier, IsIdentifier, IsName, AreConstants, IsQualifiable, IsPresent}
+use Rattle.dw_cprint.specs.Legible.{IsLegible, IsSignature, AreParameters, AreMembers, IsDeclaration}
+use Rattle.dw_cprint.specs.Regular.{IsRegular, IsRegularSubject}
 use Rattle.dw_cprint.specs.Shapes.{Parameter, Typed, More, Name, TypeAt, MemberOf, EnumeratorOf, ShapeOf, base, typedef}
-use Rattle.dw_cprint.specs.Shapes.{Qualifier, qualified, pointer, array, function, tagged, body, enumeration}
-use Rattle.dw_cprint.specs.Steps.{entries_of, parameter_types, member_types, types_reached}
+use Rattle.dw_cprint.specs.Shapes.{Bits, Qualifier, Restrict, qualified, pointer, array, function, tagged, body}
+use Rattle.dw_cprint.specs.Shapes.{enumeration, nameless, SubjectOf, typedef_subject, variable_subject, tag_subject}
+use Rattle.dw_cprint.specs.Steps.{entries_of, parameter_types, member_types, types_reached, first_steps, root, further}
+use Rattle.dw_cprint.specs.Steps.{IsReached, HasPath}
 use Rattle.dw_cprint.specs.Terms.{Constant, Valued, Term, Void, Named, Tagged, Body, Enumeration, Qualified, Pointer}
 use Rattle.dw_cprint.specs.Terms.{Function, Unprototyped, Prototyped, Parameters, NoParameter}
-use Rattle.dw_cprint.specs.Terms.{Parameter as ParameterTerm, Members, NoMember, Member as MemberTerm}
-use Rattle.dw_cprint.specs.Wrong.{LacksName, LacksMemberName, HasWrongMemberName, HasWrongEnumeratorName, IsVoidLike}
-use Rattle.dw_cprint.specs.Wrong.{StandsUnder, nothing, itself, is_array, is_function, shape_of, void_parameter}
-use Rattle.dw_cprint.specs.Wrong.{over_array, over_function}
-use Rattle.dw_cprint.proofs.OptionLemmas.{map_inverted, then_inverted, unless_inverted, not_false}
-use Rattle.dw_cprint.proofs.HasTermLemmas.{AreKept, IsBaseTerm, IsFine, among_here, among_there}
-use Rattle.dw_cprint.proofs.HasTermLemmas.{any_here, any_there, base_is, head_of, name_there, rest_of}
+use Rattle.dw_cprint.specs.Terms.{Parameter as ParameterTerm, Members, NoMember, Member as MemberTerm, Declaration}
+use Rattle.dw_cprint.specs.Terms.{Typedef, Variable, Aggregate, Constants, Declared}
+use Rattle.dw_cprint.specs.Wrong.{TypeKind, StandsUnder, nothing, itself, IsVoidLike, is_bracketed, is_wrong_row}
+use Rattle.dw_cprint.specs.Wrong.{kind_at, kind_in, lacks_member_name, row, void_object, has_own_bad_name, lacks_name}
+use Rattle.dw_cprint.specs.Wrong.{unspeakable, wrong}
+use Rattle.dw_cprint.specs.Refusals.{other_kind, own_name, own_child, own_shape, name_reached, foreign_reached}
+use Rattle.dw_cprint.specs.Refusals.{shape_reached, HoldsNoneBelow, NotPrintable, BadName, Foreign, Unspeakable}
+use Rattle.dw_cprint.specs.declared.refusals.TypeKind.TheVariants as kind
+use Rattle.dw_cprint.proofs.OptionLemmas.{map_inverted, then_inverted, unless_inverted, not_refuted, or_left, or_right}
+use Rattle.dw_cprint.proofs.OptionLemmas.{map_some}
+use Rattle.dw_cprint.proofs.HasTermLemmas.{AreKept, IsBaseTerm, IsFine, among_here, among_there, any_here, base_is}
+use Rattle.dw_cprint.proofs.HasTermLemmas.{head_of, name_there, nameless_at, rest_of, HasTerm, constants_some}
+use Rattle.dw_cprint.proofs.HasTermLemmas.{entry_some, members_some, unvalued}
 
 -- ---- an entry that is not wrong is legible
 
-member_legible : (shapes : ℕ → ShapeOf) (m : MemberOf) → (LacksMemberName shapes m m.name → ⊥) → IsName m.name
-member_legible shapes m h = by_name m.name h
-  where
-    by_name : (o : Name) → (LacksMemberName shapes m o → ⊥) → IsName o
-    by_name None h = tt
-    by_name (Some n) h = not_false (is_identifier n) h
+member_legible : (k : TypeKind) (bits : Bits) (name : Name) → (lacks_member_name k bits name ≡ true → ⊥) → IsName name
+member_legible k bits None h = tt
+member_legible k bits (Some n) h = not_refuted (is_identifier n) h
 
-pub constants_legible : (es : List EnumeratorOf) → (HasWrongEnumeratorName es → ⊥)
+-- a member without a name that it needs
+abbrev pub nameless_member : (ℕ → ShapeOf) → MemberOf → Bool
+nameless_member shapes m = lacks_member_name (kind_at shapes m.type_at) m.bits m.name
+
+pub constants_legible : (es : List EnumeratorOf) → (list_any nameless_at es ≡ true → ⊥)
     → (cs : List Constant) → constants_of es ≡ Some cs → AreConstants cs
 constants_legible [] named cs e = let same : [] ≡ cs = cc in subst AreConstants same tt
 constants_legible (x ∷ es) named cs e =
@@ -36,11 +47,11 @@ constants_legible (x ∷ es) named cs e =
     let name = then_inverted (λ (name : List ℕ). option_and_then (λ (value : ℤ). option_map (λ (cs : List Constant). Valued name value ∷ cs) rest) x.value) x.name cs e in
     let value = then_inverted (λ (value : ℤ). option_map (λ (cs : List Constant). Valued name.0 value ∷ cs) rest) x.value cs name.2 in
     let others = map_inverted (λ (cs : List Constant). Valued name.0 value.0 ∷ cs) rest cs value.2 in
-    let there = name_there x.name (λ w. named (any_here (λ (e : EnumeratorOf). LacksName e.name) x es w)) in
+    let there = name_there x.name (λ w. named (or_left (nameless_at x) (list_any nameless_at es) w)) in
     let same : there.0 ≡ name.0 = cc in
     subst AreConstants others.2 (
       subst IsIdentifier same there.2,
-      constants_legible es (λ w. named (any_there (λ (e : EnumeratorOf). LacksName e.name) x es w)) others.0 others.1,
+      constants_legible es (λ w. named (or_right (nameless_at x) (list_any nameless_at es) w)) others.0 others.1,
     )
 
 module _ (term : TypeAt → Option Term) where
@@ -81,18 +92,17 @@ module _ (term : TypeAt → Option Term) where
           parameters_legible ps (rest_of ReadsAt void (Some n) (parameter_types ps) h) others.0 others.1,
         )
 
-    pub members_legible : (shapes : ℕ → ShapeOf) (ms : List MemberOf) → (HasWrongMemberName shapes ms → ⊥)
+    pub members_legible : (shapes : ℕ → ShapeOf) (ms : List MemberOf) → (list_any (nameless_member shapes) ms ≡ true → ⊥)
         → ((n : ℕ) → Contains (entries_of (member_types ms)) n → ReadsAt (Some n)) → (us : Members)
         → members_by term ms ≡ Some us → AreMembers us
     members_legible shapes [] named h us e = let same : NoMember ≡ us = cc in subst AreMembers same tt
     members_legible shapes (m ∷ ms) named h us e =
         let first = then_inverted (λ (t : Term). option_map (MemberTerm m.name t (bits_of m.bits)) (members_by term ms)) (term m.type_at) us e in
         let others = map_inverted (MemberTerm m.name first.0 (bits_of m.bits)) (members_by term ms) us first.2 in
-        let P : MemberOf → Type 0 = λ m. LacksMemberName shapes m m.name in
         subst AreMembers others.2 (
-          member_legible shapes m (λ w. named (any_here P m ms w)),
+          member_legible (kind_at shapes m.type_at) m.bits m.name (λ w. named (or_left (nameless_member shapes m) (list_any (nameless_member shapes) ms) w)),
           head_of ReadsAt void m.type_at (member_types ms) h first.0 first.1,
-          members_legible shapes ms (λ w. named (any_there P m ms w)) (rest_of ReadsAt void m.type_at (member_types ms) h) others.0 others.1,
+          members_legible shapes ms (λ w. named (or_right (nameless_member shapes m) (list_any (nameless_member shapes) ms) w)) (rest_of ReadsAt void m.type_at (member_types ms) h) others.0 others.1,
         )
 
 arrays_legible : (counts : List (Option ℕ)) (t : Term) → IsLegible t → IsLegible (arrays counts t)
@@ -101,43 +111,49 @@ arrays_legible (c ∷ cs) t h = arrays_legible cs t h
 
 -- no void, and an array or a function only where the shape is one
 abbrev IsHead : ShapeOf → Term → Type 0
-IsHead s t = IsPresent t × ((is_array (Some s) ≡ true → ⊥) → (is_function (Some s) ≡ true → ⊥) → IsQualifiable t)
+IsHead s t = IsPresent t × ((is_bracketed (kind_in (Some s)) ≡ true → ⊥) → IsQualifiable t)
 
 -- the type of an entry
 head_is : (term : TypeAt → Option Term) (s : ShapeOf) (t : Term) → term_by term s ≡ Some t → IsHead s t
-head_is term (base (Some n)) t e = (IsBaseTerm.present (base_is n t e), λ a b. IsBaseTerm.qualifiable (base_is n t e))
-head_is term (typedef (Some n)) t e = let same : Named n ≡ t = cc in subst (IsHead (typedef (Some n))) same (tt, λ a b. tt)
-head_is term (qualified q at) t e = let f = map_inverted (Qualified q) (term at) t e in subst (IsHead (qualified q at)) f.2 (tt, λ a b. tt)
-head_is term (pointer at) t e = let f = map_inverted Pointer (term at) t e in subst (IsHead (pointer at)) f.2 (tt, λ a b. tt)
+head_is term (base (Some n)) t e = (IsBaseTerm.present (base_is n t e), λ a. IsBaseTerm.qualifiable (base_is n t e))
+head_is term (typedef (Some n)) t e = let same : Named n ≡ t = cc in subst (IsHead (typedef (Some n))) same (tt, λ a. tt)
+head_is term (qualified q at) t e = let f = map_inverted (Qualified q) (term at) t e in subst (IsHead (qualified q at)) f.2 (tt, λ a. tt)
+head_is term (pointer at) t e = let f = map_inverted Pointer (term at) t e in subst (IsHead (pointer at)) f.2 (tt, λ a. tt)
 head_is term (array (c ∷ cs) strange at) t e =
     let u = unless_inverted (is_miscounted (c ∷ cs)) (option_map (arrays (c ∷ cs)) (term at)) t e in
-    let f = map_inverted (arrays (c ∷ cs)) (term at) t u.1 in subst (IsHead (array (c ∷ cs) strange at)) f.2 (tt, λ a b. absurd (a refl))
+    let f = map_inverted (arrays (c ∷ cs)) (term at) t u.1 in subst (IsHead (array (c ∷ cs) strange at)) f.2 (tt, λ a. absurd (a refl))
 head_is term (function at None) t e =
-    let f = map_inverted (λ (t : Term). Function t Unprototyped) (term at) t e in subst (IsHead (function at None)) f.2 (tt, λ a b. absurd (b refl))
+    let f = map_inverted (λ (t : Term). Function t Unprototyped) (term at) t e in subst (IsHead (function at None)) f.2 (tt, λ a. absurd (a refl))
 head_is term (function at (Some ps)) t e =
     let called : Term → Option Term = λ (t : Term). option_map (λ (us : Parameters). Function t (Prototyped us (has_more ps))) (parameters_by term ps) in
     let u = unless_inverted (is_misplaced ps) (option_and_then called (term at)) t e in
     let r = then_inverted called (term at) t u.1 in
     let f = map_inverted (λ (us : Parameters). Function r.0 (Prototyped us (has_more ps))) (parameters_by term ps) t r.2 in
-    subst (IsHead (function at (Some ps))) f.2 (tt, λ a b. absurd (b refl))
-head_is term (tagged word name) t e = let same : Tagged word name ≡ t = cc in subst (IsHead (tagged word name)) same (tt, λ a b. tt)
-head_is term (body word odd ms) t e = let f = map_inverted (Body word) (members_by term ms) t e in subst (IsHead (body word odd ms)) f.2 (tt, λ a b. tt)
-head_is term (enumeration odd es) t e = let f = map_inverted Enumeration (constants_of es) t e in subst (IsHead (enumeration odd es)) f.2 (tt, λ a b. tt)
+    subst (IsHead (function at (Some ps))) f.2 (tt, λ a. absurd (a refl))
+head_is term (tagged word name) t e = let same : Tagged word name ≡ t = cc in subst (IsHead (tagged word name)) same (tt, λ a. tt)
+head_is term (body word odd ms) t e = let f = map_inverted (Body word) (members_by term ms) t e in subst (IsHead (body word odd ms)) f.2 (tt, λ a. tt)
+head_is term (enumeration odd es) t e = let f = map_inverted Enumeration (constants_of es) t e in subst (IsHead (enumeration odd es)) f.2 (tt, λ a. tt)
 head_is term _ t e = absurd (cc)
 
 -- what a qualifier stands over is no array and no function
 module _ (shapes : ℕ → ShapeOf) where
   abbrev IsNotBracketed : TypeAt → Type 0
-  IsNotBracketed at = (under : TypeAt) → StandsUnder shapes at under → ((is_array (shape_of shapes under) ≡ true → ⊥) × (is_function (shape_of shapes under) ≡ true → ⊥))
+  IsNotBracketed at = (under : TypeAt) → StandsUnder shapes at under → is_bracketed (kind_at shapes under) ≡ true → ⊥
 
   qualifiable : (k : ℕ) (at : TypeAt) → IsNotBracketed at → (t : Term) → term_at k shapes at ≡ Some t → IsQualifiable t
   qualifiable zero at free t e = absurd (cc)
   qualifiable (suc k) None free t e = let same : Void ≡ t = cc in subst IsQualifiable same tt
-  qualifiable (suc k) (Some n) free t e =
-      (head_is (term_at k shapes) (shapes n) t e).1 (λ w. (free (Some n) (alone is_array (λ q to. refl) w)).0 w) (λ w. (free (Some n) (alone is_function (λ q to. refl) w)).1 w)
+  qualifiable (suc k) (Some n) free t e = (head_is (term_at k shapes) (shapes n) t e).1 (λ w. free (Some n) (alone w) w)
     where
-      alone : (test : Option ShapeOf → Bool) → ((q : Qualifier) (to : TypeAt) → test (Some (qualified q to)) ≡ false) → test (Some (shapes n)) ≡ true → StandsUnder shapes (Some n) (Some n)
-      alone test none w = itself (λ q to same. (let clash : true ≡ false = sym w ∙ (ap (λ (s : ShapeOf). test (Some s)) same ∙ none q to) in absurd (cc)))
+      alone : is_bracketed (kind_in (Some (shapes n))) ≡ true → StandsUnder shapes (Some n) (Some n)
+      alone w = itself (λ q to same. (let clash : true ≡ false = sym w ∙ ap (λ (s : ShapeOf). is_bracketed (kind_in (Some s))) same in absurd (cc)))
+
+-- no row of qualifiers is over an array or a function
+bracketed_row : (q : Qualifier) (k : TypeKind) → is_bracketed k ≡ true → is_wrong_row q k ≡ true
+bracketed_row Restrict (kind.Array unknown) h = refl
+bracketed_row Restrict kind.Function h = refl
+bracketed_row Restrict _ h = absurd (cc)
+bracketed_row _ k h = h
 
 pub void_legible : (k : ℕ) (shapes : ℕ → ShapeOf) (t : Term) → term_at k shapes None ≡ Some t → IsLegible t
 void_legible zero shapes t e = absurd (cc)
@@ -149,11 +165,11 @@ module _ (shapes : ℕ → ShapeOf) (k : ℕ) where
       → ((n : ℕ) → Contains (entries_of (types_reached s)) n → ReadsAt (term_at k shapes) (Some n)) → (t : Term)
       → term_by (term_at k shapes) s ≡ Some t → IsLegible t
   shape_legible (base (Some n)) fine fit there h t e = IsBaseTerm.legible (base_is n t e)
-  shape_legible (typedef (Some n)) fine fit there h t e = let same : Named n ≡ t = cc in subst IsLegible same (not_false (is_identifier n) fine.named)
+  shape_legible (typedef (Some n)) fine fit there h t e = let same : Named n ≡ t = cc in subst IsLegible same (not_refuted (is_identifier n) fine.named)
   shape_legible (qualified q at) fine fit there h t e =
       let f = map_inverted (Qualified q) (term_at k shapes at) t e in
       subst IsLegible f.2 (
-        qualifiable shapes k at (λ under stands. (λ w. fine.speakable (over_array under stands w), λ w. fine.speakable (over_function under stands w))) f.0 f.1,
+        qualifiable shapes k at (λ under stands w. fine.speakable (row under stands (bracketed_row q (kind_at shapes under) w))) f.0 f.1,
         head_of (ReadsAt (term_at k shapes)) (void_legible k shapes) at [] h f.0 f.1,
       )
   shape_legible (pointer at) fine fit there h t e =
@@ -173,7 +189,7 @@ module _ (shapes : ℕ → ShapeOf) (k : ℕ) where
       let f = map_inverted (λ (us : Parameters). Function r.0 (Prototyped us (has_more ps))) (parameters_by term ps) t r.2 in
       subst IsLegible f.2 (
         head_of (ReadsAt term) (void_legible k shapes) at (parameter_types ps) h r.0 r.1,
-        signature_legible term (void_legible k shapes) shapes ps (λ w. fine.speakable (void_parameter w)) u.0
+        signature_legible term (void_legible k shapes) shapes ps (λ w. fine.speakable (void_object w)) u.0
             (λ n among. there n (further_in at (parameter_types ps) n among))
             (rest_of (ReadsAt term) (void_legible k shapes) at (parameter_types ps) h) f.0 f.1,
       )
@@ -182,7 +198,7 @@ module _ (shapes : ℕ → ShapeOf) (k : ℕ) where
           → Contains (entries_of (at ∷ ats)) n
       further_in None ats n c = c
       further_in (Some m) ats n c = among_there m n (entries_of ats) c
-  shape_legible (tagged word name) fine fit there h t e = let same : Tagged word name ≡ t = cc in subst IsLegible same (not_false (is_identifier name) fine.named)
+  shape_legible (tagged word name) fine fit there h t e = let same : Tagged word name ≡ t = cc in subst IsLegible same (not_refuted (is_identifier name) fine.named)
   shape_legible (body word odd ms) fine fit there h t e =
       let f = map_inverted (Body word) (members_by (term_at k shapes) ms) t e in
       subst IsLegible f.2 (fit, members_legible (term_at k shapes) (void_legible k shapes) shapes ms fine.named h f.0 f.1)
@@ -202,3 +218,76 @@ entry_legible shapes Good kept fit (suc k) n good t e =
     shape_legible shapes k (shapes n) (kept.fine n good) (fit n good)
     (λ m leads. entry_present shapes k m)
     (λ m leads. entry_legible shapes Good kept fit k m (kept.on n m good leads)) t e
+
+-- ---- where an entry has a declaration, and where that can be read back
+
+module _ (shapes : ℕ → ShapeOf) (subject : SubjectOf) where
+  kept_reached : HoldsNoneBelow 5 shapes subject → AreKept shapes (IsReached shapes subject)
+  kept_reached none = record {
+    fine = λ entry reached. record {
+      named = λ w. none BadName (omega arith) (name_reached entry reached w);
+      ours = λ w. none Foreign (omega arith) (foreign_reached entry reached w);
+      speakable = λ w. none Unspeakable (omega arith) (shape_reached entry reached w);
+    };
+    on = λ from to reached leads. further reached leads;
+  }
+
+-- nothing is wrong with the body of the declared entry
+own_fine : (shapes : ℕ → ShapeOf) (name : Name) (shape : ShapeOf) → HoldsNoneBelow 5 shapes (tag_subject name shape) → IsFine shapes shape
+own_fine shapes name shape none = record {
+  named = λ w. none BadName (omega arith) (own_name (or_right (lacks_name name) _ w));
+  ours = λ w. none Foreign (omega arith) (own_child w);
+  speakable = λ w. none Unspeakable (omega arith) (own_shape (unspeakable w));
+}
+
+-- where nothing is wrong and no row of steps is too long, there is a declaration
+pub subject_some : (k : ℕ) (shapes : ℕ → ShapeOf) (subject : SubjectOf) → HoldsNoneBelow 5 shapes subject → (HasPath shapes subject (suc k) → ⊥) → IsSome (declaration_by (term_at (suc k) shapes) subject)
+subject_some k shapes subject none short = by_subject subject none (λ n leads. entry_some shapes (IsReached shapes subject) (kept_reached shapes subject none) k n (root leads) (λ to path. short (n, to, leads, path)))
+  where
+    by_subject : (s : SubjectOf) → HoldsNoneBelow 5 shapes s → ((n : ℕ) → Contains (first_steps s) n → IsSome (term_at (suc k) shapes (Some n))) → IsSome (declaration_by (term_at (suc k) shapes) s)
+    by_subject (typedef_subject None at) none h = absurd (none BadName (omega arith) (own_name refl))
+    by_subject (typedef_subject (Some n) at) none h = map_some (Typedef n) (term_at (suc k) shapes at) (head_of (HasTerm (term_at (suc k) shapes) refl) refl at [] h)
+    by_subject (variable_subject None at) none h = absurd (none BadName (omega arith) (own_name refl))
+    by_subject (variable_subject (Some n) at) none h = map_some (Variable n) (term_at (suc k) shapes at) (head_of (HasTerm (term_at (suc k) shapes) refl) refl at [] h)
+    by_subject (tag_subject None shape) none h = absurd (none BadName (omega arith) (own_name refl))
+    by_subject (tag_subject (Some n) (tagged word tag)) none h = refl
+    by_subject (tag_subject (Some n) (nameless word)) none h = absurd ((own_fine shapes (Some n) (nameless word) none).named refl)
+    by_subject (tag_subject (Some n) (body word odd ms)) none h = map_some (Aggregate word n) (members_by (term_at (suc k) shapes) ms) (members_some (term_at (suc k) shapes) refl ms h)
+    by_subject (tag_subject (Some n) (enumeration odd es)) none h =
+        let fine = own_fine shapes (Some n) (enumeration odd es) none in
+        map_some (Constants n) (constants_of es) (constants_some es fine.named (λ w. fine.speakable (wrong (unvalued es w))))
+    by_subject (tag_subject (Some n) _) none h = absurd (none NotPrintable (omega arith) (other_kind refl))
+
+-- where nothing is wrong, the declaration can be read back
+pub subject_legible : (k : ℕ) (shapes : ℕ → ShapeOf) (subject : SubjectOf) → HoldsNoneBelow 5 shapes subject → IsRegularSubject subject → ((entry : ℕ) → IsReached shapes subject entry → IsRegular (shapes entry))
+    → (d : Declaration) → declaration_by (term_at k shapes) subject ≡ Some d → IsDeclaration d
+subject_legible k shapes subject none own fit d e =
+    by_subject subject none own (λ n leads. entry_legible shapes (IsReached shapes subject) (kept_reached shapes subject none) fit k n (root leads)) e
+  where
+    identifier : (s : SubjectOf) (n : List ℕ) → HoldsNoneBelow 5 shapes s → (not (is_identifier n) ≡ true → has_own_bad_name (kind_at shapes) s ≡ true) → IsIdentifier n
+    identifier s n none bad = not_refuted (is_identifier n) (λ w. none BadName (omega arith) (own_name (bad w)))
+
+    by_subject : (s : SubjectOf) → HoldsNoneBelow 5 shapes s → IsRegularSubject s → ((n : ℕ) → Contains (first_steps s) n → ReadsAt (term_at k shapes) (Some n)) → declaration_by (term_at k shapes) s ≡ Some d → IsDeclaration d
+    by_subject (typedef_subject (Some n) at) none own h e =
+        let f = map_inverted (Typedef n) (term_at k shapes at) d e in
+        subst IsDeclaration f.2 (identifier (typedef_subject (Some n) at) n none (λ w. w), head_of (ReadsAt (term_at k shapes)) (void_legible k shapes) at [] h f.0 f.1)
+    by_subject (variable_subject (Some n) at) none own h e =
+        let f = map_inverted (Variable n) (term_at k shapes at) d e in
+        subst IsDeclaration f.2 (identifier (variable_subject (Some n) at) n none (λ w. w), head_of (ReadsAt (term_at k shapes)) (void_legible k shapes) at [] h f.0 f.1)
+    by_subject (tag_subject (Some n) (body word odd ms)) none own h e =
+        let f = map_inverted (Aggregate word n) (members_by (term_at k shapes) ms) d e in
+        subst IsDeclaration f.2 (
+          own,
+          identifier (tag_subject (Some n) (body word odd ms)) n none (λ w. or_left _ _ w),
+          members_legible (term_at k shapes) (void_legible k shapes) shapes ms (own_fine shapes (Some n) (body word odd ms) none).named h f.0 f.1,
+        )
+    by_subject (tag_subject (Some n) (enumeration odd es)) none own h e =
+        let f = map_inverted (Constants n) (constants_of es) d e in
+        subst IsDeclaration f.2 (
+          identifier (tag_subject (Some n) (enumeration odd es)) n none (λ w. or_left _ _ w),
+          constants_legible es (own_fine shapes (Some n) (enumeration odd es) none).named f.0 f.1,
+        )
+    by_subject (tag_subject (Some n) (tagged word tag)) none own h e =
+        let same : Declared word tag ≡ d = cc in
+        subst IsDeclaration same (not_refuted (is_identifier tag) (own_fine shapes (Some n) (tagged word tag) none).named)
+    by_subject _ none own h e = absurd (cc)

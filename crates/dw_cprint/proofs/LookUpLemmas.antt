@@ -1,11 +1,14 @@
--- What is read of an entry that is there.
-use Rattle.std.proofs.Common.{suc, ◌+◌, true, false, Bool, [], ◌∷◌, ◌≡◌, ℕ, ◌<◌, ◌≤◌, List, Option, Some, None, IfSome, refl, ap, ◌∙◌, arith, length, inl, inr}
-use Rattle.std.specs.Prelude.{slice_get, option_and_then, option_map, is_some, All, if◌then◌else◌}
+-- What is read of an entry, and of a list of children from its front.
+use Rattle.std.proofs.Common.{suc, ◌+◌, true, false, Bool, [], ◌∷◌, ◌≡◌, ℕ, ◌<◌, ◌≤◌, List, Option, Some, None, IfSome}
+use Rattle.std.proofs.Common.{refl, ap, ◌∙◌, arith, length, inl, inr, ◌++◌, sym, get_or, drop, drop-cons, add-one}
+use Rattle.std.proofs.Common.{append_assoc, map}
+use Rattle.std.specs.Prelude.{slice_get, option_and_then, option_map, is_some, All, if◌then◌else◌, filter}
 use Rattle.std.specs.Option.{option_map_or}
 use Rattle.std.proofs.lemmas.Option.{slice_get_cases}
+use Rattle.std.proofs.lemmas.List.Elements.{All-nil, All-cons}
+use Rattle.std.proofs.lemmas.List.{map-append}
 use Rattle.dw_entries.specs.Entries.{Entry}
 use Rattle.dw_image.specs.Lookups.{is_number, children_from, children_of}
-use Rattle.std.proofs.lemmas.List.Elements.{All-nil, All-cons}
 
 none_past : (es : List Entry) (i : ℕ) → slice_get es i ≡ None → length es ≤ i
 none_past es i gone = elim (slice_get_cases es i).1 [
@@ -50,3 +53,25 @@ named_there {P = P} es id text name place within says = mapped place ∙ ap is_s
     mapped : (o : Option P) → is_some o ≡ is_some (option_map text o)
     mapped None = refl
     mapped (Some x) = refl
+
+-- ---- reading a list of children from its front: what was read, and what is left
+
+-- a child that is taken
+pub taken : {X : Type 0} (f : ℕ → X) (p : ℕ → Bool) (new out all : List X) (y : X) (xs : List ℕ) (i x : ℕ) → new ≡ out ++ y ∷ [] → y ≡ f x → i < length xs → x ≡ get_or xs i x → p x ≡ true
+    → out ++ map f (filter p (drop i xs)) ≡ all → new ++ map f (filter p (drop (i + 1) xs)) ≡ all
+taken {X = X} f p new out all y xs i x pushed read within is passes so_far =
+    let split : drop i xs ≡ x ∷ drop (suc i) xs = drop-cons xs i x within ∙ ap (λ (z : ℕ). z ∷ drop (suc i) xs) (sym is) in
+    let here : map f (filter p (drop i xs)) ≡ f x ∷ map f (filter p (drop (suc i) xs)) = rw (split, passes) refl in
+    rw (add-one, pushed, read) (append_assoc out (f x ∷ []) (map f (filter p (drop (suc i) xs))) ∙ ap (λ (u : List X). out ++ u) (sym here) ∙ so_far)
+
+-- a child that is not
+pub passed : {X : Type 0} (f : ℕ → X) (p : ℕ → Bool) (new out all : List X) (xs : List ℕ) (i x : ℕ) → new ≡ out → i < length xs → x ≡ get_or xs i x → p x ≡ false
+    → out ++ map f (filter p (drop i xs)) ≡ all → new ++ map f (filter p (drop (i + 1) xs)) ≡ all
+passed {X = X} f p new out all xs i x same within is fails so_far =
+    let split : drop i xs ≡ x ∷ drop (suc i) xs = drop-cons xs i x within ∙ ap (λ (z : ℕ). z ∷ drop (suc i) xs) (sym is) in
+    let here : map f (filter p (drop i xs)) ≡ map f (filter p (drop (suc i) xs)) = rw (split, fails) refl in
+    rw (add-one, same) (ap (λ (u : List X). out ++ u) (sym here) ∙ so_far)
+
+-- what is seen of a list behind which one more stands
+pub seen : {X Y : Type 0} (g : Y → X) (new out : List Y) (y : Y) → new ≡ out ++ y ∷ [] → map g new ≡ map g out ++ g y ∷ []
+seen g new out y pushed = ap (map g) pushed ∙ map-append g out (y ∷ [])

@@ -1,6 +1,6 @@
 -- Values that may be absent, and tests on them.
 use Rattle.std.proofs.Common.{◌≡◌, Bool, true, false, Option, Some, None, Result, Ok, Err, refl}
-use Rattle.std.specs.Prelude.{IsSome, OnOk, option_map, option_and_then, ◌||◌, if◌then◌else◌}
+use Rattle.std.specs.Prelude.{IsSome, OnOk, option_map, option_and_then, not, ◌||◌, if◌then◌else◌}
 
 pub map_inverted : {A B : Type 0} → (f : A → B) (o : Option A) (y : B) → option_map f o ≡ Some y → (x : A) × (o ≡ Some x) × (f x ≡ y)
 map_inverted f None y h = absurd (cc)
@@ -29,6 +29,10 @@ not_false false h = absurd (h refl)
 pub not_true : (b : Bool) → (b ≡ true → ⊥) → b ≡ false
 not_true true h = absurd (h refl)
 not_true false h = refl
+
+pub not_refuted : (b : Bool) → (not b ≡ true → ⊥) → b ≡ true
+not_refuted true h = refl
+not_refuted false h = absurd (h refl)
 
 pub or_left : (a b : Bool) → a ≡ true → (a || b) ≡ true
 or_left true b h = refl

@@ -7,17 +7,18 @@ use Rattle.dw_cprint.specs.Drafts.{appended}
 use Rattle.dw_cprint.specs.Judgements.{IsRefusalBelow}
 use Rattle.dw_cprint.specs.Kept.{WritesDeclaration}
 use Rattle.dw_cprint.specs.Refusals.{PrintFault, NotPrintable, BadName, Foreign, Unspeakable, TooDeep, TooLong, Memory, IsLonger, Holds, other_kind, cycle, deep, long, HoldsNoneBelow, Refuses, IsPrinted, number_of}
-use Rattle.dw_cprint.specs.Shapes.{ShapeOf, SubjectOf, no_subject}
+use Rattle.dw_cprint.specs.Shapes.{ShapeOf, SubjectOf}
 use Rattle.dw_cprint.specs.Steps.{first_steps, types_declared, ReachACycle, IsDeepFrom}
 use Rattle.dw_cprint.specs.Summaries.{least_known}
 use Rattle.dw_cprint.specs.Surveys.{AreAmong, IsSurveyOf}
 use Rattle.dw_cprint.specs.Terms.{Declaration}
 use Rattle.dw_cprint.specs.Writing.{written}
+use Rattle.dw_cprint.specs.Wrong.{is_other_kind}
 use Rattle.dw_cprint.specs.declared.survey.Survey.{Survey}
 use Rattle.dw_cprint.specs.Least.{least_declared}
 use Rattle.dw_cprint.proofs.DraftLemmas.{appended-over, none-is, none-over, there-is, there-whole}
-use Rattle.dw_cprint.proofs.DeclaredLemmas.{subject_some}
-use Rattle.dw_cprint.proofs.KeptLemmas.{declaration-kept}
+use Rattle.dw_cprint.proofs.LegibleLemmas.{subject_some}
+use Rattle.dw_cprint.proofs.SameLemmas.{declaration-kept}
 use Rattle.dw_cprint.proofs.LeastLemmas.{declared-least}
 use Rattle.dw_cprint.proofs.OptionLemmas.{some_value}
 use Rattle.dw_cprint.proofs.SummaryLemmas.{knows-counts}
@@ -78,7 +79,7 @@ module _ (shapes : ℕ → ShapeOf) (subject : SubjectOf) where
   ]
 
   -- neither another kind of entry nor a cycle that is reached
-  pub printable : (subject ≡ no_subject → ⊥) → (ReachACycle shapes (first_steps subject) → ⊥) → HoldsNoneBelow 2 shapes subject
+  pub printable : (is_other_kind subject ≡ true → ⊥) → (ReachACycle shapes (first_steps subject) → ⊥) → HoldsNoneBelow 2 shapes subject
   printable kind none = none-more NotPrintable none-first neither
     where
       neither : Holds shapes subject NotPrintable → ⊥

@@ -1,14 +1,33 @@
 -- Shapes that are the same at each entry that is reached: the same declaration, and the same refusals.
-use Rattle.std.proofs.Common.{◌≡◌, ℕ, zero, suc, Bool, true, false, List, [], ◌∷◌, Option, Some, None, refl, sym, ◌∙◌, ap, subst, arith}
-use Rattle.std.specs.Prelude.{◌&&◌, option_map, Any, Contains, if◌then◌else◌}
-use Rattle.dw_cprint.specs.Declarations.{arrays, is_miscounted, parameters_by, members_by, term_by, declaration_by, term_at, declaration_of}
-use Rattle.dw_cprint.specs.Refusals.{PrintFault, Holds, other_kind, cycle, own_name, name_reached, own_child, foreign_reached, own_shape, shape_reached, deep, long, number_of, HoldsNoneBelow, Refuses, HasOneReading}
+use Rattle.std.proofs.Common.{◌≡◌, ℕ, zero, suc, true, List, [], ◌∷◌, Option, Some, None, refl, sym, ◌∙◌}
+use Rattle.std.proofs.Common.{ap, subst, arith}
+use Rattle.std.specs.Prelude.{option_map, All, Any, Contains, if◌then◌else◌}
+use Rattle.std.proofs.lemmas.List.Elements.{All-nil, All-cons}
+use Rattle.dw_cprint.specs.Declarations.{arrays, is_miscounted, parameters_by, members_by, term_by, declaration_by}
+use Rattle.dw_cprint.specs.Declarations.{term_at, declaration_of}
+use Rattle.dw_cprint.specs.Refusals.{PrintFault, Holds, other_kind, cycle, own_name, name_reached, own_child}
+use Rattle.dw_cprint.specs.Refusals.{foreign_reached, own_shape, shape_reached, deep, long, number_of, HoldsNoneBelow}
+use Rattle.dw_cprint.specs.Refusals.{Refuses, HasOneReading, IsPrinted}
 use Rattle.dw_cprint.specs.SameShapes.{AreSameFor}
-use Rattle.dw_cprint.specs.Shapes.{Qualifier, Enum, Parameter, Typed, More, Name, TypeAt, MemberOf, ShapeOf, base, typedef, qualified, pointer, array, function, body, SubjectOf, typedef_subject, variable_subject, aggregate_subject, enumeration_subject, declared_subject, no_subject}
-use Rattle.dw_cprint.specs.Steps.{entries_of, parameter_types, member_types, types_reached, types_declared, steps_reached, first_steps, IsReachedFrom, root, further, IsReached, Leads}
+use Rattle.dw_cprint.specs.Shapes.{Parameter, Typed, More, TypeAt, MemberOf, ShapeOf, base}
+use Rattle.dw_cprint.specs.Shapes.{typedef, qualified, pointer, array, function, body, SubjectOf, typedef_subject}
+use Rattle.dw_cprint.specs.Shapes.{variable_subject, tag_subject}
+use Rattle.dw_cprint.specs.Steps.{entries_of, parameter_types, member_types, types_reached, types_declared}
+use Rattle.dw_cprint.specs.Steps.{steps_reached, first_steps, IsReachedFrom, root, further, IsReached, Leads}
 use Rattle.dw_cprint.specs.Terms.{Term, Qualified, Pointer, Function, Unprototyped, Body, Typedef, Variable, Aggregate}
-use Rattle.dw_cprint.specs.Wrong.{shape_of, StandsUnder, nothing, itself, below, LacksMemberName, HasBadName, HasBadNameItself, typedef_name, variable_name, aggregate_name, member_name, enumeration_name, enumerator_name, tag_name, is_unnamed_aggregate, is_whole, is_foreign, is_function, is_array, is_restrictable, begins_open, IsWrongBits, IsWrongMember, void_member, function_member, bit_member, IsWrongArray, odd_child_or_stride, count, void_element, function_element, open_element, IsWrongFunction, array_result, function_result, void_parameter, misplaced, IsWrongRow, over_array, over_function, restrict, IsVoidLike, IsUnspeakable, IsUnspeakableItself}
+use Rattle.dw_cprint.specs.Wrong.{shape_of, StandsUnder, nothing, itself, below, HasBadName, has_own_bad_name}
+use Rattle.dw_cprint.specs.Wrong.{is_foreign, is_wrong_row, kind_at, kind_in, object_types, IsVoidLike, IsUnspeakable}
+use Rattle.dw_cprint.specs.Wrong.{wrong, void_object, row, IsOwnUnspeakable, void_variable, unspeakable}
+use Rattle.dw_cprint.specs.Wrong.{declared_enumeration}
+use Rattle.dw_cprint.specs.Kept.{kept}
+use Rattle.dw_cprint.specs.Regular.{AreRegular, IsRegularSubject}
+use Rattle.dw_cprint.specs.Surveys.{AreAmong, IsSurveyOf}
+use Rattle.dw_cprint.specs.declared.survey.Survey.{Survey}
+use Rattle.dw_cprint.proofs.KindLemmas.{names-alike, own-names-alike, wrong-alike}
 use Rattle.dw_cprint.proofs.HasTermLemmas.{any_here, any_there, head_of, rest_of}
+use Rattle.dw_cprint.proofs.LegibleLemmas.{subject_legible}
+use Rattle.dw_cprint.proofs.FaultLemmas.{reached-wider}
+use Rattle.dw_cprint.proofs.TextLaws.{one_text}
 
 -- some entries, each the same in both, with those that its steps lead to
 pub record AreSame (shapes others : ℕ → ShapeOf) (Good : ℕ → Type 0) : Type 0 where
@@ -49,11 +68,6 @@ module _ (shapes others : ℕ → ShapeOf) (Good : ℕ → Type 0) (s : AreSame 
       let inner = stands-same rest (good-first at [] goods) in
       (below q at (sym (s.same entry good) ∙ e) inner.0, inner.1)
 
-  any-members : (P Q : MemberOf → Type 0) (ms : List MemberOf) → GoodAmong (member_types ms) → ((m : MemberOf) → GoodAt m.type_at → P m → Q m) → Any P ms → Any Q ms
-  any-members P Q [] goods f (k, x, w, e, p) = absurd (omega arith)
-  any-members P Q (m ∷ ms) goods f (zero, x, w, e, p) = any_here Q m ms (f m (good-first m.type_at (member_types ms) goods) (subst P (sym e) p))
-  any-members P Q (m ∷ ms) goods f (suc k, x, w, e, p) = any_there Q m ms (any-members P Q ms (good-rest m.type_at (member_types ms) goods) f (k, x, omega arith, e, p))
-
   any-types : (P Q : TypeAt → Type 0) (ats : List TypeAt) → GoodAmong ats → ((at : TypeAt) → GoodAt at → P at → Q at) → Any P ats → Any Q ats
   any-types P Q [] goods f (k, x, w, e, p) = absurd (omega arith)
   any-types P Q (at ∷ ats) goods f (zero, x, w, e, p) = any_here Q at ats (f at (good-first at ats goods) (subst P (sym e) p))
@@ -61,58 +75,28 @@ module _ (shapes others : ℕ → ShapeOf) (Good : ℕ → Type 0) (s : AreSame 
 
   -- ---- what is wrong
 
-  lacks-same : (m : MemberOf) → GoodAt m.type_at → LacksMemberName shapes m m.name → LacksMemberName others m m.name
-  lacks-same m good h = by_name m.name h
-    where
-      by_name : (o : Name) → LacksMemberName shapes m o → LacksMemberName others m o
-      by_name None h = let P : Option ShapeOf → Type 0 = λ o. (is_unnamed_aggregate o && is_whole m.bits) ≡ false in subst P (shape-same m.type_at good) h
-      by_name (Some n) h = h
+  kinds-same : (ats : List TypeAt) → GoodAmong ats → All (λ at. kind_at shapes at ≡ kind_at others at) ats
+  kinds-same [] goods = All-nil (λ at. kind_at shapes at ≡ kind_at others at)
+  kinds-same (at ∷ ats) goods = All-cons (λ at. kind_at shapes at ≡ kind_at others at) at ats (ap kind_in (shape-same at (good-first at ats goods))) (kinds-same ats (good-rest at ats goods))
 
   bad-same : (shape : ShapeOf) → GoodAmong (types_reached shape) → HasBadName shapes shape → HasBadName others shape
-  bad-same (body word odd ms) goods h = any-members (λ m. LacksMemberName shapes m m.name) (λ m. LacksMemberName others m m.name) ms goods lacks-same h
-  bad-same _ goods h = h
+  bad-same shape goods h = sym (names-alike (kind_at shapes) (kind_at others) shape (kinds-same (types_reached shape) goods)) ∙ h
 
   void-same : (at : TypeAt) → GoodAt at → IsVoidLike shapes at → IsVoidLike others at
   void-same at good h = (stands-same h good).0
 
-  test-same : (p : Option ShapeOf → Bool) (at : TypeAt) → GoodAt at → p (shape_of shapes at) ≡ true → p (shape_of others at) ≡ true
-  test-same p at good h = let P : Option ShapeOf → Type 0 = λ o. p o ≡ true in subst P (shape-same at good) h
+  objects-good : (shape : ShapeOf) → GoodAmong (types_reached shape) → GoodAmong (object_types shape)
+  objects-good (array counts strange at) goods = goods
+  objects-good (function at (Some ps)) goods = good-rest at (parameter_types ps) goods
+  objects-good (body word odd ms) goods = goods
+  objects-good _ goods = λ n c. absurd (omega (arith, c.1))
 
-  member-same : (m : MemberOf) → GoodAt m.type_at → IsWrongMember shapes m → IsWrongMember others m
-  member-same m good (void_member h) = void_member (void-same m.type_at good h)
-  member-same m good (function_member h) = function_member (test-same is_function m.type_at good h)
-  member-same m good (bit_member h) = let P : Option ShapeOf → Type 0 = λ o. IsWrongBits o m.bits in bit_member (subst P (shape-same m.type_at good) h)
-
-  array-same : (counts : List (Option ℕ)) (strange : Bool) (at : TypeAt) → GoodAt at → IsWrongArray shapes counts strange at → IsWrongArray others counts strange at
-  array-same counts strange at good (odd_child_or_stride h) = odd_child_or_stride h
-  array-same counts strange at good (count h) = count h
-  array-same counts strange at good (void_element h) = void_element (void-same at good h)
-  array-same counts strange at good (function_element h) = function_element (test-same is_function at good h)
-  array-same counts strange at good (open_element h) = open_element (test-same begins_open at good h)
-
-  function-same : (at : TypeAt) (ps : Option (List Parameter)) → GoodAmong (types_reached (function at ps)) → IsWrongFunction shapes at ps → IsWrongFunction others at ps
-  function-same at None goods (array_result h) = array_result (test-same is_array at (good-first at [] goods) h)
-  function-same at None goods (function_result h) = function_result (test-same is_function at (good-first at [] goods) h)
-  function-same at (Some ps) goods (array_result h) = array_result (test-same is_array at (good-first at (parameter_types ps) goods) h)
-  function-same at (Some ps) goods (function_result h) = function_result (test-same is_function at (good-first at (parameter_types ps) goods) h)
-  function-same at (Some ps) goods (void_parameter h) =
-      void_parameter (any-types (IsVoidLike shapes) (IsVoidLike others) (parameter_types ps) (good-rest at (parameter_types ps) goods) void-same h)
-  function-same at (Some ps) goods (misplaced h) = misplaced h
-
-  row-same : (q : Qualifier) (at : TypeAt) → GoodAt at → IsWrongRow shapes q at → IsWrongRow others q at
-  row-same q at good (over_array under stands h) = let u = stands-same stands good in over_array under u.0 (test-same is_array under u.1 h)
-  row-same q at good (over_function under stands h) = let u = stands-same stands good in over_function under u.0 (test-same is_function under u.1 h)
-  row-same q at good (restrict under is stands h) =
-      let u = stands-same stands good in
-      let P : Option ShapeOf → Type 0 = λ o. is_restrictable o ≡ false in
-      restrict under is u.0 (subst P (shape-same under u.1) h)
-
-  wrong-same : (shape : ShapeOf) → GoodAmong (types_reached shape) → IsUnspeakable shapes shape → IsUnspeakable others shape
-  wrong-same (qualified q at) goods h = row-same q at (good-first at [] goods) h
-  wrong-same (array counts strange at) goods h = array-same counts strange at (good-first at [] goods) h
-  wrong-same (function at ps) goods h = function-same at ps goods h
-  wrong-same (body word odd ms) goods h = any-members (IsWrongMember shapes) (IsWrongMember others) ms goods member-same h
-  wrong-same _ goods h = h
+  unspeakable-same : (shape : ShapeOf) → GoodAmong (types_reached shape) → IsUnspeakable shapes shape → IsUnspeakable others shape
+  unspeakable-same shape goods (wrong h) = wrong (sym (wrong-alike (kind_at shapes) (kind_at others) shape (kinds-same (types_reached shape) goods)) ∙ h)
+  unspeakable-same shape goods (void_object some) = void_object (any-types (IsVoidLike shapes) (IsVoidLike others) (object_types shape) (objects-good shape goods) void-same some)
+  unspeakable-same (qualified q at) goods (row under stands h) =
+      let u = stands-same stands (good-first at [] goods) in
+      row under u.0 (ap (λ (o : Option ShapeOf). is_wrong_row q (kind_in o)) (sym (shape-same under u.1)) ∙ h)
 
   -- ---- terms
 
@@ -150,14 +134,9 @@ module _ (shapes others : ℕ → ShapeOf) (Good : ℕ → Type 0) (s : AreSame 
     by-shape-same _ h = refl
 
     by-subject-same : (subject : SubjectOf) → ((n : ℕ) → Contains (first_steps subject) n → SameTerm (Some n)) → declaration_by one subject ≡ declaration_by two subject
-    by-subject-same (typedef_subject None at) h = refl
     by-subject-same (typedef_subject (Some name) at) h = ap (option_map (Typedef name)) (head_of SameTerm void at [] h)
-    by-subject-same (variable_subject None at) h = refl
     by-subject-same (variable_subject (Some name) at) h = ap (option_map (Variable name)) (head_of SameTerm void at [] h)
-    by-subject-same (aggregate_subject word None odd ms) h = refl
-    by-subject-same (aggregate_subject word (Some name) odd ms) h = ap (option_map (Aggregate word name)) (members-same ms h)
-    by-subject-same (enumeration_subject None odd es) h = refl
-    by-subject-same (declared_subject word None) h = refl
+    by-subject-same (tag_subject (Some name) (body word odd ms)) h = ap (option_map (Aggregate word name)) (members-same ms h)
     by-subject-same _ h = refl
 
   void-term : (k : ℕ) → term_at k shapes None ≡ term_at k others None
@@ -199,34 +178,25 @@ module _ (shapes others : ℕ → ShapeOf) (subject : SubjectOf) (same : AreSame
       by-subject-same shapes others (IsReached shapes subject) (all-reached shapes others subject same) (term_at 65 shapes) (term_at 65 others) refl subject
       (λ n leads. entry-same shapes others (IsReached shapes subject) (all-reached shapes others subject same) 65 n (root leads))
 
-  bad-itself : (s : SubjectOf) → GoodAmong shapes others (IsReached shapes subject) (all-reached shapes others subject same) (types_declared s) → HasBadNameItself shapes s → HasBadNameItself others s
-  bad-itself (typedef_subject name at) goods (typedef_name h) = typedef_name h
-  bad-itself (variable_subject name at) goods (variable_name h) = variable_name h
-  bad-itself (aggregate_subject word name odd ms) goods (aggregate_name h) = aggregate_name h
-  bad-itself (aggregate_subject word name odd ms) goods (member_name h) =
-      member_name (any-members shapes others (IsReached shapes subject) (all-reached shapes others subject same) (λ m. LacksMemberName shapes m m.name) (λ m. LacksMemberName others m m.name) ms goods
-      (lacks-same shapes others (IsReached shapes subject) (all-reached shapes others subject same)) h)
-  bad-itself (enumeration_subject name odd es) goods (enumeration_name h) = enumeration_name h
-  bad-itself (enumeration_subject name odd es) goods (enumerator_name h) = enumerator_name h
-  bad-itself (declared_subject word name) goods (tag_name h) = tag_name h
-  bad-itself no_subject goods h = elim h [ ]
+  own-names-same : (s : SubjectOf) → GoodAmong shapes others (IsReached shapes subject) (all-reached shapes others subject same) (types_declared s) → has_own_bad_name (kind_at shapes) s ≡ true → has_own_bad_name (kind_at others) s ≡ true
+  own-names-same s goods h =
+      sym (own-names-alike (kind_at shapes) (kind_at others) s (kinds-same shapes others (IsReached shapes subject) (all-reached shapes others subject same) (types_declared s) goods)) ∙ h
 
-  wrong-itself : (s : SubjectOf) → GoodAmong shapes others (IsReached shapes subject) (all-reached shapes others subject same) (types_declared s) → IsUnspeakableItself shapes s → IsUnspeakableItself others s
-  wrong-itself (variable_subject name at) goods h =
-      void-same shapes others (IsReached shapes subject) (all-reached shapes others subject same) at
-      (good-first shapes others (IsReached shapes subject) (all-reached shapes others subject same) at [] goods) h
-  wrong-itself (aggregate_subject word name odd ms) goods h =
-      any-members shapes others (IsReached shapes subject) (all-reached shapes others subject same) (IsWrongMember shapes) (IsWrongMember others) ms goods
-      (member-same shapes others (IsReached shapes subject) (all-reached shapes others subject same)) h
-  wrong-itself (declared_subject Enum name) goods h = h
-  wrong-itself _ goods h = h
+  own-unspeakable-same : (s : SubjectOf) → GoodAmong shapes others (IsReached shapes subject) (all-reached shapes others subject same) (types_declared s) → IsOwnUnspeakable shapes s → IsOwnUnspeakable others s
+  own-unspeakable-same (typedef_subject name at) goods h = elim h [ ]
+  own-unspeakable-same (variable_subject name at) goods (void_variable h) =
+      void_variable (void-same shapes others (IsReached shapes subject) (all-reached shapes others subject same) at
+      (good-first shapes others (IsReached shapes subject) (all-reached shapes others subject same) at [] goods) h)
+  own-unspeakable-same (tag_subject name shape) goods (unspeakable h) =
+      unspeakable (unspeakable-same shapes others (IsReached shapes subject) (all-reached shapes others subject same) shape goods h)
+  own-unspeakable-same (tag_subject name shape) goods (declared_enumeration h) = declared_enumeration h
 
   pub holds-same : (rule : PrintFault) → Holds shapes subject rule → Holds others subject rule
   holds-same rule (other_kind e) = other_kind e
   holds-same rule (cycle entry r (k, path)) =
       cycle entry (reached-there shapes others (first_steps subject) same entry r)
       (k, leads-same shapes others (IsReached shapes subject) (all-reached shapes others subject same) (suc k) entry entry r path)
-  holds-same rule (own_name h) = own_name (bad-itself subject (λ n c. root c) h)
+  holds-same rule (own_name h) = own_name (own-names-same subject (λ n c. root c) h)
   holds-same rule (name_reached entry r h) =
       let s = all-reached shapes others subject same in
       let P : ShapeOf → Type 0 = λ shape. HasBadName others shape in
@@ -236,12 +206,12 @@ module _ (shapes others : ℕ → ShapeOf) (subject : SubjectOf) (same : AreSame
   holds-same rule (foreign_reached entry r h) =
       let P : ShapeOf → Type 0 = λ shape. is_foreign shape ≡ true in
       foreign_reached entry (reached-there shapes others (first_steps subject) same entry r) (subst P (same entry r) h)
-  holds-same rule (own_shape h) = own_shape (wrong-itself subject (λ n c. root c) h)
+  holds-same rule (own_shape h) = own_shape (own-unspeakable-same subject (λ n c. root c) h)
   holds-same rule (shape_reached entry r h) =
       let s = all-reached shapes others subject same in
       let P : ShapeOf → Type 0 = λ shape. IsUnspeakable others shape in
       shape_reached entry (reached-there shapes others (first_steps subject) same entry r)
-      (subst P (same entry r) (wrong-same shapes others (IsReached shapes subject) s (shapes entry) (λ n c. further r c) h))
+      (subst P (same entry r) (unspeakable-same shapes others (IsReached shapes subject) s (shapes entry) (λ n c. further r c) h))
   holds-same rule (deep (next, to, c, path)) =
       deep (next, to, c, leads-same shapes others (IsReached shapes subject) (all-reached shapes others subject same) 64 next to (root c) path)
   holds-same rule (long (d, e, more)) = long (d, sym declaration-same ∙ e, more)
@@ -257,3 +227,23 @@ module _ (shapes others : ℕ → ShapeOf) (subject : SubjectOf) (same : AreSame
 
   pub one-same : HasOneReading shapes subject → HasOneReading others subject
   one-same one d another e legible text = one d another (declaration-same shapes others subject same ∙ e) legible text
+
+-- ---- what holds by the shapes of an image holds by the shapes that a survey of it keeps
+
+-- the kept shapes are the same for each declaration that was surveyed
+pub kept-same : (shapes : ℕ → ShapeOf) (roots : List ℕ) (s : Survey) (subject : SubjectOf) → IsSurveyOf shapes roots s → AreAmong (first_steps subject) roots → AreSameFor shapes (kept s) subject
+kept-same shapes roots s subject survey among entry r = sym (survey.keeps entry (reached-wider among r))
+
+-- so its declaration is the same
+pub declaration-kept : (shapes : ℕ → ShapeOf) (roots : List ℕ) (s : Survey) (subject : SubjectOf) → IsSurveyOf shapes roots s → AreAmong (first_steps subject) roots → declaration_of (kept s) subject ≡ declaration_of shapes subject
+declaration-kept shapes roots s subject survey among = sym (declaration-same shapes (kept s) subject (kept-same shapes roots s subject survey among))
+
+-- no other declaration has the text of one that is printed
+pub printed-one : (shapes : ℕ → ShapeOf) (subject : SubjectOf) → IsPrinted shapes subject → AreRegular shapes subject → HasOneReading shapes subject
+unfolding declaration_of
+printed-one shapes subject printed regular d another e legible text =
+    one_text another d legible (subject_legible 65 shapes subject (λ rule below holds. printed rule (omega arith) holds) regular.own regular.reached d e) text
+
+-- what was surveyed is regular
+pub survey-regular : (shapes : ℕ → ShapeOf) (roots : List ℕ) (s : Survey) (subject : SubjectOf) → IsSurveyOf shapes roots s → AreAmong (first_steps subject) roots → IsRegularSubject subject → AreRegular shapes subject
+survey-regular shapes roots s subject survey among own = record { own = own; reached = λ entry r. survey.regular entry (reached-wider among r) }

@@ -9,13 +9,13 @@ use Rattle.dw_cprint.specs.Shapes.{Qualifier, TypeAt, ShapeOf, qualified, view_s
 use Rattle.dw_cprint.specs.Steps.{entries_of, types_reached}
 use Rattle.std.proofs.lemmas.List.Elements.{All-weaker}
 use Rattle.dw_cprint.specs.Least.{IsLeast}
-use Rattle.dw_cprint.specs.Summaries.{TypeKind, Summary, kind_in, AreFaults, IsBase, IsSummary, least_known, Summaries, Knows, AreNodes, HaveSummaries, summary_at}
+use Rattle.dw_cprint.specs.Summaries.{TypeKind, Summary, AreFaults, IsBase, IsSummary, least_known, Summaries, Knows, AreNodes, HaveSummaries, summary_at}
 use Rattle.dw_cprint.specs.Terms.{Term, Void}
-use Rattle.dw_cprint.specs.Wrong.{nothing, itself, below}
+use Rattle.dw_cprint.specs.Wrong.{kind_in, nothing, itself, below}
 use Rattle.dw_cprint.specs.declared.shape.Shape.{Shape}
 use Rattle.dw_cprint.specs.declared.shape.Shape.TheVariants as shape
 use Rattle.dw_cprint.specs.declared.summary.TheConstants.{VOID}
-use Rattle.dw_cprint.proofs.ReachedFaultLemmas.{faults-none}
+use Rattle.dw_cprint.proofs.FaultLemmas.{faults-none}
 use Rattle.dw_cprint.proofs.LeastLemmas.{Counts, void-least}
 
 -- ---- void
@@ -55,18 +55,8 @@ base_itself shapes entry s b is plain same =
     (Some entry, itself (λ q at e. unqualified s plain q at (sym is ∙ e)), same ∙ ap (λ (x : ShapeOf). kind_in (Some x)) (sym is))
   where
     unqualified : (s : Shape) → ((q : Qualifier) (at : TypeAt) → s ≡ shape.Qualified q at → ⊥) → (q : Qualifier) (at : TypeAt) → view_shape s ≡ qualified q at → ⊥
-    unqualified (shape.Base name) plain q at e = cc
-    unqualified (shape.Typedef name) plain q at e = cc
     unqualified (shape.Qualified r to) plain q at e = plain r to refl
-    unqualified (shape.Pointer to) plain q at e = cc
-    unqualified (shape.Array counts strange to) plain q at e = cc
-    unqualified (shape.Function to parameters) plain q at e = cc
-    unqualified (shape.Tagged word name) plain q at e = cc
-    unqualified (shape.Nameless word) plain q at e = cc
-    unqualified (shape.Body word odd members) plain q at e = cc
-    unqualified (shape.Enumeration odd enumerators) plain q at e = cc
-    unqualified shape.Foreign plain q at e = cc
-    unqualified shape.Other plain q at e = cc
+    unqualified _ plain q at e = cc
 
 -- ---- one entry
 

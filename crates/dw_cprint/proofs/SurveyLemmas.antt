@@ -21,7 +21,7 @@ use Rattle.dw_cprint.specs.Surveys.{found_at, AreAmong, HaveSummaries, has_summa
 use Rattle.dw_cprint.specs.declared.shape.Shape.{Shape}
 use Rattle.dw_cprint.specs.declared.survey.Survey.{Survey}
 use Rattle.dw_cprint.specs.declared.summary.Summary.{Summary}
-use Rattle.dw_cprint.proofs.PlaceLemmas.{entry-among, from-map, into-map}
+use Rattle.dw_cprint.proofs.ReachLemmas.{entry-among, from-map, into-map}
 use Rattle.dw_cprint.proofs.SummaryLemmas.{all-types, void_summary}
 use Rattle.dw_cprint.proofs.LongestLemmas.{longest-clear, fewer-steps, row-after}
 use Rattle.dw_cprint.proofs.OptionLemmas.{not_false, not_true}

@@ -8,9 +8,9 @@ use Rattle.dw_image.specs.declared.image.Image.{Image}
 use Rattle.dw_image.specs.Images.{entries_in, type_in}
 use Rattle.dw_image.specs.Lookups.{is_type_entry, type_number}
 use Rattle.dw_forms.specs.Codes.{DW_AT_prototyped, DW_TAG_array_type, DW_TAG_atomic_type, DW_TAG_base_type, DW_TAG_const_type, DW_TAG_enumeration_type, DW_TAG_pointer_type, DW_TAG_restrict_type, DW_TAG_structure_type, DW_TAG_subroutine_type, DW_TAG_typedef, DW_TAG_union_type, DW_TAG_variable, DW_TAG_volatile_type, is_type_tag}
-use Rattle.dw_cprint.specs.EntryShapes.{member_at, parameter_at, members_in, parameters_in, parameters_of, shape_in, subject_in, aggregate_in, enumeration_in, aggregate_shape, enumeration_shape, is_odd, is_plain_member, is_parameter, enumerators_in, counts_in, is_strange}
+use Rattle.dw_cprint.specs.EntryShapes.{member_at, parameter_at, parameters_in, parameters_of, shape_in, subject_in, body_in, tag_in, tag_shape, declared_name, is_plain_member, is_parameter, counts_in, is_strange}
 use Rattle.dw_cprint.specs.LookUps.{tag_at, type_at, name_at, flag_at, declared_at, children_at}
-use Rattle.dw_cprint.specs.Shapes.{Parameter, Typed, More, TagKeyword, Struct, Union, Enum, Const, Volatile, Restrict, Atomic, base, typedef, qualified, pointer, array, function, foreign, other, Name, TypeAt, ShapeOf, nameless, body, enumeration, SubjectOf, typedef_subject, variable_subject, aggregate_subject, enumeration_subject, declared_subject, no_subject}
+use Rattle.dw_cprint.specs.Shapes.{Parameter, Typed, More, TagKeyword, Struct, Union, Enum, Const, Volatile, Restrict, Atomic, base, typedef, qualified, pointer, array, function, foreign, other, Name, TypeAt, ShapeOf, nameless, SubjectOf, typedef_subject, variable_subject, tag_subject}
 use Rattle.dw_cprint.specs.Steps.{entries_of, parameter_types, member_types, types_reached, types_declared, first_steps, roots_of}
 
 one_within : (b : Bool) (n id to : ℕ) → id < n → (if b then Some id else None) ≡ Some to → to < n
@@ -78,16 +78,14 @@ function_within : (image : Image) (id : ℕ) (b : Bool) (ids : List ℕ) → IsW
 function_within image id true ids = record { all = type_more image id (parameter_types (parameters_of image ids)) (parameters_within image (filter (is_parameter image) ids)) }
 function_within image id false ids = record { all = type_more image id [] (none_within (length (entries_in image))) }
 
-aggregate_within : (image : Image) (id : ℕ) (word : TagKeyword) (name : Name) → IsWithin (length (entries_in image)) (aggregate_shape image id word name)
-aggregate_within image id word (Some name) = none_shape (length (entries_in image)) _ refl
-aggregate_within image id word None =
-    either (length (entries_in image)) (declared_at image id) (nameless word) (body word (is_odd image id) (members_in image id)) (none_shape (length (entries_in image)) _ refl)
-    (record { all = members_within image (filter (is_plain_member image) (children_at image id)) })
+body_within : (image : Image) (id : ℕ) (word : TagKeyword) → IsWithin (length (entries_in image)) (body_in image id word)
+body_within image id Enum = none_shape (length (entries_in image)) _ refl
+body_within image id _ = record { all = members_within image (filter (is_plain_member image) (children_at image id)) }
 
-enumeration_within : (image : Image) (id : ℕ) (name : Name) → IsWithin (length (entries_in image)) (enumeration_shape image id name)
-enumeration_within image id (Some name) = none_shape (length (entries_in image)) _ refl
-enumeration_within image id None =
-    either (length (entries_in image)) (declared_at image id) (nameless Enum) (enumeration (is_odd image id) (enumerators_in image id)) (none_shape (length (entries_in image)) _ refl) (none_shape (length (entries_in image)) _ refl)
+tag_within : (image : Image) (id : ℕ) (word : TagKeyword) (name : Name) → IsWithin (length (entries_in image)) (tag_shape image id word name)
+tag_within image id word (Some name) = none_shape (length (entries_in image)) _ refl
+tag_within image id word None =
+    either (length (entries_in image)) (declared_at image id) (nameless word) (body_in image id word) (none_shape (length (entries_in image)) _ refl) (body_within image id word)
 
 typed : (image : Image) (id : ℕ) (s : ShapeOf) → types_reached s ≡ type_at image id ∷ [] → IsWithin (length (entries_in image)) s
 typed image id s one = record { all = rw one (type_more image id [] (none_within (length (entries_in image)))) }
@@ -105,18 +103,15 @@ shape_within image id =
     (either (length (entries_in image)) (tag_at image id == DW_TAG_pointer_type) (pointer (type_at image id)) _ (typed image id (pointer (type_at image id)) refl)
     (either (length (entries_in image)) (tag_at image id == DW_TAG_array_type) (array (counts_in image id) (is_strange image id) (type_at image id)) _ (typed image id (array (counts_in image id) (is_strange image id) (type_at image id)) refl)
     (either (length (entries_in image)) (tag_at image id == DW_TAG_subroutine_type) (function (type_at image id) (parameters_in image id)) _ (function_within image id (flag_at image id DW_AT_prototyped) (children_at image id))
-    (either (length (entries_in image)) (tag_at image id == DW_TAG_structure_type) (aggregate_shape image id Struct (name_at image id)) _ (aggregate_within image id Struct (name_at image id))
-    (either (length (entries_in image)) (tag_at image id == DW_TAG_union_type) (aggregate_shape image id Union (name_at image id)) _ (aggregate_within image id Union (name_at image id))
-    (either (length (entries_in image)) (tag_at image id == DW_TAG_enumeration_type) (enumeration_shape image id (name_at image id)) _ (enumeration_within image id (name_at image id))
+    (either (length (entries_in image)) (tag_at image id == DW_TAG_structure_type) (tag_shape image id Struct (name_at image id)) _ (tag_within image id Struct (name_at image id))
+    (either (length (entries_in image)) (tag_at image id == DW_TAG_union_type) (tag_shape image id Union (name_at image id)) _ (tag_within image id Union (name_at image id))
+    (either (length (entries_in image)) (tag_at image id == DW_TAG_enumeration_type) (tag_shape image id Enum (name_at image id)) _ (tag_within image id Enum (name_at image id))
     (either (length (entries_in image)) (is_type_tag (tag_at image id)) foreign other (none_shape (length (entries_in image)) foreign refl) (none_shape (length (entries_in image)) other refl)))))))))))))
 
 -- ---- the same of the entry that is declared
 
 pub record IsSubjectWithin (n : ℕ) (s : SubjectOf) : Type 0 where
   pub all : AreWithin n (types_declared s)
-
-no_types : (n : ℕ) (s : SubjectOf) → types_declared s ≡ [] → IsSubjectWithin n s
-no_types n s none = record { all = rw none (none_within n) }
 
 either_subject : (n : ℕ) (b : Bool) (x y : SubjectOf) → IsSubjectWithin n x → IsSubjectWithin n y → IsSubjectWithin n (if b then x else y)
 either_subject n true x y one another = one
@@ -125,15 +120,8 @@ either_subject n false x y one another = another
 one_type : (image : Image) (id : ℕ) (s : SubjectOf) → types_declared s ≡ type_at image id ∷ [] → IsSubjectWithin (length (entries_in image)) s
 one_type image id s one = record { all = rw one (type_more image id [] (none_within (length (entries_in image)))) }
 
-aggregate_subject_within : (image : Image) (id : ℕ) (word : TagKeyword) → IsSubjectWithin (length (entries_in image)) (aggregate_in image id word)
-aggregate_subject_within image id word =
-    either_subject (length (entries_in image)) (declared_at image id) (declared_subject word (name_at image id)) (aggregate_subject word (name_at image id) (is_odd image id) (members_in image id))
-    (no_types (length (entries_in image)) _ refl) (record { all = members_within image (filter (is_plain_member image) (children_at image id)) })
-
-enumeration_subject_within : (image : Image) (id : ℕ) → IsSubjectWithin (length (entries_in image)) (enumeration_in image id)
-enumeration_subject_within image id =
-    either_subject (length (entries_in image)) (declared_at image id) (declared_subject Enum (name_at image id)) (enumeration_subject (name_at image id) (is_odd image id) (enumerators_in image id))
-    (no_types (length (entries_in image)) _ refl) (no_types (length (entries_in image)) _ refl)
+tag_in_within : (image : Image) (id : ℕ) (word : TagKeyword) → IsSubjectWithin (length (entries_in image)) (tag_in image id word)
+tag_in_within image id word = record { all = (tag_within image id word (declared_name image id)).all }
 
 -- the types that a declaration of an image names are entries
 pub subject_within : (image : Image) (id : ℕ) → IsSubjectWithin (length (entries_in image)) (subject_in image id)
@@ -142,9 +130,9 @@ subject_within image id =
     let n = length (entries_in image) in
     either_subject n (tag_at image id == DW_TAG_typedef) (typedef_subject (name_at image id) (type_at image id)) _ (one_type image id (typedef_subject (name_at image id) (type_at image id)) refl)
     (either_subject n (tag_at image id == DW_TAG_variable) (variable_subject (name_at image id) (type_at image id)) _ (one_type image id (variable_subject (name_at image id) (type_at image id)) refl)
-    (either_subject n (tag_at image id == DW_TAG_structure_type) (aggregate_in image id Struct) _ (aggregate_subject_within image id Struct)
-    (either_subject n (tag_at image id == DW_TAG_union_type) (aggregate_in image id Union) _ (aggregate_subject_within image id Union)
-    (either_subject n (tag_at image id == DW_TAG_enumeration_type) (enumeration_in image id) no_subject (enumeration_subject_within image id) (no_types n no_subject refl)))))
+    (either_subject n (tag_at image id == DW_TAG_structure_type) (tag_in image id Struct) _ (tag_in_within image id Struct)
+    (either_subject n (tag_at image id == DW_TAG_union_type) (tag_in image id Union) _ (tag_in_within image id Union)
+    (either_subject n (tag_at image id == DW_TAG_enumeration_type) (tag_in image id Enum) (tag_subject None other) (tag_in_within image id Enum) (record { all = none_within n })))))
 
 -- and so are the roots of some declarations
 pub roots_within : (image : Image) (ids : List ℕ) → All (λ to. to < length (entries_in image)) (roots_of (map (subject_in image) ids))

@@ -14,15 +14,18 @@ use Rattle.dw_cprint.specs.Kept.{Writes}
 use Rattle.dw_cprint.specs.Legible.{is_identifier}
 use Rattle.dw_cprint.specs.Shapes.{Qualifier, TagKeyword, Parameter, Name, TypeAt, MemberOf, EnumeratorOf, ShapeOf, base, typedef}
 use Rattle.dw_cprint.specs.Shapes.{qualified, pointer, array, function, tagged, nameless, body, enumeration, foreign}
-use Rattle.dw_cprint.specs.Shapes.{other, typedef_subject, variable_subject, aggregate_subject, enumeration_subject, view_shape}
+use Rattle.dw_cprint.specs.Shapes.{other, typedef_subject, variable_subject, tag_subject, view_shape}
 use Rattle.dw_cprint.specs.Terms.{TypeWord, Enum, Term, Void, Named, Basic, Tagged, Body, Enumeration, Pointer}
-use Rattle.dw_cprint.specs.Terms.{Function, Unprototyped, Prototyped, Parameters, Members, Constant, Declaration, Typedef, Variable, Aggregate, Constants}
+use Rattle.dw_cprint.specs.Terms.{Function, Unprototyped, Prototyped, Parameters, Members, Constant, Declaration, Typedef, Variable, Aggregate, Constants, Declared}
 use Rattle.dw_cprint.specs.Tokens.{Token, Blank, Star, Open, Close, LeftBrace, RightBrace, Semicolon, TypedefWord}
 use Rattle.dw_cprint.specs.Tokens.{TagWord, Identifier, spelling, text_of}
 use Rattle.dw_cprint.specs.Writing.{spell, qualifying, count_tokens, name_tokens, constants, signature_tokens}
 use Rattle.dw_cprint.specs.Writing.{members_tokens, declaration_tokens, written}
+use Rattle.dw_cprint.specs.declared.shape.Enumerator.{Enumerator}
+use Rattle.dw_cprint.specs.declared.shape.Member.{Member}
 use Rattle.dw_cprint.specs.declared.shape.Shape.{Shape}
 use Rattle.dw_cprint.specs.declared.shape.Shape.TheVariants as shape
+use Rattle.dw_cprint.specs.declared.words.Text.{Text}
 use Rattle.dw_cprint.proofs.DraftLemmas.{appended-twice}
 use Rattle.dw_cprint.proofs.DeclaratorLemmas.{in_parts}
 use Rattle.dw_cprint.proofs.NameLemmas.{words-text}
@@ -260,7 +263,7 @@ module _ (term : TypeAt → Option Term) (old mid mid2 new : Option (List ℕ)) 
 
   pub aggregate_done : (mid3 : Option (List ℕ)) (word : TagKeyword) (name : Name) (odd : Bool) (ms : List MemberOf) → Writes (TagWord word ∷ Blank ∷ name_tokens name) old mid → Writes (Blank ∷ []) mid mid2
       → ((us : Members) → members_by term ms ≡ Some us → Writes (body_tokens us) mid2 mid3) → Writes (Semicolon ∷ []) mid3 new
-      → (d : Declaration) → declaration_by term (aggregate_subject word name odd ms) ≡ Some d → new ≡ appended old (written d)
+      → (d : Declaration) → declaration_by term (tag_subject name (body word odd ms)) ≡ Some d → new ≡ appended old (written d)
   aggregate_done mid3 word None odd ms first gap inner last d e = absurd (cc)
   aggregate_done mid3 word (Some name) odd ms first gap inner last d e =
       let f = map_inverted (Aggregate word name) (members_by term ms) d e in
@@ -275,7 +278,7 @@ module _ (term : TypeAt → Option Term) (old mid mid2 new : Option (List ℕ)) 
 
   pub constants_done : (mid3 : Option (List ℕ)) (name : Name) (odd : Bool) (es : List EnumeratorOf) → Writes (TagWord Enum ∷ Blank ∷ name_tokens name) old mid → Writes (Blank ∷ []) mid mid2
       → ((cs : List Constant) → constants_of es ≡ Some cs → Writes (enumeration_tokens cs) mid2 mid3) → Writes (Semicolon ∷ []) mid3 new
-      → (d : Declaration) → declaration_by term (enumeration_subject name odd es) ≡ Some d → new ≡ appended old (written d)
+      → (d : Declaration) → declaration_by term (tag_subject name (enumeration odd es)) ≡ Some d → new ≡ appended old (written d)
   constants_done mid3 None odd es first gap inner last d e = absurd (cc)
   constants_done mid3 (Some name) odd es first gap inner last d e =
       let f = map_inverted (Constants name) (constants_of es) d e in
@@ -288,22 +291,32 @@ module _ (term : TypeAt → Option Term) (old mid mid2 new : Option (List ℕ)) 
       (as_tokens (tag ++ Blank ∷ (body ++ Semicolon ∷ [])) (declaration_tokens (Constants name f.0)) old new (ap (λ (u : List Token). tag ++ Blank ∷ u) same)
       (both tag (Blank ∷ (body ++ Semicolon ∷ [])) old mid new first (both (Blank ∷ []) (body ++ Semicolon ∷ []) mid mid2 new gap (both body (Semicolon ∷ []) mid2 mid3 new (inner f.0 f.1) last))))
 
+  pub declared_done : (word : TagKeyword) (name : Name) (tag : List ℕ) → Writes (TagWord word ∷ Blank ∷ Identifier tag ∷ []) old mid → Writes (Semicolon ∷ []) mid new
+      → (d : Declaration) → declaration_by term (tag_subject name (tagged word tag)) ≡ Some d → new ≡ appended old (written d)
+  declared_done word None tag first last d e = absurd (cc)
+  declared_done word (Some name) tag first last d e =
+      let same : Declared word tag ≡ d = cc in
+      let P : Declaration → Type 0 = λ d. new ≡ appended old (written d) in
+      subst P same (both (TagWord word ∷ Blank ∷ Identifier tag ∷ []) (Semicolon ∷ []) old mid new first last)
+
 -- ---- shapes as the code has them
 
 pub specifier-shape : (s : Shape) → ((q : Qualifier) (at : TypeAt) → s ≡ shape.Qualified q at → ⊥) → ((at : TypeAt) → s ≡ shape.Pointer at → ⊥) → ((counts : Vec (Option ℕ) Global) (strange : Bool) (at : TypeAt) → s ≡ shape.Array counts strange at → ⊥)
     → ((at : TypeAt) (parameters : Option (Vec Parameter Global)) → s ≡ shape.Function at parameters → ⊥) → is_specifier (view_shape s) ≡ true
-specifier-shape (shape.Base name) a b c d = refl
-specifier-shape (shape.Typedef name) a b c d = refl
 specifier-shape (shape.Qualified q at) a b c d = absurd (a q at refl)
 specifier-shape (shape.Pointer at) a b c d = absurd (b at refl)
 specifier-shape (shape.Array counts strange at) a b c d = absurd (c counts strange at refl)
 specifier-shape (shape.Function at parameters) a b c d = absurd (d at parameters refl)
-specifier-shape (shape.Tagged word name) a b c d = refl
-specifier-shape (shape.Nameless word) a b c d = refl
-specifier-shape (shape.Body word odd members) a b c d = refl
-specifier-shape (shape.Enumeration odd enumerators) a b c d = refl
-specifier-shape shape.Foreign a b c d = refl
-specifier-shape shape.Other a b c d = refl
+specifier-shape _ a b c d = refl
+
+pub nothing_done : (term : TypeAt → Option Term) (name : Name) (s : Shape) → ((word : TagKeyword) (odd : Bool) (members : Vec Member Global) → s ≡ shape.Body word odd members → ⊥)
+    → ((odd : Bool) (enumerators : Vec Enumerator Global) → s ≡ shape.Enumeration odd enumerators → ⊥) → ((word : TagKeyword) (text : Text) → s ≡ shape.Tagged word text → ⊥)
+    → (d : Declaration) → declaration_by term (tag_subject name (view_shape s)) ≡ Some d → ⊥
+nothing_done term None s a b c d e = cc
+nothing_done term (Some n) (shape.Body word odd members) a b c d e = a word odd members refl
+nothing_done term (Some n) (shape.Enumeration odd enumerators) a b c d e = b odd enumerators refl
+nothing_done term (Some n) (shape.Tagged word text) a b c d e = c word text refl
+nothing_done term (Some n) _ a b c d e = cc
 
 pub some-mapped : {X Y : Type 0} (f : X → Y) (o : Option X) → is_some o ≡ is_some (option_map f o)
 some-mapped f None = refl

@@ -17,8 +17,7 @@ use Rattle.dw_cprint.specs.LookUps.{declared_at, integer_at}
 use Rattle.dw_cprint.specs.Shapes.{Const, Volatile, Restrict, Atomic, TagKeyword, Struct, Union, Enum, Bits, Absent}
 use Rattle.dw_cprint.specs.Shapes.{Number, Wrong, Parameter, Typed, More, Name, MemberOf, EnumeratorOf, ShapeOf, base}
 use Rattle.dw_cprint.specs.Shapes.{typedef, qualified, pointer, array, function, tagged, nameless, body, enumeration}
-use Rattle.dw_cprint.specs.Shapes.{foreign, other, SubjectOf, typedef_subject, variable_subject, aggregate_subject}
-use Rattle.dw_cprint.specs.Shapes.{enumeration_subject, declared_subject, no_subject}
+use Rattle.dw_cprint.specs.Shapes.{foreign, other, SubjectOf, typedef_subject, variable_subject, tag_subject}
 
 -- an entry has one of two tags
 abbrev pub has_tag : Image → (one other : ℕ) → ℕ → Bool
@@ -100,12 +99,6 @@ member_at image id =
 abbrev pub members_in : Image → ℕ → List MemberOf
 members_in image id = map (member_at image) (filter (is_plain_member image) (children_at image id))
 
--- one that is reached: with a name, declared without one, or a body
-abbrev pub aggregate_shape : Image → ℕ → TagKeyword → Name → ShapeOf
-aggregate_shape image id word (Some name) = tagged word name
-aggregate_shape image id word None =
-    if declared_at image id then nameless word else body word (is_odd image id) (members_in image id)
-
 -- ---- enumerations (DWARF 5, 5.9)
 
 -- a child with tag enumerator
@@ -120,13 +113,17 @@ enumerator_at image id = record { name = name_at image id; value = integer_at im
 abbrev pub enumerators_in : Image → ℕ → List EnumeratorOf
 enumerators_in image id = map (enumerator_at image) (filter (is_enumerator image) (children_at image id))
 
--- an enumeration that is reached: with a name, declared without one, or with its body
-abbrev pub enumeration_shape : Image → ℕ → Name → ShapeOf
-enumeration_shape image id (Some name) = tagged Enum name
-enumeration_shape image id None =
-    if declared_at image id then nameless Enum else enumeration (is_odd image id) (enumerators_in image id)
-
 -- ---- all entries
+
+-- a structure, union or enumeration with its body
+abbrev pub body_in : Image → ℕ → TagKeyword → ShapeOf
+body_in image id Enum = enumeration (is_odd image id) (enumerators_in image id)
+body_in image id word = body word (is_odd image id) (members_in image id)
+
+-- one that is printed by a name; without a name one that is only declared, or its body
+abbrev pub tag_shape : Image → ℕ → TagKeyword → Name → ShapeOf
+tag_shape image id word (Some name) = tagged word name
+tag_shape image id word None = if declared_at image id then nameless word else body_in image id word
 
 -- an entry that is reached, by its tag
 abbrev pub shape_by : Image → ℕ → (tag : ℕ) → ShapeOf
@@ -140,9 +137,9 @@ shape_by image id tag =
     else if tag == DW_TAG_pointer_type then pointer (type_at image id)
     else if tag == DW_TAG_array_type then array (counts_in image id) (is_strange image id) (type_at image id)
     else if tag == DW_TAG_subroutine_type then function (type_at image id) (parameters_in image id)
-    else if tag == DW_TAG_structure_type then aggregate_shape image id Struct (name_at image id)
-    else if tag == DW_TAG_union_type then aggregate_shape image id Union (name_at image id)
-    else if tag == DW_TAG_enumeration_type then enumeration_shape image id (name_at image id)
+    else if tag == DW_TAG_structure_type then tag_shape image id Struct (name_at image id)
+    else if tag == DW_TAG_union_type then tag_shape image id Union (name_at image id)
+    else if tag == DW_TAG_enumeration_type then tag_shape image id Enum (name_at image id)
     else if is_type_tag tag then foreign
     else other
 
@@ -150,27 +147,23 @@ shape_by image id tag =
 unfoldable pub shape_in : Image → ℕ → ShapeOf
 shape_in image id = shape_by image id (tag_at image id)
 
--- one that is declared to C, and is a declaration in DWARF or not
-abbrev pub aggregate_in : Image → ℕ → TagKeyword → SubjectOf
-aggregate_in image id word =
-    if declared_at image id then declared_subject word (name_at image id)
-    else aggregate_subject word (name_at image id) (is_odd image id) (members_in image id)
+-- the name of an entry that is only declared in DWARF: it is declared to C by that name
+abbrev pub declared_name : Image → ℕ → Name
+declared_name image id = if declared_at image id then name_at image id else None
 
--- an enumeration that is declared to C, and is a declaration in DWARF or not
-abbrev pub enumeration_in : Image → ℕ → SubjectOf
-enumeration_in image id =
-    if declared_at image id then declared_subject Enum (name_at image id)
-    else enumeration_subject (name_at image id) (is_odd image id) (enumerators_in image id)
+-- a structure, union or enumeration that is declared to C: only by its name, or with its body
+abbrev pub tag_in : Image → ℕ → TagKeyword → SubjectOf
+tag_in image id word = tag_subject (name_at image id) (tag_shape image id word (declared_name image id))
 
 -- the entry that is declared, by its tag
 abbrev pub subject_by : Image → ℕ → (tag : ℕ) → SubjectOf
 subject_by image id tag =
     if tag == DW_TAG_typedef then typedef_subject (name_at image id) (type_at image id)
     else if tag == DW_TAG_variable then variable_subject (name_at image id) (type_at image id)
-    else if tag == DW_TAG_structure_type then aggregate_in image id Struct
-    else if tag == DW_TAG_union_type then aggregate_in image id Union
-    else if tag == DW_TAG_enumeration_type then enumeration_in image id
-    else no_subject
+    else if tag == DW_TAG_structure_type then tag_in image id Struct
+    else if tag == DW_TAG_union_type then tag_in image id Union
+    else if tag == DW_TAG_enumeration_type then tag_in image id Enum
+    else tag_subject None other
 
 -- the subject that an entry of an image is
 unfoldable pub subject_in : Image → ℕ → SubjectOf

@@ -3,7 +3,7 @@ use Rattle.std.specs.Prelude.{ℕ, ◌+◌, ◌≤◌, Bool, List, [], ◌∷◌
 use Rattle.dw_cprint.specs.Declarators.{before, after}
 use Rattle.dw_cprint.specs.Shapes.{Qualifier, Parameter, Typed, More, Name, TypeAt, MemberOf, ShapeOf, base, typedef}
 use Rattle.dw_cprint.specs.Shapes.{qualified, pointer, array, function, tagged, body, enumeration, SubjectOf}
-use Rattle.dw_cprint.specs.Shapes.{typedef_subject, variable_subject, aggregate_subject}
+use Rattle.dw_cprint.specs.Shapes.{typedef_subject, variable_subject, tag_subject}
 use Rattle.dw_cprint.specs.Terms.{Term}
 use Rattle.dw_cprint.specs.Tokens.{Token, text_of}
 
@@ -49,5 +49,4 @@ least_in n _ = 0
 abbrev pub least_declared : (TypeAt → ℕ) → SubjectOf → ℕ
 least_declared n (typedef_subject name at) = n at
 least_declared n (variable_subject name at) = n at
-least_declared n (aggregate_subject word name odd ms) = least_members n ms
-least_declared n _ = 0
+least_declared n (tag_subject name shape) = least_in n shape

@@ -2,12 +2,12 @@
 use Rattle.std.specs.Prelude.{◌≡◌, ℕ, ◌<◌, true, List, ◌++◌, Some, length}
 use Rattle.dw_cprint.specs.Declarations.{declaration_of}
 use Rattle.dw_cprint.specs.Legible.{IsDeclaration}
-use Rattle.dw_cprint.specs.Shapes.{ShapeOf, SubjectOf, no_subject}
+use Rattle.dw_cprint.specs.Shapes.{ShapeOf, SubjectOf}
 use Rattle.dw_cprint.specs.Steps.{IsReached, IsOnCycle, HasPath}
 use Rattle.dw_cprint.specs.Terms.{Declaration}
 use Rattle.dw_cprint.specs.Writing.{written}
-use Rattle.dw_cprint.specs.Wrong.{HasBadName, HasBadNameItself, is_foreign, is_foreign_itself, IsUnspeakable}
-use Rattle.dw_cprint.specs.Wrong.{IsUnspeakableItself}
+use Rattle.dw_cprint.specs.Wrong.{HasBadName, kind_at, has_own_bad_name, is_foreign, is_own_foreign, is_other_kind}
+use Rattle.dw_cprint.specs.Wrong.{IsUnspeakable, IsOwnUnspeakable}
 pub use Rattle.dw_cprint.specs.declared.fault.PrintFault.{PrintFault}
 pub use Rattle.dw_cprint.specs.declared.fault.PrintFault.TheVariants.{NotPrintable, BadName, Foreign, Unspeakable}
 pub use Rattle.dw_cprint.specs.declared.fault.PrintFault.TheVariants.{TooDeep, TooLong, Memory}
@@ -19,15 +19,15 @@ IsLonger limit shapes subject =
 
 -- the condition of each refusal
 pub data Holds (shapes : ℕ → ShapeOf) (subject : SubjectOf) : PrintFault → Type 0 where
-  other_kind : subject ≡ no_subject → Holds shapes subject NotPrintable
+  other_kind : is_other_kind subject ≡ true → Holds shapes subject NotPrintable
   cycle : (entry : ℕ) → IsReached shapes subject entry → IsOnCycle shapes entry → Holds shapes subject NotPrintable
-  own_name : HasBadNameItself shapes subject → Holds shapes subject BadName
+  own_name : has_own_bad_name (kind_at shapes) subject ≡ true → Holds shapes subject BadName
   name_reached : (entry : ℕ) → IsReached shapes subject entry → HasBadName shapes (shapes entry)
       → Holds shapes subject BadName
-  own_child : is_foreign_itself subject ≡ true → Holds shapes subject Foreign
+  own_child : is_own_foreign subject ≡ true → Holds shapes subject Foreign
   foreign_reached : (entry : ℕ) → IsReached shapes subject entry → is_foreign (shapes entry) ≡ true
       → Holds shapes subject Foreign
-  own_shape : IsUnspeakableItself shapes subject → Holds shapes subject Unspeakable
+  own_shape : IsOwnUnspeakable shapes subject → Holds shapes subject Unspeakable
   shape_reached : (entry : ℕ) → IsReached shapes subject entry → IsUnspeakable shapes (shapes entry)
       → Holds shapes subject Unspeakable
   deep : HasPath shapes subject 65 → Holds shapes subject TooDeep

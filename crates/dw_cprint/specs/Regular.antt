@@ -2,7 +2,7 @@
 use Rattle.std.specs.Prelude.{ℕ}
 use Rattle.dw_cprint.specs.Legible.{IsAggregate}
 use Rattle.dw_cprint.specs.Steps.{IsReached}
-use Rattle.dw_cprint.specs.Shapes.{ShapeOf, body, SubjectOf, aggregate_subject}
+use Rattle.dw_cprint.specs.Shapes.{ShapeOf, body, SubjectOf, tag_subject}
 
 -- an entry that is reached
 abbrev pub IsRegular : ShapeOf → Type 0
@@ -11,7 +11,7 @@ IsRegular _ = Unit {0}
 
 -- the entry that is declared
 abbrev pub IsRegularSubject : SubjectOf → Type 0
-IsRegularSubject (aggregate_subject word name odd members) = IsAggregate word
+IsRegularSubject (tag_subject name shape) = IsRegular shape
 IsRegularSubject _ = Unit {0}
 
 -- the declared entry and those that it reaches

@@ -55,14 +55,12 @@ pub data ShapeOf : Type 0 where
   foreign : ShapeOf
   other : ShapeOf
 
--- the entry that is declared
+-- the entry that is declared: a typedef, a variable, or a structure, union or enumeration by its name and its shape; an
+-- entry of another kind has no name and the shape other
 pub data SubjectOf : Type 0 where
   typedef_subject : Name → TypeAt → SubjectOf
   variable_subject : Name → TypeAt → SubjectOf
-  aggregate_subject : TagKeyword → Name → (odd : Bool) → List MemberOf → SubjectOf
-  enumeration_subject : Name → (odd : Bool) → List EnumeratorOf → SubjectOf
-  declared_subject : TagKeyword → Name → SubjectOf
-  no_subject : SubjectOf
+  tag_subject : Name → ShapeOf → SubjectOf
 
 -- ---- what the code keeps of them
 
@@ -101,9 +99,4 @@ view_shape shape.Other = other
 abbrev pub view_subject : Subject → SubjectOf
 view_subject (subject.Typedef name at) = typedef_subject (view_name name) at
 view_subject (subject.Variable name at) = variable_subject (view_name name) at
-view_subject (subject.Aggregate word name odd members) =
-    aggregate_subject word (view_name name) odd (map view_member members.items)
-view_subject (subject.Enumeration name odd enumerators) =
-    enumeration_subject (view_name name) odd (map view_enumerator enumerators.items)
-view_subject (subject.Declared word name) = declared_subject word (view_name name)
-view_subject subject.Other = no_subject
+view_subject (subject.Tag name shape) = tag_subject (view_name name) (view_shape shape)

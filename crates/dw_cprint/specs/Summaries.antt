@@ -2,35 +2,23 @@
 -- text has at least.
 use Rattle.std.specs.Prelude.{◌≡◌, ℕ, ◌<◌, ◌↔◌, true, IsTrue, List, [], ◌∷◌, Option, Some}
 use Rattle.std.specs.Prelude.{None, length, slice_get, slice_index, slice_index_or, is_some, option_and_then, unwrap_or}
-use Rattle.std.specs.Prelude.{Contains}
+use Rattle.std.specs.Prelude.{Contains, Bool, false, ◌||◌}
+use Rattle.std.specs.List.{list_any}
 use Rattle.dw_cprint.specs.Declarations.{term_at}
 use Rattle.dw_cprint.specs.Least.{IsLeast}
 use Rattle.dw_cprint.specs.Refusals.{Holds, BadName, Foreign, Unspeakable}
-use Rattle.dw_cprint.specs.Shapes.{Struct, Union, TypeAt, ShapeOf}
-use Rattle.dw_cprint.specs.Shapes.{typedef, qualified, pointer, array, function, nameless, body, SubjectOf, view_shape}
+use Rattle.dw_cprint.specs.Shapes.{TypeAt, ShapeOf, qualified, SubjectOf, typedef_subject, variable_subject}
+use Rattle.dw_cprint.specs.Shapes.{tag_subject, view_shape}
 use Rattle.dw_cprint.specs.Steps.{entries_of, steps_reached, IsReachedFrom}
 use Rattle.dw_cprint.specs.Terms.{Term}
-use Rattle.dw_cprint.specs.Wrong.{shape_of, StandsUnder, starts_open, HasBadName, is_foreign, IsUnspeakable}
+use Rattle.dw_cprint.specs.Wrong.{kind_at, StandsUnder, is_void, HasBadName, is_foreign, IsUnspeakable}
+use Rattle.dw_cprint.specs.Wrong.{is_declared_enumeration, is_wrong, is_wrong_row, object_types}
 use Rattle.dw_cprint.specs.declared.shape.Shape.{Shape}
-use Rattle.dw_cprint.specs.declared.kinds.TypeKind.TheVariants as kind
 use Rattle.dw_cprint.specs.declared.summary.TheConstants.{VOID}
-pub use Rattle.dw_cprint.specs.declared.kinds.TypeKind.{TypeKind}
-pub use Rattle.dw_cprint.specs.declared.faults.Faults.{Faults}
+pub use Rattle.dw_cprint.specs.Wrong.{TypeKind}
+pub use Rattle.dw_cprint.specs.declared.summary.Faults.{Faults}
 pub use Rattle.dw_cprint.specs.declared.summary.Summary.{Summary}
 pub use Rattle.dw_cprint.specs.declared.summary.Summaries.{Summaries}
-
--- the kind of a type; an absent one is void
-abbrev pub kind_in : Option ShapeOf → TypeKind
-kind_in None = kind.Void
-kind_in (Some (typedef name)) = kind.Typedef
-kind_in (Some (qualified q at)) = kind.Qualified
-kind_in (Some (pointer at)) = kind.Pointer
-kind_in (Some (array counts strange at)) = kind.Array (starts_open counts)
-kind_in (Some (function at parameters)) = kind.Function
-kind_in (Some (nameless Struct)) = kind.UnnamedAggregate
-kind_in (Some (nameless Union)) = kind.UnnamedAggregate
-kind_in (Some (body word odd members)) = kind.UnnamedAggregate
-kind_in (Some _) = kind.Other
 
 -- ---- what is wrong
 
@@ -58,11 +46,11 @@ pub record AreFaultsOf (shapes : ℕ → ShapeOf) (subject : SubjectOf) (faults 
 
 -- the kind of what stands under a type's row of qualifiers; of the type itself, if it is no qualifier
 abbrev pub IsBase : (ℕ → ShapeOf) → TypeAt → TypeKind → Type 0
-IsBase shapes at own = (under : TypeAt) × StandsUnder shapes at under × (own ≡ kind_in (shape_of shapes under))
+IsBase shapes at own = (under : TypeAt) × StandsUnder shapes at under × (own ≡ kind_at shapes under)
 
 -- what a summary tells of a type
 pub record IsSummary (shapes : ℕ → ShapeOf) (at : TypeAt) (known : Summary) : Type 0 where
-  pub is_kind : known.kind ≡ kind_in (shape_of shapes at)
+  pub is_kind : known.kind ≡ kind_at shapes at
   pub is_base : IsBase shapes at known.base
   pub are_faults : AreFaults shapes (at ∷ []) known.faults
   pub is_least : (k : ℕ) (t : Term) → term_at k shapes at ≡ Some t → IsLeast t known.least
@@ -87,6 +75,31 @@ known_of s at = unwrap_or (summary_at VOID s.places.items s.nodes.items at) VOID
 -- what the summaries tell of a type is right
 abbrev pub Knows : (ℕ → ShapeOf) → Summaries → TypeAt → Type 0
 Knows shapes s at = IsSummary shapes at (known_of s at)
+
+-- the kind that they tell of a type
+abbrev pub kind_known : Summaries → TypeAt → TypeKind
+kind_known s at = (known_of s at).kind
+
+-- the kind that they tell of what stands under a type's row of qualifiers
+abbrev pub base_known : Summaries → TypeAt → TypeKind
+base_known s at = (known_of s at).base
+
+-- the row of qualifiers that begins with a shape is wrong
+abbrev pub is_wrong_base : (TypeAt → TypeKind) → ShapeOf → Bool
+is_wrong_base bases (qualified q at) = is_wrong_row q (bases at)
+is_wrong_base bases _ = false
+
+-- the fourth refusal holds for a shape, by what they tell
+abbrev pub is_unspeakable : Summaries → ShapeOf → Bool
+is_unspeakable s shape =
+    is_wrong (kind_known s) shape
+    || (list_any (λ at. is_void (base_known s at)) (object_types shape) || is_wrong_base (base_known s) shape)
+
+-- the same for the declared entry
+abbrev pub is_own_unspeakable : Summaries → SubjectOf → Bool
+is_own_unspeakable s (typedef_subject name at) = false
+is_own_unspeakable s (variable_subject name at) = is_void (base_known s at)
+is_own_unspeakable s (tag_subject name shape) = is_unspeakable s shape || is_declared_enumeration shape
 
 -- how many bytes they tell the text of a type to have at least
 abbrev pub least_known : Summaries → TypeAt → ℕ

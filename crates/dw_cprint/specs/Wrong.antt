@@ -1,16 +1,17 @@
 -- Chapter: what is wrong with one entry, by the second, third and fourth refusal.
-use Rattle.std.specs.Prelude.{◌≡◌, ℕ, ◌⊎◌, Bool, true, false, not, ◌&&◌, ◌||◌, List, [], ◌∷◌, Option, Some, None, Any}
+use Rattle.std.specs.Prelude.{◌≡◌, ℕ, Bool, true, false, not, ◌&&◌, ◌||◌, List, [], ◌∷◌, Option, Some, None, Any}
 use Rattle.std.specs.Prelude.{is_some}
 use Rattle.std.specs.List.{list_any}
 use Rattle.dw_cprint.specs.Declarations.{words_of, parts_of}
 pub use Rattle.dw_cprint.specs.Declarations.{is_miscounted, is_misplaced}
 use Rattle.dw_cprint.specs.Legible.{is_identifier}
-use Rattle.dw_cprint.specs.Shapes.{Qualifier, Restrict, TagKeyword, Struct, Union, Enum, Parameter, Bits, Absent}
+use Rattle.dw_cprint.specs.Shapes.{Qualifier, Restrict, Struct, Union, Enum, Bits, Absent}
 use Rattle.dw_cprint.specs.Shapes.{Number, Wrong, Name, TypeAt, MemberOf, EnumeratorOf, ShapeOf, base, typedef}
 use Rattle.dw_cprint.specs.Shapes.{qualified, pointer, array, function, tagged, nameless, body, enumeration, foreign}
-use Rattle.dw_cprint.specs.Shapes.{other, SubjectOf, typedef_subject, variable_subject, aggregate_subject}
-use Rattle.dw_cprint.specs.Shapes.{enumeration_subject, declared_subject}
-use Rattle.dw_cprint.specs.Steps.{parameter_types}
+use Rattle.dw_cprint.specs.Shapes.{other, SubjectOf, typedef_subject, variable_subject, tag_subject}
+use Rattle.dw_cprint.specs.Steps.{parameter_types, member_types}
+pub use Rattle.dw_cprint.specs.declared.refusals.TypeKind.{TypeKind}
+use Rattle.dw_cprint.specs.declared.refusals.TypeKind.TheVariants as kind
 
 -- ---- types
 
@@ -18,6 +19,28 @@ use Rattle.dw_cprint.specs.Steps.{parameter_types}
 abbrev pub shape_of : (ℕ → ShapeOf) → TypeAt → Option ShapeOf
 shape_of shapes None = None
 shape_of shapes (Some entry) = Some (shapes entry)
+
+-- the first count is unknown
+abbrev pub starts_open : List (Option ℕ) → Bool
+starts_open (None ∷ counts) = true
+starts_open _ = false
+
+-- the kind of a shape; void has none
+abbrev pub kind_in : Option ShapeOf → TypeKind
+kind_in None = kind.Void
+kind_in (Some (typedef name)) = kind.Typedef
+kind_in (Some (qualified q at)) = kind.Qualified
+kind_in (Some (pointer at)) = kind.Pointer
+kind_in (Some (array counts strange at)) = kind.Array (starts_open counts)
+kind_in (Some (function at parameters)) = kind.Function
+kind_in (Some (nameless Struct)) = kind.UnnamedAggregate
+kind_in (Some (nameless Union)) = kind.UnnamedAggregate
+kind_in (Some (body word odd members)) = kind.UnnamedAggregate
+kind_in (Some _) = kind.Other
+
+-- the kind of a type
+abbrev pub kind_at : (ℕ → ShapeOf) → TypeAt → TypeKind
+kind_at shapes at = kind_in (shape_of shapes at)
 
 -- what stands under a row of qualifiers; None is void
 pub data StandsUnder (shapes : ℕ → ShapeOf) : TypeAt → TypeAt → Type 0 where
@@ -31,6 +54,46 @@ pub data StandsUnder (shapes : ℕ → ShapeOf) : TypeAt → TypeAt → Type 0 w
 abbrev pub IsVoidLike : (ℕ → ShapeOf) → TypeAt → Type 0
 IsVoidLike shapes at = StandsUnder shapes at None
 
+-- ---- kinds
+
+-- void
+abbrev pub is_void : TypeKind → Bool
+is_void kind.Void = true
+is_void _ = false
+
+-- a function
+abbrev pub is_function : TypeKind → Bool
+is_function kind.Function = true
+is_function _ = false
+
+-- an array or a function
+abbrev pub is_bracketed : TypeKind → Bool
+is_bracketed (kind.Array unknown) = true
+is_bracketed kind.Function = true
+is_bracketed _ = false
+
+-- an array or a pointer
+abbrev pub is_address : TypeKind → Bool
+is_address (kind.Array unknown) = true
+is_address kind.Pointer = true
+is_address _ = false
+
+-- an array whose first count is unknown
+abbrev pub is_open : TypeKind → Bool
+is_open (kind.Array unknown) = unknown
+is_open _ = false
+
+-- what restrict may stand over
+abbrev pub is_restrictable : TypeKind → Bool
+is_restrictable kind.Pointer = true
+is_restrictable kind.Typedef = true
+is_restrictable _ = false
+
+-- a structure or a union without a name
+abbrev pub is_unnamed_aggregate : TypeKind → Bool
+is_unnamed_aggregate kind.UnnamedAggregate = true
+is_unnamed_aggregate _ = false
+
 -- ---- names
 
 -- an identifier, or 1 to 4 type words joined by one space each
@@ -38,21 +101,14 @@ abbrev pub is_base_name : List ℕ → Bool
 is_base_name name = is_identifier name || is_some (words_of 4 (parts_of name))
 
 -- there is no identifier
-abbrev pub LacksName : Name → Type 0
-LacksName None = Unit {0}
-LacksName (Some name) = is_identifier name ≡ false
+abbrev pub lacks_name : Name → Bool
+lacks_name None = true
+lacks_name (Some name) = not (is_identifier name)
 
 -- there is no name of a base type
-abbrev pub LacksBaseName : Name → Type 0
-LacksBaseName None = Unit {0}
-LacksBaseName (Some name) = is_base_name name ≡ false
-
--- directly a structure or a union without a name
-abbrev pub is_unnamed_aggregate : Option ShapeOf → Bool
-is_unnamed_aggregate (Some (body word odd members)) = true
-is_unnamed_aggregate (Some (nameless Struct)) = true
-is_unnamed_aggregate (Some (nameless Union)) = true
-is_unnamed_aggregate _ = false
+abbrev pub lacks_base_name : Name → Bool
+lacks_base_name None = true
+lacks_base_name (Some name) = not (is_base_name name)
 
 -- the member has no bit size
 abbrev pub is_whole : Bits → Bool
@@ -60,44 +116,41 @@ is_whole Absent = true
 is_whole _ = false
 
 -- a member needs a name but where its type is directly a structure or union without one and it has no bit size
-abbrev pub LacksMemberName : (ℕ → ShapeOf) → MemberOf → Name → Type 0
-LacksMemberName shapes member None =
-    (is_unnamed_aggregate (shape_of shapes member.type_at) && is_whole member.bits) ≡ false
-LacksMemberName shapes member (Some name) = is_identifier name ≡ false
+abbrev pub lacks_member_name : TypeKind → Bits → Name → Bool
+lacks_member_name k bits None = not (is_unnamed_aggregate k && is_whole bits)
+lacks_member_name k bits (Some name) = not (is_identifier name)
 
--- some member lacks a name that it needs, or has one that is no identifier
-abbrev pub HasWrongMemberName : (ℕ → ShapeOf) → List MemberOf → Type 0
-HasWrongMemberName shapes members = Any (λ (m : MemberOf). LacksMemberName shapes m m.name) members
+-- the second refusal, at an entry that is reached, by the kinds of the types that it names
+abbrev pub has_bad_name : (TypeAt → TypeKind) → ShapeOf → Bool
+has_bad_name kinds (base name) = lacks_base_name name
+has_bad_name kinds (typedef name) = lacks_name name
+has_bad_name kinds (tagged word name) = lacks_name (Some name)
+has_bad_name kinds (nameless word) = true
+has_bad_name kinds (body word odd members) =
+    list_any (λ (m : MemberOf). lacks_member_name (kinds m.type_at) m.bits m.name) members
+has_bad_name kinds (enumeration odd enumerators) = list_any (λ (e : EnumeratorOf). lacks_name e.name) enumerators
+has_bad_name kinds _ = false
 
--- some enumerator has no identifier as its name
-abbrev pub HasWrongEnumeratorName : List EnumeratorOf → Type 0
-HasWrongEnumeratorName enumerators = Any (λ (e : EnumeratorOf). LacksName e.name) enumerators
-
--- the second refusal, at an entry that is reached
+-- the same
 abbrev pub HasBadName : (ℕ → ShapeOf) → ShapeOf → Type 0
-HasBadName shapes (base name) = LacksBaseName name
-HasBadName shapes (typedef name) = LacksName name
-HasBadName shapes (tagged word name) = LacksName (Some name)
-HasBadName shapes (nameless word) = Unit {0}
-HasBadName shapes (body word odd members) = HasWrongMemberName shapes members
-HasBadName shapes (enumeration odd enumerators) = HasWrongEnumeratorName enumerators
-HasBadName shapes _ = ⊥
+HasBadName shapes shape = has_bad_name (kind_at shapes) shape ≡ true
 
 -- the same of the declared entry: its own name, and those of its body
-pub data HasBadNameItself (shapes : ℕ → ShapeOf) : SubjectOf → Type 0 where
-  typedef_name : {name : Name} {at : TypeAt} → LacksName name → HasBadNameItself shapes (typedef_subject name at)
-  variable_name : {name : Name} {at : TypeAt} → LacksName name → HasBadNameItself shapes (variable_subject name at)
-  aggregate_name : {word : TagKeyword} {name : Name} {odd : Bool} {members : List MemberOf} → LacksName name
-      → HasBadNameItself shapes (aggregate_subject word name odd members)
-  member_name : {word : TagKeyword} {name : Name} {odd : Bool} {members : List MemberOf}
-      → HasWrongMemberName shapes members → HasBadNameItself shapes (aggregate_subject word name odd members)
-  enumeration_name : {name : Name} {odd : Bool} {enumerators : List EnumeratorOf} → LacksName name
-      → HasBadNameItself shapes (enumeration_subject name odd enumerators)
-  enumerator_name : {name : Name} {odd : Bool} {enumerators : List EnumeratorOf} → HasWrongEnumeratorName enumerators
-      → HasBadNameItself shapes (enumeration_subject name odd enumerators)
-  tag_name : {word : TagKeyword} {name : Name} → LacksName name → HasBadNameItself shapes (declared_subject word name)
+abbrev pub has_own_bad_name : (TypeAt → TypeKind) → SubjectOf → Bool
+has_own_bad_name kinds (typedef_subject name at) = lacks_name name
+has_own_bad_name kinds (variable_subject name at) = lacks_name name
+has_own_bad_name kinds (tag_subject name shape) = lacks_name name || has_bad_name kinds shape
 
--- ---- types of other languages
+-- ---- kinds of entries, and types of other languages
+
+-- the declared entry is no typedef, variable, structure, union or enumeration
+abbrev pub is_other_kind : SubjectOf → Bool
+is_other_kind (tag_subject name (tagged word tag)) = false
+is_other_kind (tag_subject name (nameless word)) = false
+is_other_kind (tag_subject name (body word odd members)) = false
+is_other_kind (tag_subject name (enumeration odd enumerators)) = false
+is_other_kind (tag_subject name _) = true
+is_other_kind _ = false
 
 -- the third refusal, at an entry that is reached: of another language or unspecified, or a body with a child that C
 -- does not have
@@ -109,108 +162,71 @@ is_foreign (enumeration odd enumerators) = odd
 is_foreign _ = false
 
 -- the same of the declared entry: its body has a child that C does not have
-abbrev pub is_foreign_itself : SubjectOf → Bool
-is_foreign_itself (aggregate_subject word name odd members) = odd
-is_foreign_itself (enumeration_subject name odd enumerators) = odd
-is_foreign_itself _ = false
+abbrev pub is_own_foreign : SubjectOf → Bool
+is_own_foreign (tag_subject name shape) = is_foreign shape
+is_own_foreign _ = false
 
 -- ---- what C has no words for
 
--- the type is directly a function
-abbrev pub is_function : Option ShapeOf → Bool
-is_function (Some (function at parameters)) = true
-is_function _ = false
-
--- the type is directly an array
-abbrev pub is_array : Option ShapeOf → Bool
-is_array (Some (array counts strange at)) = true
-is_array _ = false
-
--- the type is directly a pointer
-abbrev pub is_pointer : Option ShapeOf → Bool
-is_pointer (Some (pointer at)) = true
-is_pointer _ = false
-
--- what restrict may stand over
-abbrev pub is_restrictable : Option ShapeOf → Bool
-is_restrictable (Some (pointer at)) = true
-is_restrictable (Some (typedef name)) = true
-is_restrictable _ = false
-
--- the first count is unknown
-abbrev pub starts_open : List (Option ℕ) → Bool
-starts_open (None ∷ counts) = true
-starts_open _ = false
-
--- the type is directly an array whose first count is unknown
-abbrev pub begins_open : Option ShapeOf → Bool
-begins_open (Some (array counts strange at)) = starts_open counts
-begins_open _ = false
-
 -- bits that are no number of 1 or more, or that stand with an array or a pointer
-abbrev pub IsWrongBits : Option ShapeOf → Bits → Type 0
-IsWrongBits type Absent = ⊥
-IsWrongBits type (Number n) = (is_array type || is_pointer type) ≡ true
-IsWrongBits type Wrong = Unit {0}
-
--- C has no such member: its type is void or a function, or its bit size is wrong
-pub data IsWrongMember (shapes : ℕ → ShapeOf) (member : MemberOf) : Type 0 where
-  void_member : IsVoidLike shapes member.type_at → IsWrongMember shapes member
-  function_member : is_function (shape_of shapes member.type_at) ≡ true → IsWrongMember shapes member
-  bit_member : IsWrongBits (shape_of shapes member.type_at) member.bits → IsWrongMember shapes member
-
--- C has no such array: a child, a stride or a count that C has no words for, or elements that are void, functions or
--- arrays whose first count is unknown
-pub data IsWrongArray (shapes : ℕ → ShapeOf) (counts : List (Option ℕ)) (strange : Bool)
-    (element : TypeAt) : Type 0 where
-  odd_child_or_stride : strange ≡ true → IsWrongArray shapes counts strange element
-  count : is_miscounted counts ≡ true → IsWrongArray shapes counts strange element
-  void_element : IsVoidLike shapes element → IsWrongArray shapes counts strange element
-  function_element : is_function (shape_of shapes element) ≡ true → IsWrongArray shapes counts strange element
-  open_element : begins_open (shape_of shapes element) ≡ true → IsWrongArray shapes counts strange element
-
--- C has no such function: its result is an array or a function, a parameter is void, or unspecified parameters are not
--- last or are alone
-pub data IsWrongFunction (shapes : ℕ → ShapeOf) (returned : TypeAt) : Option (List Parameter) → Type 0 where
-  array_result : {parameters : Option (List Parameter)} → is_array (shape_of shapes returned) ≡ true
-      → IsWrongFunction shapes returned parameters
-  function_result : {parameters : Option (List Parameter)} → is_function (shape_of shapes returned) ≡ true
-      → IsWrongFunction shapes returned parameters
-  void_parameter : {parameters : List Parameter} → Any (IsVoidLike shapes) (parameter_types parameters)
-      → IsWrongFunction shapes returned (Some parameters)
-  misplaced : {parameters : List Parameter} → is_misplaced parameters ≡ true
-      → IsWrongFunction shapes returned (Some parameters)
-
--- a row of qualifiers that begins with this one
-pub data IsWrongRow (shapes : ℕ → ShapeOf) (q : Qualifier) (at : TypeAt) : Type 0 where
-  over_array : (under : TypeAt) → StandsUnder shapes at under → is_array (shape_of shapes under) ≡ true
-      → IsWrongRow shapes q at
-  over_function : (under : TypeAt) → StandsUnder shapes at under → is_function (shape_of shapes under) ≡ true
-      → IsWrongRow shapes q at
-  restrict : (under : TypeAt) → q ≡ Restrict → StandsUnder shapes at under
-      → is_restrictable (shape_of shapes under) ≡ false → IsWrongRow shapes q at
+abbrev pub is_wrong_bits : TypeKind → Bits → Bool
+is_wrong_bits k Absent = false
+is_wrong_bits k (Number n) = is_address k
+is_wrong_bits k Wrong = true
 
 -- the enumerator has no number as its value
 abbrev pub lacks_value : EnumeratorOf → Bool
 lacks_value e = not (is_some e.value)
 
 -- C has no such enumeration: it has no enumerator, or one without a value
-abbrev pub IsWrongEnumeration : List EnumeratorOf → Type 0
-IsWrongEnumeration enumerators = (enumerators ≡ []) ⊎ (list_any lacks_value enumerators ≡ true)
+abbrev pub is_wrong_enumeration : List EnumeratorOf → Bool
+is_wrong_enumeration [] = true
+is_wrong_enumeration enumerators = list_any lacks_value enumerators
+
+-- by the kinds of the types that it names, C has no such array: a child, a stride or a count that C has no words for,
+-- or elements that are functions or arrays whose first count is unknown; no such function: its result is an array or a
+-- function, or unspecified parameters are not last or are alone; no such body: a member is a function, or its bit size
+-- is wrong; or no such enumeration
+abbrev pub is_wrong : (TypeAt → TypeKind) → ShapeOf → Bool
+is_wrong kinds (array counts strange at) =
+    strange || (is_miscounted counts || (is_function (kinds at) || is_open (kinds at)))
+is_wrong kinds (function at None) = is_bracketed (kinds at)
+is_wrong kinds (function at (Some parameters)) = is_bracketed (kinds at) || is_misplaced parameters
+is_wrong kinds (body word odd members) =
+    list_any (λ (m : MemberOf). is_function (kinds m.type_at) || is_wrong_bits (kinds m.type_at) m.bits) members
+is_wrong kinds (enumeration odd enumerators) = is_wrong_enumeration enumerators
+is_wrong kinds _ = false
+
+-- the types that cannot be void: those of elements, of parameters and of members
+abbrev pub object_types : ShapeOf → List TypeAt
+object_types (array counts strange at) = at ∷ []
+object_types (function at (Some parameters)) = parameter_types parameters
+object_types (body word odd members) = member_types members
+object_types _ = []
+
+-- a qualifier cannot stand over an array or a function, and restrict only over what may have it
+abbrev pub is_wrong_row : Qualifier → TypeKind → Bool
+is_wrong_row Restrict k = not (is_restrictable k)
+is_wrong_row _ k = is_bracketed k
+
+-- an enumeration that is only declared
+abbrev pub is_declared_enumeration : ShapeOf → Bool
+is_declared_enumeration (tagged Enum name) = true
+is_declared_enumeration (nameless Enum) = true
+is_declared_enumeration _ = false
 
 -- the fourth refusal, at an entry that is reached
-abbrev pub IsUnspeakable : (ℕ → ShapeOf) → ShapeOf → Type 0
-IsUnspeakable shapes (array counts strange at) = IsWrongArray shapes counts strange at
-IsUnspeakable shapes (function at parameters) = IsWrongFunction shapes at parameters
-IsUnspeakable shapes (qualified q at) = IsWrongRow shapes q at
-IsUnspeakable shapes (body word odd members) = Any (IsWrongMember shapes) members
-IsUnspeakable shapes (enumeration odd enumerators) = IsWrongEnumeration enumerators
-IsUnspeakable shapes _ = ⊥
+pub data IsUnspeakable (shapes : ℕ → ShapeOf) : ShapeOf → Type 0 where
+  wrong : {shape : ShapeOf} → is_wrong (kind_at shapes) shape ≡ true → IsUnspeakable shapes shape
+  void_object : {shape : ShapeOf} → Any (IsVoidLike shapes) (object_types shape) → IsUnspeakable shapes shape
+  row : {q : Qualifier} {at : TypeAt} (under : TypeAt) → StandsUnder shapes at under
+      → is_wrong_row q (kind_at shapes under) ≡ true → IsUnspeakable shapes (qualified q at)
 
--- the same at the declared entry
-abbrev pub IsUnspeakableItself : (ℕ → ShapeOf) → SubjectOf → Type 0
-IsUnspeakableItself shapes (variable_subject name at) = IsVoidLike shapes at
-IsUnspeakableItself shapes (declared_subject Enum name) = Unit {0}
-IsUnspeakableItself shapes (aggregate_subject word name odd members) = Any (IsWrongMember shapes) members
-IsUnspeakableItself shapes (enumeration_subject name odd enumerators) = IsWrongEnumeration enumerators
-IsUnspeakableItself shapes _ = ⊥
+-- the same at the declared entry: a variable cannot be void, and an enumeration cannot be only declared
+pub data IsOwnUnspeakable (shapes : ℕ → ShapeOf) : SubjectOf → Type 0 where
+  void_variable : {name : Name} {at : TypeAt} → IsVoidLike shapes at
+      → IsOwnUnspeakable shapes (variable_subject name at)
+  unspeakable : {name : Name} {shape : ShapeOf} → IsUnspeakable shapes shape
+      → IsOwnUnspeakable shapes (tag_subject name shape)
+  declared_enumeration : {name : Name} {shape : ShapeOf} → is_declared_enumeration shape ≡ true
+      → IsOwnUnspeakable shapes (tag_subject name shape)

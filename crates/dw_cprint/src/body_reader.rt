@@ -4,11 +4,13 @@ ghost use Rattle.std.specs.Prelude.{◌≡◌, ◌<◌, length, IfOk, All, map, 
 ghost use Rattle.std.specs.List.{list_any};
 ghost use Rattle.dw_image.specs.Images.{entries_in};
 ghost use Rattle.dw_cprint.specs.EntryShapes.{has_tag, is_plain_member, member_at, is_enumerator, enumerator_at};
-ghost use Rattle.dw_cprint.specs.Shapes.{view_member, view_enumerator};
+ghost use Rattle.dw_cprint.specs.EntryShapes.{body_in};
+ghost use Rattle.dw_cprint.specs.Regular.{IsRegular};
+ghost use Rattle.dw_cprint.specs.Shapes.{view_member, view_enumerator, view_shape};
 
-use crate::look_ups::{bits_at, declared_at, integer_at, tag_at, type_at};
-use crate::shape::{Enumerator, Member};
-use crate::source::Source;
+use crate::shape::{Enumerator, Member, Shape};
+use crate::source::{Source, bits_at, children_at, declared_at, integer_at, tag_at, type_at};
+use crate::words::TagKeyword;
 use dw_entries::Tag;
 use dw_entries::constants::*;
 use dw_image::{EntryId, Image};
@@ -26,7 +28,7 @@ pub fn has_child(image: &Image<'_>, children: &[EntryId], one: Tag, another: Tag
 }
 
 /// Whether one of these children cannot be in a body of C: an inheritance or a variant part.
-pub fn has_odd_child(image: &Image<'_>, children: &[EntryId]) -> bool
+fn has_odd_child(image: &Image<'_>, children: &[EntryId]) -> bool
     requires { All (λ child. child < length (entries_in image.now)) children.now }
     ensures { result ≡ list_any (has_tag image.now 0x1c 0x33) children.now }
 {
@@ -54,7 +56,7 @@ fn is_plain_member(image: &Image<'_>, id: EntryId) -> bool
 }
 
 /// The plain members among these children.
-pub fn members_of<'a>(
+fn members_of<'a>(
     alloc: Global,
     source: &Source<'_, 'a>,
     children: &[EntryId],
@@ -92,7 +94,7 @@ fn is_enumerator(image: &Image<'_>, id: EntryId) -> bool
 }
 
 /// The enumerators among these children.
-pub fn enumerators_of<'a>(
+fn enumerators_of<'a>(
     alloc: Global,
     source: &Source<'_, 'a>,
     children: &[EntryId],
@@ -108,4 +110,23 @@ pub fn enumerators_of<'a>(
         }
     }
     Ok(enumerators)
+}
+
+/// A structure, union or enumeration with its body.
+pub fn body_at<'a>(
+    alloc: Global,
+    source: &Source<'_, 'a>,
+    id: EntryId,
+    word: TagKeyword,
+) -> Result<Shape<'a>, AllocError>
+    requires { id < length (entries_in source.now.image.now) }
+    ensures shape { IfOk result (λ shape. view_shape shape ≡ body_in source.now.image.now id word) }
+    ensures fit { IfOk result (λ shape. IsRegular (view_shape shape)) }
+{
+    let children = children_at(alloc, source.image, id)?;
+    let odd = has_odd_child(source.image, &children);
+    match word {
+        TagKeyword::Enum => Ok(Shape::Enumeration(odd, enumerators_of(alloc, source, &children)?)),
+        _ => Ok(Shape::Body(word, odd, members_of(alloc, source, &children)?)),
+    }
 }

@@ -1,28 +1,20 @@
 //! C declarations of entries: what is printed, what is refused and why, and the listing of all named types.
 #![tactic(auto)]
 
-mod bad_names;
 mod body_reader;
 mod declaring;
-mod draft;
 mod fault;
-mod faults;
-mod kinds;
 mod laws;
-mod least;
 mod listing;
-mod longest;
-mod look_ups;
 mod names;
-mod pieces;
 mod reaching;
+mod refusals;
 mod shape;
 mod shape_reader;
 mod source;
-mod subject_reader;
 mod summary;
 mod survey;
-mod unspeakable;
+mod text;
 mod words;
 mod writing;
 

@@ -1,7 +1,7 @@
 //! The listing of all named types.
 
-ghost use Rattle.std.specs.Prelude.{◌≡◌, ◌<◌, ◌++◌, length, slice_index, map, flat_map};
-ghost use Rattle.std.specs.Prelude.{All, AllPairs, IsPermutation, IfOk, OnOk};
+ghost use Rattle.std.specs.Prelude.{◌≡◌, ◌<◌, ◌++◌, length, slice_index, map, flat_map, All, AllPairs, IsPermutation};
+ghost use Rattle.std.specs.Prelude.{IfOk, OnOk};
 ghost use Rattle.dw_image.specs.Images.{entries_in};
 ghost use Rattle.dw_cprint.specs.EntryShapes.{subject_in};
 ghost use Rattle.dw_cprint.specs.Judgements.{IsAdded};
@@ -11,14 +11,12 @@ ghost use Rattle.dw_cprint.specs.Shapes.{view_subject};
 ghost use Rattle.dw_cprint.specs.Steps.{first_steps};
 ghost use Rattle.dw_cprint.specs.Surveys.{BySurvey};
 
-use crate::draft::Draft;
 use crate::fault::PrintFault;
-use crate::longest::{longest_at, longest_rows};
-use crate::look_ups::{declared_at, has_name, tag_at};
 use crate::shape::Subject;
-use crate::source::{Source, Strings};
-use crate::subject_reader::subject_of;
-use crate::survey::Survey;
+use crate::shape_reader::subject_of;
+use crate::source::{Source, Strings, declared_at, has_name, tag_at};
+use crate::survey::{Survey, longest_at, longest_rows};
+use crate::text::Draft;
 use crate::words::put_eight_digits;
 use dw_entries::constants::*;
 use dw_image::{EntryId, Image, NoMemory};

@@ -127,8 +127,7 @@ fn put_declared_types(types: &mut Vec<TypeAt>, subject: &Subject<'_>) -> Result<
     match subject {
         Subject::Typedef(_, at) => types.push(*at)?,
         Subject::Variable(_, at) => types.push(*at)?,
-        Subject::Aggregate(_, _, _, members) => put_member_types(types, members)?,
-        _ => {}
+        Subject::Tag(_, shape) => put_reached_types(types, shape)?,
     }
     Ok(())
 }

@@ -1,20 +1,18 @@
-//! The shapes of entries, read from an image.
+//! The shapes of entries, and the entry that is declared, read from an image.
 
 ghost use Rattle.std.specs.Prelude.{◌≡◌, ◌<◌, length, IfOk, All, map, filter};
 ghost use Rattle.std.specs.List.{list_any};
 ghost use Rattle.dw_image.specs.Images.{entries_in};
-ghost use Rattle.dw_cprint.specs.LookUps.{children_at, count_in, tag_at, type_at, name_at};
+ghost use Rattle.dw_cprint.specs.LookUps.{count_in, type_at};
 ghost use Rattle.dw_cprint.specs.EntryShapes.{is_parameter, parameter_at, has_stride, is_strided_dimension};
-ghost use Rattle.dw_cprint.specs.EntryShapes.{is_dimension, parameters_of, aggregate_shape, enumeration_shape};
-ghost use Rattle.dw_cprint.specs.EntryShapes.{counts_in, is_strange, parameters_in, shape_in, shape_by};
-ghost use Rattle.dw_cprint.specs.Legible.{IsAggregate};
-ghost use Rattle.dw_cprint.specs.Regular.{IsRegular};
-ghost use Rattle.dw_cprint.specs.Shapes.{view_shape, array, function, Enum};
+ghost use Rattle.dw_cprint.specs.EntryShapes.{is_dimension, parameters_of, tag_shape, declared_name, tag_in, counts_in};
+ghost use Rattle.dw_cprint.specs.EntryShapes.{is_strange, parameters_in, shape_in, shape_by, subject_by, subject_in};
+ghost use Rattle.dw_cprint.specs.Regular.{IsRegular, IsRegularSubject};
+ghost use Rattle.dw_cprint.specs.Shapes.{view_shape, array, function, view_name, view_subject};
 
-use crate::body_reader::{enumerators_of, has_child, has_odd_child, members_of};
-use crate::look_ups::{children_at, count_at, declared_at, flag_at, has_at, tag_at, type_at};
-use crate::shape::{Parameter, Shape};
-use crate::source::Source;
+use crate::body_reader::{body_at, has_child};
+use crate::shape::{Name, Parameter, Shape, Subject};
+use crate::source::{Source, children_at, count_at, declared_at, flag_at, has_at, tag_at, type_at};
 use crate::words::{Qualifier, TagKeyword};
 use dw_entries::Tag;
 use dw_entries::constants::*;
@@ -142,49 +140,26 @@ fn function_shape<'a>(
     Ok(Shape::Function(type_at(image, id), Some(parameters)))
 }
 
-/// The shape of a structure or union.
-fn aggregate_shape<'a>(
+/// A structure, union or enumeration by a name; without one as it is declared, or with its body.
+fn tag_shape<'a>(
     alloc: Global,
     source: &Source<'_, 'a>,
     id: EntryId,
     word: TagKeyword,
+    name: Name<'a>,
 ) -> Result<Shape<'a>, AllocError>
     requires { id < length (entries_in source.now.image.now) }
     ensures shape { IfOk result (λ shape. view_shape shape
-        ≡ aggregate_shape source.now.image.now id word (name_at source.now.image.now id)) }
-    ensures fit { IfOk result (λ shape. IsAggregate word → IsRegular (view_shape shape)) }
+        ≡ tag_shape source.now.image.now id word (view_name name.entry)) }
+    ensures fit { IfOk result (λ shape. IsRegular (view_shape shape)) }
 {
-    if let Some(name) = source.name(id) {
+    if let Some(name) = name {
         return Ok(Shape::Tagged(word, name));
     }
     if declared_at(source.image, id) {
         return Ok(Shape::Nameless(word));
     }
-    let children = children_at(alloc, source.image, id)?;
-    let members = members_of(alloc, source, &children)?;
-    Ok(Shape::Body(word, has_odd_child(source.image, &children), members))
-}
-
-/// The shape of an enumeration.
-fn enumeration_shape<'a>(
-    alloc: Global,
-    source: &Source<'_, 'a>,
-    id: EntryId,
-) -> Result<Shape<'a>, AllocError>
-    requires { id < length (entries_in source.now.image.now) }
-    ensures shape { IfOk result (λ shape. view_shape shape
-        ≡ enumeration_shape source.now.image.now id (name_at source.now.image.now id)) }
-    ensures fit { IfOk result (λ shape. IsRegular (view_shape shape)) }
-{
-    if let Some(name) = source.name(id) {
-        return Ok(Shape::Tagged(TagKeyword::Enum, name));
-    }
-    if declared_at(source.image, id) {
-        return Ok(Shape::Nameless(TagKeyword::Enum));
-    }
-    let children = children_at(alloc, source.image, id)?;
-    let enumerators = enumerators_of(alloc, source, &children)?;
-    Ok(Shape::Enumeration(has_odd_child(source.image, &children), enumerators))
+    body_at(alloc, source, id, word)
 }
 
 /// The shape of an entry with a tag.
@@ -214,9 +189,9 @@ fn shape_by<'a>(
         DW_TAG_pointer_type => Ok(Shape::Pointer(type_at(source.image, id))),
         DW_TAG_array_type => array_shape(alloc, source.image, id),
         DW_TAG_subroutine_type => function_shape(alloc, source.image, id),
-        DW_TAG_structure_type => aggregate_shape(alloc, source, id, TagKeyword::Struct),
-        DW_TAG_union_type => aggregate_shape(alloc, source, id, TagKeyword::Union),
-        DW_TAG_enumeration_type => enumeration_shape(alloc, source, id),
+        DW_TAG_structure_type => tag_shape(alloc, source, id, TagKeyword::Struct, source.name(id)),
+        DW_TAG_union_type => tag_shape(alloc, source, id, TagKeyword::Union, source.name(id)),
+        DW_TAG_enumeration_type => tag_shape(alloc, source, id, TagKeyword::Enum, source.name(id)),
         _ => Ok(if tag.is_type() {
             Shape::Foreign
         } else {
@@ -237,4 +212,66 @@ pub fn shape_of<'a>(
     ensures fit { IfOk result (λ shape. IsRegular (view_shape shape)) }
 {
     shape_by(alloc, source, id, tag_at(source.image, id))
+}
+
+/// The name of an entry that is only a declaration.
+fn declared_name<'a>(source: &Source<'_, 'a>, id: EntryId) -> Name<'a>
+    requires { id < length (entries_in source.now.image.now) }
+    ensures { view_name result ≡ declared_name source.now.image.now id }
+{
+    if declared_at(source.image, id) {
+        source.name(id)
+    } else {
+        None
+    }
+}
+
+/// A structure, union or enumeration that is declared to C.
+fn tag_subject<'a>(
+    alloc: Global,
+    source: &Source<'_, 'a>,
+    id: EntryId,
+    word: TagKeyword,
+) -> Result<Subject<'a>, AllocError>
+    requires { id < length (entries_in source.now.image.now) }
+    ensures subject { IfOk result (λ subject. view_subject subject ≡ tag_in source.now.image.now id word) }
+    ensures fit { IfOk result (λ subject. IsRegularSubject (view_subject subject)) }
+{
+    let shape = tag_shape(alloc, source, id, word, declared_name(source, id))?;
+    Ok(Subject::Tag(source.name(id), shape))
+}
+
+/// What is declared at an entry with a tag.
+fn subject_by<'a>(
+    alloc: Global,
+    source: &Source<'_, 'a>,
+    id: EntryId,
+    tag: Tag,
+) -> Result<Subject<'a>, AllocError>
+    requires { id < length (entries_in source.now.image.now) }
+    ensures subject { IfOk result (λ subject. view_subject subject ≡ subject_by source.now.image.now id tag) }
+    ensures fit { IfOk result (λ subject. IsRegularSubject (view_subject subject)) }
+{
+    match tag {
+        DW_TAG_typedef => Ok(Subject::Typedef(source.name(id), type_at(source.image, id))),
+        DW_TAG_variable => Ok(Subject::Variable(source.name(id), type_at(source.image, id))),
+        DW_TAG_structure_type => tag_subject(alloc, source, id, TagKeyword::Struct),
+        DW_TAG_union_type => tag_subject(alloc, source, id, TagKeyword::Union),
+        DW_TAG_enumeration_type => tag_subject(alloc, source, id, TagKeyword::Enum),
+        _ => Ok(Subject::Tag(None, Shape::Other)),
+    }
+}
+
+/// What is declared at an entry.
+#[tactic(auto, unfolding(crate::specs::EntryShapes::subject_in))]
+pub fn subject_of<'a>(
+    alloc: Global,
+    source: &Source<'_, 'a>,
+    id: EntryId,
+) -> Result<Subject<'a>, AllocError>
+    requires { id < length (entries_in source.now.image.now) }
+    ensures subject { IfOk result (λ subject. view_subject subject ≡ subject_in source.now.image.now id) }
+    ensures fit { IfOk result (λ subject. IsRegularSubject (view_subject subject)) }
+{
+    subject_by(alloc, source, id, tag_at(source.image, id))
 }

@@ -1,26 +1,27 @@
 //! What some declarations need, found once for all of them: what they reach, what of that reaches a cycle, and what is
 //! known of the rest.
 
-ghost use Rattle.std.specs.Prelude.{◌≡◌, ◌<◌, length, map, nat_le, All, IfOk};
+ghost use Rattle.std.specs.Prelude.{◌≡◌, ◌<◌, length, map, nat_le, All, IfOk, ℕ, ◌+◌, ◌^◌, slice_index};
 ghost use Rattle.std.specs.List.{list_any};
+ghost use Rattle.dw_types.specs.Cycles.{AreClear};
+ghost use Rattle.dw_types.specs.Graphs.{step_at, steps_of};
 ghost use Rattle.dw_image.specs.Images.{entries_in};
 ghost use Rattle.dw_cprint.specs.EntryShapes.{shape_in};
 ghost use Rattle.dw_cprint.specs.Judgements.{IsJudgement, IsRefusalBelow};
 ghost use Rattle.dw_cprint.specs.Shapes.{view_subject};
 ghost use Rattle.dw_cprint.specs.Steps.{first_steps, roots_of, types_declared};
 ghost use Rattle.dw_cprint.specs.Surveys.{BySurvey, IsSurveyOf, depth_at, lacks_summary};
+ghost use Rattle.dw_cprint.specs.Wrong.{is_other_kind};
+ghost use Rattle.dw_cprint.specs.LongestRows.{AreLongest, IsAbove};
 
-use crate::draft::{Draft, LIMIT};
 use crate::fault::PrintFault;
-use crate::faults::subject_faults;
-use crate::least::least_declared;
-use crate::longest::{longest_at, longest_rows};
 use crate::reaching::{all_types, declared_types, reach};
 use crate::shape::{Shape, Subject, TypeAt};
 use crate::source::Source;
-use crate::summary::{Summaries, summarize};
+use crate::summary::{Summaries, least_declared, subject_faults, summarize};
+use crate::text::{Draft, LIMIT};
 use dw_image::Image;
-use dw_types::{Numbers, clear_nodes};
+use dw_types::{Numbers, Order, StepGraph, clear_nodes};
 use std::alloc::{AllocError, Global};
 
 /// The most spelling steps of a path that is printed.
@@ -33,6 +34,20 @@ pub struct Survey<'a> {
     pub summaries: Summaries,
     /// How many steps the longest path from each node has that reaches no cycle.
     depths: Numbers,
+}
+
+/// Whether the declared entry is no typedef, variable, structure, union or enumeration.
+fn is_other_kind(subject: &Subject<'_>) -> bool
+    ensures { result ≡ is_other_kind (view_subject subject.now) }
+{
+    match subject {
+        Subject::Typedef(_, _) | Subject::Variable(_, _) => false,
+        Subject::Tag(_, shape) => match shape {
+            Shape::Tagged(_, _) | Shape::Nameless(_) => false,
+            Shape::Body(_, _, _) | Shape::Enumeration(_, _) => false,
+            _ => true,
+        },
+    }
 }
 
 impl<'a> Survey<'a> {
@@ -94,21 +109,14 @@ impl<'a> Survey<'a> {
         ensures { BySurvey self.now (first_steps (view_subject subject.now)) (λ shapes.
             IsRefusalBelow 6 shapes (view_subject subject.now) result) }
     {
-        if let Subject::Other = subject {
+        if is_other_kind(subject) {
             return Some(PrintFault::NotPrintable);
         }
         if self.reaches_cycle(types) {
             return Some(PrintFault::NotPrintable);
         }
-        let faults = subject_faults(&self.summaries, subject, types);
-        if faults.bad_name {
-            return Some(PrintFault::BadName);
-        }
-        if faults.foreign {
-            return Some(PrintFault::Foreign);
-        }
-        if faults.unspeakable {
-            return Some(PrintFault::Unspeakable);
+        if let Some(fault) = subject_faults(&self.summaries, subject, types).first() {
+            return Some(fault);
         }
         if self.is_deep(types) {
             return Some(PrintFault::TooDeep);
@@ -139,5 +147,52 @@ impl<'a> Survey<'a> {
             return Ok(Some(PrintFault::TooLong));
         }
         Ok(None)
+    }
+}
+
+/// One more than the largest count at the steps of a node, and 0 if it has none.
+fn one_above<G: StepGraph>(graph: &G, counts: &Numbers, node: usize) -> usize
+    requires node { node < length (G.graph graph.now) }
+    requires counts { length counts.now ≡ length (G.graph graph.now) }
+    requires fits { (k : ℕ) → k < length (steps_of (G.graph graph.now) node)
+        → slice_index counts.now (step_at (G.graph graph.now) node k) + 1 < 2 ^ 64 }
+    ensures { IsAbove (G.graph graph.now) counts.now node result }
+{
+    let mut most = 0;
+    for k in 0..graph.steps(node) {
+        let count = counts.get(graph.step(node, k)) + 1;
+        if most < count {
+            most = count;
+        }
+    }
+    most
+}
+
+/// How many steps the longest row from each clear node has. Each clear node comes after those that its steps lead to.
+pub fn longest_rows<G: StepGraph>(
+    alloc: Global,
+    graph: &G,
+    clear: &Order,
+) -> Result<Numbers, AllocError>
+    requires { AreClear (G.graph graph.now) clear.now.by_rank }
+    ensures { IfOk result (λ counts. AreLongest (G.graph graph.now) clear.now.by_rank (slice_index counts)) }
+{
+    let mut counts = Numbers::zeros(alloc, graph.nodes())?;
+    for rank in 0..clear.count() {
+        let node = clear.node(rank);
+        let most = one_above(graph, &counts, node);
+        counts.set(alloc, node, most)?;
+    }
+    Ok(counts)
+}
+
+/// The count of a node; 0 where there is none.
+pub fn longest_at(counts: &Numbers, node: usize) -> usize
+    ensures { result ≡ slice_index counts.now node }
+{
+    if node < counts.len() {
+        counts.get(node)
+    } else {
+        0
     }
 }

@@ -1,24 +1,22 @@
 //! The text of a type: what is before its declarator, and what is after it.
 
-ghost use Rattle.std.specs.Prelude.{◌≡◌, ◌<◌, ◌||◌, Some, None, map, OnOk, IfSome, MatchOption};
+ghost use Rattle.std.specs.Prelude.{◌≡◌, ◌<◌, Some, None, map, OnOk, IfSome, MatchOption};
 ghost use Rattle.dw_cprint.specs.Declarations.{term_by};
 ghost use Rattle.dw_cprint.specs.Kept.{kept, kept_term, WritesBefore, WritesAfter, WritesOpened, WritesClosed};
 ghost use Rattle.dw_cprint.specs.Kept.{WritesNamed, WritesCore, WritesMember, WritesMembers, WritesParameter};
-ghost use Rattle.dw_cprint.specs.Kept.{WritesParameters, WritesDeclaration};
-ghost use Rattle.dw_cprint.specs.Shapes.{other, view_name, view_shape, view_subject, view_member};
-ghost use Rattle.dw_cprint.specs.Wrong.{is_array, is_function, shape_of};
+ghost use Rattle.dw_cprint.specs.Kept.{WritesParameters};
+ghost use Rattle.dw_cprint.specs.Shapes.{other, view_name, view_shape, view_member};
+ghost use Rattle.dw_cprint.specs.Wrong.{is_bracketed, kind_at};
 
-use crate::draft::Draft;
-use crate::pieces::{
-    put_bits, put_counts, put_enumerators, put_gap, put_joined, put_name, put_qualifiers, put_tag,
-};
-use crate::shape::{Member, Name, Parameter, Shape, Subject, TypeAt};
+use crate::refusals::kind_of;
+use crate::shape::{Member, Name, Parameter, Shape, TypeAt};
 use crate::survey::Survey;
-use crate::words::{Qualifier, TagKeyword};
+use crate::text::{
+    Draft, put_bits, put_counts, put_enumerators, put_gap, put_joined, put_name, put_qualifiers,
+    put_tag,
+};
+use crate::words::Qualifier;
 use std::alloc::{AllocError, Global};
-
-/// The most types on a path that is printed: 64 entries, and void after the last.
-const DEPTH: usize = 65;
 
 impl<'a> Survey<'a> {
     /// The shape that is kept of an entry.
@@ -47,15 +45,14 @@ impl<'a> Survey<'a> {
 
     /// Whether brackets after a declarator of the type bind before a star in front of it.
     fn is_bracketed(&self, at: TypeAt) -> bool
-        ensures { result ≡ (is_array (shape_of (kept self.now) at) || is_function (shape_of (kept self.now) at)) }
+        ensures { result ≡ is_bracketed (kind_at (kept self.now) at) }
     {
         let Some(entry) = at else {
             return false;
         };
         match self.kept_shape(entry) {
-            Some(Shape::Array(_, _, _)) => true,
-            Some(Shape::Function(_, _)) => true,
-            _ => false,
+            Some(shape) => kind_of(shape).is_bracketed(),
+            None => false,
         }
     }
 
@@ -81,7 +78,7 @@ impl<'a> Survey<'a> {
 
     /// A type with a declarator that is a name, or with none.
     #[cycle(writing)]
-    fn put_named(
+    pub fn put_named(
         &self,
         alloc: Global,
         out: &mut Draft,
@@ -114,7 +111,7 @@ impl<'a> Survey<'a> {
 
     /// The members of a body, in braces.
     #[cycle(writing)]
-    fn put_members(
+    pub fn put_members(
         &self,
         alloc: Global,
         out: &mut Draft,
@@ -296,46 +293,6 @@ impl<'a> Survey<'a> {
                 }
             },
             _ => Ok(()),
-        }
-    }
-
-    /// A declaration.
-    #[tactic(auto, unfolding(crate::specs::Declarations::declaration_of))]
-    pub fn put_declaration(
-        &self,
-        alloc: Global,
-        out: &mut Draft,
-        subject: &Subject<'a>,
-    ) -> Result<(), AllocError>
-        ensures { OnOk result (WritesDeclaration self.now (view_subject subject.now) out.old out.new) }
-    {
-        match subject {
-            Subject::Typedef(name, at) => {
-                out.put(b"typedef ")?;
-                self.put_named(alloc, out, *at, *name, DEPTH)?;
-                out.put(b";")
-            }
-            Subject::Variable(name, at) => {
-                self.put_named(alloc, out, *at, *name, DEPTH)?;
-                out.put(b";")
-            }
-            Subject::Aggregate(tag, name, _, members) => {
-                put_tag(out, *tag, *name)?;
-                out.put(b" ")?;
-                self.put_members(alloc, out, members, DEPTH)?;
-                out.put(b";")
-            }
-            Subject::Enumeration(name, _, enumerators) => {
-                put_tag(out, TagKeyword::Enum, *name)?;
-                out.put(b" ")?;
-                put_enumerators(out, enumerators)?;
-                out.put(b";")
-            }
-            Subject::Declared(tag, name) => {
-                put_tag(out, *tag, *name)?;
-                out.put(b";")
-            }
-            Subject::Other => Ok(()),
         }
     }
 }

@@ -5,7 +5,7 @@ use Rattle.dw_cprint.specs.declared.shape.Enumerator.{Enumerator}
 use Rattle.dw_cprint.specs.EntryShapes.{enumerator_at}
 use Rattle.dw_cprint.specs.EntryShapes.{is_enumerator}
 use Rattle.dw_cprint.specs.Shapes.{view_enumerator}
-use Rattle.dw_cprint.proofs.ShapeLemmas.{taken, passed, seen}
+use Rattle.dw_cprint.proofs.LookUpLemmas.{taken, passed, seen}
 use Rattle.dw_cprint.proofs.body_reader.enumerators_of.Goals.{then-is_enumerator+in_ok-push, else-is_enumerator}
 use Rattle.dw_cprint.proofs.body_reader.enumerators_of.Goals as goal
 

@@ -5,7 +5,7 @@ use Rattle.dw_cprint.specs.declared.shape.Member.{Member}
 use Rattle.dw_cprint.specs.EntryShapes.{member_at}
 use Rattle.dw_cprint.specs.EntryShapes.{is_plain_member}
 use Rattle.dw_cprint.specs.Shapes.{view_member}
-use Rattle.dw_cprint.proofs.ShapeLemmas.{taken, passed, seen}
+use Rattle.dw_cprint.proofs.LookUpLemmas.{taken, passed, seen}
 use Rattle.dw_cprint.proofs.body_reader.members_of.Goals.{then-is_plain_member+in_ok-push, else-is_plain_member}
 use Rattle.dw_cprint.proofs.body_reader.members_of.Goals as goal
 

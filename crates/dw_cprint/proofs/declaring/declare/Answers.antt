@@ -12,7 +12,7 @@ use Rattle.dw_cprint.specs.Surveys.{AreAmong, BySurvey, IsSurveyOf}
 use Rattle.dw_cprint.specs.Writing.{written}
 use Rattle.dw_cprint.specs.declared.shape.Subject.{Subject}
 use Rattle.dw_cprint.specs.declared.survey.Survey.{Survey}
-use Rattle.dw_cprint.proofs.KeptLemmas.{printed-one, survey-regular}
+use Rattle.dw_cprint.proofs.SameLemmas.{printed-one, survey-regular}
 use Rattle.dw_cprint.proofs.WithinLemmas.{roots_within}
 use Rattle.dw_cprint.proofs.declaring.declare.Goals as goal
 

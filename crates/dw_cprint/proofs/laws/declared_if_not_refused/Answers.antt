@@ -1,7 +1,7 @@
 use Rattle.std.proofs.Common.{arith}
 use Rattle.dw_cprint.specs.Declarations.{declaration_of}
 use Rattle.dw_cprint.specs.Refusals.{TooDeep, deep}
-use Rattle.dw_cprint.proofs.DeclaredLemmas.{subject_some, subject_legible}
+use Rattle.dw_cprint.proofs.LegibleLemmas.{subject_some, subject_legible}
 use Rattle.dw_cprint.proofs.TextLaws.{one_text}
 use Rattle.dw_cprint.proofs.laws.declared_if_not_refused.Goals as goal
 

@@ -3,7 +3,7 @@ use Rattle.std.specs.Global.{Global}
 use Rattle.dw_image.specs.Images.{entries_in}
 use Rattle.dw_cprint.specs.EntryShapes.{subject_in}
 use Rattle.dw_cprint.specs.Listings.{is_named_type}
-use Rattle.dw_cprint.proofs.NamedTypeLemmas.{named_below, named-done, named-step, nth-number, nth-past}
+use Rattle.dw_cprint.proofs.ListingLemmas.{named_below, named-done, named-step, nth-number, nth-past}
 use Rattle.dw_cprint.proofs.listing.named_types.Goals as goal
 use Rattle.dw_cprint.proofs.listing.named_types.Goals.{in-Some+then-is_named_type+in_ok-push}
 use Rattle.dw_cprint.proofs.listing.named_types.Goals.{in-Some+else-is_named_type, in_default}

@@ -20,6 +20,5 @@ returns-then-is_type_word t c =
 
 pub returns-else-is_type_word : goal.returns-else-is_type_word
 returns-else-is_type_word t c =
-    let name = c.args.name.now in
-    let split = words-split c.args.most name c.in-Some.end c.if-most-eq0.false (sym c.in-Some.ensures) in
-    c.if-is_type_word.false ∙ sym (split ∙ ap (λ (b : Bool). b && is_some (words_of (c.args.most - 1) (parts_of (drop (c.in-Some.end + 1) name)))) (sym c.if-is_type_word.ensures))
+    let split = words-split c.args.most c.args.name.now c.in-Some.end c.if-most-eq0.false (sym c.in-Some.ensures) in
+    c.if-is_type_word.false ∙ sym (split ∙ ap (λ (b : Bool). b && is_some (words_of (c.args.most - 1) (parts_of (drop (c.in-Some.end + 1) c.args.name.now)))) (sym c.if-is_type_word.ensures))

@@ -3,7 +3,7 @@ use Rattle.std.specs.Global.{Global}
 use Rattle.std.proofs.lemmas.List.{get_or_default}
 use Rattle.std.proofs.lemmas.List.Elements.{All-contains}
 use Rattle.dw_cprint.specs.Steps.{entries_of}
-use Rattle.dw_cprint.proofs.PlaceLemmas.{finds-none, finds-both, entries-take, entry-among, finds-as}
+use Rattle.dw_cprint.proofs.ReachLemmas.{finds-none, finds-both, entries-take, entry-among, finds-as}
 use Rattle.dw_cprint.proofs.reaching.push_row.Goals as goal
 use Rattle.dw_cprint.proofs.reaching.push_row.Goals.{in-Some+in_ok-place_of+in_ok-push, in_default}
 
@@ -14,14 +14,11 @@ pub place_of-requires-clause-within : goal.place_of-requires-clause-within
 place_of-requires-clause-within c =
     let types = c.args.types.now in
     let below = All-contains (λ to. to < length c.args.places.now.items) (entries_of types) c.in-Some.entry c.requires.within (entry-among types c.in-Some.entry (c.loop-at.at-index, c.loop-at-test.true, get_or_default types c.loop-at.at-index (Some c.in-Some.entry) None c.loop-at-test.true ∙ c.in-Some.is)) in
-    let same = c.loop-at.invariant.1.len in
-    omega arith
+    omega (arith, c.loop-at.invariant.1.len)
 
 pub place_of-requires-clause-few : goal.place_of-requires-clause-few
 place_of-requires-clause-few c =
-    let same = c.loop-at.invariant.1.len in
-    let few = c.requires.few in
-    omega arith
+    omega (arith, c.loop-at.invariant.1.len, c.requires.few)
 
 pub loop-at-preserved : goal.loop-at-preserved
 loop-at-preserved c =
@@ -29,11 +26,6 @@ loop-at-preserved c =
     let i = c.loop-at.at-index in
     let p0 = c.args.places.now.items in
     let f0 = c.args.found.now in
-    let p1 = c.loop-at.places.items in
-    let f1 = c.loop-at.found in
-    let p2 = c.match-at.places.items in
-    let f2 = c.match-at.found in
-    let old = c.args.steps.now in
     let before = entries_of (take i types) in
     let after = entries_of (take (i + 1) types) in
     let items = λ (v : Vec ℕ Global). v.items in
@@ -41,20 +33,18 @@ loop-at-preserved c =
     let (r, finds, all) = c.loop-at.invariant in
     elim c.match-at.branch [
       | in-Some+in_ok-place_of+in_ok-push w ↦
-          let entry = w.in-Some.entry in
           let place = w.in_ok-place_of.field-0 in
           let p = w.place_of.new.places.items in
-          let f = w.place_of.new.found in
           let r2 = r ++ place ∷ [] in (
             r2,
-            finds-as (before ++ entry ∷ []) after p0 p p2 f0 f f2 r2 r2
+            finds-as (before ++ w.in-Some.entry ∷ []) after p0 p c.match-at.places.items f0 w.place_of.new.found c.match-at.found r2 r2
                 (ap (λ (o : Option ℕ). before ++ entries_of (o ∷ [])) (sym w.in-Some.is) ∙ split) (ap items (sym w.places-is)) (sym w.found-is) refl
-                (finds-both before (entry ∷ []) p0 p1 p f0 f1 f r (place ∷ []) finds w.in_ok-place_of.ensures.row),
-            w.steps-is ∙ (w.in_ok-push.ensures ∙ (ap (λ (xs : List ℕ). xs ++ place ∷ []) all ∙ append_assoc old r (place ∷ []))),
+                (finds-both before (w.in-Some.entry ∷ []) p0 c.loop-at.places.items p f0 c.loop-at.found w.place_of.new.found r (place ∷ []) finds w.in_ok-place_of.ensures.row),
+            w.steps-is ∙ (w.in_ok-push.ensures ∙ (ap (λ (xs : List ℕ). xs ++ place ∷ []) all ∙ append_assoc c.args.steps.now r (place ∷ []))),
           )
       | in_default w ↦ (
         r,
-        finds-as before after p0 p1 p2 f0 f1 f2 r r
+        finds-as before after p0 c.loop-at.places.items c.match-at.places.items f0 c.loop-at.found c.match-at.found r r
             (sym (append-nil before) ∙ (ap (λ (o : Option ℕ). before ++ entries_of (o ∷ [])) (sym w.in_default.is) ∙ split)) (ap items (sym w.places-is)) (sym w.found-is) refl finds,
         w.steps-is ∙ all,
       )

@@ -11,7 +11,7 @@ use Rattle.dw_cprint.specs.Regular.{IsRegular}
 use Rattle.dw_cprint.specs.Shapes.{ShapeOf, TypeAt, view_shape}
 use Rattle.dw_cprint.specs.Steps.{entries_of, steps_reached, types_reached}
 use Rattle.dw_cprint.specs.declared.shape.Shape.{Shape}
-use Rattle.dw_cprint.proofs.LevelLemmas.{few-entries}
+use Rattle.dw_cprint.proofs.LongestLemmas.{few-entries}
 use Rattle.dw_cprint.proofs.ReachLemmas.{so_far-start, so_far-more, so_far-done, read-done, packed-start, packed-more, rows-more, room}
 use Rattle.dw_cprint.proofs.WithinLemmas.{shape_within}
 use Rattle.dw_cprint.proofs.reaching.reach.Goals as goal
@@ -27,14 +27,13 @@ push_row-requires-in-loop-alloc-clause-few c = omega (arith, few-entries c.args.
 pub push_row-requires-in-loop-alloc-clause-within : goal.push_row-requires-in-loop-alloc-clause-within
 push_row-requires-in-loop-alloc-clause-within c =
     let shapes = shape_in c.args.source.now.image.now in
-    let entry = c.get.result in
     let next : c.put_reached_types.new.types.items ≡ types_reached (view_shape c.in_ok-shape.shape) =
     c.in_ok-put_reached_types.ensures ∙ ap (λ (types : List TypeAt). types ++ types_reached (view_shape c.in_ok-shape.shape)) c.clear.ensures.items in
-    let steps : steps_reached shapes entry ≡ entries_of c.deref.result.now =
+    let steps : steps_reached shapes c.get.result ≡ entries_of c.deref.result.now =
     ap (λ (s : ShapeOf). entries_of (types_reached s)) (sym c.in_ok-shape.ensures.shape) ∙ ap entries_of (sym (c.deref.ensures.value ∙ next)) in
     let P : List ℕ → ℕ → Type 0 = λ xs n. All (λ to. to < n) xs in
     subst (λ (n : ℕ). P (entries_of c.deref.result.now) n) (sym c.loop-alloc.invariant.2)
-    (subst (λ (xs : List ℕ). P xs (length (entries_in c.args.source.now.image.now))) steps (shape_within c.args.source.now.image.now entry).all.all)
+    (subst (λ (xs : List ℕ). P xs (length (entries_in c.args.source.now.image.now))) steps (shape_within c.args.source.now.image.now c.get.result).all.all)
 
 pub loop-alloc-init : goal.loop-alloc-init
 loop-alloc-init c =
@@ -54,10 +53,9 @@ loop-alloc-smaller c =
     let ends = c.loop-alloc.ends in
     let all = length (entries_in c.args.source.now.image.now) in
     let fits = room c.loop-alloc.places.items c.loop-alloc.found c.loop-alloc.invariant.0.placed in
-    let long = c.loop-alloc.invariant.2 in
     let more : length c.push-in-loop-alloc.new.self ≡ length (ends ++ c.len-in-loop-alloc-3.result ∷ []) = ap length c.in_ok-push-2.ensures in
     let less : all - length c.push-in-loop-alloc.new.self < all - length ends =
-    omega (arith, more, length-append ends (c.len-in-loop-alloc-3.result ∷ []), fits, long, c.len.ensures, c.len-in-loop-alloc.ensures, c.loop-alloc-test.true) in
+    omega (arith, more, length-append ends (c.len-in-loop-alloc-3.result ∷ []), fits, c.loop-alloc.invariant.2, c.len.ensures, c.len-in-loop-alloc.ensures, c.loop-alloc-test.true) in
     less
 
 pub loop-alloc-preserved : goal.loop-alloc-preserved
@@ -69,7 +67,6 @@ loop-alloc-preserved c =
     let ends = c.loop-alloc.ends in
     let rows = cut steps 0 ends in
     let read = map view_shape c.loop-alloc.shapes.items in
-    let packed = c.loop-alloc.invariant.1 in
     let long = length-cut steps 0 ends in
     let more : length rows < length found = omega (arith, long, c.len.ensures, c.len-in-loop-alloc.ensures, c.loop-alloc-test.true) in
     let at : c.len-in-loop-alloc-2.result ≡ length rows = c.len-in-loop-alloc-2.ensures ∙ sym long in
@@ -88,9 +85,9 @@ loop-alloc-preserved c =
     let P : List ℕ → Type 0 = λ xs. FindsAll xs places p2 found f2 row in
     let placed = subst P reached finds in
     let end : c.push-in-loop-alloc.new.self ≡ ends ++ length (steps ++ row) ∷ [] = c.in_ok-push-2.ensures ∙ ap (λ (n : ℕ). ends ++ n ∷ []) (c.len-in-loop-alloc-3.ensures ∙ ap length all) in
-    rw (end, all, seen, rows-more found steps ends row packed) (
+    rw (end, all, seen, rows-more found steps ends row c.loop-alloc.invariant.1) (
       so_far-more shapes (entries_of c.args.types.now) places p2 found f2 rows read row c.loop-alloc.invariant.0 more placed,
-      packed-more (steps_reached shapes (get_or found (length rows) 0)) places p2 found f2 steps ends row packed placed,
+      packed-more (steps_reached shapes (get_or found (length rows) 0)) places p2 found f2 steps ends row c.loop-alloc.invariant.1 placed,
       c.in_ok-push_row-2.ensures.places ∙ c.loop-alloc.invariant.2,
       subst R (sym c.in_ok-push.ensures.items) (All-push (λ (shape : Shape). IsRegular (view_shape shape)) c.loop-alloc.shapes.items c.in_ok-shape.shape c.loop-alloc.invariant.3 c.in_ok-shape.ensures.fit),
     )

@@ -4,7 +4,7 @@ use Rattle.std.specs.Global.{Global}
 use Rattle.std.proofs.Common.{Option, ℕ}
 use Rattle.dw_cprint.specs.LookUps.{count_in}
 use Rattle.dw_cprint.specs.EntryShapes.{is_dimension}
-use Rattle.dw_cprint.proofs.ShapeLemmas.{taken, passed}
+use Rattle.dw_cprint.proofs.LookUpLemmas.{taken, passed}
 use Rattle.dw_cprint.proofs.shape_reader.counts_of.Goals.{then-is_dimension+in_ok-push, else-is_dimension}
 use Rattle.dw_cprint.proofs.shape_reader.counts_of.Goals as goal
 

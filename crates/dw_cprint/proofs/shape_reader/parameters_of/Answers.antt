@@ -4,7 +4,7 @@ use Rattle.std.specs.Global.{Global}
 use Rattle.dw_cprint.specs.Shapes.{Parameter}
 use Rattle.dw_cprint.specs.EntryShapes.{parameter_at}
 use Rattle.dw_cprint.specs.EntryShapes.{is_parameter}
-use Rattle.dw_cprint.proofs.ShapeLemmas.{taken, passed}
+use Rattle.dw_cprint.proofs.LookUpLemmas.{taken, passed}
 use Rattle.dw_cprint.proofs.shape_reader.parameters_of.Goals.{then-is_parameter+in_ok-push, else-is_parameter}
 use Rattle.dw_cprint.proofs.shape_reader.parameters_of.Goals as goal
 

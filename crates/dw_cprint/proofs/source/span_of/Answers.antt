@@ -1,6 +1,6 @@
 use Rattle.std.proofs.Common.{ℕ, List, ◌∙◌, ap, refl}
 use Rattle.dw_image.specs.Contributions.{string_at}
-use Rattle.dw_cprint.proofs.SpanLemmas.{span-front, span-joined}
+use Rattle.dw_cprint.proofs.NameLemmas.{span-front, span-joined}
 use Rattle.dw_cprint.proofs.source.span_of.Goals as goal
 
 pub returns-then-front-offset : goal.returns-then-front-offset

@@ -1,4 +1,4 @@
-use Rattle.dw_cprint.proofs.SpanLemmas.{span-before, spans-more}
+use Rattle.dw_cprint.proofs.NameLemmas.{span-before, spans-more}
 use Rattle.dw_cprint.proofs.source.StringTable.new.Goals as goal
 
 pub span_of-span-requires-clause-next : goal.span_of-span-requires-clause-next

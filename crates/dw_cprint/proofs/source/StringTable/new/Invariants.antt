@@ -1,4 +1,4 @@
-use Rattle.dw_cprint.proofs.SpanLemmas.{SpansTo}
+use Rattle.dw_cprint.proofs.NameLemmas.{SpansTo}
 use Rattle.dw_cprint.proofs.source.StringTable.new.Given as goal
 
 abbrev pub invariant-loop-k : goal.invariant-loop-k

@@ -1,4 +1,4 @@
-use Rattle.dw_cprint.proofs.SpanLemmas.{text-next}
+use Rattle.dw_cprint.proofs.NameLemmas.{text-next}
 use Rattle.dw_cprint.proofs.source.StringTable.text.Goals as goal
 
 pub span_of-span-requires-clause-next : goal.span_of-span-requires-clause-next

@@ -44,18 +44,16 @@ put_after-returns-in_ok-put-in-Some-parameters-2 t c =
     let s = c.args.self.now in
     let seen = c.in-Some-shape_within in
     let f = c.in-Function in
-    let p = c.in-Some-parameters in
-    let old = c.args.out.now in
     let mid = c.put-in-Some-parameters.new.self in
     let mid2 = c.put_parameters.new.out in
     let mid3 = c.put-in-Some-parameters-2.new.self in
     let new = c.put_after-in-Some-parameters.new.out in
-    let ps = p.parameters.items in
-    let shape_is = ap view_shape f.is ∙ ap (λ (o : Option (Vec Parameter Global)). function f.returned (parameter_items o)) p.is in
+    let ps = c.in-Some-parameters.parameters.items in
+    let shape_is = ap view_shape f.is ∙ ap (λ (o : Option (Vec Parameter Global)). function f.returned (parameter_items o)) c.in-Some-parameters.is in
     let step = step-at (kept s) c.args.depth seen.below c.args.at c.in-Some.entry (view_shape seen.shape.now) (function f.returned (Some ps)) c.in-Some.is seen.ensures.found shape_is in
     let P : List Parameter → Type 0 = λ us. WritesParameters s seen.below us mid mid2 in
-    ok_then c.put_after-in-Some-parameters.result (WritesAfter s seen.below f.returned mid3 new) (WritesAfter s c.args.depth c.args.at old new)
-    (prototype_after (term_at seen.below (kept s)) (term_at c.args.depth (kept s) c.args.at) old new mid mid2 mid3 f.returned ps step c.in_ok-put-in-Some-parameters.ensures
+    ok_then c.put_after-in-Some-parameters.result (WritesAfter s seen.below f.returned mid3 new) (WritesAfter s c.args.depth c.args.at c.args.out.now new)
+    (prototype_after (term_at seen.below (kept s)) (term_at c.args.depth (kept s) c.args.at) c.args.out.now new mid mid2 mid3 f.returned ps step c.in_ok-put-in-Some-parameters.ensures
     (subst P c.deref-in-Some-parameters.ensures.value c.in_ok-put_parameters-in-Some-parameters.ensures) c.in_ok-put-in-Some-parameters-2.ensures)
     c.put_after-in-Some-parameters.ensures
 
@@ -64,12 +62,10 @@ put_after-returns-in_ok-put_closed-in-Pointer t c =
     let s = c.args.self.now in
     let seen = c.in-Some-shape_within in
     let to = c.in-Pointer.to in
-    let old = c.args.out.now in
-    let mid = c.put_closed.new.out in
     let new = c.put_after-in-Pointer.new.out in
     let step = step-at (kept s) c.args.depth seen.below c.args.at c.in-Some.entry (view_shape seen.shape.now) (pointer to) c.in-Some.is seen.ensures.found (ap view_shape c.in-Pointer.is) in
-    ok_then c.put_after-in-Pointer.result (WritesAfter s seen.below to mid new) (WritesAfter s c.args.depth c.args.at old new)
-    (pointer_after (term_at seen.below (kept s)) (term_at c.args.depth (kept s) c.args.at) old new mid to step (c.in_ok-put_closed-in-Pointer.ensures seen.below))
+    ok_then c.put_after-in-Pointer.result (WritesAfter s seen.below to c.put_closed.new.out new) (WritesAfter s c.args.depth c.args.at c.args.out.now new)
+    (pointer_after (term_at seen.below (kept s)) (term_at c.args.depth (kept s) c.args.at) c.args.out.now new c.put_closed.new.out to step (c.in_ok-put_closed-in-Pointer.ensures seen.below))
     c.put_after-in-Pointer.ensures
 
 pub put_after-returns-in_ok-put-in-None : goal.put_after-returns-in_ok-put-in-None
@@ -77,13 +73,11 @@ put_after-returns-in_ok-put-in-None t c =
     let s = c.args.self.now in
     let seen = c.in-Some-shape_within in
     let f = c.in-Function in
-    let old = c.args.out.now in
-    let mid = c.put.new.self in
     let new = c.put_after-in-None.new.out in
     let shape_is = ap view_shape f.is ∙ ap (λ (o : Option (Vec Parameter Global)). function f.returned (parameter_items o)) c.in-None.is in
     let step = step-at (kept s) c.args.depth seen.below c.args.at c.in-Some.entry (view_shape seen.shape.now) (function f.returned None) c.in-Some.is seen.ensures.found shape_is in
-    ok_then c.put_after-in-None.result (WritesAfter s seen.below f.returned mid new) (WritesAfter s c.args.depth c.args.at old new)
-    (bare_after (term_at seen.below (kept s)) (term_at c.args.depth (kept s) c.args.at) old new mid f.returned step c.in_ok-put-in-None.ensures)
+    ok_then c.put_after-in-None.result (WritesAfter s seen.below f.returned c.put.new.self new) (WritesAfter s c.args.depth c.args.at c.args.out.now new)
+    (bare_after (term_at seen.below (kept s)) (term_at c.args.depth (kept s) c.args.at) c.args.out.now new c.put.new.self f.returned step c.in_ok-put-in-None.ensures)
     c.put_after-in-None.ensures
 
 pub put_before-returns-in_default : goal.put_before-returns-in_default
@@ -107,18 +101,16 @@ put_before-returns-in_ok-put-in-Pointer t c =
     let s = c.args.self.now in
     let seen = c.in-Some-shape_within in
     let to = c.in-Pointer.to in
-    let qs = c.args.qualifiers.items in
     let inside = c.args.inside in
     let old = c.args.out.now in
     let mid = c.put_before-in-Pointer.new.out in
-    let mid2 = c.put_opened.new.out in
     let mid3 = c.put-in-Pointer.new.self in
     let new = c.put_joined.new.out in
     let step = step-at (kept s) c.args.depth seen.below c.args.at c.in-Some.entry (view_shape seen.shape.now) (pointer to) c.in-Some.is seen.ensures.found (ap view_shape c.in-Pointer.is) in
     let P : List Qualifier → Type 0 = λ us. WritesBefore s seen.below to us true old mid in
     let R : List Qualifier → Type 0 = λ us. Writes (pointer_row us inside) mid3 new in
-    ok_then c.put_joined.result (Writes (pointer_row c.deref-in-Pointer.result.now inside) mid3 new) (WritesBefore s c.args.depth c.args.at qs inside old new)
-    (λ row. pointer_before (term_at seen.below (kept s)) (term_at c.args.depth (kept s) c.args.at) old new mid mid2 mid3 qs inside to step
+    ok_then c.put_joined.result (Writes (pointer_row c.deref-in-Pointer.result.now inside) mid3 new) (WritesBefore s c.args.depth c.args.at c.args.qualifiers.items inside old new)
+    (λ row. pointer_before (term_at seen.below (kept s)) (term_at c.args.depth (kept s) c.args.at) old new mid c.put_opened.new.out mid3 c.args.qualifiers.items inside to step
     (subst P c.new.ensures.items c.in_ok-put_before-in-Pointer.ensures) (c.in_ok-put_opened-in-Pointer.ensures seen.below) c.in_ok-put-in-Pointer.ensures (subst R c.deref-in-Pointer.ensures.value row))
     c.put_joined.ensures
 
@@ -157,13 +149,12 @@ put_before-returns-in_ok-put_core-in_default-shape t c =
 
 pub put_core-returns-in-Base : goal.put_core-returns-in-Base
 put_core-returns-in-Base t c =
-    let s = c.args.self.now in
     let old = c.args.out.now in
     let new = c.put_name.new.out in
     let name = view_name c.in-Base.name in
-    let P : ShapeOf → Type 0 = λ shape. WritesCore s c.args.depth shape old new in
+    let P : ShapeOf → Type 0 = λ shape. WritesCore c.args.self.now c.args.depth shape old new in
     ok_then c.put_name.result (Writes (name_tokens name) old new) (P (view_shape c.args.shape.now))
-    (λ word. subst P (sym (ap view_shape c.in-Base.is)) (base_core (term_at c.args.depth (kept s)) old new name word))
+    (λ word. subst P (sym (ap view_shape c.in-Base.is)) (base_core (term_at c.args.depth (kept c.args.self.now)) old new name word))
     c.put_name.ensures
 
 pub put_core-returns-in_ok-put-in-Body-2 : goal.put_core-returns-in_ok-put-in-Body-2
@@ -200,15 +191,13 @@ pub put_named-returns : goal.put_named-returns
 put_named-returns t c =
     let s = c.args.self.now in
     let old = c.args.out.now in
-    let mid = c.put_before.new.out in
-    let mid2 = c.put_name.new.out in
     let new = c.put_after.new.out in
     let name = view_name c.args.name in
-    let P : List Qualifier → Bool → Type 0 = λ us b. WritesBefore s c.args.depth c.args.at us b old mid in
+    let P : List Qualifier → Bool → Type 0 = λ us b. WritesBefore s c.args.depth c.args.at us b old c.put_before.new.out in
     let some : c.is_some.result ≡ is_some name = c.is_some.ensures ∙ some-mapped (λ (text : Text). text.bytes.now) c.args.name in
     let front = subst (P []) some (subst (λ (us : List Qualifier). P us c.is_some.result) c.new.ensures.items c.in_ok-put_before.ensures) in
-    ok_then c.put_after.result (WritesAfter s c.args.depth c.args.at mid2 new) (WritesNamed s c.args.depth c.args.at name old new)
-    (named_written (term_at c.args.depth (kept s)) c.args.at name old mid mid2 new front c.in_ok-put_name.ensures)
+    ok_then c.put_after.result (WritesAfter s c.args.depth c.args.at c.put_name.new.out new) (WritesNamed s c.args.depth c.args.at name old new)
+    (named_written (term_at c.args.depth (kept s)) c.args.at name old c.put_before.new.out c.put_name.new.out new front c.in_ok-put_name.ensures)
     c.put_after.ensures
 
 pub put_members-loop-member-preserved : goal.put_members-loop-member-preserved
@@ -216,34 +205,27 @@ put_members-loop-member-preserved t c =
     let term = term_at c.args.depth (kept c.args.self.now) in
     let ms = c.args.members.now in
     let i = c.loop-member.member-index in
-    let one = c.member-item.result in
-    let old = c.put.new.self in
-    let out = c.loop-member.out in
-    let P : List MemberOf → Type 0 = λ left. MembersLeft term (map view_member ms) old left out in
-    members_next term (map view_member ms) (view_member one) (map view_member (drop (i + 1) ms)) old out c.put_member.new.out
-    (subst P (next-of view_member ms i one c.member-item.is c.loop-member-test.true) c.loop-member.invariant) c.in_ok-put_member.ensures
+    let P : List MemberOf → Type 0 = λ left. MembersLeft term (map view_member ms) c.put.new.self left c.loop-member.out in
+    members_next term (map view_member ms) (view_member c.member-item.result) (map view_member (drop (i + 1) ms)) c.put.new.self c.loop-member.out c.put_member.new.out
+    (subst P (next-of view_member ms i c.member-item.result c.member-item.is c.loop-member-test.true) c.loop-member.invariant) c.in_ok-put_member.ensures
 
 pub put_parameters-loop-parameter-preserved : goal.put_parameters-loop-parameter-preserved
 put_parameters-loop-parameter-preserved t c =
-    let s = c.args.self.now in
-    let term = term_at c.args.depth (kept s) in
+    let term = term_at c.args.depth (kept c.args.self.now) in
     let others = c.in-Some.others.now in
     let i = c.loop-parameter.parameter-index in
-    let old = c.put_parameter.new.out in
-    let out = c.loop-parameter.out in
     let mid = c.put-in-loop-parameter.new.self in
     let new = c.put_parameter-in-loop-parameter.new.out in
     let p = get_or others i (Typed None) in
-    let P : List Parameter → Type 0 = λ left. ParametersLeft term others old left out in
-    parameters_next term others p (drop (i + 1) others) old out mid new
+    let P : List Parameter → Type 0 = λ left. ParametersLeft term others c.put_parameter.new.out left c.loop-parameter.out in
+    parameters_next term others p (drop (i + 1) others) c.put_parameter.new.out c.loop-parameter.out mid new
     (subst P (drop_more others i (Typed None) c.loop-parameter-test.true) c.loop-parameter.invariant) c.in_ok-put.ensures
-    (item-of s c.args.depth p mid new c.in_ok-put_parameter-2.ensures)
+    (item-of c.args.self.now c.args.depth p mid new c.in_ok-put_parameter-2.ensures)
 
 pub put_parameters-returns : goal.put_parameters-returns
 put_parameters-returns t c =
     let s = c.args.self.now in
     let term = term_at c.args.depth (kept s) in
-    let first = c.in-Some.first.now in
     let others = c.in-Some.others.now in
     let begin = c.args.out.now in
     let old = c.put_parameter.new.out in
@@ -251,7 +233,7 @@ put_parameters-returns t c =
     let P : List Parameter → Type 0 = λ left. ParametersLeft term others old left out in
     let Q : List Parameter → Type 0 = λ ps. WritesParameters s c.args.depth ps begin out in
     subst Q (sym c.in-Some.ensures.cases.0)
-    (parameters_done term first others begin old out (item-of s c.args.depth first begin old c.in_ok-put_parameter.ensures)
+    (parameters_done term c.in-Some.first.now others begin old out (item-of s c.args.depth c.in-Some.first.now begin old c.in_ok-put_parameter.ensures)
     (subst P (drop_all c.loop-parameter.parameter-index others c.loop-parameter-test.false) c.loop-parameter.invariant))
 
 -- nothing is written to a text that is too long
@@ -269,34 +251,31 @@ pub put_members-returns-then-is_over : goal.put_members-returns-then-is_over
 put_members-returns-then-is_over t c = λ us e.
     let term = term_at c.args.depth (kept c.args.self.now) in
     let ms = c.args.members.now in
-    let old = c.put.new.self in
     let out = c.loop-member.out in
     let is = none-is out (sym c.is_over.ensures ∙ c.if-is_over.true) in
-    members_done term (map view_member ms) c.args.out.now old out out c.in_ok-put.ensures
-    (members_over term (map view_member ms) (map view_member (drop c.loop-member.member-index ms)) old out is c.loop-member.invariant)
+    members_done term (map view_member ms) c.args.out.now c.put.new.self out out c.in_ok-put.ensures
+    (members_over term (map view_member ms) (map view_member (drop c.loop-member.member-index ms)) c.put.new.self out is c.loop-member.invariant)
     (over-stays out out (text_of (RightBrace ∷ [])) is refl) us e
 
 pub put_members-returns : goal.put_members-returns
 put_members-returns t c = λ us e.
     let term = term_at c.args.depth (kept c.args.self.now) in
     let ms = c.args.members.now in
-    let old = c.put.new.self in
     let out = c.loop-member.out in
-    let P : List MemberOf → Type 0 = λ left. MembersLeft term (map view_member ms) old left out in
+    let P : List MemberOf → Type 0 = λ left. MembersLeft term (map view_member ms) c.put.new.self left out in
     let none = ap (map view_member) (drop_all c.loop-member.member-index ms c.loop-member-test.false) in
-    members_done term (map view_member ms) c.args.out.now old out c.put-2.new.self c.in_ok-put.ensures (subst P none c.loop-member.invariant) c.in_ok-put-2.ensures us e
+    members_done term (map view_member ms) c.args.out.now c.put.new.self out c.put-2.new.self c.in_ok-put.ensures (subst P none c.loop-member.invariant) c.in_ok-put-2.ensures us e
 
 pub put_parameters-returns-then-is_over : goal.put_parameters-returns-then-is_over
 put_parameters-returns-then-is_over t c =
     let s = c.args.self.now in
     let term = term_at c.args.depth (kept s) in
     let others = c.in-Some.others.now in
-    let first = c.in-Some.first.now in
     let begin = c.args.out.now in
     let old = c.put_parameter.new.out in
     let out = c.loop-parameter.out in
     let is = none-is out (sym c.is_over.ensures ∙ c.if-is_over.true) in
     let Q : List Parameter → Type 0 = λ ps. WritesParameters s c.args.depth ps begin out in
     subst Q (sym c.in-Some.ensures.cases.0)
-    (parameters_done term first others begin old out (item-of s c.args.depth first begin old c.in_ok-put_parameter.ensures)
+    (parameters_done term c.in-Some.first.now others begin old out (item-of s c.args.depth c.in-Some.first.now begin old c.in_ok-put_parameter.ensures)
     (parameters_over term others (drop c.loop-parameter.parameter-index others) old out is c.loop-parameter.invariant))

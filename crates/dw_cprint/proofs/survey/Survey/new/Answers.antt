@@ -13,16 +13,13 @@ use Rattle.dw_cprint.proofs.survey.Survey.new.Goals as goal
 
 pub summarize-requires : goal.summarize-requires
 summarize-requires c =
-    let r = c.in_ok-reached.reached in
-    let clear = c.in_ok-clear.clear.by_rank in
     let shapes = shape_in c.args.source.now.image.now in
     λ k d below.
     let within = c.in_ok-clear.ensures.within k below in
-    let same = get_or_default clear k d 0 below in
-    let nodes = c.in_ok-reached.ensures.reach.nodes in
+    let same = get_or_default c.in_ok-clear.clear.by_rank k d 0 below in
     let long = ap length c.in_ok-reached.ensures.shapes in
     let kept = ap length c.deref-2.ensures.value in
-    omega (arith, within, same, nodes, long, kept, length-map r.shapes.items view_shape, length-map r.found shapes)
+    omega (arith, within, same, c.in_ok-reached.ensures.reach.nodes, long, kept, length-map c.in_ok-reached.reached.shapes.items view_shape, length-map c.in_ok-reached.reached.found shapes)
 
 pub returns : goal.returns
 returns c =
@@ -31,9 +28,8 @@ returns c =
     let r = c.in_ok-reached.reached in
     let graph = cut r.graph.steps 0 r.graph.ends in
     let clear = c.in_ok-clear.clear.by_rank in
-    let depths = c.in_ok-depths.depths in
     let summaries = c.in_ok-summaries.summaries in
-    let s : Survey = record { shapes = r.shapes; summaries = summaries; depths = depths } in
+    let s : Survey = record { shapes = r.shapes; summaries = summaries; depths = c.in_ok-depths.depths } in
     let R : List ℕ → Type 0 = λ xs. IsReachOf shapes xs r.places.items r.found graph in
     let reach = subst R (ap entries_of c.deref.ensures.value ∙ c.in_ok-types.ensures) c.in_ok-reached.ensures.reach in
     let N : List Shape → Type 0 = λ kept. AreNodes shapes r.places.items r.found kept clear in

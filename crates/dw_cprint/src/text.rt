@@ -1,0 +1,230 @@
+//! The text of a declaration as it is written, up to the limit.
+
+ghost use Rattle.std.specs.Prelude.{◌≡◌, ℕ, if◌then◌else◌, List, [], Option, None, Some, IfSome, OnOk, is_none, ◌++◌};
+ghost use Rattle.std.specs.Prelude.{◌∷◌, flat_map, map};
+ghost use Rattle.dw_cprint.specs.Drafts.{appended};
+ghost use Rattle.dw_cprint.specs.Declarations.{bits_of};
+ghost use Rattle.dw_cprint.specs.Declarators.{gap, pointer_row};
+ghost use Rattle.dw_cprint.specs.Digits.{numeral};
+ghost use Rattle.dw_cprint.specs.Kept.{Writes, WritesEnumerator, WritesEnumerators};
+ghost use Rattle.dw_cprint.specs.Shapes.{view_enumerator, view_name};
+ghost use Rattle.dw_cprint.specs.Tokens.{Blank, TagWord};
+ghost use Rattle.dw_cprint.specs.Writing.{count_tokens, qualifying, name_tokens, value_tokens, bits_tokens};
+
+use crate::shape::{Bits, Enumerator, Name};
+use crate::words::{Qualifier, TagKeyword};
+use std::alloc::{AllocError, Global};
+use std::marker::Model;
+
+/// The most bytes of a declaration.
+pub const LIMIT: usize = 65536;
+
+/// The text of a declaration as it is written. Nothing is appended to one that is too long.
+#[derive(Drop)]
+pub struct Draft {
+    bytes: Vec<u8>,
+    over: bool,
+}
+
+impl Model for Draft {
+    ghost Value = { Option (List ℕ) };
+
+    // The text; none if it is too long.
+    ghost view = { λ d. if d.over then None else Some d.bytes.items };
+}
+
+impl Draft {
+    /// A text without bytes.
+    pub fn new(alloc: Global) -> Draft
+        ensures { result ≡ Some [] }
+    {
+        Draft {
+            bytes: Vec::new(alloc),
+            over: false,
+        }
+    }
+
+    /// Removes all bytes.
+    pub fn clear(&mut self)
+        ensures { self.new ≡ Some [] }
+    {
+        self.bytes.clear();
+        self.over = false;
+    }
+
+    /// Whether it has more bytes than a declaration may have.
+    pub fn is_over(&self) -> bool
+        ensures { result ≡ is_none self.now }
+    {
+        self.over
+    }
+
+    /// Appends a text. It is not read if both are too long together.
+    pub fn put(&mut self, text: &[u8]) -> Result<(), AllocError>
+        ensures { OnOk result (self.new ≡ appended self.old text.now) }
+    {
+        if self.over {
+            return Ok(());
+        }
+        if text.len() > LIMIT.saturating_sub(self.bytes.len()) {
+            self.over = true;
+            return Ok(());
+        }
+        self.bytes.extend_from_slice(text)
+    }
+
+    /// Its bytes. Nothing is known of those of a text that is too long.
+    pub fn bytes(&self) -> &[u8]
+        ensures { IfSome self.now (λ text. result.now ≡ text) }
+    {
+        &self.bytes
+    }
+}
+
+/// A number in decimal.
+#[tactic(auto, using(crate::proofs::LexingLemmas::numeral_low))]
+fn put_number(out: &mut Draft, n: u128) -> Result<(), AllocError>
+    ensures { OnOk result (out.new ≡ appended out.old (numeral n)) }
+{
+    if n < 10 {
+        return out.put(&[b'0' + n as u8]);
+    }
+    put_number(out, n / 10)?;
+    out.put(&[b'0' + (n % 10) as u8])
+}
+
+/// An enumerator's value in decimal.
+fn put_value(out: &mut Draft, value: i128) -> Result<(), AllocError>
+    ensures { OnOk result (Writes (value_tokens value) out.old out.new) }
+{
+    if value < 0 {
+        out.put(b"-")?;
+        return put_number(out, value.unsigned_abs());
+    }
+    put_number(out, value.unsigned_abs())
+}
+
+/// A name, if there is one.
+pub fn put_name(out: &mut Draft, name: Name<'_>) -> Result<(), AllocError>
+    ensures { OnOk result (Writes (name_tokens (view_name name.entry)) out.old out.new) }
+{
+    match name {
+        None => Ok(()),
+        Some(name) => out.put(name.bytes),
+    }
+}
+
+/// The brackets of a dimension.
+fn put_count(out: &mut Draft, count: Option<u128>) -> Result<(), AllocError>
+    ensures { OnOk result (Writes (count_tokens count) out.old out.new) }
+{
+    match count {
+        None => out.put(b"[]"),
+        Some(n) => {
+            out.put(b"[")?;
+            put_number(out, n)?;
+            out.put(b"]")
+        }
+    }
+}
+
+/// The brackets of dimensions.
+pub fn put_counts(out: &mut Draft, counts: &[Option<u128>]) -> Result<(), AllocError>
+    ensures { OnOk result (Writes (flat_map count_tokens counts.now) out.old out.new) }
+{
+    for count in counts {
+        if out.is_over() {
+            return Ok(());
+        }
+        put_count(out, *count)?;
+    }
+    Ok(())
+}
+
+/// Each qualifier, followed by a space.
+pub fn put_qualifiers(out: &mut Draft, qualifiers: &[Qualifier]) -> Result<(), AllocError>
+    ensures { OnOk result (Writes (qualifying qualifiers.now) out.old out.new) }
+{
+    for qualifier in qualifiers {
+        out.put(qualifier.text())?;
+        out.put(b" ")?;
+    }
+    Ok(())
+}
+
+/// The qualifiers of a pointer, separated by spaces, and a space after them if a declarator follows.
+pub fn put_joined(out: &mut Draft, qualifiers: &[Qualifier], inside: bool) -> Result<(), AllocError>
+    ensures { OnOk result (Writes (pointer_row qualifiers.now inside) out.old out.new) }
+{
+    let last = qualifiers.len();
+    for (i, qualifier) in qualifiers.iter().enumerate() {
+        out.put(qualifier.text())?;
+        if i + 1 < last || inside {
+            out.put(b" ")?;
+        }
+    }
+    Ok(())
+}
+
+/// A space, if a declarator follows.
+pub fn put_gap(out: &mut Draft, inside: bool) -> Result<(), AllocError>
+    ensures { OnOk result (Writes (gap inside) out.old out.new) }
+{
+    if inside {
+        out.put(b" ")?;
+    }
+    Ok(())
+}
+
+/// A word before a tag, and the tag.
+pub fn put_tag(out: &mut Draft, tag: TagKeyword, name: Name<'_>) -> Result<(), AllocError>
+    ensures { OnOk result (Writes (TagWord tag ∷ Blank ∷ name_tokens (view_name name.entry)) out.old out.new) }
+{
+    out.put(tag.text())?;
+    out.put(b" ")?;
+    put_name(out, name)
+}
+
+/// An enumerator and its value.
+fn put_enumerator(out: &mut Draft, enumerator: &Enumerator<'_>) -> Result<(), AllocError>
+    ensures { OnOk result (WritesEnumerator (view_enumerator enumerator.now) out.old out.new) }
+{
+    put_name(out, enumerator.name)?;
+    out.put(b" = ")?;
+    match enumerator.value {
+        None => Ok(()),
+        Some(value) => put_value(out, value),
+    }
+}
+
+/// The enumerators, in braces.
+pub fn put_enumerators(out: &mut Draft, enumerators: &[Enumerator<'_>]) -> Result<(), AllocError>
+    ensures { OnOk result (WritesEnumerators (map view_enumerator enumerators.now) out.old out.new) }
+{
+    let Some((first, others)) = enumerators.split_first() else {
+        return out.put(b"{  }");
+    };
+    out.put(b"{ ")?;
+    put_enumerator(out, first)?;
+    for enumerator in others {
+        if out.is_over() {
+            return Ok(());
+        }
+        out.put(b", ")?;
+        put_enumerator(out, enumerator)?;
+    }
+    out.put(b" }")
+}
+
+/// The bits of a member.
+pub fn put_bits(out: &mut Draft, bits: Bits) -> Result<(), AllocError>
+    ensures { OnOk result (Writes (bits_tokens (bits_of bits)) out.old out.new) }
+{
+    match bits {
+        Bits::Number(n) => {
+            out.put(b" : ")?;
+            put_number(out, u128::from(n))
+        }
+        _ => Ok(()),
+    }
+}
