@@ -11,7 +11,7 @@ use Rattle.dw_cprint.specs.Listings.{IsListing, listing_text}
 use Rattle.dw_cprint.specs.declared.fault.PrintFault.{PrintFault}
 use Rattle.dw_image.specs.declared.image.Image.{Image}
 use Rattle.dw_image.specs.Headline.{IsImageOf, IsFaultOf}
-use Rattle.dw_units.specs.declared.counts.Counts.{Counts}
+use Rattle.dw_units.specs.declared.counting.Counts.{Counts}
 use Rattle.dw_units.specs.Counted.{AreCounts}
 use Rattle.dw_report.specs.Lines.{sound_line, elf_fault_line, fault_lines}
 use Rattle.dw_report.specs.Shown.{show_lines, size_text, size_status, type_at_offset}

@@ -1,4 +1,4 @@
--- State: what is known of the calls of a reader or a writer: which bytes it gave or took, and how many calls failed.
+-- State: what is known of the calls of a reader or a writer: the bytes that it returned or took, and how many failed.
 use Rattle.std.specs.Prelude.{ℕ, ◌+◌, ◌==◌, ◌&&◌, nat_lt, if◌then◌else◌, Result, Ok, Err, Option, None, Some, List}
 use Rattle.std.specs.Prelude.{length, take}
 use Rattle.std.specs.Io.KnownBytes.{Consumes}
@@ -13,7 +13,7 @@ abbrev pub after_write : {E : Type 0} → ℕ → Result ℕ E → List ℕ → 
 after_write count (Ok n) bytes = if n == 0 && nat_lt 0 (length bytes) then count + 1 else count
 after_write count (Err e) bytes = count + 1
 
--- a reader whose known bytes were `old` and are `new` has given them up to their end or one past the limit
+-- a reader whose known bytes were `old` and are `new` has returned them up to their end or one past the limit
 abbrev pub TakesInput : ℕ → Option (List ℕ) → Option (List ℕ) → Type 0
 TakesInput limit None new = Unit {0}
 TakesInput limit (Some input) new = Consumes (Some input) new (take (limit + 1) input)

@@ -1,6 +1,5 @@
 -- Chapters, in reading order.
 pub mod Words
 pub mod Reports
-pub mod Ending
 -- State.
 pub mod Devices

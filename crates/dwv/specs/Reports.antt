@@ -1,9 +1,11 @@
--- Chapter: what is written of a report.
-use Rattle.std.specs.Prelude.{ℕ, List, take, Option}
+-- Chapter: what is written of a report, the exit status, and the line on standard error.
+use Rattle.std.specs.Prelude.{ℕ, List, [], codes, take, Option, Result, Ok, Err}
 use Rattle.std.specs.Io.KnownBytes.{Appends}
-use Rattle.dw_report.specs.Reports.{Report}
+use Rattle.dw_report.specs.Reports.{Report, status_code}
 use Rattle.dw_report.specs.declared.request.Request.{Request}
 use Rattle.dw_report.specs.declared.request.Status.{Status}
+use Rattle.dwv.specs.declared.running.RunFault.{RunFault}
+use Rattle.dwv.specs.declared.running.RunFault.TheVariants.{ReadFailed, WriteFailed, Memory}
 
 -- a writer whose known bytes were `old` and are `new` has taken the report of these bytes
 abbrev pub WritesReport : ℕ → Request → List ℕ → Status → Option (List ℕ) → Option (List ℕ) → Type 0
@@ -11,7 +13,21 @@ WritesReport limit request input status old new =
     (text : List ℕ) × Report limit request input status text × Appends old new text
 
 -- it has taken a prefix of the report
-abbrev pub WritesBeginning : ℕ → Request → List ℕ → Option (List ℕ) → Option (List ℕ) → Type 0
-WritesBeginning limit request input old new =
+abbrev pub WritesPrefix : ℕ → Request → List ℕ → Option (List ℕ) → Option (List ℕ) → Type 0
+WritesPrefix limit request input old new =
     (status : Status) × (text : List ℕ) × (n : ℕ)
     × Report limit request input status text × Appends old new (take n text)
+
+-- the exit status
+abbrev pub status_of : Result Status RunFault → ℕ
+status_of (Ok status) = status_code status
+status_of (Err ReadFailed) = 3
+status_of (Err WriteFailed) = 3
+status_of (Err Memory) = 4
+
+-- the line for standard error
+abbrev pub line_of : Result Status RunFault → List ℕ
+line_of (Ok _) = []
+line_of (Err ReadFailed) = codes "dwv: reading failed"
+line_of (Err WriteFailed) = codes "dwv: writing failed"
+line_of (Err Memory) = codes "dwv: out of memory"

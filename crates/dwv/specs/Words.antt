@@ -8,6 +8,6 @@ pub record IsOffset (word : List ℕ) : Type 0 where
   pub digits : IsNumeral 16 (drop 2 word)
   pub few : length (drop 2 word) ≤ 8
 
--- the number that it spells
+-- its number
 abbrev pub offset_in : List ℕ → ℕ
 offset_in word = digits_value 16 (drop 2 word)

@@ -10,7 +10,7 @@ use std::io::{Read, Write};
 
 /// What is read from: a reader that counts the calls that failed.
 pub trait Source {
-    /// The bytes that reads will give from here on, if they are known.
+    /// The bytes that later reads return, if they are known.
     ghost remaining: { Self → Option (List ℕ) };
 
     /// How many calls have returned an error.

@@ -4,10 +4,13 @@ ghost use Rattle.std.specs.Prelude.{◌≡◌, SomeIff};
 ghost use Rattle.dwv.specs.Words.{IsOffset, offset_in};
 ghost use Rattle.dwv.specs.declared.words.WordsFault.TheVariants.{Memory};
 
-use crate::request::Request;
 use clap::error::ErrorKind;
 use clap::{Arg, ArgAction, ArgMatches, Command};
+use dw_report::Request;
 use std::alloc::{AllocError, Global};
+use std::env::FillError;
+use std::rt::Env;
+use std::{env, io};
 
 /// Why words are no request.
 #[derive(Clone, Copy, Debug, PartialEq, Eq)]
@@ -96,8 +99,8 @@ fn request_of<'a>(name: &str, matches: &ArgMatches<'a>) -> Result<(Request, &'a 
     Ok((request, file))
 }
 
-/// The request and the file's name that the words after the program's name give.
-pub fn words(alloc: Global, words: &[String]) -> Result<(Request, String), WordsFault> {
+/// The request and the file's name that some words give.
+fn request_in(alloc: Global, words: &[String]) -> Result<(Request, String), WordsFault> {
     let matches = match forms(alloc)?.try_get_matches_from(words) {
         Ok(matches) => matches,
         Err(error) => {
@@ -112,4 +115,47 @@ pub fn words(alloc: Global, words: &[String]) -> Result<(Request, String), Words
     };
     let (request, file) = request_of(name, of_name)?;
     Ok((request, String::from_str(alloc, file)?))
+}
+
+/// The arguments from number 1 on. Number 0, the program's name, is never read: it may be any bytes.
+#[derive(Drop)]
+struct AfterName<'a, R> {
+    rt: &'a R,
+}
+
+impl<R: Env> Env for AfterName<'_, R> {
+    fn arg(&self, i: usize, buf: &mut [u8]) -> Result<usize, FillError> {
+        match i.checked_add(1) {
+            Some(number) => self.rt.arg(number, buf),
+            None => Err(FillError::NotPresent),
+        }
+    }
+
+    fn var(&self, name: &str, buf: &mut [u8]) -> Result<usize, FillError> {
+        self.rt.var(name, buf)
+    }
+
+    fn var_at(&self, i: usize, buf: &mut [u8]) -> Result<usize, FillError> {
+        self.rt.var_at(i, buf)
+    }
+}
+
+/// The request and the file's name that the words after the program's name give. Each of them must be UTF-8.
+pub fn read_words<R: Env + AllocGlobal>(rt: &R) -> Result<(Request, String), WordsFault> {
+    let arguments = match env::args(&(AfterName { rt }, rt.alloc())) {
+        Ok(arguments) => arguments,
+        Err(error) => {
+            return Err(match error.kind() {
+                io::ErrorKind::OutOfMemory => WordsFault::Memory,
+                _ => WordsFault::BadUsage,
+            });
+        }
+    };
+    let mut words = Vec::new(rt.alloc());
+    for argument in arguments {
+        if words.push(argument).is_err() {
+            return Err(WordsFault::Memory);
+        }
+    }
+    request_in(rt.alloc(), words.as_slice())
 }

@@ -1,4 +1,4 @@
-pub mod CountedLemmas
+pub mod CheckLemmas
 pub mod NameLemmas
 pub mod RowLemmas
 pub mod TextLemmas

@@ -1,5 +1,7 @@
 -- The row of an entry, and the rows that are written so far.
-use Rattle.std.proofs.Common.{◌≡◌, ℕ, zero, suc, ◌+◌, ◌<◌, ◌≤◌, ◌⊎◌, inl, inr, Bool, true, false, cond, List, [], ◌∷◌, length, drop, min, Option, Some, None, IfSome, refl, sym, ap, subst, ◌∙◌, arith}
+use Rattle.std.proofs.Common.{◌≡◌, ℕ, zero, suc, ◌+◌, ◌<◌, ◌≤◌, ◌⊎◌, inl, inr, Bool, true, false, cond, List}
+use Rattle.std.proofs.Common.{[], ◌∷◌, length, drop, min, Option, Some, None, Err, IfSome, refl, sym, ap, subst, ◌∙◌}
+use Rattle.std.proofs.Common.{arith}
 use Rattle.std.specs.Prelude.{nat_lt, slice_get, slice_set, option_map}
 use Rattle.std.specs.Option.{IsSomeAnd}
 use Rattle.dw_elf.specs.Sections.{IsAt}
@@ -9,13 +11,17 @@ use Rattle.dw_entries.proofs.DepthLaws.{no_depth, one_deeper}
 use Rattle.dw_image.specs.declared.image.Image.{Image}
 use Rattle.dw_image.specs.Images.{entries_in, entry_count, name_in, units_in}
 use Rattle.dw_image.proofs.LookupLemmas.{slice_get_none}
-use Rattle.dwv_c.specs.declared.names.NamePlace.{NamePlace}
+use Rattle.dwv_c.specs.declared.checks.CheckError.{CheckError}
+use Rattle.dwv_c.specs.declared.checks.CheckError.TheVariants.{Fault, Memory}
+use Rattle.dwv_c.specs.declared.rows.NamePlace.{NamePlace}
+use Rattle.dw_report.specs.Shown.{entry_size}
 use Rattle.dwv_c.specs.declared.rows.EntryRow.{EntryRow}
 use Rattle.dwv_c.specs.declared.verdict.Verdict.{Verdict}
 use Rattle.dwv_c.specs.Filling.{HasPlace, IsNamePlace, depth_under}
-use Rattle.dwv_c.specs.Rows.{FillsRows, HasName, HasSize, HaveRows, IsRow, PutsRows, entry_size, greatest, sound, whole}
-use Rattle.dwv_c.specs.Statuses.{SOUND}
-use Rattle.dwv_c.specs.Verdicts.{IsSoundFile, of_image}
+use Rattle.dwv_c.specs.Rows.{FillsRows, HasName, HasSize, HaveRows, IsRow, PutsRows, greatest, sound, fault, memory}
+use Rattle.dwv_c.specs.Rows.{whole}
+use Rattle.dwv_c.specs.Checked.{IsErrorOf, status_of, verdict_after}
+use Rattle.dwv_c.specs.Verdicts.{SOUND, IsSoundFile, IsFaultOfFile, of_image}
 
 get_set_same : {X : Type 0} (xs : List X) (k : ℕ) (y : X) → k < length xs → slice_get (slice_set xs k y) k ≡ Some y
 get_set_same [] k y less = absurd (omega (arith, less))
@@ -35,11 +41,13 @@ below_or_not : (k n : ℕ) → (k < n) ⊎ (n ≤ k)
 below_or_not k n = grind arith
 
 -- the depth by the parent's row is the entry's
-depth_told : (file : List ℕ) (i : Image) (k : ℕ) (e : Entry) (rows : List EntryRow) (d : ℕ) → slice_get (entries_in i) k ≡ Some e
+depth_told : (file : List ℕ) (i : Image) (k : ℕ) (e : Entry) (rows : List EntryRow) (d : ℕ)
+    → slice_get (entries_in i) k ≡ Some e
     → HaveRows file i k rows → depth_under rows e.parent ≡ Some d → d ≡ min e.depth greatest
 depth_told file i k e rows d is so_far told = go e.parent refl told
   where
-    by_row : (p : ℕ) (above : Entry) (o : Option EntryRow) → e.depth ≡ suc above.depth → IsSomeAnd o (IsRow file i p above)
+    by_row : (p : ℕ) (above : Entry) (o : Option EntryRow) → e.depth ≡ suc above.depth
+        → IsSomeAnd o (IsRow file i p above)
         → option_map (λ (r : EntryRow). min (suc r.depth) greatest) o ≡ Some d → d ≡ min e.depth greatest
     by_row p above None deeper row told = absurd row
     by_row p above (Some r) deeper row told = omega (arith, some_is told, row.depth, deeper)
@@ -50,20 +58,29 @@ depth_told file i k e rows d is so_far told = go e.parent refl told
         let (above, at, deeper, less) = one_deeper (units_in i) k p e is under in
         by_row p above (slice_get rows p) deeper (so_far p above less at) told
 
-has_name : (file : List ℕ) (name : Option (List ℕ)) (place : Option NamePlace) (r : EntryRow) → IsNamePlace file name place → HasPlace place r → HasName file name r
+has_name : (file : List ℕ) (name : Option (List ℕ)) (place : Option NamePlace) (r : EntryRow)
+    → IsNamePlace file name place → HasPlace place r → HasName file name r
 has_name file None None r is has = has
 has_name file None (Some place) r is has = absurd is
 has_name file (Some text) None r is has = absurd is
-has_name file (Some text) (Some place) r is has = (subst (λ (n : ℕ). IsAt file n text) (sym has.0) is.0, has.1 ∙ is.1, has.2)
+has_name file (Some text) (Some place) r is has =
+    (subst (λ (n : ℕ). IsAt file n text) (sym has.0) is.0, has.1 ∙ is.1, has.2)
 
 -- what the look-ups of an entry tell makes its row
-pub row_told : (file : List ℕ) (i : Image) (k : ℕ) (rows : List EntryRow) (found : Option Entry) (offset tag : ℕ) (above : Option ℕ) (d : ℕ)
-    (size : Option ℕ) (place : Option NamePlace) (r : EntryRow) → slice_get (entries_in i) k ≡ found → HaveRows file i k rows
-    → IfSome found (λ e. offset ≡ e.at) → IfSome found (λ e. tag ≡ e.head.decl.tag) → IfSome found (λ e. above ≡ e.parent)
-    → depth_under rows above ≡ Some d → IfSome found (λ e. size ≡ entry_size i k e) → IfSome found (λ e. IsNamePlace file (name_in i e) place)
-    → r.offset ≡ offset → r.depth ≡ d → r.tag ≡ tag → HasSize size r → HasPlace place r → IfSome found (λ e. IsRow file i k e r)
-row_told file i k rows None offset tag above d size place r at so_far is_offset is_tag is_above is_depth is_size is_place r_offset r_depth r_tag r_size r_place = tt
-row_told file i k rows (Some e) offset tag above d size place r at so_far is_offset is_tag is_above is_depth is_size is_place r_offset r_depth r_tag r_size r_place =
+pub row_told : (file : List ℕ) (i : Image) (k : ℕ) (rows : List EntryRow) (found : Option Entry) (offset tag : ℕ)
+    (above : Option ℕ) (d : ℕ)
+    (size : Option ℕ) (place : Option NamePlace) (r : EntryRow)
+    → slice_get (entries_in i) k ≡ found → HaveRows file i k rows
+    → IfSome found (λ e. offset ≡ e.at) → IfSome found (λ e. tag ≡ e.head.decl.tag)
+    → IfSome found (λ e. above ≡ e.parent)
+    → depth_under rows above ≡ Some d → IfSome found (λ e. size ≡ entry_size i k e)
+    → IfSome found (λ e. IsNamePlace file (name_in i e) place)
+    → r.offset ≡ offset → r.depth ≡ d → r.tag ≡ tag → HasSize size r → HasPlace place r
+    → IfSome found (λ e. IsRow file i k e r)
+row_told file i k rows None offset tag above d size place r at so_far is_offset is_tag is_above is_depth is_size
+    is_place r_offset r_depth r_tag r_size r_place = tt
+row_told file i k rows (Some e) offset tag above d size place r at so_far is_offset is_tag is_above is_depth is_size
+    is_place r_offset r_depth r_tag r_size r_place =
     record {
       offset = r_offset ∙ is_offset;
       depth = r_depth ∙ depth_told file i k e rows d at so_far (ap (depth_under rows) (sym is_above) ∙ is_depth);
@@ -73,16 +90,20 @@ row_told file i k rows (Some e) offset tag above d size place r at so_far is_off
     }
 
 -- the rows so far and that of the next entry
-one_more_row : (file : List ℕ) (i : Image) (n : ℕ) (rows : List EntryRow) (r : EntryRow) → n < entry_count i → n < length rows → HaveRows file i n rows
+one_more_row : (file : List ℕ) (i : Image) (n : ℕ) (rows : List EntryRow) (r : EntryRow) → n < entry_count i
+    → n < length rows → HaveRows file i n rows
     → IfSome (slice_get (entries_in i) n) (λ e. IsRow file i n e r) → HaveRows file i (n + 1) (slice_set rows n r)
 one_more_row file i n rows r below room so_far says k d within at =
     elim (below_or_not k n) [
-      | inl less ↦ subst (λ (o : Option EntryRow). IsSomeAnd o (IsRow file i k d)) (sym (get_set_other rows n k r less)) (so_far k d less at)
+      | inl less ↦ subst (λ (o : Option EntryRow). IsSomeAnd o (IsRow file i k d))
+          (sym (get_set_other rows n k r less)) (so_far k d less at)
       | inr past ↦
           let same : n ≡ k = omega (arith, within, past) in
-          let here : IfSome (slice_get (entries_in i) k) (λ e. IsRow file i k e r) = subst (λ (m : ℕ). IfSome (slice_get (entries_in i) m) (λ e. IsRow file i m e r)) same says in
+          let here : IfSome (slice_get (entries_in i) k) (λ e. IsRow file i k e r) =
+          subst (λ (m : ℕ). IfSome (slice_get (entries_in i) m) (λ e. IsRow file i m e r)) same says in
           let row : IsRow file i k d r = rw at at here in
-          subst (λ (o : Option EntryRow). IsSomeAnd o (IsRow file i k d)) (sym (ap (λ (m : ℕ). slice_get (slice_set rows n r) m) (sym same) ∙ get_set_same rows n r room)) row
+          subst (λ (o : Option EntryRow). IsSomeAnd o (IsRow file i k d))
+          (sym (ap (λ (m : ℕ). slice_get (slice_set rows n r) m) (sym same) ∙ get_set_same rows n r room)) row
     ]
 
 nth_is : (entries : List Entry) (k id : ℕ) → Some id ≡ nth_of entries k → id ≡ k
@@ -93,11 +114,13 @@ nth_is entries k id is = go (nat_lt k (length entries)) is
     go false is = absurd cc
 
 -- so with the row of the entry that a look-up by its number returns
-pub next_row : (file : List ℕ) (i : Image) (n id : ℕ) (rows : List EntryRow) (r : EntryRow) → Some id ≡ nth_of (entries_in i) n → n < entry_count i → n < length rows → HaveRows file i n rows
+pub next_row : (file : List ℕ) (i : Image) (n id : ℕ) (rows : List EntryRow) (r : EntryRow)
+    → Some id ≡ nth_of (entries_in i) n → n < entry_count i → n < length rows → HaveRows file i n rows
     → IfSome (slice_get (entries_in i) id) (λ e. IsRow file i id e r) → HaveRows file i (n + 1) (slice_set rows n r)
 next_row file i n id rows r found below room so_far says =
     one_more_row file i n rows r below room so_far
-    (subst (λ (m : ℕ). IfSome (slice_get (entries_in i) m) (λ e. IsRow file i m e r)) (nth_is (entries_in i) n id found) says)
+    (subst (λ (m : ℕ). IfSome (slice_get (entries_in i) m) (λ e. IsRow file i m e r))
+    (nth_is (entries_in i) n id found) says)
 
 -- a parent has an earlier number
 pub parent_before : (i : Image) (k : ℕ) (room : ℕ) (found : Option Entry) (parent : Option ℕ) → k ≤ room
@@ -113,14 +136,26 @@ parent_before i k room (Some e) parent le at within is = go e.parent refl
         rw (is, under) (omega (arith, less, le))
 
 -- all rows are written, by what is known of the names
-pub all_rows : (file file' : List ℕ) (i i' : Image) (rows rows' : List EntryRow) → file' ≡ file → i' ≡ i → entry_count i ≤ length rows
-    → HaveRows file' i' (entry_count i') rows' → drop (entry_count i') rows' ≡ drop (entry_count i') rows → FillsRows file i rows SOUND rows'
+pub all_rows : (file file' : List ℕ) (i i' : Image) (rows rows' : List EntryRow) → file' ≡ file → i' ≡ i
+    → entry_count i ≤ length rows
+    → HaveRows file' i' (entry_count i') rows' → drop (entry_count i') rows' ≡ drop (entry_count i') rows
+    → FillsRows file i rows SOUND rows'
 all_rows file file' i i' rows rows' same_file same_image room have rest =
     let P : List ℕ → Image → Type 0 = λ f j. HaveRows f j (entry_count j) rows' in
     whole rows' room (subst (λ (f : List ℕ). P f i) same_file (subst (P file') same_image have))
     (subst (λ (j : Image). drop (entry_count j) rows' ≡ drop (entry_count j) rows) same_image rest)
 
 -- what is returned for a sound file
-pub puts_sound : (bytes : List ℕ) (rows : List EntryRow) (count : ℕ) (v : Verdict) (i : Image) (status : ℕ) (rows' : List EntryRow) (count' : ℕ) (v' : Verdict)
-    → IsSoundFile bytes i → FillsRows bytes i rows status rows' → count' ≡ entry_count i → v' ≡ of_image i → PutsRows bytes rows count v status rows' count' v'
-puts_sound bytes rows count v i status rows' count' v' is fills is_count is_verdict = rw (is_count, is_verdict) (sound i status rows' is fills)
+pub puts_sound : (bytes : List ℕ) (rows : List EntryRow) (count : ℕ) (v : Verdict) (i : Image) (status : ℕ)
+    (rows' : List EntryRow) (count' : ℕ) (v' : Verdict)
+    → IsSoundFile bytes i → FillsRows bytes i rows status rows' → count' ≡ entry_count i → v' ≡ of_image i
+    → PutsRows bytes rows count v status rows' count' v'
+puts_sound bytes rows count v i status rows' count' v' is fills is_count is_verdict =
+    rw (is_count, is_verdict) (sound i status rows' is fills)
+
+-- what is returned for a file that is not sound, or if an allocation failed
+pub puts_error : (bytes : List ℕ) (rows : List EntryRow) (count : ℕ) (v : Verdict) (e : CheckError) (status : ℕ)
+    (v' : Verdict) → status ≡ status_of (Err e) → v' ≡ verdict_after (Err e) v → IsErrorOf (IsFaultOfFile bytes) e
+    → PutsRows bytes rows count v status rows count v'
+puts_error bytes rows count v (Fault f) status v' is_status is_v is = rw (is_status, is_v) (fault f is)
+puts_error bytes rows count v Memory status v' is_status is_v is = rw (is_status, is_v) memory

@@ -16,12 +16,23 @@ use Rattle.dwv_c.specs.Verdicts.{fault_verdict, field_text}
 pub filled : (n : ℕ) (text bytes field : List ℕ) → bytes ≡ text
     → field ≡ bytes ++ drop (length bytes) (replicate n 0) → field ≡ field_text n text
 filled n text bytes field same is =
-    let zeros : ◌≡◌ {A = List ℕ} (drop (length text) (replicate n 0)) (replicate (n - length text) 0) = drop-replicate (length text) n 0 in
+    let zeros : ◌≡◌ {A = List ℕ} (drop (length text) (replicate n 0)) (replicate (n - length text) 0) =
+    drop-replicate (length text) n 0 in
     is ∙ ap (λ bs. bs ++ drop (length bs) (replicate n 0)) same ∙ ap (λ zs. text ++ zs) zeros
 
-pub with_fields : (at attribute : ℕ) (rule section name r s n : List ℕ) → r ≡ field_text 8 rule → s ≡ field_text 16 section
+pub with_fields : (at attribute : ℕ) (rule section name r s n : List ℕ) → r ≡ field_text 8 rule
+    → s ≡ field_text 16 section
     → n ≡ field_text 24 name
-    → ◌≡◌ {A = Verdict} (record { units = 0; entries = 0; types = 0; at = at; attribute = attribute; rule = r; section = s; name = n }) (fault_verdict at attribute rule section name)
+    → ◌≡◌ {A = Verdict} (record {
+      units = 0;
+      entries = 0;
+      types = 0;
+      at = at;
+      attribute = attribute;
+      rule = r;
+      section = s;
+      name = n;
+    }) (fault_verdict at attribute rule section name)
 with_fields at attribute rule section name r s n is_r is_s is_n = rw (is_r, is_s, is_n) refl
 
 pub rule_fits : (rule : Rule) → length (code_text rule) < 8

@@ -2,8 +2,8 @@
 use Rattle.std.specs.Prelude.{◌≡◌, ℕ, suc, List, length, min, slice_get, Option, None, Some, option_map}
 use Rattle.dw_elf.specs.declared.sections.Sections.{Sections}
 use Rattle.dw_elf.specs.Sections.{IsAt}
-use Rattle.dwv_c.specs.declared.names.NamePlace.{NamePlace}
-use Rattle.dwv_c.specs.declared.names.Starts.{Starts}
+use Rattle.dwv_c.specs.declared.rows.NamePlace.{NamePlace}
+use Rattle.dwv_c.specs.declared.rows.Starts.{Starts}
 use Rattle.dwv_c.specs.declared.rows.EntryRow.{EntryRow}
 use Rattle.dwv_c.specs.Rows.{greatest}
 

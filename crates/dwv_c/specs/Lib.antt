@@ -1,8 +1,7 @@
 -- Chapters, in reading order.
-pub mod Statuses
 pub mod Verdicts
 pub mod Rows
 pub mod Texts
 -- State.
-pub mod Judged
+pub mod Checked
 pub mod Filling

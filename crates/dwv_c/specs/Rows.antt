@@ -1,24 +1,18 @@
 -- Chapter: the entries of a sound file as rows in an array of the caller.
 use Rattle.std.specs.Prelude.{◌≡◌, ℕ, ◌<◌, ◌≤◌, List, length, drop, min, slice_get, Option, Some, None}
-use Rattle.std.specs.Prelude.{if◌then◌else◌}
 use Rattle.std.specs.Option.{IsSomeAnd}
 use Rattle.dw_elf.specs.Sections.{IsAt}
 use Rattle.dw_entries.specs.Entries.{Entry}
 use Rattle.dw_image.specs.declared.image.Image.{Image}
-use Rattle.dw_image.specs.Images.{entries_in, entry_count, name_in, size_table_in}
-use Rattle.dw_image.specs.Lookups.{is_type_entry}
+use Rattle.dw_image.specs.Images.{entries_in, entry_count, name_in}
+use Rattle.dw_report.specs.Shown.{entry_size}
 use Rattle.dwv_c.specs.declared.rows.EntryRow.{EntryRow}
 use Rattle.dwv_c.specs.declared.verdict.Verdict.{Verdict}
-use Rattle.dwv_c.specs.Statuses.{SOUND, FAULT, NO_MEMORY, TOO_SHORT}
-use Rattle.dwv_c.specs.Verdicts.{IsSoundFile, IsFaultOfFile, of_image}
+use Rattle.dwv_c.specs.Verdicts.{SOUND, FAULT, NO_MEMORY, TOO_SHORT, IsSoundFile, IsFaultOfFile, of_image}
 
 -- the greatest number that a field of 32 bits has
 abbrev pub greatest : ℕ
 greatest = 4_294_967_295
-
--- the size of the entry with a number, if it is a type and has one
-abbrev pub entry_size : Image → ℕ → Entry → Option ℕ
-entry_size i number e = if is_type_entry e then size_table_in i number else None
 
 -- a row has this size, or none
 abbrev pub HasSize : Option ℕ → EntryRow → Type 0

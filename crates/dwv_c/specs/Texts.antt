@@ -5,7 +5,7 @@ use Rattle.dw_report.specs.declared.request.Request.{Request}
 use Rattle.dw_report.specs.declared.request.Request.TheVariants.{Check, Show, Types, Size}
 use Rattle.dw_report.specs.declared.request.Status.{Status}
 use Rattle.dw_report.specs.Reports.{Report, file_limit, status_code}
-use Rattle.dwv_c.specs.Statuses.{NO_MEMORY, TOO_SHORT, NO_REQUEST}
+use Rattle.dwv_c.specs.Verdicts.{NO_MEMORY, TOO_SHORT, NO_REQUEST}
 
 -- the request with a number; only `size` has the offset
 abbrev pub request_of : (number offset : ℕ) → Option Request

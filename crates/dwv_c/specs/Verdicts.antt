@@ -1,4 +1,4 @@
--- Chapter: the verdict on a file or on six sections, as the caller's struct has it.
+-- Chapter: what a call returns, and the verdict on a file or on six sections, as the caller's struct has it.
 use Rattle.std.specs.Prelude.{◌≡◌, ℕ, ◌-◌, ◌<◌, ◌≤◌, ◌⊎◌, List, ◌++◌, length, replicate, codes}
 use Rattle.dw_elf.specs.declared.fault.ElfFault.{ElfFault}
 use Rattle.dw_elf.specs.declared.sections.Sections.{Sections}
@@ -12,11 +12,30 @@ use Rattle.dw_entries.specs.RuleTexts.{code_text, name_text, section_text}
 use Rattle.dw_image.specs.declared.image.Image.{Image}
 use Rattle.dw_image.specs.Headline.{IsImageOf, IsFaultOf}
 use Rattle.dw_image.specs.Images.{unit_count, entry_count, type_count}
-use Rattle.dw_units.specs.declared.counts.Counts.{Counts}
+use Rattle.dw_units.specs.declared.counting.Counts.{Counts}
 use Rattle.dw_units.specs.Counted.{AreCounts}
 use Rattle.dw_report.specs.Reports.{file_limit, too_large}
-use Rattle.dwv_c.specs.Statuses.{SOUND, FAULT, NO_MEMORY}
 use Rattle.dwv_c.specs.declared.verdict.Verdict.{Verdict}
+
+-- the file is sound
+abbrev pub SOUND : ℕ
+SOUND = 0
+
+-- it violates a rule
+abbrev pub FAULT : ℕ
+FAULT = 1
+
+-- an allocation failed
+abbrev pub NO_MEMORY : ℕ
+NO_MEMORY = 4
+
+-- the caller's buffer or array is too short
+abbrev pub TOO_SHORT : ℕ
+TOO_SHORT = 5
+
+-- no request has the number
+abbrev pub NO_REQUEST : ℕ
+NO_REQUEST = 6
 
 -- a text, and zero bytes after it up to n bytes in all
 abbrev pub field_text : ℕ → List ℕ → List ℕ

@@ -1,33 +1,46 @@
 //! The calls from C.
 
+ghost use Rattle.std.specs.Prelude.{◌≡◌};
+ghost use Rattle.dw_report.specs.Reports.{status_code};
+ghost use Rattle.dwv_c.specs.Verdicts.{AreCountsOfFile, AreCountsOfSix, Checks, IsFaultOfFile, IsFaultOfSix};
 ghost use Rattle.dwv_c.specs.Rows.{PutsRows};
 ghost use Rattle.dwv_c.specs.Texts.{PutsReport, request_of};
-ghost use Rattle.dwv_c.specs.Verdicts.{AreCountsOfFile, AreCountsOfSix, Checks, IsFaultOfFile, IsFaultOfSix};
+ghost use Rattle.dwv_c.specs.Checked.{status_of, verdict_after};
 
-use crate::judging::{Counted, Judged, count_file, count_six, judge_file};
+use crate::checks::{CheckError, count_file, count_six, verify_file};
 use crate::rows::{EntryRow, put_rows};
-use crate::statuses::{FAULT, NO_MEMORY, SOUND};
-use crate::texts::put_report;
-use crate::verdict::{Verdict, verdict_of_counts};
+use crate::verdict::{
+    FAULT, NO_MEMORY, NO_REQUEST, SOUND, TOO_SHORT, Verdict, put_text, verdict_of_counts,
+};
 use dw_image::NoMemory;
+use dw_report::{Request, Status, longest_file, report};
+use dw_units::Counts;
 use std::alloc::Global;
+
+/// Writes the counts or the fault into the struct of the caller.
+fn put_verdict(counts: Result<Counts, CheckError>, verdict: &mut Verdict) -> u32
+    ensures status { result ≡ status_of counts }
+    ensures verdict { verdict.new ≡ verdict_after counts verdict.old }
+{
+    match counts {
+        Ok(counts) => {
+            *verdict = verdict_of_counts(counts);
+            SOUND
+        }
+        Err(CheckError::Fault(fault)) => {
+            *verdict = fault;
+            FAULT
+        }
+        Err(CheckError::Memory) => NO_MEMORY,
+    }
+}
 
 /// Checks a file: SOUND and its counts, FAULT and its fault, or NO_MEMORY.
 #[unsafe(no_mangle)]
 pub extern "C" fn dwv_check(alloc: Global, file: &[u8], verdict: &mut Verdict) -> u32
     ensures { Checks (IsFaultOfFile file.now) (AreCountsOfFile file.now) verdict.old result verdict.new }
 {
-    match count_file(alloc, file) {
-        Ok(Counted::Sound(counts)) => {
-            *verdict = verdict_of_counts(counts);
-            SOUND
-        }
-        Ok(Counted::Fault(fault)) => {
-            *verdict = fault;
-            FAULT
-        }
-        Err(NoMemory) => NO_MEMORY,
-    }
+    put_verdict(count_file(alloc, file), verdict)
 }
 
 /// Checks six sections of a file of any format. A section that the file does not have is empty.
@@ -46,17 +59,29 @@ pub extern "C" fn dwv_check_sections(
         (AreCountsOfSix info.now «abbrev».now str.now line_str.now str_offsets.now addr.now)
         verdict.old result verdict.new }
 {
-    match count_six(alloc, info, abbrev, str, line_str, str_offsets, addr) {
-        Ok(Counted::Sound(counts)) => {
-            *verdict = verdict_of_counts(counts);
-            SOUND
-        }
-        Ok(Counted::Fault(fault)) => {
-            *verdict = fault;
-            FAULT
-        }
-        Err(NoMemory) => NO_MEMORY,
+    let counts = count_six(alloc, info, abbrev, str, line_str, str_offsets, addr);
+    put_verdict(counts, verdict)
+}
+
+/// The request with a number.
+fn request_numbered(number: u32, offset: u32) -> Option<Request>
+    ensures { result ≡ request_of number offset }
+{
+    match number {
+        0 => Some(Request::Check { json: false }),
+        1 => Some(Request::Check { json: true }),
+        2 => Some(Request::Show),
+        3 => Some(Request::Types),
+        4 => Some(Request::Size(offset)),
+        _ => None,
     }
+}
+
+/// The exit status as a number that is returned.
+fn number_of(status: Status) -> u32
+    ensures { result ≡ status_code status }
+{
+    u32::from(status.code())
 }
 
 /// Writes the report of a request to a buffer: all of it and its exit status, or nothing and TOO_SHORT, NO_MEMORY or
@@ -72,7 +97,21 @@ pub extern "C" fn dwv_report(
 ) -> u32
     ensures { PutsReport file.now (request_of request offset) buffer.old needed.old result buffer.new needed.new }
 {
-    put_report(alloc, file, request, offset, buffer, needed)
+    let Some(request) = request_numbered(request, offset) else {
+        return NO_REQUEST;
+    };
+    match report(alloc, longest_file(), request, file) {
+        Ok(answer) => {
+            let text = answer.text.as_slice();
+            *needed = text.len();
+            if text.len() > buffer.len() {
+                return TOO_SHORT;
+            }
+            put_text(buffer, text);
+            number_of(answer.status)
+        }
+        Err(NoMemory) => NO_MEMORY,
+    }
 }
 
 /// Checks a file, and writes a row for each entry of a sound one: all rows and SOUND, or none and TOO_SHORT, FAULT or
@@ -87,12 +126,8 @@ pub extern "C" fn dwv_entries(
 ) -> u32
     ensures { PutsRows file.now rows.old count.old verdict.old result rows.new count.new verdict.new }
 {
-    match judge_file(alloc, file) {
-        Ok(Judged::Sound(image)) => put_rows(alloc, file, &image, rows, count, verdict),
-        Ok(Judged::Fault(fault)) => {
-            *verdict = fault;
-            FAULT
-        }
-        Err(NoMemory) => NO_MEMORY,
+    match verify_file(alloc, file) {
+        Ok(image) => put_rows(alloc, file, &image, rows, count, verdict),
+        Err(error) => put_verdict(Err(error), verdict),
     }
 }

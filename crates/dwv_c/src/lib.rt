@@ -3,12 +3,9 @@
 //! allocator as nothing. No call keeps anything after it returned.
 #![tactic(auto)]
 
+mod checks;
 mod exports;
-mod judging;
-mod names;
 mod rows;
-mod statuses;
-mod texts;
 mod verdict;
 
 pub use exports::{dwv_check, dwv_check_sections, dwv_entries, dwv_report};

@@ -1,6 +1,6 @@
-//! A verdict as a struct of fixed size.
+//! What a call returns, and the verdict as a struct of fixed size.
 
-ghost use Rattle.std.specs.Prelude.{◌≡◌, ◌<◌, length};
+ghost use Rattle.std.specs.Prelude.{◌≡◌, ◌<◌, ◌≤◌, ◌++◌, length, drop};
 ghost use Rattle.dw_elf.specs.declared.fault.ElfRule.{ElfRule as FileRule};
 ghost use Rattle.dw_elf.specs.RuleTexts as elf;
 ghost use Rattle.dw_entries.specs.declared.fault.Section.{Section};
@@ -9,12 +9,26 @@ ghost use Rattle.dw_entries.specs.RuleTexts.{code_text, name_text, section_text}
 ghost use Rattle.dw_report.specs.Reports.{too_large};
 ghost use Rattle.dwv_c.specs.Verdicts.{fault_verdict, of_counts, of_file_fault, of_fault};
 
-use crate::texts::put_text;
 use dw_elf::{ElfFault, ElfRule};
 use dw_image::Fault;
 use dw_units::Counts;
 
-/// What a file or six sections are found to be. Of a fault the counts are 0, of sound ones everything else.
+/// The file is sound.
+pub const SOUND: u32 = 0;
+
+/// It violates a rule.
+pub const FAULT: u32 = 1;
+
+/// An allocation failed: the caller's memory is as it was.
+pub const NO_MEMORY: u32 = 4;
+
+/// The caller's buffer or array is too short: it is as it was.
+pub const TOO_SHORT: u32 = 5;
+
+/// No request has the number: the caller's memory is as it was.
+pub const NO_REQUEST: u32 = 6;
+
+/// The verdict on a file or on six sections. For a fault the counts are 0, for sound ones everything else is.
 #[repr(C)]
 #[derive(Clone, Copy, Debug)]
 pub struct Verdict {
@@ -44,6 +58,14 @@ pub fn texts_fit()
     ensures file_rules { (rule : FileRule) → length (elf.code_text rule) < 8 }
     ensures file_names { (rule : FileRule) → length (elf.name_text rule) < 24 }
 {}
+
+/// Writes a text over the first bytes of a buffer.
+pub fn put_text(buffer: &mut [u8], text: &[u8])
+    requires { length text.now ≤ length buffer.old }
+    ensures { buffer.new ≡ text.now ++ drop (length text.now) buffer.old }
+{
+    buffer[..text.len()].copy_from_slice(text);
+}
 
 /// A fault with its texts.
 fn with_texts(at: u32, attribute: u32, rule: &str, section: &str, name: &str) -> Verdict
@@ -88,7 +110,6 @@ pub fn verdict_of_large() -> Verdict
 }
 
 /// A fault of the sections.
-#[tactic(auto, using(crate::proofs::TextLemmas::rule_fits, crate::proofs::TextLemmas::name_fits, crate::proofs::TextLemmas::section_fits))]
 pub fn verdict_of_fault(fault: &Fault) -> Verdict
     ensures { result ≡ of_fault fault.now }
 {

@@ -2,8 +2,8 @@ use Rattle.std.proofs.Common.{subst, take}
 use Rattle.std.specs.Prelude.{IfSome}
 use Rattle.std.specs.Io.KnownBytes.{Appends}
 use Rattle.dw_report.specs.Reports.{Report}
-use Rattle.dwv.specs.Reports.{WritesReport, WritesBeginning}
-use Rattle.dwv.proofs.ReportLemmas.{WritesReport-of_read, WritesBeginning-of_read}
+use Rattle.dwv.specs.Reports.{WritesReport, WritesPrefix}
+use Rattle.dwv.proofs.ReportLemmas.{WritesReport-of_read, WritesPrefix-of_read}
 use Rattle.dwv.proofs.running.run.Goals as goal
 
 pub returns-in_err-write_text-clause-write_failed : goal.returns-in_err-write_text-clause-write_failed
@@ -13,20 +13,26 @@ returns-in_err-write_text-clause-write_failed g c = λ is.
     let new = g.W.Sink.contents c.write_text.new.writer in
     let answer = c.in_ok-answer.answer in
     let written = c.in_err-write_text.ensures.err in
-    subst (λ limit. IfSome input (λ bytes. WritesBeginning limit c.args.request bytes old new)) c.longest_file-limit.ensures
-    (WritesBeginning-of_read c.longest_file-limit.result c.args.request c.in_ok-bytes.bytes.items answer.status answer.text.items written.0
+    subst (λ limit. IfSome input (λ bytes. WritesPrefix limit c.args.request bytes old new))
+    c.longest_file-limit.ensures
+    (WritesPrefix-of_read c.longest_file-limit.result c.args.request c.in_ok-bytes.bytes.items answer.status
+    answer.text.items written.0
     input old new c.in_ok-bytes.ensures.read
-    (subst (λ xs. Report c.longest_file-limit.result c.args.request xs answer.status answer.text.items) c.as_slice.ensures.value c.in_ok-answer.ensures)
-    (subst (λ text. Appends old new (take written.0 text)) c.as_slice-2.ensures.value written.1))
+    (subst (λ xs. Report c.longest_file-limit.result c.args.request xs answer.status answer.text.items)
+    c.as_slice-input.ensures.value c.in_ok-answer.ensures)
+    (subst (λ text. Appends old new (take written.0 text)) c.as_slice-text.ensures.value written.1))
 
-pub returns-clause-answered : goal.returns-clause-answered
-returns-clause-answered g c =
+pub returns-clause-written : goal.returns-clause-written
+returns-clause-written g c =
     let input = g.R.Source.remaining c.args.reader.now in
     let old = g.W.Sink.contents c.args.writer.now in
     let new = g.W.Sink.contents c.write_text.new.writer in
     let answer = c.in_ok-answer.answer in
-    subst (λ limit. IfSome input (λ bytes. WritesReport limit c.args.request bytes answer.status old new)) c.longest_file-limit.ensures
-    (WritesReport-of_read c.longest_file-limit.result c.args.request c.in_ok-bytes.bytes.items answer.status answer.text.items
+    subst (λ limit. IfSome input (λ bytes. WritesReport limit c.args.request bytes answer.status old new))
+    c.longest_file-limit.ensures
+    (WritesReport-of_read c.longest_file-limit.result c.args.request c.in_ok-bytes.bytes.items answer.status
+    answer.text.items
     input old new c.in_ok-bytes.ensures.read
-    (subst (λ xs. Report c.longest_file-limit.result c.args.request xs answer.status answer.text.items) c.as_slice.ensures.value c.in_ok-answer.ensures)
-    (subst (λ text. Appends old new text) c.as_slice-2.ensures.value c.in_ok-write_text.ensures.ok))
+    (subst (λ xs. Report c.longest_file-limit.result c.args.request xs answer.status answer.text.items)
+    c.as_slice-input.ensures.value c.in_ok-answer.ensures)
+    (subst (λ text. Appends old new text) c.as_slice-text.ensures.value c.in_ok-write_text.ensures.ok))

@@ -1,18 +1,12 @@
-use Rattle.std.proofs.Common.{sym, subst}
-use Rattle.dwv_c.specs.Statuses.{SOUND}
-use Rattle.dwv_c.specs.Verdicts.{AreCountsOfSix, IsFaultOfSix, Checks, sound, fault, memory}
+use Rattle.dwv_c.specs.Verdicts.{AreCountsOfSix, IsFaultOfSix}
+use Rattle.dwv_c.proofs.CheckLemmas.{told}
 use Rattle.dwv_c.proofs.exports.dwv_check_sections.Goals as goal
 
-pub returns-in-Ok-Sound : goal.returns-in-Ok-Sound
-returns-in-Ok-Sound c =
-    let counted : AreCountsOfSix c.args.info.now c.args.abbrev.now c.args.str.now c.args.line_str.now c.args.str_offsets.now c.args.addr.now c.in-Ok-Sound.counts = rw c.in-Ok-Sound.field-0-is at c.in-Ok-Sound.ensures in
-    subst (λ v. Checks (IsFaultOfSix c.args.info.now c.args.abbrev.now c.args.str.now c.args.line_str.now c.args.str_offsets.now c.args.addr.now) (AreCountsOfSix c.args.info.now c.args.abbrev.now c.args.str.now c.args.line_str.now c.args.str_offsets.now c.args.addr.now) c.args.verdict.now SOUND v) (sym c.verdict_of_counts.ensures)
-    (sound c.in-Ok-Sound.counts counted)
-
-pub returns-in-Ok-Fault : goal.returns-in-Ok-Fault
-returns-in-Ok-Fault c =
-    let counted : IsFaultOfSix c.args.info.now c.args.abbrev.now c.args.str.now c.args.line_str.now c.args.str_offsets.now c.args.addr.now c.in-Ok-Fault.fault = rw c.in-Ok-Fault.field-0-is at c.in-Ok-Fault.ensures in
-    fault c.in-Ok-Fault.fault counted
-
-pub returns-in-Err : goal.returns-in-Err
-returns-in-Err c = memory
+pub returns : goal.returns
+returns c =
+    told (IsFaultOfSix c.args.info.now c.args.abbrev.now c.args.str.now c.args.line_str.now c.args.str_offsets.now
+    c.args.addr.now)
+    (AreCountsOfSix c.args.info.now c.args.abbrev.now c.args.str.now c.args.line_str.now c.args.str_offsets.now
+    c.args.addr.now)
+    c.count_six-counts.result c.args.verdict.now c.put_verdict.new.verdict c.put_verdict.result
+    c.put_verdict.ensures.status c.put_verdict.ensures.verdict c.count_six-counts.ensures

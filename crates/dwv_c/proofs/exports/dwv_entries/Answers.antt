@@ -1,16 +1,7 @@
-use Rattle.dwv_c.specs.Rows.{fault, memory}
-use Rattle.dwv_c.specs.Verdicts.{IsFaultOfFile, IsSoundFile}
+use Rattle.dwv_c.proofs.RowLemmas.{puts_error}
 use Rattle.dwv_c.proofs.exports.dwv_entries.Goals as goal
 
-pub put_rows-requires : goal.put_rows-requires
-put_rows-requires c =
-    let judged : IsSoundFile c.args.file.now c.in-Ok-Sound.image = rw c.in-Ok-Sound.field-0-is at c.in-Ok-Sound.ensures in
-    judged
-
-pub returns-in-Ok-Fault : goal.returns-in-Ok-Fault
-returns-in-Ok-Fault c =
-    let judged : IsFaultOfFile c.args.file.now c.in-Ok-Fault.fault = rw c.in-Ok-Fault.field-0-is at c.in-Ok-Fault.ensures in
-    fault c.in-Ok-Fault.fault judged
-
 pub returns-in-Err : goal.returns-in-Err
-returns-in-Err c = memory
+returns-in-Err c =
+    puts_error c.args.file.now c.args.rows.now c.args.count.now c.args.verdict.now c.in-Err.error c.put_verdict.result
+    c.put_verdict.new.verdict c.put_verdict.ensures.status c.put_verdict.ensures.verdict c.in-Err.ensures

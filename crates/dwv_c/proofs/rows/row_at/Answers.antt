@@ -13,7 +13,9 @@ pub returns : goal.returns
 returns c =
     let image = c.args.names.now.source.image.now in
     row_told c.args.names.now.file.now image c.args.id c.args.rows.now (slice_get (entries_in image) c.args.id)
-    c.offset.result c.tag.result c.parent.result c.depth_by_rows-depth.result c.size_of_entry-size.result c.place.result c.row_with.result refl
+    c.offset.result c.tag.result c.parent.result c.depth_by_rows-depth.result c.size_of_entry-size.result
+    c.place.result c.row_with.result refl
     c.requires.before c.offset.ensures c.tag.ensures c.parent.ensures c.depth_by_rows-depth.ensures
-    c.size_of_entry-size.ensures c.place.ensures c.row_with.ensures.offset c.row_with.ensures.depth c.row_with.ensures.tag
+    c.size_of_entry-size.ensures c.place.ensures c.row_with.ensures.offset c.row_with.ensures.depth
+    c.row_with.ensures.tag
     c.row_with.ensures.size c.row_with.ensures.name
