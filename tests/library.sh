@@ -84,7 +84,7 @@ layout() {
     layout crates/dwv_c/src/verdict.rt Verdict dwv_verdict
     layout crates/dwv_c/src/rows.rt EntryRow dwv_entry
     sed -n 's/^pub const \([A-Z_]*\): u32 = \([0-9]*\);/_Static_assert(DWV_\1 == \2, "\1");/p' \
-        crates/dwv_c/src/statuses.rt
+        crates/dwv_c/src/verdict.rt
 } > "$folder/layout.c"
 is 'tests of the layout' "$(grep -c '^_Static_assert' "$folder/layout.c")" 39
 
