@@ -1,5 +1,5 @@
 -- Where a text is that is in the value of an attribute.
-use Rattle.std.proofs.Common.{◌≡◌, ◌≢◌, ℕ, zero, suc, ◌+◌, ◌-◌, ◌<◌, ◌≤◌, List, [], ◌∷◌, ◌++◌, length, take, drop, map, All, true, false, Some, Result, Ok, refl, sym, ap, subst, ◌∙◌, append_assoc, length-append, length-drop, length-take, drop_at, drop-drop, take-append-drop, arith}
+use Rattle.std.proofs.Common.{◌≡◌, ◌≢◌, ℕ, suc, ◌+◌, ◌-◌, ◌<◌, ◌≤◌, List, [], ◌∷◌, ◌++◌, length, take, drop, map, All, true, false, Some, Result, Ok, refl, sym, ap, subst, ◌∙◌, append_assoc, length-append, length-drop, drop_at, drop-drop, take-append-drop, arith}
 use Rattle.std.specs.Prelude.{slice_get, IfSome}
 use Rattle.std.specs.List.{flat_map, list_any}
 use Rattle.std.proofs.Props.{props}

@@ -1,5 +1,5 @@
 -- One attribute of those that are left.
-use Rattle.std.proofs.Common.{◌≡◌, ℕ, ◌+◌, ◌≤◌, ◌<◌, subst, List, [], ◌∷◌, ◌++◌, ◌-◌, length, take, drop, map, None, Result, Ok, Err, refl, sym, ap, ◌∙◌, append_assoc, arith, Bool, true, false, get_or, add-one, drop-cons}
+use Rattle.std.proofs.Common.{◌≡◌, ℕ, ◌≤◌, ◌<◌, subst, List, [], ◌∷◌, ◌++◌, ◌-◌, length, take, drop, map, None, Result, Ok, Err, refl, sym, ap, ◌∙◌, append_assoc, arith, Bool, true, false}
 use Rattle.std.specs.Prelude.{◌==◌}
 use Rattle.std.specs.List.{flat_map}
 use Rattle.dw_forms.specs.declared.decl.AttributeSpec.{AttributeSpec}

@@ -2,7 +2,6 @@ use Rattle.std.proofs.Common.{List, sym, ap, ◌∙◌}
 use Rattle.dw_forms.specs.declared.decl.AttributeSpec.{AttributeSpec}
 use Rattle.dw_forms.specs.KeptDecls.{view}
 use Rattle.dw_forms.specs.Plans.{values_end}
-use Rattle.dw_entries.specs.Reading.{after, attributes_at}
 use Rattle.dw_entries.specs.Units.{context_in}
 use Rattle.dw_entries.proofs.PassLaws.{all_after}
 use Rattle.dw_entries.proofs.scanning.skip_attributes.Goals as goal

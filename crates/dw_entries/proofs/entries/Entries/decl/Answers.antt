@@ -1,4 +1,3 @@
-use Rattle.std.proofs.Common.{arith}
 use Rattle.dw_forms.specs.KeptDecls.{view}
 use Rattle.dw_entries.proofs.KeptLaws.{kept_entry, decl_numbered, decl_kept, decl_is}
 use Rattle.dw_entries.proofs.entries.Entries.decl.Goals as goal

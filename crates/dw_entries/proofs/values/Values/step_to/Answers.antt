@@ -1,4 +1,4 @@
-use Rattle.std.proofs.Common.{◌≡◌, ◌-◌, List, take, drop, length, inl, inr, arith}
+use Rattle.std.proofs.Common.{◌≡◌, ◌-◌, take, drop, length, inl, inr, arith}
 use Rattle.dw_forms.specs.Suffixes.{specs_in}
 use Rattle.dw_forms.specs.Value.{view}
 use Rattle.dw_entries.proofs.ScanLaws.{rest_of}
