@@ -118,7 +118,8 @@ const ROW: [u8; 22] = [
 
 /// Three with the codes 129, 130 and 131 of two bytes, at 0, 8 and 16. The second bytes start declarations of code 1.
 const INSIDE: [u8; 25] = [
-    0x81, 1, 0x11, 0, 0x3c, 0x19, 0, 0, 0x82, 1, 0x11, 0, 0x3c, 0x19, 0, 0, 0x83, 1, 0x11, 0, 0x3c, 0x19, 0, 0, 0,
+    0x81, 1, 0x11, 0, 0x3c, 0x19, 0, 0, 0x82, 1, 0x11, 0, 0x3c, 0x19, 0, 0, 0x83, 1, 0x11, 0, 0x3c,
+    0x19, 0, 0, 0,
 ];
 
 /// Tables that share declarations or their attributes, of which there are three: the section, and of each unit the

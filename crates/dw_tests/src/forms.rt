@@ -40,7 +40,9 @@ fn a_table(rt: HostRuntime) -> Result<(), Fail> {
     assert!(rt; base.attributes.as_slice() == &specs[..]);
     assert!(rt; base.tag.is_type() && specs[1].form.allowed(5) && !specs[1].form.allowed(4));
     let variable = table.get(3).ok_or("not declared")?;
-    assert!(rt; !variable.has_children && !variable.tag.is_type() && variable.attributes.is_empty());
+    assert!(rt;
+        !variable.has_children && !variable.tag.is_type() && variable.attributes.is_empty()
+    );
     Ok(())
 }
 
