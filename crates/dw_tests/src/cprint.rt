@@ -2,6 +2,7 @@
 
 use crate::image::image_of;
 use dw_cprint::{PrintFault, declare};
+use std::alloc::Global;
 use std::test::Fail;
 
 /// A table; `tests/rows/declarations.txt` has most of its entries. References have one byte.
@@ -99,20 +100,32 @@ const ROWS: [(&[u8], Result<&str, PrintFault>); 32] = [
     (b"\x04\x0d", Err(PrintFault::NotPrintable)),
 ];
 
-// A text goes behind what is there, and a refused entry leaves that as it is.
+/// The .debug_info of a unit with these items, the first of which is at 0x13.
+fn info_of(alloc: Global, items: &[u8]) -> Result<Vec<u8>, Fail> {
+    let mut info = FIRST.to_vec(alloc)?;
+    info.extend_from_slice(items)?;
+    info.push(0)?;
+    let length = u8::try_from(info.len() - 4).ok().ok_or("too long")?;
+    info[0] = length;
+    Ok(info)
+}
+
+/// What `declare` returns of the entry at 0x13, and the text after it, which began with an `x`.
+fn declared(alloc: Global, info: &[u8]) -> Result<(Result<(), PrintFault>, Vec<u8>), Fail> {
+    let image = image_of(alloc, &TABLE, info)?;
+    let id = image.entry(0x13).ok_or("no entry")?;
+    let mut text = Vec::new(alloc);
+    text.push(b'x')?;
+    let outcome = declare(alloc, &image, id, &mut text);
+    Ok((outcome, text))
+}
+
+// A text is appended to what is there, and a refused entry leaves that as it is.
 #[test]
 fn declarations(rt: HostRuntime) -> Result<(), Fail> {
     for (items, want) in &ROWS {
-        let mut info = FIRST.to_vec(rt.alloc())?;
-        info.extend_from_slice(items)?;
-        info.push(0)?;
-        let length = u8::try_from(info.len() - 4).ok().ok_or("too long")?;
-        info[0] = length;
-        let image = image_of(rt.alloc(), &TABLE, &info)?;
-        let id = image.entry(0x13).ok_or("no entry")?;
-        let mut text = Vec::new(rt.alloc());
-        text.push(b'x')?;
-        let outcome = declare(rt.alloc(), &image, id, &mut text);
+        let info = info_of(rt.alloc(), items)?;
+        let (outcome, text) = declared(rt.alloc(), &info)?;
         let text = String::from_utf8(text).ok().ok_or("no text")?;
         let added = text.strip_prefix('x').ok_or("the text before it is gone")?;
         match want {
