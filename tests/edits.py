@@ -286,6 +286,8 @@ def misplaced(edits):
     kept = [it for it in edits if it.folder == "must-fail"]
     if len(kept) > AT_MOST:
         yield f"must-fail/ has {len(kept)} edits, and should have at most {AT_MOST}: move some to more-edits/"
+    with_none = {it.crate.name for it in edits} - {it.crate.name for it in kept}
+    yield from (f"{name}: no edit in must-fail/" for name in sorted(with_none))
     sections = re.split(r"(?m)^## ", (TOP / "docs/PROOFS.md").read_text())
     listed = {it.partition("\n")[0]: set(re.findall(r"\w+", it)) for it in sections}
     for edit in edits:

@@ -12,7 +12,8 @@ AreBefore end starts = All (λ start. start < end) starts
 
 -- each number that is entered at an offset is that of what begins there
 abbrev pub AreEntered : List ℕ → List ℕ → Type 0
-AreEntered starts numbers = (offset : ℕ) → 0 < get_or numbers offset 0 → BeginsAt starts (get_or numbers offset 0) offset
+AreEntered starts numbers = (offset : ℕ) → 0 < get_or numbers offset 0
+    → BeginsAt starts (get_or numbers offset 0) offset
 
 -- the first so many of the offsets have their numbers
 abbrev pub HaveNumbers : ℕ → List ℕ → List ℕ → Type 0

@@ -1,4 +1,5 @@
-//! The verdict on six sections: the groups of rules in their order, the last of them on types: shapes, containment, sizes.
+//! The verdict on six sections: the groups of rules in their order, the last of them on types: shapes, containment and
+//! sizes.
 
 ghost use Rattle.std.specs.Prelude.{◌≡◌, ◌<◌, length, map, IfOk, IfErr};
 ghost use Rattle.dw_entries.specs.Scanned.{all_entries, units_of};

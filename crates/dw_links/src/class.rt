@@ -1,5 +1,5 @@
-//! The classes of values (DWARF 5, section 7.5.5), which attribute may have which, and the rule on them: by declarations,
-//! and where one of these leaves a class open, by values.
+//! The classes of values (DWARF 5, section 7.5.5), which attribute may have which, and the rule on them: by
+//! declarations, and where one of these leaves a class open, by values.
 
 ghost use Rattle.std.specs.Prelude.{◌≡◌, ◌<◌, List, Some, length, IsSome, OnOk, IfErr};
 ghost use Rattle.std.specs.Bool.{OnFalse};

@@ -1,5 +1,5 @@
-//! The rules on sizes: which are wrong, and whether a plain member ends inside its container (DWARF 5, 5.1, 5.5, 5.7 and
-//! 5.8).
+//! The rules on sizes: which are wrong, and whether a plain member ends inside its container (DWARF 5, 5.1, 5.5, 5.7
+//! and 5.8).
 
 ghost use Rattle.std.specs.Prelude.{◌≡◌, ◌^◌, ◌<◌, ◌≤ℤ◌, ℕ, pos, List, None, Some, false, true, length, nat_eq, IfSome};
 ghost use Rattle.dw_forms.specs.Codes.{DW_TAG_member as MemberTag};

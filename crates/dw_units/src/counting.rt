@@ -53,8 +53,8 @@ impl Counts {
 const KEPT: usize = 4 << 20;
 
 /// Asks for memory and gives it back, so that what one unit gives back is used again for the next one. The C library
-/// keeps up to twice as much from then on (mallopt(3), `M_TRIM_THRESHOLD`), and the system does not clear its pages once
-/// more. It does no harm if there is no such memory.
+/// keeps up to twice as much from then on (mallopt(3), `M_TRIM_THRESHOLD`), and the system does not clear its pages
+/// once more. It does no harm if there is no such memory.
 fn keep_memory(alloc: Global) {
     let mut room: Vec<u8> = Vec::new(alloc);
     let _ = room.reserve(KEPT);

@@ -111,8 +111,8 @@ fn after_unit<'a>(
 }
 
 /// Whether to verify each unit alone: there are several, no form of their tables may lead to another unit, and what
-/// each unit costs besides its bytes is little beside them: the tables may have the bytes of .debug_abbrev, and one more
-/// for each 16 bytes of the units so far.
+/// each unit costs besides its bytes is little beside them: the tables may have the bytes of .debug_abbrev, and one
+/// more for each 16 bytes of the units so far.
 pub fn are_apart(sections: &Sections<'_>) -> bool {
     if !ends_with_zero(sections.str) || !ends_with_zero(sections.line_str) {
         return false;
