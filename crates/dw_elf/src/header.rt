@@ -1,5 +1,5 @@
-//! The file header: its first bytes, and the fields that are read (System V ABI, chapter 4, ELF Header). A number in the
-//! file has its lowest byte first, and an offset counts from the first byte of the file.
+//! The file header: its first bytes, and the fields that are read (System V ABI, chapter 4, ELF Header). A number in
+//! the file has its lowest byte first, and an offset counts from the first byte of the file.
 
 ghost use Rattle.std.specs.Prelude.{◌≡◌, ◌↔◌, ◌+◌, ◌≤◌, length, IsTrue};
 ghost use Rattle.dw_elf.specs.Elf.{number_at, FILE_HEADER_SIZE};

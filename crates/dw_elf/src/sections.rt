@@ -1,7 +1,7 @@
 //! The six sections: their names, their bytes within the size limit, and what headers so far name of them.
 
-ghost use Rattle.std.specs.Prelude.{◌≡◌, ◌≢◌, ◌↔◌, ◌<◌, ◌≤◌, ◌⊎◌, Some, None, [], length, unwrap_or, IfOk, IsErr, IfSome};
-ghost use Rattle.std.specs.Prelude.{IfNone, IsTrue};
+ghost use Rattle.std.specs.Prelude.{◌≡◌, ◌≢◌, ◌↔◌, ◌<◌, ◌≤◌, ◌⊎◌, Some, None, [], length, unwrap_or, IfOk, IsErr};
+ghost use Rattle.std.specs.Prelude.{IfSome, IfNone, IsTrue};
 ghost use Rattle.std.specs.Option.{option_copied};
 ghost use Rattle.dw_elf.specs.Names.{name_of, IsWanted, IsZdebug};
 ghost use Rattle.dw_elf.specs.Limits.{section_limit};
