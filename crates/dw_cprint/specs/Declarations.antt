@@ -84,7 +84,7 @@ abbrev pub is_misplaced : List Parameter → Bool
 is_misplaced (More ∷ parameters) = true
 is_misplaced parameters = is_cut_short parameters
 
--- unspecified parameters stand among these
+-- unspecified parameters are among these
 abbrev pub has_more : List Parameter → Bool
 has_more [] = false
 has_more (Typed at ∷ parameters) = has_more parameters
@@ -140,6 +140,6 @@ term_at zero shapes at = None
 term_at (suc k) shapes None = Some Void
 term_at (suc k) shapes (Some entry) = term_by (term_at k shapes) (shapes entry)
 
--- the declaration of an entry, where no path of more than 64 steps begins at it; void may stand behind the last
+-- the declaration of an entry, where no path of more than 64 steps begins at it; void may come after the last
 unfoldable pub declaration_of : (ℕ → ShapeOf) → SubjectOf → Option Declaration
 declaration_of shapes subject = declaration_by (term_at 65 shapes) subject

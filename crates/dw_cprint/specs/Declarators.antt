@@ -7,12 +7,12 @@ use Rattle.dw_cprint.specs.Tokens.{Token, Blank, Star, Open, Close, LeftBrace, R
 use Rattle.dw_cprint.specs.Tokens.{QualifierWord, Identifier}
 use Rattle.dw_cprint.specs.Writing.{qualifying, basic, count_tokens, constants, signature_tokens, members_tokens}
 
--- a space, where a declarator that is not empty stands inside
+-- a space, where a declarator that is not empty comes inside
 abbrev pub gap : Bool → List Token
 gap false = []
 gap true = Blank ∷ []
 
--- the qualifiers of a pointer, joined by spaces, and one behind them where a declarator follows
+-- the qualifiers of a pointer, joined by spaces, and one after them where a declarator follows
 abbrev pub pointer_row : List Qualifier → Bool → List Token
 pointer_row [] inside = []
 pointer_row (q ∷ qs) inside = QualifierWord q ∷ (gap (has_elements qs || inside) ++ pointer_row qs inside)
@@ -47,7 +47,7 @@ core (Body tag members) = TagWord tag ∷ Blank ∷ body_tokens members
 core (Enumeration cs) = TagWord Enum ∷ Blank ∷ enumeration_tokens cs
 core _ = []
 
--- what stands before the declarator of the type t under the qualifiers
+-- what comes before the declarator of the type t under the qualifiers
 abbrev pub before : List Qualifier → Term → Bool → List Token
 before qs Void inside = qualifying qs ++ VoidWord ∷ gap inside
 before qs (Named name) inside = qualifying qs ++ Identifier name ∷ gap inside
@@ -62,7 +62,7 @@ before qs (Pointer t) inside = before [] t true ++ (opened t ++ Star ∷ pointer
 before qs (Array n t) inside = before [] t true
 before qs (Function t signature) inside = before [] t true
 
--- what stands behind it
+-- what comes after it
 abbrev pub after : Term → List Token
 after (Qualified q t) = after t
 after (Pointer t) = closed t ++ after t

@@ -23,15 +23,15 @@ kept s entry =
 abbrev pub kept_term : Survey → ℕ → TypeAt → Option Term
 kept_term s k = term_at k (kept s)
 
--- some tokens' text was written behind what was there
+-- some tokens' text was written after what was there
 abbrev pub Writes : List Token → Option (List ℕ) → Option (List ℕ) → Type 0
 Writes tokens old new = new ≡ appended old (text_of tokens)
 
--- what stands before the declarator of a type was written
+-- what comes before the declarator of a type was written
 abbrev pub WritesBefore : Survey → ℕ → TypeAt → List Qualifier → Bool → Option (List ℕ) → Option (List ℕ) → Type 0
 WritesBefore s k at qs inside old new = (t : Term) → kept_term s k at ≡ Some t → Writes (before qs t inside) old new
 
--- what stands behind it was written
+-- what comes after it was written
 abbrev pub WritesAfter : Survey → ℕ → TypeAt → Option (List ℕ) → Option (List ℕ) → Type 0
 WritesAfter s k at old new = (t : Term) → kept_term s k at ≡ Some t → Writes (after t) old new
 

@@ -42,7 +42,7 @@ AreLevels image level = (entry : ℕ) → entry < length (entries_in image) → 
 abbrev pub HoldsByValue : Graph → ℕ → ℕ → Type 0
 HoldsByValue graph from to = (k : ℕ) × Leads graph (suc k) from to
 
--- one entry stands before another: by rising level, then by rising offset
+-- one entry is before another: by rising level, then by rising offset
 abbrev pub StandsBefore : (ℕ → ℕ) → ℕ → ℕ → Type 0
 StandsBefore level a b = (level a < level b) ⊎ ((level a ≡ level b) × (a < b))
 

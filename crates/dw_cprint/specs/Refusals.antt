@@ -56,7 +56,7 @@ pub record Refuses (shapes : ℕ → ShapeOf) (subject : SubjectOf) (rule : Prin
 abbrev pub IsPrinted : (ℕ → ShapeOf) → SubjectOf → Type 0
 IsPrinted = HoldsNoneBelow 7
 
--- the text of the entry's declaration stands behind what was there
+-- the text of the entry's declaration comes after what was there
 abbrev pub AppendsDeclaration : (ℕ → ShapeOf) → SubjectOf → List ℕ → List ℕ → Type 0
 AppendsDeclaration shapes subject old new =
     (d : Declaration) × (declaration_of shapes subject ≡ Some d) × (new ≡ old ++ written d)

@@ -44,7 +44,7 @@ pub record AreFaultsOf (shapes : ℕ → ShapeOf) (subject : SubjectOf) (faults 
 
 -- ---- summaries
 
--- the kind of what stands under a type's row of qualifiers; of the type itself, if it is no qualifier
+-- the kind of what is under a type's row of qualifiers; of the type itself, if it is no qualifier
 abbrev pub IsBase : (ℕ → ShapeOf) → TypeAt → TypeKind → Type 0
 IsBase shapes at own = (under : TypeAt) × StandsUnder shapes at under × (own ≡ kind_at shapes under)
 
@@ -80,7 +80,7 @@ Knows shapes s at = IsSummary shapes at (known_of s at)
 abbrev pub kind_known : Summaries → TypeAt → TypeKind
 kind_known s at = (known_of s at).kind
 
--- the kind that they tell of what stands under a type's row of qualifiers
+-- the kind that they tell of what is under a type's row of qualifiers
 abbrev pub base_known : Summaries → TypeAt → TypeKind
 base_known s at = (known_of s at).base
 

@@ -42,7 +42,7 @@ kind_in (Some _) = kind.Other
 abbrev pub kind_at : (ℕ → ShapeOf) → TypeAt → TypeKind
 kind_at shapes at = kind_in (shape_of shapes at)
 
--- what stands under a row of qualifiers; None is void
+-- what is under a row of qualifiers; None is void
 pub data StandsUnder (shapes : ℕ → ShapeOf) : TypeAt → TypeAt → Type 0 where
   nothing : StandsUnder shapes None None
   itself : {entry : ℕ} → ((q : Qualifier) (at : TypeAt) → shapes entry ≡ qualified q at → ⊥)
@@ -83,7 +83,7 @@ abbrev pub is_open : TypeKind → Bool
 is_open (kind.Array unknown) = unknown
 is_open _ = false
 
--- what restrict may stand over
+-- what restrict may qualify
 abbrev pub is_restrictable : TypeKind → Bool
 is_restrictable kind.Pointer = true
 is_restrictable kind.Typedef = true
@@ -168,7 +168,7 @@ is_own_foreign _ = false
 
 -- ---- what C has no words for
 
--- bits that are no number of 1 or more, or that stand with an array or a pointer
+-- bits that are no number of 1 or more, or that come with an array or a pointer
 abbrev pub is_wrong_bits : TypeKind → Bits → Bool
 is_wrong_bits k Absent = false
 is_wrong_bits k (Number n) = is_address k
@@ -204,7 +204,7 @@ object_types (function at (Some parameters)) = parameter_types parameters
 object_types (body word odd members) = member_types members
 object_types _ = []
 
--- a qualifier cannot stand over an array or a function, and restrict only over what may have it
+-- a qualifier cannot be over an array or a function, and restrict only over what may have it
 abbrev pub is_wrong_row : Qualifier → TypeKind → Bool
 is_wrong_row Restrict k = not (is_restrictable k)
 is_wrong_row _ k = is_bracketed k

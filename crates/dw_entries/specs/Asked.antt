@@ -23,12 +23,12 @@ HasAttribute entry position attribute value = slice_get (values_of entry.head) p
 abbrev pub EachEntry : (Entry → Type 0) → List Entry → Type 0
 EachEntry P entries = (id : ℕ) (entry : Entry) → slice_get entries id ≡ Some entry → P entry
 
--- the entries stand in rising offset
+-- the entries are in rising offset
 abbrev pub OffsetsRise : List Entry → Type 0
 OffsetsRise entries = (i j : ℕ) (a b : Entry) → i < j → slice_get entries i ≡ Some a → slice_get entries j ≡ Some b
     → a.at < b.at
 
--- the failures of rules that are asked of what stands at a place, as of an entry or of a unit, and of no attribute
+-- the failures of rules that are asked of what is at a place, as of an entry or of a unit, and of no attribute
 pub record AtPlace (place : Place) (Fails : Rule → Type 0) (f : Failure) : Type 0 where
   pub stands : f.place ≡ place
   pub attribute : f.attribute ≡ 0

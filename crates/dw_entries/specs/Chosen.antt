@@ -37,7 +37,7 @@ pub record IsPassed (Passes : AttributeSpec → Type 0) (item : ℕ × Datum) : 
 abbrev pub ArePassed : (AttributeSpec → Type 0) → List (ℕ × Datum) → Type 0
 ArePassed Passes items = (k : ℕ) (item : ℕ × Datum) → slice_get items k ≡ Some item → IsPassed Passes item
 
--- the found attribute follows some that are passed, and these are behind it
+-- the found attribute follows some that are passed, and these are after it
 pub record IsNextOf (Passes : AttributeSpec → Type 0) (items : List (ℕ × Datum)) (found : ℕ × Datum)
     (behind : List (ℕ × Datum)) : Type 0 where
   pub passed : List (ℕ × Datum)

@@ -56,7 +56,7 @@ entries_from unit id at (u ∷ us) =
 abbrev pub entries_of : List DebugUnit → List Entry
 entries_of us = entries_from 0 0 0 us
 
--- ---- the units, each where it stands
+-- ---- the units, each at its place
 
 -- the offset of a unit's header, and the number of its first entry
 pub record PlacedUnit : Type 0 where
@@ -71,6 +71,6 @@ placed_from at first (u ∷ us) =
     record { at = at; first = first; unit = u }
     ∷ placed_from (at + length (unit_bytes u)) (first + node_count u.root) us
 
--- the units from the beginning of .debug_info, each where it stands
+-- the units from the beginning of .debug_info, each at its place
 abbrev pub placed : List DebugUnit → List PlacedUnit
 placed us = placed_from 0 0 us

@@ -39,7 +39,7 @@ in_table f = record { rule = rule_of f.rule; section = Abbrev; at = f.at; attrib
 abbrev pub in_header : Rule → ℕ → Broken
 in_header rule header = record { rule = rule; section = Info; at = header; attribute = 0 }
 
--- a missing first entry stands at the header, and any other item where it is
+-- a missing first entry is at the header, and any other item where it is
 abbrev pub place_of : Rule → ℕ → ℕ → ℕ
 place_of NoUnitEntry header at = header
 place_of rule header at = at
@@ -82,7 +82,7 @@ pub record BodyFails (x : Context) (kind : HeaderKind) (header : ℕ) (body : Li
 
 -- ---- the checks of a unit in their order: its header, its table, its items
 
--- the fault behind a header at this offset, whose table reads so: an item of the body, or the table
+-- the fault after a header at this offset, whose table reads so: an item of the body, or the table
 abbrev pub FailsBehind : ℕ → UnitHeader → List ℕ → Result (List Declaration) BrokenTable → Broken → Type 0
 FailsBehind header h body (Ok table) broken = BodyFails (context_by h table) h.kind header body broken
 FailsBehind header h body (Err f) broken = broken ≡ in_table f

@@ -52,18 +52,18 @@ abbrev pub type_fields : HeaderKind → List ℕ
 type_fields (TypeUnit signature type_offset) = little_bytes 8 signature ++ little_bytes 4 type_offset
 type_fields kind = []
 
--- what stands between the version and the unit's entries
+-- what comes between the version and the unit's entries
 abbrev pub fields_after_version : UnitHeader → HeaderKind → List ℕ
 fields_after_version h Version4 = little_bytes 4 h.abbrev_offset ++ little_bytes 1 h.address_size
 fields_after_version h kind =
     little_bytes 1 (type_code kind)
     ++ (little_bytes 1 h.address_size ++ (little_bytes 4 h.abbrev_offset ++ type_fields kind))
 
--- the header behind its unit_length, which counts these bytes too
+-- the header after its unit_length, which counts these bytes too
 abbrev pub header_fields : UnitHeader → List ℕ
 header_fields h = little_bytes 2 (version_of h.kind) ++ fields_after_version h h.kind
 
--- the whole header: unit_length counts all that stands behind it
+-- the whole header: unit_length counts all that comes after it
 abbrev pub header_bytes : UnitHeader → List ℕ
 header_bytes h = little_bytes 4 h.unit_length ++ header_fields h
 
@@ -113,14 +113,14 @@ abbrev_offset_at abbrev_size bytes = do
   offset ← field_at 4 bytes
   if nat_lt offset.0 abbrev_size then Ok offset else Err BadAbbrevOffset
 
--- the fields behind a version of 4
+-- the fields after a version of 4
 unfoldable pub version4_at : ℕ → ℕ → List ℕ → Result (UnitHeader × List ℕ) Rule
 version4_at abbrev_size unit_length bytes = do
   offset ← abbrev_offset_at abbrev_size bytes
   size ← address_size_at offset.1
   Ok (record { unit_length = unit_length; kind = Version4; address_size = size.0; abbrev_offset = offset.0 }, size.1)
 
--- the fields of a type unit alone, behind those that all have
+-- the fields of a type unit alone, after those that all have
 unfoldable pub kind_at : ℕ → List ℕ → Result (HeaderKind × List ℕ) Rule
 kind_at code bytes =
     if code == 1 then Ok (CompileUnit, bytes) else (
@@ -129,7 +129,7 @@ kind_at code bytes =
     field_at 4 signature.1 >>= λ offset.
     Ok (TypeUnit signature.0 offset.0, offset.1)))
 
--- the fields behind a version of 5
+-- the fields after a version of 5
 unfoldable pub version5_at : ℕ → ℕ → List ℕ → Result (UnitHeader × List ℕ) Rule
 version5_at abbrev_size unit_length bytes = do
   code ← field_at 1 bytes
@@ -140,21 +140,21 @@ version5_at abbrev_size unit_length bytes = do
       Ok (record { unit_length = unit_length; kind = kind.0; address_size = size.0; abbrev_offset = offset.0 }, kind.1))
       else Err BadUnitType
 
--- the fields behind unit_length, and what follows them
+-- the fields after unit_length, and what follows them
 unfoldable pub fields_at : ℕ → ℕ → List ℕ → Result (UnitHeader × List ℕ) Rule
 fields_at abbrev_size unit_length bytes = do
   version ← field_at 2 bytes
   if version.0 == 4 then version4_at abbrev_size unit_length version.1 else (
       if version.0 == 5 then version5_at abbrev_size unit_length version.1 else Err BadVersion)
 
--- the bytes from behind unit_length to the unit's end
+-- the bytes after unit_length, up to the unit's end
 unfoldable pub unit_at : List ℕ → Result (ℕ × List ℕ) Rule
 unit_at bytes = do
   len ← field_at 4 bytes
   if nat_lt len.0 0xfffffff0 then (if nat_lt (length len.1) len.0 then Err UnitCut else Ok (len.0, take len.0 len.1))
       else Err Not32Bit
 
--- a header, and the unit's bytes behind it
+-- a header, and the unit's bytes after it
 unfoldable pub header_at : ℕ → List ℕ → Result (UnitHeader × List ℕ) Rule
 header_at abbrev_size bytes = do
   unit ← unit_at bytes

@@ -151,7 +151,7 @@ unit_again len whole after bytes e is small =
       take_at whole after len (sym is),
     ) refl
 
--- a header that is spelled is read, and so are the bytes of the unit behind it
+-- a header that is spelled is read, and so are the bytes of the unit after it
 pub header_again : (n : ℕ) (h : UnitHeader) (body after bytes : List ℕ) → bytes ≡ header_bytes h ++ (body ++ after)
     → IsHeader n h → h.unit_length ≡ length (header_fields h ++ body) → header_at n bytes ≡ Ok (h, body)
 unfolding header_at

@@ -63,7 +63,7 @@ attribute_at x spec bytes =
     (value_at x.version spec.form x.address_size bytes)
     else fails FormVersion spec.attribute
 
--- the values of these attributes, one behind another
+-- the values of these attributes, one after another
 unfoldable pub attributes_at : Context → List AttributeSpec → List ℕ → Result (List Attribute × List ℕ) Failing
 attributes_at x [] bytes = Ok ([], bytes)
 attributes_at x (spec ∷ specs) bytes = attribute_at x spec bytes >>= λ a. attributes_at x specs a.1 >>=
@@ -116,7 +116,7 @@ abbrev pub seen : {A B : Type 0} → (A → B) → Result (A × List ℕ) Failin
 seen f (Ok x) = Ok (f x.0, x.1)
 seen f (Err e) = Err e
 
--- the bytes behind what was read
+-- the bytes after what was read
 abbrev pub after : {A : Type 0} → Result (A × List ℕ) Failing → Result (List ℕ) Failing
 after (Ok x) = Ok x.1
 after (Err e) = Err e

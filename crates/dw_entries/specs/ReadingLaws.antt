@@ -338,7 +338,7 @@ first_takes t kind (b ∷ bytes) h rest e =
           (declared t x.0.0.number) x.0.0.bytes x.0.1 h rest c.1 other.0 refl other.1 in (c.0 ∙ d.0, d.1, d.2)
     ]
 
--- what was read, behind what the code keeps of it
+-- what was read, after what the code keeps of it
 pub seen_ok : {A B : Type 0} (f : A → B) (r : Result (A × List ℕ) Failing) (y : B) (rest : List ℕ)
     → seen f r ≡ read y rest → (x : A) × (r ≡ read x rest) × (f x ≡ y)
 seen_ok f (Ok x) y rest e =

@@ -15,7 +15,7 @@ pub record IsEntryIn (entries : List Entry) (unit offset id : ℕ) : Type 0 wher
   pub begins : entry.at ≡ offset
   pub in_unit : entry.unit ≡ unit
 
--- so far behind the first byte of its unit's header an entry of the unit begins
+-- so far after the first byte of its unit's header an entry of the unit begins
 pub record ReachesInUnit (entries : List Entry) (units : List PlacedUnit) (number offset id : ℕ) : Type 0 where
   pub unit : PlacedUnit
   pub is_unit : slice_get units number ≡ Some unit

@@ -59,7 +59,7 @@ nulls_unique t zs ws p q e =
 table_is : (r : Result (List Declaration) BrokenTable) (x y : List Declaration) → r ≡ Ok x → r ≡ Ok y → x ≡ y
 table_is r x y p q = let same : ◌≡◌ {A = Result (List Declaration) BrokenTable} (Ok x) (Ok y) = sym p ∙ q in cc
 
--- the header of a unit is read, and the bytes behind it
+-- the header of a unit is read, and the bytes after it
 pub unit_header : (a : List ℕ) (u : DebugUnit) (x : List ℕ) → IsUnit a u
     → header_at (length a) (unit_bytes u ++ x) ≡ Ok (u.header, body_bytes u)
 unit_header a u x p = header_again (length a) u.header (body_bytes u) x _

@@ -53,7 +53,7 @@ nulls_bytes zs = flat_map (λ z. z) zs
 abbrev pub AreNulls : List (List ℕ) → Type 0
 AreNulls zs = AllByRecursion IsNull zs
 
--- the bytes behind the header
+-- the bytes after the header
 abbrev pub body_bytes : DebugUnit → List ℕ
 body_bytes u = node_bytes u.root ++ nulls_bytes u.nulls
 
@@ -61,7 +61,7 @@ body_bytes u = node_bytes u.root ++ nulls_bytes u.nulls
 abbrev pub unit_bytes : DebugUnit → List ℕ
 unit_bytes u = header_bytes u.header ++ body_bytes u
 
--- a unit whose table stands in these bytes of .debug_abbrev; unit_length counts all behind itself. That a table is read
+-- a unit whose table is in these bytes of .debug_abbrev; unit_length counts all after itself. That a table is read
 -- exactly where the section spells it is the law `tables_are_read_by_grammar` of dw_forms
 pub record IsUnit («abbrev» : List ℕ) (u : DebugUnit) : Type 0 where
   pub header : IsHeader (length «abbrev») u.header

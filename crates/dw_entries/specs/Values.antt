@@ -18,7 +18,7 @@ pub record Begin (x : Context) (specs : List AttributeSpec) (bytes : List ℕ) (
   pub are : AreAttributes x specs found.0
   pub spelled : bytes ≡ flat_map attribute_bytes found.0 ++ found.1
 
--- the attributes at the front of the bytes, and the bytes behind them
+-- the attributes at the front of the bytes, and the bytes after them
 abbrev pub Left : Context → List AttributeSpec → List ℕ → Type 0
 Left x specs bytes = (found : List Attribute × List ℕ) × Begin x specs bytes found
 

@@ -21,7 +21,7 @@ pub struct UnitAt {
     pub record: UnitRecord,
 }
 
-/// The number of the entry behind the last one of a unit.
+/// The number of the entry after the last one of a unit.
 fn end_of(entries: &Entries<'_>, number: usize) -> u32
     requires { number < length (units_of entries.now.scanned) }
     ensures { IfSome (slice_get (all_units entries.now.scanned) number)

@@ -124,7 +124,7 @@ impl Entries<'_> {
         depth
     }
 
-    /// The entry of a unit that begins so far behind the first byte of the unit's header.
+    /// The entry of a unit that begins so far after the first byte of the unit's header.
     #[inline(always)]
     pub fn find_in_unit(&self, unit: usize, offset: u64) -> Option<EntryId>
         requires { unit < length (units_of self.now.scanned) }

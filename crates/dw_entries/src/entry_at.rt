@@ -174,7 +174,7 @@ impl<'e, 'a> EntryAt<'e, 'a> {
         }
     }
 
-    /// The bytes of its values, and those behind them.
+    /// The bytes of its values, and those after them.
     #[inline(always)]
     fn value_bytes(&self) -> &'a [u8]
         ensures { IfSome self.now

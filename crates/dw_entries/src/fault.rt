@@ -7,7 +7,7 @@ ghost use Rattle.dw_entries.specs.Failures.{IsPlainFault};
 use crate::rule::Rule;
 use std::alloc::{AllocError, AllocFailed, Global};
 
-/// The section in which a fault stands: .debug_abbrev for a table's, .debug_info for all others.
+/// The section in which a fault is: .debug_abbrev for a table's, .debug_info for all others.
 #[derive(Clone, Copy, Debug, PartialEq, Eq)]
 pub enum Section {
     Abbrev,

@@ -20,7 +20,7 @@ pub enum UnitType {
 }
 
 impl UnitType {
-    /// The code that stands in a header of version 5.
+    /// The code in a header of version 5.
     pub fn code(self) -> u8
         ensures { result ≡ code_of_type self }
     {
@@ -54,7 +54,7 @@ pub struct UnitHeader {
 }
 
 impl HeaderKind {
-    /// The version that stands in the header.
+    /// The version in the header.
     pub fn version(self) -> u16
         ensures { result ≡ version_of self }
     {
@@ -158,7 +158,7 @@ fn abbrev_offset(abbrev_size: usize, bytes: &[u8]) -> Result<(u32, &[u8]), Rule>
     }
 }
 
-/// The fields behind a version of 4 (DWARF 4, 7.5.1.1).
+/// The fields after a version of 4 (DWARF 4, 7.5.1.1).
 #[tactic(auto, unfolding(crate::specs::Header::version4_at))]
 fn version4(abbrev_size: usize, unit_length: u32, bytes: &[u8]) -> Result<(UnitHeader, &[u8]), Rule>
     ensures { Gives (λ x. (x.0, x.1.now)) result (version4_at abbrev_size unit_length bytes.now) }
@@ -174,7 +174,7 @@ fn version4(abbrev_size: usize, unit_length: u32, bytes: &[u8]) -> Result<(UnitH
     Ok((header, rest))
 }
 
-/// The fields that a type unit has behind those of all units.
+/// The fields that a type unit has after those of all units.
 #[tactic(auto, unfolding(crate::specs::Header::kind_at))]
 fn kind(code: u64, bytes: &[u8]) -> Result<(HeaderKind, &[u8]), Rule>
     ensures { Gives (λ x. (x.0, x.1.now)) result (kind_at code bytes.now) }
@@ -194,7 +194,7 @@ fn kind(code: u64, bytes: &[u8]) -> Result<(HeaderKind, &[u8]), Rule>
     Ok((kind, rest))
 }
 
-/// The fields behind a version of 5 (DWARF 5, 7.5.1).
+/// The fields after a version of 5 (DWARF 5, 7.5.1).
 #[tactic(auto, unfolding(crate::specs::Header::version5_at))]
 fn version5(abbrev_size: usize, unit_length: u32, bytes: &[u8]) -> Result<(UnitHeader, &[u8]), Rule>
     ensures { Gives (λ x. (x.0, x.1.now)) result (version5_at abbrev_size unit_length bytes.now) }
@@ -216,7 +216,7 @@ fn version5(abbrev_size: usize, unit_length: u32, bytes: &[u8]) -> Result<(UnitH
     }
 }
 
-/// The fields behind unit_length.
+/// The fields after unit_length.
 #[tactic(auto, unfolding(crate::specs::Header::fields_at))]
 fn fields(abbrev_size: usize, unit_length: u32, bytes: &[u8]) -> Result<(UnitHeader, &[u8]), Rule>
     ensures { Gives (λ x. (x.0, x.1.now)) result (fields_at abbrev_size unit_length bytes.now) }
@@ -231,7 +231,7 @@ fn fields(abbrev_size: usize, unit_length: u32, bytes: &[u8]) -> Result<(UnitHea
     Err(Rule::BadVersion)
 }
 
-/// The bytes from behind unit_length to the unit's end.
+/// The bytes after unit_length, up to the unit's end.
 #[tactic(auto, unfolding(crate::specs::Header::unit_at))]
 fn unit_bytes(bytes: &[u8]) -> Result<(u32, &[u8]), Rule>
     ensures { Gives (λ x. (x.0, x.1.now)) result (unit_at bytes.now) }
@@ -246,7 +246,7 @@ fn unit_bytes(bytes: &[u8]) -> Result<(u32, &[u8]), Rule>
     Err(Rule::Not32Bit)
 }
 
-/// The header at the front, and the bytes behind it to the unit's end.
+/// The header at the front, and the bytes after it to the unit's end.
 #[tactic(auto, unfolding(crate::specs::Header::header_at))]
 pub fn read_header(abbrev_size: usize, bytes: &[u8]) -> Result<(UnitHeader, &[u8]), Rule>
     ensures { Gives (λ x. (x.0, x.1.now)) result (header_at abbrev_size bytes.now) }

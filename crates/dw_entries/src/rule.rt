@@ -31,13 +31,13 @@ pub enum Rule {
     BadUnitType,
     /// U5: an address has neither 4 nor 8 bytes.
     BadAddressSize,
-    /// U6: no byte of .debug_abbrev stands at the table's offset.
+    /// U6: no byte of .debug_abbrev is at the table's offset.
     BadAbbrevOffset,
-    /// U7: a null or nothing stands in place of the unit's first entry.
+    /// U7: a null or nothing is in place of the unit's first entry.
     NoUnitEntry,
     /// U8: the first entry has another tag than the unit's type asks.
     WrongUnitTag,
-    /// U9: something else than nulls stands after the tree.
+    /// U9: something else than nulls is after the tree.
     LeftOver,
     /// G1: the table has no declaration with the code.
     UndeclaredCode,
@@ -45,7 +45,7 @@ pub enum Rule {
     Cut,
     /// G3: a code, or a number in a value, has more than 10 bytes or more than 64 bits.
     BadNumber,
-    /// G4: the value names no form that may stand behind the form indirect.
+    /// G4: the value names no form that may come after the form indirect.
     BadIndirect,
     /// G5: Version 4 does not have the form.
     FormVersion,

@@ -115,7 +115,7 @@ fn value_rule(fault: ValueFault) -> Rule
     }
 }
 
-/// The code at the front, and the bytes behind it.
+/// The code at the front, and the bytes after it.
 #[inline(always)]
 #[tactic(auto, unfolding(crate::specs::Reading::code_at))]
 pub fn read_code(bytes: &[u8]) -> Result<(u64, &[u8]), Failing>
@@ -132,7 +132,7 @@ fn code_of(attribute: Attribute) -> u16
     attribute.0
 }
 
-/// The bytes behind the value of an attribute.
+/// The bytes after the value of an attribute.
 #[inline(always)]
 #[tactic(auto, unfolding(crate::specs::Reading::attribute_at))]
 fn skip_attribute<'b>(
@@ -158,7 +158,7 @@ fn skip_attribute<'b>(
     }
 }
 
-/// The bytes behind the values of these attributes, one after another.
+/// The bytes after the values of these attributes, one after another.
 fn skip_each<'b>(
     context: UnitContext<'_>,
     attributes: Attributes<'_>,
@@ -176,7 +176,7 @@ fn skip_each<'b>(
     Ok(rest)
 }
 
-/// The bytes behind the values of an entry, which are passed together where the version has all their forms. Where that
+/// The bytes after the values of an entry, which are passed together where the version has all their forms. Where that
 /// fails, they are read one by one up to the fault.
 #[inline(always)]
 fn skip_attributes<'b>(
@@ -212,7 +212,7 @@ fn find_decl(context: UnitContext<'_>, code: u64) -> Option<Declared<'_>>
     }
 }
 
-/// The item at the front, and the bytes behind it.
+/// The item at the front, and the bytes after it.
 #[inline(always)]
 #[tactic(auto, unfolding(crate::specs::Reading::item_at, crate::specs::Reading::entry_by))]
 pub fn read_item<'a, 'b>(
@@ -238,7 +238,7 @@ pub fn read_item<'a, 'b>(
     }
 }
 
-/// The first entry of a unit, and the bytes behind it.
+/// The first entry of a unit, and the bytes after it.
 #[tactic(auto, unfolding(crate::specs::Reading::first_at, crate::specs::Reading::entry_by))]
 pub fn read_first<'a, 'b>(
     context: UnitContext<'a>,

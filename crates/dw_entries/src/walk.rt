@@ -20,7 +20,7 @@ use crate::scanning::{Declared, Token, read_code, read_first, read_item};
 use dw_forms::AbbrevTables;
 use std::alloc::{AllocError, Global};
 
-/// Where a unit stands, and what its header says. Units are numbered in rising offset.
+/// Where a unit is, and what its header says. Units are numbered in rising offset.
 #[derive(Clone, Copy, Debug)]
 pub struct UnitRecord {
     /// The offset of its header.
@@ -32,7 +32,7 @@ pub struct UnitRecord {
     pub first: u32,
 }
 
-/// Where an entry stands, and how it hangs in its unit's tree. Entries are numbered in rising offset.
+/// Where an entry is, and how it hangs in its unit's tree. Entries are numbered in rising offset.
 #[derive(Clone, Copy, Debug)]
 pub struct Record {
     /// The offset of its first byte.
@@ -128,7 +128,7 @@ impl From<AllocError> for Halt {
     }
 }
 
-/// The fault of an item at this offset, in the unit of this header. A missing first entry stands at the header.
+/// The fault of an item at this offset, in the unit of this header. A missing first entry is at the header.
 fn broken_at(failing: Failing, header: u32, at: u32) -> Broken
     ensures { result ≡ in_unit failing header at }
 {
@@ -173,14 +173,14 @@ fn turn<'b>(
     }
 }
 
-/// Where a unit is: the offset of its header, and that of the bytes behind the header.
+/// Where a unit is: the offset of its header, and that of the bytes after the header.
 #[derive(Clone, Copy)]
 pub struct UnitPlace {
     pub header: u32,
     pub start: u32,
 }
 
-/// Takes the tree at the front of a unit's body, and answers the bytes behind it.
+/// Takes the tree at the front of a unit's body, and returns the bytes after it.
 fn walk_tree<'b>(
     alloc: Global,
     context: UnitContext<'_>,
@@ -218,7 +218,7 @@ fn walk_tree<'b>(
     Ok(rest)
 }
 
-/// The bytes after a null, if one stands here.
+/// The bytes after a null, if one is here.
 fn skip_null(rest: &[u8]) -> Option<&[u8]>
     ensures null { IfSome result (λ after. seen (λ c. c.number) (code_at rest.now) ≡ Ok (0, after.now)) }
     ensures other { IfNone result (null_first (code_at rest.now) ≡ false) }
@@ -244,7 +244,7 @@ fn behind_nulls(bytes: &[u8]) -> Option<&[u8]>
     None
 }
 
-/// The entries of the unit's tree go to the end of the records. The body has nothing else than nulls behind it.
+/// The entries of the unit's tree go to the end of the records. The body has nothing else than nulls after it.
 pub fn walk_unit(
     alloc: Global,
     context: UnitContext<'_>,

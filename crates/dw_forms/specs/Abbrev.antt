@@ -33,7 +33,7 @@ views ds = map view ds
 
 -- ---- the spelling
 
--- two numbers, one behind the other
+-- two numbers, one after another
 pub record SpellsPair (bytes : List ℕ) (pair : ℕ × ℕ) : Type 0 where
   pub first : List ℕ
   pub second : List ℕ
@@ -41,7 +41,7 @@ pub record SpellsPair (bytes : List ℕ) (pair : ℕ × ℕ) : Type 0 where
   pub is_first : Uleb first pair.0
   pub is_second : Uleb second pair.1
 
--- after the form implicit_const stands its number, and after any other form nothing
+-- after the form implicit_const comes its number, and after any other form nothing
 abbrev pub SpellsConstant : Form → List ℕ → Type 0
 SpellsConstant (ImplicitConst number) bytes = Sleb bytes number
 SpellsConstant form bytes = bytes ≡ []
@@ -144,13 +144,13 @@ pub data PairFails (earlier : List AttributeSpec) (bytes : List ℕ) (fault : De
   constant_number : (attribute : ℕ) (rest : List ℕ) → Takes SpellsPair bytes (attribute, 0x21) rest → IsCode16 attribute
       → All (λ s. s.attribute ≢ attribute) earlier → ConstantFails rest fault → PairFails earlier bytes fault
 
--- these attributes are spelled, with no pair 0, 0 behind them
+-- these attributes are spelled, with no pair 0, 0 after them
 abbrev pub SpellsFront : List AttributeSpec → List ℕ → Type 0
 SpellsFront [] bytes = bytes ≡ []
 SpellsFront (spec ∷ specs) bytes = (first : List ℕ) × (others : List ℕ) × (bytes ≡ first ++ others)
     × SpellsAttribute first spec × SpellsFront specs others
 
--- some attributes are spelled, and behind them no next one and no end
+-- some attributes are spelled, and after them no next one and no end
 pub record AttributesFail (bytes : List ℕ) (fault : DeclFault) : Type 0 where
   pub specs : List AttributeSpec
   pub text : List ℕ
@@ -184,13 +184,13 @@ pub data DeclFails (earlier : List Declaration) (bytes : List ℕ) (fault : Decl
       → Takes SpellsPair bytes (code, tag) (children_byte children ∷ rest)
       → IsNewCode earlier code → IsCode16 tag → AttributesFail rest fault → DeclFails earlier bytes fault
 
--- these declarations are spelled, with no code 0 behind them
+-- these declarations are spelled, with no code 0 after them
 abbrev pub SpellsDecls : List Declaration → List ℕ → Type 0
 SpellsDecls [] bytes = bytes ≡ []
 SpellsDecls (d ∷ ds) bytes = (first : List ℕ) × (others : List ℕ) × (bytes ≡ first ++ others) × SpellsDecl first d
     × SpellsDecls ds others
 
--- a beginning of the table spells some declarations, and nothing behind it spells a next one or the end.
+-- a beginning of the table spells some declarations, and nothing after it spells a next one or the end.
 -- The place is where that next one begins
 pub record TableFails (section : List ℕ) (offset : ℕ) (fault : BrokenTable) : Type 0 where
   pub ds : List Declaration

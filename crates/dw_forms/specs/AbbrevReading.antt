@@ -48,7 +48,7 @@ abbrev pub on_option : {A : Type 0} {B : Type 0} → Option A → B → (A → B
 on_option None none some = none
 on_option (Some x) none some = some x
 
--- after form implicit_const its number stands in the table
+-- after form implicit_const its number is in the table
 abbrev pub form_at : Form → List ℕ → Result (Form × List ℕ) DeclFault
 form_at (ImplicitConst number) bytes = do
   n ← signed_at bytes
@@ -86,7 +86,7 @@ pair_at earlier bytes = do
       form_at form f.1 >>= λ g.
       Ok (Some (record { attribute = a.0; form = g.0 }), g.1)))
 
--- all pairs, behind the earlier ones. There are fewer than this bound
+-- all pairs, after the earlier ones. There are fewer than this bound
 unfoldable pub attributes_from : ℕ → List AttributeSpec → List ℕ → Result (List AttributeSpec × List ℕ) DeclFault
 attributes_from zero earlier bytes = Err (record { rule = AbbrevCut; attribute = 0 })
 attributes_from (suc bound) earlier bytes =
@@ -146,7 +146,7 @@ abbrev pub placed : {A : Type 0} → ℕ → Result A DeclFault → Result A Bro
 placed place (Ok x) = Ok x
 placed place (Err e) = Err (fault_at place e)
 
--- all declarations up to the code 0, behind the earlier ones. There are fewer than this bound. The
+-- all declarations up to the code 0, after the earlier ones. There are fewer than this bound. The
 -- section that the bytes are the end of has this length
 unfoldable pub decls_from : ℕ → ℕ → List Declaration → List ℕ → Result (List Declaration × List ℕ) BrokenTable
 decls_from zero len earlier bytes = Err (record { rule = AbbrevCut; at = len - length bytes; attribute = 0 })

@@ -16,7 +16,7 @@ pub record StandsFirst (specs : List AttributeSpec) (code place : ℕ) : Type 0 
   pub has : (d : AttributeSpec) → (slice_index_or specs place d).attribute ≡ code
   pub none_before : (k : ℕ) (d : AttributeSpec) → k < place → (slice_index_or specs k d).attribute ≢ code
 
--- the value of this form that is read behind those before it
+-- the value of this form that is read after those before it
 abbrev pub value_behind : ℕ → ℕ → Form → Result (List ℕ) ValueFault → Result Datum ValueFault
 value_behind version size form before = before >>= λ rest. value_at version form size rest >>= λ v. Ok v.0
 

@@ -56,11 +56,11 @@ stops_in _ attribute = true
 abbrev pub is_stop : AttributeSpec → Bool
 is_stop spec = stops_in spec.form spec.attribute
 
--- the bytes behind so many
+-- the bytes after so many
 abbrev pub cut_at : ℕ → List ℕ → Result (List ℕ) ValueFault
 cut_at len bytes = if nat_lt (length bytes) len then Err Cut else Ok (drop len bytes)
 
--- the bytes behind the values of these attributes, which are read one behind the other
+-- the bytes after the values of these attributes, which are read one after another
 unfoldable pub values_end : ℕ → ℕ → List AttributeSpec → List ℕ → Result (List ℕ) ValueFault
 values_end version size [] bytes = Ok bytes
 values_end version size (spec ∷ specs) bytes =

@@ -104,7 +104,7 @@ allowed_of : (b : Bool) (o : Option ℕ) (n : ℕ) → cond b o None ≡ Some n 
 allowed_of true o n e = (refl, e)
 allowed_of false o n e = absurd (none_is_not e)
 
--- where the bytes are enough for all values, they are read, and end behind exactly the sum of their sizes
+-- where the bytes are enough for all values, they are read, and end after exactly the sum of their sizes
 pub values_skip : (version size : ℕ) (specs : List AttributeSpec) (n : ℕ) (bytes : List ℕ)
     → fixed_sum version size specs ≡ Some n → n ≤ length bytes
     → ValuesEnd version size specs bytes (drop n bytes)

@@ -43,7 +43,7 @@ fixed_sum version size (spec ∷ specs) = plus (allowed_size version size spec.f
 abbrev pub are_allowed : ℕ → List AttributeSpec → Bool
 are_allowed version specs = list_all (λ spec. is_allowed version spec.form) specs
 
--- the values of these attributes are read one behind the other, each form being allowed, and these bytes come after
+-- the values of these attributes are read one after another, each form being allowed, and these bytes come after
 -- the last
 abbrev pub ValuesEnd : ℕ → ℕ → List AttributeSpec → List ℕ → List ℕ → Type 0
 ValuesEnd version size [] bytes rest = bytes ≡ rest

@@ -84,7 +84,7 @@ fixed_reader size = record {
 
 -- ---- LEB128 numbers
 
--- what stands behind a number that begins the bytes
+-- what comes after a number that begins the bytes
 taken_of : {V : Type 0} (Spells : List ℕ → V → Type 0) (bytes : List ℕ) (v : V) (len : ℕ)
     → BeginsWith Spells bytes v len → Takes Spells bytes v (drop len bytes)
 taken_of Spells bytes v len b =
@@ -225,7 +225,7 @@ plain_reader (nothing datum) = record {
 }
 plain_reader named = record { says = λ bytes. refl; again = λ text rest v e. absurd e }
 
--- ---- the form behind an indirect value
+-- ---- the form after an indirect value
 
 may_bare : (version : ℕ) (f : Form) → may_be_named version (bare f) ≡ may_be_named version f
 may_bare version form.Indirect = refl

@@ -54,7 +54,7 @@ leb_counted_at bytes = do
   n ← uleb_then bytes
   block_at n.0 n.1
 
--- the bytes before a zero byte, behind those that are read
+-- the bytes before a zero byte, after those that are read
 unfoldable pub ended_at : List ℕ → Result (List ℕ × List ℕ) ValueFault
 ended_at [] = Err Cut
 ended_at (zero ∷ bytes) = Ok ([], bytes)

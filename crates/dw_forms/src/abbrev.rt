@@ -24,7 +24,7 @@ pub struct TableDecl {
     pub tag: Tag,
     /// Whether a list of children follows each entry.
     pub has_children: bool,
-    /// In the order of their values in an entry. No attribute stands twice.
+    /// In the order of their values in an entry. No attribute is there twice.
     pub attributes: Vec<AttributeSpec>,
 }
 
@@ -124,7 +124,7 @@ impl AbbrevTable {
         self.decls.len()
     }
 
-    /// Where the declaration with this code stands among the declarations, from 0.
+    /// The place of the declaration with this code among the declarations, from 0.
     pub fn place(&self, code: u64) -> Option<usize>
         ensures within { IfSome result (λ place. place < length self.now) }
         ensures found { IfSome result (λ place. StandsAt self.now place code) }

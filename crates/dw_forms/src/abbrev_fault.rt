@@ -1,4 +1,4 @@
-//! Why no abbreviation table stands at an offset (DWARF 5, 7.5.3).
+//! Why no abbreviation table begins at an offset (DWARF 5, 7.5.3).
 
 ghost use Rattle.std.specs.Prelude.{◌≡◌};
 ghost use Rattle.dw_forms.specs.declared.abbrev_fault.DeclError.TheVariants.{Memory, Fault};
@@ -88,7 +88,7 @@ pub struct BrokenTable {
 pub enum AbbrevFault {
     /// A growth was refused.
     Memory,
-    /// No table stands there.
+    /// No table begins there.
     Broken(BrokenTable),
 }
 

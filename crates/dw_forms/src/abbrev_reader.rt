@@ -44,7 +44,7 @@ pub fn fault(rule: AbbrevRule, attribute: u16) -> DeclError
     DeclError::Fault(DeclFault { rule, attribute })
 }
 
-/// The form, with the number that stands after an implicit constant.
+/// The form, with the number that comes after an implicit constant.
 pub fn form_with_number(form: Form, bytes: &[u8]) -> Result<(Form, &[u8]), DeclError>
     ensures exact { GivesOrMemory (λ x. (x.0, x.1.now)) result (form_at form bytes.now) }
     ensures within { IfOk result (λ x. length x.1.now ≤ length bytes.now) }
@@ -285,7 +285,7 @@ fn table(alloc: Global, section: &[u8], offset: usize) -> Result<AbbrevTable, Ab
     }
 }
 
-/// Reads the table that begins at this offset of .debug_abbrev. The section may go on behind it.
+/// Reads the table that begins at this offset of .debug_abbrev. The section may go on after it.
 pub fn read_table(alloc: Global, section: &[u8], offset: usize) -> Result<AbbrevTable, AbbrevFault>
     requires { offset ≤ length section.now }
     // Some bytes from there on are the table of these declarations, and no others there are any table.

@@ -10,7 +10,7 @@ ghost use Rattle.dw_forms.specs.AbbrevReading.{has_attribute};
 ghost use Rattle.dw_forms.specs.AttributeLists.{Knows, AreKnown, AreCoded, AddedSpec, numbered_in, list_in, spec_of};
 
 use crate::chains::Chains;
-use crate::constants::{Attribute, *};
+use crate::constants::*;
 use crate::decl::AttributeSpec;
 use crate::form::Form;
 use std::alloc::{AllocError, Global};

@@ -67,7 +67,7 @@ pub enum Form {
     LineStrp,
     /// 0x20 ref_sig8: the signature of a type unit, 8 bytes.
     RefSig8,
-    /// 0x21 implicit_const: no bytes in an entry. The number stands in the abbreviation table, as SLEB128.
+    /// 0x21 implicit_const: no bytes in an entry. The number is in the abbreviation table, as SLEB128.
     ImplicitConst(i64),
     /// 0x22 loclistx: an index of a location list, as ULEB128.
     Loclistx,

@@ -9,7 +9,7 @@ ghost use Rattle.dw_forms.specs.NumberValues.{number_datum, offset_datum};
 
 use crate::value::Value;
 
-/// Why no number stands at the front.
+/// Why there is no number at the front.
 #[derive(Clone, Copy, Debug, PartialEq, Eq)]
 pub enum NumberFault {
     /// The bytes end inside the number.

@@ -46,7 +46,7 @@ pub enum Value<'a> {
     RngIndex(u64),
 }
 
-/// Why no value stands at the front.
+/// Why there is no value at the front.
 #[derive(Clone, Copy, Debug, PartialEq, Eq)]
 pub enum ValueFault {
     /// The bytes end inside the value.

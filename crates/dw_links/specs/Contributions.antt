@@ -6,11 +6,11 @@ use Rattle.dw_elf.specs.Elf.{number_at}
 use Rattle.dw_links.specs.declared.contribution.Contribution.{Contribution}
 use Rattle.dw_links.specs.declared.contribution.Contribution.TheVariants.{Absent, Broken, Sound}
 
--- the length in the header before a base, which counts all bytes behind itself
+-- the length in the header before a base, which counts all bytes after itself
 abbrev pub length_before : List ℕ → ℕ → ℕ
 length_before section base = number_at 4 section (base - 8)
 
--- the first slot of a contribution is at the base, and its header of 8 bytes stands before it: a length, the
+-- the first slot of a contribution is at the base, and its header of 8 bytes is before it: a length, the
 -- version, and two bytes, which are the mark and 0; a slot has so many bytes
 pub record IsContribution (section : List ℕ) (slot mark base : ℕ) : Type 0 where
   pub header : 8 ≤ base
@@ -44,7 +44,7 @@ IsRead section slot mark (Broken base) = IsContribution section slot mark base �
 IsRead section slot mark (Sound base count) = IsContribution section slot mark base
     × (count ≡ slot_count section slot base)
 
--- a string begins at the offset: a zero byte stands there or behind
+-- a string begins at the offset: a zero byte is there or after it
 pub record Ends (section : List ℕ) (offset : ℕ) : Type 0 where
   pub last : ℕ
   pub behind : offset ≤ last

@@ -22,12 +22,12 @@ use Rattle.dw_links.specs.References.{ReferenceFailures}
 use Rattle.dw_links.specs.Strings.{StringFailures}
 use Rattle.dw_links.specs.Tables.{type_target}
 
--- what the first type reaches, behind one attribute more
+-- what the first type reaches, after one attribute more
 abbrev pub kept_after : Option (Option ℕ) → (attribute : ℕ) → (reached : Option ℕ) → Option (Option ℕ)
 kept_after (Some target) attribute reached = Some target
 kept_after None attribute reached = if attribute == DW_AT_type then Some reached else None
 
--- no rule fails at the next attribute, which reaches this entry, if any; those behind it are left
+-- no rule fails at the next attribute, which reaches this entry, if any; those after it are left
 pub record LinksNext (it : References) (head : EntryHead) (left behind : List (ℕ × Datum)) (linked : ℕ × Option ℕ)
     : Type 0 where
   pub value : Datum

@@ -5,7 +5,7 @@ use Rattle.dw_entries.specs.declared.header.HeaderKind.{HeaderKind}
 use Rattle.dw_entries.specs.declared.header.HeaderKind.TheVariants.{TypeUnit}
 use Rattle.dw_entries.specs.Entries.{PlacedUnit}
 
--- the signature of a type unit, and how far behind its header's first byte its type begins
+-- the signature of a type unit, and how far after its header's first byte its type begins
 abbrev pub type_in : HeaderKind → Option (ℕ × ℕ)
 type_in (TypeUnit signature type_offset) = Some (signature, type_offset)
 type_in _ = None

@@ -14,7 +14,7 @@ entry_at entries offset = position_from (λ (e : Entry). e.at == offset) 0 entri
 unfoldable pub entry_in : List Entry → (unit offset : ℕ) → Option ℕ
 entry_in entries unit offset = position_from (λ (e : Entry). e.unit == unit && e.at == offset) 0 entries
 
--- the entry that begins so far behind the first byte of a unit's header
+-- the entry that begins so far after the first byte of a unit's header
 abbrev pub reach_in_unit : List Entry → List PlacedUnit → (unit offset : ℕ) → Option ℕ
 reach_in_unit entries units unit offset =
     option_and_then (λ (u : PlacedUnit). entry_in entries unit (u.at + offset)) (slice_get units unit)

@@ -231,7 +231,7 @@ fn check_entry(entries: &Entries<'_>, entry: &EntryAt<'_, '_>) -> Result<(), Bro
 }
 
 /// Finds the first attribute whose value has none of its classes: the fault `WrongClass` at the entry's offset.
-/// Nothing grows, so there is no want of memory.
+/// Nothing grows, so memory can't run out.
 pub fn check_classes(alloc: Global, entries: &Entries<'_>) -> Result<(), Fault>
     ensures ok { OnOk result (HasNone (ClassFailures (units_of entries.now.scanned))) }
     ensures fault { IfErr result (IsPlainFault (IsFirst (ClassFailures (units_of entries.now.scanned)))) }

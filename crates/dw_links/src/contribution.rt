@@ -81,7 +81,7 @@ pub fn named_contribution(section: &[u8], slot: u8, mark: u8, base: Option<u32>)
     }
 }
 
-/// The offset behind the section's last zero byte, below which all strings begin.
+/// The offset after the section's last zero byte, below which all strings begin.
 pub fn end_of_strings(section: &[u8]) -> usize
     ensures { IsEndOfStrings section.now result }
 {

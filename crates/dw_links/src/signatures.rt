@@ -27,7 +27,7 @@ fn type_in_header(kind: HeaderKind) -> Option<(u64, u32)>
     }
 }
 
-/// The type that begins so far behind the first byte of a unit's header.
+/// The type that begins so far after the first byte of a unit's header.
 fn find_type(entries: &Entries<'_>, number: usize, type_offset: u32) -> Option<EntryId>
     requires { number < length (units_of entries.now.scanned) }
     ensures found { IfSome result
@@ -115,8 +115,7 @@ fn add_type(
     }
 }
 
-/// Reads the type of each signature, or finds the first failure at the header of a type unit. Want of memory comes
-/// where the table can't grow.
+/// Reads the type of each signature, or finds the first failure at the header of a type unit.
 pub fn read_signatures(alloc: Global, entries: &Entries<'_>) -> Result<BTreeMap<u64, EntryId>, Stop>
     ensures types { IfOk result (HasSignedTypes (all_entries entries.now.scanned) (all_units entries.now.scanned)) }
     ensures typed { OnOk result (AreTyped (all_entries entries.now.scanned) (all_units entries.now.scanned)) }

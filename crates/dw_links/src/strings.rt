@@ -26,7 +26,7 @@ use std::alloc::Global;
 /// Where the strings of the two sections end.
 #[derive(Clone, Copy)]
 pub struct StringEnds {
-    /// The offset in .debug_str behind its last zero byte.
+    /// The offset in .debug_str after its last zero byte.
     pub str: usize,
     /// The same in .debug_line_str.
     pub line_str: usize,

@@ -26,7 +26,7 @@ fn entry_from_start(entries: &Entries<'_>, offset: u32) -> Option<EntryId>
     entries.find(offset)
 }
 
-/// The entry that begins so far behind the first byte of a unit's header.
+/// The entry that begins so far after the first byte of a unit's header.
 #[inline(always)]
 pub(crate) fn entry_from_header(entries: &Entries<'_>, unit: usize, offset: u64) -> Option<EntryId>
     requires { unit < length (units_of entries.now.scanned) }

@@ -73,7 +73,7 @@ impl Constant {
         }
     }
 
-    /// What stands under an attribute that has this value, if it is there.
+    /// What is under an attribute that has this value, if it is there.
     #[inline(always)]
     pub(crate) fn of_value(value: Option<Value<'_>>) -> Constant
         ensures { result ≡ constant_of (option_map view value.entry) }
@@ -84,7 +84,7 @@ impl Constant {
         }
     }
 
-    /// What stands under an attribute of an entry.
+    /// What is under an attribute of an entry.
     pub(crate) fn read(entries: &Entries<'_>, id: EntryId, attribute: Attribute) -> Constant
         requires { id < length (all_entries entries.now.scanned) }
         ensures { IfSome (slice_get (all_entries entries.now.scanned) id)

@@ -149,7 +149,7 @@ impl<'e, 'a> FactsAt<'e, 'a> {
         number_of(self.entry.parent())
     }
 
-    /// What stands under an attribute.
+    /// What is under an attribute.
     #[inline(always)]
     fn constant(&self, attribute: Attribute) -> Constant
         ensures { (fact : FactsOf → ConstantOf) → IsConstantAt attribute fact → result ≡ fact self.now }

@@ -67,7 +67,7 @@ impl Numbers {
         self.get_behind(place, 0)
     }
 
-    /// The number so many places behind another.
+    /// The number so many places after another.
     #[inline]
     pub(crate) fn get_behind(&self, start: usize, count: usize) -> usize
         requires { start + count < length self.now }

@@ -165,7 +165,7 @@ fn cycle_to<G: StepGraph>(
     Ok(round_from(alloc, ring, place_of_least(ring))?)
 }
 
-/// Where a node stands among others.
+/// The place of a node among others.
 fn place_of(nodes: &[usize], node: usize) -> usize
     requires { Contains nodes.now node }
     ensures place_in { result < length nodes.now }
@@ -174,7 +174,7 @@ fn place_of(nodes: &[usize], node: usize) -> usize
     nodes.iter().position(|other| *other == node).unwrap()
 }
 
-/// Where the least node stands.
+/// The place of the least node.
 fn place_of_least(nodes: &[usize]) -> usize
     requires { 0 < length nodes.now }
     ensures place_in { result < length nodes.now }

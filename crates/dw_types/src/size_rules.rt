@@ -114,7 +114,7 @@ fn differ(a: Option<u64>, b: Option<u64>) -> bool
 }
 
 impl FactsAt<'_, '_> {
-    /// Whether something stands wrong where the byte size is absent.
+    /// Whether something is wrong where the byte size is absent.
     #[inline(always)]
     fn wants_own(&self) -> bool
         ensures { result ≡ wants_own self.now }

@@ -197,7 +197,7 @@ fn after_tree<'a>(unit: &Unit<'a>) -> Result<Rest<'a>, Fault> {
     Err(Fault::in_info("never", unit.at, 0))
 }
 
-/// Checks that nulls alone stand after a unit's tree.
+/// Checks that only nulls come after a unit's tree.
 fn check_padding(padding: Rest) -> Result<(), Fault> {
     let mut rest = padding;
     for _ in 0..=padding.bytes.len() {

@@ -2,7 +2,7 @@
 
 use crate::rest::Rest;
 
-/// Why no value stands at the front.
+/// Why there is no value at the front.
 #[derive(Clone, Copy, Debug, PartialEq, Eq)]
 pub(crate) enum Failure {
     /// The bytes end inside it.

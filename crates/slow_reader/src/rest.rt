@@ -31,7 +31,7 @@ impl<'a> Rest<'a> {
         Some((front, back))
     }
 
-    /// What stands before a later place.
+    /// What comes before a later place.
     pub fn up_to(self, later: Rest<'a>) -> Option<Rest<'a>> {
         let (front, _) = self.split(later.at.checked_sub(self.at)?)?;
         Some(front)
