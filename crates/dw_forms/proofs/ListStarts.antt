@@ -19,7 +19,7 @@ use Rattle.dw_forms.specs.ListOffsets.{IsListAt, ArePlaced, AreNew, NoListAt, Ar
 use Rattle.dw_forms.proofs.ChainLaws.{chain_none}
 use Rattle.dw_forms.proofs.ListLaws.{rest_of, taken, pair_takes, pair_code, list_more, list_end, none_before, none_twice, none_broken}
 use Rattle.dw_forms.proofs.NodeLaws.{old_list, new_list}
-use Rattle.dw_forms.proofs.OffsetLaws.{begins_within, nothing_push, few_push}
+use Rattle.dw_forms.proofs.OffsetLaws.{begins_within, nothing_push, apart_push}
 
 -- ---- what stays
 
@@ -52,7 +52,7 @@ nodes_on old middle new first second = (first.0 ++ second.0, second.1 ∙ ap (λ
 pub placed_more : (section : List ℕ) (nodes : List Node) (n : Node) (starts ends : List ℕ) (at end : ℕ) → ArePlaced section nodes starts ends → NothingAt starts at → at < length section → IsListAt section (nodes ++ n ∷ []) at (suc (length nodes)) end
     → ArePlaced section (nodes ++ n ∷ []) (starts ++ at ∷ []) (ends ++ end ∷ [])
 placed_more section nodes n starts ends at end placed nothing less_at is = record {
-  few = few_push starts at (length section) placed.few nothing less_at;
+  apart = apart_push (length section) starts at placed.apart nothing less_at;
   starts_long = omega (arith, placed.starts_long, length-append starts (at ∷ []), length-append nodes (n ∷ []));
   ends_long = omega (arith, placed.ends_long, length-append ends (end ∷ []), length-append nodes (n ∷ []));
   lists = λ k less. elim (cases_eq k (length nodes)) [

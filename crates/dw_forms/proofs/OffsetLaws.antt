@@ -1,11 +1,16 @@
 -- What begins at an offset of a section.
-use Rattle.std.proofs.Common.{◌≡◌, ℕ, zero, suc, ◌+◌, ◌-◌, ◌<◌, ◌≤◌, Bool, true, false, ◌==◌, cond, List, [], ◌∷◌, ◌++◌, length, refl, sym, ap, subst, ◌∙◌, inl, inr, arith}
-use Rattle.std.specs.Prelude.{get_or}
-use Rattle.std.proofs.lemmas.Bool.{cases_eq}
-use Rattle.std.proofs.lemmas.List.{length-append, get_or_append_left, get_or_at}
+use Rattle.std.proofs.Common.{◌≡◌, ℕ, ◌-◌, ◌<◌, ◌≤◌, Bool, true, false, ◌||◌, ◌⊎◌, List, [], ◌∷◌, ◌++◌, length, refl, sym, ◌∙◌, inl, inr, arith}
+use Rattle.std.specs.Prelude.{get_or, nat_eq}
+use Rattle.std.specs.List.{list_any}
+use Rattle.std.proofs.lemmas.Bool.{cases_eq, eqb-true}
+use Rattle.std.proofs.lemmas.Cmp.{nat_eq_equiv}
+use Rattle.std.proofs.lemmas.List.{length-append, get_or_append_left, get_or_at, get_or_default}
+use Rattle.std.proofs.lemmas.List.Folds.{list_any-append, list_any_none}
+use Rattle.std.proofs.lemmas.Map.Keys.{IsDistinct-push, IsDistinct-from_apart}
+use Rattle.std.proofs.lemmas.Map.Steps.{length-le_from_distinct_below}
 use Rattle.std.proofs.lemmas.Option.{slice_get_within, get_or_from_slice_get}
-use Rattle.dw_forms.specs.Offsets.{BeginsAt, NothingAt, begins, starts_below, AreFew}
-use Rattle.dw_forms.proofs.BitLaws.{differ, eq_true}
+use Rattle.dw_forms.specs.Offsets.{BeginsAt, NothingAt, AreApart}
+use Rattle.dw_forms.proofs.BitLaws.{differ}
 
 -- what begins at an offset is one of those that are kept
 pub begins_within : (starts : List ℕ) (number offset : ℕ) → BeginsAt starts number offset → (number - 1 < length starts) × (get_or starts (number - 1) 0 ≡ offset)
@@ -21,79 +26,32 @@ nothing_push starts start offset nothing other k less same = elim (cases_eq k (l
       nothing k within (sym (get_or_append_left starts (start ∷ []) 0 k within) ∙ same)
 ]
 
-begins_none : (starts : List ℕ) (offset : ℕ) → NothingAt starts offset → begins starts offset ≡ false
-unfolding begins
-begins_none [] offset nothing = refl
-begins_none (s ∷ starts) offset nothing =
-    rw (differ s offset (nothing 0 (omega arith))) (begins_none starts offset (λ k less same. nothing (suc k) (omega (arith, less)) same))
+-- ---- each thing begins at an offset of its own
 
-begins_last : (b : Bool) → cond b true false ≡ b
-begins_last true = refl
-begins_last false = refl
+none_any : (starts : List ℕ) (offset : ℕ) → NothingAt starts offset → list_any (nat_eq offset) starts ≡ false
+none_any starts offset nothing =
+    list_any_none (nat_eq offset) starts (λ k d less. differ offset (get_or starts k d) (λ same. nothing k less (get_or_default starts k 0 d less ∙ sym same)))
 
-either_true : (b : Bool) → cond b true true ≡ true
-either_true true = refl
-either_true false = refl
+either : (a b : Bool) → (a || (b || false)) ≡ true → (a ≡ true) ⊎ (b ≡ true)
+either true b e = inl refl
+either false true e = inr refl
+either false false e = inl e
 
-begins_on : (here all rest last : Bool) → all ≡ cond rest true last → cond here true all ≡ cond (cond here true rest) true last
-begins_on true all rest last e = refl
-begins_on false all rest last e = e
+pub apart_none : (end : ℕ) → AreApart end []
+apart_none end = record {
+  distinct = IsDistinct-from_apart nat_eq [] (λ i j d less within. absurd (omega (arith, within)));
+  before = λ offset any. let no : false ≡ true = any in absurd cc;
+}
 
-begins_push : (starts : List ℕ) (start offset : ℕ) → begins (starts ++ start ∷ []) offset ≡ cond (begins starts offset) true (start == offset)
-unfolding begins
-begins_push [] start offset = begins_last (start == offset)
-begins_push (s ∷ starts) start offset = begins_on (s == offset) (begins (starts ++ start ∷ []) offset) (begins starts offset) (start == offset) (begins_push starts start offset)
+pub apart_push : (end : ℕ) (starts : List ℕ) (start : ℕ) → AreApart end starts → NothingAt starts start → start < end → AreApart end (starts ++ start ∷ [])
+apart_push end starts start are nothing less = record {
+  distinct = IsDistinct-push nat_eq_equiv starts start are.distinct (none_any starts start nothing);
+  before = λ offset any. elim (either (list_any (nat_eq offset) starts) (nat_eq offset start) (sym (list_any-append (nat_eq offset) starts (start ∷ [])) ∙ any)) [
+    | inl old ↦ are.before offset old
+    | inr new ↦ let same = eqb-true offset start new in omega (arith, same, less)
+  ];
+}
 
--- ---- there are no more of them than offsets
-
-one_more : (b : Bool) (m n : ℕ) → m ≤ n → cond b 1 0 + m ≤ suc n
-one_more true m n le = omega (arith, le)
-one_more false m n le = omega (arith, le)
-
-below_all : (starts : List ℕ) (end : ℕ) → starts_below starts end ≤ end
-unfolding starts_below
-below_all starts zero = omega arith
-below_all starts (suc n) = one_more (begins starts n) (starts_below starts n) n (below_all starts n)
-
-pub few_long : (starts : List ℕ) (end : ℕ) → AreFew end starts → length starts ≤ end
-few_long starts end few = omega (arith, few, below_all starts end)
-
-pub few_none : (end : ℕ) → AreFew end []
-few_none end = omega arith
-
-module _ (starts : List ℕ) (start : ℕ) where
-  abbrev now : List ℕ
-  now = starts ++ start ∷ []
-
-  here_at : (offset : ℕ) → start ≡ offset → begins now offset ≡ true
-  here_at offset same = begins_push starts start offset ∙ ap (λ (b : Bool). cond (begins starts offset) true b) (eq_true start offset same) ∙ either_true (begins starts offset)
-
-  other_at : (offset : ℕ) → (start ≡ offset → ⊥) → begins now offset ≡ begins starts offset
-  other_at offset other = begins_push starts start offset ∙ ap (λ (b : Bool). cond (begins starts offset) true b) (differ start offset other) ∙ begins_last (begins starts offset)
-
-  same_below : (end : ℕ) → end ≤ start → starts_below now end ≡ starts_below starts end
-  unfolding starts_below
-  same_below zero le = refl
-  same_below (suc n) le =
-      ap (λ (b : Bool). cond b 1 0 + starts_below now n) (other_at n (λ e. omega (arith, le, e)))
-      ∙ ap (λ (m : ℕ). cond (begins starts n) 1 0 + m) (same_below n (omega (arith, le)))
-
-  one_below : (end : ℕ) → start < end → begins starts start ≡ false → starts_below now end ≡ suc (starts_below starts end)
-  unfolding starts_below
-  one_below zero less none = absurd (omega (arith, less))
-  one_below (suc n) less none = elim (cases_eq start n) [
-    | inl same ↦
-        let here = ap (λ (b : Bool). cond {A = ℕ} b 1 0) (here_at n same) in
-        let before = ap (λ (b : Bool). cond {A = ℕ} b 1 0) (ap (begins starts) (sym same) ∙ none) in
-        let rest : starts_below now n ≡ starts_below starts n = same_below n (omega (arith, same)) in
-        omega (arith, here, before, rest)
-    | inr other ↦
-        let here = ap (λ (b : Bool). cond {A = ℕ} b 1 0) (other_at n other) in
-        let rest : starts_below now n ≡ suc (starts_below starts n) = one_below n (omega (arith, less, other)) none in
-        omega (arith, here, rest)
-  ]
-
-  pub few_push : (end : ℕ) → AreFew end starts → NothingAt starts start → start < end → AreFew end (starts ++ start ∷ [])
-  few_push end few nothing less =
-      let more = one_below end less (begins_none starts start nothing) in
-      omega (arith, few, more, length-append starts (start ∷ []))
+-- so there are no more of them than offsets
+pub apart_few : (end : ℕ) (starts : List ℕ) → AreApart end starts → length starts ≤ end
+apart_few end starts are = length-le_from_distinct_below starts end are.distinct are.before

@@ -16,7 +16,7 @@ use Rattle.dw_forms.specs.TableStarts.{IsTableIn, AreStarts, AreNew, Stay, NoTab
 use Rattle.dw_forms.proofs.Keys.{Lacks, lacks_from, lacks_test}
 use Rattle.dw_forms.proofs.DeclLaws.{code_of_decl}
 use Rattle.dw_forms.proofs.KeptLaws.{tables_long, table_none}
-use Rattle.dw_forms.proofs.OffsetLaws.{begins_within, nothing_push, few_push}
+use Rattle.dw_forms.proofs.OffsetLaws.{begins_within, nothing_push, apart_push}
 use Rattle.dw_forms.proofs.TailLaws.{table_more, none_twice, decl_takes, behind_on, behind_pop, none_behind, table_allowed, table_fewer}
 
 -- ---- what stays
@@ -40,7 +40,7 @@ is_table_stays section old new offset number stay is = record {
 pub starts_more : (section : List ℕ) (old new : Tables) (starts : List ℕ) (start number : ℕ) → AreStarts section old starts → Stay old new → length new ≡ suc (length old) → number ≡ length old → IsTableIn section new start number
     → NothingAt starts start → start < length section → AreStarts section new (starts ++ start ∷ [])
 starts_more section old new starts start number are stay long number_is here nothing less_start = record {
-  few = few_push starts start (length section) are.few nothing less_start;
+  apart = apart_push (length section) starts start are.apart nothing less_start;
   long = omega (arith, are.long, long, length-append starts (start ∷ []));
   each = λ k less. elim (cases_eq k (length starts)) [
     | inl same ↦

@@ -7,7 +7,7 @@ use Rattle.dw_forms.specs.declared.list_reader.Pair.{Pair}
 use Rattle.dw_forms.specs.declared.list_reader.ReadList.{ReadList}
 use Rattle.dw_forms.specs.AbbrevReading.{pair_at, attributes_of}
 use Rattle.dw_forms.specs.AttributeLists.{list_in}
-use Rattle.dw_forms.specs.Offsets.{NothingAt, AreFew}
+use Rattle.dw_forms.specs.Offsets.{NothingAt, AreApart}
 
 -- the list of this number begins at an offset of the section, and ends before another
 pub record IsListAt (section : List ℕ) (nodes : List Node) (offset number end : ℕ) : Type 0 where
@@ -21,7 +21,7 @@ pub record ArePlaced (section : List ℕ) (nodes : List Node) (starts ends : Lis
   pub starts_long : length starts ≡ length nodes
   pub ends_long : length ends ≡ length nodes
   pub lists : (k : ℕ) → k < length nodes → IsListAt section nodes (get_or starts k 0) (suc k) (get_or ends k 0)
-  pub few : AreFew (length section) starts
+  pub apart : AreApart (length section) starts
 
 -- no list begins at this offset of the section
 abbrev pub NoListAt : List ℕ → ℕ → Type 0

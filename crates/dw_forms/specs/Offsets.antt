@@ -1,6 +1,6 @@
 -- State: what begins at which offset of a section. What begins there is numbered from 1.
-use Rattle.std.specs.Prelude.{◌≡◌, ℕ, zero, suc, ◌+◌, ◌<◌, ◌≤◌, ◌-◌, Bool, false, true, ◌==◌, if◌then◌else◌}
-use Rattle.std.specs.Prelude.{List, [], ◌∷◌, length, get_or, slice_get, Some, All}
+use Rattle.std.specs.Prelude.{◌≡◌, ℕ, ◌<◌, ◌≤◌, ◌-◌, true, nat_eq, List, length, get_or, slice_get, Some, All}
+use Rattle.std.specs.List.{IsDistinct, list_any}
 
 -- what has this number begins at this offset
 abbrev pub BeginsAt : List ℕ → ℕ → ℕ → Type 0
@@ -28,16 +28,7 @@ AreKnownFrom from starts numbers = (k : ℕ) → k < length starts → from ≤ 
 abbrev pub NothingAt : List ℕ → ℕ → Type 0
 NothingAt starts offset = (k : ℕ) → k < length starts → get_or starts k 0 ≡ offset → ⊥
 
--- whether something begins at an offset
-unfoldable pub begins : List ℕ → ℕ → Bool
-begins [] offset = false
-begins (start ∷ starts) offset = if start == offset then true else begins starts offset
-
--- at how many offsets before this one something begins
-unfoldable pub starts_below : List ℕ → ℕ → ℕ
-starts_below starts zero = 0
-starts_below starts (suc offset) = (if begins starts offset then 1 else 0) + starts_below starts offset
-
--- each thing begins at an offset of its own before this one, so there are no more of them than offsets
-abbrev pub AreFew : ℕ → List ℕ → Type 0
-AreFew end starts = length starts ≤ starts_below starts end
+-- each thing begins at an offset of its own, before this one
+pub record AreApart (end : ℕ) (starts : List ℕ) : Type 0 where
+  pub distinct : IsDistinct nat_eq starts
+  pub before : (offset : ℕ) → list_any (nat_eq offset) starts ≡ true → offset < end

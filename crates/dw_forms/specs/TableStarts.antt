@@ -11,7 +11,7 @@ use Rattle.dw_forms.specs.AbbrevReading.{has_code, decl_at, table_at}
 use Rattle.dw_forms.specs.Chains.{chain_in}
 use Rattle.dw_forms.specs.AttributeLists.{HasList}
 use Rattle.dw_forms.specs.KeptDecls.{Tables, kept_view, table_in}
-use Rattle.dw_forms.specs.Offsets.{BeginsAt, NothingAt, AreFew}
+use Rattle.dw_forms.specs.Offsets.{BeginsAt, NothingAt, AreApart}
 
 -- the table that begins at this offset of the section is the one of this number
 pub record IsTableIn (section : List ℕ) (tables : Tables) (offset number : ℕ) : Type 0 where
@@ -22,7 +22,7 @@ pub record IsTableIn (section : List ℕ) (tables : Tables) (offset number : ℕ
 pub record AreStarts (section : List ℕ) (tables : Tables) (starts : List ℕ) : Type 0 where
   pub long : suc (length starts) ≡ length tables
   pub each : (k : ℕ) → k < length starts → IsTableIn section tables (get_or starts k 0) (suc k)
-  pub few : AreFew (length section) starts
+  pub apart : AreApart (length section) starts
 
 -- the old tables keep their numbers
 abbrev pub Stay : Tables → Tables → Type 0

@@ -1,7 +1,7 @@
 use Rattle.std.proofs.Common.{length, rules, arith}
 use Rattle.dw_forms.specs.KeptDecls.{kept_view, tables_of}
 use Rattle.dw_forms.proofs.KeptLaws.{tables_long}
-use Rattle.dw_forms.proofs.OffsetLaws.{few_long}
+use Rattle.dw_forms.proofs.OffsetLaws.{apart_few}
 use Rattle.dw_forms.proofs.TailLaws.{decl_takes}
 use Rattle.dw_forms.proofs.StartLaws.{popped, turn_long, stay_same, stay_on, starts_more, goes_on, turn_none, turn_new, turn_stay, turn_table, turn_leads}
 use Rattle.dw_forms.proofs.abbrev_tables.keep.Goals as goal
@@ -19,7 +19,7 @@ loop-start-init c = record {
 pub push-requires-clause-few : goal.push-requires-clause-few
 push-requires-clause-few c =
     let are = c.loop-start.invariant.starts in
-    let few = few_long c.loop-start.starts.starts.items (length c.args.section.now) are.few in
+    let few = apart_few (length c.args.section.now) c.loop-start.starts.starts.items are.apart in
     let long = tables_long c.args.lists.now.nodes.items c.loop-start.kept.items in
     omega (arith, are.long, few, long, c.requires.fits)
 

@@ -1,6 +1,6 @@
 use Rattle.std.proofs.Common.{length, rules, arith}
 use Rattle.dw_forms.proofs.ListStarts.{nodes_stay, nodes_on, pair_before, code_before, no_list, next_leads, next_new, next_placed, next_stay}
-use Rattle.dw_forms.proofs.OffsetLaws.{few_long}
+use Rattle.dw_forms.proofs.OffsetLaws.{apart_few}
 use Rattle.dw_forms.proofs.list_reader.keep_pairs.Goals as goal
 
 pub loop-at-init : goal.loop-at-init
@@ -12,7 +12,7 @@ push-requires-clause-rest c = c.loop-at.invariant.leads.2.within
 pub push-requires-clause-few : goal.push-requires-clause-few
 push-requires-clause-few c =
     let placed = c.loop-at.invariant.placed in
-    let few = few_long c.loop-at.starts.starts.items (length c.args.section.now) placed.few in
+    let few = apart_few (length c.args.section.now) c.loop-at.starts.starts.items placed.apart in
     omega (arith, placed.starts_long, few, c.requires.fits)
 
 pub push-requires-clause-code : goal.push-requires-clause-code

@@ -1,5 +1,5 @@
 use Rattle.std.proofs.Common.{[], length, refl, sym, arith}
-use Rattle.dw_forms.proofs.OffsetLaws.{few_none}
+use Rattle.dw_forms.proofs.OffsetLaws.{apart_none}
 use Rattle.dw_forms.proofs.KeptLaws.{tables_long}
 use Rattle.dw_forms.proofs.abbrev_tables.AbbrevTables.new.Goals as goal
 
@@ -10,5 +10,5 @@ returns-clause-tables c = λ section. record {
     within = rw c.new.ensures.items (λ k x less. absurd (omega (arith, less)));
   };
   lists = c.new-3.ensures.lists section;
-  starts = rw (c.new.ensures.items, c.new-4.ensures) (record { long = sym (tables_long c.new-3.result.lists.nodes.items []); each = λ k less. absurd (omega (arith, less)); few = few_none (length section) });
+  starts = rw (c.new.ensures.items, c.new-4.ensures) (record { long = sym (tables_long c.new-3.result.lists.nodes.items []); each = λ k less. absurd (omega (arith, less)); apart = apart_none (length section) });
 }
