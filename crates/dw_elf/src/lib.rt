@@ -4,7 +4,6 @@
 mod fault;
 mod finding;
 mod header;
-mod name_table;
 mod section_table;
 mod sections;
 

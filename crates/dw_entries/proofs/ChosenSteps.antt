@@ -41,7 +41,7 @@ before_passed Passes x all others bs next are =
     subst (λ (n : ℕ). ArePassed Passes (take n (map value_of bs))) (length-map next.before (λ (n : Numbered AttributeSpec). n.item))
     (front_passed Passes x (items_of next.before) (specs_in others) bs (subst (λ (specs : List AttributeSpec). AreAttributes x specs bs) parts are) next.unasked)
 
--- the next one that is given is behind those that are passed
+-- the next one that is given is after those that are passed
 pub next_found : (X : Type 0) (Passes : AttributeSpec → Type 0) (items left behind : List (ℕ × Datum)) (k : ℕ) (r : Option (ℕ × Value)) → MatchOption r X (λ y. left ≡ viewed y ∷ behind) → left ≡ drop k items → ArePassed Passes (take k items)
     → IfSome r (λ found. IsNextOf Passes items (viewed found) behind)
 next_found X Passes items left behind k None steps rest are = tt

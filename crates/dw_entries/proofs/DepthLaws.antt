@@ -30,7 +30,7 @@ pub record HasParent (es : List Entry) (id k : ℕ) (e : Entry) : Type 0 where
 IsBelow : List Entry → ℕ → Option ℕ → ℕ → ℕ → Entry → Type 0
 IsBelow es id above depth k e = ((e.parent ≡ above) × (e.depth ≡ depth)) ⊎ HasParent es id k e
 
--- the same where more entries stand before and behind
+-- the same where there are more entries before and after
 in_front : (es fs : List Entry) (id : ℕ) (above : Option ℕ) (depth k : ℕ) (e : Entry) → k < length es
     → IsBelow es id above depth k e → IsBelow (es ++ fs) id above depth k e
 unfolding IsBelow

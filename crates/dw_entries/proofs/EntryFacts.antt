@@ -107,7 +107,7 @@ units_links high unit id at (u ∷ us) le =
 pub links_below : (us : List DebugUnit) (id : ℕ) (e : Entry) → slice_get (entries_of us) id ≡ Some e → LinksBelow (length (entries_of us)) e
 links_below us id e is = all_get (LinksBelow (length (entries_of us))) (entries_of us) id e (units_links (length (entries_of us)) 0 0 0 us (omega arith)) is
 
--- ---- the units, each where it stands
+-- ---- the units, each at its offset
 
 pub placed_get : (at first : ℕ) (us : List DebugUnit) (k : ℕ) (u : DebugUnit) → slice_get us k ≡ Some u → (p : PlacedUnit) × (slice_get (placed_from at first us) k ≡ Some p) × (p.unit ≡ u)
 placed_get at first [] k u is = absurd cc

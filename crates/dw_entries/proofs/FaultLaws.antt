@@ -1,9 +1,9 @@
 -- One list of units at most, one fault at most, and never both.
 use Rattle.std.proofs.Common.{◌≡◌, ℕ, zero, suc, ◌+◌, true, true≢false, map, List, [], ◌∷◌, ◌++◌, length, Option, Some, Result, Ok, Err, inl, inr, refl, sym, ap, subst, ◌∙◌, append_assoc, append-nil, arith, length-append}
-use Rattle.dw_forms.specs.declared.abbrev_fault.BrokenTable.{BrokenTable}
+use Rattle.dw_forms.specs.declared.fault.AbbrevFault.{AbbrevFault}
 use Rattle.dw_forms.specs.Abbrev.{Declaration}
 use Rattle.dw_forms.specs.AbbrevReading.{table_at}
-use Rattle.dw_entries.specs.declared.rule.Rule.{Rule}
+use Rattle.dw_entries.specs.declared.fault.Rule.{Rule}
 use Rattle.dw_entries.specs.declared.fault.Failing.{Failing}
 use Rattle.dw_entries.specs.declared.fault.Broken.{Broken}
 use Rattle.dw_entries.specs.declared.header.HeaderKind.{HeaderKind}
@@ -77,7 +77,7 @@ node_or_fault t kind header n zs f p nulls tag b =
     inside (i ∷ more) are items rest =
         stops_there t kind b.items b.rest b.depth b.failing i more (items_bytes more ++ []) 0 b.front.at_depth b.stops are.0 (rw items at fits) (ap tree_depth (sym items) ∙ whole_depth t n zs p) (rest ∙ append_assoc (item_bytes i) (items_bytes more) [])
 
--- where a unit fails no unit stands
+-- where a unit fails there is no unit
 pub unit_or_fault : (a : List ℕ) (header : ℕ) (rest : List ℕ) (f : Broken) (u : DebugUnit) (x : List ℕ) → FailsHere a header rest f → IsUnit a u → rest ≡ unit_bytes u ++ x → ⊥
 unit_or_fault a header rest f u x fails p e =
     let here : FailsHere a header (unit_bytes u ++ x) f = subst (λ (r : List ℕ). FailsHere a header r f) e fails in
@@ -131,7 +131,7 @@ one_in_body t kind header body f g b c =
 one_here : (a : List ℕ) (header : ℕ) (rest : List ℕ) (f g : Broken) → FailsHere a header rest f → FailsHere a header rest g → f ≡ g
 one_here a header rest f g p q = go (header_at (length a) rest) p q
   where
-    behind : (h : UnitHeader) (body : List ℕ) (r : Result (List Declaration) BrokenTable) → FailsBehind header h body r f → FailsBehind header h body r g → f ≡ g
+    behind : (h : UnitHeader) (body : List ℕ) (r : Result (List Declaration) AbbrevFault) → FailsBehind header h body r f → FailsBehind header h body r g → f ≡ g
     behind h body (Ok table) p q = one_in_body (context_by h table) h.kind header body f g p q
     behind h body (Err fault) p q = p ∙ sym q
 

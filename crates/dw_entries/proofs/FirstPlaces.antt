@@ -1,6 +1,6 @@
 -- The first failure at one place, and of groups that are asked at headers and at entries.
 use Rattle.std.proofs.Common.{◌≡◌, ℕ, ◌<◌, ◌≤◌, ◌⊎◌, Some, None, refl, sym, ap, subst, ◌∙◌, arith, inl, inr}
-use Rattle.dw_entries.specs.declared.rule.Rule.{Rule}
+use Rattle.dw_entries.specs.declared.fault.Rule.{Rule}
 use Rattle.dw_entries.specs.declared.fault.Broken.{Broken}
 use Rattle.dw_entries.specs.Places.{Place, at_header, at_entry, at_attribute, IsBefore, offset_of}
 use Rattle.dw_entries.specs.Failures.{Failure, Precedes, Names, HasNone, IsFirst, IsLeast}
@@ -28,7 +28,7 @@ first_at_place place Fails rule broken least named = record {
 pub none_at_place : (place : Place) (Fails : Rule → Type 0) → IsLeast Fails None → HasNone (AtPlace place Fails)
 none_at_place place Fails none f fails = none f.rule fails.fails
 
--- of two headers' failures the one that precedes does not stand behind
+-- of two headers' failures the one that precedes does not come after
 pub header_precedes_le : (a b : ℕ) (f g : Failure) → f.place ≡ at_header a → g.place ≡ at_header b → Precedes f g → a ≤ b
 header_precedes_le a b f g f_at g_at precedes =
     elim precedes [

@@ -1,4 +1,4 @@
--- At each entry's offset stands its head, in the context of its unit.
+-- At each entry's offset is its head, in the context of its unit.
 use Rattle.std.proofs.Common.{◌≡◌, ℕ, zero, suc, ◌+◌, ◌<◌, List, [], ◌∷◌, ◌++◌, length, drop, Option, Some, None, Ok, refl, sym, ap, ◌∙◌, arith, length-append, length-drop, subst, append_assoc, append-nil, drop_at, drop-drop}
 use Rattle.std.specs.Prelude.{slice_get}
 use Rattle.std.specs.List.{flat_map, AllByRecursion}
@@ -12,14 +12,14 @@ use Rattle.dw_entries.specs.Tree.{Node, Nodes, leaf, parent, none, ◌then◌, I
 use Rattle.dw_entries.specs.Units.{DebugUnit, context_of, body_bytes, nulls_bytes, unit_bytes, AreUnits, units_bytes, Spells}
 use Rattle.dw_entries.specs.Entries.{Entry, node_count, first_id, node_entries, nodes_entries, entries_from, entries_of}
 
--- the head of this entry stands at its offset, and the entry is of this unit, whose context is x
+-- the head of this entry is at its offset, and the entry is of this unit, whose context is x
 pub record StandsIn (x : Context) (unit : ℕ) (info : List ℕ) (e : Entry) : Type 0 where
   pub is : IsHead x e.head
   pub in_unit : e.unit ≡ unit
   pub after : List ℕ
   pub parts : drop e.at info ≡ head_bytes e.head ++ after
 
--- the head of this entry stands at its offset, in the context of its unit
+-- the head of this entry is at its offset, in the context of its unit
 pub record Stands (us : List DebugUnit) (info : List ℕ) (e : Entry) : Type 0 where
   pub unit : DebugUnit
   pub is_unit : slice_get us e.unit ≡ Some unit
@@ -40,7 +40,7 @@ all_get P [] k x p is = absurd cc
 all_get P (y ∷ ys) zero x p is = let e : Some y ≡ Some x = is in let same : y ≡ x = cc in subst P same p.0
 all_get P (y ∷ ys) (suc k) x p is = all_get P ys k x p.1 is
 
--- what stands behind
+-- what comes after it
 behind : (info a b : List ℕ) (at : ℕ) → drop at info ≡ a ++ b → drop (at + length a) info ≡ b
 behind info a b at e = sym (drop-drop (length a) at info) ∙ ap (drop (length a)) e ∙ drop_at a b (length a) refl
 
@@ -76,7 +76,7 @@ from_here all unit u us f = ap (slice_get all) (let e : unit ≡ unit + 0 = omeg
 stands_among : (all : List DebugUnit) (info : List ℕ) (unit : ℕ) (u : DebugUnit) → slice_get all unit ≡ Some u → (e : Entry) → StandsIn (context_of u) unit info e → Stands all info e
 stands_among all info unit u is e s = record { unit = u; is_unit = ap (slice_get all) s.in_unit ∙ is; is = s.is; after = s.after; parts = s.parts }
 
--- the bytes of a unit behind its header
+-- the bytes of a unit after its header
 pub behind_header : (info : List ℕ) (at : ℕ) (u : DebugUnit) (after : List ℕ) → drop at info ≡ unit_bytes u ++ after → drop (at + header_size u.header.kind) info ≡ body_bytes u ++ after
 behind_header info at u after e =
     ap (λ (n : ℕ). drop (at + n) info) (sym (length-header u.header))
@@ -94,7 +94,7 @@ units_stand all a info unit id at (u ∷ us) after p f e =
     (node_stands (context_of u) info unit None 0 None id (at + header_size u.header.kind) u.root (nulls_bytes u.nulls ++ (units_bytes us ++ after)) p.0.root root))
     (units_stand all a info (suc unit) (id + node_count u.root) (at + length (unit_bytes u)) us after p.1 (from_next all unit u us f) (behind info (unit_bytes u) (units_bytes us ++ after) at parts))
 
--- the head of each entry stands at its offset
+-- the head of each entry is at its offset
 pub head_stands : (a info : List ℕ) (us : List DebugUnit) (id : ℕ) (e : Entry) → Spells a us info → slice_get (entries_of us) id ≡ Some e → Stands us info e
 head_stands a info us id e s is =
     all_get (Stands us info) (entries_of us) id e

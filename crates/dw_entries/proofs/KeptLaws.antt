@@ -1,4 +1,4 @@
--- What is kept of an entry and of its unit, and what stands in .debug_info where they point.
+-- What is kept of an entry and of its unit, and what is in .debug_info where they point.
 use Rattle.std.proofs.Common.{◌≡◌, ℕ, zero, suc, ◌-◌, ◌<◌, ◌≤◌, List, [], ◌∷◌, ◌++◌, length, take, drop, get_or, Option, Some, None, Ok, Err, false, refl, sym, ap, subst, ◌∙◌, arith}
 use Rattle.std.specs.Prelude.{slice_get, IfSome, IsSomeAnd}
 use Rattle.std.specs.List.{AllZip, flat_map}
@@ -92,7 +92,7 @@ kept_entry a info tables rs records s id within = by_cases (slice_get (entries_o
         let some = slice_get-get_or (entries_of (units_of s)) id (record { at = 0; unit = 0; parent = None; depth = 0; next = None; head = record { decl = record { code = 0; tag = 0; has_children = false; attributes = [] }; code = []; attributes = [] } }) within in
         absurd cc
 
--- an element that was read is the one that stands there
+-- an element that was read is the one that is there
 pub read_is : {A : Type 0} (xs : List A) (k : ℕ) (x y : A) → slice_get xs k ≡ Some x → y ≡ get_or xs k y → y ≡ x
 read_is xs k x y is read = read ∙ get_or_from_slice_get xs k x y is
 
@@ -111,7 +111,7 @@ module _ {a info : List ℕ} {tables : Tables} {rs : List UnitRecord} {records :
     pub at_within : r.at < length info
     at_within = let e : r.at ≡ k.entry.at = ap (λ (q : Record). q.at) record_is in let w = stands_within (units_of s) info k.entry k.stands in omega (arith, e, w)
 
-    -- its code is read where it stands, and its values follow
+    -- its code is read at its offset, and its values follow
     code_read : seen (λ c. c.number) (code_at (take (length info - r.at) (drop r.at info))) ≡ Ok (k.entry.head.decl.code, flat_map attribute_bytes k.entry.head.attributes ++ k.stands.after)
     code_read =
         let e : r.at ≡ k.entry.at = ap (λ (q : Record). q.at) record_is in

@@ -3,7 +3,7 @@ use Rattle.std.proofs.Common.{◌≡◌, ℕ, ◌+◌, ◌-◌, ◌<◌, map, tr
 use Rattle.std.proofs.lemmas.List.Concat.{flat_map-append}
 use Rattle.dw_entries.specs.declared.walk.Record.{Record}
 use Rattle.dw_entries.specs.declared.header.HeaderKind.{HeaderKind}
-use Rattle.dw_entries.specs.declared.rule.Rule.TheVariants.{LeftOver}
+use Rattle.dw_entries.specs.declared.fault.Rule.TheVariants.{LeftOver}
 use Rattle.dw_entries.specs.declared.fault.Failing.{Failing}
 use Rattle.dw_entries.specs.Grammar.{Context}
 use Rattle.dw_entries.specs.Header.{fits_tag, header_size}

@@ -1,4 +1,4 @@
--- Values that are passed together, and the value behind them.
+-- Values that are passed together, and the value after them.
 use Rattle.std.proofs.Common.{◌≡◌, ◌≢◌, ℕ, zero, suc, ◌-◌, Bool, true, false, List, [], ◌∷◌, ◌++◌, length, take, drop, map, Option, Some, None, Result, Ok, Err, refl, sym, ap, subst, ◌∙◌, append_assoc, arith}
 use Rattle.std.specs.Prelude.{◌&&◌, slice_index_or, option_map}
 use Rattle.std.specs.List.{flat_map, slice_range}
@@ -30,7 +30,7 @@ both_true : (a b : Bool) → (a && b) ≡ true → (a ≡ true) × (b ≡ true)
 both_true true b e = (refl, e)
 both_true false b e = absurd cc
 
--- where all forms are allowed, values that are read one behind the other are the attributes at the front
+-- where all forms are allowed, values that are read one after the other are the attributes at the front
 pub all_after : (t : Context) (specs : List AttributeSpec) (bytes rest : List ℕ) → are_allowed t.version specs ≡ true → values_end t.version t.address_size specs bytes ≡ Ok rest → after (attributes_at t specs bytes) ≡ Ok rest
 unfolding values_end attributes_at
 all_after t [] bytes rest allowed e = let same : ◌≡◌ {A = Result (List ℕ) ValueFault} (Ok bytes) (Ok rest) = e in cc
@@ -41,7 +41,7 @@ all_after t (s ∷ specs) bytes rest allowed e =
 
 -- ---- values that are left
 
--- the values of the first of these attributes are read one behind the other, and the others are left
+-- the values of the first of these attributes are read one after the other, and the others are left
 pub record Passed (x : Context) (front back : List AttributeSpec) (bs : List Attribute) (rest bytes : List ℕ) : Type 0 where
   pub behind : List ℕ
   pub others : List Attribute
@@ -79,7 +79,7 @@ module _ (x : Context) (specs front back : List AttributeSpec) (parts : specs �
   pub never_cut : (f : ValueFault) → values_end x.version x.address_size front bytes ≡ Err f → ⊥
   never_cut f e = let ok = those.ends in cc
 
-  -- what is left behind them
+  -- what is left after them
   pub left_on : (rest : List ℕ) → values_end x.version x.address_size front bytes ≡ Ok rest → (m : Left x back rest) × (map value_of m.0.0 ≡ drop (length front) (map value_of l.0.0))
   left_on rest e =
       let same : those.behind ≡ rest = is_ok (sym those.ends ∙ e) in
@@ -95,7 +95,7 @@ module _ (x : Context) (specs front back : List AttributeSpec) (parts : specs �
 
 -- ---- the value of the first attribute with a code
 
--- the values before it are read one behind the other, and it behind them
+-- the values before it are read one after the other, and it after them
 pub record FirstValue (version size : ℕ) (specs : List AttributeSpec) (bytes : List ℕ) (values : List (ℕ × Datum)) (code place : ℕ) : Type 0 where
   pub datum : Datum
   pub is_value : Some datum ≡ value_in values code

@@ -11,8 +11,9 @@ use Rattle.dw_forms.specs.KeptDecls.{Tables, number_in}
 use Rattle.dw_forms.specs.TableStarts.{Stay}
 use Rattle.dw_forms.proofs.StartLaws.{table_stays}
 use Rattle.dw_entries.specs.declared.fault.Broken.{Broken}
-use Rattle.dw_entries.specs.declared.fault.Break.{Break}
-use Rattle.dw_entries.specs.declared.fault.Break.TheVariants.{Memory, Broken as Breaks}
+use Rattle.dw_forms.specs.declared.fault.Stop.{Stop}
+use Rattle.dw_forms.specs.declared.fault.Stop.TheVariants.{Memory, Fault as Breaks}
+use Rattle.dw_forms.specs.Stops.{IfFault}
 use Rattle.dw_entries.specs.declared.header.HeaderKind.{HeaderKind}
 use Rattle.dw_entries.specs.declared.header.HeaderKind.TheVariants.{Version4, CompileUnit, PartialUnit, TypeUnit}
 use Rattle.dw_entries.specs.Header.{header_size, header_bytes}
@@ -21,7 +22,7 @@ use Rattle.dw_entries.specs.Units.{DebugUnit, body_bytes, unit_bytes, IsUnit, Ar
 use Rattle.dw_entries.specs.Entries.{node_count, PlacedUnit, placed_from, placed}
 use Rattle.dw_entries.specs.Records.{node_records, records_from, records_kept}
 use Rattle.dw_entries.specs.Scanned.{table_of, numbers_of, IsKept, Scanned}
-use Rattle.dw_entries.specs.Stopped.{IfBroken, UnitTaken}
+use Rattle.dw_entries.specs.Stopped.{UnitTaken}
 use Rattle.dw_entries.proofs.OrderLaws.{few_entries}
 use Rattle.dw_entries.proofs.WalkLaws.{length-node_records}
 
@@ -208,6 +209,6 @@ unit_within a info header old new len le t = omega (arith, t.len_is, length-drop
 pub rest_of : (n : ℕ) (s : List ℕ) → n ≤ length s → take (length s - n) (drop n s) ≡ drop n s
 rest_of n s le = take_all _ (drop n s) (omega (arith, length-drop n s))
 
-pub none_broken : (P : Broken → Type 0) (e : Break) (b : Broken) → e ≡ Breaks b → IfBroken P e → P b
+pub none_broken : (P : Broken → Type 0) (e : Stop Broken) (b : Broken) → e ≡ Breaks b → IfFault P e → P b
 none_broken P Memory b e p = absurd cc
 none_broken P (Breaks a) b e p = let same : a ≡ b = cc in subst P same p

@@ -40,7 +40,7 @@ mutual
       (node_unit unit (Some above) depth (first_id ns (id + node_count n)) id at n)
       (nodes_unit unit above depth (id + node_count n) (at + length (node_bytes n)) ns)
 
--- an element of two lists, one behind the other
+-- an element of two lists, one after the other
 pub get_front : {A : Type 0} (xs ys : List A) (k : ℕ) → k < length xs → slice_get (xs ++ ys) k ≡ slice_get xs k
 get_front [] ys k lt = absurd (omega arith)
 get_front (x ∷ xs) ys zero lt = refl

@@ -28,7 +28,7 @@ mutual
   length-nodes_records numbers above id at (n then ns) =
       omega (arith, length-append (node_records numbers (Some above) (first_id ns (id + node_count n)) id at n) (nodes_records numbers above (id + node_count n) (at + length (node_bytes n)) ns), length-node_records numbers (Some above) (first_id ns (id + node_count n)) id at n, length-nodes_records numbers above (id + node_count n) (at + length (node_bytes n)) ns)
 
--- the link of a node behind these
+-- the link of a node after these
 link_node : (numbers : ℕ → ℕ) (rs : List Record) (above : Option ℕ) (id at : ℕ) (n : Node) (to : ℕ) → link (length rs) to (rs ++ node_records numbers above None id at n) ≡ rs ++ node_records numbers above (Some to) id at n
 link_node numbers [] above id at (leaf h) to = refl
 link_node numbers [] above id at (parent h ns z) to = refl

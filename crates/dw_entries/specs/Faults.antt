@@ -1,14 +1,14 @@
 -- Chapter: the first place at which .debug_info stops being a list of units, and the rule that fails there.
 use Rattle.std.specs.Prelude.{◌≡◌, ◌≢◌, ℕ, zero, suc, true, false, ◌+◌, List, [], ◌∷◌, ◌++◌, length, Some, Result, Ok}
 use Rattle.std.specs.Prelude.{Err}
-use Rattle.dw_forms.specs.declared.abbrev_fault.AbbrevRule.{AbbrevRule}
-use Rattle.dw_forms.specs.declared.abbrev_fault.AbbrevRule.TheVariants as table
-use Rattle.dw_forms.specs.declared.abbrev_fault.BrokenTable.{BrokenTable}
+use Rattle.dw_forms.specs.declared.fault.AbbrevRule.{AbbrevRule}
+use Rattle.dw_forms.specs.declared.fault.AbbrevRule.TheVariants as table
+use Rattle.dw_forms.specs.declared.fault.AbbrevFault.{AbbrevFault}
 use Rattle.dw_forms.specs.Abbrev.{Declaration}
 use Rattle.dw_forms.specs.AbbrevReading.{table_at}
-use Rattle.dw_entries.specs.declared.rule.Rule.{Rule}
-use Rattle.dw_entries.specs.declared.rule.Rule.TheVariants.{AbbrevCut, AbbrevNumber, CodeTwice, BadTag, BadChildren}
-use Rattle.dw_entries.specs.declared.rule.Rule.TheVariants.{BadPair, UnknownForm, AttributeTwice, NoUnitEntry, LeftOver}
+use Rattle.dw_entries.specs.declared.fault.Rule.{Rule}
+use Rattle.dw_entries.specs.declared.fault.Rule.TheVariants.{AbbrevCut, AbbrevNumber, CodeTwice, BadTag, BadChildren}
+use Rattle.dw_entries.specs.declared.fault.Rule.TheVariants.{BadPair, UnknownForm, AttributeTwice, NoUnitEntry, LeftOver}
 use Rattle.dw_entries.specs.declared.fault.Section.TheVariants.{Abbrev, Info}
 use Rattle.dw_entries.specs.declared.fault.Failing.{Failing}
 use Rattle.dw_entries.specs.declared.fault.Broken.{Broken}
@@ -32,7 +32,7 @@ rule_of table.UnknownForm = UnknownForm
 rule_of table.AttributeTwice = AttributeTwice
 
 -- the fault of a table
-abbrev pub in_table : BrokenTable → Broken
+abbrev pub in_table : AbbrevFault → Broken
 in_table f = record { rule = rule_of f.rule; section = Abbrev; at = f.at; attribute = f.attribute }
 
 -- the fault of a header at this offset
@@ -83,7 +83,7 @@ pub record BodyFails (x : Context) (kind : HeaderKind) (header : ℕ) (body : Li
 -- ---- the checks of a unit in their order: its header, its table, its items
 
 -- the fault after a header at this offset, whose table reads so: an item of the body, or the table
-abbrev pub FailsBehind : ℕ → UnitHeader → List ℕ → Result (List Declaration) BrokenTable → Broken → Type 0
+abbrev pub FailsBehind : ℕ → UnitHeader → List ℕ → Result (List Declaration) AbbrevFault → Broken → Type 0
 FailsBehind header h body (Ok table) broken = BodyFails (context_by h table) h.kind header body broken
 FailsBehind header h body (Err f) broken = broken ≡ in_table f
 

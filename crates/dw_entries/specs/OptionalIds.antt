@@ -4,11 +4,11 @@ use Rattle.std.proofs.Common.{ap, sym}
 use Rattle.std.proofs.lemmas.Bool.{eqb-true}
 use Rattle.dw_entries.specs.declared.id.OptionalId.TheInside.{Inside}
 
--- the greatest number stands for none
+-- the greatest number means none
 abbrev pub option_of : ℕ → Option ℕ
 option_of n = if n == 0xffffffff then None else Some n
 
--- the number that stands for it
+-- the number that encodes it
 abbrev pub number_of : Option ℕ → ℕ
 number_of None = 0xffffffff
 number_of (Some n) = n

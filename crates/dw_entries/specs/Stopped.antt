@@ -1,5 +1,5 @@
 -- State: what holds of a result, unless memory ran out.
-use Rattle.dw_forms.specs.declared.abbrev_fault.BrokenTable.{BrokenTable}
+use Rattle.dw_forms.specs.declared.fault.AbbrevFault.{AbbrevFault}
 use Rattle.dw_forms.specs.Abbrev.{Declaration}
 use Rattle.dw_entries.specs.Faults.{in_table}
 use Rattle.std.specs.Prelude.{◌≡◌, ◌≢◌, ℕ, true, false, List, ◌+◌, ◌++◌, ◌∷◌, length, None, [], Result, Ok, Err}
@@ -14,10 +14,6 @@ use Rattle.dw_entries.specs.Scanned.{IsKept}
 use Rattle.dw_entries.specs.Failures.{IsPlainFault}
 use Rattle.dw_entries.specs.declared.fault.Failing.{Failing}
 use Rattle.dw_entries.specs.declared.fault.Broken.{Broken}
-use Rattle.dw_entries.specs.declared.fault.Break.{Break}
-use Rattle.dw_entries.specs.declared.fault.Break.TheVariants as breaks
-use Rattle.dw_entries.specs.declared.walk.Halt.{Halt}
-use Rattle.dw_entries.specs.declared.walk.Halt.TheVariants as halts
 use Rattle.dw_entries.specs.declared.header.HeaderKind.{HeaderKind}
 use Rattle.dw_entries.specs.Grammar.{Context}
 use Rattle.dw_entries.specs.Header.{fits_tag, header_size}
@@ -25,24 +21,10 @@ use Rattle.dw_entries.specs.Reading.{code_at, null_first}
 use Rattle.dw_entries.specs.Tree.{Node, IsNode, node_bytes}
 use Rattle.dw_entries.specs.Units.{DebugUnit, IsUnit, unit_bytes, AreNulls, nulls_bytes, head_of}
 use Rattle.dw_entries.specs.Records.{node_records}
-use Rattle.dw_entries.specs.declared.fault.Stop.{Stop}
-use Rattle.dw_entries.specs.declared.fault.Stop.TheVariants as stops
+use Rattle.dw_forms.specs.declared.fault.Stop.{Stop}
+use Rattle.dw_forms.specs.declared.fault.Stop.TheVariants as stops
+use Rattle.dw_forms.specs.Stops.{IfFault}
 use Rattle.dw_entries.specs.declared.fault.Fault.{Fault}
-
--- this holds of the fault, where memory did not run out
-abbrev pub IfBroken : (Broken → Type 0) → Break → Type 0
-IfBroken P breaks.Memory = Unit {0}
-IfBroken P (breaks.Broken b) = P b
-
--- reading gives this fault, where memory did not run out
-abbrev pub HaltsBy : {Y : Type 0} → Halt → Result Y Failing → Type 0
-HaltsBy halts.Memory read = Unit {0}
-HaltsBy (halts.Failing f) read = read ≡ Err f
-
--- what a function returned, by view, is what reading gives, where memory did not run out
-abbrev pub GivesUnlessMemory : {X Y : Type 0} → (X → Y) → Result X Halt → Result Y Failing → Type 0
-GivesUnlessMemory view (Ok x) read = read ≡ Ok (view x)
-GivesUnlessMemory view (Err e) read = HaltsBy e read
 
 -- the body spells a tree and nulls, and then the rest; the tree's entries come after the old ones
 pub record TreeOf (x : Context) (numbers : ℕ → ℕ) (kind : HeaderKind) (body rest : List ℕ) (at : ℕ)
@@ -67,24 +49,19 @@ pub record NullsThen (bytes left : List ℕ) : Type 0 where
   pub more : left ≢ []
   pub other : null_first (code_at left) ≡ false
 
--- this holds of the fault, unless memory ran out
-abbrev pub IfFaulty : (Fault → Type 0) → Stop → Type 0
-IfFaulty P stops.Memory = Unit {0}
-IfFaulty P (stops.Fault fault) = P fault
-
--- the same of a fault without a cycle
-abbrev pub IfFault : (Broken → Type 0) → Stop → Type 0
-IfFault P = IfFaulty (IsPlainFault P)
+-- this holds of the fault, which has no cycle, unless memory ran out
+abbrev pub IfPlainFault : (Broken → Type 0) → Stop Fault → Type 0
+IfPlainFault P = IfFault (IsPlainFault P)
 
 -- what a table's fault is, in the words of all rules
-abbrev pub as_broken : Result (List Declaration) BrokenTable → Result (List Declaration) Broken
+abbrev pub as_broken : Result (List Declaration) AbbrevFault → Result (List Declaration) Broken
 as_broken (Ok table) = Ok table
 as_broken (Err f) = Err (in_table f)
 
--- reading the table gives this fault, where memory did not run out
-abbrev pub BreaksBy : Break → Result (List Declaration) BrokenTable → Type 0
-BreaksBy breaks.Memory read = Unit {0}
-BreaksBy (breaks.Broken b) read = as_broken read ≡ Err b
+-- reading the table gives this fault, unless memory ran out
+abbrev pub BreaksBy : Stop Broken → Result (List Declaration) AbbrevFault → Type 0
+BreaksBy stops.Memory read = Unit {0}
+BreaksBy (stops.Fault b) read = as_broken read ≡ Err b
 
 -- a unit begins the bytes, and what is kept of it comes after the old
 pub record UnitTaken («abbrev» rest : List ℕ) (at : ℕ) (old new : Kept) (len : ℕ) : Type 0 where

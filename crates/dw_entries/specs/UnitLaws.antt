@@ -3,10 +3,10 @@ use Rattle.std.proofs.Common.{◌≡◌, ℕ, List, [], ◌∷◌, ◌++◌, len
 use Rattle.std.proofs.Common.{subst, ◌∙◌, append_assoc, append-nil, arith, length-append, drop_at}
 use Rattle.std.specs.List.{flat_map}
 use Rattle.std.proofs.lemmas.List.Concat.{flat_map-append}
-use Rattle.dw_forms.specs.declared.abbrev_fault.BrokenTable.{BrokenTable}
+use Rattle.dw_forms.specs.declared.fault.AbbrevFault.{AbbrevFault}
 use Rattle.dw_forms.specs.Abbrev.{Declaration}
 use Rattle.dw_forms.specs.AbbrevReading.{table_at}
-use Rattle.dw_entries.specs.declared.rule.Rule.{Rule}
+use Rattle.dw_entries.specs.declared.fault.Rule.{Rule}
 use Rattle.dw_entries.specs.declared.header.UnitHeader.{UnitHeader}
 use Rattle.dw_entries.specs.Grammar.{Context, IsNull}
 use Rattle.dw_entries.specs.Header.{header_bytes, header_at}
@@ -56,8 +56,8 @@ nulls_unique t zs ws p q e =
       | inr on ↦ sym (more_nulls ws zs [] [] (sym (ap length e)) on)
     ]
 
-table_is : (r : Result (List Declaration) BrokenTable) (x y : List Declaration) → r ≡ Ok x → r ≡ Ok y → x ≡ y
-table_is r x y p q = let same : ◌≡◌ {A = Result (List Declaration) BrokenTable} (Ok x) (Ok y) = sym p ∙ q in cc
+table_is : (r : Result (List Declaration) AbbrevFault) (x y : List Declaration) → r ≡ Ok x → r ≡ Ok y → x ≡ y
+table_is r x y p q = let same : ◌≡◌ {A = Result (List Declaration) AbbrevFault} (Ok x) (Ok y) = sym p ∙ q in cc
 
 -- the header of a unit is read, and the bytes after it
 pub unit_header : (a : List ℕ) (u : DebugUnit) (x : List ℕ) → IsUnit a u

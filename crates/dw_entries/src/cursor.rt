@@ -110,7 +110,7 @@ impl<'e, 'a> Cursor<'e, 'a> {
         }
     }
 
-    /// The entry with this number, for all that is asked of it.
+    /// The entry with this number. Its declaration is looked up once.
     #[inline(always)]
     pub fn at(&mut self, id: EntryId) -> EntryAt<'e, 'a>
         requires { id < length (all_entries self.old.entries.now.scanned) }

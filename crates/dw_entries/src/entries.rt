@@ -7,7 +7,6 @@ ghost use Rattle.dw_entries.specs.Scanned.{all_entries, all_units, units_of, tab
 ghost use Rattle.dw_entries.specs.Runs.{ReachesInUnit};
 ghost use Rattle.dw_entries.specs.Units.{DebugUnit, Spells};
 ghost use Rattle.dw_entries.specs.Faults.{Fails};
-ghost use Rattle.dw_entries.specs.Stopped.{IfBroken, IfFault};
 ghost use Rattle.dw_entries.specs.Props.{scanned_unique};
 
 use crate::cursor::unit_at;

@@ -64,7 +64,7 @@ impl<'e, 'a> Model for EntryAt<'e, 'a> {
 }
 
 impl<'a> Entries<'a> {
-    /// The entry with this number, for all that is asked of it.
+    /// The entry with this number. Its declaration and its unit are looked up once.
     #[inline(always)]
     pub fn at(&self, id: EntryId) -> EntryAt<'_, 'a>
         requires { id < length (all_entries self.now.scanned) }
@@ -202,7 +202,7 @@ impl<'e, 'a> EntryAt<'e, 'a> {
         }
     }
 
-    /// Its attributes in their order, each value decoded when it is asked.
+    /// Its attributes in their order, each value decoded on demand.
     #[inline(always)]
     pub fn values(&self) -> Values<'e, 'a>
         ensures { IfSome self.now (λ e. values_left result ≡ values_of e.head) }
@@ -210,7 +210,7 @@ impl<'e, 'a> EntryAt<'e, 'a> {
         self.values_in(self.decl.attributes())
     }
 
-    /// Its attributes whose values may lead elsewhere, in their order, each value decoded when it is asked.
+    /// Its attributes whose values may lead elsewhere, in their order, each value decoded on demand.
     #[inline(always)]
     pub fn leading(&self) -> Leading<'e, 'a>
         ensures { IfSome self.now (λ e. leading_left result ≡ values_of e.head) }

@@ -1,11 +1,202 @@
-//! The first place where a rule is broken.
+//! The rules that sections can break, each with its code and its name, and the first place where one is broken.
 
 ghost use Rattle.std.specs.Prelude.{◌≡◌};
-ghost use Rattle.dw_entries.specs.declared.fault.Stop.TheVariants.{Memory, Fault as Faulty};
+ghost use Rattle.dw_forms.specs.declared.fault.Stop.TheVariants.{Fault as Faulty};
 ghost use Rattle.dw_entries.specs.Failures.{IsPlainFault};
 
-use crate::rule::Rule;
-use std::alloc::{AllocError, AllocFailed, Global};
+use dw_forms::Stop;
+use std::alloc::Global;
+
+/// A rule. The letter of its code names the group that it belongs to, and the number its place there.
+#[derive(Clone, Copy, Debug, PartialEq, Eq)]
+pub enum Rule {
+    /// A1: a part of a declaration passes the end of .debug_abbrev.
+    AbbrevCut,
+    /// A2: a number in a table has more than 10 bytes or more than 64 bits.
+    AbbrevNumber,
+    /// A3: an earlier declaration of the table has the code.
+    CodeTwice,
+    /// A4: a tag is 0 or above 0xffff.
+    BadTag,
+    /// A5: the byte that says whether there are children is neither 0 nor 1.
+    BadChildren,
+    /// A6: one of an attribute and its form alone is 0, or the attribute is above 0xffff.
+    BadPair,
+    /// A7: no form has the code.
+    UnknownForm,
+    /// A8: a declaration has an attribute twice.
+    AttributeTwice,
+    /// U1: a unit passes the end of .debug_info, or its header passes the unit's end.
+    UnitCut,
+    /// U2: the length is one of 64-bit DWARF or reserved.
+    Not32Bit,
+    /// U3: the version is neither 4 nor 5.
+    BadVersion,
+    /// U4: the unit's type is not compile, type or partial.
+    BadUnitType,
+    /// U5: an address has neither 4 nor 8 bytes.
+    BadAddressSize,
+    /// U6: no byte of .debug_abbrev is at the table's offset.
+    BadAbbrevOffset,
+    /// U7: a null or nothing is in place of the unit's first entry.
+    NoUnitEntry,
+    /// U8: the first entry's tag is not the one of the unit's type.
+    WrongUnitTag,
+    /// U9: something else than nulls is after the tree.
+    LeftOver,
+    /// G1: the table has no declaration with the code.
+    UndeclaredCode,
+    /// G2: a code or a value passes the unit's end.
+    Cut,
+    /// G3: a code, or a number in a value, has more than 10 bytes or more than 64 bits.
+    BadNumber,
+    /// G4: the value names no form that may come after the form indirect.
+    BadIndirect,
+    /// G5: Version 4 does not have the form.
+    FormVersion,
+    /// K1: the value's class is none of the attribute's.
+    WrongClass,
+    /// S1: the base leads to no contribution of string offsets, or there is none.
+    BadStrBase,
+    /// S2: the contribution has no string of the index.
+    StrIndex,
+    /// S3: no zero byte ends the string.
+    StringEnd,
+    /// S4: the base leads to no contribution of addresses, or there is none.
+    BadAddrBase,
+    /// S5: the contribution has no address of the index.
+    AddrIndex,
+    /// R1: no entry starts where the reference leads.
+    NoEntry,
+    /// R2: the entry reached is of a kind that the attribute does not permit.
+    WrongKind,
+    /// R3: a sibling attribute does not lead to the next sibling.
+    NotNextSibling,
+    /// R4: no type unit has the signature.
+    NoSignature,
+    /// R5: an earlier type unit has the signature.
+    SignatureTwice,
+    /// R6: no type of the type unit starts at its type offset.
+    BadTypeOffset,
+    /// Y1: an array or a member has no type.
+    MissingType,
+    /// Y2: the count of a dimension is below 0.
+    BadCount,
+    /// C1: a type contains itself by value.
+    ContainsItself,
+    /// Z1: nothing gives the type's size.
+    NoSize,
+    /// Z2: a size is 2^63 or more.
+    SizeTooGreat,
+    /// Z3: a member does not lie in its container.
+    MemberOutside,
+    /// Z4: the size of an enumeration is unknown, or differs from that of its type.
+    EnumSize,
+}
+
+impl Rule {
+    ghost use Rattle.dw_entries.specs.RuleTexts.{code_text, name_text};
+
+    /// The code of the rule: the letter of its group and its number there.
+    #[tactic(auto, unfolding(crate::specs::RuleTexts::code_text))]
+    pub fn code(self) -> &'static str
+        ensures { result.now ≡ code_text self }
+    {
+        match self {
+            Rule::AbbrevCut => "A1",
+            Rule::AbbrevNumber => "A2",
+            Rule::CodeTwice => "A3",
+            Rule::BadTag => "A4",
+            Rule::BadChildren => "A5",
+            Rule::BadPair => "A6",
+            Rule::UnknownForm => "A7",
+            Rule::AttributeTwice => "A8",
+            Rule::UnitCut => "U1",
+            Rule::Not32Bit => "U2",
+            Rule::BadVersion => "U3",
+            Rule::BadUnitType => "U4",
+            Rule::BadAddressSize => "U5",
+            Rule::BadAbbrevOffset => "U6",
+            Rule::NoUnitEntry => "U7",
+            Rule::WrongUnitTag => "U8",
+            Rule::LeftOver => "U9",
+            Rule::UndeclaredCode => "G1",
+            Rule::Cut => "G2",
+            Rule::BadNumber => "G3",
+            Rule::BadIndirect => "G4",
+            Rule::FormVersion => "G5",
+            Rule::WrongClass => "K1",
+            Rule::BadStrBase => "S1",
+            Rule::StrIndex => "S2",
+            Rule::StringEnd => "S3",
+            Rule::BadAddrBase => "S4",
+            Rule::AddrIndex => "S5",
+            Rule::NoEntry => "R1",
+            Rule::WrongKind => "R2",
+            Rule::NotNextSibling => "R3",
+            Rule::NoSignature => "R4",
+            Rule::SignatureTwice => "R5",
+            Rule::BadTypeOffset => "R6",
+            Rule::MissingType => "Y1",
+            Rule::BadCount => "Y2",
+            Rule::ContainsItself => "C1",
+            Rule::NoSize => "Z1",
+            Rule::SizeTooGreat => "Z2",
+            Rule::MemberOutside => "Z3",
+            Rule::EnumSize => "Z4",
+        }
+    }
+
+    /// The name of the rule, which is its variant's.
+    #[tactic(auto, unfolding(crate::specs::RuleTexts::name_text))]
+    pub fn name(self) -> &'static str
+        ensures { result.now ≡ name_text self }
+    {
+        match self {
+            Rule::AbbrevCut => "AbbrevCut",
+            Rule::AbbrevNumber => "AbbrevNumber",
+            Rule::CodeTwice => "CodeTwice",
+            Rule::BadTag => "BadTag",
+            Rule::BadChildren => "BadChildren",
+            Rule::BadPair => "BadPair",
+            Rule::UnknownForm => "UnknownForm",
+            Rule::AttributeTwice => "AttributeTwice",
+            Rule::UnitCut => "UnitCut",
+            Rule::Not32Bit => "Not32Bit",
+            Rule::BadVersion => "BadVersion",
+            Rule::BadUnitType => "BadUnitType",
+            Rule::BadAddressSize => "BadAddressSize",
+            Rule::BadAbbrevOffset => "BadAbbrevOffset",
+            Rule::NoUnitEntry => "NoUnitEntry",
+            Rule::WrongUnitTag => "WrongUnitTag",
+            Rule::LeftOver => "LeftOver",
+            Rule::UndeclaredCode => "UndeclaredCode",
+            Rule::Cut => "Cut",
+            Rule::BadNumber => "BadNumber",
+            Rule::BadIndirect => "BadIndirect",
+            Rule::FormVersion => "FormVersion",
+            Rule::WrongClass => "WrongClass",
+            Rule::BadStrBase => "BadStrBase",
+            Rule::StrIndex => "StrIndex",
+            Rule::StringEnd => "StringEnd",
+            Rule::BadAddrBase => "BadAddrBase",
+            Rule::AddrIndex => "AddrIndex",
+            Rule::NoEntry => "NoEntry",
+            Rule::WrongKind => "WrongKind",
+            Rule::NotNextSibling => "NotNextSibling",
+            Rule::NoSignature => "NoSignature",
+            Rule::SignatureTwice => "SignatureTwice",
+            Rule::BadTypeOffset => "BadTypeOffset",
+            Rule::MissingType => "MissingType",
+            Rule::BadCount => "BadCount",
+            Rule::ContainsItself => "ContainsItself",
+            Rule::NoSize => "NoSize",
+            Rule::SizeTooGreat => "SizeTooGreat",
+            Rule::MemberOutside => "MemberOutside",
+            Rule::EnumSize => "EnumSize",
+        }
+    }
+}
 
 /// The section in which a fault is: .debug_abbrev for a table's, .debug_info for all others.
 #[derive(Clone, Copy, Debug, PartialEq, Eq)]
@@ -40,15 +231,6 @@ pub struct Fault {
     pub cycle: Vec<u32>,
 }
 
-/// Why a check gives no answer.
-#[derive(Debug, Drop)]
-pub enum Stop {
-    /// A growth was refused.
-    Memory,
-    /// A rule is broken.
-    Fault(Fault),
-}
-
 /// The rule that an item of a unit breaks, and the attribute whose value breaks it (0 for none).
 #[derive(Clone, Copy, Debug, PartialEq, Eq)]
 pub struct Failing {
@@ -80,53 +262,10 @@ impl Broken {
     }
 }
 
-/// Why a unit is not taken.
-#[derive(Debug, Drop)]
-pub enum Break {
-    Memory,
-    Broken(Broken),
-}
-
-impl From<AllocError> for Break {
-    ghost use Rattle.dw_entries.specs.declared.fault.Break.TheVariants.{Memory as NoRoom};
-
-    ghost from_gives = { λ _ e. e ≡ NoRoom };
-
-    fn from(_e: AllocError) -> Break {
-        Break::Memory
-    }
-}
-
-impl<T: Drop> From<AllocFailed<T>> for Break {
-    ghost use Rattle.dw_entries.specs.declared.fault.Break.TheVariants.{Memory as NoRoom};
-
-    ghost from_gives = { λ _ e. e ≡ NoRoom };
-
-    fn from(_e: AllocFailed<T>) -> Break {
-        Break::Memory
-    }
-}
-
-impl From<AllocError> for Stop {
-    ghost from_gives = { λ _ e. e ≡ Memory };
-
-    fn from(_e: AllocError) -> Stop {
-        Stop::Memory
-    }
-}
-
-impl<T: Drop> From<AllocFailed<T>> for Stop {
-    ghost from_gives = { λ _ e. e ≡ Memory };
-
-    fn from(_e: AllocFailed<T>) -> Stop {
-        Stop::Memory
-    }
-}
-
-impl From<Fault> for Stop {
+impl From<Fault> for Stop<Fault> {
     ghost from_gives = { λ fault e. e ≡ Faulty fault };
 
-    fn from(fault: Fault) -> Stop {
+    fn from(fault: Fault) -> Stop<Fault> {
         Stop::Fault(fault)
     }
 }

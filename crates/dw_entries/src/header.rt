@@ -6,7 +6,7 @@ ghost use Rattle.dw_entries.specs.Header.{version_of, type_of, code_of_type, fit
 ghost use Rattle.dw_entries.specs.Header.{address_size_at, abbrev_offset_at, version4_at, kind_at, version5_at};
 ghost use Rattle.dw_entries.specs.Header.{fields_at, unit_at, header_at};
 
-use crate::rule::Rule;
+use crate::fault::Rule;
 use byteorder::{ByteOrder, LittleEndian};
 use dw_forms::Tag;
 use dw_forms::constants::{DW_TAG_compile_unit, DW_TAG_partial_unit, DW_TAG_type_unit};

@@ -148,7 +148,7 @@ impl<'a> Entries<'a> {
         }
     }
 
-    /// The attributes of an entry in their order, each value decoded when it is asked.
+    /// The attributes of an entry in their order, each value decoded on demand.
     pub fn values(&self, id: EntryId) -> Values<'_, 'a>
         requires { id < length (all_entries self.now.scanned) }
         ensures { IfSome (slice_get (all_entries self.now.scanned) id)

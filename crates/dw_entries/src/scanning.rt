@@ -9,7 +9,8 @@ ghost use Rattle.dw_forms.specs.KeptDecls.{view};
 ghost use Rattle.dw_forms.specs.Suffixes.{specs_in};
 ghost use Rattle.dw_forms.specs.ValueReading.{Gives};
 ghost use Rattle.dw_entries.specs.Faults.{rule_of, Fails};
-ghost use Rattle.dw_entries.specs.Stopped.{BreaksBy, IfBroken, IfFault};
+ghost use Rattle.dw_forms.specs.Stops.{IfFault};
+ghost use Rattle.dw_entries.specs.Stopped.{BreaksBy, IfPlainFault};
 ghost use Rattle.dw_entries.specs.Grammar.{declared_in};
 ghost use Rattle.dw_entries.specs.Items.{numbered_decl};
 ghost use Rattle.dw_entries.specs.Reading.{seen, after, code_at, value_rule as rule_of_value, attribute_at};
@@ -21,14 +22,13 @@ ghost use Rattle.dw_entries.specs.Views.{sections_of};
 
 use crate::context::UnitContext;
 use crate::entries::Entries;
-use crate::fault::{Break, Broken, Failing, Section, Stop};
+use crate::fault::{Broken, Failing, Fault, Rule, Section};
 use crate::header::HeaderKind;
-use crate::rule::Rule;
 use crate::unit::take_unit;
 use crate::walk::Kept;
 use dw_elf::Sections;
 use dw_forms::{
-    AbbrevFault, AbbrevRule, AbbrevTables, Attribute, AttributeSpec, Attributes, Decl, NumberFault,
+    AbbrevRule, AbbrevTables, Attribute, AttributeSpec, Attributes, Decl, NumberFault, Stop,
     ValueFault, read_uleb, skip_value,
 };
 use std::alloc::Global;
@@ -55,7 +55,7 @@ pub fn unit_table(
     tables: &mut AbbrevTables,
     section: &[u8],
     offset: u32,
-) -> Result<u32, Break>
+) -> Result<u32, Stop<Broken>>
     requires offset { offset ≤ length section.now }
     requires fits { length section.now ≤ SECTION_LIMIT }
     requires tables { AreTablesOf section.now tables.old }
@@ -66,8 +66,8 @@ pub fn unit_table(
 {
     match tables.read(alloc, section, offset as usize) {
         Ok(table) => Ok(table),
-        Err(AbbrevFault::Memory) => Err(Break::Memory),
-        Err(AbbrevFault::Broken(broken)) => Err(Break::Broken(Broken {
+        Err(Stop::Memory) => Err(Stop::Memory),
+        Err(Stop::Fault(broken)) => Err(Stop::Fault(Broken {
             rule: table_rule(broken.rule),
             section: Section::Abbrev,
             at: broken.at as u32,
@@ -278,13 +278,13 @@ pub fn read_first<'a, 'b>(
 }
 
 /// What is kept of the units that .debug_info is.
-fn scan_units(alloc: Global, section: &[u8], info: &[u8]) -> Result<Kept, Break>
+fn scan_units(alloc: Global, section: &[u8], info: &[u8]) -> Result<Kept, Stop<Broken>>
     requires abbrev_fits { length section.now ≤ SECTION_LIMIT }
     requires info_fits { length info.now ≤ SECTION_LIMIT }
     ensures all { IfOk result
         (λ kept. Scanned section.now info.now (tables_in kept.tables) kept.units.items kept.records.items) }
     ensures searchable { IfOk result (λ kept. AreSearchable kept.tables) }
-    ensures fault { IfErr result (IfBroken (Fails section.now info.now)) }
+    ensures fault { IfErr result (IfFault (Fails section.now info.now)) }
 {
     let mut kept = Kept {
         tables: AbbrevTables::new(alloc),
@@ -299,19 +299,19 @@ fn scan_units(alloc: Global, section: &[u8], info: &[u8]) -> Result<Kept, Break>
 }
 
 /// The entries of the units that .debug_info is.
-pub fn scan<'a>(alloc: Global, sections: &Sections<'a>) -> Result<Entries<'a>, Stop>
+pub fn scan<'a>(alloc: Global, sections: &Sections<'a>) -> Result<Entries<'a>, Stop<Fault>>
     ensures same { IfOk result (λ e. sections_of e ≡ sections.now) }
     ensures only { IfOk result
         (λ e. (units : List DebugUnit) → Spells sections.now.«abbrev».now units sections.now.info.now
         → units ≡ units_of e.scanned) }
-    ensures fault { IfErr result (IfFault (Fails sections.now.«abbrev».now sections.now.info.now)) }
-    ensures none { IfErr result (IfFault
+    ensures fault { IfErr result (IfPlainFault (Fails sections.now.«abbrev».now sections.now.info.now)) }
+    ensures none { IfErr result (IfPlainFault
         (λ _. (units : List DebugUnit) → Spells sections.now.«abbrev».now units sections.now.info.now → ⊥)) }
 {
     let kept = match scan_units(alloc, sections.abbrev, sections.info) {
         Ok(kept) => kept,
-        Err(Break::Memory) => return Err(Stop::Memory),
-        Err(Break::Broken(broken)) => return Err(Stop::Fault(broken.into_fault(alloc))),
+        Err(Stop::Memory) => return Err(Stop::Memory),
+        Err(Stop::Fault(broken)) => return Err(Stop::Fault(broken.into_fault(alloc))),
     };
     Ok(Entries {
         sections: *sections,

@@ -4,14 +4,15 @@ ghost use Rattle.std.specs.Prelude.{◌≡◌, ◌+◌, ◌≤◌, length, IfOk,
 ghost use Rattle.dw_elf.specs.declared.TheConstants.{SECTION_LIMIT};
 ghost use Rattle.dw_forms.specs.AbbrevTables.{AreTablesOf};
 ghost use Rattle.dw_entries.specs.Faults.{in_header, FailsHere};
-ghost use Rattle.dw_entries.specs.Stopped.{IfBroken, UnitTaken};
+ghost use Rattle.dw_forms.specs.Stops.{IfFault};
+ghost use Rattle.dw_entries.specs.Stopped.{UnitTaken};
 
 use crate::context::UnitContext;
-use crate::fault::{Break, Broken, Section};
+use crate::fault::{Broken, Rule, Section};
 use crate::header::read_header;
-use crate::rule::Rule;
 use crate::scanning::unit_table;
 use crate::walk::{Kept, UnitPlace, UnitRecord, walk_unit};
+use dw_forms::Stop;
 use std::alloc::Global;
 
 /// The fault of a header at this offset.
@@ -33,18 +34,18 @@ pub fn take_unit(
     rest: &[u8],
     at: usize,
     kept: &mut Kept,
-) -> Result<usize, Break>
+) -> Result<usize, Stop<Broken>>
     requires fits { at + length rest.now ≤ SECTION_LIMIT }
     requires table_fits { length section.now ≤ SECTION_LIMIT }
     requires tables { AreTablesOf section.now kept.old.tables }
     requires few_entries { length kept.old.records.items ≤ at }
     ensures unit { IfOk result (λ len. UnitTaken section.now rest.now at kept.old kept.new len) }
-    ensures fault { IfErr result (IfBroken (FailsHere section.now at rest.now)) }
+    ensures fault { IfErr result (IfFault (FailsHere section.now at rest.now)) }
 {
     let at = at as u32;
     let (header, body) = match read_header(section.len(), rest) {
         Ok(found) => found,
-        Err(rule) => return Err(Break::Broken(in_header(rule, at))),
+        Err(rule) => return Err(Stop::Fault(in_header(rule, at))),
     };
     let table = unit_table(alloc, &mut kept.tables, section, header.abbrev_offset)?;
     let record = UnitRecord {

@@ -1,4 +1,4 @@
-//! The attributes of an entry, each value decoded when it is asked.
+//! The attributes of an entry, each value decoded on demand.
 
 ghost use Rattle.std.specs.Prelude.{◌≡◌, Some, IfNone, List, drop, length, IfSome};
 ghost use Rattle.std.specs.Bool.{OnFalse};

@@ -8,16 +8,16 @@ ghost use Rattle.dw_entries.specs.Walk.{link, enter as entered, walk_of, step};
 ghost use Rattle.dw_entries.specs.Header.{header_size};
 ghost use Rattle.dw_entries.specs.Reading.{code_at, item_at, seen, null_first};
 ghost use Rattle.dw_entries.specs.Faults.{BodyFails, in_unit};
-ghost use Rattle.dw_entries.specs.Stopped.{GivesUnlessMemory, IfBroken, TreeOf, AreAllNulls, NullsThen};
+ghost use Rattle.dw_forms.specs.Stops.{GivesOrMemory, IfFault};
+ghost use Rattle.dw_entries.specs.Stopped.{TreeOf, AreAllNulls, NullsThen};
 ghost use Rattle.dw_entries.specs.Units.{context_in, numbers_in};
 
 use crate::context::UnitContext;
-use crate::fault::{Break, Broken, Failing, Section};
+use crate::fault::{Broken, Failing, Rule, Section};
 use crate::header::{HeaderKind, UnitHeader};
 use crate::id::OptionalId;
-use crate::rule::Rule;
 use crate::scanning::{Declared, Token, read_code, read_first, read_item};
-use dw_forms::AbbrevTables;
+use dw_forms::{AbbrevTables, Stop};
 use std::alloc::{AllocError, Global};
 
 /// Where a unit is, and what its header says. Units are numbered in rising offset.
@@ -111,23 +111,6 @@ fn enter(
     Ok(())
 }
 
-/// Why an item is not taken.
-#[derive(Debug, Drop)]
-pub enum Halt {
-    Memory,
-    Failing(Failing),
-}
-
-impl From<AllocError> for Halt {
-    ghost use Rattle.dw_entries.specs.declared.walk.Halt.TheVariants.{Memory};
-
-    ghost from_gives = { λ _ e. e ≡ Memory };
-
-    fn from(_e: AllocError) -> Halt {
-        Halt::Memory
-    }
-}
-
 /// The fault of an item at this offset, in the unit of this header. A missing first entry is at the header.
 fn broken_at(failing: Failing, header: u32, at: u32) -> Broken
     ensures { result ≡ in_unit failing header at }
@@ -152,15 +135,15 @@ fn turn<'b>(
     at: u32,
     records: &mut Vec<Record>,
     levels: &mut Vec<Level>,
-) -> Result<&'b [u8], Halt>
+) -> Result<&'b [u8], Stop<Failing>>
     requires few_entries { length records.old.items < 0xffffffff }
     requires few_levels { length levels.old.items < 2 ^ 32 }
-    ensures { GivesUnlessMemory (λ after. (walk_of records.new.items levels.new.items, after.now)) result
+    ensures { GivesOrMemory (λ after. (walk_of records.new.items levels.new.items, after.now)) result
         (seen (λ i. step (numbers_in context.entry) at i (walk_of records.old.items levels.old.items))
         (item_at (context_in context.entry) rest.now)) }
 {
     match read_item(context, rest) {
-        Err(failing) => Err(Halt::Failing(failing)),
+        Err(failing) => Err(Stop::Fault(failing)),
         Ok((token, after)) => {
             match token {
                 Token::Null => {
@@ -188,20 +171,20 @@ fn walk_tree<'b>(
     place: UnitPlace,
     body: &'b [u8],
     records: &mut Vec<Record>,
-) -> Result<&'b [u8], Break>
+) -> Result<&'b [u8], Stop<Broken>>
     requires start { place.start ≡ place.header + header_size kind }
     requires fits { place.start + length body.now ≤ SECTION_LIMIT }
     requires few_entries { length records.old.items ≤ place.header }
     ensures tree { IfOk result
         (λ rest. TreeOf (context_in context.entry) (numbers_in context.entry) kind body.now rest.now
         place.start records.old.items records.new.items) }
-    ensures fault { IfErr result (IfBroken (BodyFails (context_in context.entry) kind place.header body.now)) }
+    ensures fault { IfErr result (IfFault (BodyFails (context_in context.entry) kind place.header body.now)) }
 {
     let mut levels: Vec<Level> = Vec::new(alloc);
     let (declared, mut rest) = match read_first(context, kind, body) {
         Ok(found) => found,
         Err(failing) => {
-            return Err(Break::Broken(broken_at(failing, place.header, place.start)));
+            return Err(Stop::Fault(broken_at(failing, place.header, place.start)));
         }
     };
     enter(records, &mut levels, place.start, declared)?;
@@ -209,9 +192,9 @@ fn walk_tree<'b>(
         let at = place.start + (body.len() - rest.len()) as u32;
         rest = match turn(context, rest, at, records, &mut levels) {
             Ok(after) => after,
-            Err(Halt::Memory) => return Err(Break::Memory),
-            Err(Halt::Failing(failing)) => {
-                return Err(Break::Broken(broken_at(failing, place.header, at)));
+            Err(Stop::Memory) => return Err(Stop::Memory),
+            Err(Stop::Fault(failing)) => {
+                return Err(Stop::Fault(broken_at(failing, place.header, at)));
             }
         };
     }
@@ -244,7 +227,7 @@ fn behind_nulls(bytes: &[u8]) -> Option<&[u8]>
     None
 }
 
-/// The entries of the unit's tree go to the end of the records. The body has nothing else than nulls after it.
+/// The entries of the unit's tree go to the end of the records. After it the body has only nulls.
 pub fn walk_unit(
     alloc: Global,
     context: UnitContext<'_>,
@@ -252,18 +235,18 @@ pub fn walk_unit(
     place: UnitPlace,
     body: &[u8],
     records: &mut Vec<Record>,
-) -> Result<(), Break>
+) -> Result<(), Stop<Broken>>
     requires start { place.start ≡ place.header + header_size kind }
     requires fits { place.start + length body.now ≤ SECTION_LIMIT }
     requires few_entries { length records.old.items ≤ place.header }
     ensures tree { OnOk result (TreeOf (context_in context.entry) (numbers_in context.entry) kind body.now []
         place.start records.old.items records.new.items) }
-    ensures fault { IfErr result (IfBroken (BodyFails (context_in context.entry) kind place.header body.now)) }
+    ensures fault { IfErr result (IfFault (BodyFails (context_in context.entry) kind place.header body.now)) }
 {
     let rest = walk_tree(alloc, context, kind, place, body, records)?;
     match behind_nulls(rest) {
         None => Ok(()),
-        Some(left) => Err(Break::Broken(Broken {
+        Some(left) => Err(Stop::Fault(Broken {
             rule: Rule::LeftOver,
             section: Section::Info,
             at: place.start + (body.len() - left.len()) as u32,

@@ -4,18 +4,17 @@ use Rattle.std.specs.Prelude.{◌||◌, ◌&&◌, Bool, true, false, cond, find,
 use Rattle.std.specs.List.{list_any}
 use Rattle.dw_forms.specs.declared.decl.AttributeSpec.{AttributeSpec}
 use Rattle.dw_forms.specs.declared.form.Form.{Form}
-use Rattle.dw_forms.specs.declared.abbrev_fault.AbbrevRule.TheVariants.{UnknownForm, AttributeTwice}
+use Rattle.dw_forms.specs.declared.fault.AbbrevRule.TheVariants.{UnknownForm, AttributeTwice}
 use Rattle.dw_forms.specs.FormCodes.{form_of}
 use Rattle.dw_forms.specs.declared.abbrev.TableDecl.{TableDecl}
-use Rattle.dw_forms.specs.declared.abbrev_fault.DeclFault.{DeclFault}
-use Rattle.dw_forms.specs.declared.abbrev_fault.DeclError.{DeclError}
-use Rattle.dw_forms.specs.declared.abbrev_fault.DeclError.TheVariants as errors
+use Rattle.dw_forms.specs.declared.fault.DeclFault.{DeclFault}
+use Rattle.dw_forms.specs.declared.fault.Stop.{Stop}
+use Rattle.dw_forms.specs.declared.fault.Stop.TheVariants as stops
 use Rattle.dw_forms.specs.Steps.{◌>>=◌}
 use Rattle.dw_forms.specs.Abbrev.{Declaration, view, views}
-use Rattle.dw_forms.specs.AbbrevReading.{FailsOrMemory, on_option, unsigned_at, form_at, has_attribute, new_form_of, begun_at, pair_at, attributes_of, attributes_from, children_at, has_code, tagged_at, decl_at, decls_from, placed, TableFails}
-use Rattle.dw_forms.specs.declared.abbrev_fault.BrokenTable.{BrokenTable}
-use Rattle.dw_forms.specs.declared.abbrev_fault.AbbrevFault.{AbbrevFault}
-use Rattle.dw_forms.specs.declared.abbrev_fault.AbbrevFault.TheVariants as table
+use Rattle.dw_forms.specs.AbbrevReading.{on_option, unsigned_at, form_at, has_attribute, new_form_of, begun_at, pair_at, attributes_of, attributes_from, children_at, has_code, tagged_at, decl_at, decls_from, placed}
+use Rattle.dw_forms.specs.declared.fault.AbbrevFault.{AbbrevFault}
+use Rattle.dw_forms.specs.Stops.{FailsOrMemory}
 
 pub has_code_views : (code : ℕ) (ds : List TableDecl) → has_code code (views ds) ≡ list_any (λ d. d.code == code) ds
 has_code_views code [] = refl
@@ -30,7 +29,7 @@ pub find_views : (code : ℕ) (ds : List TableDecl) → find (λ d. d.code == co
 find_views code [] = refl
 find_views code (d ∷ ds) = find_views_on code d ds (d.code == code) (find_views code ds)
 
--- reading the rest, behind the earlier pairs, gives the total
+-- reading the rest, after the earlier pairs, gives the total
 abbrev pub AttributesGoOn : List AttributeSpec → List ℕ → Result (List AttributeSpec × List ℕ) DeclFault → Type 0
 AttributesGoOn earlier rest total = (bound : ℕ) × (length rest < bound) × (attributes_from bound earlier rest ≡ total)
 
@@ -46,37 +45,37 @@ unfolding attributes_from
 attributes_more earlier rest after spec total (zero, lt, same) e shorter = absurd (omega arith)
 attributes_more earlier rest after spec total (suc bound, lt, same) e shorter = (bound, omega arith, sym (rw e refl) ∙ same)
 
-pub attributes_fail : (error : DeclError) (earlier : List AttributeSpec) (rest : List ℕ) (total : Result (List AttributeSpec × List ℕ) DeclFault)
+pub attributes_fail : (error : Stop DeclFault) (earlier : List AttributeSpec) (rest : List ℕ) (total : Result (List AttributeSpec × List ℕ) DeclFault)
     → AttributesGoOn earlier rest total → FailsOrMemory error (pair_at earlier rest) → FailsOrMemory error total
 unfolding attributes_from
-attributes_fail errors.Memory earlier rest total go h = tt
-attributes_fail (errors.Fault f) earlier rest total (zero, lt, same) h = absurd (omega arith)
-attributes_fail (errors.Fault f) earlier rest total (suc bound, lt, same) h = sym same ∙ rw h refl
+attributes_fail stops.Memory earlier rest total go h = tt
+attributes_fail (stops.Fault f) earlier rest total (zero, lt, same) h = absurd (omega arith)
+attributes_fail (stops.Fault f) earlier rest total (suc bound, lt, same) h = sym same ∙ rw h refl
 
 -- ---- declarations
 
--- reading the rest, behind the earlier declarations, gives the total
-abbrev pub DeclsGoOn : ℕ → List Declaration → List ℕ → Result (List Declaration) BrokenTable → Type 0
+-- reading the rest, after the earlier declarations, gives the total
+abbrev pub DeclsGoOn : ℕ → List Declaration → List ℕ → Result (List Declaration) AbbrevFault → Type 0
 DeclsGoOn len earlier rest total = (bound : ℕ) × (length rest < bound) × ((decls_from bound len earlier rest >>= λ x. Ok x.0) ≡ total)
 
-pub decls_done : (len : ℕ) (earlier : List Declaration) (rest after : List ℕ) (total : Result (List Declaration) BrokenTable)
+pub decls_done : (len : ℕ) (earlier : List Declaration) (rest after : List ℕ) (total : Result (List Declaration) AbbrevFault)
     → DeclsGoOn len earlier rest total → placed (len - length rest) (decl_at earlier rest) ≡ Ok (None, after) → total ≡ Ok earlier
 unfolding decls_from
 decls_done len earlier rest after total (zero, lt, same) e = absurd (omega arith)
 decls_done len earlier rest after total (suc bound, lt, same) e = sym same ∙ rw e refl
 
-pub decls_more : (len : ℕ) (earlier : List Declaration) (rest after : List ℕ) (decl : Declaration) (total : Result (List Declaration) BrokenTable)
+pub decls_more : (len : ℕ) (earlier : List Declaration) (rest after : List ℕ) (decl : Declaration) (total : Result (List Declaration) AbbrevFault)
     → DeclsGoOn len earlier rest total → placed (len - length rest) (decl_at earlier rest) ≡ Ok (Some decl, after) → length after < length rest → DeclsGoOn len (earlier ++ decl ∷ []) after total
 unfolding decls_from
 decls_more len earlier rest after decl total (zero, lt, same) e shorter = absurd (omega arith)
 decls_more len earlier rest after decl total (suc bound, lt, same) e shorter = (bound, omega arith, sym (rw e refl) ∙ same)
 
-pub decls_fail : (error : AbbrevFault) (len : ℕ) (earlier : List Declaration) (rest : List ℕ) (total : Result (List Declaration) BrokenTable)
-    → DeclsGoOn len earlier rest total → TableFails error (placed (len - length rest) (decl_at earlier rest)) → TableFails error total
+pub decls_fail : (error : Stop AbbrevFault) (len : ℕ) (earlier : List Declaration) (rest : List ℕ) (total : Result (List Declaration) AbbrevFault)
+    → DeclsGoOn len earlier rest total → FailsOrMemory error (placed (len - length rest) (decl_at earlier rest)) → FailsOrMemory error total
 unfolding decls_from
-decls_fail table.Memory len earlier rest total go h = tt
-decls_fail (table.Broken f) len earlier rest total (zero, lt, same) h = absurd (omega arith)
-decls_fail (table.Broken f) len earlier rest total (suc bound, lt, same) h = sym same ∙ rw h refl
+decls_fail stops.Memory len earlier rest total go h = tt
+decls_fail (stops.Fault f) len earlier rest total (zero, lt, same) h = absurd (omega arith)
+decls_fail (stops.Fault f) len earlier rest total (suc bound, lt, same) h = sym same ∙ rw h refl
 
 -- ---- a pair, by what it begins with
 
@@ -134,13 +133,13 @@ pub pair_some : (bytes rest after : List ℕ) (attribute : ℕ) (form own : Form
     → pair_at [] bytes ≡ Ok (Some (record { attribute = attribute; form = own }), after)
 pair_some bytes rest after attribute form own e f = pair_by [] bytes ∙ rw (e, f) refl
 
-pub pair_fails : (error : DeclError) (bytes : List ℕ) → FailsOrMemory error (begun_at bytes) → FailsOrMemory error (pair_at [] bytes)
-pair_fails errors.Memory bytes e = tt
-pair_fails (errors.Fault fault) bytes e = pair_by [] bytes ∙ rw e refl
+pub pair_fails : (error : Stop DeclFault) (bytes : List ℕ) → FailsOrMemory error (begun_at bytes) → FailsOrMemory error (pair_at [] bytes)
+pair_fails stops.Memory bytes e = tt
+pair_fails (stops.Fault fault) bytes e = pair_by [] bytes ∙ rw e refl
 
-pub form_fails : (error : DeclError) (bytes rest : List ℕ) (attribute : ℕ) (form : Form) → begun_at bytes ≡ Ok (Some (attribute, form), rest) → FailsOrMemory error (form_at form rest) → FailsOrMemory error (pair_at [] bytes)
-form_fails errors.Memory bytes rest attribute form e f = tt
-form_fails (errors.Fault fault) bytes rest attribute form e f = pair_by [] bytes ∙ rw (e, f) refl
+pub form_fails : (error : Stop DeclFault) (bytes rest : List ℕ) (attribute : ℕ) (form : Form) → begun_at bytes ≡ Ok (Some (attribute, form), rest) → FailsOrMemory error (form_at form rest) → FailsOrMemory error (pair_at [] bytes)
+form_fails stops.Memory bytes rest attribute form e f = tt
+form_fails (stops.Fault fault) bytes rest attribute form e f = pair_by [] bytes ∙ rw (e, f) refl
 
 -- ---- a declaration, by its code, its tag and its attributes
 

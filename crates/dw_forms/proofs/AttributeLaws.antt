@@ -7,8 +7,8 @@ use Rattle.dw_forms.specs.declared.form.Form.{Form}
 use Rattle.dw_forms.specs.declared.form.Form.TheVariants as form
 use Rattle.dw_forms.specs.declared.leb.NumberFault.{NumberFault}
 use Rattle.dw_forms.specs.declared.decl.AttributeSpec.{AttributeSpec}
-use Rattle.dw_forms.specs.declared.abbrev_fault.DeclFault.{DeclFault}
-use Rattle.dw_forms.specs.declared.abbrev_fault.AbbrevRule.TheVariants.{BadPair, UnknownForm, AttributeTwice}
+use Rattle.dw_forms.specs.declared.fault.DeclFault.{DeclFault}
+use Rattle.dw_forms.specs.declared.fault.AbbrevRule.TheVariants.{BadPair, UnknownForm, AttributeTwice}
 use Rattle.dw_forms.specs.Steps.{◌>>=◌}
 use Rattle.dw_forms.specs.Front.{BeginsWith, Takes}
 use Rattle.dw_forms.specs.FormCodes.{code_of, form_of}
@@ -79,7 +79,7 @@ new_form_again earlier attribute f lacks = rw (form_of-code_of f, lacks_test att
 
 -- ---- the number of an implicit constant
 
--- a form that has the code of this one, and what stands for it behind the pair
+-- a form that has the code of this one, and what encodes it after the pair
 abbrev IsWhole : Form → List ℕ → Form → Type 0
 IsWhole f text g = (code_of g ≡ code_of f) × SpellsConstant g text
 
@@ -125,7 +125,7 @@ is_good a c e =
     let c-some = eqb-false c 0 q.1 in
     (record { some = omega arith; small = le }, omega arith)
 
--- the step behind the two numbers
+-- the step after the two numbers
 abbrev pub after_numbers : List AttributeSpec → ℕ → ℕ → List ℕ → Result (Option AttributeSpec × List ℕ) DeclFault
 after_numbers earlier a c rest =
     cond (eqb a 0 && eqb c 0) (Ok (None, rest)) (cond (eqb a 0 || eqb c 0 || ltb 65535 a) (Err (broken BadPair 0))

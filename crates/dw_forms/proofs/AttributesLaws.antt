@@ -5,7 +5,7 @@ use Rattle.std.proofs.lemmas.List.{append-nil, length-append, get_or_at}
 use Rattle.std.proofs.lemmas.List.Elements.{All-nil, All-push}
 use Rattle.std.proofs.lemmas.Result.{MatchResult-weaker}
 use Rattle.dw_forms.specs.declared.decl.AttributeSpec.{AttributeSpec}
-use Rattle.dw_forms.specs.declared.abbrev_fault.DeclFault.{DeclFault}
+use Rattle.dw_forms.specs.declared.fault.DeclFault.{DeclFault}
 use Rattle.dw_forms.specs.Front.{Takes}
 use Rattle.dw_forms.specs.Leb.{Uleb, IsEnded}
 use Rattle.dw_forms.specs.Abbrev.{SpellsAttribute, SpellsAttributes, SpellsFront, IsCode16, AreAttributes, PairFails, AttributesFail}

@@ -4,8 +4,8 @@ use Rattle.std.specs.Prelude.{MatchResult, ◌⊎◌, ◌||◌}
 use Rattle.std.proofs.lemmas.Result.{MatchResult-at_ok}
 use Rattle.std.proofs.lemmas.Bool.{ltb-false, eqb-true, eqb-false, ne_eqb, le-ltb, or_parts}
 use Rattle.dw_forms.specs.declared.decl.AttributeSpec.{AttributeSpec}
-use Rattle.dw_forms.specs.declared.abbrev_fault.DeclFault.{DeclFault}
-use Rattle.dw_forms.specs.declared.abbrev_fault.AbbrevRule.TheVariants.{AbbrevCut, CodeTwice, BadTag, BadChildren}
+use Rattle.dw_forms.specs.declared.fault.DeclFault.{DeclFault}
+use Rattle.dw_forms.specs.declared.fault.AbbrevRule.TheVariants.{AbbrevCut, CodeTwice, BadTag, BadChildren}
 use Rattle.dw_forms.specs.Steps.{◌>>=◌}
 use Rattle.dw_forms.specs.Front.{Takes}
 use Rattle.dw_forms.specs.Leb.{Uleb}

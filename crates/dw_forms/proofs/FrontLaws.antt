@@ -3,13 +3,14 @@ use Rattle.std.proofs.Common.{◌≡◌, ℕ, ◌-◌, Bool, List, [], ◌++◌,
 use Rattle.std.proofs.lemmas.Bool.{ne_eqb}
 use Rattle.dw_forms.specs.declared.decl.AttributeSpec.{AttributeSpec}
 use Rattle.dw_forms.specs.declared.attribute_lists.Node.{Node}
-use Rattle.dw_forms.specs.declared.abbrev_fault.DeclFault.{DeclFault}
-use Rattle.dw_forms.specs.declared.abbrev_fault.DeclError.{DeclError}
-use Rattle.dw_forms.specs.declared.abbrev_fault.DeclError.TheVariants as errors
-use Rattle.dw_forms.specs.AbbrevReading.{FailsOrMemory, unsigned_at, attributes_of, tagged_at, decl_at}
+use Rattle.dw_forms.specs.declared.fault.DeclFault.{DeclFault}
+use Rattle.dw_forms.specs.declared.fault.Stop.{Stop}
+use Rattle.dw_forms.specs.declared.fault.Stop.TheVariants as stops
+use Rattle.dw_forms.specs.AbbrevReading.{unsigned_at, attributes_of, tagged_at, decl_at}
 use Rattle.dw_forms.specs.AttributeLists.{list_in}
 use Rattle.dw_forms.specs.ListOffsets.{IsListAt, NoListAt}
-use Rattle.dw_forms.specs.TableStarts.{IfBroken, IfNoDecl}
+use Rattle.dw_forms.specs.TableStarts.{IfNoDecl}
+use Rattle.dw_forms.specs.Stops.{IfFault, FailsOrMemory}
 use Rattle.dw_forms.proofs.AbbrevSteps.{decl_by, decl_end, code_fault}
 use Rattle.dw_forms.proofs.BitLaws.{eq_true}
 use Rattle.dw_forms.proofs.DeclLaws.{number_ends, tag_ends}
@@ -17,9 +18,9 @@ use Rattle.dw_forms.proofs.ListLaws.{rest_of}
 
 module _ (section : List ℕ) (offset : ℕ) where
   -- no code
-  pub code_breaks : (error : DeclError) → FailsOrMemory error (unsigned_at (drop offset section)) → IfBroken (IfNoDecl section offset) error
-  code_breaks errors.Memory e = tt
-  code_breaks (errors.Fault fault) e = (fault, code_fault (drop offset section) fault e)
+  pub code_breaks : (error : Stop DeclFault) → FailsOrMemory error (unsigned_at (drop offset section)) → IfFault (λ _. IfNoDecl section offset) error
+  code_breaks stops.Memory e = tt
+  code_breaks (stops.Fault fault) e = (fault, code_fault (drop offset section) fault e)
 
   module _ (code : ℕ) (rest : List ℕ) (code_is : unsigned_at (drop offset section) ≡ Ok (code, rest)) where
     -- the code 0
@@ -30,9 +31,9 @@ module _ (section : List ℕ) (offset : ℕ) where
 
     module _ (some : code ≡ 0 → ⊥) where
       -- no tag
-      pub tag_breaks : (error : DeclError) → FailsOrMemory error (tagged_at rest) → IfBroken (IfNoDecl section offset) error
-      tag_breaks errors.Memory e = tt
-      tag_breaks (errors.Fault fault) e = (fault, decl_by (drop offset section) code rest code_is (ne_eqb code 0 some) ∙ rw e refl)
+      pub tag_breaks : (error : Stop DeclFault) → FailsOrMemory error (tagged_at rest) → IfFault (λ _. IfNoDecl section offset) error
+      tag_breaks stops.Memory e = tt
+      tag_breaks (stops.Fault fault) e = (fault, decl_by (drop offset section) code rest code_is (ne_eqb code 0 some) ∙ rw e refl)
 
       module _ (tag : ℕ) (children : Bool) (after : List ℕ) (tag_is : tagged_at rest ≡ Ok (tag, children, after)) where
         after_is : after ≡ drop (length section - length after) section
@@ -49,9 +50,9 @@ module _ (section : List ℕ) (offset : ℕ) where
             decl_by (drop offset section) code rest code_is (ne_eqb code 0 some) ∙ rw (tag_is, list) refl
 
         -- no list
-        pub list_breaks : (error : DeclError) → IfBroken (NoListAt section (length section - length after)) error → IfBroken (IfNoDecl section offset) error
-        list_breaks errors.Memory e = tt
-        list_breaks (errors.Fault fault) none = by_list (attributes_of after) refl
+        pub list_breaks : (error : Stop DeclFault) → IfFault (λ _. NoListAt section (length section - length after)) error → IfFault (λ _. IfNoDecl section offset) error
+        list_breaks stops.Memory e = tt
+        list_breaks (stops.Fault fault) none = by_list (attributes_of after) refl
           where
             by_list : (list : Result (List AttributeSpec × List ℕ) DeclFault) → attributes_of after ≡ list → IfNoDecl section offset
             by_list (Ok x) e = absurd (none x.0 x.1 (sym (ap attributes_of after_is) ∙ e))

@@ -8,14 +8,15 @@ use Rattle.dw_forms.specs.declared.attribute_lists.Node.{Node}
 use Rattle.dw_forms.specs.declared.list_reader.Pair.{Pair}
 use Rattle.dw_forms.specs.declared.list_reader.ReadList.{ReadList}
 use Rattle.dw_forms.specs.Abbrev.{IsCode16}
-use Rattle.dw_forms.specs.declared.abbrev_fault.DeclError.{DeclError}
-use Rattle.dw_forms.specs.declared.abbrev_fault.DeclError.TheVariants as errors
-use Rattle.dw_forms.specs.AbbrevReading.{FailsOrMemory, pair_at}
+use Rattle.dw_forms.specs.declared.fault.Stop.{Stop}
+use Rattle.dw_forms.specs.declared.fault.DeclFault.{DeclFault}
+use Rattle.dw_forms.specs.declared.fault.Stop.TheVariants as stops
+use Rattle.dw_forms.specs.AbbrevReading.{pair_at}
 use Rattle.dw_forms.specs.Chains.{Numbered, items_of}
 use Rattle.dw_forms.specs.AttributeLists.{specs_of, numbered_in, list_in, IsLast, AddedSpec}
 use Rattle.dw_forms.specs.Offsets.{BeginsAt, NothingAt}
-use Rattle.dw_forms.specs.TableStarts.{IfBroken}
 use Rattle.dw_forms.specs.ListOffsets.{IsListAt, ArePlaced, AreNew, NoListAt, AreAfter, Leads, StayNodes}
+use Rattle.dw_forms.specs.Stops.{IfFault, FailsOrMemory}
 use Rattle.dw_forms.proofs.ChainLaws.{chain_none}
 use Rattle.dw_forms.proofs.ListLaws.{rest_of, taken, pair_takes, pair_code, list_more, list_end, none_before, none_twice, none_broken}
 use Rattle.dw_forms.proofs.NodeLaws.{old_list, new_list}
@@ -191,9 +192,9 @@ end_list section nodes at after e rises fits = record {
 }
 
 -- where an attribute is broken, no list begins before it
-pub pairs_break : (section : List ℕ) (pairs : List Pair) (offset at : ℕ) → AreAfter section pairs offset at → (error : DeclError) → FailsOrMemory error (pair_at [] (drop at section)) → IfBroken (NoListAt section offset) error
-pairs_break section pairs offset at after errors.Memory e = tt
-pairs_break section pairs offset at after (errors.Fault fault) e = none_after section pairs offset at after (none_broken (drop at section) fault e)
+pub pairs_break : (section : List ℕ) (pairs : List Pair) (offset at : ℕ) → AreAfter section pairs offset at → (error : Stop DeclFault) → FailsOrMemory error (pair_at [] (drop at section)) → IfFault (λ _. NoListAt section offset) error
+pairs_break section pairs offset at after stops.Memory e = tt
+pairs_break section pairs offset at after (stops.Fault fault) e = none_after section pairs offset at after (none_broken (drop at section) fault e)
 
 -- a list that is kept begins at its offset
 pub kept_list : (section : List ℕ) (nodes : List Node) (starts ends : List ℕ) (offset number end : ℕ) → ArePlaced section nodes starts ends → BeginsAt starts number offset → 0 < number → end ≡ get_or ends (number - 1) 0

@@ -93,7 +93,7 @@ run_ends version size (spec ∷ specs) bytes e =
     ∙ cut_cut (known_size size spec.form) (known_sum size specs) bytes
     ∙ ap (λ (n : ℕ). cut_at n bytes) (sym (sum_by-cons (λ (s : AttributeSpec). known_size size s.form) spec specs))
 
--- ---- some values, and others behind them
+-- ---- some values, and others after them
 
 bind_bind : (r : Result (List ℕ) ValueFault) (f g : List ℕ → Result (List ℕ) ValueFault) → ((r >>= λ b. f b) >>= λ b. g b) ≡ (r >>= λ b. f b >>= λ c. g c)
 bind_bind (Ok b) f g = refl

@@ -8,9 +8,9 @@ use Rattle.std.proofs.lemmas.List.Folds.{list_any-from_Any}
 use Rattle.dw_forms.specs.declared.form.Form.{Form}
 use Rattle.dw_forms.specs.declared.form.Form.TheVariants as form
 use Rattle.dw_forms.specs.declared.decl.AttributeSpec.{AttributeSpec}
-use Rattle.dw_forms.specs.declared.abbrev_fault.DeclFault.{DeclFault}
-use Rattle.dw_forms.specs.declared.abbrev_fault.BrokenTable.{BrokenTable}
-use Rattle.dw_forms.specs.declared.abbrev_fault.AbbrevRule.TheVariants.{UnknownForm, AttributeTwice, BadChildren}
+use Rattle.dw_forms.specs.declared.fault.DeclFault.{DeclFault}
+use Rattle.dw_forms.specs.declared.fault.AbbrevFault.{AbbrevFault}
+use Rattle.dw_forms.specs.declared.fault.AbbrevRule.TheVariants.{UnknownForm, AttributeTwice, BadChildren}
 use Rattle.dw_forms.specs.Front.{BeginsWithNone, Takes}
 use Rattle.dw_forms.specs.AbbrevFaults.{fault_at}
 use Rattle.dw_forms.specs.FormCodes.{code_of, form_of}
@@ -184,7 +184,7 @@ decls_fit (d ∷ ds) text p =
     let m = decls_fit ds p.1 p.4 in
     omega (arith, ap length p.2, length-append p.0 p.1)
 
-pub table_refuses : (section : List ℕ) (offset : ℕ) (fault : BrokenTable) → offset ≤ length section → TableFails section offset fault → table_at section offset ≡ Err fault
+pub table_refuses : (section : List ℕ) (offset : ℕ) (fault : AbbrevFault) → offset ≤ length section → TableFails section offset fault → table_at section offset ≡ Err fault
 table_refuses section offset fault within f =
     let n = decls_fit f.ds f.text f.spelled in
     let place : length section - length f.rest ≡ offset + length f.text = omega (arith, length-drop offset section, ap length f.parts, length-append f.text f.rest) in
@@ -192,7 +192,7 @@ table_refuses section offset fault within f =
     ap (decls_of (length section)) f.parts ∙ decls_refuse f.ds [] (suc (length (f.text ++ f.rest))) (length section) f.text f.rest f.reason f.spelled f.allowed (omega (arith, length-append f.text f.rest)) f.fails in
     rw (read, f.is, place) refl
 
-pub table_one_fault : (section : List ℕ) (offset : ℕ) (f g : BrokenTable) → offset ≤ length section → TableFails section offset f → TableFails section offset g → f ≡ g
+pub table_one_fault : (section : List ℕ) (offset : ℕ) (f g : AbbrevFault) → offset ≤ length section → TableFails section offset f → TableFails section offset g → f ≡ g
 table_one_fault section offset f g within h k = fault_is (sym (table_refuses section offset f within h) ∙ table_refuses section offset g within k)
 
 -- ---- reading a table, and its grammar
@@ -207,7 +207,7 @@ module _ (section : List ℕ) (offset : ℕ) where
       rw (sym (ap (decls_of (length section)) parts) ∙ decls_again (length section) text rest ds b.spelled) refl
 
   -- where no table is spelled, a fault is read
-  fault_read : (r : Result (List Declaration) BrokenTable) → table_at section offset ≡ r → BeginsWithNone Decls (drop offset section) → (fault : BrokenTable) × (table_at section offset ≡ Err fault)
+  fault_read : (r : Result (List Declaration) AbbrevFault) → table_at section offset ≡ r → BeginsWithNone Decls (drop offset section) → (fault : AbbrevFault) × (table_at section offset ≡ Err fault)
   fault_read (Ok ds) is none =
       let found = table_found section offset ds is in
       let b = found.1 in

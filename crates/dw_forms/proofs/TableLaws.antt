@@ -1,20 +1,21 @@
 -- A whole table is read as it is spelled, and no other way.
 use Rattle.std.proofs.Common.{◌≡◌, ℕ, zero, suc, ◌+◌, ◌-◌, ◌<◌, ◌≤◌, List, [], ◌∷◌, ◌++◌, length, drop, Option, Some, None, Result, Ok, Err, refl, sym, ap, subst, ◌∙◌, append_assoc, arith}
-use Rattle.std.specs.Prelude.{MatchResult, IfOk}
+use Rattle.std.specs.Prelude.{MatchResult, IfOk, IfErr}
 use Rattle.std.proofs.lemmas.List.{append-nil, length-append, length-drop, get_or_at}
 use Rattle.std.proofs.lemmas.List.Elements.{All-nil, All-push}
 use Rattle.std.proofs.lemmas.Result.{MatchResult-weaker}
-use Rattle.dw_forms.specs.declared.abbrev_fault.DeclFault.{DeclFault}
-use Rattle.dw_forms.specs.declared.abbrev_fault.BrokenTable.{BrokenTable}
-use Rattle.dw_forms.specs.declared.abbrev_fault.AbbrevFault.{AbbrevFault}
-use Rattle.dw_forms.specs.declared.abbrev_fault.AbbrevFault.TheVariants as table
-use Rattle.dw_forms.specs.AbbrevFaults.{fault_at, IfFault}
+use Rattle.dw_forms.specs.declared.fault.DeclFault.{DeclFault}
+use Rattle.dw_forms.specs.declared.fault.AbbrevFault.{AbbrevFault}
+use Rattle.dw_forms.specs.declared.fault.Stop.{Stop}
+use Rattle.dw_forms.specs.declared.fault.Stop.TheVariants as stops
+use Rattle.dw_forms.specs.AbbrevFaults.{fault_at}
 use Rattle.dw_forms.specs.Steps.{◌>>=◌}
 use Rattle.dw_forms.specs.Front.{BeginsWith, BeginsWithNone, Takes}
 use Rattle.dw_forms.specs.Abbrev.{Declaration, children_byte, SpellsDecl, SpellsDecls, SpellsTable, IsDeclaration, AreDeclarations, DeclFails, Decls, TableFails}
-use Rattle.dw_forms.specs.AbbrevReading.{on_option, decl_at, placed, decls_from, decls_of, table_at, TableGives}
+use Rattle.dw_forms.specs.AbbrevReading.{on_option, decl_at, placed, decls_from, decls_of, table_at}
 use Rattle.dw_forms.specs.Says.{bind_says}
 use Rattle.dw_forms.specs.Readers.{IsReader, read_is, not_both, reader_begins, reader_none, reader_fails}
+use Rattle.dw_forms.specs.Stops.{IfFault, GivesOrMemory}
 use Rattle.dw_forms.proofs.Keys.{apart_push, apart_lacks}
 use Rattle.dw_forms.proofs.AttributesLaws.{uleb_some}
 use Rattle.dw_forms.proofs.DeclLaws.{code_of_decl, NextDecl, decl_says, end_again, next_again}
@@ -43,7 +44,7 @@ record IsFound (earlier : List Declaration) (bytes : List ℕ) (all : List Decla
   pub all_is : all ≡ earlier ++ ds
   pub allowed : AreDeclarations all
 
-record FailsBehind (len : ℕ) (earlier : List Declaration) (bytes : List ℕ) (fault : BrokenTable) : Type 0 where
+record FailsBehind (len : ℕ) (earlier : List Declaration) (bytes : List ℕ) (fault : AbbrevFault) : Type 0 where
   pub ds : List Declaration
   pub text : List ℕ
   pub rest : List ℕ
@@ -72,7 +73,7 @@ module _ (earlier : List Declaration) (bytes : List ℕ) (d : Declaration) (afte
     allowed = f.allowed;
   }
 
-  fails_more : (len : ℕ) (fault : BrokenTable) → FailsBehind len (earlier ++ d ∷ []) after fault → FailsBehind len earlier bytes fault
+  fails_more : (len : ℕ) (fault : AbbrevFault) → FailsBehind len (earlier ++ d ∷ []) after fault → FailsBehind len earlier bytes fault
   fails_more len fault f = record {
     ds = d ∷ f.ds;
     text = t.text ++ f.text;
@@ -112,8 +113,8 @@ after_says bound len earlier bytes None after allowed t others = found_end earli
 after_says bound len earlier bytes (Some d) after allowed t others =
     MatchResult-weaker (decls_from bound len (earlier ++ d ∷ []) after) (others d t) (λ x f. found_more earlier bytes d after t x f) (λ fault f. fails_more earlier bytes d after t len fault f)
 
--- the fault of a declaration, where it stands
-PlacedFails : ℕ → List Declaration → List ℕ → BrokenTable → Type 0
+-- the fault of a declaration, at its place
+PlacedFails : ℕ → List Declaration → List ℕ → AbbrevFault → Type 0
 PlacedFails place earlier bytes fault = (reason : DeclFault) × DeclFails earlier bytes reason × (fault ≡ fault_at place reason)
 
 placed_says : (place : ℕ) (earlier : List Declaration) (bytes : List ℕ) (r : Result (Option Declaration × List ℕ) DeclFault)
@@ -123,7 +124,7 @@ unfolding PlacedFails
 placed_says place earlier bytes (Ok x) h = h
 placed_says place earlier bytes (Err reason) h = (reason, h, refl)
 
-placed_here : (len : ℕ) (earlier : List Declaration) (bytes : List ℕ) (fault : BrokenTable) → AreDeclarations earlier → PlacedFails (len - length bytes) earlier bytes fault → FailsBehind len earlier bytes fault
+placed_here : (len : ℕ) (earlier : List Declaration) (bytes : List ℕ) (fault : AbbrevFault) → AreDeclarations earlier → PlacedFails (len - length bytes) earlier bytes fault → FailsBehind len earlier bytes fault
 unfolding PlacedFails
 placed_here len earlier bytes fault allowed h = subst (FailsBehind len earlier bytes) (sym h.2) (fails_here len earlier bytes h.0 allowed h.1)
 
@@ -180,22 +181,22 @@ decls_again len text rest ds s =
 decls_reader : (len : ℕ) → IsReader (decls_of len) Decls (FailsBehind len [])
 decls_reader len = record { says = decls_say len; again = decls_again len }
 
-fault_is : {A : Type 0} {f g : BrokenTable} → ◌≡◌ {A = Result A BrokenTable} (Err f) (Err g) → f ≡ g
+fault_is : {A : Type 0} {f g : AbbrevFault} → ◌≡◌ {A = Result A AbbrevFault} (Err f) (Err g) → f ≡ g
 fault_is e = cc
 
 -- ---- the table at an offset
 
 module _ (section : List ℕ) (offset : ℕ) where
-  fails_at : offset ≤ length section → (fault : BrokenTable) → FailsBehind (length section) [] (drop offset section) fault → TableFails section offset fault
+  fails_at : offset ≤ length section → (fault : AbbrevFault) → FailsBehind (length section) [] (drop offset section) fault → TableFails section offset fault
   fails_at within fault f =
       let place : length section - length f.rest ≡ offset + length f.text = omega (arith, length-drop offset section, ap length f.parts, length-append f.text f.rest) in
       record { ds = f.ds; text = f.text; rest = f.rest; parts = f.parts; spelled = f.spelled; allowed = f.allowed; reason = f.reason; fails = f.fails; is = f.is ∙ ap (λ (p : ℕ). fault_at p f.reason) place }
 
-  table_result : (r : Result (List Declaration × List ℕ) BrokenTable) (ds : List Declaration) → (r >>= λ x. Ok x.0) ≡ Ok ds → (rest : List ℕ) × (r ≡ Ok (ds, rest))
+  table_result : (r : Result (List Declaration × List ℕ) AbbrevFault) (ds : List Declaration) → (r >>= λ x. Ok x.0) ≡ Ok ds → (rest : List ℕ) × (r ≡ Ok (ds, rest))
   table_result (Ok x) ds e = (x.1, ap (λ (d : List Declaration). Ok (d, x.1)) (read_is e))
   table_result (Err fault) ds e = absurd (not_both e)
 
-  table_error : (r : Result (List Declaration × List ℕ) BrokenTable) (fault : BrokenTable) → (r >>= λ x. Ok x.0) ≡ Err fault → r ≡ Err fault
+  table_error : (r : Result (List Declaration × List ℕ) AbbrevFault) (fault : AbbrevFault) → (r >>= λ x. Ok x.0) ≡ Err fault → r ≡ Err fault
   table_error (Ok x) fault e = absurd (not_both (sym e))
   table_error (Err f) fault e = ap Err (fault_is e)
 
@@ -204,24 +205,24 @@ module _ (section : List ℕ) (offset : ℕ) where
       let r = table_result (decls_of (length section) (drop offset section)) ds e in
       (length (drop offset section) - length r.0, reader_begins (decls_of (length section)) Decls (FailsBehind (length section) []) (decls_reader (length section)) (drop offset section) ds r.0 r.1)
 
-  pub table_none : (fault : BrokenTable) → table_at section offset ≡ Err fault → BeginsWithNone Decls (drop offset section)
+  pub table_none : (fault : AbbrevFault) → table_at section offset ≡ Err fault → BeginsWithNone Decls (drop offset section)
   table_none fault e = reader_none (decls_of (length section)) Decls (FailsBehind (length section) []) (decls_reader (length section)) (drop offset section) fault (table_error (decls_of (length section) (drop offset section)) fault e)
 
-  pub table_fails : offset ≤ length section → (fault : BrokenTable) → table_at section offset ≡ Err fault → TableFails section offset fault
+  pub table_fails : offset ≤ length section → (fault : AbbrevFault) → table_at section offset ≡ Err fault → TableFails section offset fault
   table_fails within fault e = fails_at within fault (reader_fails (decls_of (length section)) Decls (FailsBehind (length section) []) (decls_reader (length section)) (drop offset section) fault (table_error (decls_of (length section) (drop offset section)) fault e))
 
   -- ---- the clauses of the call
 
-  pub table_found_by : (r : Result (List Declaration) AbbrevFault) → TableGives (λ t. t) r (table_at section offset) → IfOk r (λ ds. (len : ℕ) × BeginsWith Decls (drop offset section) ds len)
+  pub table_found_by : (r : Result (List Declaration) (Stop AbbrevFault)) → GivesOrMemory (λ t. t) r (table_at section offset) → IfOk r (λ ds. (len : ℕ) × BeginsWith Decls (drop offset section) ds len)
   table_found_by (Ok ds) e = table_found ds e
   table_found_by (Err error) e = tt
 
-  pub table_none_by : (r : Result (List Declaration) AbbrevFault) → TableGives (λ t. t) r (table_at section offset) → IfFault r (λ _. BeginsWithNone Decls (drop offset section))
+  pub table_none_by : (r : Result (List Declaration) (Stop AbbrevFault)) → GivesOrMemory (λ t. t) r (table_at section offset) → IfErr r (IfFault (λ _. BeginsWithNone Decls (drop offset section)))
   table_none_by (Ok ds) e = tt
-  table_none_by (Err table.Memory) e = tt
-  table_none_by (Err (table.Broken f)) e = table_none f e
+  table_none_by (Err stops.Memory) e = tt
+  table_none_by (Err (stops.Fault f)) e = table_none f e
 
-  pub table_fails_by : offset ≤ length section → (r : Result (List Declaration) AbbrevFault) → TableGives (λ t. t) r (table_at section offset) → IfFault r (TableFails section offset)
+  pub table_fails_by : offset ≤ length section → (r : Result (List Declaration) (Stop AbbrevFault)) → GivesOrMemory (λ t. t) r (table_at section offset) → IfErr r (IfFault (TableFails section offset))
   table_fails_by within (Ok ds) e = tt
-  table_fails_by within (Err table.Memory) e = tt
-  table_fails_by within (Err (table.Broken f)) e = table_fails within f e
+  table_fails_by within (Err stops.Memory) e = tt
+  table_fails_by within (Err (stops.Fault f)) e = table_fails within f e

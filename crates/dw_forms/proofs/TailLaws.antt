@@ -1,24 +1,24 @@
--- A declaration and the table behind it: they are a table where no code stands twice, and no other table begins there.
+-- A declaration and the table after it: they are a table where no code occurs twice, and no other table begins there.
 use Rattle.std.proofs.Common.{◌≡◌, ◌≤◌, ℕ, suc, ◌+◌, ◌-◌, ◌<◌, List, [], ◌∷◌, ◌++◌, length, take, drop, Option, Some, None, Result, Ok, Err, refl, sym, ap, subst, ◌∙◌, append_assoc, arith}
 use Rattle.std.proofs.lemmas.List.{length-append, length-take, length-drop, take-append-drop}
 use Rattle.std.proofs.lemmas.List.Elements.{All-cons}
 use Rattle.std.proofs.lemmas.Result.{MatchResult-at_ok}
-use Rattle.dw_forms.specs.declared.abbrev_fault.DeclFault.{DeclFault}
+use Rattle.dw_forms.specs.declared.fault.DeclFault.{DeclFault}
 use Rattle.dw_forms.specs.declared.abbrev_tables.Started.{Started}
-use Rattle.dw_forms.specs.declared.abbrev_fault.DeclError.{DeclError}
-use Rattle.dw_forms.specs.declared.abbrev_fault.DeclError.TheVariants as errors
-use Rattle.dw_forms.specs.declared.abbrev_fault.AbbrevFault.{AbbrevFault}
-use Rattle.dw_forms.specs.declared.abbrev_fault.AbbrevFault.TheVariants as table
-use Rattle.dw_forms.specs.AbbrevFaults.{fault_at, IfTableFault}
+use Rattle.dw_forms.specs.declared.fault.Stop.{Stop}
+use Rattle.dw_forms.specs.declared.fault.AbbrevFault.{AbbrevFault}
+use Rattle.dw_forms.specs.declared.fault.Stop.TheVariants as stops
+use Rattle.dw_forms.specs.AbbrevFaults.{fault_at}
 use Rattle.dw_forms.specs.Front.{Takes}
 use Rattle.dw_forms.specs.Abbrev.{Declaration, SpellsTable, IsDeclaration, AreDeclarations, DeclFails, Decls, TableFails}
-use Rattle.dw_forms.specs.AbbrevReading.{decl_at, decls_of, decls_from, table_at, TableFails as ReadingFails}
+use Rattle.dw_forms.specs.AbbrevReading.{decl_at, decls_of, decls_from, table_at}
 use Rattle.dw_forms.specs.Readers.{read_is, not_both}
 use Rattle.dw_forms.specs.declared.attribute_lists.Node.{Node}
 use Rattle.dw_forms.specs.AttributeLists.{HasList}
 use Rattle.dw_forms.specs.KeptDecls.{kept_view}
 use Rattle.dw_forms.specs.ListOffsets.{StayNodes}
-use Rattle.dw_forms.specs.TableStarts.{NoTable, AreBehind, IfBroken, IfNoDecl}
+use Rattle.dw_forms.specs.TableStarts.{NoTable, AreBehind, IfNoDecl}
+use Rattle.dw_forms.specs.Stops.{IfFault, FailsOrMemory}
 use Rattle.dw_forms.proofs.KeptLaws.{view_stays, has_stays}
 use Rattle.dw_forms.proofs.Keys.{Lacks, apart_cons}
 use Rattle.dw_forms.proofs.AttributesLaws.{uleb_some}
@@ -39,7 +39,7 @@ module _ (section : List ℕ) where
       let read : decls_of (length section) (drop offset section) ≡ Ok (ds, rest) = ap (decls_of (length section)) parts ∙ decls_again (length section) text rest ds s in
       rw read refl
 
-  -- a declaration with a new code and the table behind it are a table
+  -- a declaration with a new code and the table after it are a table
   pub table_more : (offset next : ℕ) (d : Declaration) (ds : List Declaration) → decl_at [] (drop offset section) ≡ Ok (Some d, drop next section) → table_at section next ≡ Ok ds
       → Lacks code_of_decl d.code ds → table_at section offset ≡ Ok (d ∷ ds)
   table_more offset next d ds e is lacks =
@@ -66,7 +66,7 @@ module _ (section : List ℕ) where
   unfolding decls_from
   table_fault offset fault e = rw e refl
 
-  -- where no declaration and no code 0 stands, no table begins
+  -- where there is no declaration and no code 0, no table begins
   pub table_broken : (offset : ℕ) (fault : DeclFault) → decl_at [] (drop offset section) ≡ Err fault → NoTable section offset
   table_broken offset fault e = λ ds is. not_both (sym (table_fault offset fault e) ∙ is)
 
@@ -81,7 +81,7 @@ module _ (section : List ℕ) where
   first_lacks : (d : Declaration) (ds : List Declaration) → AreDeclarations (d ∷ ds) → Lacks code_of_decl d.code ds
   first_lacks d ds a = λ k e lt same. a.distinct 0 (suc k) e (omega arith) (omega arith) (sym same)
 
-  -- the table of a declaration is the declaration with the table behind it
+  -- the table of a declaration is the declaration with the table after it
   record IsSplit (next : ℕ) (d : Declaration) (all : List Declaration) : Type 0 where
     pub ds : List Declaration
     pub parts : all ≡ d ∷ ds
@@ -118,11 +118,11 @@ module _ (section : List ℕ) where
       let (len, b) = table_found section offset all is in
       split offset next d all (take len (drop offset section)) (drop len (drop offset section)) e (sym (take-append-drop len (drop offset section))) b.spelled
 
-  -- where no table begins behind a declaration, none begins with it
+  -- where no table begins after a declaration, none begins with it
   pub none_before : (offset next : ℕ) (d : Declaration) → decl_at [] (drop offset section) ≡ Ok (Some d, drop next section) → NoTable section next → NoTable section offset
   none_before offset next d e none = λ all is. let s = table_less offset next d all e is in none s.ds s.table
 
-  -- where the code stands in the table behind a declaration, no table begins with it
+  -- where the code is in the table after a declaration, no table begins with it
   pub none_twice : (offset next : ℕ) (d : Declaration) (ds : List Declaration) → decl_at [] (drop offset section) ≡ Ok (Some d, drop next section) → table_at section next ≡ Ok ds
       → (Lacks code_of_decl d.code ds → ⊥) → NoTable section offset
   none_twice offset next d ds e is twice = λ all whole.
@@ -147,7 +147,7 @@ module _ (section : List ℕ) where
       let on = behind_on nodes xs p.2 end p.4 in
       omega (arith, less.0, on)
 
-  -- one more behind them
+  -- one more after them
   pub behind_push : (nodes : List Node) (xs : List Started) (offset end next : ℕ) (s : Started) → AreBehind nodes section xs offset end → s.start ≡ end → HasList nodes s.decl.first s.decl.step
       → decl_at [] (drop end section) ≡ Ok (Some (kept_view nodes s.decl), drop next section) → AreBehind nodes section (xs ++ s ∷ []) offset next
   behind_push nodes [] offset end next s here start kept e = (start ∙ sym here, kept, next, ap (λ (n : ℕ). decl_at [] (drop n section)) here ∙ e, refl)
@@ -167,15 +167,15 @@ module _ (section : List ℕ) where
       let same : kept_view new x.decl ≡ kept_view old x.decl = view_stays old new x.decl stay p.1.within in
       (p.0, has_stays old new _ _ stay p.1, p.2, p.3 ∙ ap (λ (d : Declaration). Ok (Some d, drop p.2 section)) (sym same), behind_stays old new xs p.2 end stay p.4)
 
-  -- where no table begins behind them, none begins with them
+  -- where no table begins after them, none begins with them
   pub none_behind : (nodes : List Node) (xs : List Started) (offset end : ℕ) → AreBehind nodes section xs offset end → NoTable section end → NoTable section offset
   none_behind nodes [] offset end here none = subst (NoTable section) (sym here) none
   none_behind nodes (x ∷ xs) offset end p none = none_before offset p.2 (kept_view nodes x.decl) p.3 (none_behind nodes xs p.2 end p.4 none)
 
-  pub front_fails : (nodes : List Node) (error : DeclError) (xs : List Started) (offset end : ℕ) → AreBehind nodes section xs offset end → IfBroken (IfNoDecl section end) error
-      → IfBroken (NoTable section offset) error
-  front_fails nodes errors.Memory xs offset end behind e = tt
-  front_fails nodes (errors.Fault fault) xs offset end behind e = none_behind nodes xs offset end behind (table_broken end e.0 e.1)
+  pub front_fails : (nodes : List Node) (error : Stop DeclFault) (xs : List Started) (offset end : ℕ) → AreBehind nodes section xs offset end → IfFault (λ _. IfNoDecl section end) error
+      → IfFault (λ _. NoTable section offset) error
+  front_fails nodes stops.Memory xs offset end behind e = tt
+  front_fails nodes (stops.Fault fault) xs offset end behind e = none_behind nodes xs offset end behind (table_broken end e.0 e.1)
 
 -- ---- a table and its bytes
 
@@ -196,6 +196,6 @@ table_fewer section offset ds is =
     omega (arith, length-take len (drop offset section), length-drop offset section)
 
 -- the fault that plain reading gives is the table's
-pub broken_by : (section : List ℕ) (offset : ℕ) (fault : AbbrevFault) → offset ≤ length section → ReadingFails fault (table_at section offset) → IfTableFault (TableFails section offset) fault
-broken_by section offset table.Memory within e = tt
-broken_by section offset (table.Broken f) within e = table_fails section offset within f e
+pub broken_by : (section : List ℕ) (offset : ℕ) (fault : Stop AbbrevFault) → offset ≤ length section → FailsOrMemory fault (table_at section offset) → IfFault (TableFails section offset) fault
+broken_by section offset stops.Memory within e = tt
+broken_by section offset (stops.Fault f) within e = table_fails section offset within f e

@@ -6,11 +6,11 @@ use Rattle.dw_forms.specs.declared.form.Form.TheVariants.{ImplicitConst}
 use Rattle.dw_forms.specs.declared.leb.NumberFault.{NumberFault}
 use Rattle.dw_forms.specs.declared.decl.AttributeSpec.{AttributeSpec}
 use Rattle.dw_forms.specs.declared.abbrev.TableDecl.{TableDecl}
-use Rattle.dw_forms.specs.declared.abbrev_fault.AbbrevRule.{AbbrevRule}
-use Rattle.dw_forms.specs.declared.abbrev_fault.AbbrevRule.TheVariants.{AbbrevCut, CodeTwice, BadTag, BadChildren}
-use Rattle.dw_forms.specs.declared.abbrev_fault.AbbrevRule.TheVariants.{BadPair, UnknownForm, AttributeTwice}
-use Rattle.dw_forms.specs.declared.abbrev_fault.DeclFault.{DeclFault}
-use Rattle.dw_forms.specs.declared.abbrev_fault.BrokenTable.{BrokenTable}
+use Rattle.dw_forms.specs.declared.fault.AbbrevRule.{AbbrevRule}
+use Rattle.dw_forms.specs.declared.fault.AbbrevRule.TheVariants.{AbbrevCut, CodeTwice, BadTag, BadChildren}
+use Rattle.dw_forms.specs.declared.fault.AbbrevRule.TheVariants.{BadPair, UnknownForm, AttributeTwice}
+use Rattle.dw_forms.specs.declared.fault.DeclFault.{DeclFault}
+use Rattle.dw_forms.specs.declared.fault.AbbrevFault.{AbbrevFault}
 use Rattle.dw_forms.specs.AbbrevFaults.{fault_of, fault_at}
 use Rattle.dw_forms.specs.FormCodes.{code_of}
 use Rattle.dw_forms.specs.Front.{Takes}
@@ -192,7 +192,7 @@ SpellsDecls (d ∷ ds) bytes = (first : List ℕ) × (others : List ℕ) × (byt
 
 -- a beginning of the table spells some declarations, and nothing after it spells a next one or the end.
 -- The place is where that next one begins
-pub record TableFails (section : List ℕ) (offset : ℕ) (fault : BrokenTable) : Type 0 where
+pub record TableFails (section : List ℕ) (offset : ℕ) (fault : AbbrevFault) : Type 0 where
   pub ds : List Declaration
   pub text : List ℕ
   pub rest : List ℕ

@@ -7,28 +7,14 @@ use Rattle.dw_forms.specs.declared.form.Form.{Form}
 use Rattle.dw_forms.specs.declared.form.Form.TheVariants.{ImplicitConst}
 use Rattle.dw_forms.specs.declared.leb.NumberFault.{NumberFault}
 use Rattle.dw_forms.specs.declared.decl.AttributeSpec.{AttributeSpec}
-use Rattle.dw_forms.specs.declared.abbrev_fault.AbbrevRule.TheVariants.{AbbrevCut, CodeTwice, BadTag, BadChildren}
-use Rattle.dw_forms.specs.declared.abbrev_fault.AbbrevRule.TheVariants.{BadPair, UnknownForm, AttributeTwice}
-use Rattle.dw_forms.specs.declared.abbrev_fault.DeclFault.{DeclFault}
-use Rattle.dw_forms.specs.declared.abbrev_fault.DeclError.{DeclError}
-use Rattle.dw_forms.specs.declared.abbrev_fault.DeclError.TheVariants as errors
-use Rattle.dw_forms.specs.declared.abbrev_fault.BrokenTable.{BrokenTable}
-use Rattle.dw_forms.specs.declared.abbrev_fault.AbbrevFault.{AbbrevFault}
-use Rattle.dw_forms.specs.declared.abbrev_fault.AbbrevFault.TheVariants as table
+use Rattle.dw_forms.specs.declared.fault.AbbrevRule.TheVariants.{AbbrevCut, CodeTwice, BadTag, BadChildren}
+use Rattle.dw_forms.specs.declared.fault.AbbrevRule.TheVariants.{BadPair, UnknownForm, AttributeTwice}
+use Rattle.dw_forms.specs.declared.fault.DeclFault.{DeclFault}
+use Rattle.dw_forms.specs.declared.fault.AbbrevFault.{AbbrevFault}
 use Rattle.dw_forms.specs.Abbrev.{Declaration}
 use Rattle.dw_forms.specs.FormCodes.{form_of}
 use Rattle.dw_forms.specs.LebReading.{uleb_at, sleb_at}
 use Rattle.dw_forms.specs.AbbrevFaults.{fault_of, fault_at}
-
--- what a function failed with is the fault that reading gives, unless memory ran out
-abbrev pub FailsOrMemory : {Y : Type 0} → DeclError → Result Y DeclFault → Type 0
-FailsOrMemory errors.Memory read = Unit {0}
-FailsOrMemory (errors.Fault f) read = read ≡ Err f
-
--- what a function returned, seen by view, is what reading gives, unless memory ran out
-abbrev pub GivesOrMemory : {X Y : Type 0} → (X → Y) → Result X DeclError → Result Y DeclFault → Type 0
-GivesOrMemory view (Ok x) read = read ≡ Ok (view x)
-GivesOrMemory view (Err e) read = FailsOrMemory e read
 
 -- a number and the bytes after it
 abbrev pub with_rest : {V : Type 0} → List ℕ → Result (V × ℕ) NumberFault → Result (V × List ℕ) DeclFault
@@ -131,33 +117,23 @@ decl_at earlier bytes = do
         attributes.1,
       ))))
 
--- what a function failed with is the fault that reading a table gives, unless memory ran out
-abbrev pub TableFails : {Y : Type 0} → AbbrevFault → Result Y BrokenTable → Type 0
-TableFails table.Memory read = Unit {0}
-TableFails (table.Broken f) read = read ≡ Err f
-
--- what a function returned, seen by view, is what reading a table gives, unless memory ran out
-abbrev pub TableGives : {X Y : Type 0} → (X → Y) → Result X AbbrevFault → Result Y BrokenTable → Type 0
-TableGives view (Ok x) read = read ≡ Ok (view x)
-TableGives view (Err e) read = TableFails e read
-
 -- the faults have this place
-abbrev pub placed : {A : Type 0} → ℕ → Result A DeclFault → Result A BrokenTable
+abbrev pub placed : {A : Type 0} → ℕ → Result A DeclFault → Result A AbbrevFault
 placed place (Ok x) = Ok x
 placed place (Err e) = Err (fault_at place e)
 
 -- all declarations up to the code 0, after the earlier ones. There are fewer than this bound. The
 -- section that the bytes are the end of has this length
-unfoldable pub decls_from : ℕ → ℕ → List Declaration → List ℕ → Result (List Declaration × List ℕ) BrokenTable
+unfoldable pub decls_from : ℕ → ℕ → List Declaration → List ℕ → Result (List Declaration × List ℕ) AbbrevFault
 decls_from zero len earlier bytes = Err (record { rule = AbbrevCut; at = len - length bytes; attribute = 0 })
 decls_from (suc bound) len earlier bytes =
     placed (len - length bytes) (decl_at earlier bytes) >>= λ d. on_option d.0 (Ok (earlier, d.1))
     (λ decl. decls_from bound len (earlier ++ decl ∷ []) d.1)
 
 -- the declarations at the front of the end of a section of this length
-abbrev pub decls_of : ℕ → List ℕ → Result (List Declaration × List ℕ) BrokenTable
+abbrev pub decls_of : ℕ → List ℕ → Result (List Declaration × List ℕ) AbbrevFault
 decls_of len bytes = decls_from (suc (length bytes)) len [] bytes
 
 -- the table that begins at an offset of the section
-abbrev pub table_at : List ℕ → ℕ → Result (List Declaration) BrokenTable
+abbrev pub table_at : List ℕ → ℕ → Result (List Declaration) AbbrevFault
 table_at section offset = decls_of (length section) (drop offset section) >>= λ x. Ok x.0

@@ -22,6 +22,7 @@ pub mod TableGrammar
 pub mod Datums
 pub mod SizeLaws
 -- State.
+pub mod Stops
 pub mod NumberValues
 pub mod Sizes
 pub mod Marks

@@ -1,9 +1,7 @@
 -- State: the tables that begin at offsets of a section.
 use Rattle.std.specs.Prelude.{◌≡◌, ℕ, suc, ◌<◌, List, [], ◌∷◌, ◌++◌, length, get_or, drop}
 use Rattle.std.specs.Prelude.{Option, Some, None, Ok, Err, false, true, ◌⊎◌}
-use Rattle.dw_forms.specs.declared.abbrev_fault.DeclFault.{DeclFault}
-use Rattle.dw_forms.specs.declared.abbrev_fault.DeclError.{DeclError}
-use Rattle.dw_forms.specs.declared.abbrev_fault.DeclError.TheVariants as errors
+use Rattle.dw_forms.specs.declared.fault.DeclFault.{DeclFault}
 use Rattle.dw_forms.specs.declared.attribute_lists.Node.{Node}
 use Rattle.dw_forms.specs.declared.abbrev_tables.Started.{Started}
 use Rattle.dw_forms.specs.Abbrev.{Declaration}
@@ -62,11 +60,6 @@ Added d rest old new None = (has_code d.code (table_in old rest) ≡ true) × (n
 abbrev pub IsWhole : List ℕ → Tables → ℕ → Option ℕ → Type 0
 IsWhole section tables offset (Some number) = IsTableIn section tables offset number
 IsWhole section tables offset None = NoTable section offset
-
--- this holds if a declaration violates a rule
-abbrev pub IfBroken : Type 0 → DeclError → Type 0
-IfBroken P errors.Memory = Unit {0}
-IfBroken P (errors.Fault f) = P
 
 -- no declaration and no code 0 is at this offset of the section
 abbrev pub IfNoDecl : List ℕ → ℕ → Type 0

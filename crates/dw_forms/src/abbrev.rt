@@ -1,17 +1,18 @@
 //! Abbreviation tables (DWARF 5, 7.5.3).
 
 ghost use Rattle.std.specs.Prelude.{◌≡◌, ◌==◌, ◌<◌, [], ◌∷◌, ◌++◌, length, false, find, option_map, option_copied};
+ghost use Rattle.std.specs.Prelude.{IfErr};
 ghost use Rattle.std.specs.Prelude.{option_and_then, slice_get, IfSome, IfNone, OnOk, All, ◌≢◌, ◌+◌, Some};
 ghost use Rattle.std.specs.Ordering.{nat_cmp};
 ghost use Rattle.std.specs.BTreeMap.{get};
-ghost use Rattle.dw_forms.specs.AbbrevFaults.{IfFault};
 ghost use Rattle.dw_forms.specs.Abbrev.{view};
 ghost use Rattle.dw_forms.specs.Places.{IsIndex, IsPlace, StandsAt};
 ghost use Rattle.dw_forms.specs.AbbrevReading.{has_code};
+ghost use Rattle.dw_forms.specs.Stops.{IfFault};
 
-use crate::abbrev_fault::AbbrevFault;
 use crate::constants::Tag;
 use crate::decl::AttributeSpec;
+use crate::fault::{AbbrevFault, Stop};
 use std::alloc::Global;
 use std::collections::BTreeMap;
 use std::marker::Model;
@@ -74,13 +75,13 @@ fn make_room(
     decls: &[TableDecl],
     elsewhere: &mut BTreeMap<u64, usize>,
     code: u64,
-) -> Result<(), AbbrevFault>
+) -> Result<(), Stop<AbbrevFault>>
     requires index { IsIndex decls.now elsewhere.old }
     requires new { All (λ d. d.code ≢ code) decls.now }
     ensures index { IsIndex decls.now elsewhere.new }
     ensures entered { OnOk result (code ≢ length decls.now + 1
         → get nat_cmp elsewhere.new code ≡ Some (length decls.now)) }
-    ensures err { IfFault result (λ _. ⊥) }
+    ensures err { IfErr result (IfFault (λ _. ⊥)) }
 {
     if code != decls.len() as u64 + 1 {
         elsewhere.insert(code, decls.len())?;
@@ -107,10 +108,10 @@ impl AbbrevTable {
     }
 
     /// Adds a declaration with a new code.
-    pub(crate) fn push(&mut self, decl: TableDecl) -> Result<(), AbbrevFault>
+    pub(crate) fn push(&mut self, decl: TableDecl) -> Result<(), Stop<AbbrevFault>>
         requires { has_code decl.code self.old ≡ false }
         ensures ok { OnOk result (self.new ≡ self.old ++ view decl ∷ []) }
-        ensures err { IfFault result (λ _. ⊥) }
+        ensures err { IfErr result (IfFault (λ _. ⊥)) }
     {
         make_room(&self.decls, &mut self.elsewhere, decl.code)?;
         self.decls.push(decl)?;

@@ -1,26 +1,27 @@
 //! Reading abbreviation tables (DWARF 5, 7.5.3).
 
 ghost use Rattle.std.specs.Prelude.{◌≡◌, ◌<◌, ◌≤◌, ℕ, [], ◌∷◌, ◌++◌, length, drop, false, option_map, IfOk, IfSome};
+ghost use Rattle.std.specs.Prelude.{IfErr};
 ghost use Rattle.std.specs.Prelude.{OnOk};
 ghost use Rattle.dw_forms.specs.Front.{BeginsWith, BeginsWithNone};
-ghost use Rattle.dw_forms.specs.AbbrevFaults.{IfFault};
 ghost use Rattle.dw_forms.specs.Abbrev.{view, Decls, IsCode16, TableFails};
 ghost use Rattle.dw_forms.specs.Marks.{AreMarks};
-ghost use Rattle.dw_forms.specs.AbbrevReading.{GivesOrMemory, has_attribute, has_code, unsigned_at, signed_at};
+ghost use Rattle.dw_forms.specs.AbbrevReading.{has_attribute, has_code, unsigned_at, signed_at};
 ghost use Rattle.dw_forms.specs.AbbrevReading.{form_at, begun_at, pair_at, tagged_at, attributes_of};
-ghost use Rattle.dw_forms.specs.AbbrevReading.{children_at, decl_at, TableGives};
+ghost use Rattle.dw_forms.specs.AbbrevReading.{children_at, decl_at};
 ghost use Rattle.dw_forms.specs.AbbrevReading.{placed, table_at};
+ghost use Rattle.dw_forms.specs.Stops.{IfFault, GivesOrMemory};
 
 use crate::abbrev::{AbbrevTable, TableDecl};
-use crate::abbrev_fault::{AbbrevFault, AbbrevRule, DeclError, DeclFault};
 use crate::constants::{Attribute, Tag};
 use crate::decl::AttributeSpec;
+use crate::fault::{AbbrevFault, AbbrevRule, DeclFault, Stop};
 use crate::form::Form;
 use crate::leb::{read_sleb, read_uleb};
 use std::alloc::Global;
 
 /// An unsigned number, and the bytes after it.
-fn unsigned(bytes: &[u8]) -> Result<(u64, &[u8]), DeclError>
+fn unsigned(bytes: &[u8]) -> Result<(u64, &[u8]), Stop<DeclFault>>
     ensures exact { GivesOrMemory (λ x. (x.0, x.1.now)) result (unsigned_at bytes.now) }
     ensures shorter { IfOk result (λ x. length x.1.now < length bytes.now) }
 {
@@ -29,7 +30,7 @@ fn unsigned(bytes: &[u8]) -> Result<(u64, &[u8]), DeclError>
 }
 
 /// A signed number, and the bytes after it.
-fn signed(bytes: &[u8]) -> Result<(i64, &[u8]), DeclError>
+fn signed(bytes: &[u8]) -> Result<(i64, &[u8]), Stop<DeclFault>>
     ensures exact { GivesOrMemory (λ x. (x.0, x.1.now)) result (signed_at bytes.now) }
     ensures shorter { IfOk result (λ x. length x.1.now < length bytes.now) }
 {
@@ -38,14 +39,14 @@ fn signed(bytes: &[u8]) -> Result<(i64, &[u8]), DeclError>
 }
 
 /// The error of a declaration that breaks a rule.
-pub fn fault(rule: AbbrevRule, attribute: u16) -> DeclError
-    ensures { result ≡ DeclError.Fault (record { rule = rule; attribute = attribute }) }
+pub fn fault(rule: AbbrevRule, attribute: u16) -> Stop<DeclFault>
+    ensures { result ≡ Stop.Fault (record { rule = rule; attribute = attribute }) }
 {
-    DeclError::Fault(DeclFault { rule, attribute })
+    Stop::Fault(DeclFault { rule, attribute })
 }
 
 /// The form, with the number that comes after an implicit constant.
-pub fn form_with_number(form: Form, bytes: &[u8]) -> Result<(Form, &[u8]), DeclError>
+pub fn form_with_number(form: Form, bytes: &[u8]) -> Result<(Form, &[u8]), Stop<DeclFault>>
     ensures exact { GivesOrMemory (λ x. (x.0, x.1.now)) result (form_at form bytes.now) }
     ensures within { IfOk result (λ x. length x.1.now ≤ length bytes.now) }
 {
@@ -59,9 +60,9 @@ pub fn form_with_number(form: Form, bytes: &[u8]) -> Result<(Form, &[u8]), DeclE
 }
 
 /// Marks for no attributes, one for each code of 16 bits.
-fn no_marks(alloc: Global) -> Result<Vec<bool>, AbbrevFault>
+fn no_marks(alloc: Global) -> Result<Vec<bool>, Stop<AbbrevFault>>
     ensures marks { IfOk result (λ marks. AreMarks [] marks.items) }
-    ensures err { IfFault result (λ _. ⊥) }
+    ensures err { IfErr result (IfFault (λ _. ⊥)) }
 {
     let mut marks = Vec::new(alloc);
     marks.resize(0x10000, false)?;
@@ -96,7 +97,7 @@ fn has_attribute(earlier: &[AttributeSpec], marks: &[bool], attribute: u16) -> b
 
 /// The next attribute and its form, without the number of a constant, or none at the pair 0, 0.
 #[tactic(auto, unfolding(crate::specs::AbbrevReading::begun_at))]
-pub fn pair_of(bytes: &[u8]) -> Result<(Option<(u16, Form)>, &[u8]), DeclError>
+pub fn pair_of(bytes: &[u8]) -> Result<(Option<(u16, Form)>, &[u8]), Stop<DeclFault>>
     ensures exact { GivesOrMemory (λ x. (x.0, x.1.now)) result (begun_at bytes.now) }
     ensures shorter { IfOk result (λ x. length x.1.now < length bytes.now) }
 {
@@ -121,7 +122,7 @@ fn next_attribute<'a>(
     earlier: &[AttributeSpec],
     marks: &[bool],
     bytes: &'a [u8],
-) -> Result<(Option<AttributeSpec>, &'a [u8]), DeclError>
+) -> Result<(Option<AttributeSpec>, &'a [u8]), Stop<DeclFault>>
     requires { AreMarks earlier.now marks.now }
     ensures exact { GivesOrMemory (λ x. (x.0, x.1.now)) result (pair_at earlier.now bytes.now) }
     ensures shorter { IfOk result (λ x. length x.1.now < length bytes.now) }
@@ -146,7 +147,7 @@ fn read_attributes<'a>(
     alloc: Global,
     marks: &mut [bool],
     bytes: &'a [u8],
-) -> Result<(Vec<AttributeSpec>, &'a [u8]), DeclError>
+) -> Result<(Vec<AttributeSpec>, &'a [u8]), Stop<DeclFault>>
     requires { AreMarks [] marks.old }
     ensures unmarked { OnOk result (AreMarks [] marks.new) }
     ensures exact { GivesOrMemory (λ x. (x.0.items, x.1.now)) result (attributes_of bytes.now) }
@@ -170,7 +171,7 @@ fn read_attributes<'a>(
 }
 
 /// The byte that says whether entries have children, and the bytes after it.
-fn read_children(bytes: &[u8]) -> Result<(bool, &[u8]), DeclError>
+fn read_children(bytes: &[u8]) -> Result<(bool, &[u8]), Stop<DeclFault>>
     ensures exact { GivesOrMemory (λ x. (x.0, x.1.now)) result (children_at bytes.now) }
     ensures shorter { IfOk result (λ x. length x.1.now < length bytes.now) }
 {
@@ -183,7 +184,7 @@ fn read_children(bytes: &[u8]) -> Result<(bool, &[u8]), DeclError>
 }
 
 /// The code of a declaration, and the bytes after it.
-pub fn code_of(bytes: &[u8]) -> Result<(u64, &[u8]), DeclError>
+pub fn code_of(bytes: &[u8]) -> Result<(u64, &[u8]), Stop<DeclFault>>
     ensures exact { GivesOrMemory (λ x. (x.0, x.1.now)) result (unsigned_at bytes.now) }
     ensures shorter { IfOk result (λ x. length x.1.now < length bytes.now) }
 {
@@ -192,7 +193,7 @@ pub fn code_of(bytes: &[u8]) -> Result<(u64, &[u8]), DeclError>
 
 /// The tag of a declaration, whether entries have children, and the bytes after both.
 #[tactic(auto, unfolding(crate::specs::AbbrevReading::tagged_at))]
-pub fn tag_and_children(bytes: &[u8]) -> Result<(Tag, bool, &[u8]), DeclError>
+pub fn tag_and_children(bytes: &[u8]) -> Result<(Tag, bool, &[u8]), Stop<DeclFault>>
     ensures exact { GivesOrMemory (λ x. (x.0, x.1, x.2.now)) result (tagged_at bytes.now) }
     ensures code { IfOk result (λ x. IsCode16 x.0) }
     ensures shorter { IfOk result (λ x. length x.2.now < length bytes.now) }
@@ -212,7 +213,7 @@ fn next_decl<'a>(
     earlier: &AbbrevTable,
     marks: &mut [bool],
     bytes: &'a [u8],
-) -> Result<(Option<TableDecl>, &'a [u8]), DeclError>
+) -> Result<(Option<TableDecl>, &'a [u8]), Stop<DeclFault>>
     requires { AreMarks [] marks.old }
     ensures unmarked { OnOk result (AreMarks [] marks.new) }
     ensures exact { GivesOrMemory (λ x. (option_map view x.0, x.1.now)) result (decl_at earlier.now bytes.now) }
@@ -247,10 +248,10 @@ fn next_decl_at<'a>(
     marks: &mut [bool],
     bytes: &'a [u8],
     place: usize,
-) -> Result<(Option<TableDecl>, &'a [u8]), AbbrevFault>
+) -> Result<(Option<TableDecl>, &'a [u8]), Stop<AbbrevFault>>
     requires { AreMarks [] marks.old }
     ensures unmarked { OnOk result (AreMarks [] marks.new) }
-    ensures exact { TableGives
+    ensures exact { GivesOrMemory
         (λ x. (option_map view x.0, x.1.now)) result (placed place (decl_at earlier.now bytes.now)) }
     ensures new { IfOk result (λ x. IfSome x.0 (λ d. has_code d.code earlier.now ≡ false)) }
     ensures shorter { IfOk result (λ x. length x.1.now < length bytes.now) }
@@ -262,10 +263,10 @@ fn next_decl_at<'a>(
 }
 
 /// The declarations from this offset on, up to the code 0.
-fn table(alloc: Global, section: &[u8], offset: usize) -> Result<AbbrevTable, AbbrevFault>
+fn table(alloc: Global, section: &[u8], offset: usize) -> Result<AbbrevTable, Stop<AbbrevFault>>
     requires { offset ≤ length section.now }
     ensures fewer { IfOk result (λ t. length t < length section.now) }
-    ensures exact { TableGives (λ t. t) result (table_at section.now offset) }
+    ensures exact { GivesOrMemory (λ t. t) result (table_at section.now offset) }
 {
     let mut no_marks = no_marks(alloc)?;
     let marks = no_marks.as_mut_slice();
@@ -286,16 +287,20 @@ fn table(alloc: Global, section: &[u8], offset: usize) -> Result<AbbrevTable, Ab
 }
 
 /// Reads the table that begins at this offset of .debug_abbrev. The section may go on after it.
-pub fn read_table(alloc: Global, section: &[u8], offset: usize) -> Result<AbbrevTable, AbbrevFault>
+pub fn read_table(
+    alloc: Global,
+    section: &[u8],
+    offset: usize,
+) -> Result<AbbrevTable, Stop<AbbrevFault>>
     requires { offset ≤ length section.now }
     // Some bytes from there on are the table of these declarations, and no others there are any table.
     ensures found { IfOk result (λ t. (len : ℕ) × BeginsWith Decls (drop offset section.now) t len) }
-    ensures none { IfFault result (λ _. BeginsWithNone Decls (drop offset section.now)) }
-    ensures fault { IfFault result (TableFails section.now offset) }
+    ensures none { IfErr result (IfFault (λ _. BeginsWithNone Decls (drop offset section.now))) }
+    ensures fault { IfErr result (IfFault (TableFails section.now offset)) }
     // Each declaration has a byte, and so has the end, so a place among them is below the section's length.
     ensures fewer { IfOk result (λ t. length t < length section.now) }
     // For callers that reason by steps.
-    ensures exact { TableGives (λ t. t) result (table_at section.now offset) }
+    ensures exact { GivesOrMemory (λ t. t) result (table_at section.now offset) }
 {
     table(alloc, section, offset)
 }

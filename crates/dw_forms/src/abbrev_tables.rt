@@ -2,23 +2,23 @@
 
 ghost use Rattle.std.specs.Prelude.{◌≡◌, ◌<◌, ◌≤◌, [], length, drop, option_map, IfOk, IfErr, IfSome, OnOk, Ok, ◌==◌};
 ghost use Rattle.std.specs.Prelude.{ℕ, List, find};
-ghost use Rattle.dw_forms.specs.AbbrevReading.{GivesOrMemory, decl_at, table_at, TableFails as ReadingFails};
+ghost use Rattle.dw_forms.specs.AbbrevReading.{decl_at, table_at};
 ghost use Rattle.dw_forms.specs.AttributeLists.{HasList};
 ghost use Rattle.dw_forms.specs.KeptDecls.{kept_view, view, table_in, tables_of, number_in, AreCoded, AreWithin};
 ghost use Rattle.dw_forms.specs.ListOffsets.{AreListsOf, StayNodes};
 ghost use Rattle.dw_forms.specs.Offsets.{AreKnownFrom};
-ghost use Rattle.dw_forms.specs.TableStarts.{NoTable, AreBehind, AreNew, GoesOn, IfBroken, IfNoDecl, IsTableIn};
+ghost use Rattle.dw_forms.specs.TableStarts.{NoTable, AreBehind, AreNew, GoesOn, IfNoDecl, IsTableIn};
 ghost use Rattle.dw_forms.specs.TableStarts.{AreStarts, Stay, Added, IsWhole};
 ghost use Rattle.dw_forms.specs.Abbrev.{AreDeclarations, TableFails};
-ghost use Rattle.dw_forms.specs.AbbrevFaults.{IfFault, IfTableFault};
 ghost use Rattle.dw_forms.specs.AbbrevTables.{tables_in, AreSearchable, AreTablesOf};
 ghost use Rattle.dw_forms.specs.Chains.{chain_in};
+ghost use Rattle.dw_forms.specs.Stops.{IfFault, FailsOrMemory};
 
-use crate::abbrev_fault::{AbbrevFault, DeclError};
 use crate::abbrev_reader::{code_of, read_table, tag_and_children};
 use crate::attribute_lists::AttributeLists;
 use crate::chains::Chains;
 use crate::decl::{Decl, Decls, KeptDecl};
+use crate::fault::{AbbrevFault, DeclFault, Stop};
 use crate::list_reader::KeptLists;
 use crate::offsets::Offsets;
 use std::alloc::Global;
@@ -44,7 +44,7 @@ fn next_at(
     lists: &mut KeptLists,
     section: &[u8],
     offset: usize,
-) -> Result<(Option<Started>, usize), DeclError>
+) -> Result<(Option<Started>, usize), Stop<DeclFault>>
     requires offset { offset ≤ length section.now }
     requires fits { length section.now < 0xffffffff }
     requires lists { AreListsOf section.now lists.old }
@@ -56,7 +56,7 @@ fn next_at(
     ensures start { IfOk result (λ x. IfSome x.0 (λ s. s.start ≡ offset)) }
     ensures behind { IfOk result (λ x. offset < x.1) }
     ensures within { IfOk result (λ x. x.1 ≤ length section.now) }
-    ensures fault { IfErr result (IfBroken (IfNoDecl section.now offset)) }
+    ensures fault { IfErr result (IfFault (λ _. IfNoDecl section.now offset)) }
 {
     let (code, rest) = code_of(&section[offset..])?;
     if code == 0 {
@@ -96,7 +96,7 @@ fn read_front(
     lists: &mut KeptLists,
     section: &[u8],
     offset: usize,
-) -> Result<Front, DeclError>
+) -> Result<Front, Stop<DeclFault>>
     requires offset { offset ≤ length section.now }
     requires fits { length section.now < 0xffffffff }
     requires lists { AreListsOf section.now lists.old }
@@ -107,7 +107,7 @@ fn read_front(
     ensures front { IfOk result
         (λ f. AreBehind lists.new.lists.nodes.items section.now f.decls.items offset f.end) }
     ensures goes_on { IfOk result (λ f. GoesOn section.now starts.now.starts.items f.end f.rest) }
-    ensures fault { IfErr result (IfBroken (NoTable section.now offset)) }
+    ensures fault { IfErr result (IfFault (λ _. NoTable section.now offset)) }
 {
     let mut decls = Vec::new(alloc);
     let mut end = offset;
@@ -149,7 +149,7 @@ fn push(
     lists: &AttributeLists,
     rest: u32,
     decl: KeptDecl,
-) -> Result<Option<u32>, AbbrevFault>
+) -> Result<Option<u32>, Stop<AbbrevFault>>
     requires rest { rest ≤ length kept.old.items }
     requires few { length kept.old.items < 0xffffffff }
     requires coded { AreCoded codes.old.links.items kept.old.items }
@@ -159,7 +159,7 @@ fn push(
     ensures within { OnOk result (AreWithin lists.now.nodes.items kept.new.items) }
     ensures added { IfOk result (Added (kept_view lists.now.nodes.items decl) rest
         (tables_of lists.now.nodes.items kept.old.items) (tables_of lists.now.nodes.items kept.new.items)) }
-    ensures err { IfFault result (λ _. ⊥) }
+    ensures err { IfErr result (IfFault (λ _. ⊥)) }
 {
     if codes.find(rest, decl.code) != 0 {
         return Ok(None);
@@ -189,7 +189,7 @@ fn keep(
     section: &[u8],
     offset: usize,
     front: Front,
-) -> Result<Option<u32>, AbbrevFault>
+) -> Result<Option<u32>, Stop<AbbrevFault>>
     requires coded { AreCoded codes.old.links.items kept.old.items }
     requires within { AreWithin lists.now.nodes.items kept.old.items }
     requires starts { AreStarts section.now (tables_of lists.now.nodes.items kept.old.items) starts.old.starts.items }
@@ -204,7 +204,7 @@ fn keep(
     ensures stay { OnOk result (Stay (tables_of lists.now.nodes.items kept.old.items)
         (tables_of lists.now.nodes.items kept.new.items)) }
     ensures whole { IfOk result (IsWhole section.now (tables_of lists.now.nodes.items kept.new.items) offset) }
-    ensures err { IfFault result (λ _. ⊥) }
+    ensures err { IfErr result (IfFault (λ _. ⊥)) }
 {
     let mut table = front.rest;
     let mut decls = front.decls;
@@ -219,12 +219,12 @@ fn keep(
 }
 
 /// The fault of a table that can't be read.
-fn fault_of_table(alloc: Global, section: &[u8], offset: usize) -> AbbrevFault
+fn fault_of_table(alloc: Global, section: &[u8], offset: usize) -> Stop<AbbrevFault>
     requires offset { offset ≤ length section.now }
     requires none { NoTable section.now offset }
-    ensures broken { IfTableFault (TableFails section.now offset) result }
+    ensures broken { IfFault (TableFails section.now offset) result }
     // For callers that reason by steps.
-    ensures exact { ReadingFails result (table_at section.now offset) }
+    ensures exact { FailsOrMemory result (table_at section.now offset) }
 {
     match read_table(alloc, section, offset) {
         Ok(_) => unreachable!(),
@@ -248,7 +248,12 @@ impl AbbrevTables {
 
     /// Reads the table that begins at an offset of .debug_abbrev, and returns its number. What is kept is not read
     /// again.
-    pub fn read(&mut self, alloc: Global, section: &[u8], offset: usize) -> Result<u32, AbbrevFault>
+    pub fn read(
+        &mut self,
+        alloc: Global,
+        section: &[u8],
+        offset: usize,
+    ) -> Result<u32, Stop<AbbrevFault>>
         requires offset { offset ≤ length section.now }
         requires fits { length section.now < 0xffffffff }
         requires tables { AreTablesOf section.now self.old }
@@ -257,15 +262,15 @@ impl AbbrevTables {
         ensures fewer { IfOk result (λ table. length (table_in (tables_in self.new) table) < length section.now) }
         ensures tables { OnOk result (AreTablesOf section.now self.new) }
         ensures stay { OnOk result (Stay (tables_in self.old) (tables_in self.new)) }
-        ensures fault { IfErr result (IfTableFault (TableFails section.now offset)) }
+        ensures fault { IfErr result (IfFault (TableFails section.now offset)) }
         // For callers that reason by steps.
-        ensures exact { IfErr result (λ e. ReadingFails e (table_at section.now offset)) }
+        ensures exact { IfErr result (λ e. FailsOrMemory e (table_at section.now offset)) }
     {
         self.starts.enter_from(offset)?;
         let front = match read_front(alloc, &self.starts, &mut self.lists, section, offset) {
             Ok(front) => front,
-            Err(DeclError::Memory) => return Err(AbbrevFault::Memory),
-            Err(DeclError::Fault(_)) => return Err(fault_of_table(alloc, section, offset)),
+            Err(Stop::Memory) => return Err(Stop::Memory),
+            Err(Stop::Fault(_)) => return Err(fault_of_table(alloc, section, offset)),
         };
         match keep(
             &mut self.kept,

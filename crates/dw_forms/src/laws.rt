@@ -4,7 +4,7 @@ ghost use Rattle.std.specs.Prelude.{◌≡◌, ◌++◌, ◌≤◌, ℕ, ℤ, Li
 ghost use Rattle.dw_forms.specs.declared.leb.NumberFault.{NumberFault as AnyNumberFault};
 ghost use Rattle.dw_forms.specs.declared.value.ValueFault.{ValueFault as AnyValueFault};
 ghost use Rattle.dw_forms.specs.declared.form.Form.{Form as AnyForm};
-ghost use Rattle.dw_forms.specs.declared.abbrev_fault.BrokenTable.{BrokenTable as AnyBrokenTable};
+ghost use Rattle.dw_forms.specs.declared.fault.AbbrevFault.{AbbrevFault as AnyBrokenTable};
 ghost use Rattle.dw_forms.specs.declared.decl.AttributeSpec.{AttributeSpec as AnyAttributeSpec};
 ghost use Rattle.dw_forms.specs.Sizes.{fixed_sum, ValuesEnd};
 ghost use Rattle.dw_forms.specs.Abbrev.{Declaration, Decls, TableFails};

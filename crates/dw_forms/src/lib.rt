@@ -2,7 +2,6 @@
 #![tactic(auto)]
 
 mod abbrev;
-mod abbrev_fault;
 mod abbrev_reader;
 mod abbrev_tables;
 mod attribute_lists;
@@ -10,6 +9,7 @@ mod attributes;
 mod chains;
 pub mod constants;
 mod decl;
+mod fault;
 mod form;
 mod laws;
 mod layout_reader;
@@ -20,13 +20,13 @@ mod value;
 mod value_reader;
 
 pub use abbrev::{AbbrevTable, TableDecl};
-pub use abbrev_fault::{AbbrevFault, AbbrevRule, BrokenTable};
 pub use abbrev_reader::read_table;
 pub use abbrev_tables::AbbrevTables;
 pub use attribute_lists::{AttributeLists, Node, Step};
 pub use attributes::Attributes;
 pub use constants::{Attribute, Language, Tag};
 pub use decl::{AttributeSpec, Decl, Decls, KeptDecl};
+pub use fault::{AbbrevFault, AbbrevRule, Stop};
 pub use form::Form;
 pub use laws::{
     fixed_values_take_their_sum, signed_numbers_are_apart, tables_are_apart,

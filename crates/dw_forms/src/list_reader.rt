@@ -1,16 +1,16 @@
 //! Reading the lists of attributes of a section that were not read before (DWARF 5, 7.5.3).
 
 ghost use Rattle.std.specs.Prelude.{◌≡◌, ◌<◌, ◌≤◌, ℕ, List, [], length, drop, IfOk, IfErr, OnOk};
-ghost use Rattle.dw_forms.specs.AbbrevReading.{GivesOrMemory, pair_at};
+ghost use Rattle.dw_forms.specs.AbbrevReading.{pair_at};
 ghost use Rattle.dw_forms.specs.ListOffsets.{IsListAt, ArePlaced, AreListsOf, AreNew, NoListAt, Leads, StayNodes};
 ghost use Rattle.dw_forms.specs.Offsets.{AreKnownFrom};
-ghost use Rattle.dw_forms.specs.TableStarts.{IfBroken};
+ghost use Rattle.dw_forms.specs.Stops.{IfFault, GivesOrMemory};
 
-use crate::abbrev_fault::{AbbrevRule, DeclError};
 use crate::abbrev_reader::{fault, form_with_number, pair_of};
 use crate::attribute_lists::AttributeLists;
 use crate::constants::Attribute;
 use crate::decl::AttributeSpec;
+use crate::fault::{AbbrevRule, DeclFault, Stop};
 use crate::offsets::Offsets;
 use std::alloc::Global;
 
@@ -42,7 +42,10 @@ pub struct KeptLists {
 
 /// The attribute at an offset, and the offset after it; or none at the pair 0, 0. An attribute may be there twice.
 #[tactic(auto, using(crate::proofs::AbbrevSteps::pair_by))]
-fn next_pair(section: &[u8], offset: usize) -> Result<(Option<AttributeSpec>, usize), DeclError>
+fn next_pair(
+    section: &[u8],
+    offset: usize,
+) -> Result<(Option<AttributeSpec>, usize), Stop<DeclFault>>
     requires { offset ≤ length section.now }
     ensures exact { GivesOrMemory (λ x. (x.0, drop x.1 section.now)) result (pair_at [] (drop offset section.now)) }
     ensures rises { IfOk result (λ x. offset < x.1) }
@@ -61,8 +64,8 @@ fn next_pair(section: &[u8], offset: usize) -> Result<(Option<AttributeSpec>, us
 }
 
 /// The fault of a list that has an attribute twice.
-fn twice(spec: &AttributeSpec) -> DeclError
-    ensures { result ≡ DeclError.Fault (record { rule = AbbrevRule.AttributeTwice; attribute = spec.now.attribute }) }
+fn twice(spec: &AttributeSpec) -> Stop<DeclFault>
+    ensures { result ≡ Stop.Fault (record { rule = AbbrevRule.AttributeTwice; attribute = spec.now.attribute }) }
 {
     fault(AbbrevRule::AttributeTwice, spec.attribute.0)
 }
@@ -76,14 +79,14 @@ fn read_pairs(
     ends: &[u32],
     section: &[u8],
     offset: usize,
-) -> Result<ReadList, DeclError>
+) -> Result<ReadList, Stop<DeclFault>>
     requires none { pairs.old.items ≡ [] }
     requires offset { offset ≤ length section.now }
     requires placed { ArePlaced section.now lists.now.nodes.items starts.now.starts.items ends.now }
     requires known { AreKnownFrom offset starts.now.starts.items starts.now.numbers.items }
     ensures leads { IfOk result (Leads section.now lists.now.nodes.items pairs.new.items offset) }
     ensures new { OnOk result (AreNew starts.now.starts.items pairs.new.items) }
-    ensures fault { IfErr result (IfBroken (NoListAt section.now offset)) }
+    ensures fault { IfErr result (IfFault (λ _. NoListAt section.now offset)) }
 {
     let mut at = offset;
     loop {
@@ -118,7 +121,7 @@ fn keep_pairs(
     section: &[u8],
     offset: usize,
     rest: ReadList,
-) -> Result<ReadList, DeclError>
+) -> Result<ReadList, Stop<DeclFault>>
     requires leads { Leads section.now lists.old.nodes.items pairs.old.items offset rest }
     requires placed { ArePlaced section.now lists.old.nodes.items starts.old.starts.items ends.old.items }
     requires new { AreNew starts.old.starts.items pairs.old.items }
@@ -127,7 +130,7 @@ fn keep_pairs(
     ensures placed { OnOk result
         (ArePlaced section.now lists.new.nodes.items starts.new.starts.items ends.new.items) }
     ensures stay { OnOk result (StayNodes lists.old.nodes.items lists.new.nodes.items) }
-    ensures fault { IfErr result (IfBroken (NoListAt section.now offset)) }
+    ensures fault { IfErr result (IfFault (λ _. NoListAt section.now offset)) }
 {
     let mut first = rest.first;
     while let Some(Pair { at, spec }) = pairs.pop() {
@@ -166,7 +169,11 @@ impl KeptLists {
     }
 
     /// Reads the list of attributes that begins at an offset. Attributes that are kept are not read again.
-    pub(crate) fn read(&mut self, section: &[u8], offset: usize) -> Result<ReadList, DeclError>
+    pub(crate) fn read(
+        &mut self,
+        section: &[u8],
+        offset: usize,
+    ) -> Result<ReadList, Stop<DeclFault>>
         requires offset { offset ≤ length section.now }
         requires fits { length section.now < 0xffffffff }
         requires lists { AreListsOf section.now self.old }
@@ -174,7 +181,7 @@ impl KeptLists {
             (λ list. IsListAt section.now self.new.lists.nodes.items offset list.first list.end) }
         ensures lists { OnOk result (AreListsOf section.now self.new) }
         ensures stay { OnOk result (StayNodes self.old.lists.nodes.items self.new.lists.nodes.items) }
-        ensures fault { IfErr result (IfBroken (NoListAt section.now offset)) }
+        ensures fault { IfErr result (IfFault (λ _. NoListAt section.now offset)) }
     {
         self.starts.enter_from(offset)?;
         self.pairs.clear();

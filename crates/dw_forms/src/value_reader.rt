@@ -101,7 +101,7 @@ fn indirect(version: u16, address_size: u8, bytes: &[u8]) -> Result<(Value<'_>, 
     Ok((value, before + len))
 }
 
-/// The value of any form, and how many bytes it has. Most values that are asked are offsets of strings, references
+/// The value of any form, and how many bytes it has. Most values that are read are offsets of strings, references
 /// within a unit and numbers of one byte, which are read in place.
 #[inline(always)]
 #[tactic(auto, unfolding(crate::specs::ValueReading::layout_at))]

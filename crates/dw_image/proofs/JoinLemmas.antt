@@ -99,7 +99,7 @@ one_in_groups s group later fault other p q =
       | inr more ↦ absurd (no_earlier s later group other fault q p more)
     ]
 
--- the trees fail, or a group of rules behind them
+-- the trees fail, or a group of rules after them
 apart : (s : Sections) (group : Group) (fault other : Fault) → FailsInTrees s (broken_of fault) → FailsInGroup s group other → ⊥
 apart s group fault other p q = no_list s.«abbrev».now s.info.now q.units (broken_of fault) q.spelled p
 

@@ -2,7 +2,7 @@
 use Rattle.std.proofs.Common.{◌≡◌, ℕ, ◌⊎◌, List, Option, Some, sym, ap, ◌∙◌, arith, subst, inl, inr}
 use Rattle.std.specs.Prelude.{slice_get}
 use Rattle.dw_forms.specs.Value.{Datum}
-use Rattle.dw_entries.specs.declared.rule.Rule.{Rule}
+use Rattle.dw_entries.specs.declared.fault.Rule.{Rule}
 use Rattle.dw_entries.specs.declared.fault.Section.{Section}
 use Rattle.dw_entries.specs.declared.fault.Broken.{Broken}
 use Rattle.dw_entries.specs.Rules.{number_of}
@@ -82,7 +82,7 @@ place_of (at_attribute at k) = (at, k)
 same_some : {X : Type 0} (o : Option X) (x y : X) → o ≡ Some x → o ≡ Some y → x ≡ y
 same_some o x y p q = cc
 
--- where entries stand in rising offset, one entry stands at an offset
+-- where entries are in rising offset, one entry is at an offset
 one_number : (entries : List Entry) → OffsetsRise entries → (i j : ℕ) (d e : Entry) → slice_get entries i ≡ Some d → slice_get entries j ≡ Some e → d.at ≡ e.at → i ≡ j
 one_number entries rise i j d e is_d is_e same =
     elim (three_ways i j) [
@@ -91,7 +91,7 @@ one_number entries rise i j d e is_d is_e same =
       | inr more ↦ absurd (let p = rise j i e d more is_e is_d in omega (arith, p, same))
     ]
 
--- of entries in rising offset, one attribute stands at a place
+-- of entries in rising offset, one attribute is at a place
 pub one_attribute : (entries : List Entry) (Fails : Entry → ℕ → Datum → Rule → Type 0) → OffsetsRise entries
     → (f g : Failure) → AtEntries entries (AtAttributes Fails) f → AtEntries entries (AtAttributes Fails) g → f.place ≡ g.place → f.attribute ≡ g.attribute
 one_attribute entries Fails rise f g p q here =

@@ -8,12 +8,12 @@ use Rattle.dw_elf.specs.declared.sections.Sections.{Sections}
 use Rattle.dw_elf.specs.Elf.{number_at}
 use Rattle.dw_forms.specs.Codes.{DW_AT_str_offsets_base, DW_AT_addr_base}
 use Rattle.dw_forms.specs.Value.{Datum, str, line_str, str_index, sec_offset, addr_index}
-use Rattle.dw_entries.specs.declared.rule.Rule.TheVariants.{WrongClass, BadStrBase, StrIndex, StringEnd, BadAddrBase, AddrIndex}
+use Rattle.dw_entries.specs.declared.fault.Rule.TheVariants.{WrongClass, BadStrBase, StrIndex, StringEnd, BadAddrBase, AddrIndex}
 use Rattle.dw_entries.specs.Header.{version_of}
 use Rattle.dw_entries.specs.Units.{DebugUnit}
 use Rattle.dw_entries.specs.Places.{at_attribute}
 use Rattle.dw_entries.specs.Failures.{HasNone}
-use Rattle.dw_entries.specs.declared.rule.Rule.{Rule}
+use Rattle.dw_entries.specs.declared.fault.Rule.{Rule}
 use Rattle.dw_entries.specs.Entries.{Entry, entries_of, PlacedUnit, placed}
 use Rattle.dw_entries.specs.Lookups.{entry_head, value_in, value_at_entry}
 use Rattle.dw_entries.specs.Asked.{HasAttribute, values_of}
@@ -126,7 +126,7 @@ contribution_or_not section slot mark base =
 sure : {P : Type 0} → Decided P → ((P → ⊥) → ⊥) → P
 sure d not_not = elim d [ inl p ↦ p | inr against ↦ absurd (not_not against) ]
 
--- ---- the value of an attribute stands at a position
+-- ---- the value of an attribute is at a position
 
 abbrev At : List (ℕ × Datum) → ℕ → Datum → Type 0
 At values attribute v = (position : ℕ) × (slice_get values position ≡ Some (attribute, v))
@@ -154,7 +154,7 @@ in_section_offset (Some _) base is = absurd (none_is is)
     none_is : None ≡ Some base → ⊥
     none_is same = cc
 
--- a base that a unit names stands on its first entry
+-- a base that a unit names is an attribute of its first entry
 base_stands : (entries : List Entry) (unit : PlacedUnit) (attribute base : ℕ) (first : Entry) → slice_get entries unit.first ≡ Some first → base_in entries unit attribute ≡ Some base
     → (version_of unit.unit.header.kind ≢ 4) × At (values_of first.head) attribute (sec_offset base)
 base_stands entries unit attribute base first is named = go (version_of unit.unit.header.kind == 4) refl

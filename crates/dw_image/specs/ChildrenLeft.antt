@@ -2,7 +2,7 @@
 use Rattle.std.specs.Prelude.{ℕ, List}
 use Rattle.dw_entries.specs.Entries.{entries_of}
 use Rattle.dw_entries.specs.Scanned.{units_of}
-use Rattle.dw_image.specs.declared.lookup.Children.{Children}
+use Rattle.dw_image.specs.declared.image.Children.{Children}
 use Rattle.dw_types.specs.Children.{siblings_from}
 
 -- the numbers of the children that are left

@@ -1,7 +1,7 @@
-//! The image of valid sections, and how much it holds.
+//! The image of valid sections, how much it holds, and look-ups of its entries.
 
-ghost use Rattle.std.specs.Prelude.{◌≡◌};
-ghost use Rattle.dw_entries.specs.Scanned.{units_of};
+ghost use Rattle.std.specs.Prelude.{◌≡◌, ◌<◌, length, slice_get, IfSome, option_map, option_copied};
+ghost use Rattle.dw_entries.specs.Scanned.{units_of, all_entries};
 ghost use Rattle.dw_entries.specs.Failures.{HasNone};
 ghost use Rattle.dw_entries.specs.Views.{sections_of};
 ghost use Rattle.dw_links.specs.Classes.{ClassFailures};
@@ -11,11 +11,21 @@ ghost use Rattle.dw_links.specs.Tables.{AreTables};
 ghost use Rattle.dw_types.specs.FactsOf.{facts_in};
 ghost use Rattle.dw_types.specs.UnitsRead.{all_unit_facts};
 ghost use Rattle.dw_image.specs.Measures.{AreMeasures, AreSteps};
+ghost use Rattle.dw_forms.specs.Value.{view};
+ghost use Rattle.dw_entries.specs.Lookups.{nth_of, full_head, value_at_entry};
+ghost use Rattle.dw_entries.specs.Entries.{placed};
+ghost use Rattle.dw_links.specs.Slots.{IsPlace};
+ghost use Rattle.dw_links.specs.Targets.{target_of};
+ghost use Rattle.dw_links.specs.ValueTexts.{text_there};
+ghost use Rattle.dw_types.specs.Children.{children_of, IsChild};
+ghost use Rattle.dw_image.specs.Images.{units_in, entries_in, name_in, sections_in};
+ghost use Rattle.dw_image.specs.Lookups.{entry_at};
 
 use dw_elf::Sections;
-use dw_entries::Entries;
-use dw_links::LinkTables;
-use dw_types::{ByValue, SizeTable, UnitFacts};
+use dw_entries::constants::DW_AT_name;
+use dw_entries::{Attribute, Entries, EntryId, Head, Tag, Value};
+use dw_links::{LinkTables, TextPlace};
+use dw_types::{ByValue, SizeTable, UnitFacts, first_child};
 
 /// The image of valid sections. Only `verify` makes one.
 #[derive(Drop)]
@@ -68,5 +78,153 @@ impl<'a> Image<'a> {
         ensures { result ≡ type_count self.now }
     {
         self.steps.types()
+    }
+}
+
+impl<'a> Image<'a> {
+    /// The entries of the image, as they were scanned.
+    pub fn scanned(&self) -> &Entries<'a>
+        ensures { result.now ≡ self.now.entries }
+    {
+        &self.entries
+    }
+
+    /// The entry that starts at this offset of .debug_info.
+    #[tactic(auto, unfolding(crate::specs::Images::units_in))]
+    pub fn entry(&self, offset: u32) -> Option<EntryId>
+        ensures exact { result ≡ entry_at (entries_in self.now) offset }
+        ensures within { IfSome result (λ id. id < length (entries_in self.now)) }
+    {
+        self.entries.find(offset)
+    }
+
+    /// The entry with this number. Entries are numbered from 0 in rising offset.
+    #[tactic(auto, unfolding(crate::specs::Images::units_in))]
+    pub fn nth(&self, k: usize) -> Option<EntryId>
+        ensures exact { result ≡ nth_of (entries_in self.now) k }
+        ensures within { IfSome result (λ id. id < length (entries_in self.now)) }
+    {
+        self.entries.nth(k)
+    }
+
+    /// What is known of an entry besides its attributes. Its depth is counted: each entry above it is looked at.
+    #[tactic(auto, unfolding(crate::specs::Images::units_in))]
+    pub fn head(&self, id: EntryId) -> Head
+        requires { id < length (entries_in self.now) }
+        ensures { IfSome (slice_get (entries_in self.now) id) (λ e. result ≡ full_head e) }
+    {
+        self.entries.head(id)
+    }
+
+    /// The offset of an entry in .debug_info, in bytes.
+    #[tactic(auto, unfolding(crate::specs::Images::units_in))]
+    pub fn offset(&self, id: EntryId) -> u32
+        requires { id < length (entries_in self.now) }
+        ensures { IfSome (slice_get (entries_in self.now) id) (λ e. result ≡ e.at) }
+    {
+        self.entries.offset(id)
+    }
+
+    /// The tag of an entry.
+    #[tactic(auto, unfolding(crate::specs::Images::units_in))]
+    pub fn tag(&self, id: EntryId) -> Tag
+        requires { id < length (entries_in self.now) }
+        ensures { IfSome (slice_get (entries_in self.now) id) (λ e. result ≡ e.head.decl.tag) }
+    {
+        self.entries.tag(id)
+    }
+
+    /// The parent of an entry. None at the first entry of a unit.
+    #[tactic(auto, unfolding(crate::specs::Images::units_in))]
+    pub fn parent(&self, id: EntryId) -> Option<EntryId>
+        requires { id < length (entries_in self.now) }
+        ensures { IfSome (slice_get (entries_in self.now) id) (λ e. result ≡ e.parent) }
+    {
+        self.entries.parent(id)
+    }
+
+    /// The value of an entry's attribute, if it has that attribute.
+    #[tactic(auto, unfolding(crate::specs::Images::units_in))]
+    pub fn value(&self, id: EntryId, attribute: Attribute) -> Option<Value<'a>>
+        requires { id < length (entries_in self.now) }
+        ensures { IfSome (slice_get (entries_in self.now) id)
+            (λ e. option_map view result ≡ value_at_entry e attribute) }
+    {
+        self.entries.value(id, attribute)
+    }
+
+    /// The entry that an entry's attribute refers to. None if the attribute is absent or not a reference.
+    #[tactic(auto, unfolding(crate::specs::Images::units_in))]
+    pub fn target(&self, id: EntryId, attribute: Attribute) -> Option<EntryId>
+        requires { id < length (entries_in self.now) }
+        ensures exact { IfSome (slice_get (entries_in self.now) id)
+            (λ e. result ≡ target_of (entries_in self.now) (placed (units_in self.now)) e attribute) }
+        ensures within { IfSome result (λ to. to < length (entries_in self.now)) }
+    {
+        self.tables.target(&self.entries, id, attribute)
+    }
+
+    /// Where the text of an entry's DW_AT_name is. None if the entry has no name.
+    #[tactic(auto, unfolding(crate::specs::Images::units_in))]
+    pub fn name_place(&self, id: EntryId) -> Option<TextPlace>
+        requires { id < length (entries_in self.now) }
+        ensures text { IfSome (slice_get (entries_in self.now) id)
+            (λ e. option_map (text_there (sections_in self.now)) result ≡ name_in self.now e) }
+        ensures within { IfSome result (IsPlace (sections_in self.now)) }
+    {
+        self.tables.text_place(&self.entries, id, DW_AT_name)
+    }
+
+    /// The text of an entry's DW_AT_name, without its closing zero byte. None if the entry has no name.
+    #[tactic(auto, unfolding(crate::specs::Images::units_in))]
+    pub fn name_of(&self, id: EntryId) -> Option<&'a [u8]>
+        requires { id < length (entries_in self.now) }
+        ensures { IfSome (slice_get (entries_in self.now) id) (λ e. option_copied result ≡ name_in self.now e) }
+    {
+        self.tables.text(&self.entries, id, DW_AT_name)
+    }
+}
+
+/// The children of an entry that are left, in rising offset.
+#[derive(Drop)]
+pub struct Children<'i, 'a> {
+    entries: &'i Entries<'a>,
+    parent: EntryId,
+    next: Option<EntryId>,
+    ghost linked: { IsChild (all_entries entries.now.scanned) parent next },
+}
+
+impl<'i, 'a> Iterator for Children<'i, 'a> {
+    type Item = EntryId;
+
+    ghost use Rattle.std.specs.Iterator.{YieldsFirst, item_count};
+    ghost use Rattle.dw_image.specs.ChildrenLeft.{children_left};
+
+    ghost next_gives = { YieldsFirst children_left };
+
+    ghost remaining = { item_count children_left };
+
+    fn next(&mut self) -> Option<EntryId> {
+        let id = self.next?;
+        self.next = self.entries.next_sibling(id);
+        Some(id)
+    }
+}
+
+impl<'a> Image<'a> {
+    ghost use Rattle.dw_image.specs.Images.{entries_in};
+    ghost use Rattle.dw_image.specs.ChildrenLeft.{children_left};
+
+    /// The children of an entry, in rising offset.
+    #[tactic(auto, unfolding(crate::specs::Images::units_in))]
+    pub fn children(&self, id: EntryId) -> Children<'_, 'a>
+        requires { id < length (entries_in self.now) }
+        ensures { children_left result ≡ children_of (entries_in self.now) id }
+    {
+        Children {
+            entries: &self.entries,
+            parent: id,
+            next: first_child(&self.entries, id),
+        }
     }
 }

@@ -3,7 +3,7 @@
 
 ghost use Rattle.std.specs.Prelude.{◌≡◌, ◌<◌, length, map, IfOk, IfErr};
 ghost use Rattle.dw_entries.specs.Scanned.{all_entries, units_of};
-ghost use Rattle.dw_entries.specs.Stopped.{IfFaulty};
+ghost use Rattle.dw_forms.specs.Stops.{IfFault};
 ghost use Rattle.dw_entries.specs.Views.{sections_of};
 ghost use Rattle.dw_types.specs.FactsOf.{facts_in};
 ghost use Rattle.dw_types.specs.Graphs.{IsCycle};
@@ -73,10 +73,10 @@ fn cycle_fault(alloc: Global, entries: &Entries<'_>, numbers: &[usize]) -> Resul
 }
 
 /// The steps by value of entries and their sizes, or the first fault of the rules on types.
-fn measure(alloc: Global, links: &Links<'_, '_>) -> Result<(ByValue, SizeTable), Stop>
+fn measure(alloc: Global, links: &Links<'_, '_>) -> Result<(ByValue, SizeTable), Stop<Fault>>
     ensures steps { IfOk result (λ found. AreSteps (all_facts links.now) found.0) }
     ensures sizes { IfOk result (λ found. AreMeasures (all_facts links.now) found.1) }
-    ensures fault { IfErr result (IfFaulty
+    ensures fault { IfErr result (IfFault
         (FailsInTypes (sections_of links.now.entries.now) (units_held links.now))) }
 {
     let steps = ByValue::new(alloc, links)?;
@@ -93,9 +93,9 @@ fn measure(alloc: Global, links: &Links<'_, '_>) -> Result<(ByValue, SizeTable),
 }
 
 /// Checks the groups of rules in their order.
-fn image_of<'a>(alloc: Global, sections: Sections<'a>) -> Result<Image<'a>, Stop>
+fn image_of<'a>(alloc: Global, sections: Sections<'a>) -> Result<Image<'a>, Stop<Fault>>
     ensures sound { IfOk result (IsImageOf sections.entry) }
-    ensures fault { IfErr result (IfFaulty (IsFaultOf sections.entry)) }
+    ensures fault { IfErr result (IfFault (IsFaultOf sections.entry)) }
 {
     let entries = scan(alloc, &sections)?;
     let links = link(alloc, &entries)?;

@@ -14,10 +14,10 @@ use Rattle.dw_forms.specs.Value.{Datum, Val}
 use Rattle.dw_forms.specs.Walks.{may_lead}
 use Rattle.dw_forms.specs.Plans.{not_flags, not_constants, stops_in}
 use Rattle.dw_entries.specs.declared.lookup.EntryHead.{EntryHead}
-use Rattle.dw_entries.specs.declared.rule.Rule.{Rule}
+use Rattle.dw_entries.specs.declared.fault.Rule.{Rule}
 use Rattle.dw_entries.specs.Entries.{Entry, PlacedUnit, entries_of, placed}
 use Rattle.dw_entries.specs.Leading.{DoesNotLead}
-use Rattle.dw_entries.specs.declared.rule.Rule.TheVariants.{WrongClass}
+use Rattle.dw_entries.specs.declared.fault.Rule.TheVariants.{WrongClass}
 use Rattle.dw_entries.specs.declared.lookup.UnitHead.{UnitHead}
 use Rattle.dw_entries.specs.Header.{version_of}
 use Rattle.dw_entries.specs.Units.{DebugUnit, Spells}

@@ -7,8 +7,8 @@ use Rattle.std.specs.BTreeMap.{BTreeMap, get, is_at}
 use Rattle.dw_forms.specs.Codes.{is_type_tag}
 use Rattle.dw_entries.specs.Entries.{Entry, PlacedUnit, node_count, placed_from, placed}
 use Rattle.dw_entries.proofs.Firsts.{same_some, first_of_list, more_of_list, none_of_list}
-use Rattle.dw_entries.specs.declared.rule.Rule.{Rule}
-use Rattle.dw_entries.specs.declared.rule.Rule.TheVariants.{SignatureTwice, BadTypeOffset}
+use Rattle.dw_entries.specs.declared.fault.Rule.{Rule}
+use Rattle.dw_entries.specs.declared.fault.Rule.TheVariants.{SignatureTwice, BadTypeOffset}
 use Rattle.dw_entries.specs.declared.fault.Broken.{Broken}
 use Rattle.dw_entries.specs.declared.header.HeaderKind.{HeaderKind}
 use Rattle.dw_entries.specs.declared.header.HeaderKind.TheVariants.{Version4, CompileUnit, PartialUnit, TypeUnit}

@@ -1,4 +1,4 @@
--- The values of an entry that may lead elsewhere, one behind the other: at which no rule fails, and the entry that the
+-- The values of an entry that may lead elsewhere, one after the other: at which no rule fails, and the entry that the
 -- entry's type reaches.
 use Rattle.std.proofs.Common.{◌≡◌, ℕ, suc, Bool, true, false, List, [], ◌∷◌, ◌++◌, Option, Some, None, refl, sym, ap, ◌∙◌, append_assoc}
 use Rattle.std.specs.Prelude.{◌==◌, option_map}
@@ -52,7 +52,7 @@ pub record Keeps (reach : Datum → Option ℕ) (items left : List (ℕ × Datum
   pub parts : items ≡ done ++ left
   pub is_kept : kept ≡ option_map reach (value_in done DW_AT_type)
 
--- behind one attribute more
+-- after one attribute more
 keeps_more : (reach : Datum → Option ℕ) (items left behind : List (ℕ × Datum)) (kept : Option (Option ℕ)) (a : ℕ) (v : Datum) → Keeps reach items left kept → IsNextOf DoesNotLead left (a, v) behind → Keeps reach items behind (kept_after kept a (reach v))
 keeps_more reach items left behind kept a v k n = record {
   done = k.done ++ (n.passed ++ (a, v) ∷ []);

@@ -1,10 +1,10 @@
--- The attributes of an entry that rules are asked of, one behind the other.
+-- The attributes of an entry that rules are asked of, one after the other.
 use Rattle.std.proofs.Common.{◌≡◌, ℕ, zero, suc, ◌<◌, List, [], ◌∷◌, ◌++◌, length, Some, refl, sym, ap, ◌∙◌, subst, arith, append_assoc, length-append}
 use Rattle.std.specs.Prelude.{slice_get}
 use Rattle.dw_forms.specs.declared.decl.AttributeSpec.{AttributeSpec}
 use Rattle.dw_forms.specs.Value.{Datum}
 use Rattle.dw_entries.specs.declared.lookup.EntryHead.{EntryHead}
-use Rattle.dw_entries.specs.declared.rule.Rule.{Rule}
+use Rattle.dw_entries.specs.declared.fault.Rule.{Rule}
 use Rattle.dw_entries.specs.declared.fault.Broken.{Broken}
 use Rattle.dw_entries.specs.declared.fault.Section.TheVariants.{Info}
 use Rattle.dw_entries.specs.Asked.{values_of}
@@ -17,13 +17,13 @@ use Rattle.dw_links.specs.Concerns.{Rules, AtHead, Passes}
 
 -- ---- lists
 
--- what stands in the front of joined lists
+-- what is in the front of joined lists
 pub front_get : {X : Type 0} (xs ys : List X) (j : ℕ) (x : X) → j < length xs → slice_get (xs ++ ys) j ≡ Some x → slice_get xs j ≡ Some x
 front_get [] ys j x lt is = absurd (omega (arith, lt))
 front_get (y ∷ xs) ys zero x lt is = is
 front_get (y ∷ xs) ys (suc j) x lt is = front_get xs ys j x (omega (arith, lt)) is
 
--- what stands between them
+-- what is between them
 pub between_get : {X : Type 0} (xs ys : List X) (x : X) → slice_get (xs ++ x ∷ ys) (length xs) ≡ Some x
 between_get [] ys x = refl
 between_get (y ∷ xs) ys x = between_get xs ys x

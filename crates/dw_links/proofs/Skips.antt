@@ -21,7 +21,7 @@ pub found : (o : Option Entry) → IsSome o → (e : Entry) × (o ≡ Some e)
 found None is = absurd cc
 found (Some e) is = (e, refl)
 
--- what stands at a place of a list
+-- what is at a place of a list
 pub there : {X : Type 0} (xs : List X) (k : ℕ) → k < length xs → (x : X) × (slice_get xs k ≡ Some x)
 there [] k below = absurd (omega arith)
 there (x ∷ xs) zero below = (x, refl)

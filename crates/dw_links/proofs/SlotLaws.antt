@@ -6,8 +6,8 @@ use Rattle.std.proofs.lemmas.Bool.{eqb-true}
 use Rattle.dw_elf.specs.declared.sections.Sections.{Sections}
 use Rattle.dw_forms.specs.Codes.{DW_AT_str_offsets_base, DW_AT_addr_base}
 use Rattle.dw_forms.specs.Value.{Datum, address, block, unsigned, signed, wide, text, flag, str, line_str, str_index, ref_info, ref_unit, ref_sig, sec_offset, expr, addr_index, loc_index, rng_index}
-use Rattle.dw_entries.specs.declared.rule.Rule.{Rule}
-use Rattle.dw_entries.specs.declared.rule.Rule.TheVariants.{BadStrBase, StrIndex, StringEnd, BadAddrBase, AddrIndex}
+use Rattle.dw_entries.specs.declared.fault.Rule.{Rule}
+use Rattle.dw_entries.specs.declared.fault.Rule.TheVariants.{BadStrBase, StrIndex, StringEnd, BadAddrBase, AddrIndex}
 use Rattle.dw_entries.specs.declared.header.UnitHeader.{UnitHeader}
 use Rattle.dw_entries.specs.Header.{IsSize, version_of}
 use Rattle.dw_entries.specs.Units.{DebugUnit}
@@ -46,7 +46,7 @@ found_value ((code, value) ∷ values) attribute v is = go (code == attribute) r
         record { position = 0; here = rw (same, one) refl }
     go false fails e more = let rest = more e in record { position = suc rest.position; here = rest.here }
 
--- an attribute of an entry stands at a position
+-- an attribute of an entry is at a position
 pub stands_at : (e : Entry) (attribute : ℕ) (v : Datum) → value_at_entry e attribute ≡ Some v → Stands (values_of e.head) attribute v
 stands_at e = found_value (values_of e.head)
 

@@ -34,7 +34,7 @@ target_within entries units e attribute t is =
     let (target, stands) = reached_entry entries units e.unit v t gives in
     slice_get_within entries t target stands)
 
--- what stands at the entry's number
+-- what is at the entry's number
 pub type_found : (entries : List Entry) (units : List PlacedUnit) (items : List (Option ℕ)) (id : ℕ) (e : Entry) (found : Option ℕ) → items ≡ map (type_target entries units) entries → slice_get entries id ≡ Some e
     → found ≡ get_or items id found → found ≡ type_target entries units e
 type_found entries units items id e found all is read =

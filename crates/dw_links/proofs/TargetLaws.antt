@@ -39,7 +39,7 @@ position_at test (y ∷ xs) from (suc i) x is passes before =
 pub position_is : {X : Type 0} (test : X → Bool) (xs : List X) (i : ℕ) → IsFirstAt test xs i → position_from test 0 xs ≡ Some i
 position_is test xs i first = position_at test xs 0 i first.item first.is_item first.passes first.before ∙ ap Some (let z : 0 + i ≡ i = omega arith in z)
 
--- behind an item that fails the test
+-- after an item that fails the test
 behind : {X : Type 0} (test : X → Bool) (x : X) (xs : List X) (i : ℕ) → test x ≡ false → IsFirstAt test xs i → IsFirstAt test (x ∷ xs) (suc i)
 behind {X} test x xs i fails first = record { item = first.item; is_item = first.is_item; passes = first.passes; before = before }
   where

@@ -9,7 +9,7 @@ use Rattle.memchr.specs.Find.{NoneBefore, Nowhere, Passes, is_byte}
 use Rattle.dw_entries.specs.Lookups.{IsTextAt}
 use Rattle.dw_links.specs.Contributions.{string_at}
 
--- what stands before a first zero byte
+-- what is before a first zero byte
 pub take_before_first : (xs : List ℕ) (k : ℕ) → NoneBefore (Passes (is_byte 0) xs) 0 (length xs) k → Passes (is_byte 0) xs k → take k xs ≡ before_first (λ b. b == 0) xs
 take_before_first xs k none here =
     let is_k : position_or_len (λ b. b == 0) xs ≡ k =

@@ -6,11 +6,12 @@ use Rattle.std.specs.BTreeMap.{BTreeMap}
 use Rattle.dw_elf.specs.declared.sections.Sections.{Sections}
 use Rattle.dw_forms.specs.Value.{Datum}
 use Rattle.dw_entries.specs.declared.fault.Broken.{Broken}
-use Rattle.dw_entries.specs.declared.fault.Stop.{Stop}
-use Rattle.dw_entries.specs.declared.fault.Stop.TheVariants.{Memory, Fault}
+use Rattle.dw_entries.specs.declared.fault.Fault.{Fault as FaultOf}
+use Rattle.dw_forms.specs.declared.fault.Stop.{Stop}
+use Rattle.dw_forms.specs.declared.fault.Stop.TheVariants.{Memory, Fault}
 use Rattle.dw_entries.specs.Failures.{broken_of, Failure, HasNone, IsFirst}
-use Rattle.dw_entries.specs.Stopped.{IfFault}
-use Rattle.dw_entries.specs.declared.rule.Rule.{Rule}
+use Rattle.dw_entries.specs.Stopped.{IfPlainFault}
+use Rattle.dw_entries.specs.declared.fault.Rule.{Rule}
 use Rattle.dw_entries.specs.declared.lookup.EntryHead.{EntryHead}
 use Rattle.dw_entries.specs.Entries.{Entry, PlacedUnit}
 use Rattle.dw_entries.specs.Lookups.{entry_head}
@@ -35,7 +36,7 @@ use Rattle.dw_links.specs.SignedTypes.{HasSignedTypes, AreTyped}
 use Rattle.dw_links.specs.Tables.{type_target}
 
 -- what follows from it holds too
-pub if_fault : {P Q : Broken → Type 0} → ((b : Broken) → P b → Q b) → (stop : Stop) → IfFault P stop → IfFault Q stop
+pub if_fault : {P Q : Broken → Type 0} → ((b : Broken) → P b → Q b) → (stop : Stop FaultOf) → IfPlainFault P stop → IfPlainFault Q stop
 if_fault so Memory p = tt
 if_fault so (Fault fault) p = record { holds = so (broken_of fault) p.holds; cycle = p.cycle }
 

@@ -7,7 +7,6 @@ mod laws;
 mod linking;
 mod links;
 mod references;
-mod signatures;
 mod strings;
 mod targets;
 mod texts;

@@ -9,7 +9,7 @@ ghost use Rattle.dw_entries.specs.Views.{sections_of};
 ghost use Rattle.dw_entries.specs.Lookups.{entry_head};
 ghost use Rattle.dw_entries.specs.Leading.{next_form, leading_left};
 ghost use Rattle.dw_entries.specs.Failures.{HasNone, IsFirst, IsLeast};
-ghost use Rattle.dw_entries.specs.Stopped.{IfFault};
+ghost use Rattle.dw_entries.specs.Stopped.{IfPlainFault};
 ghost use Rattle.dw_links.specs.DeclaredEntries.{KeepsDeclared};
 ghost use Rattle.dw_links.specs.Linking.{kept_after, LinksNext, HasFailedNext, IsLinked, HasFailed, IsFirstOfGroup};
 ghost use Rattle.dw_links.specs.Linkable.{entries_in, FailsByTarget, reached_by, MayAsk};
@@ -25,7 +25,7 @@ use crate::strings::{check_strings, keep_texts, read_texts, string_ends};
 use crate::targets::DeclaredEntries;
 use dw_entries::constants::*;
 use dw_entries::{
-    Broken, Entries, EntryAt, EntryHead, EntryId, Hints, Leading, OptionalId, Rule, Stop,
+    Broken, Entries, EntryAt, EntryHead, EntryId, Fault, Hints, Leading, OptionalId, Rule, Stop,
 };
 use dw_forms::{Attribute, Form, Value};
 use std::alloc::Global;
@@ -169,9 +169,13 @@ impl References<'_, '_, '_> {
 
 /// The fault of a reference, or of a string or an address, if there is one in any entry. These come first.
 #[inline(never)]
-pub(crate) fn strings_first(alloc: Global, entries: &Entries<'_>, reference: Stop) -> Stop
-    requires { IfFault (IsFirst (ReferenceFailures (units_of entries.now.scanned))) reference }
-    ensures { IfFault (IsFirstOfTargets (sections_of entries.now) (units_of entries.now.scanned)) result }
+pub(crate) fn strings_first(
+    alloc: Global,
+    entries: &Entries<'_>,
+    reference: Stop<Fault>,
+) -> Stop<Fault>
+    requires { IfPlainFault (IsFirst (ReferenceFailures (units_of entries.now.scanned))) reference }
+    ensures { IfPlainFault (IsFirstOfTargets (sections_of entries.now) (units_of entries.now.scanned)) result }
 {
     match check_strings(alloc, entries) {
         Ok(()) => reference,
@@ -180,9 +184,9 @@ pub(crate) fn strings_first(alloc: Global, entries: &Entries<'_>, reference: Sto
 }
 
 /// The fault of a failure, if it is the first of its group.
-fn stop_of(alloc: Global, entries: &Entries<'_>, failed: Failed) -> Stop
+fn stop_of(alloc: Global, entries: &Entries<'_>, failed: Failed) -> Stop<Fault>
     requires { IsFirstOfGroup (sections_of entries.now) (units_of entries.now.scanned) failed }
-    ensures { IfFault (IsFirstOfTargets (sections_of entries.now) (units_of entries.now.scanned)) result }
+    ensures { IfPlainFault (IsFirstOfTargets (sections_of entries.now) (units_of entries.now.scanned)) result }
 {
     match failed {
         Failed::String(broken) => Stop::Fault(broken.into_fault(alloc)),
@@ -199,7 +203,7 @@ pub(crate) fn link_entries<'t>(
     entries: &Entries<'_>,
     signatures: &'t BTreeMap<u64, EntryId>,
     hints: &'t Hints,
-) -> Result<Vec<OptionalId>, Stop>
+) -> Result<Vec<OptionalId>, Stop<Fault>>
     requires types { HasSignedTypes (all_entries entries.now.scanned) (all_units entries.now.scanned) signatures.now }
     requires typed { AreTyped (all_entries entries.now.scanned) (all_units entries.now.scanned) }
     requires headers { HasNone (HeaderFailures (all_entries entries.now.scanned) (all_units entries.now.scanned)) }
@@ -209,7 +213,7 @@ pub(crate) fn link_entries<'t>(
         ≡ map (type_target (all_entries entries.now.scanned) (all_units entries.now.scanned))
         (all_entries entries.now.scanned)) }
     ensures fault { IfErr result
-        (IfFault (IsFirstOfTargets (sections_of entries.now) (units_of entries.now.scanned))) }
+        (IfPlainFault (IsFirstOfTargets (sections_of entries.now) (units_of entries.now.scanned))) }
 {
     let mut types = Vec::with_capacity(alloc, entries.count())?;
     if entries.unit_count() == 0 {

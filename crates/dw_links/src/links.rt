@@ -4,7 +4,7 @@
 ghost use Rattle.std.specs.Prelude.{◌≡◌, ◌<◌, length, map, slice_get, IfSome, IfOk, option_copied, OnOk, IfErr};
 ghost use Rattle.dw_entries.specs.Scanned.{all_entries, all_units, units_of};
 ghost use Rattle.dw_entries.specs.Views.{sections_of};
-ghost use Rattle.dw_entries.specs.Stopped.{IfFault};
+ghost use Rattle.dw_entries.specs.Stopped.{IfPlainFault};
 ghost use Rattle.dw_entries.specs.Failures.{HasNone};
 ghost use Rattle.dw_links.specs.Targets.{target_of};
 ghost use Rattle.dw_links.specs.Tables.{bases_in, type_target, AreTables};
@@ -16,11 +16,11 @@ ghost use Rattle.dw_links.specs.AttributeTexts.{text_at, address_at};
 
 use crate::class::check_classes;
 use crate::linking::{link_entries, strings_first};
-use crate::signatures::read_signatures;
+use crate::references::read_signatures;
 use crate::strings::base_in_unit;
 use crate::targets::find_target;
 use dw_entries::constants::*;
-use dw_entries::{Entries, EntryId, OptionalId, Stop};
+use dw_entries::{Entries, EntryId, Fault, OptionalId, Stop};
 use dw_forms::Attribute;
 use std::alloc::{AllocError, Global};
 use std::collections::BTreeMap;
@@ -118,11 +118,11 @@ pub struct Links<'r, 'a> {
 /// Links entries, or finds the first value whose class is wrong; else the first string or address that leads nowhere;
 /// else the first header of a type unit whose signature or type offset is wrong, or if there is none, the first
 /// reference (DWARF 5, sections 2.3, 7.5.5, 7.26 and 7.27). Runs out of memory if a table cannot grow.
-pub fn link<'r, 'a>(alloc: Global, entries: &'r Entries<'a>) -> Result<Links<'r, 'a>, Stop>
+pub fn link<'r, 'a>(alloc: Global, entries: &'r Entries<'a>) -> Result<Links<'r, 'a>, Stop<Fault>>
     ensures ok { OnOk result (HasNone (ReferenceFailures (units_of entries.now.scanned))) }
     ensures entries { IfOk result (λ links. links.entries ≡ entries.entry) }
     ensures fault { IfErr result
-        (IfFault (IsFirstOfLinks (sections_of entries.now) (units_of entries.now.scanned))) }
+        (IfPlainFault (IsFirstOfLinks (sections_of entries.now) (units_of entries.now.scanned))) }
 {
     check_classes(alloc, entries)?;
     let signatures = match read_signatures(alloc, entries) {

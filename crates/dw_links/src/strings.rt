@@ -55,7 +55,7 @@ fn ask_offset(section: &[u8], end: usize, offset: u32) -> Option<Rule>
     }
 }
 
-/// What is asked again and again of one unit's strings and addresses.
+/// What is needed again and again of one unit's strings and addresses.
 #[derive(Clone, Copy)]
 pub struct UnitTexts<'a> {
     /// The number of the unit.
@@ -181,7 +181,7 @@ pub(crate) fn base_in_unit(
     }
 }
 
-/// Reads what is asked again and again of a unit's strings and addresses.
+/// Reads what is needed again and again of a unit's strings and addresses.
 pub fn read_texts<'a>(entries: &Entries<'a>, ends: StringEnds, number: usize) -> UnitTexts<'a>
     requires ends { AreEnds (sections_of entries.now) ends }
     requires number { number < length (units_of entries.now.scanned) }
@@ -245,8 +245,8 @@ fn check_entry(texts: &UnitTexts<'_>, entry: &EntryAt<'_, '_>) -> Result<(), Bro
 }
 
 /// Finds the first base, index or offset of a string or address that leads nowhere: one of the faults `BadStrBase`,
-/// `StrIndex`, `StringEnd`, `BadAddrBase` and `AddrIndex` at the entry's offset. Nothing grows, so there is no want of
-/// memory.
+/// `StrIndex`, `StringEnd`, `BadAddrBase` and `AddrIndex` at the entry's offset. It allocates nothing, so it
+/// does not run out of memory.
 pub fn check_strings(alloc: Global, entries: &Entries<'_>) -> Result<(), Fault>
     ensures ok { OnOk result (HasNone (StringFailures (sections_of entries.now) (units_of entries.now.scanned))) }
     ensures fault { IfErr result

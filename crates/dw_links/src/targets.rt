@@ -101,7 +101,7 @@ enum Known {
     NotDeclared,
 }
 
-/// Which entries are declared and not defined. An entry is read when that is first asked, and the answer is kept.
+/// Which entries are declared and not defined. An entry is read when this is first needed, and the result is kept.
 #[derive(Drop)]
 pub struct DeclaredEntries {
     known: Vec<Known>,

@@ -4,10 +4,8 @@
 mod json;
 mod lines;
 mod reporting;
-mod request;
 mod shown;
 
 pub use dw_image::NoMemory;
-pub use reporting::{Answer, longest_file, report};
-pub use request::{Request, Status};
+pub use reporting::{Answer, Request, Status, longest_file, report};
 pub use shown::size_of_entry;

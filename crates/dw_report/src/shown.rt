@@ -9,7 +9,7 @@ ghost use Rattle.dw_report.specs.Shown.{glyph, name_part, size_part, entry_part,
 ghost use Rattle.dw_report.specs.Shown.{show_lines, size_line, size_text, size_status, type_at_offset};
 
 use crate::lines::{put_decimal, put_four_digits, put_offset, put_two_digits};
-use crate::request::Status;
+use crate::reporting::Status;
 use dw_image::{EntryId, Head, Image, TypeId};
 use std::alloc::AllocError;
 

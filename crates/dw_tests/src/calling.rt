@@ -5,7 +5,7 @@ use crate::image::image_of;
 use crate::vectors::{A, B};
 use dw_cprint::declare;
 use dw_elf::find;
-use dw_entries::{Sections, Stop, scan};
+use dw_entries::{Fault, Sections, Stop, scan};
 use dw_forms::constants::*;
 use dw_forms::{read_table, read_uleb};
 use dw_image::{Image, Verdict, verify};
@@ -28,7 +28,7 @@ fn tag_of(alloc: Global, section: &[u8], entry: &[u8]) -> Option<Tag> {
 }
 
 /// The offsets of the entries that are types.
-fn types(alloc: Global, sections: &Sections<'_>) -> Result<Vec<u32>, Stop> {
+fn types(alloc: Global, sections: &Sections<'_>) -> Result<Vec<u32>, Stop<Fault>> {
     let entries = scan(alloc, sections)?;
     let mut offsets = Vec::new(alloc);
     for number in 0..entries.count() {

@@ -1,7 +1,7 @@
 //! An abbreviation table that is read by itself.
 
 use dw_forms::constants::*;
-use dw_forms::{AbbrevFault, AbbrevRule, AttributeSpec, BrokenTable, Form, read_table};
+use dw_forms::{AbbrevFault, AbbrevFault, AbbrevRule, AttributeSpec, Form, read_table};
 use std::test::Fail;
 
 /// A variable, a base type with a name and a size, and a typedef with a type; codes 3, 200 and 1 in this order.
@@ -49,7 +49,7 @@ fn a_table(rt: HostRuntime) -> Result<(), Fail> {
 // In a file no table starts at the end of .debug_abbrev.
 #[test]
 fn no_bytes(rt: HostRuntime) {
-    let cut = BrokenTable {
+    let cut = AbbrevFault {
         rule: AbbrevRule::AbbrevCut,
         at: 0,
         attribute: 0,

@@ -4,12 +4,13 @@ use Rattle.std.specs.Prelude.{All, Contains, IfSome, IsSomeAnd}
 use Rattle.std.proofs.lemmas.Bool.{cases_lt, eqb-true, false≢true, or_parts, true≢false}
 use Rattle.std.proofs.lemmas.List.{get_or_past}
 use Rattle.std.proofs.lemmas.List.Elements.{All-contains, Contains-append_cases, Contains-append_left, Contains-append_right}
-use Rattle.dw_entries.specs.declared.rule.Rule.{Rule}
-use Rattle.dw_entries.specs.declared.rule.Rule.TheVariants.{MissingType, BadCount}
+use Rattle.dw_entries.specs.declared.fault.Rule.{Rule}
+use Rattle.dw_entries.specs.declared.fault.Rule.TheVariants.{MissingType, BadCount}
 use Rattle.dw_entries.specs.Failures.{HasNone, IsFirst, IsLeast}
-use Rattle.dw_entries.specs.declared.fault.Stop.{Stop}
-use Rattle.dw_entries.specs.declared.fault.Stop.TheVariants.{Fault, Memory}
-use Rattle.dw_entries.specs.Stopped.{IfFault}
+use Rattle.dw_entries.specs.declared.fault.Fault.{Fault as FaultOf}
+use Rattle.dw_forms.specs.declared.fault.Stop.{Stop}
+use Rattle.dw_forms.specs.declared.fault.Stop.TheVariants.{Fault, Memory}
+use Rattle.dw_entries.specs.Stopped.{IfPlainFault}
 use Rattle.dw_forms.specs.Codes.{DW_TAG_array_type, is_type_tag}
 use Rattle.dw_types.specs.declared.facts.Facts.{Facts}
 use Rattle.dw_types.specs.declared.kind.Role.{Role}
@@ -175,8 +176,8 @@ module _ (entries : List Facts) (parents : ParentsComeFirst entries) (count : �
   shapes-sound None none noted = none-of_entries entries (fails_shape entries) (noted-none (fails_shape entries) Covers entries covers-all (covered None noted))
   shapes-sound (Some first) none noted = absurd cc
 
-  pub shapes-fault : OffsetsRise entries → (found : Option (ℕ × Rule)) (stop : Stop) → IsNoted (fails_shape entries) (HasSeenShapes entries count) found
-      → IsSomeAnd found (λ first. IfFault (λ broken. broken ≡ broken_at first.1 (entry_of entries first.0).offset) stop) → IfFault (IsFirst (ShapeFailures entries)) stop
+  pub shapes-fault : OffsetsRise entries → (found : Option (ℕ × Rule)) (stop : Stop FaultOf) → IsNoted (fails_shape entries) (HasSeenShapes entries count) found
+      → IsSomeAnd found (λ first. IfPlainFault (λ broken. broken ≡ broken_at first.1 (entry_of entries first.0).offset) stop) → IfPlainFault (IsFirst (ShapeFailures entries)) stop
   shapes-fault rise None stop noted fault = absurd fault
   shapes-fault rise (Some first) Memory noted fault = tt
   shapes-fault rise (Some first) (Fault f) noted fault =

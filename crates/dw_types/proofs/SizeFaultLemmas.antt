@@ -3,8 +3,8 @@
 use Rattle.std.proofs.Common.{◌≡◌, ℕ, ◌^◌, ◌<◌, ◌≤◌, min, ℤ, pos, negsuc, Bool, true, false, not, ◌&&◌, ◌||◌, if◌then◌else◌, List, Option, Some, None, IfSome, is_some, length, nat_eq, ◌⊎◌, inl, inr, arith, refl, sym, ap, ◌∙◌}
 use Rattle.std.proofs.lemmas.Bool.{cases_lt, eqb-true, false_from_ne_true}
 use Rattle.dw_forms.specs.Codes.{DW_TAG_array_type, DW_TAG_base_type, DW_TAG_enumeration_type, DW_TAG_pointer_type}
-use Rattle.dw_entries.specs.declared.rule.Rule.{Rule}
-use Rattle.dw_entries.specs.declared.rule.Rule.TheVariants.{NoSize, SizeTooGreat, MemberOutside, EnumSize}
+use Rattle.dw_entries.specs.declared.fault.Rule.{Rule}
+use Rattle.dw_entries.specs.declared.fault.Rule.TheVariants.{NoSize, SizeTooGreat, MemberOutside, EnumSize}
 use Rattle.dw_entries.specs.Rules.{number_of}
 use Rattle.dw_links.specs.Classes.{is_one_of}
 use Rattle.dw_types.specs.declared.facts.Facts.{Facts}

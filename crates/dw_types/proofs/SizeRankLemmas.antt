@@ -3,12 +3,13 @@ use Rattle.std.proofs.Common.{◌≡◌, ◌≢◌, ℕ, ◌+◌, ◌<◌, ◌�
 use Rattle.std.specs.Prelude.{IsSomeAnd}
 use Rattle.std.proofs.lemmas.Bool.{and_parts, cases_lt, eq-eqb, false≢true, lt-ltb, ltb-true}
 use Rattle.std.proofs.lemmas.List.{get_or_past}
-use Rattle.dw_entries.specs.declared.rule.Rule.{Rule}
-use Rattle.dw_entries.specs.declared.rule.Rule.TheVariants.{NoSize, SizeTooGreat, MemberOutside, EnumSize}
-use Rattle.dw_entries.specs.declared.fault.Stop.{Stop}
-use Rattle.dw_entries.specs.declared.fault.Stop.TheVariants.{Fault, Memory}
+use Rattle.dw_entries.specs.declared.fault.Rule.{Rule}
+use Rattle.dw_entries.specs.declared.fault.Rule.TheVariants.{NoSize, SizeTooGreat, MemberOutside, EnumSize}
+use Rattle.dw_entries.specs.declared.fault.Fault.{Fault as FaultOf}
+use Rattle.dw_forms.specs.declared.fault.Stop.{Stop}
+use Rattle.dw_forms.specs.declared.fault.Stop.TheVariants.{Fault, Memory}
 use Rattle.dw_entries.specs.Failures.{HasNone}
-use Rattle.dw_entries.specs.Stopped.{IfFault}
+use Rattle.dw_entries.specs.Stopped.{IfPlainFault}
 use Rattle.dw_types.specs.StoredSizes.{ObeysCappedLines}
 use Rattle.dw_forms.specs.Codes.{DW_TAG_member, is_type_tag}
 use Rattle.dw_types.specs.declared.facts.Facts.{Facts}
@@ -212,8 +213,8 @@ module _ (entries : List Facts) (parents : ParentsComeFirst entries) (targets : 
       pub last-sound : HasNone (SizeFailures entries (size_at sizes))
       last-sound = none-of_entries entries (fails_size entries (size_at sizes)) (last-pass noted)
 
-    pub last-fault : OffsetsRise entries → (found : Option (ℕ × Rule)) (stop : Stop) → IsNoted (fails_size entries (size_at sizes)) (λ k. seen_before entries order place k ≡ true) found
-        → IsSomeAnd found (λ first. IfFault (λ broken. broken ≡ broken_at first.1 (entry_of entries first.0).offset) stop) → IfFault (IsFirstSizeFault entries) stop
+    pub last-fault : OffsetsRise entries → (found : Option (ℕ × Rule)) (stop : Stop FaultOf) → IsNoted (fails_size entries (size_at sizes)) (λ k. seen_before entries order place k ≡ true) found
+        → IsSomeAnd found (λ first. IfPlainFault (λ broken. broken ≡ broken_at first.1 (entry_of entries first.0).offset) stop) → IfPlainFault (IsFirstSizeFault entries) stop
     last-fault rise None stop noted fault = absurd fault
     last-fault rise (Some first) Memory noted fault = tt
     last-fault rise (Some first) (Fault f) noted fault =

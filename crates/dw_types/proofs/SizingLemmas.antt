@@ -6,8 +6,8 @@ use Rattle.std.specs.Prelude.{All}
 use Rattle.std.proofs.lemmas.Bool.{and_parts, cases_lt, eqb-true, eq-eqb, false_from_ne_true, false≢true}
 use Rattle.std.proofs.lemmas.List.{get_or_past}
 use Rattle.std.proofs.lemmas.List.Elements.{All-contains, Contains-append_cases, Contains-append_left, Contains-append_right}
-use Rattle.dw_entries.specs.declared.rule.Rule.{Rule}
-use Rattle.dw_entries.specs.declared.rule.Rule.TheVariants.{NoSize, SizeTooGreat, MemberOutside, EnumSize}
+use Rattle.dw_entries.specs.declared.fault.Rule.{Rule}
+use Rattle.dw_entries.specs.declared.fault.Rule.TheVariants.{NoSize, SizeTooGreat, MemberOutside, EnumSize}
 use Rattle.dw_entries.specs.Failures.{IsLeast}
 use Rattle.dw_forms.specs.Codes.{DW_TAG_member, is_type_tag}
 use Rattle.dw_types.specs.declared.facts.Facts.{Facts}

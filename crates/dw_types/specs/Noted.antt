@@ -1,7 +1,7 @@
 -- State: the failing entry of the least number among those that a pass has seen.
 use Rattle.std.specs.Prelude.{◌≡◌, ℕ, ◌<◌, Bool, true, ◌&&◌, List, Option, None, Some, if◌then◌else◌, nat_eq, nat_le}
 use Rattle.std.specs.Option.{option_map_or}
-use Rattle.dw_entries.specs.declared.rule.Rule.{Rule}
+use Rattle.dw_entries.specs.declared.fault.Rule.{Rule}
 use Rattle.dw_entries.specs.Failures.{IsLeast}
 use Rattle.dw_forms.specs.Codes.{DW_TAG_member}
 use Rattle.dw_types.specs.declared.facts.Facts.{Facts}

@@ -1,7 +1,7 @@
 -- Chapter: failures of rules on entries, and the first entry that has one.
 use Rattle.std.specs.Prelude.{◌≡◌, ℕ, ◌<◌, Bool, true, List, length}
 use Rattle.dw_types.specs.declared.facts.Facts.{Facts}
-use Rattle.dw_entries.specs.declared.rule.Rule.{Rule}
+use Rattle.dw_entries.specs.declared.fault.Rule.{Rule}
 use Rattle.dw_entries.specs.Asked.{AtPlace, InList}
 use Rattle.dw_entries.specs.Rules.{number_of}
 use Rattle.dw_entries.specs.Failures.{Failure}

@@ -5,7 +5,7 @@ ghost use Rattle.std.specs.Prelude.{◌≡◌, ◌++◌, ◌+◌, ℕ, ◌^◌, 
 ghost use Rattle.std.specs.List.{flat_map};
 ghost use Rattle.std.specs.Option.{option_to_list};
 ghost use Rattle.dw_entries.specs.Failures.{HasNone, IsFirst, IsLeast};
-ghost use Rattle.dw_entries.specs.Stopped.{IfFault};
+ghost use Rattle.dw_entries.specs.Stopped.{IfPlainFault};
 ghost use Rattle.dw_types.specs.Shapes.{breaks_shape, has_bad_count, is_plain, misses_type, stands_alone, fails_shape};
 ghost use Rattle.dw_types.specs.Shapes.{ShapeFailures};
 ghost use Rattle.dw_types.specs.Entries.{children, entry_of, ParentsComeFirst, TargetsAreEntries, OffsetsRise};
@@ -24,7 +24,7 @@ use crate::graph::{Packed, StepGraph};
 use crate::kind::Role;
 use crate::numbers::Numbers;
 use dw_entries::constants::*;
-use dw_entries::{Rule, Stop};
+use dw_entries::{Fault, Rule, Stop};
 use dw_links::Links;
 use std::alloc::{AllocError, Global};
 
@@ -223,13 +223,13 @@ pub struct ByValue {
 impl ByValue {
     /// The graph of the steps by value of entries, or the first fault of their shapes. The nodes are the numbers of the
     /// entries.
-    pub fn new(alloc: Global, links: &Links<'_, '_>) -> Result<Self, Stop>
+    pub fn new(alloc: Global, links: &Links<'_, '_>) -> Result<Self, Stop<Fault>>
         ensures graph { IfOk result (λ it. ⟦<ByValue as StepGraph>⟧.graph it ≡ by_value (all_facts links.now)) }
         ensures steps { IfOk result (λ it. (from to : ℕ)
             → IsStep (⟦<ByValue as StepGraph>⟧.graph it) from to ↔ IsStepByValue (all_facts links.now) from to) }
         ensures types { IfOk result (λ it. it.types ≡ type_count (all_facts links.now)) }
         ensures sound { OnOk result (HasNone (ShapeFailures (all_facts links.now))) }
-        ensures fault { IfErr result (IfFault (IsFirst (ShapeFailures (all_facts links.now)))) }
+        ensures fault { IfErr result (IfPlainFault (IsFirst (ShapeFailures (all_facts links.now)))) }
     {
         let units = UnitFacts::read_all(alloc, links.entries)?;
         let facts = FactsList::new(links, &units);
@@ -237,7 +237,7 @@ impl ByValue {
     }
 
     /// The graph of the steps by value of entries with these facts, or the first fault of their shapes.
-    fn of_facts(alloc: Global, entries: &FactsList<'_, '_>) -> Result<Self, Stop>
+    fn of_facts(alloc: Global, entries: &FactsList<'_, '_>) -> Result<Self, Stop<Fault>>
         requires parents { ParentsComeFirst entries.now }
         requires targets { TargetsAreEntries entries.now }
         requires rising { OffsetsRise entries.now }
@@ -247,7 +247,7 @@ impl ByValue {
             → IsStep (⟦<ByValue as StepGraph>⟧.graph it) from to ↔ IsStepByValue entries.now from to) }
         ensures types { IfOk result (λ it. it.types ≡ type_count entries.now) }
         ensures sound { OnOk result (HasNone (ShapeFailures entries.now)) }
-        ensures fault { IfErr result (IfFault (IsFirst (ShapeFailures entries.now))) }
+        ensures fault { IfErr result (IfPlainFault (IsFirst (ShapeFailures entries.now))) }
     {
         let count = entries.count();
         let mut cursor = entries.cursor();

@@ -4,7 +4,7 @@
 ghost use Rattle.std.specs.Prelude.{◌≡◌, ◌<◌, None, length, IfErr, IfSome, IsSomeAnd, OnOk};
 ghost use Rattle.dw_entries.specs.declared.fault.Section.TheVariants.{Info as InInfo};
 ghost use Rattle.dw_entries.specs.Failures.{IsPlainFault};
-ghost use Rattle.dw_entries.specs.Stopped.{IfFault};
+ghost use Rattle.dw_entries.specs.Stopped.{IfPlainFault};
 ghost use Rattle.dw_types.specs.Entries.{entry_of};
 ghost use Rattle.dw_types.specs.Noted.{with_rule};
 
@@ -55,10 +55,10 @@ impl LeastFault {
     }
 
     /// The fault at the entry that is kept, if there is one.
-    pub(crate) fn check(self, alloc: Global, entries: &FactsList<'_, '_>) -> Result<(), Stop>
+    pub(crate) fn check(self, alloc: Global, entries: &FactsList<'_, '_>) -> Result<(), Stop<Fault>>
         requires { IfSome self.found (λ first. first.0 < length entries.now) }
         ensures none { OnOk result (self.found ≡ None) }
-        ensures fault { IfErr result (λ stop. IsSomeAnd self.found (λ first. IfFault (λ broken. broken ≡ record {
+        ensures fault { IfErr result (λ stop. IsSomeAnd self.found (λ first. IfPlainFault (λ broken. broken ≡ record {
           rule = first.1;
           section = InInfo;
           at = (entry_of entries.now first.0).offset;

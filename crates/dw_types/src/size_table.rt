@@ -3,7 +3,7 @@
 ghost use Rattle.std.specs.Prelude.{◌≡◌, ◌<◌, ◌≤◌, ◌^◌, ◌⊎◌, ℕ, List, None, Some, Bool, true, length, replicate};
 ghost use Rattle.std.specs.Prelude.{slice_set, IfOk, IfErr, IfSome, OnOk};
 ghost use Rattle.dw_entries.specs.Failures.{HasNone};
-ghost use Rattle.dw_entries.specs.Stopped.{IfFault};
+ghost use Rattle.dw_entries.specs.Stopped.{IfPlainFault};
 ghost use Rattle.dw_types.specs.Sizes.{size_to, array_size, constant_or, size_line, times, IsSizeTable};
 ghost use Rattle.dw_types.specs.SizeTables.{Size, size_at, cap_size, OnlyTypesAreSized};
 ghost use Rattle.dw_types.specs.StoredSizes.{size_in, sizes_in};
@@ -25,7 +25,7 @@ use crate::fault::LeastFault;
 use crate::graph::Order;
 use crate::kind::Kind;
 use crate::numbers::Numbers;
-use dw_entries::{EntryId, Stop};
+use dw_entries::{EntryId, Fault, Stop};
 use dw_links::Links;
 use std::alloc::{AllocError, Global};
 use std::marker::Model;
@@ -308,7 +308,7 @@ fn sizes_of_facts(
     alloc: Global,
     entries: &FactsList<'_, '_>,
     order: &Order,
-) -> Result<SizeTable, Stop>
+) -> Result<SizeTable, Stop<Fault>>
     requires parents { ParentsComeFirst entries.now }
     requires targets { TargetsAreEntries entries.now }
     requires rising { OffsetsRise entries.now }
@@ -316,7 +316,7 @@ fn sizes_of_facts(
     ensures long { IfOk result (λ table. length table ≡ length entries.now) }
     ensures only { IfOk result (λ table. IsSizeTable entries.now (size_at table)) }
     ensures sound { IfOk result (λ table. HasNone (SizeFailures entries.now (size_at table))) }
-    ensures fault { IfErr result (IfFault (IsFirstSizeFault entries.now)) }
+    ensures fault { IfErr result (IfPlainFault (IsFirstSizeFault entries.now)) }
 {
     let mut sizes = SizeTable::none(alloc, entries.count())?;
     let mut least = LeastFault::none();
@@ -336,12 +336,12 @@ fn sizes_of_facts(
 }
 
 /// The one table of sizes, or the first fault of sizes. The order is that of the graph of the entries' steps by value.
-pub fn sizes(alloc: Global, links: &Links<'_, '_>, order: &Order) -> Result<SizeTable, Stop>
+pub fn sizes(alloc: Global, links: &Links<'_, '_>, order: &Order) -> Result<SizeTable, Stop<Fault>>
     requires order { IsOrderOf (by_value (all_facts links.now)) order.now }
     ensures long { IfOk result (λ table. length table ≡ length (entries_held links.now)) }
     ensures only { IfOk result (λ table. IsSizeTable (all_facts links.now) (size_at table)) }
     ensures sound { IfOk result (λ table. HasNone (SizeFailures (all_facts links.now) (size_at table))) }
-    ensures fault { IfErr result (IfFault (IsFirstSizeFault (all_facts links.now))) }
+    ensures fault { IfErr result (IfPlainFault (IsFirstSizeFault (all_facts links.now))) }
 {
     let units = UnitFacts::read_all(alloc, links.entries)?;
     let facts = FactsList::new(links, &units);

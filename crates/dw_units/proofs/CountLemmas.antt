@@ -1,4 +1,4 @@
--- One unit alone among the sections, and one more unit behind those so far.
+-- One unit alone among the sections, and one more unit after those so far.
 use Rattle.std.proofs.Common.{◌≡◌, ℕ, ◌+◌, suc, ◌<◌, ◌≤◌, List, [], ◌∷◌, ◌++◌, length, map, take, drop, Option, Some, None, refl, sym, ap, subst, ◌∙◌, inl, inr, arith, append_assoc, append-nil, length-append, take-append-drop}
 use Rattle.std.specs.Prelude.{slice_get}
 use Rattle.std.specs.List.{AllByRecursion, count_by}
@@ -9,8 +9,8 @@ use Rattle.dw_elf.specs.declared.sections.Sections.{Sections}
 use Rattle.dw_forms.specs.Value.{Datum, str, line_str, str_index, addr_index, sec_offset}
 use Rattle.dw_forms.specs.Codes.{DW_AT_str_offsets_base, DW_AT_addr_base}
 use Rattle.dw_entries.specs.declared.header.UnitHeader.{UnitHeader}
-use Rattle.dw_entries.specs.declared.rule.Rule.{Rule}
-use Rattle.dw_entries.specs.declared.rule.Rule.TheVariants.{BadStrBase, StrIndex, StringEnd, BadAddrBase, AddrIndex}
+use Rattle.dw_entries.specs.declared.fault.Rule.{Rule}
+use Rattle.dw_entries.specs.declared.fault.Rule.TheVariants.{BadStrBase, StrIndex, StringEnd, BadAddrBase, AddrIndex}
 use Rattle.dw_entries.specs.declared.lookup.EntryHead.{EntryHead}
 use Rattle.dw_entries.specs.Units.{DebugUnit, IsUnit, unit_bytes, units_bytes}
 use Rattle.dw_entries.specs.Header.{header_size}
@@ -41,7 +41,7 @@ use Rattle.dw_units.proofs.JoinLemmas.{join}
 
 -- ---- the counts of one unit more
 
--- the entries of one unit more, in its place, stand behind the others
+-- the entries of one unit more, in its place, come after the others
 entries_more : (unit id at : ℕ) (us : List DebugUnit) (u : DebugUnit) → (n : ℕ) × (first : ℕ) × (place : ℕ)
     × (entries_from unit id at (us ++ u ∷ []) ≡ entries_from unit id at us ++ map (moved n first place) (entries_of (u ∷ [])))
 entries_more unit id at [] u =

@@ -6,7 +6,7 @@ use Rattle.dw_forms.specs.declared.form.Form.{Form}
 use Rattle.dw_forms.specs.declared.form.Form.TheVariants as form
 use Rattle.dw_forms.specs.declared.decl.AttributeSpec.{AttributeSpec}
 use Rattle.dw_forms.specs.Value.{Datum, Val}
-use Rattle.dw_entries.specs.declared.rule.Rule.TheVariants.{WrongClass}
+use Rattle.dw_entries.specs.declared.fault.Rule.TheVariants.{WrongClass}
 use Rattle.dw_entries.specs.Units.{DebugUnit, Spells}
 use Rattle.dw_entries.specs.Entries.{Entry, entries_of}
 use Rattle.dw_entries.specs.Places.{at_attribute}

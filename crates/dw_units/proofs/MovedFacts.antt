@@ -25,7 +25,7 @@ use Rattle.dw_units.proofs.TextLemmas.{lone, unit_zero, alone_at}
 use Rattle.dw_units.proofs.ReachLemmas.{reach_moved}
 use Rattle.dw_units.proofs.ReferenceLemmas.{all_units}
 
--- a value that an attribute has stands among the values
+-- a value that an attribute has is among the values
 value_has : (values : List (ℕ × Datum)) (attribute : ℕ) (v : Datum) → value_in values attribute ≡ Some v
     → (position : ℕ) × (code : ℕ) × (slice_get values position ≡ Some (code, v))
 value_has [] attribute v is = absurd cc

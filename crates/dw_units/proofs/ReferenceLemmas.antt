@@ -6,8 +6,8 @@ use Rattle.std.specs.List.{AllByRecursion}
 use Rattle.dw_elf.specs.declared.sections.Sections.{Sections}
 use Rattle.dw_forms.specs.Codes.{DW_AT_import, DW_AT_specification, DW_AT_type, DW_TAG_imported_unit, DW_TAG_compile_unit, DW_TAG_partial_unit, is_type_tag}
 use Rattle.dw_forms.specs.Value.{Datum, ref_unit, ref_info, ref_sig}
-use Rattle.dw_entries.specs.declared.rule.Rule.{Rule}
-use Rattle.dw_entries.specs.declared.rule.Rule.TheVariants.{NoEntry, WrongKind, NotNextSibling, NoSignature}
+use Rattle.dw_entries.specs.declared.fault.Rule.{Rule}
+use Rattle.dw_entries.specs.declared.fault.Rule.TheVariants.{NoEntry, WrongKind, NotNextSibling, NoSignature}
 use Rattle.dw_entries.specs.Units.{DebugUnit, AreUnits}
 use Rattle.dw_entries.specs.Lookups.{entry_head}
 use Rattle.dw_entries.specs.Entries.{Entry, entries_of, PlacedUnit, placed}

@@ -6,7 +6,7 @@ use Rattle.std.specs.List.{AllByRecursion}
 use Rattle.dw_elf.specs.declared.sections.Sections.{Sections}
 use Rattle.dw_forms.specs.Value.{Datum, sec_offset}
 use Rattle.dw_forms.specs.Codes.{DW_AT_str_offsets_base, DW_AT_addr_base}
-use Rattle.dw_entries.specs.declared.rule.Rule.{Rule}
+use Rattle.dw_entries.specs.declared.fault.Rule.{Rule}
 use Rattle.dw_entries.specs.Header.{version_of, header_size}
 use Rattle.dw_entries.specs.Units.{DebugUnit, unit_bytes}
 use Rattle.dw_entries.specs.Entries.{Entry, node_entries, entries_of, PlacedUnit, node_count, placed_from, placed}
@@ -30,7 +30,7 @@ use Rattle.dw_units.proofs.MovedEntries.{moved_number, moved, found}
 abbrev pub lone : DebugUnit → PlacedUnit
 lone u = record { at = 0; first = 0; unit = u }
 
--- the unit of a place stands alone
+-- the unit of a place is alone
 all_placed : (P : DebugUnit → Type 0) (at first : ℕ) (us : List DebugUnit) (number : ℕ) (p : PlacedUnit) → AllByRecursion P us
     → slice_get (placed_from at first us) number ≡ Some p → P p.unit
 all_placed P at first [] number p all is = absurd cc

@@ -19,7 +19,7 @@ pub record IsOneAlone (entries : Entries) : Type 0 where
   pub no_type_unit : type_in unit.header.kind ≡ None
   pub stays : EachEntry StaysInside (all_entries entries.scanned)
 
--- the bytes are one unit that stands alone, with these counts
+-- the bytes are one unit, which is valid alone, with these counts
 pub record IsAlone (s : Sections) (part : List ℕ) (a : Alone) : Type 0 where
   pub unit : DebugUnit
   pub alone : StandsAlone s unit

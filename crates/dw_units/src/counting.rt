@@ -5,8 +5,7 @@ ghost use Rattle.dw_image.specs.Images.{sections_in};
 ghost use Rattle.dw_units.specs.Alone.{JoinsUnits};
 ghost use Rattle.dw_units.specs.Counted.{AreCounts};
 
-use crate::alone::verify_alone;
-use crate::tables::{are_apart, unit_size};
+use crate::alone::{are_apart, unit_size, verify_alone};
 use dw_elf::Sections;
 use dw_image::{Image, NoMemory};
 use std::alloc::Global;

@@ -3,6 +3,5 @@
 
 mod alone;
 mod counting;
-mod tables;
 
 pub use counting::{Counts, count_by_unit, units_join};

@@ -3,8 +3,8 @@ use Rattle.std.proofs.Common.{◌≡◌, ℕ, List, Result, Ok, Err, MatchResult
 use Rattle.dw_elf.specs.declared.sections.Sections.{Sections}
 use Rattle.dw_units.specs.declared.counting.Counts.{Counts}
 use Rattle.dw_units.specs.Counted.{AreCounts}
-use Rattle.dwv_c.specs.declared.checks.CheckError.{CheckError}
-use Rattle.dwv_c.specs.declared.checks.CheckError.TheVariants.{Fault, Memory}
+use Rattle.dwv_c.specs.declared.exports.CheckError.{CheckError}
+use Rattle.dwv_c.specs.declared.exports.CheckError.TheVariants.{Fault, Memory}
 use Rattle.dwv_c.specs.declared.verdict.Verdict.{Verdict}
 use Rattle.dwv_c.specs.Verdicts.{AreOfFile, AreCountsOfFile, AreCountsOfSix, Checks, HaveBytes, IsFaultOfFile}
 use Rattle.dwv_c.specs.Verdicts.{IsFaultOfSix, IsFaultOfSections, violates, sound, fault, memory}

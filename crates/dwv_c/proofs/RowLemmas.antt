@@ -11,8 +11,8 @@ use Rattle.dw_entries.proofs.DepthLaws.{no_depth, one_deeper}
 use Rattle.dw_image.specs.declared.image.Image.{Image}
 use Rattle.dw_image.specs.Images.{entries_in, entry_count, name_in, units_in}
 use Rattle.dw_image.proofs.LookupLemmas.{slice_get_none}
-use Rattle.dwv_c.specs.declared.checks.CheckError.{CheckError}
-use Rattle.dwv_c.specs.declared.checks.CheckError.TheVariants.{Fault, Memory}
+use Rattle.dwv_c.specs.declared.exports.CheckError.{CheckError}
+use Rattle.dwv_c.specs.declared.exports.CheckError.TheVariants.{Fault, Memory}
 use Rattle.dwv_c.specs.declared.rows.NamePlace.{NamePlace}
 use Rattle.dw_report.specs.Shown.{entry_size}
 use Rattle.dwv_c.specs.declared.rows.EntryRow.{EntryRow}

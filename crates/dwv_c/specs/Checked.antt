@@ -1,8 +1,8 @@
 -- State: what is known of a check before the caller's memory is written, and what is written and returned then.
 use Rattle.std.specs.Prelude.{ℕ, Result, Ok, Err}
 use Rattle.dw_units.specs.declared.counting.Counts.{Counts}
-use Rattle.dwv_c.specs.declared.checks.CheckError.{CheckError}
-use Rattle.dwv_c.specs.declared.checks.CheckError.TheVariants.{Fault, Memory}
+use Rattle.dwv_c.specs.declared.exports.CheckError.{CheckError}
+use Rattle.dwv_c.specs.declared.exports.CheckError.TheVariants.{Fault, Memory}
 use Rattle.dwv_c.specs.declared.verdict.Verdict.{Verdict}
 use Rattle.dwv_c.specs.Verdicts.{SOUND, FAULT, NO_MEMORY, of_counts}
 

@@ -3,7 +3,6 @@
 //! allocator as nothing. No call keeps anything after it returned.
 #![tactic(auto)]
 
-mod checks;
 mod exports;
 mod rows;
 mod verdict;

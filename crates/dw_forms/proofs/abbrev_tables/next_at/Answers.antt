@@ -1,6 +1,7 @@
 use Rattle.std.proofs.Common.{List, ℕ, sym, ap, subst, ◌∙◌}
 use Rattle.std.proofs.lemmas.Result.{err_from_is_err_and}
-use Rattle.dw_forms.specs.AbbrevReading.{FailsOrMemory, unsigned_at}
+use Rattle.dw_forms.specs.AbbrevReading.{unsigned_at}
+use Rattle.dw_forms.specs.Stops.{FailsOrMemory}
 use Rattle.dw_forms.proofs.FrontLaws.{code_breaks, next_none, tag_breaks, next_some, list_breaks}
 use Rattle.dw_forms.proofs.ListLaws.{bytes_from}
 use Rattle.dw_forms.proofs.abbrev_tables.next_at.Goals as goal

@@ -1,6 +1,7 @@
 use Rattle.std.proofs.Common.{List, ℕ, drop, Some, None, Ok, sym, ap, subst, ◌∙◌}
 use Rattle.std.proofs.lemmas.Result.{err_from_is_err_and}
-use Rattle.dw_forms.specs.AbbrevReading.{FailsOrMemory, begun_at}
+use Rattle.dw_forms.specs.AbbrevReading.{begun_at}
+use Rattle.dw_forms.specs.Stops.{FailsOrMemory}
 use Rattle.dw_forms.proofs.AbbrevSteps.{pair_none, pair_some, pair_fails, form_fails}
 use Rattle.dw_forms.proofs.ListLaws.{bytes_from}
 use Rattle.dw_forms.proofs.ListStarts.{pair_rest}

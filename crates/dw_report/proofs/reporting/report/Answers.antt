@@ -1,5 +1,5 @@
 use Rattle.std.proofs.Common.{sym, subst}
-use Rattle.dw_report.specs.declared.request.Status.TheVariants.{Sound, Fault}
+use Rattle.dw_report.specs.declared.reporting.Status.TheVariants.{Sound, Fault}
 use Rattle.dw_image.specs.Headline.{IsFaultOf, IsImageOf}
 use Rattle.dw_report.specs.Reports.{Report, SoundReport, large, fails, fault, sound}
 use Rattle.dw_report.proofs.reporting.report.Goals as goal

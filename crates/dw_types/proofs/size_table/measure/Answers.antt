@@ -1,6 +1,6 @@
 use Rattle.std.proofs.Common.{◌≡◌, ◌<◌, ℕ, Bool, true, false, None, length, set, sym, ◌∙◌, length-set, get_or-set_same, arith}
 use Rattle.std.specs.Prelude.{IfSome}
-use Rattle.dw_entries.specs.declared.rule.Rule.{Rule}
+use Rattle.dw_entries.specs.declared.fault.Rule.{Rule}
 use Rattle.dw_types.specs.Entries.{entry_of}
 use Rattle.dw_types.specs.Noted.{with_rule}
 use Rattle.dw_types.specs.SizeFaults.{fails_size, has_no_size}

@@ -1,5 +1,5 @@
 use Rattle.std.proofs.Common.{◌≡◌, ◌++◌, ◌⊎◌, ℕ, Bool, true, List, Some, None, refl, subst, sym, ◌∙◌, append-nil}
-use Rattle.dw_entries.specs.declared.rule.Rule.{Rule}
+use Rattle.dw_entries.specs.declared.fault.Rule.{Rule}
 use Rattle.dw_types.specs.Children.{IsChildOf, rest_of_children}
 use Rattle.dw_types.specs.Entries.{children}
 use Rattle.dw_types.specs.Noted.{IsNoted}

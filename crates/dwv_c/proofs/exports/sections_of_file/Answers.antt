@@ -1,7 +1,7 @@
 use Rattle.std.proofs.Common.{◌<◌, ◌≤◌, length, sym, subst}
 use Rattle.dw_report.specs.Reports.{file_limit}
 use Rattle.dwv_c.specs.Verdicts.{IsFaultOfFile, large, fails}
-use Rattle.dwv_c.proofs.checks.sections_of_file.Goals as goal
+use Rattle.dwv_c.proofs.exports.sections_of_file.Goals as goal
 
 pub returns-then-file-longest_file : goal.returns-then-file-longest_file
 returns-then-file-longest_file c =

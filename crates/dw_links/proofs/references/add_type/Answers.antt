@@ -1,5 +1,5 @@
 use Rattle.std.proofs.Common.{inl, refl, sym, ap, ◌∙◌, ◌≡◌, subst}
-use Rattle.dw_entries.specs.declared.rule.Rule.TheVariants.{SignatureTwice}
+use Rattle.dw_entries.specs.declared.fault.Rule.TheVariants.{SignatureTwice}
 use Rattle.dw_entries.specs.declared.lookup.UnitHead.{UnitHead}
 use Rattle.dw_entries.specs.Entries.{entries_of, placed}
 use Rattle.dw_entries.specs.Failures.{IsFirst}
@@ -11,7 +11,7 @@ use Rattle.dw_links.specs.Signatures.{type_in}
 use Rattle.dw_links.proofs.ClassLaws.{unit_there}
 use Rattle.dw_links.proofs.HeaderLaws.{header_fails, header_passes, other_unit, new_signature}
 use Rattle.dw_links.proofs.TargetLaws.{type_of_unit_is, reach_in_unit_is}
-use Rattle.dw_links.proofs.signatures.add_type.Goals as goal
+use Rattle.dw_links.proofs.references.add_type.Goals as goal
 
 pub returns-in_default-clause-added : goal.returns-in_default-clause-added
 returns-in_default-clause-added c =

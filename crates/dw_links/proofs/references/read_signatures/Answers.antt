@@ -8,7 +8,7 @@ use Rattle.dw_links.proofs.Skips.{there}
 use Rattle.dw_links.proofs.Transfers.{if_fault}
 use Rattle.dw_links.proofs.TargetLaws.{signed_type_is, signed_some}
 use Rattle.dw_links.proofs.HeaderLaws.{first_header, more_headers, headers_none, placed_rise}
-use Rattle.dw_links.proofs.signatures.read_signatures.Goals as goal
+use Rattle.dw_links.proofs.references.read_signatures.Goals as goal
 
 pub returns-clause-ok : goal.returns-clause-ok
 returns-clause-ok c =

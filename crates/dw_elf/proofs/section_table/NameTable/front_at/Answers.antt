@@ -4,7 +4,7 @@ use Rattle.std.proofs.lemmas.Grind.{common_steps}
 use Rattle.std.proofs.lemmas.List.{take_min}
 use Rattle.dw_elf.specs.Elf.{string_at}
 use Rattle.dw_elf.proofs.NameLemmas.{take_before_first, all_before_first, part_stands, has_text}
-use Rattle.dw_elf.proofs.name_table.NameTable.front_at.Goals as goal
+use Rattle.dw_elf.proofs.section_table.NameTable.front_at.Goals as goal
 
 pub returns-in-Some-clause-front : goal.returns-in-Some-clause-front
 unfolding string_at

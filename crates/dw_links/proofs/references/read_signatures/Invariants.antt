@@ -5,7 +5,7 @@ use Rattle.dw_entries.specs.Scanned.{units_of}
 use Rattle.dw_entries.specs.Failures.{HasNone}
 use Rattle.dw_links.specs.References.{AtHeader}
 use Rattle.dw_links.specs.SignedTypes.{AreSignedBelow}
-use Rattle.dw_links.proofs.signatures.read_signatures.Given as goal
+use Rattle.dw_links.proofs.references.read_signatures.Given as goal
 
 abbrev pub invariant-loop-number : goal.invariant-loop-number
 invariant-loop-number l = record {

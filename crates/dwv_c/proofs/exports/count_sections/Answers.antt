@@ -1,7 +1,7 @@
 use Rattle.std.proofs.Common.{subst}
 use Rattle.dw_image.specs.Headline.{IsFaultOf, IsImageOf}
 use Rattle.dw_units.specs.Counted.{AreCounts}
-use Rattle.dwv_c.proofs.checks.count_sections.Goals as goal
+use Rattle.dwv_c.proofs.exports.count_sections.Goals as goal
 
 pub returns-in-Some : goal.returns-in-Some
 returns-in-Some c =

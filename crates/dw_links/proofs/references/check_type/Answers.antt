@@ -2,7 +2,7 @@ use Rattle.std.proofs.Common.{sym}
 use Rattle.dw_entries.specs.Entries.{entries_of, placed}
 use Rattle.dw_entries.specs.Scanned.{units_of}
 use Rattle.dw_links.proofs.HeaderLaws.{least_type_offset, least_twice, none_at_header, signed_before, not_before}
-use Rattle.dw_links.proofs.signatures.check_type.Goals as goal
+use Rattle.dw_links.proofs.references.check_type.Goals as goal
 
 pub returns-then-contains_key-clause-err : goal.returns-then-contains_key-clause-err
 returns-then-contains_key-clause-err c = λ p is.

@@ -3,7 +3,7 @@ use Rattle.dw_entries.specs.Entries.{entries_of}
 use Rattle.dw_entries.specs.Scanned.{units_of}
 use Rattle.dw_types.specs.Children.{siblings_from, IsChild}
 use Rattle.dw_types.proofs.ChildSteps.{linked_within, next_of_linked, fewer_left}
-use Rattle.dw_image.proofs.lookup.ChildrenIterator.next.Goals as goal
+use Rattle.dw_image.proofs.image.ChildrenIterator.next.Goals as goal
 
 pub next_sibling-self-requires : goal.next_sibling-self-requires
 next_sibling-self-requires c =

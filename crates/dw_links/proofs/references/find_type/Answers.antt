@@ -6,7 +6,7 @@ use Rattle.dw_entries.proofs.EntryFacts.{entries_rise}
 use Rattle.dw_forms.specs.Codes.{is_type_tag}
 use Rattle.dw_links.proofs.Reached.{in_unit, in_place}
 use Rattle.dw_links.proofs.HeaderLaws.{typed, not_typed}
-use Rattle.dw_links.proofs.signatures.find_type.Goals as goal
+use Rattle.dw_links.proofs.references.find_type.Goals as goal
 
 pub returns-in_default-clause-none : goal.returns-in_default-clause-none
 returns-in_default-clause-none c = λ p is has.

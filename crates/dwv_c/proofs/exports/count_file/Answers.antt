@@ -1,5 +1,5 @@
 use Rattle.dwv_c.proofs.CheckLemmas.{checked_file}
-use Rattle.dwv_c.proofs.checks.count_file.Goals as goal
+use Rattle.dwv_c.proofs.exports.count_file.Goals as goal
 
 pub returns : goal.returns
 returns c =

@@ -1,6 +1,6 @@
 use Rattle.dw_image.specs.Headline.{IsFaultOf, IsImageOf}
 use Rattle.dwv_c.specs.Verdicts.{violates}
-use Rattle.dwv_c.proofs.checks.verify_file.Goals as goal
+use Rattle.dwv_c.proofs.exports.verify_file.Goals as goal
 
 pub returns-in-Sound : goal.returns-in-Sound
 returns-in-Sound c =

@@ -1,7 +1,7 @@
 use Rattle.std.proofs.Common.{ap, sym, subst, refl}
 use Rattle.dwv_c.specs.Verdicts.{IsFaultOfSix, large}
 use Rattle.dwv_c.proofs.CheckLemmas.{checked_six}
-use Rattle.dwv_c.proofs.checks.count_six.Goals as goal
+use Rattle.dwv_c.proofs.exports.count_six.Goals as goal
 
 pub returns-in-Ok : goal.returns-in-Ok
 returns-in-Ok c =

@@ -1,0 +1,99 @@
+//! Why a call returns nothing else, and why no abbreviation table begins at an offset (DWARF 5, 7.5.3).
+
+ghost use Rattle.std.specs.Prelude.{◌≡◌};
+ghost use Rattle.dw_forms.specs.declared.fault.Stop.TheVariants.{Memory, Fault};
+ghost use Rattle.dw_forms.specs.AbbrevFaults.{fault_of, error_at};
+
+use crate::leb::NumberFault;
+use std::alloc::{AllocError, AllocFailed};
+
+/// Why a call returns nothing else.
+#[derive(Debug, Drop)]
+pub enum Stop<F> {
+    /// An allocation failed.
+    Memory,
+    /// A rule is violated.
+    Fault(F),
+}
+
+impl<F> From<AllocError> for Stop<F> {
+    ghost from_gives = { λ _ e. e ≡ Memory };
+
+    fn from(_e: AllocError) -> Stop<F> {
+        Stop::Memory
+    }
+}
+
+impl<F, T: Drop> From<AllocFailed<T>> for Stop<F> {
+    ghost from_gives = { λ _ e. e ≡ Memory };
+
+    fn from(_e: AllocFailed<T>) -> Stop<F> {
+        Stop::Memory
+    }
+}
+
+/// The rules of a table, in the order of their numbers. They are checked in the order of the bytes.
+#[derive(Clone, Copy, Debug, PartialEq, Eq)]
+pub enum AbbrevRule {
+    /// A1: a part of a declaration, or the end of the table, is cut by the section's end.
+    AbbrevCut,
+    /// A2: a number of a declaration has more than 10 bytes, or more than 64 bits.
+    AbbrevNumber,
+    /// A3: an earlier declaration of the table has this code.
+    CodeTwice,
+    /// A4: the tag is 0 or above 0xffff.
+    BadTag,
+    /// A5: the byte that says whether entries have children is neither 0 nor 1.
+    BadChildren,
+    /// A6: one of attribute and form alone is 0, or the attribute is above 0xffff.
+    BadPair,
+    /// A7: no form has this code.
+    UnknownForm,
+    /// A8: the declaration has this attribute already.
+    AttributeTwice,
+}
+
+/// What is wrong with a declaration, and at which attribute, if the rule is about one.
+#[derive(Clone, Copy, Debug, PartialEq, Eq)]
+pub struct DeclFault {
+    pub rule: AbbrevRule,
+    pub attribute: u16,
+}
+
+/// The first rule that a table breaks, and where.
+#[derive(Clone, Copy, Debug, PartialEq, Eq)]
+pub struct AbbrevFault {
+    pub rule: AbbrevRule,
+    /// The offset in .debug_abbrev of the declaration's first byte, or of the byte that should end the table.
+    pub at: usize,
+    /// The code of the attribute that A7 or A8 is about, else 0.
+    pub attribute: u16,
+}
+
+impl Stop<DeclFault> {
+    /// The error of a table whose declaration at this place can't be read.
+    pub fn at(self, place: usize) -> Stop<AbbrevFault>
+        ensures { result ≡ error_at place self }
+    {
+        match self {
+            Stop::Memory => Stop::Memory,
+            Stop::Fault(DeclFault { rule, attribute }) => Stop::Fault(AbbrevFault {
+                rule,
+                at: place,
+                attribute,
+            }),
+        }
+    }
+}
+
+impl From<NumberFault> for Stop<DeclFault> {
+    ghost from_gives = { λ f e. e ≡ Fault (fault_of f) };
+
+    fn from(fault: NumberFault) -> Stop<DeclFault> {
+        let rule = match fault {
+            NumberFault::Cut => AbbrevRule::AbbrevCut,
+            NumberFault::BadNumber => AbbrevRule::AbbrevNumber,
+        };
+        Stop::Fault(DeclFault { rule, attribute: 0 })
+    }
+}
