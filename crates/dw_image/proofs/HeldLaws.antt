@@ -10,13 +10,13 @@ use Rattle.dw_entries.specs.Scanned.{units_of}
 use Rattle.dw_types.specs.FactsOf.{facts_in, facts_at, facts_of}
 use Rattle.dw_types.specs.Graphs.{Graph, step_at, steps_of}
 use Rattle.dw_types.specs.Steps.{by_value}
-use Rattle.dw_types.proofs.FactsLemmas.{facts-targets, length-facts_of, facts-tag}
+use Rattle.dw_types.proofs.FactsLemmas.{facts-targets, length-facts_of}
 use Rattle.dw_types.proofs.StepLemmas.{by_value-leads, length-by_value}
-use Rattle.dw_types.specs.declared.facts.Facts.{Facts}
 use Rattle.dw_types.specs.Kinds.{type_count}
 use Rattle.dw_image.specs.declared.image.Image.{Image}
 use Rattle.dw_image.specs.Images.{units_in, entries_in}
 use Rattle.dw_image.specs.Lookups.{is_type_entry}
+use Rattle.dw_types.specs.Entries.{Facts}
 
 module _ (us : List DebugUnit) (graph : Graph) (is : graph ≡ by_value (facts_in us)) where
   -- each entry is a node
@@ -61,4 +61,4 @@ unfolding facts_of
 types-counted us =
     let entries = entries_of us in
     let units = placed us in
-    count-map (λ (facts : Facts). is_type_tag facts.tag) is_type_entry (facts_at entries units) (λ e. ap is_type_tag (facts-tag entries units e)) entries
+    count-map (λ (facts : Facts). is_type_tag facts.tag) is_type_entry (facts_at entries units) (λ e. refl) entries

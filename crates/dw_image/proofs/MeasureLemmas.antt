@@ -14,14 +14,13 @@ use Rattle.dw_entries.specs.declared.fault.Rule.{Rule}
 use Rattle.dw_entries.specs.declared.fault.Broken.{Broken}
 use Rattle.dw_entries.specs.declared.fault.Fault.{Fault}
 use Rattle.dw_links.proofs.Skips.{there}
-use Rattle.dw_types.proofs.FactsLemmas.{facts-get, facts-offset, length-facts_of, facts-parents_first, facts-targets}
+use Rattle.dw_types.proofs.FactsLemmas.{facts-get, length-facts_of, facts-parents_first, facts-targets}
 use Rattle.dw_types.specs.Graphs.{Graph, IsStep, steps_of, IsCycle, HasNoCycle}
 use Rattle.dw_types.proofs.StepLemmas.{length-by_value, by_value-from_step, step-from_by_value}
-use Rattle.dw_types.specs.declared.facts.Facts.{Facts}
 use Rattle.dw_types.specs.FactsOf.{facts_in}
 use Rattle.dw_types.specs.Shapes.{ShapeFailures}
 use Rattle.dw_types.specs.Steps.{by_value}
-use Rattle.dw_types.specs.Entries.{entry_of, ParentsComeFirst, TargetsAreEntries}
+use Rattle.dw_types.specs.Entries.{entry_of, ParentsComeFirst, TargetsAreEntries, Facts}
 use Rattle.dw_types.specs.SizeTables.{Size}
 use Rattle.dw_types.specs.Sizes.{IsSizeTable, size_to}
 use Rattle.dw_types.specs.SizeFaults.{fails_size, SizeFailures, IsFirstSizeFault}
@@ -88,7 +87,7 @@ pub offset_told : (units : List DebugUnit) (number offset : ℕ) → number < le
 offset_told units number offset below tells =
     let (e, is) = there (entries_of units) number below in
     let same : offset ≡ e.at = rw is at tells in
-    same ∙ sym (ap (λ (f : Facts). f.offset) (facts-get (entries_of units) (placed units) number e is) ∙ facts-offset (entries_of units) (placed units) e)
+    same ∙ sym (ap (λ (f : Facts). f.offset) (facts-get (entries_of units) (placed units) number e is))
 
 module _ (facts : List Facts) (parents : ParentsComeFirst facts) (targets : TargetsAreEntries facts) where
   -- two size tables are one at each entry

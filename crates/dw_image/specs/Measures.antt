@@ -5,7 +5,6 @@ use Rattle.dw_entries.specs.declared.fault.Fault.{Fault}
 use Rattle.dw_entries.specs.Failures.{HasNone}
 use Rattle.dw_entries.specs.Units.{DebugUnit}
 use Rattle.dw_types.specs.declared.by_value.ByValue.{ByValue}
-use Rattle.dw_types.specs.declared.facts.Facts.{Facts}
 use Rattle.dw_types.specs.Graphs.{HasNoCycle}
 use Rattle.dw_types.specs.Kinds.{type_count}
 use Rattle.dw_types.specs.Packing.{cut}
@@ -14,6 +13,7 @@ use Rattle.dw_types.specs.Steps.{by_value}
 use Rattle.dw_types.specs.SizeTables.{Size, size_at}
 use Rattle.dw_image.specs.First.{Group, turn_of, failures_of, IsFirstIn}
 use Rattle.dw_image.specs.Valid.{HasSizes}
+use Rattle.dw_types.specs.Entries.{Facts}
 
 -- these are the steps by value, and this is how many entries are types
 pub record AreSteps (facts : List Facts) (steps : ByValue) : Type 0 where

@@ -6,7 +6,6 @@ use Rattle.dw_entries.specs.Units.{DebugUnit, Spells}
 use Rattle.dw_links.specs.Classes.{ClassFailures}
 use Rattle.dw_links.specs.Strings.{StringFailures}
 use Rattle.dw_links.specs.References.{ReferenceFailures}
-use Rattle.dw_types.specs.declared.facts.Facts.{Facts}
 use Rattle.dw_types.specs.FactsOf.{facts_in}
 use Rattle.dw_types.specs.Graphs.{HasNoCycle}
 use Rattle.dw_types.specs.Shapes.{ShapeFailures}
@@ -14,6 +13,7 @@ use Rattle.dw_types.specs.Steps.{by_value}
 use Rattle.dw_types.specs.SizeTables.{Size}
 use Rattle.dw_types.specs.Sizes.{IsSizeTable}
 use Rattle.dw_types.specs.SizeFaults.{SizeFailures}
+use Rattle.dw_types.specs.Entries.{Facts}
 
 -- the units spell .debug_info by the tables of .debug_abbrev (DWARF 5, 7.5.1): a header each, a tree of entries with
 -- declared abbreviations and attributes in their forms' grammar, and nulls

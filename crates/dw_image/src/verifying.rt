@@ -17,7 +17,7 @@ use crate::image::Image;
 use dw_elf::Sections;
 use dw_entries::{Entries, Fault, Rule, Section, Stop, scan};
 use dw_links::{Links, link};
-use dw_types::{ByValue, NoMemory, OrderFault, SizeTable, UnitFacts, order, sizes};
+use dw_types::{ByValue, NoMemory, OrderFault, SizeTable, order, sizes};
 use std::alloc::{AllocError, Global};
 
 /// What sections are found to be.
@@ -100,12 +100,10 @@ fn image_of<'a>(alloc: Global, sections: Sections<'a>) -> Result<Image<'a>, Stop
     let entries = scan(alloc, &sections)?;
     let links = link(alloc, &entries)?;
     let (steps, sizes) = measure(alloc, &links)?;
-    let units = UnitFacts::read_all(alloc, &entries)?;
     let tables = links.into_tables();
     Ok(Image {
         entries,
         tables,
-        units,
         steps,
         sizes,
     })

@@ -10,10 +10,9 @@ use Rattle.dw_entries.specs.Units.{DebugUnit}
 use Rattle.dw_entries.specs.Entries.{Entry, entries_of, placed}
 use Rattle.dw_types.specs.Children.{is_number, children_from, children_of, siblings_from, IsChild, rest_of_children, IsChildOf}
 use Rattle.dw_types.proofs.ChildLemmas.{linked_there, next_of_child, no_first, none_behind, first_behind, Steps}
-use Rattle.dw_types.specs.declared.facts.Facts.{Facts}
-use Rattle.dw_types.specs.Entries.{entry_of, is_parent, is_child, children}
+use Rattle.dw_types.specs.Entries.{entry_of, is_parent, is_child, children, Facts}
 use Rattle.dw_types.specs.FactsOf.{facts_in}
-use Rattle.dw_types.proofs.FactsLemmas.{facts-get, facts-parent, length-facts_of}
+use Rattle.dw_types.proofs.FactsLemmas.{facts-get, length-facts_of}
 
 pub slice_get_none : (es : List Entry) (i : ℕ) → slice_get es i ≡ None → length es ≤ i
 slice_get_none [] i is = omega arith
@@ -128,7 +127,7 @@ module _ (us : List DebugUnit) where
   facts-from : (m : ℕ) → AreFactsFrom (facts_in us) m (drop m (entries_of us))
   facts-from m i e is =
       let there : slice_get (entries_of us) (m + i) ≡ Some e = sym (get-drop (entries_of us) m i) ∙ is in
-      ap (λ (x : Facts). x.parent) (facts-get (entries_of us) (placed us) (m + i) e there) ∙ facts-parent (entries_of us) (placed us) e
+      ap (λ (x : Facts). x.parent) (facts-get (entries_of us) (placed us) (m + i) e there)
 
   pub children-same : (node : ℕ) → children (facts_in us) node ≡ children_of (entries_of us) node
   unfolding children_of
@@ -154,7 +153,7 @@ module _ (us : List DebugUnit) where
           inside = omega arith;
           parent_is =
               ap (λ (x : Facts). x.parent) (facts-get (entries_of us) (placed us) m here.0 here.2)
-              ∙ (facts-parent (entries_of us) (placed us) here.0 ∙ linked_parent (entries_of us) parent m here.0 linked here.2);
+              ∙ linked_parent (entries_of us) parent m here.0 linked here.2;
         }
       ]
 
@@ -164,7 +163,7 @@ module _ (us : List DebugUnit) where
         | inr over ↦ absurd (omega (arith, over.0))
         | inl here ↦
             linked_there (entries_of us) parent m here.0 here.2
-            (sym (facts-parent (entries_of us) (placed us) here.0) ∙ (ap (λ (x : Facts). x.parent) (sym (facts-get (entries_of us) (placed us) m here.0 here.2)) ∙ is))
+            (ap (λ (x : Facts). x.parent) (sym (facts-get (entries_of us) (placed us) m here.0 here.2)) ∙ is)
       ]
 
 -- the children that were passed and those that are left are the children, and something is true of those that were passed

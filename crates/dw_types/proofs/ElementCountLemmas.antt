@@ -7,11 +7,10 @@ use Rattle.std.proofs.lemmas.List.{append-nil, map-append}
 use Rattle.std.proofs.lemmas.List.Elements.{filter-append}
 use Rattle.std.proofs.lemmas.List.Folds.{list_any-append}
 use Rattle.dw_types.specs.SizeTables.{Size, cap_size}
-use Rattle.dw_types.specs.declared.facts.Facts.{Facts}
 use Rattle.dw_types.specs.declared.count.ElementCount.{ElementCount}
 use Rattle.dw_types.specs.declared.count.ElementCount.TheVariants.{NoDimension, Known, Unknown}
 use Rattle.dw_types.specs.ElementCounts.{element_count_by, element_count_from, grown, with_child}
-use Rattle.dw_types.specs.Entries.{children}
+use Rattle.dw_types.specs.Entries.{children, Facts}
 use Rattle.dw_types.specs.Sizes.{is_subrange, is_other_index, has_stride, factor_of, product_of, times, has_elements}
 
 -- a capped size below the limit is the size itself

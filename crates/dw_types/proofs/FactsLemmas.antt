@@ -17,9 +17,8 @@ use Rattle.dw_entries.specs.Lookups.{value_at_entry, entry_head}
 use Rattle.dw_entries.specs.declared.lookup.EntryHead.{EntryHead}
 use Rattle.dw_links.specs.Signatures.{type_in, first_signed}
 use Rattle.dw_links.specs.Targets.{entry_at, entry_in, reach_in_unit, reach_of, target_of, type_of_unit}
-use Rattle.dw_types.specs.declared.facts.Facts.{Facts}
-use Rattle.dw_types.specs.Entries.{entry_of, no_entry, OffsetsRise, ParentsComeFirst, TargetsAreEntries}
-use Rattle.dw_types.specs.FactsOf.{facts_at, facts_in, facts_of, facts_read, facts_unread, is_type_or_member}
+use Rattle.dw_types.specs.Entries.{Facts, entry_of, no_entry, OffsetsRise, ParentsComeFirst, TargetsAreEntries}
+use Rattle.dw_types.specs.FactsOf.{facts_at, facts_in, facts_of}
 
 -- of entries from a number on each has a parent with a smaller number, if it has one
 abbrev AreBehindParents : (id : ℕ) → List Entry → Type 0
@@ -122,63 +121,6 @@ unfolding facts_of
 facts-get entries units id e is =
     get_or_from_slice_get (map (facts_at entries units) entries) id (facts_at entries units e) no_entry (slice_get-map (facts_at entries units) entries id ∙ ap (option_map (facts_at entries units)) is)
 
-module _ (entries : List Entry) (units : List PlacedUnit) (e : Entry) where
-  -- whether they are read or not
-  by_tag : (P : Facts → Type 0) → P (facts_read entries units e) → P (facts_unread e) → P (facts_at entries units e)
-  unfolding facts_at
-  by_tag P read unread = go (is_type_or_member e.head.decl.tag)
-    where
-      go : (b : Bool) → P (if b then facts_read entries units e else facts_unread e)
-      go true = read
-      go false = unread
-
-  read-offset : (facts_read entries units e).offset ≡ e.at
-  unfolding facts_read
-  read-offset = refl
-
-  unread-offset : (facts_unread e).offset ≡ e.at
-  unfolding facts_unread
-  unread-offset = refl
-
-  read-tag : (facts_read entries units e).tag ≡ e.head.decl.tag
-  unfolding facts_read
-  read-tag = refl
-
-  unread-tag : (facts_unread e).tag ≡ e.head.decl.tag
-  unfolding facts_unread
-  unread-tag = refl
-
-  read-parent : (facts_read entries units e).parent ≡ e.parent
-  unfolding facts_read
-  read-parent = refl
-
-  unread-parent : (facts_unread e).parent ≡ e.parent
-  unfolding facts_unread
-  unread-parent = refl
-
-  abbrev IsWithin : Facts → Type 0
-  IsWithin facts = (to : ℕ) → (facts.type_target ≡ Some to → to < length entries) × (facts.signature_target ≡ Some to → to < length entries)
-
-  read-within : IsWithin (facts_read entries units e)
-  unfolding facts_read
-  read-within to = (λ is. target-below entries units e _ to is, λ is. target-below entries units e _ to is)
-
-  unread-within : IsWithin (facts_unread e)
-  unfolding facts_unread
-  unread-within to = (λ is. absurd cc, λ is. absurd cc)
-
-  pub facts-offset : (facts_at entries units e).offset ≡ e.at
-  facts-offset = by_tag (λ facts. facts.offset ≡ e.at) read-offset unread-offset
-
-  pub facts-tag : (facts_at entries units e).tag ≡ e.head.decl.tag
-  facts-tag = by_tag (λ facts. facts.tag ≡ e.head.decl.tag) read-tag unread-tag
-
-  pub facts-parent : (facts_at entries units e).parent ≡ e.parent
-  facts-parent = by_tag (λ facts. facts.parent ≡ e.parent) read-parent unread-parent
-
-  pub facts-within : IsWithin (facts_at entries units e)
-  facts-within = by_tag IsWithin read-within unread-within
-
 facts-past : (entries : List Entry) (units : List PlacedUnit) (id : ℕ) → length entries ≤ id → entry_of (facts_of entries units) id ≡ no_entry
 facts-past entries units id over = get_or_past (facts_of entries units) id no_entry (let long = length-facts_of entries units in omega arith)
 
@@ -193,13 +135,13 @@ by_number entries units P inside past id = elim (slice_get_cases entries id).1 [
 pub facts-parents_first : (us : List DebugUnit) → ParentsComeFirst (facts_in us)
 facts-parents_first us child above =
     by_number (entries_of us) (placed us) (λ id facts. facts.parent ≡ Some above → above < id)
-    (λ id e is has. parent-before us id e above is (sym (facts-parent (entries_of us) (placed us) e) ∙ has)) (λ id has. absurd cc) child
+    (λ id e is has. parent-before us id e above is has) (λ id has. absurd cc) child
 
 pub facts-targets : (us : List DebugUnit) → TargetsAreEntries (facts_in us)
 facts-targets us node to =
     let long = length-facts_of (entries_of us) (placed us) in
     rw long (by_number (entries_of us) (placed us) (λ id facts. (facts.type_target ≡ Some to → to < length (entries_of us)) × (facts.signature_target ≡ Some to → to < length (entries_of us)))
-    (λ id e is. facts-within (entries_of us) (placed us) e to) (λ id. (λ is. absurd cc, λ is. absurd cc)) node)
+    (λ id e is. (target-below (entries_of us) (placed us) e _ to, target-below (entries_of us) (placed us) e _ to)) (λ id. (λ is. absurd cc, λ is. absurd cc)) node)
 
 pub facts-rise : (a : List ℕ) (us : List DebugUnit) → AreUnits a us → OffsetsRise (facts_in us)
 facts-rise a us are earlier later before inside =
@@ -212,11 +154,19 @@ facts-rise a us are earlier later before inside =
         | inr over ↦ absurd (omega (arith, over.0))
         | inl high ↦
             let rise : low.0.at < high.0.at = entries_rise a us are earlier later low.0 high.0 before low.2 high.2 in
-            rw (facts-get entries units earlier low.0 low.2, facts-get entries units later high.0 high.2, facts-offset entries units low.0, facts-offset entries units high.0) rise
+            rw (facts-get entries units earlier low.0 low.2, facts-get entries units later high.0 high.2) rise
       ]
     ]
 
 -- what is read of the entry with a number is its facts
+pub known : (us : List DebugUnit) (id : ℕ) (o : Option Entry) → o ≡ slice_get (entries_of us) id → id < length (entries_of us) → (P : Facts → Type 0)
+    → IfSome o (λ e. P (facts_at (entries_of us) (placed us) e)) → P (entry_of (facts_in us) id)
+known us id o there below P is = elim (slice_get_cases (entries_of us) id).1 [
+  | inr over ↦ absurd (omega (arith, over.0))
+  | inl here ↦
+      let at : P (facts_at (entries_of us) (placed us) here.0) = rw (there ∙ here.2) at is in
+      rw (facts-get (entries_of us) (placed us) id here.0 here.2) at
+]
 
 module _ (us : List DebugUnit) (facts : List Facts) (same : facts_in us ≡ facts) where
   pub facts-count : length facts ≡ length (entries_of us)
@@ -224,27 +174,3 @@ module _ (us : List DebugUnit) (facts : List Facts) (same : facts_in us ≡ fact
 
   pub facts-below : (node : ℕ) → node < length facts → node < length (entries_of us)
   facts-below node below = let count = facts-count in omega arith
-
-  -- what a clause says of the entry with a number
-  known : (P : Facts → Type 0) (id node : ℕ) → id ≡ node → node < length facts → IfSome (slice_get (entries_of us) id) (λ e. P (facts_at (entries_of us) (placed us) e)) → P (entry_of facts node)
-  known P id node here below is = elim (slice_get_cases (entries_of us) id).1 [
-    | inr over ↦ absurd (let inside = facts-below node below in omega (arith, over.0))
-    | inl there ↦
-        let at : P (facts_at (entries_of us) (placed us) there.0) = rw there.2 at is in
-        rw (← same, ← here, facts-get (entries_of us) (placed us) id there.0 there.2) at
-  ]
-
-  pub tag-known : (tag id node : ℕ) → id ≡ node → node < length facts → IfSome (slice_get (entries_of us) id) (λ e. tag ≡ e.head.decl.tag) → tag ≡ (entry_of facts node).tag
-  tag-known tag id node here below is =
-      known (λ x. tag ≡ x.tag) id node here below (IfSome_then (slice_get (entries_of us) id) is (λ e h. h ∙ sym (facts-tag (entries_of us) (placed us) e)))
-
-  pub head-tag-known : (head : EntryHead) (id node : ℕ) → id ≡ node → node < length facts → IfSome (slice_get (entries_of us) id) (λ e. head ≡ entry_head e) → head.tag ≡ (entry_of facts node).tag
-  head-tag-known head id node here below is = tag-known head.tag id node here below (IfSome_then (slice_get (entries_of us) id) is (λ e h. ap (λ (x : EntryHead). x.tag) h))
-
-  pub parent-known : (head : EntryHead) (id node : ℕ) → id ≡ node → node < length facts → IfSome (slice_get (entries_of us) id) (λ e. head ≡ entry_head e) → head.parent ≡ (entry_of facts node).parent
-  parent-known head id node here below is =
-      known (λ x. head.parent ≡ x.parent) id node here below (IfSome_then (slice_get (entries_of us) id) is (λ e h. ap (λ (x : EntryHead). x.parent) h ∙ sym (facts-parent (entries_of us) (placed us) e)))
-
-  pub type-known : (is : Bool) (id node : ℕ) → id ≡ node → node < length facts → IfSome (slice_get (entries_of us) id) (λ e. is ≡ is_type_tag e.head.decl.tag) → is ≡ is_type_tag (entry_of facts node).tag
-  type-known is id node here below same =
-      known (λ x. is ≡ is_type_tag x.tag) id node here below (IfSome_then (slice_get (entries_of us) id) same (λ e h. h ∙ ap is_type_tag (sym (facts-tag (entries_of us) (placed us) e))))

@@ -3,7 +3,6 @@ pub mod ChildLemmas
 pub mod FactsLemmas
 pub mod ChildSteps
 pub mod UnitLemmas
-pub mod ReaderLemmas
 pub mod CountLemmas
 pub mod RankLemmas
 pub mod WalkLemmas

@@ -8,8 +8,7 @@ use Rattle.dw_entries.specs.declared.fault.Section.TheVariants.{Info}
 use Rattle.dw_entries.specs.declared.fault.Rule.{Rule}
 use Rattle.dw_entries.specs.Failures.{HasNone, IsFirst, IsLeast}
 use Rattle.dw_entries.specs.Places.{at_entry, offset_of}
-use Rattle.dw_types.specs.declared.facts.Facts.{Facts}
-use Rattle.dw_types.specs.Entries.{entry_of, no_entry, OffsetsRise}
+use Rattle.dw_types.specs.Entries.{entry_of, no_entry, OffsetsRise, Facts}
 use Rattle.dw_types.specs.TypeFailures.{EntryFailures, IsFirstAt, PassAll, PassesAt}
 use Rattle.dw_types.specs.Noted.{IsNoted, with_rule}
 

@@ -8,9 +8,8 @@ use Rattle.std.proofs.Math.Seq.{get_or-append_right}
 use Rattle.std.proofs.lemmas.List.Concat.{flat_map-append}
 use Rattle.std.proofs.lemmas.List.Elements.{Contains-get_or}
 use Rattle.dw_forms.specs.Codes.{DW_TAG_member, is_type_tag}
-use Rattle.dw_types.specs.declared.facts.Facts.{Facts}
 use Rattle.dw_types.specs.declared.kind.Role.TheVariants.{Members}
-use Rattle.dw_types.specs.Entries.{entry_of, entry_numbers, is_child, children, TargetsAreEntries}
+use Rattle.dw_types.specs.Entries.{entry_of, entry_numbers, is_child, children, TargetsAreEntries, Facts}
 use Rattle.dw_types.specs.Kinds.{has_members, is_declared_type, passes_type_on}
 use Rattle.dw_types.specs.Packing.{LeadsBelow}
 use Rattle.dw_types.specs.Shapes.{is_plain}

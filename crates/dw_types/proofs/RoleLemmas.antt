@@ -6,12 +6,11 @@ use Rattle.std.specs.List.{Contains, filter}
 use Rattle.std.proofs.lemmas.List.FromFn.{get_or-range_with_len, length-range_with_len}
 use Rattle.dw_forms.specs.Codes.{DW_TAG_array_type, DW_TAG_atomic_type, DW_TAG_base_type, DW_TAG_const_type, DW_TAG_enumeration_type, DW_TAG_member, DW_TAG_pointer_type, DW_TAG_restrict_type, DW_TAG_subroutine_type, DW_TAG_typedef, DW_TAG_volatile_type, is_type_tag}
 use Rattle.dw_links.specs.Classes.{is_one_of}
-use Rattle.dw_types.specs.declared.facts.Facts.{Facts}
 use Rattle.dw_types.specs.declared.kind.Kind.TheVariants.{NoType}
 use Rattle.dw_types.specs.declared.kind.Role.{Role}
 use Rattle.dw_types.specs.declared.kind.Role.TheVariants.{Other, Members, Dimensions}
 use Rattle.dw_types.specs.Constants.{is_negative, is_present}
-use Rattle.dw_types.specs.Entries.{entry_numbers, is_child, is_parent, children}
+use Rattle.dw_types.specs.Entries.{entry_numbers, is_child, is_parent, children, Facts, byte_size}
 use Rattle.dw_types.specs.Kinds.{alias_tags, container_tags, declarable_tags, has_members, is_array, is_declared_type, kind_of, own_sized_tags, passes_type_on, role_of, is_dimensions, is_members}
 use Rattle.dw_types.specs.Shapes.{has_bad_count, is_plain}
 use Rattle.dw_types.specs.SizeFaults.{has_no_size, reads_own, wants_own}
@@ -69,7 +68,7 @@ module _ (entry : Facts) (untyped : is_type_tag entry.tag ≡ false) where
   untyped-wants = rw (not-tag DW_TAG_base_type refl, not-one container_tags (refl, (refl, tt)), not-tag DW_TAG_array_type refl) refl
 
   pub untyped-size_none : has_no_size entry ≡ true → ⊥
-  untyped-size_none breaks = neither-or (reads_own (kind_of entry)) (is_negative entry.byte_size) (not (is_present entry.byte_size)) (wants_own entry) (ap reads_own untyped-kind) untyped-wants breaks
+  untyped-size_none breaks = neither-or (reads_own (kind_of entry)) (is_negative (byte_size entry)) (not (is_present (byte_size entry))) (wants_own entry) (ap reads_own untyped-kind) untyped-wants breaks
 
 -- a child is among the children
 

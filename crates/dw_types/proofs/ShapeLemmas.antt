@@ -12,11 +12,10 @@ use Rattle.dw_forms.specs.declared.fault.Stop.{Stop}
 use Rattle.dw_forms.specs.declared.fault.Stop.TheVariants.{Fault, Memory}
 use Rattle.dw_entries.specs.Stopped.{IfPlainFault}
 use Rattle.dw_forms.specs.Codes.{DW_TAG_array_type, is_type_tag}
-use Rattle.dw_types.specs.declared.facts.Facts.{Facts}
 use Rattle.dw_types.specs.declared.kind.Role.{Role}
 use Rattle.dw_types.specs.declared.kind.Role.TheVariants.{Other}
 use Rattle.dw_types.specs.Children.{IsChildOf}
-use Rattle.dw_types.specs.Entries.{children, entry_of, no_entry, OffsetsRise, ParentsComeFirst}
+use Rattle.dw_types.specs.Entries.{children, entry_of, no_entry, OffsetsRise, ParentsComeFirst, Facts}
 use Rattle.dw_types.specs.Kinds.{has_members, is_array, parent_role, role_in, role_of}
 use Rattle.dw_types.specs.Noted.{IsNoted, with_rule}
 use Rattle.dw_types.specs.Shapes.{breaks_shape, fails_shape, ShapeFailures}

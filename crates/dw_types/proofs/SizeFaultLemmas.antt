@@ -2,19 +2,18 @@
 -- table that is filled in its place.
 use Rattle.std.proofs.Common.{◌≡◌, ℕ, ◌^◌, ◌<◌, ◌≤◌, min, ℤ, pos, negsuc, Bool, true, false, not, ◌&&◌, ◌||◌, if◌then◌else◌, List, Option, Some, None, IfSome, is_some, length, nat_eq, ◌⊎◌, inl, inr, arith, refl, sym, ap, ◌∙◌}
 use Rattle.std.proofs.lemmas.Bool.{cases_lt, eqb-true, false_from_ne_true}
-use Rattle.dw_forms.specs.Codes.{DW_TAG_array_type, DW_TAG_base_type, DW_TAG_enumeration_type, DW_TAG_pointer_type}
+use Rattle.dw_forms.specs.Codes.{DW_TAG_array_type, DW_TAG_base_type, DW_TAG_enumeration_type, DW_TAG_pointer_type, DW_AT_bit_size, DW_AT_byte_stride, DW_AT_data_bit_offset}
 use Rattle.dw_entries.specs.declared.fault.Rule.{Rule}
 use Rattle.dw_entries.specs.declared.fault.Rule.TheVariants.{NoSize, SizeTooGreat, MemberOutside, EnumSize}
 use Rattle.dw_entries.specs.Rules.{number_of}
 use Rattle.dw_links.specs.Classes.{is_one_of}
-use Rattle.dw_types.specs.declared.facts.Facts.{Facts}
-use Rattle.dw_types.specs.declared.facts.Constant.{Constant}
-use Rattle.dw_types.specs.declared.facts.Constant.TheVariants.{Absent, NotNumber, Unsigned, Signed}
+use Rattle.dw_types.specs.declared.constant.Constant.{Constant}
+use Rattle.dw_types.specs.declared.constant.Constant.TheVariants.{Absent, NotNumber, Unsigned, Signed}
 use Rattle.dw_types.specs.declared.kind.Kind.{Kind}
 use Rattle.dw_types.specs.declared.kind.Role.{Role}
 use Rattle.dw_types.specs.declared.kind.Kind.TheVariants.{Declared, OwnSized, Pointer, Alias, Enumeration, Array, Subroutine, NoType}
 use Rattle.dw_types.specs.Constants.{is_negative, is_present, natural_of}
-use Rattle.dw_types.specs.Entries.{entry_of, ParentsComeFirst, TargetsAreEntries, OffsetsRise}
+use Rattle.dw_types.specs.Entries.{entry_of, ParentsComeFirst, TargetsAreEntries, OffsetsRise, Facts, byte_size, constant}
 use Rattle.dw_types.specs.Extents.{bytes_end_past, end_past, is_number, is_outside, start_of, ends_past_container}
 use Rattle.dw_types.specs.Kinds.{container_tags, has_members, is_array, is_declared_type, is_enumeration, kind_of, parent_role}
 use Rattle.dw_types.specs.Shapes.{is_plain, stands_alone}
@@ -62,7 +61,7 @@ ends-same : (own : Size) (member : Facts) (size : Size) → is_too_great own ≡
 ends-same None member size small = refl
 ends-same (Some n) member size small =
     let below : n < 2 ^ 63 = grind arith in
-    if-same (is_number member.bit_size && is_number member.data_bit_offset) (is_present member.bit_size) _ false _ _ (bytes-same n (start_of member) size below)
+    if-same (is_number (constant member DW_AT_bit_size) && is_number (constant member DW_AT_data_bit_offset)) (is_present (constant member DW_AT_bit_size)) _ false _ _ (bytes-same n (start_of member) size below)
 
 enumeration-kind : (entry : Facts) → is_enumeration entry ≡ true → kind_of entry ≡ Enumeration
 enumeration-kind entry is = grind arith
@@ -118,10 +117,10 @@ module _ (entries : List Facts) (parents : ParentsComeFirst entries) (targets : 
   wrong-same node below small =
       let entry = entry_of entries node in
       and-same (is_enumeration entry) _ _ (λ is.
-      let line : exact node ≡ constant_or entry.byte_size (size_to exact entry.type_target) = obeys node below ∙ ap (λ (kind : Kind). size_of_kind kind entries exact node) (enumeration-kind entry is) in
-      let own = constant-small entry.byte_size (size_to exact entry.type_target) (rw line at small) in
-      ap (λ (b : Bool). (not (is_present entry.byte_size) && (not (is_some entry.type_target) && stands_alone entry)) || b)
-      (ap (differ (natural_of entry.byte_size)) (to-found entry.type_target (λ to target. (targets node to).0 target)) ∙ differ-same (natural_of entry.byte_size) (size_to exact entry.type_target) own))
+      let line : exact node ≡ constant_or (byte_size entry) (size_to exact entry.type_target) = obeys node below ∙ ap (λ (kind : Kind). size_of_kind kind entries exact node) (enumeration-kind entry is) in
+      let own = constant-small (byte_size entry) (size_to exact entry.type_target) (rw line at small) in
+      ap (λ (b : Bool). (not (is_present (byte_size entry)) && (not (is_some entry.type_target) && stands_alone entry)) || b)
+      (ap (differ (natural_of (byte_size entry))) (to-found entry.type_target (λ to target. (targets node to).0 target)) ∙ differ-same (natural_of (byte_size entry)) (size_to exact entry.type_target) own))
 
   fails-same : (node : ℕ) → node < length entries → NoneGreatBefore node → (rule : Rule) → (rule ≡ EnumSize → is_too_great (exact node) ≡ false)
       → fails_size entries found node rule ≡ fails_size entries exact node rule
@@ -224,7 +223,7 @@ enumeration-wants entry is = tag-wants entry DW_TAG_enumeration_type (eqb-true e
 alias-wants : (entry : Facts) → kind_of entry ≡ Alias → wants_own entry ≡ false
 alias-wants entry is = wants-none entry (grind arith) (grind arith) (grind arith)
 
-array-wants : (entry : Facts) → kind_of entry ≡ Array → is_negative entry.byte_stride ≡ false → wants_own entry ≡ false
+array-wants : (entry : Facts) → kind_of entry ≡ Array → is_negative (constant entry DW_AT_byte_stride) ≡ false → wants_own entry ≡ false
 array-wants entry is stride = let base : nat_eq entry.tag DW_TAG_base_type ≡ false = grind arith in let members : has_members entry ≡ false = grind arith in rw (base, members, stride) (and-none (is_array entry))
   where
     and-none : (b : Bool) → (b && false) ≡ false
@@ -232,32 +231,32 @@ array-wants entry is stride = let base : nat_eq entry.tag DW_TAG_base_type ≡ f
     and-none false = refl
 
 -- with a byte size of its own, or by other sizes where nothing is wanted
-own-part : (entry : Facts) (other : Size) (n : ℕ) → constant_or entry.byte_size other ≡ Some n → (other ≡ Some n → wants_own entry ≡ false) → has_no_size entry ≡ false
-own-part entry other n is wants = elim (own-or entry.byte_size other n is) [
-  | inl absent ↦ absent-own (reads_own (kind_of entry)) (is_present entry.byte_size) (is_negative entry.byte_size) (wants_own entry) (rw absent.0 refl) (wants absent.1)
-  | inr own ↦ present-own (reads_own (kind_of entry)) (is_present entry.byte_size) (is_negative entry.byte_size) (wants_own entry) own.0 own.1
+own-part : (entry : Facts) (other : Size) (n : ℕ) → constant_or (byte_size entry) other ≡ Some n → (other ≡ Some n → wants_own entry ≡ false) → has_no_size entry ≡ false
+own-part entry other n is wants = elim (own-or (byte_size entry) other n is) [
+  | inl absent ↦ absent-own (reads_own (kind_of entry)) (is_present (byte_size entry)) (is_negative (byte_size entry)) (wants_own entry) (rw absent.0 refl) (wants absent.1)
+  | inr own ↦ present-own (reads_own (kind_of entry)) (is_present (byte_size entry)) (is_negative (byte_size entry)) (wants_own entry) own.0 own.1
 ]
 
 sized-kind : (entries : List Facts) (table : ℕ → Size) (node : ℕ) (kind : Kind) → kind_of (entry_of entries node) ≡ kind → (n : ℕ) → size_of_kind kind entries table node ≡ Some n
     → has_no_size (entry_of entries node) ≡ false
 sized-kind entries table node Declared is n sized =
     let entry = entry_of entries node in
-    unread-own (reads_own (kind_of entry)) (is_present entry.byte_size) (is_negative entry.byte_size) (wants_own entry) (ap reads_own is) (declared-wants entry (declared-is entry is))
+    unread-own (reads_own (kind_of entry)) (is_present (byte_size entry)) (is_negative (byte_size entry)) (wants_own entry) (ap reads_own is) (declared-wants entry (declared-is entry is))
 sized-kind entries table node OwnSized is n sized =
     let entry = entry_of entries node in
-    let own = natural-own entry.byte_size n sized in
-    present-own (reads_own (kind_of entry)) (is_present entry.byte_size) (is_negative entry.byte_size) (wants_own entry) own.0 own.1
+    let own = natural-own (byte_size entry) n sized in
+    present-own (reads_own (kind_of entry)) (is_present (byte_size entry)) (is_negative (byte_size entry)) (wants_own entry) own.0 own.1
 sized-kind entries table node Pointer is n sized = own-part (entry_of entries node) _ n sized (λ _. pointer-wants (entry_of entries node) is)
 sized-kind entries table node Alias is n sized =
     let entry = entry_of entries node in
-    unread-own (reads_own (kind_of entry)) (is_present entry.byte_size) (is_negative entry.byte_size) (wants_own entry) (ap reads_own is) (alias-wants entry is)
+    unread-own (reads_own (kind_of entry)) (is_present (byte_size entry)) (is_negative (byte_size entry)) (wants_own entry) (ap reads_own is) (alias-wants entry is)
 sized-kind entries table node Enumeration is n sized = own-part (entry_of entries node) _ n sized (λ _. enumeration-wants (entry_of entries node) is)
 sized-kind entries table node Array is n sized =
     let entry = entry_of entries node in
     own-part entry (array_size entries table node) n sized (λ other.
     let product = if-some (is_regular entries node) _ n other in
-    let storage = times-some (constant_or entry.byte_stride (size_to table entry.type_target)) _ n product in
-    array-wants entry is (not-negative entry.byte_stride (size_to table entry.type_target) storage.0 storage.1))
+    let storage = times-some (constant_or (constant entry DW_AT_byte_stride) (size_to table entry.type_target)) _ n product in
+    array-wants entry is (not-negative (constant entry DW_AT_byte_stride) (size_to table entry.type_target) storage.0 storage.1))
 sized-kind entries table node Subroutine is n sized = absurd cc
 sized-kind entries table node NoType is n sized = absurd cc
 

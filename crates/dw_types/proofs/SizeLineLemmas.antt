@@ -1,17 +1,16 @@
 -- The size lines read a table at steps by value alone, and may take capped sizes.
 use Rattle.std.proofs.Common.{◌⊎◌, inl, inr, ◌≡◌, ℕ, ◌*◌, ◌^◌, ◌<◌, min, Bool, true, false, not, ◌&&◌, if◌then◌else◌, List, map, Option, Some, None, length, arith, refl, sym, ap, ◌∙◌}
 use Rattle.std.proofs.Math.Nat.{mul_comm}
-use Rattle.dw_types.specs.declared.facts.Facts.{Facts}
-use Rattle.dw_types.specs.declared.facts.Constant.{Constant}
-use Rattle.dw_types.specs.declared.facts.Constant.TheVariants.{Absent, NotNumber, Unsigned, Signed}
+use Rattle.dw_types.specs.declared.constant.Constant.{Constant}
+use Rattle.dw_types.specs.declared.constant.Constant.TheVariants.{Absent, NotNumber, Unsigned, Signed}
 use Rattle.dw_types.specs.declared.kind.Kind.{Kind}
 use Rattle.dw_types.specs.declared.kind.Kind.TheVariants.{Declared, OwnSized, Pointer, Alias, Enumeration, Array, Subroutine, NoType}
 use Rattle.dw_types.specs.Constants.{is_present}
 use Rattle.dw_types.specs.ElementCounts.{element_count_by, size_from}
-use Rattle.dw_types.specs.Entries.{entry_of, TargetsAreEntries, children}
+use Rattle.dw_types.specs.Entries.{entry_of, TargetsAreEntries, children, Facts, byte_size, constant}
 use Rattle.dw_types.specs.Graphs.{IsStep}
 use Rattle.std.proofs.lemmas.Bool.{and_parts}
-use Rattle.dw_forms.specs.Codes.{DW_TAG_structure_type, DW_TAG_union_type}
+use Rattle.dw_forms.specs.Codes.{DW_TAG_structure_type, DW_TAG_union_type, DW_AT_bit_stride, DW_AT_byte_stride}
 use Rattle.dw_types.specs.Kinds.{container_tags, has_members, passes_type_on, is_declared_type, kind_of}
 use Rattle.dw_links.specs.Classes.{is_one_of}
 use Rattle.dw_types.specs.SizeTables.{Size, cap_size}
@@ -65,11 +64,11 @@ module _ (entries : List Facts) where
   by-kind table other node Alias is same =
       to-same table other (entry_of entries node).type_target (λ to target. at-step table other node to same (step-from_by_value entries node to (by_type (alias-passes (entry_of entries node) is) target)))
   by-kind table other node Enumeration is same =
-      ap (constant_or (entry_of entries node).byte_size)
+      ap (constant_or (byte_size (entry_of entries node)))
       (to-same table other (entry_of entries node).type_target (λ to target. at-step table other node to same (step-from_by_value entries node to (by_type (enumeration-passes (entry_of entries node) is) target))))
   by-kind table other node Array is same =
       let e = to-same table other (entry_of entries node).type_target (λ to target. at-step table other node to same (step-from_by_value entries node to (by_type (array-passes (entry_of entries node) is) target))) in
-      ap (λ (size : Size). constant_or (entry_of entries node).byte_size (if is_regular entries node then times (constant_or (entry_of entries node).byte_stride size) (product_of (map (factor_of entries) (dimensions entries node))) else None)) e
+      ap (λ (size : Size). constant_or (byte_size (entry_of entries node)) (if is_regular entries node then times (constant_or (constant (entry_of entries node) DW_AT_byte_stride) size) (product_of (map (factor_of entries) (dimensions entries node))) else None)) e
   by-kind table other node Subroutine is same = refl
   by-kind table other node NoType is same = refl
 
@@ -113,12 +112,12 @@ cap-kind limit entries table node Declared = cap-to limit table (entry_of entrie
 cap-kind limit entries table node OwnSized = refl
 cap-kind limit entries table node Pointer = refl
 cap-kind limit entries table node Alias = cap-to limit table (entry_of entries node).type_target
-cap-kind limit entries table node Enumeration = cap-constant limit (entry_of entries node).byte_size _ _ (cap-to limit table (entry_of entries node).type_target)
+cap-kind limit entries table node Enumeration = cap-constant limit (byte_size (entry_of entries node)) _ _ (cap-to limit table (entry_of entries node).type_target)
 cap-kind limit entries table node Array =
-    cap-constant limit (entry_of entries node).byte_size _ _
+    cap-constant limit (byte_size (entry_of entries node)) _ _
     (cap-if limit (is_regular entries node) _ _
     (cap-times limit _ _ (product_of (map (factor_of entries) (dimensions entries node)))
-    (cap-constant limit (entry_of entries node).byte_stride _ _ (cap-to limit table (entry_of entries node).type_target))))
+    (cap-constant limit (constant (entry_of entries node) DW_AT_byte_stride) _ _ (cap-to limit table (entry_of entries node).type_target))))
 cap-kind limit entries table node Subroutine = refl
 cap-kind limit entries table node NoType = refl
 
@@ -151,12 +150,12 @@ by-factor (Some a) p false false false = refl
 by-factor (Some a) None true false false = refl
 by-factor (Some a) (Some q) true false false = let left = cap-product (2 ^ 63) q a in ap Some (omega (arith, left, mul_comm q a, mul_comm (min (2 ^ 63) q) a))
 
-pub array-by_element_count : (entries : List Facts) (table : ℕ → Size) (node : ℕ) → is_present (entry_of entries node).bit_stride ≡ false
-    → cap_size (2 ^ 63) (times (constant_or (entry_of entries node).byte_stride (size_to table (entry_of entries node).type_target)) (size_from (element_count_by entries (children entries node))))
+pub array-by_element_count : (entries : List Facts) (table : ℕ → Size) (node : ℕ) → is_present (constant (entry_of entries node) DW_AT_bit_stride) ≡ false
+    → cap_size (2 ^ 63) (times (constant_or (constant (entry_of entries node) DW_AT_byte_stride) (size_to table (entry_of entries node).type_target)) (size_from (element_count_by entries (children entries node))))
     ≡ cap_size (2 ^ 63) (array_size entries table node)
 array-by_element_count entries table node plain =
     rw plain
-    (by-factor (constant_or (entry_of entries node).byte_stride (size_to table (entry_of entries node).type_target)) (product_of (map (factor_of entries) (dimensions entries node)))
+    (by-factor (constant_or (constant (entry_of entries node) DW_AT_byte_stride) (size_to table (entry_of entries node).type_target)) (product_of (map (factor_of entries) (dimensions entries node)))
     (has_elements (dimensions entries node)) (list_any (is_other_index entries) (children entries node)) (list_any (has_stride entries) (dimensions entries node)))
 
 -- the capped lines

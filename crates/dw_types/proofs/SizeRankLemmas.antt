@@ -12,10 +12,9 @@ use Rattle.dw_entries.specs.Failures.{HasNone}
 use Rattle.dw_entries.specs.Stopped.{IfPlainFault}
 use Rattle.dw_types.specs.StoredSizes.{ObeysCappedLines}
 use Rattle.dw_forms.specs.Codes.{DW_TAG_member, is_type_tag}
-use Rattle.dw_types.specs.declared.facts.Facts.{Facts}
 use Rattle.dw_types.specs.declared.kind.Role.{Role}
 use Rattle.dw_types.specs.declared.kind.Role.TheVariants.{Members, Dimensions, Other}
-use Rattle.dw_types.specs.Entries.{entry_of, no_entry, OffsetsRise, ParentsComeFirst, TargetsAreEntries}
+use Rattle.dw_types.specs.Entries.{entry_of, no_entry, OffsetsRise, ParentsComeFirst, TargetsAreEntries, Facts}
 use Rattle.dw_types.specs.Extents.{ends_past_container}
 use Rattle.dw_types.specs.Kinds.{has_members, is_array, is_enumeration, is_members, parent_role, passes_type_on, role_in}
 use Rattle.dw_types.specs.Noted.{asked_at, IsNoted}

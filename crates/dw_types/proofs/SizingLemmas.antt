@@ -10,12 +10,11 @@ use Rattle.dw_entries.specs.declared.fault.Rule.{Rule}
 use Rattle.dw_entries.specs.declared.fault.Rule.TheVariants.{NoSize, SizeTooGreat, MemberOutside, EnumSize}
 use Rattle.dw_entries.specs.Failures.{IsLeast}
 use Rattle.dw_forms.specs.Codes.{DW_TAG_member, is_type_tag}
-use Rattle.dw_types.specs.declared.facts.Facts.{Facts}
 use Rattle.dw_types.specs.declared.kind.Kind.{Kind}
 use Rattle.dw_types.specs.declared.kind.Role.{Role}
 use Rattle.dw_types.specs.declared.kind.Role.TheVariants.{Members, Dimensions, Other}
 use Rattle.dw_types.specs.Children.{IsChildOf}
-use Rattle.dw_types.specs.Entries.{children, entry_of, no_entry, is_child, ParentsComeFirst}
+use Rattle.dw_types.specs.Entries.{children, entry_of, no_entry, is_child, ParentsComeFirst, Facts}
 use Rattle.dw_types.specs.Kinds.{has_members, is_array, is_members, parent_role, role_in, role_of}
 use Rattle.dw_types.specs.Noted.{asked_at, is_member_of, IsNoted, with_rule}
 use Rattle.dw_types.specs.Shapes.{is_plain}

@@ -6,11 +6,10 @@ use Rattle.std.proofs.lemmas.List.{length-map, get_or-map, get_or_past, get_or_d
 use Rattle.std.proofs.lemmas.List.Elements.{Contains-append_left, Contains-append_right, Contains-append_cases}
 use Rattle.std.proofs.lemmas.List.FromFn.{length-range_with_len, get_or-range_with_len}
 use Rattle.dw_links.specs.Classes.{is_one_of}
-use Rattle.dw_types.specs.Entries.{no_entry, entry_of, entry_numbers, TargetsAreEntries}
+use Rattle.dw_types.specs.Entries.{no_entry, entry_of, entry_numbers, TargetsAreEntries, Facts}
 use Rattle.dw_types.specs.Graphs.{steps_of, IsStep, step_at, LeadsToNodes}
 use Rattle.dw_types.specs.Kinds.{passes_type_on, is_declared_type, has_members, container_tags, declarable_tags}
 use Rattle.dw_types.specs.Steps.{is_plain_member, IsStepByValue, by_type, by_member, by_signature, targets_if, member_step, steps_by_value, by_value}
-use Rattle.dw_types.specs.declared.facts.Facts.{Facts}
 
 -- the one target, where the test passes
 

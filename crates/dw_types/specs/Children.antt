@@ -4,8 +4,7 @@ use Rattle.std.specs.Prelude.{length, Option, None, Some, option_map, slice_get}
 use Rattle.std.specs.Option.{ForSome}
 use Rattle.std.specs.List.{range_with_len}
 use Rattle.dw_entries.specs.Entries.{Entry}
-use Rattle.dw_types.specs.declared.facts.Facts.{Facts}
-use Rattle.dw_types.specs.Entries.{entry_of, is_child}
+use Rattle.dw_types.specs.Entries.{entry_of, is_child, Facts}
 
 -- whether a parent is the entry with this number
 abbrev pub is_number : ℕ → Option ℕ → Bool

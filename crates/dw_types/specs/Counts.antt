@@ -1,14 +1,14 @@
 -- Chapter: the count of a dimension (DWARF 5, 5.13).
 use Rattle.std.specs.Prelude.{ℕ, ◌^◌, ◌-◌, ℤ, pos, negsuc, ◌+ℤ◌, ◌-ℤ◌, Bool, false, ◌&&◌, ◌||◌, not, List, [], ◌∷◌}
 use Rattle.std.specs.Prelude.{Option, Some, None, if◌then◌else◌, nat_eq}
-use Rattle.dw_types.specs.declared.facts.Constant.{Constant}
-use Rattle.dw_types.specs.declared.facts.Constant.TheVariants.{Absent, NotNumber, Unsigned, Signed}
-use Rattle.dw_types.specs.declared.facts.Facts.{Facts}
+use Rattle.dw_types.specs.declared.constant.Constant.{Constant}
+use Rattle.dw_types.specs.declared.constant.Constant.TheVariants.{Absent, NotNumber, Unsigned, Signed}
 use Rattle.dw_types.specs.declared.kind.Role.{Role}
-use Rattle.dw_forms.specs.Codes.{DW_TAG_array_type, DW_TAG_subrange_type, DW_LANG_C89, DW_LANG_C, DW_LANG_C_plus_plus}
+use Rattle.dw_forms.specs.Codes.{DW_AT_count, DW_AT_lower_bound, DW_AT_upper_bound, DW_TAG_array_type}
+use Rattle.dw_forms.specs.Codes.{DW_TAG_subrange_type, DW_LANG_C89, DW_LANG_C, DW_LANG_C_plus_plus}
 use Rattle.dw_forms.specs.Codes.{DW_LANG_C99, DW_LANG_C_plus_plus_11, DW_LANG_Rust, DW_LANG_C11, DW_LANG_C_plus_plus_14}
 use Rattle.dw_types.specs.Constants.{is_present, natural, natural_of, number_in}
-use Rattle.dw_types.specs.Entries.{entry_of}
+use Rattle.dw_types.specs.Entries.{entry_of, Facts, constant}
 use Rattle.dw_types.specs.Kinds.{is_dimensions, parent_role}
 use Rattle.dw_links.specs.Classes.{is_one_of}
 use Rattle.dw_types.specs.SizeTables.{Size}
@@ -69,7 +69,9 @@ count_from count language upper lower =
 
 -- the count of a dimension, none if it is unknown
 abbrev pub count_of : Facts → Option ℤ
-count_of entry = count_from entry.count entry.language entry.upper_bound entry.lower_bound
+count_of entry =
+    count_from (constant entry DW_AT_count) entry.language (constant entry DW_AT_upper_bound)
+    (constant entry DW_AT_lower_bound)
 
 -- a known count of 0 or more
 abbrev pub known_natural : Option ℤ → Size

@@ -1,11 +1,11 @@
 -- State: how many elements an array has, as a product that grows child by child (DWARF 5, 5.5).
 use Rattle.std.specs.Prelude.{ℕ, ◌*◌, ◌^◌, ◌||◌, List, None, Some, map, filter, min, if◌then◌else◌}
 use Rattle.std.specs.List.{list_any}
-use Rattle.dw_types.specs.declared.facts.Facts.{Facts}
 use Rattle.dw_types.specs.declared.count.ElementCount.{ElementCount}
 use Rattle.dw_types.specs.declared.count.ElementCount.TheVariants.{NoDimension, Known, Unknown}
 use Rattle.dw_types.specs.SizeTables.{Size, cap_size}
 use Rattle.dw_types.specs.Sizes.{is_subrange, is_other_index, has_stride, factor_of, product_of, has_elements}
+use Rattle.dw_types.specs.Entries.{Facts}
 
 -- a product that is known, or not
 abbrev pub element_count_from : Size → ElementCount

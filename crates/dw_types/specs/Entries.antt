@@ -1,9 +1,37 @@
 -- Chapter: the entries with their facts: by number, by parent and by offset.
-use Rattle.std.specs.Prelude.{◌≡◌, ℕ, ◌<◌, Bool, false, List, Option, Some, None, length, filter, nat_eq}
+use Rattle.std.specs.Prelude.{◌≡◌, ℕ, ◌<◌, Bool, false, List, [], Option, Some, None, length, filter, nat_eq}
 use Rattle.std.specs.Prelude.{slice_index_or}
 use Rattle.std.specs.List.{range_with_len}
-use Rattle.dw_types.specs.declared.facts.Facts.{Facts}
-use Rattle.dw_types.specs.declared.facts.Constant.TheVariants.{Absent}
+use Rattle.dw_forms.specs.Codes.{DW_AT_byte_size}
+use Rattle.dw_forms.specs.Value.{Datum}
+use Rattle.dw_entries.specs.Lookups.{value_in}
+use Rattle.dw_types.specs.declared.constant.Constant.{Constant}
+use Rattle.dw_types.specs.declared.constant.Constant.TheVariants.{Absent}
+use Rattle.dw_types.specs.Constants.{constant_of}
+
+-- what the rules on types, counts and sizes read of an entry
+pub record Facts : Type 0 where
+  pub offset : ℕ
+  pub tag : ℕ
+  -- DW_AT_declaration is true
+  pub declared : Bool
+  pub parent : Option ℕ
+  -- the entries that DW_AT_type and DW_AT_signature reach
+  pub type_target : Option ℕ
+  pub signature_target : Option ℕ
+  -- of the entry's unit: the size of an address, and DW_AT_language of its first entry
+  pub address_size : ℕ
+  pub language : Constant
+  -- the value of each attribute
+  pub values : List (ℕ × Datum)
+
+-- the number of an attribute, or that it is absent or no number
+abbrev pub constant : Facts → (attribute : ℕ) → Constant
+constant entry attribute = constant_of (value_in entry.values attribute)
+
+-- the byte size
+abbrev pub byte_size : Facts → Constant
+byte_size entry = constant entry DW_AT_byte_size
 
 -- the facts of a number past the last entry
 abbrev pub no_entry : Facts
@@ -14,19 +42,9 @@ no_entry = record {
   parent = None;
   type_target = None;
   signature_target = None;
-  has_specification = false;
-  has_abstract_origin = false;
   address_size = 0;
   language = Absent;
-  byte_size = Absent;
-  bit_size = Absent;
-  byte_stride = Absent;
-  bit_stride = Absent;
-  count = Absent;
-  lower_bound = Absent;
-  upper_bound = Absent;
-  data_member_location = Absent;
-  data_bit_offset = Absent;
+  values = [];
 }
 
 -- the entry of a number

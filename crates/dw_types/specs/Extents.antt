@@ -1,12 +1,13 @@
 -- Chapter: whether a plain member ends inside its container (DWARF 5, 5.7.6).
 use Rattle.std.specs.Prelude.{ℕ, ◌+◌, ◌*◌, ℤ, pos, negsuc, ◌*ℤ◌, Bool, true, false, ◌&&◌, Option, None, Some, is_some}
 use Rattle.std.specs.Prelude.{if◌then◌else◌, nat_lt}
-use Rattle.dw_types.specs.declared.facts.Facts.{Facts}
 use Rattle.dw_types.specs.declared.kind.Role.{Role}
-use Rattle.dw_types.specs.declared.facts.Constant.{Constant}
+use Rattle.dw_types.specs.declared.constant.Constant.{Constant}
 use Rattle.dw_types.specs.Constants.{is_present, number_in, natural_of}
 use Rattle.dw_types.specs.Shapes.{is_plain}
 use Rattle.dw_types.specs.SizeTables.{Size}
+use Rattle.dw_types.specs.Entries.{Facts, constant}
+use Rattle.dw_forms.specs.Codes.{DW_AT_bit_size, DW_AT_data_bit_offset, DW_AT_data_member_location}
 
 -- the attribute is a number
 abbrev pub is_number : Constant → Bool
@@ -27,8 +28,9 @@ in_bits (Some bytes) = Some (bytes *ℤ pos 8)
 -- number
 abbrev pub start_of : Facts → Option ℤ
 start_of member =
-    if is_present member.data_member_location then in_bits (number_in member.data_member_location)
-    else if is_present member.data_bit_offset then number_in member.data_bit_offset
+    if is_present (constant member DW_AT_data_member_location)
+    then in_bits (number_in (constant member DW_AT_data_member_location))
+    else if is_present (constant member DW_AT_data_bit_offset) then number_in (constant member DW_AT_data_bit_offset)
     else Some (pos 0)
 
 -- so many bytes from a bit on end past n bytes, or that bit is negative
@@ -45,9 +47,10 @@ bytes_end_past n (Some start) (Some size) = end_past n start size
 -- a member, whose type has a size, ends past the n bytes of its container; with a bit size only its bits count
 abbrev pub ends_past : ℕ → Facts → Size → Bool
 ends_past n member size =
-    if is_number member.bit_size && is_number member.data_bit_offset
-    then bits_end_past n (natural_of member.bit_size) (natural_of member.data_bit_offset)
-    else if is_present member.bit_size then false
+    if is_number (constant member DW_AT_bit_size) && is_number (constant member DW_AT_data_bit_offset)
+    then
+    bits_end_past n (natural_of (constant member DW_AT_bit_size)) (natural_of (constant member DW_AT_data_bit_offset))
+    else if is_present (constant member DW_AT_bit_size) then false
     else bytes_end_past n (start_of member) size
 
 -- in a container without a size no member is outside

@@ -4,8 +4,8 @@ use Rattle.dw_entries.specs.Entries.{Entry}
 use Rattle.dw_entries.specs.Scanned.{all_entries, units_of}
 use Rattle.dw_entries.specs.Units.{DebugUnit}
 use Rattle.dw_links.specs.declared.links.Links.{Links}
-use Rattle.dw_types.specs.declared.facts.Facts.{Facts}
 use Rattle.dw_types.specs.FactsOf.{facts_in}
+use Rattle.dw_types.specs.Entries.{Facts}
 
 -- the units
 abbrev pub units_held : Links → List DebugUnit

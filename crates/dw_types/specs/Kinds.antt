@@ -1,7 +1,6 @@
 -- Chapter: the kinds of entries that the rules on types, counts and sizes distinguish (DWARF 5, chapter 5).
 use Rattle.std.specs.Prelude.{ℕ, Bool, true, false, ◌&&◌, not, List, [], ◌∷◌, Option, None, Some, if◌then◌else◌, nat_eq}
 use Rattle.std.specs.List.{count_by}
-use Rattle.dw_types.specs.declared.facts.Facts.{Facts}
 use Rattle.dw_types.specs.declared.kind.Kind.{Kind}
 use Rattle.dw_types.specs.declared.kind.Kind.TheVariants.{Declared, OwnSized, Pointer, Alias, Enumeration, Array}
 use Rattle.dw_types.specs.declared.kind.Kind.TheVariants.{Subroutine, NoType}
@@ -17,7 +16,7 @@ use Rattle.dw_forms.specs.Codes.{DW_TAG_rvalue_reference_type, DW_TAG_template_a
 use Rattle.dw_forms.specs.Codes.{DW_TAG_dynamic_type, DW_TAG_atomic_type, DW_TAG_immutable_type}
 use Rattle.dw_forms.specs.Codes.{is_type_tag}
 use Rattle.dw_links.specs.Classes.{is_one_of}
-use Rattle.dw_types.specs.Entries.{entry_of}
+use Rattle.dw_types.specs.Entries.{entry_of, Facts}
 
 -- typedefs, const, volatile, restrict and atomic types: they have the size of their type
 abbrev pub alias_tags : List ℕ

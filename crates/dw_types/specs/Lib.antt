@@ -20,8 +20,6 @@ pub mod SizeFaults
 pub mod PackingLaws
 -- State.
 pub mod Held
-pub mod FactsAsked
-pub mod UnitsRead
 pub mod Packing
 pub mod ShapesSeen
 pub mod WalkStates

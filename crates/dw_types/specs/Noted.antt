@@ -4,8 +4,7 @@ use Rattle.std.specs.Option.{option_map_or}
 use Rattle.dw_entries.specs.declared.fault.Rule.{Rule}
 use Rattle.dw_entries.specs.Failures.{IsLeast}
 use Rattle.dw_forms.specs.Codes.{DW_TAG_member}
-use Rattle.dw_types.specs.declared.facts.Facts.{Facts}
-use Rattle.dw_types.specs.Entries.{entry_of, is_child}
+use Rattle.dw_types.specs.Entries.{entry_of, is_child, Facts}
 use Rattle.dw_types.specs.TypeFailures.{PassesAt}
 
 -- the entry was seen and violates the rule and none of a lower number, and each entry seen before it passes

@@ -1,14 +1,13 @@
 -- Chapter: plain members, and the rules on the types of arrays and members and on counts (DWARF 5, 5.5, 5.7.6 and
 -- 5.13).
 use Rattle.std.specs.Prelude.{ℕ, ℤ, Bool, false, ◌&&◌, ◌||◌, not, List, Option, None, Some, is_some, nat_eq}
-use Rattle.dw_types.specs.declared.facts.Facts.{Facts}
 use Rattle.dw_types.specs.declared.kind.Role.{Role}
 use Rattle.dw_entries.specs.declared.fault.Rule.{Rule}
 use Rattle.dw_entries.specs.declared.fault.Rule.TheVariants.{MissingType, BadCount}
-use Rattle.dw_forms.specs.Codes.{DW_TAG_member}
-use Rattle.dw_types.specs.Constants.{is_below_zero}
+use Rattle.dw_forms.specs.Codes.{DW_AT_abstract_origin, DW_AT_specification, DW_TAG_member}
+use Rattle.dw_types.specs.Constants.{is_below_zero, is_present}
 use Rattle.dw_types.specs.Counts.{count_of, is_dimension}
-use Rattle.dw_types.specs.Entries.{entry_of}
+use Rattle.dw_types.specs.Entries.{Facts, constant, entry_of}
 use Rattle.dw_entries.specs.Failures.{Failure}
 use Rattle.dw_types.specs.Kinds.{is_array, is_members, parent_role}
 use Rattle.dw_types.specs.TypeFailures.{EntryFailures}
@@ -19,7 +18,8 @@ is_plain parent entry = (nat_eq entry.tag DW_TAG_member && not entry.declared) &
 
 -- the entry takes nothing over from another one
 abbrev pub stands_alone : Facts → Bool
-stands_alone entry = not entry.has_specification && not entry.has_abstract_origin
+stands_alone entry =
+    not (is_present (constant entry DW_AT_specification)) && not (is_present (constant entry DW_AT_abstract_origin))
 
 -- an array or a plain member with no type, which does not take one over from another entry either
 abbrev pub misses_type : Role → Facts → Bool

@@ -1,9 +1,8 @@
 -- State: the entries whose shapes a pass over entries has seen: arrays, and the children of those that have members or
 -- dimensions.
 use Rattle.std.specs.Prelude.{◌≡◌, ℕ, ◌<◌, ◌⊎◌, Bool, true, ◌||◌, List}
-use Rattle.dw_types.specs.declared.facts.Facts.{Facts}
 use Rattle.dw_types.specs.Children.{IsChildOf}
-use Rattle.dw_types.specs.Entries.{entry_of}
+use Rattle.dw_types.specs.Entries.{entry_of, Facts}
 use Rattle.dw_types.specs.Kinds.{has_members, is_array}
 
 -- its children may be plain members or dimensions

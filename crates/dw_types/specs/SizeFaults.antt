@@ -1,6 +1,5 @@
 -- Chapter: the rules on sizes (DWARF 5, 5.1, 5.5, 5.7 and 5.8).
 use Rattle.std.specs.Prelude.{ℕ, ◌^◌, Bool, true, false, ◌&&◌, ◌||◌, not, List, None, Some, is_some, nat_eq, nat_le}
-use Rattle.dw_types.specs.declared.facts.Facts.{Facts}
 use Rattle.dw_entries.specs.declared.fault.Broken.{Broken}
 use Rattle.dw_types.specs.declared.kind.Kind.{Kind}
 use Rattle.dw_types.specs.declared.kind.Kind.TheVariants.{Declared, OwnSized, Pointer, Alias, Enumeration, Array}
@@ -8,9 +7,9 @@ use Rattle.dw_types.specs.declared.kind.Kind.TheVariants.{Subroutine, NoType}
 use Rattle.dw_types.specs.declared.kind.Role.{Role}
 use Rattle.dw_entries.specs.declared.fault.Rule.{Rule}
 use Rattle.dw_entries.specs.declared.fault.Rule.TheVariants.{NoSize, SizeTooGreat, MemberOutside, EnumSize}
-use Rattle.dw_forms.specs.Codes.{DW_TAG_base_type}
+use Rattle.dw_forms.specs.Codes.{DW_TAG_base_type, DW_AT_bit_size, DW_AT_byte_stride}
 use Rattle.dw_types.specs.Constants.{is_present, is_negative, natural_of}
-use Rattle.dw_types.specs.Entries.{entry_of}
+use Rattle.dw_types.specs.Entries.{entry_of, Facts, byte_size, constant}
 use Rattle.dw_types.specs.Extents.{is_outside}
 use Rattle.dw_entries.specs.Failures.{Failure, IsFirst}
 use Rattle.dw_types.specs.Kinds.{has_members, is_array, is_enumeration, kind_of, parent_role}
@@ -34,13 +33,14 @@ reads_own NoType = false
 -- a negative stride
 abbrev pub wants_own : Facts → Bool
 wants_own entry =
-    (nat_eq entry.tag DW_TAG_base_type && not (is_present entry.bit_size))
-    || ((has_members entry && stands_alone entry) || (is_array entry && is_negative entry.byte_stride))
+    (nat_eq entry.tag DW_TAG_base_type && not (is_present (constant entry DW_AT_bit_size)))
+    || ((has_members entry && stands_alone entry) || (is_array entry && is_negative (constant entry DW_AT_byte_stride)))
 
 -- a negative byte size that is read, or none if one is required
 abbrev pub has_no_size : Facts → Bool
 has_no_size entry =
-    (reads_own (kind_of entry) && is_negative entry.byte_size) || (not (is_present entry.byte_size) && wants_own entry)
+    (reads_own (kind_of entry) && is_negative (byte_size entry))
+    || (not (is_present (byte_size entry)) && wants_own entry)
 
 -- a size of 2^63 or more
 abbrev pub is_too_great : Size → Bool
@@ -57,8 +57,8 @@ differ (Some a) (Some b) = not (nat_eq a b)
 abbrev pub has_wrong_size : Facts → Size → Bool
 has_wrong_size entry type_size =
     is_enumeration entry
-    && ((not (is_present entry.byte_size) && (not (is_some entry.type_target) && stands_alone entry))
-    || differ (natural_of entry.byte_size) type_size)
+    && ((not (is_present (byte_size entry)) && (not (is_some entry.type_target) && stands_alone entry))
+    || differ (natural_of (byte_size entry)) type_size)
 
 -- the entry, whose parent has this role, violates a rule on sizes, if it, its container and its type have these sizes
 abbrev pub breaks_size : Role → Facts → Size → Size → Size → Rule → Bool

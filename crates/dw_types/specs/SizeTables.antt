@@ -1,8 +1,7 @@
 -- Chapter: tables with a size or none for each entry.
 use Rattle.std.specs.Prelude.{◌≡◌, ℕ, false, List, Option, None, Some, min, slice_index_or}
 use Rattle.dw_forms.specs.Codes.{is_type_tag}
-use Rattle.dw_types.specs.declared.facts.Facts.{Facts}
-use Rattle.dw_types.specs.Entries.{entry_of}
+use Rattle.dw_types.specs.Entries.{entry_of, Facts}
 
 -- a size or none
 abbrev pub Size : Type 0

@@ -2,16 +2,16 @@
 use Rattle.std.specs.Prelude.{◌≡◌, ℕ, ◌*◌, ◌<◌, Bool, true, false, ◌&&◌, ◌||◌, not, List, [], ◌∷◌, Option, Some, None}
 use Rattle.std.specs.Prelude.{length, map, filter, if◌then◌else◌, nat_eq}
 use Rattle.std.specs.List.{list_any}
-use Rattle.dw_types.specs.declared.facts.Facts.{Facts}
-use Rattle.dw_types.specs.declared.facts.Constant.{Constant}
-use Rattle.dw_types.specs.declared.facts.Constant.TheVariants.{Absent, NotNumber, Unsigned, Signed}
+use Rattle.dw_types.specs.declared.constant.Constant.{Constant}
+use Rattle.dw_types.specs.declared.constant.Constant.TheVariants.{Absent, NotNumber, Unsigned, Signed}
 use Rattle.dw_types.specs.declared.kind.Kind.{Kind}
 use Rattle.dw_types.specs.declared.kind.Kind.TheVariants.{Declared, OwnSized, Pointer, Alias, Enumeration, Array}
 use Rattle.dw_types.specs.declared.kind.Kind.TheVariants.{Subroutine, NoType}
-use Rattle.dw_forms.specs.Codes.{DW_TAG_enumeration_type, DW_TAG_generic_subrange, DW_TAG_subrange_type}
+use Rattle.dw_forms.specs.Codes.{DW_AT_bit_stride, DW_AT_byte_stride, DW_TAG_enumeration_type}
+use Rattle.dw_forms.specs.Codes.{DW_TAG_generic_subrange, DW_TAG_subrange_type}
 use Rattle.dw_types.specs.Constants.{is_present, natural, natural_of}
 use Rattle.dw_types.specs.Counts.{count_of, known_natural}
-use Rattle.dw_types.specs.Entries.{entry_of, children}
+use Rattle.dw_types.specs.Entries.{entry_of, children, Facts, byte_size, constant}
 use Rattle.dw_types.specs.Kinds.{kind_of}
 use Rattle.dw_links.specs.Classes.{is_one_of}
 use Rattle.dw_types.specs.SizeTables.{Size}
@@ -42,7 +42,8 @@ factor_of entries dimension = known_natural (count_of (entry_of entries dimensio
 -- a stride of bits or of bytes
 abbrev pub has_stride : List Facts → ℕ → Bool
 has_stride entries node =
-    is_present (entry_of entries node).bit_stride || is_present (entry_of entries node).byte_stride
+    is_present (constant (entry_of entries node) DW_AT_bit_stride)
+    || is_present (constant (entry_of entries node) DW_AT_byte_stride)
 
 -- an enumeration or a generic subrange, which counts an array in another way
 abbrev pub is_other_index : List Facts → ℕ → Bool
@@ -58,7 +59,7 @@ has_elements (x ∷ xs) = true
 abbrev pub is_regular : List Facts → ℕ → Bool
 is_regular entries array =
     (has_elements (dimensions entries array) && not (list_any (is_other_index entries) (children entries array)))
-    && (not (is_present (entry_of entries array).bit_stride)
+    && (not (is_present (constant (entry_of entries array) DW_AT_bit_stride))
     && not (list_any (has_stride entries) (dimensions entries array)))
 
 -- the size at a target, none if there is no target
@@ -78,20 +79,21 @@ abbrev pub array_size : List Facts → (ℕ → Size) → ℕ → Size
 array_size entries table array =
     if is_regular entries array
     then times
-    (constant_or (entry_of entries array).byte_stride (size_to table (entry_of entries array).type_target))
+    (constant_or (constant (entry_of entries array) DW_AT_byte_stride)
+    (size_to table (entry_of entries array).type_target))
     (product_of (map (factor_of entries) (dimensions entries array)))
     else None
 
 -- the size of an entry of a kind, by those of others: one equation for each row
 abbrev pub size_of_kind : Kind → List Facts → (ℕ → Size) → ℕ → Size
 size_of_kind Declared entries table node = size_to table (entry_of entries node).signature_target
-size_of_kind OwnSized entries table node = natural_of (entry_of entries node).byte_size
+size_of_kind OwnSized entries table node = natural_of (byte_size (entry_of entries node))
 size_of_kind Pointer entries table node =
-    constant_or (entry_of entries node).byte_size (Some (entry_of entries node).address_size)
+    constant_or (byte_size (entry_of entries node)) (Some (entry_of entries node).address_size)
 size_of_kind Alias entries table node = size_to table (entry_of entries node).type_target
 size_of_kind Enumeration entries table node =
-    constant_or (entry_of entries node).byte_size (size_to table (entry_of entries node).type_target)
-size_of_kind Array entries table node = constant_or (entry_of entries node).byte_size (array_size entries table node)
+    constant_or (byte_size (entry_of entries node)) (size_to table (entry_of entries node).type_target)
+size_of_kind Array entries table node = constant_or (byte_size (entry_of entries node)) (array_size entries table node)
 size_of_kind Subroutine entries table node = None
 size_of_kind NoType entries table node = None
 

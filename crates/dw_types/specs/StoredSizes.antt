@@ -1,8 +1,8 @@
 -- State: sizes as they are stored, in one number each, and sizes in which 2^63 represents all that are no smaller.
 use Rattle.std.specs.Prelude.{ℕ, suc, zero, List, None, Some, map, ◌≡◌, ◌^◌, ◌<◌, length}
 use Rattle.dw_types.specs.SizeTables.{Size, cap_size}
-use Rattle.dw_types.specs.declared.facts.Facts.{Facts}
 use Rattle.dw_types.specs.Sizes.{size_line}
+use Rattle.dw_types.specs.Entries.{Facts}
 
 -- the size that a number represents: none for 0, or the number before it
 abbrev pub size_in : ℕ → Size

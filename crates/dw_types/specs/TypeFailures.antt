@@ -1,11 +1,11 @@
 -- Chapter: failures of rules on entries, and the first entry that has one.
 use Rattle.std.specs.Prelude.{◌≡◌, ℕ, ◌<◌, Bool, true, List, length}
-use Rattle.dw_types.specs.declared.facts.Facts.{Facts}
 use Rattle.dw_entries.specs.declared.fault.Rule.{Rule}
 use Rattle.dw_entries.specs.Asked.{AtPlace, InList}
 use Rattle.dw_entries.specs.Rules.{number_of}
 use Rattle.dw_entries.specs.Failures.{Failure}
 use Rattle.dw_entries.specs.Places.{at_entry}
+use Rattle.dw_types.specs.Entries.{Facts}
 
 -- the failures of rules on each entry, by its number
 abbrev pub EntryFailures : List Facts → (ℕ → Rule → Bool) → Failure → Type 0

@@ -8,7 +8,7 @@ ghost use Rattle.dw_entries.specs.Failures.{HasNone, IsFirst, IsLeast};
 ghost use Rattle.dw_entries.specs.Stopped.{IfPlainFault};
 ghost use Rattle.dw_types.specs.Shapes.{breaks_shape, has_bad_count, is_plain, misses_type, stands_alone, fails_shape};
 ghost use Rattle.dw_types.specs.Shapes.{ShapeFailures};
-ghost use Rattle.dw_types.specs.Entries.{children, entry_of, ParentsComeFirst, TargetsAreEntries, OffsetsRise};
+ghost use Rattle.dw_types.specs.Entries.{children, entry_of};
 ghost use Rattle.dw_types.specs.Graphs.{IsStep};
 ghost use Rattle.dw_types.specs.Held.{all_facts};
 ghost use Rattle.dw_types.specs.Kinds.{has_members, is_array, is_declared_type, passes_type_on, type_count};
@@ -16,9 +16,7 @@ ghost use Rattle.dw_types.specs.Noted.{IsNoted};
 ghost use Rattle.dw_types.specs.ShapesSeen.{HasSeenArray, HasSeenShapes};
 ghost use Rattle.dw_types.specs.Steps.{by_value, part_step, steps_by_value, targets_if, IsStepByValue};
 
-use crate::facts::UnitFacts;
-use crate::facts_at::FactsAt;
-use crate::facts_list::{FactsCursor, FactsList};
+use crate::facts::{FactsAt, FactsList};
 use crate::fault::LeastFault;
 use crate::graph::{Packed, StepGraph};
 use crate::kind::Role;
@@ -42,7 +40,8 @@ impl FactsAt<'_, '_> {
     pub(crate) fn stands_alone(&self) -> bool
         ensures { result ≡ stands_alone self.now }
     {
-        !self.has_specification() && !self.has_abstract_origin()
+        !self.constant(DW_AT_specification).is_present()
+            && !self.constant(DW_AT_abstract_origin).is_present()
     }
 
     /// Whether a type is missing.
@@ -127,88 +126,89 @@ fn push_to(steps: &mut Numbers, to: Option<usize>) -> Result<(), AllocError>
 
 /// Adds the steps of a structure or union that is not declared, and notes the members whose shapes fail.
 fn push_members(
-    cursor: &mut FactsCursor<'_, '_>,
+    entries: &mut FactsList<'_, '_>,
     steps: &mut Numbers,
     least: &mut LeastFault,
     node: usize,
 ) -> Result<(), AllocError>
-    requires node { node < length cursor.old }
-    requires members { has_members (entry_of cursor.old node) ≡ true }
-    requires noted { IsNoted (fails_shape cursor.old) (HasSeenShapes cursor.old node) least.old.found }
-    ensures same { OnOk result (cursor.new ≡ cursor.old) }
-    ensures steps { OnOk result (steps.new ≡ steps.old ++ flat_map (part_step cursor.old) (children cursor.old node)) }
+    requires node { node < length entries.old }
+    requires members { has_members (entry_of entries.old node) ≡ true }
+    requires noted { IsNoted (fails_shape entries.old) (HasSeenShapes entries.old node) least.old.found }
+    ensures same { OnOk result (entries.new ≡ entries.old) }
+    ensures steps { OnOk result
+        (steps.new ≡ steps.old ++ flat_map (part_step entries.old) (children entries.old node)) }
     ensures noted { OnOk result
-        (IsNoted (fails_shape cursor.old) (HasSeenShapes cursor.old (node + 1)) least.new.found) }
+        (IsNoted (fails_shape entries.old) (HasSeenShapes entries.old (node + 1)) least.new.found) }
 {
-    let mut next = cursor.first_child(node);
+    let mut next = entries.first_child(node);
     while let Some(child) = next {
-        let member = cursor.at(child);
+        let member = entries.at(child);
         least.note(child, member.broken_shape(Role::Members));
         if member.is_plain(Role::Members) {
             push_to(steps, member.type_target())?;
         }
-        next = cursor.next_sibling(child);
+        next = entries.next_sibling(child);
     }
     Ok(())
 }
 
 /// Notes the dimensions of an array whose shapes fail.
-fn note_dimensions(cursor: &mut FactsCursor<'_, '_>, least: &mut LeastFault, node: usize)
-    requires node { node < length cursor.old }
-    requires array { is_array (entry_of cursor.old node) ≡ true }
-    requires noted { IsNoted (fails_shape cursor.old) (HasSeenArray cursor.old node) least.old.found }
-    ensures same { cursor.new ≡ cursor.old }
-    ensures noted { IsNoted (fails_shape cursor.old) (HasSeenShapes cursor.old (node + 1)) least.new.found }
+fn note_dimensions(entries: &mut FactsList<'_, '_>, least: &mut LeastFault, node: usize)
+    requires node { node < length entries.old }
+    requires array { is_array (entry_of entries.old node) ≡ true }
+    requires noted { IsNoted (fails_shape entries.old) (HasSeenArray entries.old node) least.old.found }
+    ensures same { entries.new ≡ entries.old }
+    ensures noted { IsNoted (fails_shape entries.old) (HasSeenShapes entries.old (node + 1)) least.new.found }
 {
-    let mut next = cursor.first_child(node);
+    let mut next = entries.first_child(node);
     while let Some(child) = next {
-        let dimension = cursor.at(child);
+        let dimension = entries.at(child);
         least.note(child, dimension.broken_shape(Role::Dimensions));
-        next = cursor.next_sibling(child);
+        next = entries.next_sibling(child);
     }
 }
 
 /// Notes the shape of an array and those of its dimensions, as far as they fail.
 fn note_array(
-    cursor: &mut FactsCursor<'_, '_>,
+    entries: &mut FactsList<'_, '_>,
     least: &mut LeastFault,
     node: usize,
     entry: &FactsAt<'_, '_>,
 )
-    requires node { node < length cursor.old }
-    requires entry { entry.now ≡ entry_of cursor.old node }
-    requires noted { IsNoted (fails_shape cursor.old) (HasSeenShapes cursor.old node) least.old.found }
-    requires none { has_members (entry_of cursor.old node) ≡ false }
-    ensures same { cursor.new ≡ cursor.old }
-    ensures noted { IsNoted (fails_shape cursor.old) (HasSeenShapes cursor.old (node + 1)) least.new.found }
+    requires node { node < length entries.old }
+    requires entry { entry.now ≡ entry_of entries.old node }
+    requires noted { IsNoted (fails_shape entries.old) (HasSeenShapes entries.old node) least.old.found }
+    requires none { has_members (entry_of entries.old node) ≡ false }
+    ensures same { entries.new ≡ entries.old }
+    ensures noted { IsNoted (fails_shape entries.old) (HasSeenShapes entries.old (node + 1)) least.new.found }
 {
     if !entry.is_array() {
         return;
     }
     least.note(node, entry.broken_shape(Role::Other));
-    note_dimensions(cursor, least, node);
+    note_dimensions(entries, least, node);
 }
 
 /// Adds the steps of an entry, and notes its shape and those of its members or dimensions, as far as they fail.
 #[inline(always)]
 fn push_row(
-    cursor: &mut FactsCursor<'_, '_>,
+    entries: &mut FactsList<'_, '_>,
     steps: &mut Numbers,
     least: &mut LeastFault,
     node: usize,
 ) -> Result<(), AllocError>
-    requires node { node < length cursor.old }
-    requires noted { IsNoted (fails_shape cursor.old) (HasSeenShapes cursor.old node) least.old.found }
-    ensures same { OnOk result (cursor.new ≡ cursor.old) }
-    ensures steps { OnOk result (steps.new ≡ steps.old ++ steps_by_value cursor.old node) }
+    requires node { node < length entries.old }
+    requires noted { IsNoted (fails_shape entries.old) (HasSeenShapes entries.old node) least.old.found }
+    ensures same { OnOk result (entries.new ≡ entries.old) }
+    ensures steps { OnOk result (steps.new ≡ steps.old ++ steps_by_value entries.old node) }
     ensures noted { OnOk result
-        (IsNoted (fails_shape cursor.old) (HasSeenShapes cursor.old (node + 1)) least.new.found) }
+        (IsNoted (fails_shape entries.old) (HasSeenShapes entries.old (node + 1)) least.new.found) }
 {
-    let entry = cursor.at(node);
+    let entry = entries.at(node);
     if entry.has_members() {
-        return push_members(cursor, steps, least, node);
+        return push_members(entries, steps, least, node);
     }
-    note_array(cursor, least, node, &entry);
+    note_array(entries, least, node, &entry);
     push_to(steps, entry.type_step())?;
     push_to(steps, entry.signature_step())
 }
@@ -231,38 +231,20 @@ impl ByValue {
         ensures sound { OnOk result (HasNone (ShapeFailures (all_facts links.now))) }
         ensures fault { IfErr result (IfPlainFault (IsFirst (ShapeFailures (all_facts links.now)))) }
     {
-        let units = UnitFacts::read_all(alloc, links.entries)?;
-        let facts = FactsList::new(links, &units);
-        ByValue::of_facts(alloc, &facts)
-    }
-
-    /// The graph of the steps by value of entries with these facts, or the first fault of their shapes.
-    fn of_facts(alloc: Global, entries: &FactsList<'_, '_>) -> Result<Self, Stop<Fault>>
-        requires parents { ParentsComeFirst entries.now }
-        requires targets { TargetsAreEntries entries.now }
-        requires rising { OffsetsRise entries.now }
-        requires few { length entries.now < 2 ^ 32 }
-        ensures graph { IfOk result (λ it. ⟦<ByValue as StepGraph>⟧.graph it ≡ by_value entries.now) }
-        ensures steps { IfOk result (λ it. (from to : ℕ)
-            → IsStep (⟦<ByValue as StepGraph>⟧.graph it) from to ↔ IsStepByValue entries.now from to) }
-        ensures types { IfOk result (λ it. it.types ≡ type_count entries.now) }
-        ensures sound { OnOk result (HasNone (ShapeFailures entries.now)) }
-        ensures fault { IfErr result (IfPlainFault (IsFirst (ShapeFailures entries.now))) }
-    {
+        let mut entries = FactsList::new(links);
         let count = entries.count();
-        let mut cursor = entries.cursor();
         let mut steps = Numbers::with_room(alloc, count / 2)?;
         let mut ends = Numbers::with_room(alloc, count)?;
         let mut least = LeastFault::none();
         let mut types = 0;
         for node in 0..count {
-            if cursor.is_type(node) {
+            if entries.is_type(node) {
                 types += 1;
-                push_row(&mut cursor, &mut steps, &mut least, node)?;
+                push_row(&mut entries, &mut steps, &mut least, node)?;
             }
             ends.push(steps.len())?;
         }
-        least.check(alloc, entries)?;
+        least.check(alloc, &entries)?;
         let packed = Packed::from_rows(steps, ends);
         Ok(ByValue { packed, types })
     }

@@ -2,76 +2,19 @@
 //! 5.5 and 5.13).
 
 ghost use Rattle.std.specs.Prelude.{◌≡◌, ◌<◌, ℕ, List, length, slice_get, IfSome};
-ghost use Rattle.dw_entries.specs.Lookups.{entry_head};
 ghost use Rattle.dw_entries.specs.Scanned.{all_entries, units_of};
-ghost use Rattle.dw_types.specs.declared.facts.Facts.{Facts as FactsOf};
 ghost use Rattle.dw_types.specs.ElementCounts.{element_count_by, grown, with_child, size_from};
-ghost use Rattle.dw_types.specs.Entries.{children, entry_of};
-ghost use Rattle.dw_types.specs.Constants.{IsOf64Bits};
+ghost use Rattle.dw_types.specs.Entries.{Facts, children, entry_of};
 ghost use Rattle.dw_types.specs.Counts.{count_at, count_from, count_of, is_array_tag, is_dimension, is_subrange_tag};
-ghost use Rattle.dw_types.specs.Counts.{known_natural, lower_of, reads_bounds, upper_of};
+ghost use Rattle.dw_types.specs.Counts.{known_natural};
 ghost use Rattle.dw_types.specs.FactsOf.{facts_in};
 ghost use Rattle.dw_types.specs.Kinds.{is_dimensions, parent_role, role_in};
-ghost use Rattle.dw_types.specs.UnitsRead.{all_unit_facts};
 
-use crate::facts::{Constant, UnitFacts, unit_at};
-use crate::facts_at::FactsAt;
-use crate::facts_list::FactsCursor;
+use crate::constant::Constant;
+use crate::facts::{FactsAt, FactsList, language_of};
 use crate::kind::Role;
 use dw_entries::constants::*;
-use dw_entries::{Entries, EntryHead, EntryId};
-
-impl Constant {
-    /// Whether bounds are read in a unit of this language. This project's choice: they are where no
-    /// language is named, or one whose default lower bound is 0 and which the list has (DWARF 5, 7.12).
-    fn reads_bounds(&self) -> bool
-        ensures { result ≡ reads_bounds self.now }
-    {
-        if !self.is_present() {
-            return true;
-        }
-        match self.natural() {
-            Some(code) => code <= 0xffff
-                && matches!(
-                    Language(code as u16),
-                    DW_LANG_C89
-                        | DW_LANG_C
-                        | DW_LANG_C_plus_plus
-                        | DW_LANG_C99
-                        | DW_LANG_C_plus_plus_11
-                        | DW_LANG_Rust
-                        | DW_LANG_C11
-                        | DW_LANG_C_plus_plus_14
-                ),
-            None => false,
-        }
-    }
-
-    /// The upper bound. This project's choice: the greatest number of 64 bits is read as -1.
-    fn upper(&self) -> Option<i128>
-        ensures value { result ≡ upper_of self.now }
-        ensures range { IfSome result IsOf64Bits }
-    {
-        match self {
-            Constant::Unsigned(n) => Some(if *n == u64::MAX { -1 } else { i128::from(*n) }),
-            Constant::Signed(n) => Some(i128::from(*n)),
-            _ => None,
-        }
-    }
-
-    /// The lower bound, 0 where it is absent.
-    fn lower(&self) -> Option<i128>
-        ensures value { result ≡ lower_of self.now }
-        ensures range { IfSome result IsOf64Bits }
-    {
-        match self {
-            Constant::Absent => Some(0),
-            Constant::NotNumber => None,
-            Constant::Unsigned(n) => Some(i128::from(*n)),
-            Constant::Signed(n) => Some(i128::from(*n)),
-        }
-    }
-}
+use dw_entries::{Entries, EntryAt, EntryId};
 
 /// The count that a count attribute gives, or else two bounds in a unit of a language. It may be below 0.
 fn count_from(count: Constant, language: Constant, upper: Constant, lower: Constant) -> Option<i128>
@@ -112,10 +55,10 @@ impl FactsAt<'_, '_> {
         ensures { result ≡ count_of self.now }
     {
         count_from(
-            self.count(),
+            self.constant(DW_AT_count),
             self.language(),
-            self.upper_bound(),
-            self.lower_bound(),
+            self.constant(DW_AT_upper_bound),
+            self.constant(DW_AT_lower_bound),
         )
     }
 
@@ -151,32 +94,30 @@ fn is_in_array(entries: &Entries<'_>, parent: Option<EntryId>) -> bool
     }
 }
 
-/// Whether an entry, of which this is told, is a dimension: a subrange that is a child of an array.
-#[inline(always)]
-fn is_dimension(entries: &Entries<'_>, id: EntryId, head: &EntryHead) -> bool
+/// Whether an entry is a dimension: a subrange that is a child of an array.
+fn is_dimension(entries: &Entries<'_>, id: EntryId, entry: &EntryAt<'_, '_>) -> bool
     requires id { id < length (all_entries entries.now.scanned) }
-    requires head { IfSome (slice_get (all_entries entries.now.scanned) id) (λ e. head.now ≡ entry_head e) }
+    requires entry { entry.now ≡ slice_get (all_entries entries.now.scanned) id }
     ensures { result ≡ is_dimension (parent_role (facts_in (units_of entries.now.scanned)) id)
         (entry_of (facts_in (units_of entries.now.scanned)) id) }
 {
-    is_subrange_tag(head.tag) && is_in_array(entries, head.parent)
+    is_subrange_tag(entry.tag()) && is_in_array(entries, entry.parent())
 }
 
-/// The known count of a dimension, and none for any other entry. `units` is what is read of the entries' units.
-pub fn count_at(entries: &Entries<'_>, units: &[UnitFacts], id: EntryId) -> Option<u128>
-    requires id { id < length (all_entries entries.now.scanned) }
-    requires units { units.now ≡ all_unit_facts (units_of entries.now.scanned) }
+/// The known count of a dimension, and none for any other entry.
+pub fn count_at(entries: &Entries<'_>, id: EntryId) -> Option<u128>
+    requires { id < length (all_entries entries.now.scanned) }
     ensures { result ≡ count_at (facts_in (units_of entries.now.scanned)) id }
 {
-    let head = entries.at(id).head();
-    if !is_dimension(entries, id, &head) {
+    let entry = entries.at(id);
+    if !is_dimension(entries, id, &entry) {
         return None;
     }
     known_natural(count_from(
-        Constant::read(entries, id, DW_AT_count),
-        unit_at(units, head.unit).language,
-        Constant::read(entries, id, DW_AT_upper_bound),
-        Constant::read(entries, id, DW_AT_lower_bound),
+        Constant::read(&entry, DW_AT_count),
+        language_of(entries, entry.unit()),
+        Constant::read(&entry, DW_AT_upper_bound),
+        Constant::read(&entry, DW_AT_lower_bound),
     ))
 }
 
@@ -210,13 +151,15 @@ impl ElementCount {
     /// With one more child. An index of another kind, and a stride on a dimension, leave the number unknown.
     #[inline(always)]
     fn with_child(self, entry: &FactsAt<'_, '_>) -> ElementCount
-        ensures { (entries : List FactsOf) (child : ℕ) → entry.now ≡ entry_of entries child
+        ensures { (entries : List Facts) (child : ℕ) → entry.now ≡ entry_of entries child
             → result ≡ with_child entries self child }
     {
         match entry.tag() {
             DW_TAG_enumeration_type | DW_TAG_generic_subrange => ElementCount::Unknown,
             DW_TAG_subrange_type => {
-                if entry.bit_stride().is_present() || entry.byte_stride().is_present() {
+                if entry.constant(DW_AT_bit_stride).is_present()
+                    || entry.constant(DW_AT_byte_stride).is_present()
+                {
                     return ElementCount::Unknown;
                 }
                 self.grown(entry.natural_count())
@@ -237,17 +180,17 @@ impl ElementCount {
 }
 
 /// How many elements the children of an entry give, were it an array.
-pub(crate) fn count_elements(cursor: &mut FactsCursor<'_, '_>, node: usize) -> ElementCount
-    requires { node < length cursor.old }
-    ensures same { cursor.new ≡ cursor.old }
-    ensures counted { result ≡ element_count_by cursor.old (children cursor.old node) }
+pub(crate) fn count_elements(entries: &mut FactsList<'_, '_>, node: usize) -> ElementCount
+    requires { node < length entries.old }
+    ensures same { entries.new ≡ entries.old }
+    ensures counted { result ≡ element_count_by entries.old (children entries.old node) }
 {
     let mut elements = ElementCount::NoDimension;
-    let mut next = cursor.first_child(node);
+    let mut next = entries.first_child(node);
     while let Some(child) = next {
-        let entry = cursor.at(child);
+        let entry = entries.at(child);
         elements = elements.with_child(&entry);
-        next = cursor.next_sibling(child);
+        next = entries.next_sibling(child);
     }
     elements
 }

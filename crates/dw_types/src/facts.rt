@@ -1,181 +1,276 @@
-//! What types, counts and sizes read of an entry, and what is read of a unit once for all its entries.
+//! What types, counts and sizes read of an entry, and the children of an entry.
 
-ghost use Rattle.std.specs.Prelude.{◌≡◌, ◌<◌, Some, length, slice_get, option_map, IfOk, IfSome};
+ghost use Rattle.std.specs.Prelude.{◌≡◌, ◌^◌, ◌<◌, ◌∷◌, ℕ, Some, length, slice_get, option_map, IfSome};
+ghost use Rattle.dw_forms.specs.Codes.{is_type_tag};
 ghost use Rattle.dw_forms.specs.Value.{view};
+ghost use Rattle.dw_links.specs.References.{is_true};
 ghost use Rattle.dw_entries.specs.Scanned.{all_entries, all_units, units_of};
-ghost use Rattle.dw_types.specs.Constants.{IsOf64Bits, is_present, number_in, natural_of, is_negative};
-ghost use Rattle.dw_types.specs.FactsOf.{constant_at, constant_in, constant_of};
-ghost use Rattle.dw_types.specs.UnitsRead.{all_unit_facts, unit_facts};
+ghost use Rattle.dw_types.specs.Children.{children_of, is_number, rest_of_children, siblings_from, IsChildOf, IsChild};
+ghost use Rattle.dw_types.specs.Entries.{children, constant, entry_of};
+ghost use Rattle.dw_types.specs.FactsOf.{facts_in, language_of};
+ghost use Rattle.dw_types.specs.Held.{all_facts, entries_held};
 
+use crate::constant::Constant;
 use dw_entries::constants::*;
-use dw_entries::{Attribute, Entries, EntryId, Value};
-use std::alloc::{AllocError, Global};
+use dw_entries::{Attribute, Cursor, Entries, EntryAt, EntryId, Value};
+use dw_links::Links;
+use std::marker::Model;
 
-/// What an entry has under an attribute, where values of class constant are numbers (DWARF 5, 7.5.5).
-/// This project's choice: the form data16 gives no number.
-#[derive(Clone, Copy, Debug, PartialEq, Eq)]
-pub enum Constant {
-    /// The entry doesn't have the attribute.
-    Absent,
-    /// A value that is no number.
-    NotNumber,
-    Unsigned(u64),
-    Signed(i64),
-}
-
-impl Constant {
-    /// Whether the entry has the attribute.
-    pub fn is_present(&self) -> bool
-        ensures { result ≡ is_present self.now }
-    {
-        !matches!(self, Constant::Absent)
-    }
-
-    /// The number, if it is one.
-    pub fn number(&self) -> Option<i128>
-        ensures value { result ≡ number_in self.now }
-        ensures range { IfSome result IsOf64Bits }
-    {
-        match self {
-            Constant::Unsigned(n) => Some(i128::from(*n)),
-            Constant::Signed(n) => Some(i128::from(*n)),
-            _ => None,
-        }
-    }
-
-    /// The number, if it is one of 0 or more.
-    pub fn natural(&self) -> Option<u64>
-        ensures { result ≡ natural_of self.now }
-    {
-        match self {
-            Constant::Unsigned(n) => Some(*n),
-            Constant::Signed(n) => if *n < 0 { None } else { Some(*n as u64) },
-            _ => None,
-        }
-    }
-
-    /// Whether it is a number below 0.
-    pub fn is_negative(&self) -> bool
-        ensures { result ≡ is_negative self.now }
-    {
-        matches!(self, Constant::Signed(n) if *n < 0)
-    }
-
-    /// What a value is as a number.
-    #[inline]
-    fn of(value: &Value<'_>) -> Constant
-        ensures { result ≡ constant_in (view value.now) }
-    {
-        match value {
-            Value::Unsigned(n) => Constant::Unsigned(*n),
-            Value::Signed(n) => Constant::Signed(*n),
-            _ => Constant::NotNumber,
-        }
-    }
-
-    /// What is under an attribute that has this value, if it is there.
-    #[inline(always)]
-    pub(crate) fn of_value(value: Option<Value<'_>>) -> Constant
-        ensures { result ≡ constant_of (option_map view value.entry) }
-    {
-        match value {
-            Some(value) => Constant::of(&value),
-            None => Constant::Absent,
-        }
-    }
-
-    /// What is under an attribute of an entry.
-    pub(crate) fn read(entries: &Entries<'_>, id: EntryId, attribute: Attribute) -> Constant
-        requires { id < length (all_entries entries.now.scanned) }
-        ensures { IfSome (slice_get (all_entries entries.now.scanned) id)
-            (λ e. result ≡ constant_at e attribute) }
-    {
-        Constant::of_value(entries.value(id, attribute))
-    }
-}
-
-/// What types, counts and sizes read of an entry. Entries are numbered from 0 by rising offset.
-#[derive(Clone, Copy, Debug)]
-pub struct Facts {
-    /// Where the entry starts, in bytes from the start of .debug_info.
-    pub offset: u32,
-    pub tag: Tag,
-    /// Whether DW_AT_declaration is true.
-    pub declared: bool,
-    /// The number of its parent. The first entry of a unit has none.
-    pub parent: Option<usize>,
-    /// The number of the entry that DW_AT_type reaches.
-    pub type_target: Option<usize>,
-    /// The number of the entry that DW_AT_signature reaches.
-    pub signature_target: Option<usize>,
-    pub has_specification: bool,
-    pub has_abstract_origin: bool,
-    /// How many bytes an address has in the entry's unit.
-    pub address_size: u8,
-    /// DW_AT_language of the first entry of the entry's unit.
-    pub language: Constant,
-    pub byte_size: Constant,
-    pub bit_size: Constant,
-    pub byte_stride: Constant,
-    pub bit_stride: Constant,
-    pub count: Constant,
-    pub lower_bound: Constant,
-    pub upper_bound: Constant,
-    pub data_member_location: Constant,
-    pub data_bit_offset: Constant,
-}
-
-/// What is read of a unit, once for all its entries.
-#[derive(Clone, Copy, Debug)]
-pub struct UnitFacts {
-    /// How many bytes an address has.
-    pub address_size: u8,
-    /// DW_AT_language of the first entry.
-    pub language: Constant,
-}
-
-impl UnitFacts {
-    /// What is read of the unit with a number.
-    fn read(entries: &Entries<'_>, number: usize) -> Self
-        requires { number < length (units_of entries.now.scanned) }
-        ensures { IfSome (slice_get (all_units entries.now.scanned) number) (λ u. result ≡ unit_facts u) }
-    {
-        let unit = entries.unit(number);
-        UnitFacts {
-            address_size: unit.header.address_size,
-            language: Constant::read(entries, unit.first, DW_AT_language),
-        }
-    }
-
-    /// What is read of each unit, in their order.
-    pub fn read_all(alloc: Global, entries: &Entries<'_>) -> Result<Vec<UnitFacts>, AllocError>
-        ensures { IfOk result (λ units. units.items ≡ all_unit_facts (units_of entries.now.scanned)) }
-    {
-        let count = entries.unit_count();
-        let mut units = Vec::with_capacity(alloc, count)?;
-        for number in 0..count {
-            units.push(UnitFacts::read(entries, number))?;
-        }
-        Ok(units)
-    }
-}
-
-/// What is read of the unit with a number.
+/// Whether a flag is there and true.
 #[inline(always)]
-pub(crate) fn unit_at(units: &[UnitFacts], number: usize) -> UnitFacts
-    requires { number < length units.now }
-    ensures { slice_get units.now number ≡ Some result }
+fn is_true(value: Option<Value<'_>>) -> bool
+    ensures { result ≡ is_true (option_map view value.entry) }
 {
-    units[number]
+    match value {
+        Some(Value::Flag(flag)) => flag,
+        _ => false,
+    }
 }
 
 /// The number of an entry that is named, if one is.
 #[inline(always)]
-pub(crate) fn number_of(id: Option<EntryId>) -> Option<usize>
+fn number_of(id: Option<EntryId>) -> Option<usize>
     ensures { result ≡ id }
 {
     match id {
         Some(id) => Some(id.number()),
+        None => None,
+    }
+}
+
+/// DW_AT_language of the first entry of the unit with a number.
+pub(crate) fn language_of(entries: &Entries<'_>, unit: usize) -> Constant
+    requires { unit < length (units_of entries.now.scanned) }
+    ensures { IfSome (slice_get (all_units entries.now.scanned) unit) (λ u. result ≡ language_of u) }
+{
+    Constant::read(&entries.at(entries.unit(unit).first), DW_AT_language)
+}
+
+/// One entry. Its tag is at hand; each other fact is read when it is needed, and no value under another attribute is
+/// decoded for it.
+#[derive(Drop)]
+pub(crate) struct FactsAt<'e, 'a> {
+    entry: EntryAt<'e, 'a>,
+    links: &'e Links<'e, 'a>,
+    id: EntryId,
+}
+
+impl<'e, 'a> Model for FactsAt<'e, 'a> {
+    ghost use Rattle.std.specs.Prelude.{◌≡◌, ◌<◌, length, slice_get};
+    ghost use Rattle.dw_types.specs.Entries.{Facts, entry_of};
+    ghost use Rattle.dw_types.specs.Held.{all_facts, entries_held};
+
+    ghost Value = { Facts };
+
+    ghost view = { λ it. entry_of (all_facts it.links.now) it.id };
+
+    ghost invariant = { λ it. (it.id < length (entries_held it.links.now))
+        × (it.entry ≡ slice_get (entries_held it.links.now) it.id) };
+}
+
+impl FactsAt<'_, '_> {
+    #[inline(always)]
+    pub(crate) fn tag(&self) -> Tag
+        ensures { result ≡ self.now.tag }
+    {
+        self.entry.tag()
+    }
+
+    /// Whether the entry is a type.
+    #[inline(always)]
+    pub(crate) fn is_type(&self) -> bool
+        ensures { result ≡ is_type_tag self.now.tag }
+    {
+        self.entry.is_type()
+    }
+
+    /// Whether DW_AT_declaration is true.
+    #[inline(always)]
+    pub(crate) fn declared(&self) -> bool
+        ensures { result ≡ self.now.declared }
+    {
+        is_true(self.entry.value(DW_AT_declaration))
+    }
+
+    /// What is under an attribute.
+    #[inline(always)]
+    pub(crate) fn constant(&self, attribute: Attribute) -> Constant
+        ensures { result ≡ constant self.now attribute }
+    {
+        Constant::read(&self.entry, attribute)
+    }
+
+    /// The number of the entry that DW_AT_type reaches, which is kept since the links were made.
+    #[inline(always)]
+    pub(crate) fn type_target(&self) -> Option<usize>
+        ensures { result ≡ self.now.type_target }
+    {
+        number_of(self.links.target(self.id, DW_AT_type))
+    }
+
+    /// The number of the entry that DW_AT_signature reaches.
+    #[inline(always)]
+    pub(crate) fn signature_target(&self) -> Option<usize>
+        ensures { result ≡ self.now.signature_target }
+    {
+        number_of(self.links.target(self.id, DW_AT_signature))
+    }
+
+    /// How many bytes an address has in its unit.
+    #[inline(always)]
+    pub(crate) fn address_size(&self) -> u8
+        ensures { result ≡ self.now.address_size }
+    {
+        let number = self.entry.unit();
+        self.links.entries.unit(number).header.address_size
+    }
+
+    /// DW_AT_language of the first entry of its unit.
+    #[inline(always)]
+    pub(crate) fn language(&self) -> Constant
+        ensures { result ≡ self.now.language }
+    {
+        language_of(self.links.entries, self.entry.unit())
+    }
+}
+
+/// The entries of .debug_info by rising offset, each with its facts. Of entries that are looked up one after another,
+/// those of one unit are found sooner.
+#[derive(Drop)]
+pub(crate) struct FactsList<'r, 'a> {
+    cursor: Cursor<'r, 'a>,
+    links: &'r Links<'r, 'a>,
+}
+
+impl<'r, 'a> Model for FactsList<'r, 'a> {
+    ghost use Rattle.std.specs.Prelude.{◌≡◌, List};
+    ghost use Rattle.dw_types.specs.Entries.{Facts};
+    ghost use Rattle.dw_types.specs.Held.{all_facts};
+
+    ghost Value = { List Facts };
+
+    ghost view = { λ it. all_facts it.links.now };
+
+    ghost invariant = { λ it. it.cursor.entries.now ≡ it.links.now.entries.now };
+}
+
+impl<'r, 'a> FactsList<'r, 'a> {
+    /// The facts of entries, by their links.
+    pub(crate) fn new(links: &'r Links<'r, 'a>) -> Self
+        ensures same { result ≡ all_facts links.now }
+        ensures few { length result < 2 ^ 32 }
+    {
+        FactsList {
+            cursor: links.entries.cursor(),
+            links,
+        }
+    }
+
+    /// How many entries there are.
+    #[inline(always)]
+    pub(crate) fn count(&self) -> usize
+        ensures { result ≡ length self.now }
+    {
+        self.links.entries.count()
+    }
+
+    /// Where the entry with a number starts, in bytes from the start of .debug_info.
+    pub(crate) fn offset(&self, node: usize) -> u32
+        requires { node < length self.now }
+        ensures { result ≡ (entry_of self.now node).offset }
+    {
+        let entries = self.entries();
+        entries.offset(entries.id(node))
+    }
+
+    /// Whether the entry with a number is a type. Nothing is read of it but its declaration.
+    #[inline(always)]
+    pub(crate) fn is_type(&mut self, node: usize) -> bool
+        requires { node < length self.old }
+        ensures same { self.new ≡ self.old }
+        ensures is { result ≡ is_type_tag (entry_of self.old node).tag }
+    {
+        let id = self.cursor.entries.id(node);
+        self.cursor.at(id).is_type()
+    }
+
+    /// The entry with a number.
+    #[inline(always)]
+    pub(crate) fn at(&mut self, node: usize) -> FactsAt<'r, 'a>
+        requires { node < length self.old }
+        ensures same { self.new ≡ self.old }
+        ensures found { result ≡ entry_of self.old node }
+    {
+        let id = self.cursor.entries.id(node);
+        FactsAt {
+            entry: self.cursor.at(id),
+            links: self.links,
+            id,
+        }
+    }
+
+    /// The entries without their facts.
+    #[inline(always)]
+    fn entries(&self) -> &'r Entries<'a>
+        ensures { facts_in (units_of result.now.scanned) ≡ self.now }
+    {
+        self.cursor.entries
+    }
+
+    /// The first child of an entry.
+    #[inline(always)]
+    pub(crate) fn first_child(&self, node: usize) -> Option<usize>
+        requires { node < length self.now }
+        ensures children { rest_of_children self.now node result ≡ children self.now node }
+        ensures child { IfSome result (IsChildOf self.now node) }
+    {
+        let entries = self.entries();
+        number_of(first_child(entries, entries.id(node)))
+    }
+
+    /// The next sibling of an entry.
+    #[inline(always)]
+    pub(crate) fn next_sibling(&self, child: usize) -> Option<usize>
+        requires { child < length self.now }
+        ensures children { (parent : ℕ) → (entry_of self.now child).parent ≡ Some parent
+            → rest_of_children self.now parent (Some child) ≡ child ∷ rest_of_children self.now parent result }
+        ensures child { (parent : ℕ) → (entry_of self.now child).parent ≡ Some parent
+            → IfSome result (IsChildOf self.now parent) }
+    {
+        let entries = self.entries();
+        number_of(entries.next_sibling(entries.id(child)))
+    }
+}
+
+/// Whether an entry is a child of another.
+#[inline(always)]
+fn is_child(entries: &Entries<'_>, id: EntryId, parent: EntryId) -> bool
+    requires { id < length (all_entries entries.now.scanned) }
+    ensures { IfSome (slice_get (all_entries entries.now.scanned) id)
+        (λ e. result ≡ is_number parent e.parent) }
+{
+    match entries.parent(id) {
+        Some(above) => above == parent,
+        None => false,
+    }
+}
+
+/// The first child of an entry: the entry after it, if that is a child.
+#[inline(always)]
+pub fn first_child(entries: &Entries<'_>, id: EntryId) -> Option<EntryId>
+    requires { id < length (all_entries entries.now.scanned) }
+    ensures children { siblings_from (all_entries entries.now.scanned) id result
+        ≡ children_of (all_entries entries.now.scanned) id }
+    ensures linked { IsChild (all_entries entries.now.scanned) id result }
+{
+    match entries.nth(id.number() + 1) {
+        Some(behind) => {
+            if is_child(entries, behind, id) {
+                Some(behind)
+            } else {
+                None
+            }
+        }
         None => None,
     }
 }

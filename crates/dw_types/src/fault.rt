@@ -8,7 +8,7 @@ ghost use Rattle.dw_entries.specs.Stopped.{IfPlainFault};
 ghost use Rattle.dw_types.specs.Entries.{entry_of};
 ghost use Rattle.dw_types.specs.Noted.{with_rule};
 
-use crate::facts_list::FactsList;
+use crate::facts::FactsList;
 use dw_entries::{Broken, Fault, Rule, Section, Stop};
 use std::alloc::Global;
 
@@ -69,7 +69,7 @@ impl LeastFault {
             Some((node, rule)) => Err(Stop::Fault(fault_at_entry(
                 alloc,
                 rule,
-                entries.at(node).offset(),
+                entries.offset(node),
             ))),
             None => Ok(()),
         }

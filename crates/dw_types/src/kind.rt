@@ -4,7 +4,7 @@ ghost use Rattle.std.specs.Prelude.{◌≡◌};
 ghost use Rattle.dw_types.specs.Kinds.{has_members, is_array, is_declared_type, is_dimensions, is_enumeration};
 ghost use Rattle.dw_types.specs.Kinds.{is_members, kind_of, passes_type_on};
 
-use crate::facts_at::FactsAt;
+use crate::facts::FactsAt;
 use dw_entries::constants::*;
 
 /// The kinds of type entries that the size table tells apart.

@@ -2,10 +2,9 @@
 #![tactic(auto)]
 
 mod by_value;
+mod constant;
 mod count;
 mod facts;
-mod facts_at;
-mod facts_list;
 mod fault;
 mod graph;
 mod kind;
@@ -18,8 +17,7 @@ mod walk;
 pub use by_value::ByValue;
 pub use count::count_at;
 pub use dw_entries::constants;
-pub use facts::{Constant, Facts, UnitFacts};
-pub use facts_list::first_child;
+pub use facts::first_child;
 pub use graph::{Order, Packed, StepGraph};
 pub use numbers::{NoMemory, Numbers};
 pub use ordering::{OrderFault, clear_nodes, order};

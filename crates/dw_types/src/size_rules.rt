@@ -10,12 +10,11 @@ ghost use Rattle.dw_types.specs.SizeFaults.{wants_own};
 ghost use Rattle.dw_types.specs.Sizes.{size_to, ObeysSizeLines};
 ghost use Rattle.dw_types.specs.SizeTables.{size_at, Size};
 ghost use Rattle.dw_types.specs.Extents.{bits_end_past, end_past, ends_past, start_of};
-ghost use Rattle.dw_types.specs.declared.facts.Facts.{Facts as FactsOf};
 ghost use Rattle.dw_types.specs.Constants.{natural_of};
-ghost use Rattle.dw_types.specs.Entries.{entry_of};
+ghost use Rattle.dw_types.specs.Entries.{Facts, byte_size, entry_of};
 ghost use Rattle.dw_types.specs.Kinds.{has_members};
 
-use crate::facts_at::FactsAt;
+use crate::facts::FactsAt;
 use crate::kind::Kind;
 use crate::size_table::SizeTable;
 use dw_entries::Rule;
@@ -49,12 +48,12 @@ impl FactsAt<'_, '_> {
         ensures value { result ≡ start_of self.now }
         ensures small { IfSome result (λ n. n ≤ℤ pos (2 ^ 70)) }
     {
-        let location = self.data_member_location();
+        let location = self.constant(DW_AT_data_member_location);
         if location.is_present() {
             let bytes = location.number()?;
             return Some(bytes * 8);
         }
-        let offset = self.data_bit_offset();
+        let offset = self.constant(DW_AT_data_bit_offset);
         if offset.is_present() {
             return offset.number();
         }
@@ -66,9 +65,9 @@ impl FactsAt<'_, '_> {
     fn ends_past(&self, bytes: u64, size: Option<u64>) -> bool
         ensures { result ≡ ends_past bytes self.now size }
     {
-        let bit_size = self.bit_size();
+        let bit_size = self.constant(DW_AT_bit_size);
         if bit_size.is_present() {
-            let offset = self.data_bit_offset();
+            let offset = self.constant(DW_AT_data_bit_offset);
             return bit_size.number().is_some()
                 && offset.number().is_some()
                 && bits_end_past(bytes, bit_size.natural(), offset.natural());
@@ -120,9 +119,9 @@ impl FactsAt<'_, '_> {
         ensures { result ≡ wants_own self.now }
     {
         match self.tag() {
-            DW_TAG_base_type => !self.bit_size().is_present(),
+            DW_TAG_base_type => !self.constant(DW_AT_bit_size).is_present(),
             DW_TAG_structure_type | DW_TAG_union_type => !self.declared() && self.stands_alone(),
-            DW_TAG_array_type => self.byte_stride().is_negative(),
+            DW_TAG_array_type => self.constant(DW_AT_byte_stride).is_negative(),
             _ => false,
         }
     }
@@ -132,8 +131,8 @@ impl FactsAt<'_, '_> {
     fn has_no_size(&self) -> bool
         ensures { result ≡ has_no_size self.now }
     {
-        (self.kind().reads_own() && self.byte_size().is_negative())
-            || (self.wants_own() && !self.byte_size().is_present())
+        (self.kind().reads_own() && self.constant(DW_AT_byte_size).is_negative())
+            || (self.wants_own() && !self.constant(DW_AT_byte_size).is_present())
     }
 
     /// Whether it is an enumeration with neither a byte size nor a type, or with one that is not its type's.
@@ -145,7 +144,7 @@ impl FactsAt<'_, '_> {
         if !self.is_enumeration() {
             return false;
         }
-        let own = self.byte_size();
+        let own = self.constant(DW_AT_byte_size);
         if !own.is_present() {
             return self.type_target().is_none() && self.stands_alone();
         }
@@ -195,7 +194,7 @@ impl FactsAt<'_, '_> {
 /// The size of a structure or union that is not declared is its own byte size. So the container of a plain
 /// member, whose size the members are measured by, has the bytes that it says itself.
 pub fn container_has_its_own_size()
-    ensures { (entries : List FactsOf) (table : ℕ → Size) (node : ℕ)
+    ensures { (entries : List Facts) (table : ℕ → Size) (node : ℕ)
         → ObeysSizeLines entries table → node < length entries
-        → has_members (entry_of entries node) ≡ true → table node ≡ natural_of (entry_of entries node).byte_size }
+        → has_members (entry_of entries node) ≡ true → table node ≡ natural_of (byte_size (entry_of entries node)) }
 {}

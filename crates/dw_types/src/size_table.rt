@@ -18,13 +18,12 @@ ghost use Rattle.dw_types.specs.SizeFaults.{IsFirstSizeFault, SizeFailures, fail
 ghost use Rattle.dw_types.specs.Steps.{by_value};
 
 use crate::count::{ElementCount, count_elements};
-use crate::facts::{Constant, UnitFacts};
-use crate::facts_at::FactsAt;
-use crate::facts_list::{FactsCursor, FactsList};
+use crate::facts::{FactsAt, FactsList};
 use crate::fault::LeastFault;
 use crate::graph::Order;
 use crate::kind::Kind;
 use crate::numbers::Numbers;
+use dw_entries::constants::*;
 use dw_entries::{EntryId, Fault, Stop};
 use dw_links::Links;
 use std::alloc::{AllocError, Global};
@@ -142,19 +141,6 @@ fn capped_times(a: Option<u64>, b: Option<u64>) -> Option<u64>
     Some((u128::from(a) * u128::from(b)).min(1 << 63) as u64)
 }
 
-impl Constant {
-    /// The number of 0 or more, or another size where the attribute is absent.
-    #[inline(always)]
-    fn natural_or(&self, other: Option<u64>) -> Option<u64>
-        ensures { result ≡ constant_or self.now other }
-    {
-        match self {
-            Constant::Absent => other,
-            _ => self.natural(),
-        }
-    }
-}
-
 /// The capped size of an array without a byte size of its own: element storage times all counts.
 #[inline(always)]
 fn capped_array(
@@ -171,12 +157,11 @@ fn capped_array(
     ensures value { result ≡ cap_size (2 ^ 63) (array_size entries.now (size_at sizes.now) node) }
     ensures small { IfSome result (λ n. n ≤ 2 ^ 63) }
 {
-    if entry.bit_stride().is_present() {
+    if entry.constant(DW_AT_bit_stride).is_present() {
         return None;
     }
-    let storage = entry
-        .byte_stride()
-        .natural_or(sizes.get_to(entry.type_target()));
+    let stride = entry.constant(DW_AT_byte_stride);
+    let storage = stride.natural_or(sizes.get_to(entry.type_target()));
     capped_times(storage, elements.size())
 }
 
@@ -200,18 +185,18 @@ fn capped_size(
 {
     match entry.kind() {
         Kind::Declared => capped(sizes.get_to(entry.signature_target())),
-        Kind::OwnSized => capped(entry.byte_size().natural()),
+        Kind::OwnSized => capped(entry.constant(DW_AT_byte_size).natural()),
         Kind::Pointer => {
-            let own = entry.byte_size();
+            let own = entry.constant(DW_AT_byte_size);
             capped(own.natural_or(Some(u64::from(entry.address_size()))))
         }
         Kind::Alias => capped(sizes.get_to(entry.type_target())),
         Kind::Enumeration => {
-            let own = entry.byte_size();
+            let own = entry.constant(DW_AT_byte_size);
             capped(own.natural_or(sizes.get_to(entry.type_target())))
         }
         Kind::Array => {
-            let own = entry.byte_size();
+            let own = entry.constant(DW_AT_byte_size);
             capped(own.natural_or(capped_array(entries, elements, sizes, node, entry)))
         }
         Kind::Subroutine | Kind::NoType => None,
@@ -221,18 +206,18 @@ fn capped_size(
 /// How many elements an array has. Any other entry has no dimension.
 #[inline(always)]
 fn elements_of(
-    cursor: &mut FactsCursor<'_, '_>,
+    entries: &mut FactsList<'_, '_>,
     node: usize,
     entry: &FactsAt<'_, '_>,
 ) -> ElementCount
-    requires node { node < length cursor.old }
-    requires entry { entry.now ≡ entry_of cursor.old node }
-    ensures same { cursor.new ≡ cursor.old }
-    ensures counted { kind_of (entry_of cursor.old node) ≡ Array
-        → result ≡ element_count_by cursor.old (children cursor.old node) }
+    requires node { node < length entries.old }
+    requires entry { entry.now ≡ entry_of entries.old node }
+    ensures same { entries.new ≡ entries.old }
+    ensures counted { kind_of (entry_of entries.old node) ≡ Array
+        → result ≡ element_count_by entries.old (children entries.old node) }
 {
     if entry.is_array() {
-        count_elements(cursor, node)
+        count_elements(entries, node)
     } else {
         ElementCount::NoDimension
     }
@@ -240,99 +225,65 @@ fn elements_of(
 
 /// Notes the members of a structure or union of this size that end outside it.
 fn note_members(
-    cursor: &mut FactsCursor<'_, '_>,
+    entries: &mut FactsList<'_, '_>,
     sizes: &SizeTable,
     least: &mut LeastFault,
     node: usize,
     size: Option<u64>,
 )
-    requires node { node < length cursor.old }
-    requires members { has_members (entry_of cursor.old node) ≡ true }
-    requires sizes_in { length sizes.now ≡ length cursor.old }
+    requires node { node < length entries.old }
+    requires members { has_members (entry_of entries.old node) ≡ true }
+    requires sizes_in { length sizes.now ≡ length entries.old }
     requires size { size_at sizes.now node ≡ size }
-    requires targets { TargetsAreEntries cursor.old }
-    requires untyped { OnlyTypesAreSized cursor.old (size_at sizes.now) }
-    ensures same { cursor.new ≡ cursor.old }
+    requires targets { TargetsAreEntries entries.old }
+    requires untyped { OnlyTypesAreSized entries.old (size_at sizes.now) }
+    ensures same { entries.new ≡ entries.old }
     ensures noted { (seen : ℕ → Bool)
-        → IsNoted (fails_size cursor.old (size_at sizes.now)) (λ k. seen k ≡ true) least.old.found
-        → IsNoted (fails_size cursor.old (size_at sizes.now))
-        (λ k. (seen k ≡ true) ⊎ (is_member_of cursor.old node k ≡ true)) least.new.found }
+        → IsNoted (fails_size entries.old (size_at sizes.now)) (λ k. seen k ≡ true) least.old.found
+        → IsNoted (fails_size entries.old (size_at sizes.now))
+        (λ k. (seen k ≡ true) ⊎ (is_member_of entries.old node k ≡ true)) least.new.found }
 {
-    let mut next = cursor.first_child(node);
+    let mut next = entries.first_child(node);
     while let Some(child) = next {
-        let entry = cursor.at(child);
+        let entry = entries.at(child);
         least.note(child, entry.broken_as_member(size, sizes));
-        next = cursor.next_sibling(child);
+        next = entries.next_sibling(child);
     }
 }
 
 /// Writes the size of an entry, by those of what it holds by value, and notes what is wrong with it and its members.
 fn measure(
     alloc: Global,
-    entries: &FactsList<'_, '_>,
-    cursor: &mut FactsCursor<'_, '_>,
+    entries: &mut FactsList<'_, '_>,
     sizes: &mut SizeTable,
     least: &mut LeastFault,
     node: usize,
 ) -> Result<(), AllocError>
-    requires node { node < length cursor.old }
-    requires entries { entries.now ≡ cursor.old }
-    requires sizes_in { length sizes.old ≡ length cursor.old }
-    requires targets { TargetsAreEntries cursor.old }
-    requires untyped { OnlyTypesAreSized cursor.old (size_at sizes.old) }
-    ensures same { OnOk result (cursor.new ≡ cursor.old) }
+    requires node { node < length entries.old }
+    requires sizes_in { length sizes.old ≡ length entries.old }
+    requires targets { TargetsAreEntries entries.old }
+    requires untyped { OnlyTypesAreSized entries.old (size_at sizes.old) }
+    ensures same { OnOk result (entries.new ≡ entries.old) }
     ensures size { OnOk result (sizes.new
-        ≡ slice_set sizes.old node (cap_size (2 ^ 63) (size_line cursor.old (size_at sizes.old) node))) }
+        ≡ slice_set sizes.old node (cap_size (2 ^ 63) (size_line entries.old (size_at sizes.old) node))) }
     ensures noted { OnOk result ((seen : ℕ → Bool)
-        → IsNoted (fails_size cursor.old (size_at sizes.new)) (λ k. seen k ≡ true) least.old.found
-        → IsNoted (fails_size cursor.old (size_at sizes.new))
-        (λ k. (seen k ≡ true) ⊎ (asked_at cursor.old k ≡ node)) least.new.found) }
+        → IsNoted (fails_size entries.old (size_at sizes.new)) (λ k. seen k ≡ true) least.old.found
+        → IsNoted (fails_size entries.old (size_at sizes.new))
+        (λ k. (seen k ≡ true) ⊎ (asked_at entries.old k ≡ node)) least.new.found) }
 {
-    let entry = cursor.at(node);
+    let entry = entries.at(node);
     if !entry.is_type() {
         return Ok(());
     }
-    let elements = elements_of(cursor, node, &entry);
+    let elements = elements_of(entries, node, &entry);
     let size = capped_size(entries, elements, sizes, node, &entry);
     sizes.set(alloc, node, size)?;
     least.note(node, entry.broken_size(size, sizes));
     if !entry.has_members() {
         return Ok(());
     }
-    note_members(cursor, sizes, least, node, size);
+    note_members(entries, sizes, least, node, size);
     Ok(())
-}
-
-/// The one table of sizes of entries with these facts, or the first fault of sizes.
-fn sizes_of_facts(
-    alloc: Global,
-    entries: &FactsList<'_, '_>,
-    order: &Order,
-) -> Result<SizeTable, Stop<Fault>>
-    requires parents { ParentsComeFirst entries.now }
-    requires targets { TargetsAreEntries entries.now }
-    requires rising { OffsetsRise entries.now }
-    requires order { IsOrderOf (by_value entries.now) order.now }
-    ensures long { IfOk result (λ table. length table ≡ length entries.now) }
-    ensures only { IfOk result (λ table. IsSizeTable entries.now (size_at table)) }
-    ensures sound { IfOk result (λ table. HasNone (SizeFailures entries.now (size_at table))) }
-    ensures fault { IfErr result (IfPlainFault (IsFirstSizeFault entries.now)) }
-{
-    let mut sizes = SizeTable::none(alloc, entries.count())?;
-    let mut least = LeastFault::none();
-    let mut cursor = entries.cursor();
-    for rank in 0..order.count() {
-        measure(
-            alloc,
-            entries,
-            &mut cursor,
-            &mut sizes,
-            &mut least,
-            order.node(rank),
-        )?;
-    }
-    least.check(alloc, entries)?;
-    Ok(sizes)
 }
 
 /// The one table of sizes, or the first fault of sizes. The order is that of the graph of the entries' steps by value.
@@ -343,7 +294,18 @@ pub fn sizes(alloc: Global, links: &Links<'_, '_>, order: &Order) -> Result<Size
     ensures sound { IfOk result (λ table. HasNone (SizeFailures (all_facts links.now) (size_at table))) }
     ensures fault { IfErr result (IfPlainFault (IsFirstSizeFault (all_facts links.now))) }
 {
-    let units = UnitFacts::read_all(alloc, links.entries)?;
-    let facts = FactsList::new(links, &units);
-    sizes_of_facts(alloc, &facts, order)
+    let mut entries = FactsList::new(links);
+    let mut sizes = SizeTable::none(alloc, entries.count())?;
+    let mut least = LeastFault::none();
+    for rank in 0..order.count() {
+        measure(
+            alloc,
+            &mut entries,
+            &mut sizes,
+            &mut least,
+            order.node(rank),
+        )?;
+    }
+    least.check(alloc, &entries)?;
+    Ok(sizes)
 }

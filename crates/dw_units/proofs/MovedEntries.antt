@@ -8,9 +8,9 @@ use Rattle.dw_entries.specs.Header.{header_size}
 use Rattle.dw_entries.specs.Tree.{Node, Nodes, leaf, parent, none, ◌then◌, node_bytes}
 use Rattle.dw_entries.specs.Units.{DebugUnit, unit_bytes}
 use Rattle.dw_entries.specs.Entries.{Entry, node_count, first_id, node_entries, nodes_entries, entries_from, entries_of, PlacedUnit, placed_from, placed}
-use Rattle.dw_types.specs.declared.facts.Facts.{Facts}
 use Rattle.dw_entries.proofs.EntryFacts.{length-node_entries}
 use Rattle.dw_entries.proofs.UnitRanges.{get_front, get_behind}
+use Rattle.dw_types.specs.Entries.{Facts}
 
 -- a number of an entry of the unit, among all entries
 abbrev pub moved_number : ℕ → Option ℕ → Option ℕ

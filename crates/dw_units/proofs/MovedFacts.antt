@@ -4,7 +4,7 @@ use Rattle.std.specs.Prelude.{slice_get, if◌then◌else◌, is_some, option_an
 use Rattle.std.specs.Option.{option_map_or}
 use Rattle.std.specs.List.{AllByRecursion}
 use Rattle.dw_elf.specs.declared.sections.Sections.{Sections}
-use Rattle.dw_forms.specs.Codes.{DW_AT_abstract_origin, DW_AT_bit_size, DW_AT_bit_stride, DW_AT_byte_size, DW_AT_byte_stride, DW_AT_count, DW_AT_data_bit_offset, DW_AT_data_member_location, DW_AT_lower_bound, DW_AT_signature, DW_AT_specification, DW_AT_type, DW_AT_upper_bound}
+use Rattle.dw_forms.specs.Codes.{DW_AT_signature, DW_AT_type}
 use Rattle.dw_forms.specs.Value.{Datum}
 use Rattle.dw_entries.specs.Units.{DebugUnit}
 use Rattle.dw_entries.specs.Entries.{Entry, entries_of, PlacedUnit, placed}
@@ -13,11 +13,10 @@ use Rattle.dw_entries.specs.Lookups.{value_at_entry, value_in}
 use Rattle.dw_entries.proofs.EntryFacts.{entries_rise}
 use Rattle.dw_links.specs.References.{is_declared}
 use Rattle.dw_links.specs.Targets.{reach_of, target_of}
-use Rattle.dw_types.specs.declared.facts.Facts.{Facts}
-use Rattle.dw_types.specs.declared.facts.Constant.{Constant}
-use Rattle.dw_types.specs.declared.facts.Constant.TheVariants.{Absent}
-use Rattle.dw_types.specs.Entries.{entry_of}
-use Rattle.dw_types.specs.FactsOf.{facts_in, facts_at, facts_read, facts_unread, constant_at, address_size_of, language_of, is_type_or_member}
+use Rattle.dw_types.specs.declared.constant.Constant.{Constant}
+use Rattle.dw_types.specs.declared.constant.Constant.TheVariants.{Absent}
+use Rattle.dw_types.specs.Entries.{entry_of, Facts}
+use Rattle.dw_types.specs.FactsOf.{facts_in, facts_at, address_size_of, language_of}
 use Rattle.dw_types.proofs.FactsLemmas.{facts-get}
 use Rattle.dw_units.specs.Alone.{StaysInside, StandsAlone}
 use Rattle.dw_units.proofs.MovedEntries.{moved_number, moved, moved_facts, get}
@@ -61,55 +60,24 @@ module _ (us : List DebugUnit) (rise : OffsetsRise (entries_of us)) (number : �
       ap (λ (o : Option PlacedUnit). option_map_or f o d) is ∙ sym same
       ∙ sym (ap (λ (n : ℕ). option_map_or f (slice_get (placed (p.unit ∷ [])) n) d) of)
 
-  read_moved : (e : Entry) → e.unit ≡ 0 → StaysInside e → facts_read (entries_of us) (placed us) (moved number p.first p.at e)
-      ≡ moved_facts p.first p.at (facts_read (entries_of (p.unit ∷ [])) (placed (p.unit ∷ [])) e)
-  unfolding facts_read
-  read_moved e of stays =
-      let F : Option ℕ → Option ℕ → ℕ → Constant → Facts = λ type signature size language. record {
-        offset = p.at + e.at;
-        tag = e.head.decl.tag;
-        declared = is_declared e;
-        parent = moved_number p.first e.parent;
-        type_target = type;
-        signature_target = signature;
-        has_specification = is_some (value_at_entry e DW_AT_specification);
-        has_abstract_origin = is_some (value_at_entry e DW_AT_abstract_origin);
-        address_size = size;
-        language = language;
-        byte_size = constant_at e DW_AT_byte_size;
-        bit_size = constant_at e DW_AT_bit_size;
-        byte_stride = constant_at e DW_AT_byte_stride;
-        bit_stride = constant_at e DW_AT_bit_stride;
-        count = constant_at e DW_AT_count;
-        lower_bound = constant_at e DW_AT_lower_bound;
-        upper_bound = constant_at e DW_AT_upper_bound;
-        data_member_location = constant_at e DW_AT_data_member_location;
-        data_bit_offset = constant_at e DW_AT_data_bit_offset;
-      } in
+  facts_moved : (e : Entry) → e.unit ≡ 0 → StaysInside e → facts_at (entries_of us) (placed us) (moved number p.first p.at e)
+      ≡ moved_facts p.first p.at (facts_at (entries_of (p.unit ∷ [])) (placed (p.unit ∷ [])) e)
+  facts_moved e of stays =
       let type = target_moved e of stays DW_AT_type in
       let signature = target_moved e of stays DW_AT_signature in
       let size = of_unit address_size_of 0 e of refl in
       let language = of_unit language_of Absent e of refl in
-      ap (λ (t : Option ℕ). F t (target_of (entries_of us) (placed us) (moved number p.first p.at e) DW_AT_signature)
-      (option_map_or address_size_of (slice_get (placed us) number) 0) (option_map_or language_of (slice_get (placed us) number) Absent)) type
-      ∙ ap (λ (g : Option ℕ). F (moved_number p.first (target_of (entries_of (p.unit ∷ [])) (placed (p.unit ∷ [])) e DW_AT_type)) g
-      (option_map_or address_size_of (slice_get (placed us) number) 0) (option_map_or language_of (slice_get (placed us) number) Absent)) signature
-      ∙ ap (λ (n : ℕ). F (moved_number p.first (target_of (entries_of (p.unit ∷ [])) (placed (p.unit ∷ [])) e DW_AT_type))
-      (moved_number p.first (target_of (entries_of (p.unit ∷ [])) (placed (p.unit ∷ [])) e DW_AT_signature)) n
-      (option_map_or language_of (slice_get (placed us) number) Absent)) size
-      ∙ ap (λ (c : Constant). F (moved_number p.first (target_of (entries_of (p.unit ∷ [])) (placed (p.unit ∷ [])) e DW_AT_type))
-      (moved_number p.first (target_of (entries_of (p.unit ∷ [])) (placed (p.unit ∷ [])) e DW_AT_signature))
-      (option_map_or address_size_of (slice_get (placed (p.unit ∷ [])) e.unit) 0) c) language
-
-  facts_moved : (e : Entry) → e.unit ≡ 0 → StaysInside e → facts_at (entries_of us) (placed us) (moved number p.first p.at e)
-      ≡ moved_facts p.first p.at (facts_at (entries_of (p.unit ∷ [])) (placed (p.unit ∷ [])) e)
-  unfolding facts_at facts_unread
-  facts_moved e of stays = go (is_type_or_member e.head.decl.tag)
-    where
-      go : (b : Bool) → (if b then facts_read (entries_of us) (placed us) (moved number p.first p.at e) else facts_unread (moved number p.first p.at e))
-          ≡ moved_facts p.first p.at (if b then facts_read (entries_of (p.unit ∷ [])) (placed (p.unit ∷ [])) e else facts_unread e)
-      go true = read_moved e of stays
-      go false = refl
+      λ i. record {
+        offset = p.at + e.at;
+        tag = e.head.decl.tag;
+        declared = is_declared e;
+        parent = moved_number p.first e.parent;
+        type_target = type i;
+        signature_target = signature i;
+        address_size = size i;
+        language = language i;
+        values = values_of e.head;
+      }
 
 -- the facts of an entry of a unit alone, in the unit's place
 pub facts_get : (s : Sections) (us : List DebugUnit) → AllByRecursion (StandsAlone s) us → (number : ℕ) (p : PlacedUnit)

@@ -10,8 +10,7 @@ use Rattle.dw_entries.specs.Places.{at_entry}
 use Rattle.dw_entries.specs.Failures.{HasNone}
 use Rattle.dw_entries.proofs.Firsts.{same_some}
 use Rattle.dw_links.proofs.Skips.{there}
-use Rattle.dw_types.specs.declared.facts.Facts.{Facts}
-use Rattle.dw_types.specs.Entries.{entry_of}
+use Rattle.dw_types.specs.Entries.{entry_of, Facts}
 use Rattle.dw_types.specs.FactsOf.{facts_in}
 use Rattle.dw_types.specs.Graphs.{Graph, IsStep, steps_of, HasNoCycle}
 use Rattle.dw_types.proofs.StepLemmas.{length-by_value}

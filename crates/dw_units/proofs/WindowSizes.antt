@@ -5,17 +5,16 @@ use Rattle.std.specs.List.{AllByRecursion, list_any, range_with_len}
 use Rattle.std.proofs.lemmas.List.Elements.{filter-append}
 use Rattle.dw_entries.specs.declared.fault.Rule.{Rule}
 use Rattle.dw_entries.specs.declared.fault.Rule.TheVariants.{MemberOutside, EnumSize}
-use Rattle.dw_types.specs.declared.facts.Facts.{Facts}
 use Rattle.dw_types.specs.declared.kind.Kind.{Kind}
 use Rattle.dw_types.specs.declared.kind.Kind.TheVariants.{Declared, OwnSized, Pointer, Alias, Enumeration, Array, Subroutine, NoType}
 use Rattle.dw_types.specs.declared.kind.Role.{Role}
 use Rattle.dw_types.specs.Constants.{is_present, natural_of}
 use Rattle.dw_types.specs.Counts.{count_of, known_natural}
-use Rattle.dw_types.specs.Entries.{entry_of, is_parent, is_child, children, entry_numbers}
+use Rattle.dw_types.specs.Entries.{entry_of, is_parent, is_child, children, entry_numbers, Facts, byte_size, constant}
 use Rattle.dw_types.specs.Kinds.{kind_of, parent_role, is_enumeration}
 use Rattle.dw_types.specs.Shapes.{stands_alone}
 use Rattle.dw_links.specs.Classes.{is_one_of}
-use Rattle.dw_forms.specs.Codes.{DW_TAG_enumeration_type, DW_TAG_generic_subrange, DW_TAG_subrange_type}
+use Rattle.dw_forms.specs.Codes.{DW_TAG_enumeration_type, DW_TAG_generic_subrange, DW_TAG_subrange_type, DW_AT_bit_stride, DW_AT_byte_stride}
 use Rattle.dw_types.specs.SizeTables.{Size}
 use Rattle.dw_types.specs.Sizes.{is_subrange, dimensions, times, product_of, factor_of, has_stride, is_other_index, has_elements, is_regular, size_to, constant_or, array_size, size_of_kind, size_line}
 use Rattle.dw_types.specs.SizeFaults.{breaks_size, fails_size, differ}
@@ -148,20 +147,20 @@ module _ (all alone : List Facts) (first at : ℕ) (w : IsWindow all alone first
       ap (list_any (is_other_index all)) (children_moved inner inside)
       ∙ any_moved first (length alone) (is_other_index all) (is_other_index alone) (children alone inner) (children_below inner)
       (λ k within. ap (λ (f : Facts). is_one_of (DW_TAG_enumeration_type ∷ DW_TAG_generic_subrange ∷ []) f.tag) (w.facts k within)) in
-      let stride : is_present (entry_of all (first + inner)).bit_stride ≡ is_present (entry_of alone inner).bit_stride =
-      ap (λ (f : Facts). is_present f.bit_stride) (w.facts inner inside) in
+      let stride : is_present (constant (entry_of all (first + inner)) DW_AT_bit_stride) ≡ is_present (constant (entry_of alone inner) DW_AT_bit_stride) =
+      ap (λ (f : Facts). is_present (constant f DW_AT_bit_stride)) (w.facts inner inside) in
       let any : list_any (has_stride all) (dimensions all (first + inner)) ≡ list_any (has_stride alone) (dimensions alone inner) =
       ap (list_any (has_stride all)) (dimensions_moved inner inside)
       ∙ any_moved first (length alone) (has_stride all) (has_stride alone) (dimensions alone inner) (dimensions_below inner)
-      (λ k within. ap (λ (f : Facts). is_present f.bit_stride || is_present f.byte_stride) (w.facts k within)) in
-      ap (λ (b : Bool). R b (list_any (is_other_index all) (children all (first + inner))) (is_present (entry_of all (first + inner)).bit_stride)
+      (λ k within. ap (λ (f : Facts). is_present (constant f DW_AT_bit_stride) || is_present (constant f DW_AT_byte_stride)) (w.facts k within)) in
+      ap (λ (b : Bool). R b (list_any (is_other_index all) (children all (first + inner))) (is_present (constant (entry_of all (first + inner)) DW_AT_bit_stride))
       (list_any (has_stride all) (dimensions all (first + inner)))) elements
-      ∙ ap (λ (b : Bool). R (has_elements (dimensions alone inner)) b (is_present (entry_of all (first + inner)).bit_stride)
+      ∙ ap (λ (b : Bool). R (has_elements (dimensions alone inner)) b (is_present (constant (entry_of all (first + inner)) DW_AT_bit_stride))
       (list_any (has_stride all) (dimensions all (first + inner)))) other
       ∙ ap (λ (b : Bool). R (has_elements (dimensions alone inner)) (list_any (is_other_index alone) (children alone inner)) b
       (list_any (has_stride all) (dimensions all (first + inner)))) stride
       ∙ ap (λ (b : Bool). R (has_elements (dimensions alone inner)) (list_any (is_other_index alone) (children alone inner))
-      (is_present (entry_of alone inner).bit_stride) b) any
+      (is_present (constant (entry_of alone inner) DW_AT_bit_stride)) b) any
 
   product_moved : (inner : ℕ) → inner < length alone → product_of (map (factor_of all) (dimensions all (first + inner)))
       ≡ product_of (map (factor_of alone) (dimensions alone inner))
@@ -197,26 +196,26 @@ module _ (all alone : List Facts) (first at : ℕ) (w : IsWindow all alone first
 
     array_moved : (inner : ℕ) → inner < length alone → array_size all table (first + inner) ≡ array_size alone lone inner
     array_moved inner inside =
-        ap (λ (b : Bool). if b then times (constant_or (entry_of all (first + inner)).byte_stride (size_to table (entry_of all (first + inner)).type_target))
+        ap (λ (b : Bool). if b then times (constant_or (constant (entry_of all (first + inner)) DW_AT_byte_stride) (size_to table (entry_of all (first + inner)).type_target))
         (product_of (map (factor_of all) (dimensions all (first + inner)))) else None) (regular_moved inner inside)
-        ∙ ap (λ (f : Facts). if is_regular alone inner then times (constant_or f.byte_stride (size_to table (entry_of all (first + inner)).type_target))
+        ∙ ap (λ (f : Facts). if is_regular alone inner then times (constant_or (constant f DW_AT_byte_stride) (size_to table (entry_of all (first + inner)).type_target))
         (product_of (map (factor_of all) (dimensions all (first + inner)))) else None) (w.facts inner inside)
-        ∙ ap (λ (z : Size). if is_regular alone inner then times (constant_or (entry_of alone inner).byte_stride z)
+        ∙ ap (λ (z : Size). if is_regular alone inner then times (constant_or (constant (entry_of alone inner) DW_AT_byte_stride) z)
         (product_of (map (factor_of all) (dimensions all (first + inner)))) else None) (type_moved inner inside)
-        ∙ ap (λ (z : Size). if is_regular alone inner then times (constant_or (entry_of alone inner).byte_stride (size_to lone (entry_of alone inner).type_target))
+        ∙ ap (λ (z : Size). if is_regular alone inner then times (constant_or (constant (entry_of alone inner) DW_AT_byte_stride) (size_to lone (entry_of alone inner).type_target))
         z else None) (product_moved inner inside)
 
     kind_moved : (kind : Kind) (inner : ℕ) → inner < length alone → size_of_kind kind all table (first + inner) ≡ size_of_kind kind alone lone inner
     kind_moved Declared inner inside = signature_moved inner inside
-    kind_moved OwnSized inner inside = ap (λ (f : Facts). natural_of f.byte_size) (w.facts inner inside)
-    kind_moved Pointer inner inside = ap (λ (f : Facts). constant_or f.byte_size (Some f.address_size)) (w.facts inner inside)
+    kind_moved OwnSized inner inside = ap (λ (f : Facts). natural_of (byte_size f)) (w.facts inner inside)
+    kind_moved Pointer inner inside = ap (λ (f : Facts). constant_or (byte_size f) (Some f.address_size)) (w.facts inner inside)
     kind_moved Alias inner inside = type_moved inner inside
     kind_moved Enumeration inner inside =
-        ap (λ (f : Facts). constant_or f.byte_size (size_to table (entry_of all (first + inner)).type_target)) (w.facts inner inside)
-        ∙ ap (constant_or (entry_of alone inner).byte_size) (type_moved inner inside)
+        ap (λ (f : Facts). constant_or (byte_size f) (size_to table (entry_of all (first + inner)).type_target)) (w.facts inner inside)
+        ∙ ap (constant_or (byte_size (entry_of alone inner))) (type_moved inner inside)
     kind_moved Array inner inside =
-        ap (λ (f : Facts). constant_or f.byte_size (array_size all table (first + inner))) (w.facts inner inside)
-        ∙ ap (constant_or (entry_of alone inner).byte_size) (array_moved inner inside)
+        ap (λ (f : Facts). constant_or (byte_size f) (array_size all table (first + inner))) (w.facts inner inside)
+        ∙ ap (constant_or (byte_size (entry_of alone inner))) (array_moved inner inside)
     kind_moved Subroutine inner inside = refl
     kind_moved NoType inner inside = refl
 
@@ -228,7 +227,7 @@ module _ (all alone : List Facts) (first at : ℕ) (w : IsWindow all alone first
     breaks_moved : (role : Role) (f : Facts) (size container type : Size) (rule : Rule)
         → breaks_size role (moved_facts first at f) size container type rule ≡ breaks_size role f size container type rule
     breaks_moved role f size container type EnumSize =
-        ap (λ (b : Bool). is_enumeration f && ((not (is_present f.byte_size) && (not b && stands_alone f)) || differ (natural_of f.byte_size) type))
+        ap (λ (b : Bool). is_enumeration f && ((not (is_present (byte_size f)) && (not b && stands_alone f)) || differ (natural_of (byte_size f)) type))
         (some_of_moved first f.type_target)
     breaks_moved role f size None type MemberOutside = refl
     breaks_moved role f size (Some n) type MemberOutside = refl

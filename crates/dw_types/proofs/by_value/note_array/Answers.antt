@@ -9,7 +9,7 @@ use Rattle.dw_types.proofs.by_value.note_array.Goals as goal
 
 pub returns-then-not-is_array-clause-noted : goal.returns-then-not-is_array-clause-noted
 returns-then-not-is_array-clause-noted c =
-    let entries = c.args.cursor.now in
+    let entries = c.args.entries.now in
     let node = c.args.node in
     let array : is_array (entry_of entries node) ≡ false = rw c.requires.entry at (sym c.is_array.ensures ∙ c.if-not-is_array.true) in
     let members : has_members (entry_of entries node) ≡ false = c.requires.none in
@@ -20,7 +20,7 @@ note_dimensions-requires-clause-array c = rw c.requires.entry at (sym c.is_array
 
 pub note_dimensions-requires-clause-noted : goal.note_dimensions-requires-clause-noted
 note_dimensions-requires-clause-noted c =
-    let entries = c.args.cursor.now in
+    let entries = c.args.entries.now in
     let node = c.args.node in
     let array : is_array (entry_of entries node) ≡ true = rw c.requires.entry at (sym c.is_array.ensures ∙ c.if-not-is_array.false) in
     let least = array-least entries node c.broken_shape.result array (rw c.requires.entry at c.broken_shape.ensures) in

@@ -14,7 +14,7 @@ use Rattle.dw_types.proofs.by_value.note_dimensions.Goals as goal
 
 pub loop-next-init : goal.loop-next-init
 loop-next-init c =
-    let entries = c.args.cursor.now in
+    let entries = c.args.entries.now in
     let Q : List ℕ → Type 0 = λ visited. IsNoted (fails_shape entries) (λ k. HasSeenArray entries c.args.node k ⊎ Contains visited k) c.args.least.now.found in (
       passed-none entries c.args.node (IsChildOf entries c.args.node) Q c.first_child-next.result c.first_child-next.ensures.children c.first_child-next.ensures.child
           (noted-no_child (fails_shape entries) (HasSeenArray entries c.args.node) c.args.least.now.found c.requires.noted),
@@ -23,7 +23,7 @@ loop-next-init c =
 
 pub loop-next-preserved : goal.loop-next-preserved
 loop-next-preserved c =
-    let entries = c.args.cursor.now in
+    let entries = c.args.entries.now in
     let node = c.args.node in
     let child = c.in-Some.child in
     let fails = fails_shape entries in
@@ -43,7 +43,7 @@ loop-next-preserved c =
 
 pub returns-clause-noted : goal.returns-clause-noted
 returns-clause-noted c =
-    let entries = c.args.cursor.now in
+    let entries = c.args.entries.now in
     let node = c.args.node in
     let P : ℕ → Type 0 = IsChildOf entries node in
     let Q : List ℕ → Type 0 = λ visited. IsNoted (fails_shape entries) (λ k. HasSeenArray entries node k ⊎ Contains visited k) c.loop-next.least.found in

@@ -17,7 +17,7 @@ use Rattle.dw_types.proofs.by_value.push_members.Goals.{then-is_plain+in_ok-push
 
 pub loop-next-init : goal.loop-next-init
 loop-next-init c =
-    let entries = c.args.cursor.now in
+    let entries = c.args.entries.now in
     let steps = c.args.steps.now in
     let Q : List ℕ → Type 0 = λ visited. (steps ≡ steps ++ flat_map (part_step entries) visited) × IsNoted (fails_shape entries) (λ k. HasSeenShapes entries c.args.node k ⊎ Contains visited k) c.args.least.now.found in (
       passed-none entries c.args.node (IsChildOf entries c.args.node) Q c.first_child-next.result c.first_child-next.ensures.children c.first_child-next.ensures.child
@@ -27,7 +27,7 @@ loop-next-init c =
 
 pub loop-next-preserved : goal.loop-next-preserved
 loop-next-preserved c =
-    let entries = c.args.cursor.now in
+    let entries = c.args.entries.now in
     let steps = c.args.steps.now in
     let node = c.args.node in
     let child = c.in-Some.child in
@@ -56,7 +56,7 @@ loop-next-preserved c =
 
 pub returns-clause-noted : goal.returns-clause-noted
 returns-clause-noted c =
-    let entries = c.args.cursor.now in
+    let entries = c.args.entries.now in
     let node = c.args.node in
     let P : ℕ → Type 0 = IsChildOf entries node in
     let Q : List ℕ → Type 0 = λ visited. (c.loop-next.steps ≡ c.args.steps.now ++ flat_map (part_step entries) visited) × IsNoted (fails_shape entries) (λ k. HasSeenShapes entries node k ⊎ Contains visited k) c.loop-next.least.found in

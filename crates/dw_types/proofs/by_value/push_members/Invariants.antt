@@ -11,9 +11,9 @@ use Rattle.dw_types.proofs.by_value.push_members.Given as goal
 
 abbrev pub invariant-loop-next : goal.invariant-loop-next
 invariant-loop-next l =
-    HasPassed l.fn.cursor l.node (IsChildOf l.fn.cursor l.node)
-    (λ visited. (l.steps ≡ l.fn.steps ++ flat_map (part_step l.fn.cursor) visited) × IsNoted (fails_shape l.fn.cursor) (λ k. HasSeenShapes l.fn.cursor l.node k ⊎ Contains visited k) l.least.found) l.next
-    × (l.cursor ≡ l.fn.cursor)
+    HasPassed l.fn.entries l.node (IsChildOf l.fn.entries l.node)
+    (λ visited. (l.steps ≡ l.fn.steps ++ flat_map (part_step l.fn.entries) visited) × IsNoted (fails_shape l.fn.entries) (λ k. HasSeenShapes l.fn.entries l.node k ⊎ Contains visited k) l.least.found) l.next
+    × (l.entries ≡ l.fn.entries)
 
 abbrev pub decreases-loop-next : goal.decreases-loop-next
-decreases-loop-next l = length (rest_of_children l.fn.cursor l.node l.next)
+decreases-loop-next l = length (rest_of_children l.fn.entries l.node l.next)

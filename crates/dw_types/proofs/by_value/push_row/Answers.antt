@@ -8,13 +8,13 @@ use Rattle.dw_types.proofs.by_value.push_row.Goals as goal
 
 pub returns-then-has_members-clause-steps : goal.returns-then-has_members-clause-steps
 returns-then-has_members-clause-steps c =
-    let entries = c.args.cursor.now in
+    let entries = c.args.entries.now in
     let members : has_members (entry_of entries c.args.node) ≡ true = rw c.at-entry.ensures.found at (sym c.has_members.ensures ∙ c.if-has_members.true) in
     rw (← members-row entries c.args.node members) (rw c.at-entry.ensures.same at c.push_members.ensures.steps)
 
 pub returns-clause-steps : goal.returns-clause-steps
 returns-clause-steps c =
-    let entries = c.args.cursor.now in
+    let entries = c.args.entries.now in
     let none : has_members (entry_of entries c.args.node) ≡ false = rw c.at-entry.ensures.found at (sym c.has_members.ensures ∙ c.if-has_members.false) in
     let type = rw c.at-entry.ensures.found at c.type_step.ensures.step in
     let signature = rw c.at-entry.ensures.found at c.signature_step.ensures.step in

@@ -1,20 +1,29 @@
-use Rattle.std.proofs.Common.{ap, sym, ◌∙◌}
+use Rattle.std.proofs.Common.{◌≡◌, ap, sym, ◌∙◌}
+use Rattle.dw_forms.specs.Codes.{DW_AT_count, DW_AT_lower_bound, DW_AT_upper_bound}
 use Rattle.dw_entries.specs.Scanned.{units_of}
-use Rattle.dw_types.specs.Counts.{known_natural}
-use Rattle.dw_types.proofs.CountLemmas.{count-known, head-unit}
-use Rattle.dw_types.proofs.UnitLemmas.{unit-of_all, units-long}
+use Rattle.dw_types.specs.declared.constant.Constant.TheVariants.{Absent}
+use Rattle.dw_types.specs.Counts.{count_from, known_natural}
+use Rattle.dw_types.specs.Entries.{Facts, constant}
+use Rattle.dw_types.specs.FactsOf.{language_of}
+use Rattle.dw_types.proofs.FactsLemmas.{known}
+use Rattle.dw_types.proofs.UnitLemmas.{unit-below, unit-known}
 use Rattle.dw_types.proofs.count.count_at.Goals as goal
 
-pub unit_at-requires : goal.unit_at-requires
-unit_at-requires c =
-    let us = units_of c.args.entries.now.scanned in
-    rw (c.requires.units, units-long us) (head-unit _ _ us c.args.entries.now.scanned.1.spells c.args.id c.head-head.result c.requires.id (rw c.at.ensures at c.head-head.ensures))
+pub language_of-requires : goal.language_of-requires
+language_of-requires c =
+    let scanned = c.args.entries.now.scanned in
+    unit-below _ _ (units_of scanned) scanned.1.spells c.args.id c.requires c.at-entry.result c.at-entry.ensures c.unit.result c.unit.ensures
 
 pub returns : goal.returns
 returns c =
-    let us = units_of c.args.entries.now.scanned in
-    let unit = unit-of_all us c.head-head.result.unit c.unit_at.result (rw c.requires.units at c.unit_at.ensures) in
-    c.known_natural.ensures
-    ∙ (ap known_natural c.count_from.ensures
-    ∙ count-known _ _ us c.args.entries.now.scanned.1.spells c.args.id c.head-head.result c.requires.id (rw c.at.ensures at c.head-head.ensures) (sym c.is_dimension.ensures ∙ c.if-not-is_dimension.false)
-    c.read.result c.read-2.result c.read-3.result c.unit_at.result c.read.ensures c.read-2.ensures c.read-3.ensures unit)
+    let scanned = c.args.entries.now.scanned in
+    let us = units_of scanned in
+    let id = c.args.id in
+    let at = c.at-entry.ensures in
+    let language = unit-known _ _ us scanned.1.spells id c.requires c.at-entry.result at c.unit.result c.unit.ensures language_of Absent c.language_of.result c.language_of.ensures in
+    let n = known us id _ at c.requires (λ (facts : Facts). c.read.result ≡ constant facts DW_AT_count) c.read.ensures in
+    let l = known us id _ at c.requires (λ (facts : Facts). c.language_of.result ≡ facts.language) language in
+    let u = known us id _ at c.requires (λ (facts : Facts). c.read-2.result ≡ constant facts DW_AT_upper_bound) c.read-2.ensures in
+    let b = known us id _ at c.requires (λ (facts : Facts). c.read-3.result ≡ constant facts DW_AT_lower_bound) c.read-3.ensures in
+    let dimension = sym c.is_dimension.ensures ∙ c.if-not-is_dimension.false in
+    c.known_natural.ensures ∙ (ap known_natural c.count_from.ensures ∙ rw dimension (λ i. known_natural (count_from (n i) (l i) (u i) (b i))))

@@ -8,7 +8,7 @@ use Rattle.dw_types.proofs.count.count_elements.Goals as goal
 
 pub loop-next-preserved : goal.loop-next-preserved
 loop-next-preserved c =
-    let entries = c.args.cursor.now in
+    let entries = c.args.entries.now in
     let node = c.args.node in
     let child = c.in-Some.child in
     let P : ℕ → Type 0 = IsChildOf entries node in

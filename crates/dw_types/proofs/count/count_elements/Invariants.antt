@@ -6,8 +6,8 @@ use Rattle.dw_types.proofs.count.count_elements.Given as goal
 
 abbrev pub invariant-loop-next : goal.invariant-loop-next
 invariant-loop-next l =
-    HasPassed l.fn.cursor l.node (IsChildOf l.fn.cursor l.node) (λ visited. l.elements ≡ element_count_by l.fn.cursor visited) l.next
-    × (l.cursor ≡ l.fn.cursor)
+    HasPassed l.fn.entries l.node (IsChildOf l.fn.entries l.node) (λ visited. l.elements ≡ element_count_by l.fn.entries visited) l.next
+    × (l.entries ≡ l.fn.entries)
 
 abbrev pub decreases-loop-next : goal.decreases-loop-next
-decreases-loop-next l = length (rest_of_children l.fn.cursor l.node l.next)
+decreases-loop-next l = length (rest_of_children l.fn.entries l.node l.next)

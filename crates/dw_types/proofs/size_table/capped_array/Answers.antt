@@ -8,6 +8,6 @@ get_to-requires c = rw (c.type_target.ensures, c.requires.entry) (type-in c.args
 
 pub returns-clause-value : goal.returns-clause-value
 returns-clause-value c =
-    let plain = rw (c.bit_stride.ensures, c.requires.entry) at c.if-is_present.ensures in
+    let plain = rw (c.constant.ensures, c.requires.entry) at c.if-is_present.ensures in
     let law = array-by_element_count c.args.entries.now (size_at c.args.sizes.now) c.args.node (sym plain) in
-    c.capped_times.ensures.value ∙ rw (c.natural_or-storage.ensures, c.byte_stride.ensures, c.get_to.ensures, c.type_target.ensures, c.size.ensures, c.requires.elements, c.requires.entry) law
+    c.capped_times.ensures.value ∙ rw (c.natural_or-storage.ensures, c.constant-stride.ensures, c.get_to.ensures, c.type_target.ensures, c.size.ensures, c.requires.elements, c.requires.entry) law

@@ -13,31 +13,31 @@ use Rattle.dw_types.proofs.size_table.measure.Goals as goal
 pub returns-then-not-is_type-clause-size : goal.returns-then-not-is_type-clause-size
 returns-then-not-is_type-clause-size c =
     let untyped = rw c.at-entry.ensures.found at (sym c.is_type.ensures ∙ c.if-not-is_type.true) in
-    untyped-set c.args.cursor.now c.args.sizes.now c.args.node c.requires.untyped untyped
+    untyped-set c.args.entries.now c.args.sizes.now c.args.node c.requires.untyped untyped
 
 pub returns-then-not-is_type-clause-noted : goal.returns-then-not-is_type-clause-noted
 returns-then-not-is_type-clause-noted c =
     let untyped = rw c.at-entry.ensures.found at (sym c.is_type.ensures ∙ c.if-not-is_type.true) in
     λ seen old.
-    untyped-noted c.args.cursor.now (size_at c.args.sizes.now) (λ k. seen k ≡ true) c.args.node c.args.least.now.found c.requires.untyped untyped old
+    untyped-noted c.args.entries.now (size_at c.args.sizes.now) (λ k. seen k ≡ true) c.args.node c.args.least.now.found c.requires.untyped untyped old
 
 pub capped_size-size-requires-clause-targets : goal.capped_size-size-requires-clause-targets
-capped_size-size-requires-clause-targets c = rw c.requires.entries c.requires.targets
+capped_size-size-requires-clause-targets c = rw (c.elements_of-elements.ensures.same, c.at-entry.ensures.same) c.requires.targets
 
 pub broken_size-requires-clause-own : goal.broken_size-requires-clause-own
 broken_size-requires-clause-own c =
-    let line = sized-line c.args.entries.now (size_at c.args.sizes.now) c.args.node c.capped_size-size.result c.capped_size-size.ensures.value in
-    let own : IfSome c.capped_size-size.result (λ x. has_no_size c.at-entry.result ≡ false) = rw (c.at-entry.ensures.found, ← c.requires.entries) line in
+    let line = sized-line c.args.entries.now (size_at c.args.sizes.now) c.args.node c.capped_size-size.result (rw (c.elements_of-elements.ensures.same, c.at-entry.ensures.same) at c.capped_size-size.ensures.value) in
+    let own : IfSome c.capped_size-size.result (λ x. has_no_size c.at-entry.result ≡ false) = rw c.at-entry.ensures.found line in
     own
 
 pub broken_size-requires-clause-type_in : goal.broken_size-requires-clause-type_in
 broken_size-requires-clause-type_in c =
     rw (c.at-entry.ensures.found, c.in_ok-set.ensures)
-    (type-in c.args.cursor.now (set c.args.sizes.now c.args.node c.capped_size-size.result) c.args.node c.requires.targets (length-set c.args.sizes.now c.args.node c.capped_size-size.result ∙ c.requires.sizes_in))
+    (type-in c.args.entries.now (set c.args.sizes.now c.args.node c.capped_size-size.result) c.args.node c.requires.targets (length-set c.args.sizes.now c.args.node c.capped_size-size.result ∙ c.requires.sizes_in))
 
 pub returns-then-not-has_members-clause-noted : goal.returns-then-not-has_members-clause-noted
 returns-then-not-has_members-clause-noted c =
-    let entries = c.args.cursor.now in
+    let entries = c.args.entries.now in
     let node = c.args.node in
     let size = c.capped_size-size.result in
     let inside : node < length c.args.sizes.now = let below = c.requires.node in let long = c.requires.sizes_in in omega arith in
@@ -58,11 +58,11 @@ pub note_members-requires-clause-untyped : goal.note_members-requires-clause-unt
 note_members-requires-clause-untyped c =
     let inside : c.args.node < length c.args.sizes.now = let below = c.requires.node in let long = c.requires.sizes_in in omega arith in
     let is = rw c.at-entry.ensures.found at (sym c.is_type.ensures ∙ c.if-not-is_type.false) in
-    rw (c.elements_of-elements.ensures.same, c.at-entry.ensures.same, c.in_ok-set.ensures) (typed-set c.args.cursor.now c.args.sizes.now c.args.node c.capped_size-size.result inside is c.requires.untyped)
+    rw (c.elements_of-elements.ensures.same, c.at-entry.ensures.same, c.in_ok-set.ensures) (typed-set c.args.entries.now c.args.sizes.now c.args.node c.capped_size-size.result inside is c.requires.untyped)
 
 pub returns-clause-noted : goal.returns-clause-noted
 returns-clause-noted c =
-    let entries = c.args.cursor.now in
+    let entries = c.args.entries.now in
     let node = c.args.node in
     let size = c.capped_size-size.result in
     let fails : ℕ → Rule → Bool = fails_size entries (size_at c.set.new.self) in

@@ -12,7 +12,7 @@ use Rattle.dw_types.proofs.size_table.note_members.Goals as goal
 
 pub loop-next-init : goal.loop-next-init
 loop-next-init c =
-    let entries = c.args.cursor.now in
+    let entries = c.args.entries.now in
     let fails : ℕ → Rule → Bool = fails_size entries (size_at c.args.sizes.now) in
     let found = c.args.least.now.found in
     let Q : List ℕ → Type 0 = λ visited. (seen : ℕ → Bool) → IsNoted fails (λ k. seen k ≡ true) found → IsNoted fails (λ k. (seen k ≡ true) ⊎ IsVisited entries visited k) found in (
@@ -22,11 +22,11 @@ loop-next-init c =
     )
 
 pub broken_as_member-requires : goal.broken_as_member-requires
-broken_as_member-requires c = rw (c.at-entry.ensures.found, c.loop-next.invariant.1) (type-in c.args.cursor.now c.args.sizes.now c.in-Some.child c.requires.targets c.requires.sizes_in)
+broken_as_member-requires c = rw (c.at-entry.ensures.found, c.loop-next.invariant.1) (type-in c.args.entries.now c.args.sizes.now c.in-Some.child c.requires.targets c.requires.sizes_in)
 
 pub loop-next-preserved : goal.loop-next-preserved
 loop-next-preserved c =
-    let entries = c.args.cursor.now in
+    let entries = c.args.entries.now in
     let table = size_at c.args.sizes.now in
     let node = c.args.node in
     let child = c.in-Some.child in
@@ -48,7 +48,7 @@ loop-next-preserved c =
 
 pub returns-clause-noted : goal.returns-clause-noted
 returns-clause-noted c =
-    let entries = c.args.cursor.now in
+    let entries = c.args.entries.now in
     let node = c.args.node in
     let fails : ℕ → Rule → Bool = fails_size entries (size_at c.args.sizes.now) in
     let h = c.loop-next.invariant.0 in

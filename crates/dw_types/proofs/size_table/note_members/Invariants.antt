@@ -9,11 +9,11 @@ use Rattle.dw_types.proofs.size_table.note_members.Given as goal
 
 abbrev pub invariant-loop-next : goal.invariant-loop-next
 invariant-loop-next l =
-    HasPassed l.fn.cursor l.node (IsChildOf l.fn.cursor l.node)
+    HasPassed l.fn.entries l.node (IsChildOf l.fn.entries l.node)
     (λ visited.
-    (seen : ℕ → Bool) → IsNoted (fails_size l.fn.cursor (size_at l.sizes)) (λ k. seen k ≡ true) l.fn.least.found
-    → IsNoted (fails_size l.fn.cursor (size_at l.sizes)) (λ k. (seen k ≡ true) ⊎ IsVisited l.fn.cursor visited k) l.least.found) l.next
-    × (l.cursor ≡ l.fn.cursor)
+    (seen : ℕ → Bool) → IsNoted (fails_size l.fn.entries (size_at l.sizes)) (λ k. seen k ≡ true) l.fn.least.found
+    → IsNoted (fails_size l.fn.entries (size_at l.sizes)) (λ k. (seen k ≡ true) ⊎ IsVisited l.fn.entries visited k) l.least.found) l.next
+    × (l.entries ≡ l.fn.entries)
 
 abbrev pub decreases-loop-next : goal.decreases-loop-next
-decreases-loop-next l = length (rest_of_children l.fn.cursor l.node l.next)
+decreases-loop-next l = length (rest_of_children l.fn.entries l.node l.next)
