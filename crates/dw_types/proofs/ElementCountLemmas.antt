@@ -1,17 +1,16 @@
 -- Sizes and products that are capped at a limit, and the product of an array's counts, found child by child.
-use Rattle.std.proofs.Common.{◌≡◌, ℕ, ◌*◌, ◌<◌, ◌≤◌, min, Some, None, inl, inr, arith, refl, ap, ◌∙◌, suc, zero, ◌^◌, Bool, true, false, ◌||◌, if◌then◌else◌, List, [], ◌∷◌, ◌++◌, map, sym}
+use Rattle.std.proofs.Common.{◌≡◌, ℕ, ◌*◌, ◌<◌, ◌≤◌, min, Some, None, inl, inr, arith, refl, ap, ◌∙◌, suc, zero, ◌^◌, Bool, true, false, ◌&&◌, ◌||◌, not, if◌then◌else◌, List, [], ◌∷◌, ◌++◌, map, sym}
 use Rattle.std.proofs.lemmas.Bool.{cases_lt}
 use Rattle.std.proofs.Math.Nat.{mul-le-mul_left, mul_comm, mul_assoc}
 use Rattle.std.specs.List.{filter, list_any}
-use Rattle.std.proofs.lemmas.List.{append-nil, map-append}
+use Rattle.std.proofs.lemmas.List.{map-append}
 use Rattle.std.proofs.lemmas.List.Elements.{filter-append}
-use Rattle.std.proofs.lemmas.List.Folds.{list_any-append}
+use Rattle.dw_forms.specs.Codes.{DW_AT_bit_stride, DW_AT_byte_stride}
 use Rattle.dw_types.specs.SizeTables.{Size, cap_size}
-use Rattle.dw_types.specs.declared.count.ElementCount.{ElementCount}
-use Rattle.dw_types.specs.declared.count.ElementCount.TheVariants.{NoDimension, Known, Unknown}
-use Rattle.dw_types.specs.ElementCounts.{element_count_by, element_count_from, grown, with_child}
-use Rattle.dw_types.specs.Entries.{children, Facts}
-use Rattle.dw_types.specs.Sizes.{is_subrange, is_other_index, has_stride, factor_of, product_of, times, has_elements}
+use Rattle.dw_types.specs.Constants.{is_present}
+use Rattle.dw_types.specs.ElementCounts.{child_factor, element_count}
+use Rattle.dw_types.specs.Entries.{Facts, children, constant, entry_of}
+use Rattle.dw_types.specs.Sizes.{array_size, constant_or, dimensions, is_subrange, is_other_index, has_stride, factor_of, product_of, size_to, times, has_elements}
 
 -- a capped size below the limit is the size itself
 pub uncapped : (limit : ℕ) (found size : Size) → found ≡ cap_size limit size → ((n : ℕ) → found ≡ Some n → n < limit) → found ≡ size
@@ -36,14 +35,24 @@ cap-product limit a b = elim (cases_lt a limit) [
   | inr great ↦ let e : min limit a ≡ limit = omega arith in rw e (great-product limit a b great)
 ]
 
--- the same, with both capped on the right
-pub cap-last : (limit p n : ℕ) → min (p * min n limit) limit ≡ min limit (p * n)
-cap-last limit p n =
-    let swap : min n limit ≡ min limit n = omega arith in
-    let one = cap-product limit n p in
-    let left : p * min limit n ≡ min limit n * p = mul_comm p (min limit n) in
-    let right : p * n ≡ n * p = mul_comm p n in
-    rw (swap, left, right) (omega arith)
+-- a capped product takes a capped factor
+pub cap-right : (a b : Size) → cap_size (2 ^ 63) (times a (cap_size (2 ^ 63) b)) ≡ cap_size (2 ^ 63) (times a b)
+cap-right None b = refl
+cap-right (Some a) None = refl
+cap-right (Some a) (Some b) =
+    let one = cap-product (2 ^ 63) b a in
+    let capped : a * min (2 ^ 63) b ≡ min (2 ^ 63) b * a = mul_comm a (min (2 ^ 63) b) in
+    let whole : a * b ≡ b * a = mul_comm a b in
+    rw (capped, whole) (ap Some (sym one))
+
+-- and two
+pub cap-both : (a b : Size) → cap_size (2 ^ 63) (times (cap_size (2 ^ 63) a) (cap_size (2 ^ 63) b)) ≡ cap_size (2 ^ 63) (times a b)
+cap-both None b = refl
+cap-both (Some a) b = cap-right (Some (min (2 ^ 63) a)) b ∙ cap-left b
+  where
+    cap-left : (b : Size) → cap_size (2 ^ 63) (times (Some (min (2 ^ 63) a)) b) ≡ cap_size (2 ^ 63) (times (Some a) b)
+    cap-left None = refl
+    cap-left (Some b) = ap Some (sym (cap-product (2 ^ 63) a b))
 
 times-assoc : (a b c : Size) → times (times a b) c ≡ times a (times b c)
 times-assoc None b c = refl
@@ -63,63 +72,75 @@ product-push : (sizes : List Size) (last : Size) → product_of (sizes ++ last �
 product-push [] last = times-one last ∙ sym (one-times last)
 product-push (size ∷ sizes) last = ap (times size) (product-push sizes last) ∙ sym (times-assoc size (product_of sizes) last)
 
-has-push : (xs : List ℕ) (x : ℕ) → has_elements (xs ++ x ∷ []) ≡ true
-has-push [] x = refl
-has-push (y ∷ xs) x = refl
+times-none : (a : Size) → times a None ≡ None
+times-none None = refl
+times-none (Some a) = refl
 
--- the factor by what the children have in common
-abbrev pub element_count_value : Bool → Bool → Bool → Size → ElementCount
-element_count_value other stride has product = if other || stride then Unknown else if has then element_count_from (cap_size (2 ^ 63) product) else NoDimension
+has-more : (xs : List ℕ) (x : ℕ) (more : Bool) → has_elements (xs ++ (if more then x ∷ [] else [])) ≡ (has_elements xs || more)
+has-more [] x true = refl
+has-more [] x false = refl
+has-more (y ∷ xs) x more = refl
 
-value-sub : (has : Bool) (p n : Size) → (has ≡ false → p ≡ Some 1) → element_count_value false false true (times p n) ≡ grown (element_count_value false false has p) n
-value-sub false p None one = rw (one refl) refl
-value-sub false p (Some n) one = rw (one refl) (ap Known (omega arith))
-value-sub true None n one = refl
-value-sub true (Some p) None one = refl
-value-sub true (Some p) (Some n) one = ap Known (cap-product (2 ^ 63) p n)
+-- the factor of a dimension, and that of another child, in the product of all
+dimension-factor : (other this_other stride this_stride : Bool) (f p : Size)
+    → times (if this_other then None else if this_stride then None else f) (if other || stride then None else p)
+    ≡ (if (this_other || other) || (this_stride || stride) then None else times f p)
+dimension-factor other true stride this_stride f p = refl
+dimension-factor true false stride true f p = refl
+dimension-factor false false stride true f p = refl
+dimension-factor true false stride false f p = times-none f
+dimension-factor false false true false f p = times-none f
+dimension-factor false false false false f p = refl
 
-value-more : (other this_other stride this_stride has : Bool) (p n : Size) → (has ≡ false → p ≡ Some 1)
-    → element_count_value (other || (this_other || false)) (stride || (this_stride || false)) true (times p n)
-    ≡ (if this_other then Unknown else if this_stride then Unknown else grown (element_count_value other stride has p) n)
-value-more true true stride this_stride has p n one = refl
-value-more true false stride true has p n one = refl
-value-more true false stride false has p n one = refl
-value-more false true stride this_stride has p n one = refl
-value-more false false true true has p n one = refl
-value-more false false true false has p n one = refl
-value-more false false false true has p n one = refl
-value-more false false false false has p n one = value-sub has p n one
-
-value-same : (other this_other stride has : Bool) (p : Size)
-    → element_count_value (other || (this_other || false)) stride has p ≡ (if this_other then Unknown else element_count_value other stride has p)
-value-same true true stride has p = refl
-value-same true false stride has p = refl
-value-same false true stride has p = refl
-value-same false false stride has p = refl
-
-none-one : (f : ℕ → Size) (xs : List ℕ) → has_elements xs ≡ false → product_of (map f xs) ≡ Some 1
-none-one f [] none = refl
-none-one f (x ∷ xs) none = cc
+other-factor : (other this_other stride : Bool) (p : Size)
+    → times (if this_other then None else Some 1) (if other || stride then None else p) ≡ (if (this_other || other) || stride then None else p)
+other-factor other true stride p = refl
+other-factor other false stride p = one-times (if other || stride then None else p)
 
 module _ (entries : List Facts) where
-  abbrev pub subs : List ℕ → List ℕ
+  abbrev subs : List ℕ → List ℕ
   subs children = filter (is_subrange entries) children
 
-  by-kind : (cs : List ℕ) (c : ℕ) (sub : Bool) → is_subrange entries c ≡ sub → element_count_by entries (cs ++ c ∷ []) ≡ with_child entries (element_count_by entries cs) c
-  by-kind cs c true is =
-      let others = list_any-append (is_other_index entries) cs (c ∷ []) in
-      let dims : subs (cs ++ c ∷ []) ≡ subs cs ++ c ∷ [] = filter-append (is_subrange entries) cs (c ∷ []) ∙ ap (λ (b : Bool). subs cs ++ (if b then c ∷ [] else [])) is in
-      let strides = list_any-append (has_stride entries) (subs cs) (c ∷ []) in
-      let product : product_of (map (factor_of entries) (subs cs ++ c ∷ [])) ≡ times (product_of (map (factor_of entries) (subs cs))) (factor_of entries c) =
-      ap product_of (map-append (factor_of entries) (subs cs) (c ∷ [])) ∙ product-push (map (factor_of entries) (subs cs)) (factor_of entries c) in
-      rw (others, dims, strides, has-push (subs cs) c, product, is)
-      (value-more (list_any (is_other_index entries) cs) (is_other_index entries c) (list_any (has_stride entries) (subs cs)) (has_stride entries c) (has_elements (subs cs)) (product_of (map (factor_of entries) (subs cs))) (factor_of entries c) (none-one (factor_of entries) (subs cs)))
-  by-kind cs c false is =
-      let others = list_any-append (is_other_index entries) cs (c ∷ []) in
-      let dims : subs (cs ++ c ∷ []) ≡ subs cs = filter-append (is_subrange entries) cs (c ∷ []) ∙ (ap (λ (b : Bool). subs cs ++ (if b then c ∷ [] else [])) is ∙ append-nil (subs cs)) in
-      rw (others, dims, is)
-      (value-same (list_any (is_other_index entries) cs) (is_other_index entries c) (list_any (has_stride entries) (subs cs)) (has_elements (subs cs)) (product_of (map (factor_of entries) (subs cs))))
-
   -- one more child
-  pub element_count_by-push : (cs : List ℕ) (c : ℕ) → element_count_by entries (cs ++ c ∷ []) ≡ with_child entries (element_count_by entries cs) c
-  element_count_by-push cs c = by-kind cs c (is_subrange entries c) refl
+  pub factors-push : (cs : List ℕ) (c : ℕ) → product_of (map (child_factor entries) (cs ++ c ∷ [])) ≡ times (product_of (map (child_factor entries) cs)) (child_factor entries c)
+  factors-push cs c = ap product_of (map-append (child_factor entries) cs (c ∷ [])) ∙ product-push (map (child_factor entries) cs) (child_factor entries c)
+
+  pub dimensions-push : (cs : List ℕ) (c : ℕ) → has_elements (subs (cs ++ c ∷ [])) ≡ (has_elements (subs cs) || is_subrange entries c)
+  dimensions-push cs c = ap has_elements (filter-append (is_subrange entries) cs (c ∷ [])) ∙ has-more (subs cs) c (is_subrange entries c)
+
+  -- the factors of children: none if one is an index of another kind or has a stride, else those of the dimensions
+  factors : (cs : List ℕ) → product_of (map (child_factor entries) cs)
+      ≡ (if list_any (is_other_index entries) cs || list_any (has_stride entries) (subs cs) then None else product_of (map (factor_of entries) (subs cs)))
+  factors [] = refl
+  factors (c ∷ cs) = by-kind (is_subrange entries c) refl (factors cs)
+    where
+      by-kind : (sub : Bool) → is_subrange entries c ≡ sub
+          → product_of (map (child_factor entries) cs) ≡ (if list_any (is_other_index entries) cs || list_any (has_stride entries) (subs cs) then None else product_of (map (factor_of entries) (subs cs)))
+          → product_of (map (child_factor entries) (c ∷ cs))
+          ≡ (if list_any (is_other_index entries) (c ∷ cs) || list_any (has_stride entries) (subs (c ∷ cs)) then None else product_of (map (factor_of entries) (subs (c ∷ cs))))
+      by-kind true is more =
+          rw (is, more)
+          (dimension-factor (list_any (is_other_index entries) cs) (is_other_index entries c) (list_any (has_stride entries) (subs cs)) (has_stride entries c) (factor_of entries c) (product_of (map (factor_of entries) (subs cs))))
+      by-kind false is more =
+          rw (is, more)
+          (other-factor (list_any (is_other_index entries) cs) (is_other_index entries c) (list_any (has_stride entries) (subs cs)) (product_of (map (factor_of entries) (subs cs))))
+
+by-regular : (s p : Size) (has other stride : Bool)
+    → times s (if has then (if other || stride then None else p) else None) ≡ (if (has && not other) && (not false && not stride) then times s p else None)
+by-regular s p true true stride = times-none s
+by-regular s p true false true = times-none s
+by-regular s p true false false = refl
+by-regular s p false other stride = times-none s
+
+-- the size of an array by its children
+pub array-by_children : (entries : List Facts) (table : ℕ → Size) (node : ℕ) → is_present (constant (entry_of entries node) DW_AT_bit_stride) ≡ false
+    → cap_size (2 ^ 63)
+    (times (constant_or (constant (entry_of entries node) DW_AT_byte_stride) (size_to table (entry_of entries node).type_target)) (cap_size (2 ^ 63) (element_count entries (children entries node))))
+    ≡ cap_size (2 ^ 63) (array_size entries table node)
+array-by_children entries table node plain =
+    let storage : Size = constant_or (constant (entry_of entries node) DW_AT_byte_stride) (size_to table (entry_of entries node).type_target) in
+    cap-right storage (element_count entries (children entries node))
+    ∙ rw (plain, factors entries (children entries node))
+    (ap (cap_size (2 ^ 63))
+    (by-regular storage (product_of (map (factor_of entries) (dimensions entries node))) (has_elements (dimensions entries node)) (list_any (is_other_index entries) (children entries node))
+    (list_any (has_stride entries) (dimensions entries node))))

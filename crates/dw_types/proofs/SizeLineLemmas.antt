@@ -6,7 +6,6 @@ use Rattle.dw_types.specs.declared.constant.Constant.TheVariants.{Absent, NotNum
 use Rattle.dw_types.specs.declared.kind.Kind.{Kind}
 use Rattle.dw_types.specs.declared.kind.Kind.TheVariants.{Declared, OwnSized, Pointer, Alias, Enumeration, Array, Subroutine, NoType}
 use Rattle.dw_types.specs.Constants.{is_present}
-use Rattle.dw_types.specs.ElementCounts.{element_count_by, size_from}
 use Rattle.dw_types.specs.Entries.{entry_of, TargetsAreEntries, children, Facts, byte_size, constant}
 use Rattle.dw_types.specs.Graphs.{IsStep}
 use Rattle.std.proofs.lemmas.Bool.{and_parts}
@@ -16,7 +15,7 @@ use Rattle.dw_links.specs.Classes.{is_one_of}
 use Rattle.dw_types.specs.SizeTables.{Size, cap_size}
 use Rattle.dw_types.specs.Sizes.{has_elements, is_other_index, has_stride, size_of_kind, size_line, size_to, constant_or, times, array_size, is_regular, product_of, factor_of, dimensions}
 use Rattle.dw_types.specs.Steps.{by_value, by_type, by_signature}
-use Rattle.dw_types.proofs.ElementCountLemmas.{cap-product, element_count_value}
+use Rattle.dw_types.proofs.ElementCountLemmas.{cap-product}
 use Rattle.dw_types.proofs.StepLemmas.{step-from_by_value}
 use Rattle.dw_types.proofs.TableLemmas.{IsLocal, Lines, SameAtSteps}
 use Rattle.std.specs.List.{list_any}
@@ -132,31 +131,6 @@ type-in entries sizes node targets long to is = let below = (targets node to).0 
 
 pub signature-in : (entries : List Facts) (sizes : List Size) (node : ℕ) → TargetsAreEntries entries → length sizes ≡ length entries → (to : ℕ) → (entry_of entries node).signature_target ≡ Some to → to < length sizes
 signature-in entries sizes node targets long to is = let below = (targets node to).1 is in omega arith
-
--- the size of an array by the factor of its children
-
-if-none : (limit : ℕ) (test : Bool) → None ≡ cap_size limit (if test then None else None)
-if-none limit true = refl
-if-none limit false = refl
-
-by-factor : (s p : Size) (has others strides : Bool)
-    → cap_size (2 ^ 63) (times s (size_from (element_count_value others strides has p))) ≡ cap_size (2 ^ 63) (if (has && not others) && (not false && not strides) then times s p else None)
-by-factor None p has others strides = if-none (2 ^ 63) ((has && not others) && (not false && not strides))
-by-factor (Some a) p true true strides = refl
-by-factor (Some a) p false true strides = refl
-by-factor (Some a) p true false true = refl
-by-factor (Some a) p false false true = refl
-by-factor (Some a) p false false false = refl
-by-factor (Some a) None true false false = refl
-by-factor (Some a) (Some q) true false false = let left = cap-product (2 ^ 63) q a in ap Some (omega (arith, left, mul_comm q a, mul_comm (min (2 ^ 63) q) a))
-
-pub array-by_element_count : (entries : List Facts) (table : ℕ → Size) (node : ℕ) → is_present (constant (entry_of entries node) DW_AT_bit_stride) ≡ false
-    → cap_size (2 ^ 63) (times (constant_or (constant (entry_of entries node) DW_AT_byte_stride) (size_to table (entry_of entries node).type_target)) (size_from (element_count_by entries (children entries node))))
-    ≡ cap_size (2 ^ 63) (array_size entries table node)
-array-by_element_count entries table node plain =
-    rw plain
-    (by-factor (constant_or (constant (entry_of entries node) DW_AT_byte_stride) (size_to table (entry_of entries node).type_target)) (product_of (map (factor_of entries) (dimensions entries node)))
-    (has_elements (dimensions entries node)) (list_any (is_other_index entries) (children entries node)) (list_any (has_stride entries) (dimensions entries node)))
 
 -- the capped lines
 abbrev pub capped_line : List Facts → Lines

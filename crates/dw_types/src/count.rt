@@ -1,14 +1,16 @@
 //! The count of a dimension, and how many elements an array has: the product of the counts of its dimensions (DWARF 5,
 //! 5.5 and 5.13).
 
-ghost use Rattle.std.specs.Prelude.{◌≡◌, ◌<◌, ℕ, List, length, slice_get, IfSome};
+ghost use Rattle.std.specs.Prelude.{◌≡◌, ◌≤◌, ◌^◌, ◌<◌, ℕ, List, length, slice_get, IfSome};
 ghost use Rattle.dw_entries.specs.Scanned.{all_entries, units_of};
-ghost use Rattle.dw_types.specs.ElementCounts.{element_count_by, grown, with_child, size_from};
+ghost use Rattle.dw_types.specs.ElementCounts.{child_factor, element_count};
 ghost use Rattle.dw_types.specs.Entries.{Facts, children, entry_of};
 ghost use Rattle.dw_types.specs.Counts.{count_at, count_from, count_of, is_array_tag, is_dimension, is_subrange_tag};
 ghost use Rattle.dw_types.specs.Counts.{known_natural};
 ghost use Rattle.dw_types.specs.FactsOf.{facts_in};
 ghost use Rattle.dw_types.specs.Kinds.{is_dimensions, parent_role, role_in};
+ghost use Rattle.dw_types.specs.SizeTables.{cap_size};
+ghost use Rattle.dw_types.specs.Sizes.{times};
 
 use crate::constant::Constant;
 use crate::facts::{FactsAt, FactsList, language_of};
@@ -62,12 +64,35 @@ impl FactsAt<'_, '_> {
         )
     }
 
-    /// The count of a dimension, if it is known and 0 or more.
+    /// By how much the entry, a child of an array, multiplies the number of elements. An index of another kind, and a
+    /// stride on a dimension, leave it unknown. 2^63 stands for each factor that is no smaller.
     #[inline(always)]
-    fn natural_count(&self) -> Option<u128>
-        ensures { result ≡ known_natural (count_of self.now) }
+    fn capped_factor(&self) -> Option<u64>
+        ensures { (entries : List Facts) (child : ℕ) → self.now ≡ entry_of entries child
+            → result ≡ cap_size (2 ^ 63) (child_factor entries child) }
     {
-        known_natural(self.known_count())
+        match self.tag() {
+            DW_TAG_enumeration_type | DW_TAG_generic_subrange => None,
+            DW_TAG_subrange_type => {
+                if self.constant(DW_AT_bit_stride).is_present()
+                    || self.constant(DW_AT_byte_stride).is_present()
+                {
+                    return None;
+                }
+                capped_count(known_natural(self.known_count()))
+            }
+            _ => Some(1),
+        }
+    }
+}
+
+/// A count, where 2^63 stands for each that is no smaller.
+fn capped_count(count: Option<u128>) -> Option<u64>
+    ensures { result ≡ cap_size (2 ^ 63) count }
+{
+    match count {
+        Some(n) => Some(n.min(1 << 63) as u64),
+        None => None,
     }
 }
 
@@ -121,76 +146,29 @@ pub fn count_at(entries: &Entries<'_>, id: EntryId) -> Option<u128>
     ))
 }
 
-/// How many elements the children of an entry give, were it an array. 2^63 stands for each product that is
-/// no smaller.
-#[derive(Clone, Copy, Debug, PartialEq, Eq)]
-pub enum ElementCount {
-    NoDimension,
-    Known(u64),
-    Unknown,
+/// The product where both are known. 2^63 stands for each product that is no smaller.
+pub(crate) fn capped_times(a: Option<u64>, b: Option<u64>) -> Option<u64>
+    ensures value { result ≡ cap_size (2 ^ 63) (times a b) }
+    ensures small { IfSome result (λ n. n ≤ 2 ^ 63) }
+{
+    let (a, b) = (a?, b?);
+    Some((u128::from(a) * u128::from(b)).min(1 << 63) as u64)
 }
 
-impl ElementCount {
-    /// With one more count.
-    fn grown(self, count: Option<u128>) -> ElementCount
-        ensures { result ≡ grown self count }
-    {
-        let Some(count) = count else {
-            return ElementCount::Unknown;
-        };
-        let count = count.min(1 << 63);
-        match self {
-            ElementCount::NoDimension => ElementCount::Known(count as u64),
-            ElementCount::Known(product) => ElementCount::Known(
-                (u128::from(product) * count).min(1 << 63) as u64,
-            ),
-            ElementCount::Unknown => ElementCount::Unknown,
-        }
-    }
-
-    /// With one more child. An index of another kind, and a stride on a dimension, leave the number unknown.
-    #[inline(always)]
-    fn with_child(self, entry: &FactsAt<'_, '_>) -> ElementCount
-        ensures { (entries : List Facts) (child : ℕ) → entry.now ≡ entry_of entries child
-            → result ≡ with_child entries self child }
-    {
-        match entry.tag() {
-            DW_TAG_enumeration_type | DW_TAG_generic_subrange => ElementCount::Unknown,
-            DW_TAG_subrange_type => {
-                if entry.constant(DW_AT_bit_stride).is_present()
-                    || entry.constant(DW_AT_byte_stride).is_present()
-                {
-                    return ElementCount::Unknown;
-                }
-                self.grown(entry.natural_count())
-            }
-            _ => self,
-        }
-    }
-
-    /// The number, if it is known.
-    pub fn size(self) -> Option<u64>
-        ensures { result ≡ size_from self }
-    {
-        match self {
-            ElementCount::Known(product) => Some(product),
-            _ => None,
-        }
-    }
-}
-
-/// How many elements the children of an entry give, were it an array.
-pub(crate) fn count_elements(entries: &mut FactsList<'_, '_>, node: usize) -> ElementCount
+/// How many elements the children of an entry give, were it an array, if it is known.
+pub(crate) fn count_elements(entries: &mut FactsList<'_, '_>, node: usize) -> Option<u64>
     requires { node < length entries.old }
     ensures same { entries.new ≡ entries.old }
-    ensures counted { result ≡ element_count_by entries.old (children entries.old node) }
+    ensures counted { result ≡ cap_size (2 ^ 63) (element_count entries.old (children entries.old node)) }
 {
-    let mut elements = ElementCount::NoDimension;
+    let mut product = Some(1);
+    let mut has_dimension = false;
     let mut next = entries.first_child(node);
     while let Some(child) = next {
         let entry = entries.at(child);
-        elements = elements.with_child(&entry);
+        product = capped_times(product, entry.capped_factor());
+        has_dimension |= is_subrange_tag(entry.tag());
         next = entries.next_sibling(child);
     }
-    elements
+    if has_dimension { product } else { None }
 }

@@ -4,20 +4,18 @@ ghost use Rattle.std.specs.Prelude.{◌≡◌, ◌<◌, ◌≤◌, ◌^◌, ◌�
 ghost use Rattle.std.specs.Prelude.{slice_set, IfOk, IfErr, IfSome, OnOk};
 ghost use Rattle.dw_entries.specs.Failures.{HasNone};
 ghost use Rattle.dw_entries.specs.Stopped.{IfPlainFault};
-ghost use Rattle.dw_types.specs.Sizes.{size_to, array_size, constant_or, size_line, times, IsSizeTable};
+ghost use Rattle.dw_types.specs.Sizes.{size_to, array_size, size_line, IsSizeTable};
 ghost use Rattle.dw_types.specs.SizeTables.{Size, size_at, cap_size, OnlyTypesAreSized};
 ghost use Rattle.dw_types.specs.StoredSizes.{size_in, sizes_in};
-ghost use Rattle.dw_types.specs.ElementCounts.{element_count_by, size_from};
-ghost use Rattle.dw_types.specs.Entries.{children, entry_of, TargetsAreEntries, OffsetsRise, ParentsComeFirst};
-ghost use Rattle.dw_types.specs.Kinds.{kind_of, has_members};
-ghost use Rattle.dw_types.specs.declared.kind.Kind.TheVariants.{Array};
+ghost use Rattle.dw_types.specs.Entries.{entry_of, TargetsAreEntries};
+ghost use Rattle.dw_types.specs.Kinds.{has_members};
 ghost use Rattle.dw_types.specs.Held.{all_facts, entries_held};
 ghost use Rattle.dw_types.specs.Noted.{asked_at, is_member_of, IsNoted};
 ghost use Rattle.dw_types.specs.Orders.{IsOrderOf};
 ghost use Rattle.dw_types.specs.SizeFaults.{IsFirstSizeFault, SizeFailures, fails_size};
 ghost use Rattle.dw_types.specs.Steps.{by_value};
 
-use crate::count::{ElementCount, count_elements};
+use crate::count::{capped_times, count_elements};
 use crate::facts::{FactsAt, FactsList};
 use crate::fault::LeastFault;
 use crate::graph::Order;
@@ -132,29 +130,20 @@ fn capped(size: Option<u64>) -> Option<u64>
     }
 }
 
-/// The product where both are known, capped.
-fn capped_times(a: Option<u64>, b: Option<u64>) -> Option<u64>
-    ensures value { result ≡ cap_size (2 ^ 63) (times a b) }
-    ensures small { IfSome result (λ n. n ≤ 2 ^ 63) }
-{
-    let (a, b) = (a?, b?);
-    Some((u128::from(a) * u128::from(b)).min(1 << 63) as u64)
-}
-
 /// The capped size of an array without a byte size of its own: element storage times all counts.
 #[inline(always)]
 fn capped_array(
-    entries: &FactsList<'_, '_>,
-    elements: ElementCount,
+    entries: &mut FactsList<'_, '_>,
     sizes: &SizeTable,
     node: usize,
     entry: &FactsAt<'_, '_>,
 ) -> Option<u64>
-    requires entry { entry.now ≡ entry_of entries.now node }
-    requires targets { TargetsAreEntries entries.now }
-    requires sizes_in { length sizes.now ≡ length entries.now }
-    requires elements { elements ≡ element_count_by entries.now (children entries.now node) }
-    ensures value { result ≡ cap_size (2 ^ 63) (array_size entries.now (size_at sizes.now) node) }
+    requires node_in { node < length entries.old }
+    requires entry { entry.now ≡ entry_of entries.old node }
+    requires targets { TargetsAreEntries entries.old }
+    requires sizes_in { length sizes.now ≡ length entries.old }
+    ensures same { entries.new ≡ entries.old }
+    ensures value { result ≡ cap_size (2 ^ 63) (array_size entries.old (size_at sizes.now) node) }
     ensures small { IfSome result (λ n. n ≤ 2 ^ 63) }
 {
     if entry.constant(DW_AT_bit_stride).is_present() {
@@ -162,25 +151,24 @@ fn capped_array(
     }
     let stride = entry.constant(DW_AT_byte_stride);
     let storage = stride.natural_or(sizes.get_to(entry.type_target()));
-    capped_times(storage, elements.size())
+    let elements = count_elements(entries, node);
+    capped_times(storage, elements)
 }
 
 /// The capped size of an entry, by those of others.
 #[inline(always)]
 fn capped_size(
-    entries: &FactsList<'_, '_>,
-    elements: ElementCount,
+    entries: &mut FactsList<'_, '_>,
     sizes: &SizeTable,
     node: usize,
     entry: &FactsAt<'_, '_>,
 ) -> Option<u64>
-    requires entry { entry.now ≡ entry_of entries.now node }
-    requires node_in { node < length entries.now }
-    requires targets { TargetsAreEntries entries.now }
-    requires sizes_in { length sizes.now ≡ length entries.now }
-    requires elements { kind_of (entry_of entries.now node) ≡ Array
-        → elements ≡ element_count_by entries.now (children entries.now node) }
-    ensures value { result ≡ cap_size (2 ^ 63) (size_line entries.now (size_at sizes.now) node) }
+    requires entry { entry.now ≡ entry_of entries.old node }
+    requires node_in { node < length entries.old }
+    requires targets { TargetsAreEntries entries.old }
+    requires sizes_in { length sizes.now ≡ length entries.old }
+    ensures same { entries.new ≡ entries.old }
+    ensures value { result ≡ cap_size (2 ^ 63) (size_line entries.old (size_at sizes.now) node) }
     ensures small { IfSome result (λ n. n ≤ 2 ^ 63) }
 {
     match entry.kind() {
@@ -197,29 +185,9 @@ fn capped_size(
         }
         Kind::Array => {
             let own = entry.constant(DW_AT_byte_size);
-            capped(own.natural_or(capped_array(entries, elements, sizes, node, entry)))
+            capped(own.natural_or(capped_array(entries, sizes, node, entry)))
         }
         Kind::Subroutine | Kind::NoType => None,
-    }
-}
-
-/// How many elements an array has. Any other entry has no dimension.
-#[inline(always)]
-fn elements_of(
-    entries: &mut FactsList<'_, '_>,
-    node: usize,
-    entry: &FactsAt<'_, '_>,
-) -> ElementCount
-    requires node { node < length entries.old }
-    requires entry { entry.now ≡ entry_of entries.old node }
-    ensures same { entries.new ≡ entries.old }
-    ensures counted { kind_of (entry_of entries.old node) ≡ Array
-        → result ≡ element_count_by entries.old (children entries.old node) }
-{
-    if entry.is_array() {
-        count_elements(entries, node)
-    } else {
-        ElementCount::NoDimension
     }
 }
 
@@ -275,8 +243,7 @@ fn measure(
     if !entry.is_type() {
         return Ok(());
     }
-    let elements = elements_of(entries, node, &entry);
-    let size = capped_size(entries, elements, sizes, node, &entry);
+    let size = capped_size(entries, sizes, node, &entry);
     sizes.set(alloc, node, size)?;
     least.note(node, entry.broken_size(size, sizes));
     if !entry.has_members() {

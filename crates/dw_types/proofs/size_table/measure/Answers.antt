@@ -22,11 +22,11 @@ returns-then-not-is_type-clause-noted c =
     untyped-noted c.args.entries.now (size_at c.args.sizes.now) (λ k. seen k ≡ true) c.args.node c.args.least.now.found c.requires.untyped untyped old
 
 pub capped_size-size-requires-clause-targets : goal.capped_size-size-requires-clause-targets
-capped_size-size-requires-clause-targets c = rw (c.elements_of-elements.ensures.same, c.at-entry.ensures.same) c.requires.targets
+capped_size-size-requires-clause-targets c = rw c.at-entry.ensures.same c.requires.targets
 
 pub broken_size-requires-clause-own : goal.broken_size-requires-clause-own
 broken_size-requires-clause-own c =
-    let line = sized-line c.args.entries.now (size_at c.args.sizes.now) c.args.node c.capped_size-size.result (rw (c.elements_of-elements.ensures.same, c.at-entry.ensures.same) at c.capped_size-size.ensures.value) in
+    let line = sized-line c.args.entries.now (size_at c.args.sizes.now) c.args.node c.capped_size-size.result (rw c.at-entry.ensures.same at c.capped_size-size.ensures.value) in
     let own : IfSome c.capped_size-size.result (λ x. has_no_size c.at-entry.result ≡ false) = rw c.at-entry.ensures.found line in
     own
 
@@ -52,13 +52,13 @@ returns-then-not-has_members-clause-noted c =
     (type-noted entries (size_at c.set.new.self) (λ k. seen k ≡ true) node size c.args.least.now.found c.broken_size.result is sized least old))
 
 pub note_members-requires-clause-targets : goal.note_members-requires-clause-targets
-note_members-requires-clause-targets c = rw (c.elements_of-elements.ensures.same, c.at-entry.ensures.same) c.requires.targets
+note_members-requires-clause-targets c = rw (c.capped_size-size.ensures.same, c.at-entry.ensures.same) c.requires.targets
 
 pub note_members-requires-clause-untyped : goal.note_members-requires-clause-untyped
 note_members-requires-clause-untyped c =
     let inside : c.args.node < length c.args.sizes.now = let below = c.requires.node in let long = c.requires.sizes_in in omega arith in
     let is = rw c.at-entry.ensures.found at (sym c.is_type.ensures ∙ c.if-not-is_type.false) in
-    rw (c.elements_of-elements.ensures.same, c.at-entry.ensures.same, c.in_ok-set.ensures) (typed-set c.args.entries.now c.args.sizes.now c.args.node c.capped_size-size.result inside is c.requires.untyped)
+    rw (c.capped_size-size.ensures.same, c.at-entry.ensures.same, c.in_ok-set.ensures) (typed-set c.args.entries.now c.args.sizes.now c.args.node c.capped_size-size.result inside is c.requires.untyped)
 
 pub returns-clause-noted : goal.returns-clause-noted
 returns-clause-noted c =
@@ -70,7 +70,7 @@ returns-clause-noted c =
     let is = rw c.at-entry.ensures.found at (sym c.is_type.ensures ∙ c.if-not-is_type.false) in
     let least = rw c.at-entry.ensures.found at c.broken_size.ensures in
     let sized : size_at c.set.new.self node ≡ size = rw c.in_ok-set.ensures (get_or-set_same c.args.sizes.now node size None inside) in
-    let more = rw (c.elements_of-elements.ensures.same, c.at-entry.ensures.same, c.note.ensures) at c.note_members.ensures.noted in
+    let more = rw (c.capped_size-size.ensures.same, c.at-entry.ensures.same, c.note.ensures) at c.note_members.ensures.noted in
     λ seen old.
     holder-noted entries fails seen node (with_rule c.args.least.now.found node c.broken_size.result) c.note_members.new.least.found (type-unmember (entry_of entries node).tag is) more
     (type-noted entries (size_at c.set.new.self) (λ k. seen k ≡ true) node size c.args.least.now.found c.broken_size.result is sized least old)
