@@ -12,7 +12,7 @@ use Rattle.dw_entries.specs.Lookups.{unit_head, value_in}
 use Rattle.dw_entries.specs.Units.{DebugUnit, Spells}
 use Rattle.dw_entries.proofs.EntryFacts.{first_entry, placed_get}
 use Rattle.dw_entries.proofs.HeadLaws.{head_stands}
-use Rattle.dw_types.specs.declared.constant.Constant.{Constant}
+use Rattle.dw_types.specs.declared.count.Constant.{Constant}
 use Rattle.dw_types.specs.FactsOf.{constant_at, language_of}
 use Rattle.dw_types.specs.Constants.{constant_of}
 

@@ -1,8 +1,8 @@
 -- Chapter: the number under an attribute (DWARF 5, 2.19 and 7.5.5).
 use Rattle.std.specs.Prelude.{ℕ, ◌^◌, ◌-◌, ℤ, pos, negsuc, ◌≤ℤ◌, Bool, true, false, Option, None, Some}
 use Rattle.dw_forms.specs.Value.{Datum, unsigned, signed}
-use Rattle.dw_types.specs.declared.constant.Constant.{Constant}
-use Rattle.dw_types.specs.declared.constant.Constant.TheVariants.{Absent, NotNumber, Unsigned, Signed}
+use Rattle.dw_types.specs.declared.count.Constant.{Constant}
+use Rattle.dw_types.specs.declared.count.Constant.TheVariants.{Absent, NotNumber, Unsigned, Signed}
 
 -- a value as a number: data1 to data8 and udata have no sign, sdata and implicit_const have one (7.5.5)
 abbrev pub constant_in : Datum → Constant

@@ -1,8 +1,8 @@
 -- Chapter: the count of a dimension (DWARF 5, 5.13).
 use Rattle.std.specs.Prelude.{ℕ, ◌^◌, ◌-◌, ℤ, pos, negsuc, ◌+ℤ◌, ◌-ℤ◌, Bool, false, ◌&&◌, ◌||◌, not, List, [], ◌∷◌}
 use Rattle.std.specs.Prelude.{Option, Some, None, if◌then◌else◌, nat_eq}
-use Rattle.dw_types.specs.declared.constant.Constant.{Constant}
-use Rattle.dw_types.specs.declared.constant.Constant.TheVariants.{Absent, NotNumber, Unsigned, Signed}
+use Rattle.dw_types.specs.declared.count.Constant.{Constant}
+use Rattle.dw_types.specs.declared.count.Constant.TheVariants.{Absent, NotNumber, Unsigned, Signed}
 use Rattle.dw_types.specs.declared.kind.Role.{Role}
 use Rattle.dw_forms.specs.Codes.{DW_AT_count, DW_AT_lower_bound, DW_AT_upper_bound, DW_TAG_array_type}
 use Rattle.dw_forms.specs.Codes.{DW_TAG_subrange_type, DW_LANG_C89, DW_LANG_C, DW_LANG_C_plus_plus}

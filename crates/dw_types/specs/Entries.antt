@@ -5,8 +5,8 @@ use Rattle.std.specs.List.{range_with_len}
 use Rattle.dw_forms.specs.Codes.{DW_AT_byte_size}
 use Rattle.dw_forms.specs.Value.{Datum}
 use Rattle.dw_entries.specs.Lookups.{value_in}
-use Rattle.dw_types.specs.declared.constant.Constant.{Constant}
-use Rattle.dw_types.specs.declared.constant.Constant.TheVariants.{Absent}
+use Rattle.dw_types.specs.declared.count.Constant.{Constant}
+use Rattle.dw_types.specs.declared.count.Constant.TheVariants.{Absent}
 use Rattle.dw_types.specs.Constants.{constant_of}
 
 -- what the rules on types, counts and sizes read of an entry

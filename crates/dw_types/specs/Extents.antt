@@ -2,7 +2,7 @@
 use Rattle.std.specs.Prelude.{ℕ, ◌+◌, ◌*◌, ℤ, pos, negsuc, ◌*ℤ◌, Bool, true, false, ◌&&◌, Option, None, Some, is_some}
 use Rattle.std.specs.Prelude.{if◌then◌else◌, nat_lt}
 use Rattle.dw_types.specs.declared.kind.Role.{Role}
-use Rattle.dw_types.specs.declared.constant.Constant.{Constant}
+use Rattle.dw_types.specs.declared.count.Constant.{Constant}
 use Rattle.dw_types.specs.Constants.{is_present, number_in, natural_of}
 use Rattle.dw_types.specs.Shapes.{is_plain}
 use Rattle.dw_types.specs.SizeTables.{Size}

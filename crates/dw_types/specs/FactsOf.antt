@@ -8,8 +8,8 @@ use Rattle.dw_entries.specs.Lookups.{value_at_entry, value_in}
 use Rattle.dw_entries.specs.Units.{DebugUnit, head_of}
 use Rattle.dw_links.specs.References.{is_declared}
 use Rattle.dw_links.specs.Targets.{target_of}
-use Rattle.dw_types.specs.declared.constant.Constant.{Constant}
-use Rattle.dw_types.specs.declared.constant.Constant.TheVariants.{Absent}
+use Rattle.dw_types.specs.declared.count.Constant.{Constant}
+use Rattle.dw_types.specs.declared.count.Constant.TheVariants.{Absent}
 use Rattle.dw_types.specs.Constants.{constant_of}
 use Rattle.dw_types.specs.Entries.{Facts}
 

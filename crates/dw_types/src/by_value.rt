@@ -17,10 +17,10 @@ ghost use Rattle.dw_types.specs.ShapesSeen.{HasSeenArray, HasSeenShapes};
 ghost use Rattle.dw_types.specs.Steps.{by_value, part_step, steps_by_value, targets_if, IsStepByValue};
 
 use crate::facts::{FactsAt, FactsList};
-use crate::fault::LeastFault;
 use crate::graph::{Packed, StepGraph};
 use crate::kind::Role;
 use crate::numbers::Numbers;
+use crate::size_rules::{LeastFault, check, note};
 use dw_entries::constants::*;
 use dw_entries::{Fault, Rule, Stop};
 use dw_links::Links;
@@ -133,17 +133,17 @@ fn push_members(
 ) -> Result<(), AllocError>
     requires node { node < length entries.old }
     requires members { has_members (entry_of entries.old node) ≡ true }
-    requires noted { IsNoted (fails_shape entries.old) (HasSeenShapes entries.old node) least.old.found }
+    requires noted { IsNoted (fails_shape entries.old) (HasSeenShapes entries.old node) least.old }
     ensures same { OnOk result (entries.new ≡ entries.old) }
     ensures steps { OnOk result
         (steps.new ≡ steps.old ++ flat_map (part_step entries.old) (children entries.old node)) }
     ensures noted { OnOk result
-        (IsNoted (fails_shape entries.old) (HasSeenShapes entries.old (node + 1)) least.new.found) }
+        (IsNoted (fails_shape entries.old) (HasSeenShapes entries.old (node + 1)) least.new) }
 {
     let mut next = entries.first_child(node);
     while let Some(child) = next {
         let member = entries.at(child);
-        least.note(child, member.broken_shape(Role::Members));
+        note(least, child, member.broken_shape(Role::Members));
         if member.is_plain(Role::Members) {
             push_to(steps, member.type_target())?;
         }
@@ -156,14 +156,14 @@ fn push_members(
 fn note_dimensions(entries: &mut FactsList<'_, '_>, least: &mut LeastFault, node: usize)
     requires node { node < length entries.old }
     requires array { is_array (entry_of entries.old node) ≡ true }
-    requires noted { IsNoted (fails_shape entries.old) (HasSeenArray entries.old node) least.old.found }
+    requires noted { IsNoted (fails_shape entries.old) (HasSeenArray entries.old node) least.old }
     ensures same { entries.new ≡ entries.old }
-    ensures noted { IsNoted (fails_shape entries.old) (HasSeenShapes entries.old (node + 1)) least.new.found }
+    ensures noted { IsNoted (fails_shape entries.old) (HasSeenShapes entries.old (node + 1)) least.new }
 {
     let mut next = entries.first_child(node);
     while let Some(child) = next {
         let dimension = entries.at(child);
-        least.note(child, dimension.broken_shape(Role::Dimensions));
+        note(least, child, dimension.broken_shape(Role::Dimensions));
         next = entries.next_sibling(child);
     }
 }
@@ -177,15 +177,15 @@ fn note_array(
 )
     requires node { node < length entries.old }
     requires entry { entry.now ≡ entry_of entries.old node }
-    requires noted { IsNoted (fails_shape entries.old) (HasSeenShapes entries.old node) least.old.found }
+    requires noted { IsNoted (fails_shape entries.old) (HasSeenShapes entries.old node) least.old }
     requires none { has_members (entry_of entries.old node) ≡ false }
     ensures same { entries.new ≡ entries.old }
-    ensures noted { IsNoted (fails_shape entries.old) (HasSeenShapes entries.old (node + 1)) least.new.found }
+    ensures noted { IsNoted (fails_shape entries.old) (HasSeenShapes entries.old (node + 1)) least.new }
 {
     if !entry.is_array() {
         return;
     }
-    least.note(node, entry.broken_shape(Role::Other));
+    note(least, node, entry.broken_shape(Role::Other));
     note_dimensions(entries, least, node);
 }
 
@@ -198,11 +198,11 @@ fn push_row(
     node: usize,
 ) -> Result<(), AllocError>
     requires node { node < length entries.old }
-    requires noted { IsNoted (fails_shape entries.old) (HasSeenShapes entries.old node) least.old.found }
+    requires noted { IsNoted (fails_shape entries.old) (HasSeenShapes entries.old node) least.old }
     ensures same { OnOk result (entries.new ≡ entries.old) }
     ensures steps { OnOk result (steps.new ≡ steps.old ++ steps_by_value entries.old node) }
     ensures noted { OnOk result
-        (IsNoted (fails_shape entries.old) (HasSeenShapes entries.old (node + 1)) least.new.found) }
+        (IsNoted (fails_shape entries.old) (HasSeenShapes entries.old (node + 1)) least.new) }
 {
     let entry = entries.at(node);
     if entry.has_members() {
@@ -235,7 +235,7 @@ impl ByValue {
         let count = entries.count();
         let mut steps = Numbers::with_room(alloc, count / 2)?;
         let mut ends = Numbers::with_room(alloc, count)?;
-        let mut least = LeastFault::none();
+        let mut least: LeastFault = None;
         let mut types = 0;
         for node in 0..count {
             if entries.is_type(node) {
@@ -244,7 +244,7 @@ impl ByValue {
             }
             ends.push(steps.len())?;
         }
-        least.check(alloc, &entries)?;
+        check(alloc, &entries, least)?;
         let packed = Packed::from_rows(steps, ends);
         Ok(ByValue { packed, types })
     }

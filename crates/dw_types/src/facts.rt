@@ -10,7 +10,7 @@ ghost use Rattle.dw_types.specs.Entries.{children, constant, entry_of};
 ghost use Rattle.dw_types.specs.FactsOf.{facts_in, language_of};
 ghost use Rattle.dw_types.specs.Held.{all_facts, entries_held};
 
-use crate::constant::Constant;
+use crate::count::Constant;
 use dw_entries::constants::*;
 use dw_entries::{Attribute, Cursor, Entries, EntryAt, EntryId, Value};
 use dw_links::Links;

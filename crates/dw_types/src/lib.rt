@@ -2,10 +2,8 @@
 #![tactic(auto)]
 
 mod by_value;
-mod constant;
 mod count;
 mod facts;
-mod fault;
 mod graph;
 mod kind;
 mod numbers;

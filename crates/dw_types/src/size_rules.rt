@@ -1,9 +1,12 @@
-//! The rules on sizes: which are wrong, and whether a plain member ends inside its container (DWARF 5, 5.1, 5.5, 5.7
-//! and 5.8).
+//! The failing entry of the least number among those that a pass over entries finds; and the rules on sizes: which are
+//! wrong, and whether a plain member ends inside its container (DWARF 5, 5.1, 5.5, 5.7 and 5.8).
 
-ghost use Rattle.std.specs.Prelude.{◌≡◌, ◌^◌, ◌<◌, ◌≤ℤ◌, ℕ, pos, List, None, Some, false, true, length, nat_eq, IfSome};
+ghost use Rattle.std.specs.Prelude.{◌≡◌, ◌^◌, ◌<◌, ◌≤ℤ◌, ℕ, pos, List, None, Some, false, true, length, nat_eq};
+ghost use Rattle.std.specs.Prelude.{IfErr, IfSome, IsSomeAnd, OnOk};
 ghost use Rattle.dw_forms.specs.Codes.{DW_TAG_member as MemberTag};
-ghost use Rattle.dw_entries.specs.Failures.{IsLeast};
+ghost use Rattle.dw_entries.specs.declared.fault.Section.TheVariants.{Info as InInfo};
+ghost use Rattle.dw_entries.specs.Failures.{IsLeast, IsPlainFault};
+ghost use Rattle.dw_entries.specs.Stopped.{IfPlainFault};
 ghost use Rattle.dw_types.specs.declared.kind.Role.TheVariants.{Members, Other};
 ghost use Rattle.dw_types.specs.SizeFaults.{breaks_size, differ, has_no_size, has_wrong_size, is_too_great, reads_own};
 ghost use Rattle.dw_types.specs.SizeFaults.{wants_own};
@@ -13,12 +16,66 @@ ghost use Rattle.dw_types.specs.Extents.{bits_end_past, end_past, ends_past, sta
 ghost use Rattle.dw_types.specs.Constants.{natural_of};
 ghost use Rattle.dw_types.specs.Entries.{Facts, byte_size, entry_of};
 ghost use Rattle.dw_types.specs.Kinds.{has_members};
+ghost use Rattle.dw_types.specs.Noted.{with_rule};
 
-use crate::facts::FactsAt;
+use crate::facts::{FactsAt, FactsList};
 use crate::kind::Kind;
 use crate::size_table::SizeTable;
-use dw_entries::Rule;
 use dw_entries::constants::*;
+use dw_entries::{Broken, Fault, Rule, Section, Stop};
+use std::alloc::Global;
+
+/// A rule that is broken at the entry with an offset, and at none of its attributes.
+fn fault_at_entry(alloc: Global, rule: Rule, at: u32) -> Fault
+    ensures { IsPlainFault
+        (λ broken. broken ≡ record { rule = rule; section = InInfo; at = at; attribute = 0 }) result }
+{
+    let broken = Broken {
+        rule,
+        section: Section::Info,
+        at,
+        attribute: 0,
+    };
+    broken.into_fault(alloc)
+}
+
+/// The failing entry of the least number so far, with its least rule. None if no entry fails so far.
+pub(crate) type LeastFault = Option<(usize, Rule)>;
+
+/// Notes the least rule that an entry breaks, if it breaks one.
+#[inline(always)]
+pub(crate) fn note(least: &mut LeastFault, node: usize, rule: Option<Rule>)
+    ensures { least.new ≡ with_rule least.old node rule }
+{
+    let Some(rule) = rule else {
+        return;
+    };
+    match *least {
+        Some((first, _)) if first <= node => {}
+        _ => *least = Some((node, rule)),
+    }
+}
+
+/// The fault at the failing entry of the least number, if one fails.
+pub(crate) fn check(
+    alloc: Global,
+    entries: &FactsList<'_, '_>,
+    least: LeastFault,
+) -> Result<(), Stop<Fault>>
+    requires { IfSome least (λ first. first.0 < length entries.now) }
+    ensures none { OnOk result (least ≡ None) }
+    ensures fault { IfErr result (λ stop. IsSomeAnd least (λ first. IfPlainFault (λ broken. broken ≡ record {
+      rule = first.1;
+      section = InInfo;
+      at = (entry_of entries.now first.0).offset;
+      attribute = 0;
+    }) stop)) }
+{
+    match least {
+        Some((node, rule)) => Err(Stop::Fault(fault_at_entry(alloc, rule, entries.offset(node)))),
+        None => Ok(()),
+    }
+}
 
 /// Whether so many bits from a bit on end past some bytes, or one of the numbers is negative.
 fn bits_end_past(bytes: u64, size: Option<u64>, start: Option<u64>) -> bool

@@ -17,10 +17,10 @@ ghost use Rattle.dw_types.specs.Steps.{by_value};
 
 use crate::count::{capped_times, count_elements};
 use crate::facts::{FactsAt, FactsList};
-use crate::fault::LeastFault;
 use crate::graph::Order;
 use crate::kind::Kind;
 use crate::numbers::Numbers;
+use crate::size_rules::{LeastFault, check, note};
 use dw_entries::constants::*;
 use dw_entries::{EntryId, Fault, Stop};
 use dw_links::Links;
@@ -207,14 +207,14 @@ fn note_members(
     requires untyped { OnlyTypesAreSized entries.old (size_at sizes.now) }
     ensures same { entries.new ≡ entries.old }
     ensures noted { (seen : ℕ → Bool)
-        → IsNoted (fails_size entries.old (size_at sizes.now)) (λ k. seen k ≡ true) least.old.found
+        → IsNoted (fails_size entries.old (size_at sizes.now)) (λ k. seen k ≡ true) least.old
         → IsNoted (fails_size entries.old (size_at sizes.now))
-        (λ k. (seen k ≡ true) ⊎ (is_member_of entries.old node k ≡ true)) least.new.found }
+        (λ k. (seen k ≡ true) ⊎ (is_member_of entries.old node k ≡ true)) least.new }
 {
     let mut next = entries.first_child(node);
     while let Some(child) = next {
         let entry = entries.at(child);
-        least.note(child, entry.broken_as_member(size, sizes));
+        note(least, child, entry.broken_as_member(size, sizes));
         next = entries.next_sibling(child);
     }
 }
@@ -235,9 +235,9 @@ fn measure(
     ensures size { OnOk result (sizes.new
         ≡ slice_set sizes.old node (cap_size (2 ^ 63) (size_line entries.old (size_at sizes.old) node))) }
     ensures noted { OnOk result ((seen : ℕ → Bool)
-        → IsNoted (fails_size entries.old (size_at sizes.new)) (λ k. seen k ≡ true) least.old.found
+        → IsNoted (fails_size entries.old (size_at sizes.new)) (λ k. seen k ≡ true) least.old
         → IsNoted (fails_size entries.old (size_at sizes.new))
-        (λ k. (seen k ≡ true) ⊎ (asked_at entries.old k ≡ node)) least.new.found) }
+        (λ k. (seen k ≡ true) ⊎ (asked_at entries.old k ≡ node)) least.new) }
 {
     let entry = entries.at(node);
     if !entry.is_type() {
@@ -245,7 +245,7 @@ fn measure(
     }
     let size = capped_size(entries, sizes, node, &entry);
     sizes.set(alloc, node, size)?;
-    least.note(node, entry.broken_size(size, sizes));
+    note(least, node, entry.broken_size(size, sizes));
     if !entry.has_members() {
         return Ok(());
     }
@@ -263,7 +263,7 @@ pub fn sizes(alloc: Global, links: &Links<'_, '_>, order: &Order) -> Result<Size
 {
     let mut entries = FactsList::new(links);
     let mut sizes = SizeTable::none(alloc, entries.count())?;
-    let mut least = LeastFault::none();
+    let mut least: LeastFault = None;
     for rank in 0..order.count() {
         measure(
             alloc,
@@ -273,6 +273,6 @@ pub fn sizes(alloc: Global, links: &Links<'_, '_>, order: &Order) -> Result<Size
             order.node(rank),
         )?;
     }
-    least.check(alloc, &entries)?;
+    check(alloc, &entries, least)?;
     Ok(sizes)
 }

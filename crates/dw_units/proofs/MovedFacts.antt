@@ -13,8 +13,8 @@ use Rattle.dw_entries.specs.Lookups.{value_at_entry, value_in}
 use Rattle.dw_entries.proofs.EntryFacts.{entries_rise}
 use Rattle.dw_links.specs.References.{is_declared}
 use Rattle.dw_links.specs.Targets.{reach_of, target_of}
-use Rattle.dw_types.specs.declared.constant.Constant.{Constant}
-use Rattle.dw_types.specs.declared.constant.Constant.TheVariants.{Absent}
+use Rattle.dw_types.specs.declared.count.Constant.{Constant}
+use Rattle.dw_types.specs.declared.count.Constant.TheVariants.{Absent}
 use Rattle.dw_types.specs.Entries.{entry_of, Facts}
 use Rattle.dw_types.specs.FactsOf.{facts_in, facts_at, address_size_of, language_of}
 use Rattle.dw_types.proofs.FactsLemmas.{facts-get}

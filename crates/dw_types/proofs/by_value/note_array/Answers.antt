@@ -13,7 +13,7 @@ returns-then-not-is_array-clause-noted c =
     let node = c.args.node in
     let array : is_array (entry_of entries node) ≡ false = rw c.requires.entry at (sym c.is_array.ensures ∙ c.if-not-is_array.true) in
     let members : has_members (entry_of entries node) ≡ false = c.requires.none in
-    noted-plain entries node c.args.least.now.found (rw (members, array) refl) c.requires.noted
+    noted-plain entries node c.args.least.now (rw (members, array) refl) c.requires.noted
 
 pub note_dimensions-requires-clause-array : goal.note_dimensions-requires-clause-array
 note_dimensions-requires-clause-array c = rw c.requires.entry at (sym c.is_array.ensures ∙ c.if-not-is_array.false)
@@ -24,4 +24,4 @@ note_dimensions-requires-clause-noted c =
     let node = c.args.node in
     let array : is_array (entry_of entries node) ≡ true = rw c.requires.entry at (sym c.is_array.ensures ∙ c.if-not-is_array.false) in
     let least = array-least entries node c.broken_shape.result array (rw c.requires.entry at c.broken_shape.ensures) in
-    rw c.note.ensures (noted-more (fails_shape entries) (HasSeenShapes entries node) node c.args.least.now.found c.broken_shape.result least c.requires.noted)
+    rw c.note.ensures (noted-more (fails_shape entries) (HasSeenShapes entries node) node c.args.least.now c.broken_shape.result least c.requires.noted)

@@ -15,9 +15,9 @@ use Rattle.dw_types.proofs.by_value.note_dimensions.Goals as goal
 pub loop-next-init : goal.loop-next-init
 loop-next-init c =
     let entries = c.args.entries.now in
-    let Q : List ℕ → Type 0 = λ visited. IsNoted (fails_shape entries) (λ k. HasSeenArray entries c.args.node k ⊎ Contains visited k) c.args.least.now.found in (
+    let Q : List ℕ → Type 0 = λ visited. IsNoted (fails_shape entries) (λ k. HasSeenArray entries c.args.node k ⊎ Contains visited k) c.args.least.now in (
       passed-none entries c.args.node (IsChildOf entries c.args.node) Q c.first_child-next.result c.first_child-next.ensures.children c.first_child-next.ensures.child
-          (noted-no_child (fails_shape entries) (HasSeenArray entries c.args.node) c.args.least.now.found c.requires.noted),
+          (noted-no_child (fails_shape entries) (HasSeenArray entries c.args.node) c.args.least.now c.requires.noted),
       refl,
     )
 
@@ -28,8 +28,8 @@ loop-next-preserved c =
     let child = c.in-Some.child in
     let fails = fails_shape entries in
     let P : ℕ → Type 0 = IsChildOf entries node in
-    let Q : List ℕ → Type 0 = λ visited. IsNoted fails (λ k. HasSeenArray entries node k ⊎ Contains visited k) c.loop-next.least.found in
-    let R : List ℕ → Type 0 = λ visited. IsNoted fails (λ k. HasSeenArray entries node k ⊎ Contains visited k) c.note.new.self.found in
+    let Q : List ℕ → Type 0 = λ visited. IsNoted fails (λ k. HasSeenArray entries node k ⊎ Contains visited k) c.loop-next.least in
+    let R : List ℕ → Type 0 = λ visited. IsNoted fails (λ k. HasSeenArray entries node k ⊎ Contains visited k) c.note.new.least in
     let found = rw c.loop-next.invariant.1 at c.at-dimension.ensures.found in
     let h : HasPassed entries node P Q (Some child) = subst (HasPassed entries node P Q) c.in-Some.is c.loop-next.invariant.0 in
     let rest = rw (c.at-dimension.ensures.same, c.loop-next.invariant.1) at c.next_sibling-next.ensures.children node in
@@ -37,7 +37,7 @@ loop-next-preserved c =
     let none = array-no_members (entry_of entries node) c.requires.array in
     let least = part-least entries node child Dimensions c.broken_shape.result (dimensions-role (entry_of entries node) none c.requires.array) h.next_is (rw found at c.broken_shape.ensures) in (
       passed-more entries node P Q R child c.next_sibling-next.result h (rest h.next_is.parent_is) (is h.next_is.parent_is) h.next_is
-          (λ visited q. rw c.note.ensures (noted-child fails (HasSeenArray entries node) visited child c.loop-next.least.found c.broken_shape.result least q)),
+          (λ visited q. rw c.note.ensures (noted-child fails (HasSeenArray entries node) visited child c.loop-next.least c.broken_shape.result least q)),
       c.at-dimension.ensures.same ∙ c.loop-next.invariant.1,
     )
 
@@ -46,7 +46,7 @@ returns-clause-noted c =
     let entries = c.args.entries.now in
     let node = c.args.node in
     let P : ℕ → Type 0 = IsChildOf entries node in
-    let Q : List ℕ → Type 0 = λ visited. IsNoted (fails_shape entries) (λ k. HasSeenArray entries node k ⊎ Contains visited k) c.loop-next.least.found in
+    let Q : List ℕ → Type 0 = λ visited. IsNoted (fails_shape entries) (λ k. HasSeenArray entries node k ⊎ Contains visited k) c.loop-next.least in
     let h : HasPassed entries node P Q None = subst (HasPassed entries node P Q) c.in_default.is c.loop-next.invariant.0 in
     let is = c.requires.array in
     let none = array-no_members (entry_of entries node) is in
@@ -55,4 +55,4 @@ returns-clause-noted c =
       | inl seen ↦ seen-later entries node k seen
       | inr same ↦ array (omega arith) (subst (λ n. is_array (entry_of entries n) ≡ true) (sym same) is)
     ])
-    (rw (none, is) refl) c.loop-next.least.found h.visited h.whole h.passed h.value
+    (rw (none, is) refl) c.loop-next.least h.visited h.whole h.passed h.value

@@ -19,9 +19,9 @@ pub loop-next-init : goal.loop-next-init
 loop-next-init c =
     let entries = c.args.entries.now in
     let steps = c.args.steps.now in
-    let Q : List ℕ → Type 0 = λ visited. (steps ≡ steps ++ flat_map (part_step entries) visited) × IsNoted (fails_shape entries) (λ k. HasSeenShapes entries c.args.node k ⊎ Contains visited k) c.args.least.now.found in (
+    let Q : List ℕ → Type 0 = λ visited. (steps ≡ steps ++ flat_map (part_step entries) visited) × IsNoted (fails_shape entries) (λ k. HasSeenShapes entries c.args.node k ⊎ Contains visited k) c.args.least.now in (
       passed-none entries c.args.node (IsChildOf entries c.args.node) Q c.first_child-next.result c.first_child-next.ensures.children c.first_child-next.ensures.child
-          (sym (append-nil steps), noted-no_child (fails_shape entries) (HasSeenShapes entries c.args.node) c.args.least.now.found c.requires.noted),
+          (sym (append-nil steps), noted-no_child (fails_shape entries) (HasSeenShapes entries c.args.node) c.args.least.now c.requires.noted),
       refl,
     )
 
@@ -34,8 +34,8 @@ loop-next-preserved c =
     let fails = fails_shape entries in
     let P : ℕ → Type 0 = IsChildOf entries node in
     let Seen : List ℕ → ℕ → Type 0 = λ visited k. HasSeenShapes entries node k ⊎ Contains visited k in
-    let Q : List ℕ → Type 0 = λ visited. (c.loop-next.steps ≡ steps ++ flat_map (part_step entries) visited) × IsNoted fails (Seen visited) c.loop-next.least.found in
-    let R : List ℕ → Type 0 = λ visited. (c.if-is_plain.steps ≡ steps ++ flat_map (part_step entries) visited) × IsNoted fails (Seen visited) c.note.new.self.found in
+    let Q : List ℕ → Type 0 = λ visited. (c.loop-next.steps ≡ steps ++ flat_map (part_step entries) visited) × IsNoted fails (Seen visited) c.loop-next.least in
+    let R : List ℕ → Type 0 = λ visited. (c.if-is_plain.steps ≡ steps ++ flat_map (part_step entries) visited) × IsNoted fails (Seen visited) c.note.new.least in
     let found = rw c.loop-next.invariant.1 at c.at-member.ensures.found in
     let h : HasPassed entries node P Q (Some child) = subst (HasPassed entries node P Q) c.in-Some.is c.loop-next.invariant.0 in
     let rest = rw (c.at-member.ensures.same, c.loop-next.invariant.1) at c.next_sibling-next.ensures.children node in
@@ -49,7 +49,7 @@ loop-next-preserved c =
     ] in (
       passed-more entries node P Q R child c.next_sibling-next.result h (rest h.next_is.parent_is) (is h.next_is.parent_is) h.next_is (λ visited q. (
         grown ∙ parts-push entries child visited c.loop-next.steps steps q.0,
-        rw c.note.ensures (noted-child fails (HasSeenShapes entries node) visited child c.loop-next.least.found c.broken_shape.result least q.1),
+        rw c.note.ensures (noted-child fails (HasSeenShapes entries node) visited child c.loop-next.least c.broken_shape.result least q.1),
       )),
       c.at-member.ensures.same ∙ c.loop-next.invariant.1,
     )
@@ -59,8 +59,8 @@ returns-clause-noted c =
     let entries = c.args.entries.now in
     let node = c.args.node in
     let P : ℕ → Type 0 = IsChildOf entries node in
-    let Q : List ℕ → Type 0 = λ visited. (c.loop-next.steps ≡ c.args.steps.now ++ flat_map (part_step entries) visited) × IsNoted (fails_shape entries) (λ k. HasSeenShapes entries node k ⊎ Contains visited k) c.loop-next.least.found in
+    let Q : List ℕ → Type 0 = λ visited. (c.loop-next.steps ≡ c.args.steps.now ++ flat_map (part_step entries) visited) × IsNoted (fails_shape entries) (λ k. HasSeenShapes entries node k ⊎ Contains visited k) c.loop-next.least in
     let h : HasPassed entries node P Q None = subst (HasPassed entries node P Q) c.in_default.is c.loop-next.invariant.0 in
     let members = c.requires.members in
     noted-parts entries node (HasSeenShapes entries node) (λ k seen. seen) (λ is. absurd (members-no_array (entry_of entries node) members is)) (seen-later entries node) (rw members refl)
-    c.loop-next.least.found h.visited h.whole h.passed h.value.1
+    c.loop-next.least h.visited h.whole h.passed h.value.1

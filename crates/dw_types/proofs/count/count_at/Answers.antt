@@ -1,7 +1,7 @@
 use Rattle.std.proofs.Common.{◌≡◌, ap, sym, ◌∙◌}
 use Rattle.dw_forms.specs.Codes.{DW_AT_count, DW_AT_lower_bound, DW_AT_upper_bound}
 use Rattle.dw_entries.specs.Scanned.{units_of}
-use Rattle.dw_types.specs.declared.constant.Constant.TheVariants.{Absent}
+use Rattle.dw_types.specs.declared.count.Constant.TheVariants.{Absent}
 use Rattle.dw_types.specs.Counts.{count_from, known_natural}
 use Rattle.dw_types.specs.Entries.{Facts, constant}
 use Rattle.dw_types.specs.FactsOf.{language_of}

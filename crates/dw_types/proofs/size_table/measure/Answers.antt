@@ -19,7 +19,7 @@ pub returns-then-not-is_type-clause-noted : goal.returns-then-not-is_type-clause
 returns-then-not-is_type-clause-noted c =
     let untyped = rw c.at-entry.ensures.found at (sym c.is_type.ensures ∙ c.if-not-is_type.true) in
     λ seen old.
-    untyped-noted c.args.entries.now (size_at c.args.sizes.now) (λ k. seen k ≡ true) c.args.node c.args.least.now.found c.requires.untyped untyped old
+    untyped-noted c.args.entries.now (size_at c.args.sizes.now) (λ k. seen k ≡ true) c.args.node c.args.least.now c.requires.untyped untyped old
 
 pub capped_size-size-requires-clause-targets : goal.capped_size-size-requires-clause-targets
 capped_size-size-requires-clause-targets c = rw c.at-entry.ensures.same c.requires.targets
@@ -48,8 +48,8 @@ returns-then-not-has_members-clause-noted c =
     let sized : size_at c.set.new.self node ≡ size = rw c.in_ok-set.ensures (get_or-set_same c.args.sizes.now node size None inside) in
     λ seen old.
     rw c.note.ensures
-    (alone-noted entries (size_at c.set.new.self) (λ k. seen k ≡ true) node (with_rule c.args.least.now.found node c.broken_size.result) typed not (type-unmember (entry_of entries node).tag is)
-    (type-noted entries (size_at c.set.new.self) (λ k. seen k ≡ true) node size c.args.least.now.found c.broken_size.result is sized least old))
+    (alone-noted entries (size_at c.set.new.self) (λ k. seen k ≡ true) node (with_rule c.args.least.now node c.broken_size.result) typed not (type-unmember (entry_of entries node).tag is)
+    (type-noted entries (size_at c.set.new.self) (λ k. seen k ≡ true) node size c.args.least.now c.broken_size.result is sized least old))
 
 pub note_members-requires-clause-targets : goal.note_members-requires-clause-targets
 note_members-requires-clause-targets c = rw (c.capped_size-size.ensures.same, c.at-entry.ensures.same) c.requires.targets
@@ -72,5 +72,5 @@ returns-clause-noted c =
     let sized : size_at c.set.new.self node ≡ size = rw c.in_ok-set.ensures (get_or-set_same c.args.sizes.now node size None inside) in
     let more = rw (c.capped_size-size.ensures.same, c.at-entry.ensures.same, c.note.ensures) at c.note_members.ensures.noted in
     λ seen old.
-    holder-noted entries fails seen node (with_rule c.args.least.now.found node c.broken_size.result) c.note_members.new.least.found (type-unmember (entry_of entries node).tag is) more
-    (type-noted entries (size_at c.set.new.self) (λ k. seen k ≡ true) node size c.args.least.now.found c.broken_size.result is sized least old)
+    holder-noted entries fails seen node (with_rule c.args.least.now node c.broken_size.result) c.note_members.new.least (type-unmember (entry_of entries node).tag is) more
+    (type-noted entries (size_at c.set.new.self) (λ k. seen k ≡ true) node size c.args.least.now c.broken_size.result is sized least old)

@@ -14,7 +14,7 @@ pub loop-next-init : goal.loop-next-init
 loop-next-init c =
     let entries = c.args.entries.now in
     let fails : ℕ → Rule → Bool = fails_size entries (size_at c.args.sizes.now) in
-    let found = c.args.least.now.found in
+    let found = c.args.least.now in
     let Q : List ℕ → Type 0 = λ visited. (seen : ℕ → Bool) → IsNoted fails (λ k. seen k ≡ true) found → IsNoted fails (λ k. (seen k ≡ true) ⊎ IsVisited entries visited k) found in (
       passed-none entries c.args.node (IsChildOf entries c.args.node) Q c.first_child-next.result c.first_child-next.ensures.children c.first_child-next.ensures.child
           (λ seen h. none-visited entries fails (λ k. seen k ≡ true) found h),
@@ -32,8 +32,8 @@ loop-next-preserved c =
     let child = c.in-Some.child in
     let fails : ℕ → Rule → Bool = fails_size entries table in
     let P : ℕ → Type 0 = IsChildOf entries node in
-    let Q : List ℕ → Type 0 = λ visited. (seen : ℕ → Bool) → IsNoted fails (λ k. seen k ≡ true) c.args.least.now.found → IsNoted fails (λ k. (seen k ≡ true) ⊎ IsVisited entries visited k) c.loop-next.least.found in
-    let R : List ℕ → Type 0 = λ visited. (seen : ℕ → Bool) → IsNoted fails (λ k. seen k ≡ true) c.args.least.now.found → IsNoted fails (λ k. (seen k ≡ true) ⊎ IsVisited entries visited k) c.note.new.self.found in
+    let Q : List ℕ → Type 0 = λ visited. (seen : ℕ → Bool) → IsNoted fails (λ k. seen k ≡ true) c.args.least.now → IsNoted fails (λ k. (seen k ≡ true) ⊎ IsVisited entries visited k) c.loop-next.least in
+    let R : List ℕ → Type 0 = λ visited. (seen : ℕ → Bool) → IsNoted fails (λ k. seen k ≡ true) c.args.least.now → IsNoted fails (λ k. (seen k ≡ true) ⊎ IsVisited entries visited k) c.note.new.least in
     let found = rw c.loop-next.invariant.1 at c.at-entry.ensures.found in
     let h : HasPassed entries node P Q (Some child) = subst (HasPassed entries node P Q) c.in-Some.is c.loop-next.invariant.0 in
     let rest = rw (c.at-entry.ensures.same, c.loop-next.invariant.1) at c.next_sibling-next.ensures.children node in
@@ -41,7 +41,7 @@ loop-next-preserved c =
       passed-more entries node P Q R child c.next_sibling-next.result h (rest h.next_is.parent_is) (is h.next_is.parent_is) h.next_is
           (λ visited q seen old.
           rw c.note.ensures
-          (child-noted entries table (λ k. seen k ≡ true) visited node child c.args.size c.loop-next.least.found c.broken_as_member.result c.requires.members h.next_is.parent_is c.requires.untyped
+          (child-noted entries table (λ k. seen k ≡ true) visited node child c.args.size c.loop-next.least c.broken_as_member.result c.requires.members h.next_is.parent_is c.requires.untyped
           c.requires.size (rw found at c.broken_as_member.ensures.member) (rw found at c.broken_as_member.ensures.other) (q seen old))),
       c.at-entry.ensures.same ∙ c.loop-next.invariant.1,
     )
@@ -54,4 +54,4 @@ returns-clause-noted c =
     let h = c.loop-next.invariant.0 in
     let none : h.visited ++ rest_of_children entries node None ≡ children entries node = rw c.in_default.is at h.whole in
     λ seen old.
-    members-noted entries fails (λ k. seen k ≡ true) h.visited node c.loop-next.least.found h.passed (sym (append-nil h.visited) ∙ none) (h.value seen old)
+    members-noted entries fails (λ k. seen k ≡ true) h.visited node c.loop-next.least h.passed (sym (append-nil h.visited) ∙ none) (h.value seen old)

@@ -11,8 +11,8 @@ abbrev pub invariant-loop-next : goal.invariant-loop-next
 invariant-loop-next l =
     HasPassed l.fn.entries l.node (IsChildOf l.fn.entries l.node)
     (λ visited.
-    (seen : ℕ → Bool) → IsNoted (fails_size l.fn.entries (size_at l.sizes)) (λ k. seen k ≡ true) l.fn.least.found
-    → IsNoted (fails_size l.fn.entries (size_at l.sizes)) (λ k. (seen k ≡ true) ⊎ IsVisited l.fn.entries visited k) l.least.found) l.next
+    (seen : ℕ → Bool) → IsNoted (fails_size l.fn.entries (size_at l.sizes)) (λ k. seen k ≡ true) l.fn.least
+    → IsNoted (fails_size l.fn.entries (size_at l.sizes)) (λ k. (seen k ≡ true) ⊎ IsVisited l.fn.entries visited k) l.least) l.next
     × (l.entries ≡ l.fn.entries)
 
 abbrev pub decreases-loop-next : goal.decreases-loop-next

@@ -36,7 +36,7 @@ loop-rank-preserved c =
       c.in_ok-measure.ensures.same ∙ c.loop-rank.invariant.1,
       next-filled entries parents targets order h sizes rank below long typed c.loop-rank.invariant.2,
       next-typed entries parents targets order h sizes rank below long typed,
-      next-noted entries parents targets order h sizes rank below long typed c.loop-rank.least.found c.measure.new.least.found c.loop-rank.invariant.4 more,
+      next-noted entries parents targets order h sizes rank below long typed c.loop-rank.least c.measure.new.least c.loop-rank.invariant.4 more,
     )
 
 pub returns-in_err-check-clause-fault : goal.returns-in_err-check-clause-fault
@@ -45,7 +45,7 @@ returns-in_err-check-clause-fault c =
     let p = err_from_is_err_and c.from_residual-in_err-check.result c.from_residual-in_err-check.ensures.1 in
     rw (p.1, p.2)
     (last-fault (all_facts c.args.links.now) (facts-parents_first (units_held c.args.links.now)) (facts-targets (units_held c.args.links.now)) c.args.order.now c.requires.order c.loop-rank.sizes c.loop-rank.rank over c.loop-rank.invariant.2 (facts-rise _ (units_held c.args.links.now) c.args.links.now.entries.now.scanned.1.spells.are)
-    c.loop-rank.least.found c.in_err-check.field-0.0 c.loop-rank.invariant.4 (rw c.loop-rank.invariant.1 at c.in_err-check.ensures.fault))
+    c.loop-rank.least c.in_err-check.field-0.0 c.loop-rank.invariant.4 (rw c.loop-rank.invariant.1 at c.in_err-check.ensures.fault))
 
 pub returns-clause-only : goal.returns-clause-only
 returns-clause-only c =

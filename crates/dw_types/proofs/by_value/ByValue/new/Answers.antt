@@ -29,7 +29,7 @@ loop-node-preserved c =
     let same : c.is_type.new.self ≡ entries = c.is_type.ensures.same ∙ c.loop-node.invariant.2 in
     let is : c.is_type.result ≡ is_type_tag (entry_of entries node).tag = rw c.loop-node.invariant.2 at c.is_type.ensures.is in
     let row = steps_by_value entries node in
-    let turn : (c.if-is_type.steps ≡ steps ++ row) × (c.if-is_type.entries ≡ entries) × IsNoted (fails_shape entries) (HasSeenShapes entries (node + 1)) c.if-is_type.least.found
+    let turn : (c.if-is_type.steps ≡ steps ++ row) × (c.if-is_type.entries ≡ entries) × IsNoted (fails_shape entries) (HasSeenShapes entries (node + 1)) c.if-is_type.least
     × (c.if-is_type.types ≡ type_count (take (node + 1) entries)) = elim c.if-is_type.branch [
       | then-is_type+in_ok-push_row w ↦ (
         w.steps-is ∙ (rw same at w.in_ok-push_row.ensures.steps),
@@ -41,7 +41,7 @@ loop-node-preserved c =
           let untyped : is_type_tag (entry_of entries node).tag ≡ false = sym is ∙ w.if-is_type.false in (
             w.steps-is ∙ (sym (append-nil steps) ∙ ap (λ (xs : List ℕ). steps ++ xs) (untyped-row entries node untyped)),
             w.entries-is ∙ same,
-            rw w.least-is (noted-plain entries node c.loop-node.least.found (untyped-parts (entry_of entries node) untyped) c.loop-node.invariant.3),
+            rw w.least-is (noted-plain entries node c.loop-node.least (untyped-parts (entry_of entries node) untyped) c.loop-node.invariant.3),
             w.types-is ∙ (c.loop-node.invariant.4 ∙ sym (count_by_more_no test entries node no_entry below untyped)),
           )
     ] in
@@ -58,13 +58,13 @@ loop-node-preserved c =
 pub check-requires : goal.check-requires
 check-requires c =
     let over : length (all_facts c.args.links.now) ≤ c.loop-node.node = rw (← c.new-entries.ensures.same, ← c.count-count.ensures) c.loop-node-test.false in
-    rw c.loop-node.invariant.2 (shapes-inside (all_facts c.args.links.now) (facts-parents_first (units_held c.args.links.now)) c.loop-node.node over c.loop-node.least.found c.loop-node.invariant.3)
+    rw c.loop-node.invariant.2 (shapes-inside (all_facts c.args.links.now) (facts-parents_first (units_held c.args.links.now)) c.loop-node.node over c.loop-node.least c.loop-node.invariant.3)
 
 pub returns-in_err-check-clause-fault : goal.returns-in_err-check-clause-fault
 returns-in_err-check-clause-fault c =
     let over : length (all_facts c.args.links.now) ≤ c.loop-node.node = rw (← c.new-entries.ensures.same, ← c.count-count.ensures) c.loop-node-test.false in
     let p = err_from_is_err_and c.from_residual-in_err-check.result c.from_residual-in_err-check.ensures.1 in
-    rw (p.1, p.2) (shapes-fault (all_facts c.args.links.now) (facts-parents_first (units_held c.args.links.now)) c.loop-node.node over (facts-rise _ (units_held c.args.links.now) c.args.links.now.entries.now.scanned.1.spells.are) c.loop-node.least.found c.in_err-check.field-0.0 c.loop-node.invariant.3 (rw c.loop-node.invariant.2 at c.in_err-check.ensures.fault))
+    rw (p.1, p.2) (shapes-fault (all_facts c.args.links.now) (facts-parents_first (units_held c.args.links.now)) c.loop-node.node over (facts-rise _ (units_held c.args.links.now) c.args.links.now.entries.now.scanned.1.spells.are) c.loop-node.least c.in_err-check.field-0.0 c.loop-node.invariant.3 (rw c.loop-node.invariant.2 at c.in_err-check.ensures.fault))
 
 pub returns-clause-graph : goal.returns-clause-graph
 returns-clause-graph c =
@@ -84,4 +84,4 @@ returns-clause-steps c =
 pub returns-clause-sound : goal.returns-clause-sound
 returns-clause-sound c =
     let over : length (all_facts c.args.links.now) ≤ c.loop-node.node = rw (← c.new-entries.ensures.same, ← c.count-count.ensures) c.loop-node-test.false in
-    shapes-sound (all_facts c.args.links.now) (facts-parents_first (units_held c.args.links.now)) c.loop-node.node over c.loop-node.least.found c.in_ok-check.ensures.none c.loop-node.invariant.3
+    shapes-sound (all_facts c.args.links.now) (facts-parents_first (units_held c.args.links.now)) c.loop-node.node over c.loop-node.least c.in_ok-check.ensures.none c.loop-node.invariant.3

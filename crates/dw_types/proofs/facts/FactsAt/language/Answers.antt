@@ -1,5 +1,5 @@
 use Rattle.dw_entries.specs.Scanned.{units_of}
-use Rattle.dw_types.specs.declared.constant.Constant.TheVariants.{Absent}
+use Rattle.dw_types.specs.declared.count.Constant.TheVariants.{Absent}
 use Rattle.std.specs.Prelude.{◌≡◌}
 use Rattle.dw_types.specs.Entries.{Facts}
 use Rattle.dw_types.specs.FactsOf.{language_of}
