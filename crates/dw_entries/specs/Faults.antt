@@ -8,7 +8,8 @@ use Rattle.dw_forms.specs.Abbrev.{Declaration}
 use Rattle.dw_forms.specs.AbbrevReading.{table_at}
 use Rattle.dw_entries.specs.declared.fault.Rule.{Rule}
 use Rattle.dw_entries.specs.declared.fault.Rule.TheVariants.{AbbrevCut, AbbrevNumber, CodeTwice, BadTag, BadChildren}
-use Rattle.dw_entries.specs.declared.fault.Rule.TheVariants.{BadPair, UnknownForm, AttributeTwice, NoUnitEntry, LeftOver}
+use Rattle.dw_entries.specs.declared.fault.Rule.TheVariants.{BadPair, UnknownForm, AttributeTwice, NoUnitEntry}
+use Rattle.dw_entries.specs.declared.fault.Rule.TheVariants.{LeftOver}
 use Rattle.dw_entries.specs.declared.fault.Section.TheVariants.{Abbrev, Info}
 use Rattle.dw_entries.specs.declared.fault.Failing.{Failing}
 use Rattle.dw_entries.specs.declared.fault.Broken.{Broken}

@@ -5,7 +5,8 @@ use Rattle.dw_entries.specs.declared.fault.Rule.TheVariants.{AbbrevCut, AbbrevNu
 use Rattle.dw_entries.specs.declared.fault.Rule.TheVariants.{BadPair, UnknownForm, AttributeTwice, UnitCut, Not32Bit}
 use Rattle.dw_entries.specs.declared.fault.Rule.TheVariants.{BadVersion, BadUnitType, BadAddressSize, BadAbbrevOffset}
 use Rattle.dw_entries.specs.declared.fault.Rule.TheVariants.{NoUnitEntry, WrongUnitTag, LeftOver, UndeclaredCode, Cut}
-use Rattle.dw_entries.specs.declared.fault.Rule.TheVariants.{BadNumber, BadIndirect, FormVersion, WrongClass, BadStrBase}
+use Rattle.dw_entries.specs.declared.fault.Rule.TheVariants.{BadNumber, BadIndirect, FormVersion, WrongClass}
+use Rattle.dw_entries.specs.declared.fault.Rule.TheVariants.{BadStrBase}
 use Rattle.dw_entries.specs.declared.fault.Rule.TheVariants.{StrIndex, StringEnd, BadAddrBase, AddrIndex, NoEntry}
 use Rattle.dw_entries.specs.declared.fault.Rule.TheVariants.{WrongKind, NotNextSibling, NoSignature, SignatureTwice}
 use Rattle.dw_entries.specs.declared.fault.Rule.TheVariants.{BadTypeOffset, MissingType, BadCount, ContainsItself}

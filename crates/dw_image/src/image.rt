@@ -17,8 +17,6 @@ ghost use Rattle.dw_links.specs.Slots.{IsPlace};
 ghost use Rattle.dw_links.specs.Targets.{target_of};
 ghost use Rattle.dw_links.specs.ValueTexts.{text_there};
 ghost use Rattle.dw_types.specs.Children.{children_of, IsChild};
-ghost use Rattle.dw_image.specs.Images.{units_in, entries_in, name_in, sections_in};
-ghost use Rattle.dw_image.specs.Lookups.{entry_at};
 
 use dw_elf::Sections;
 use dw_entries::constants::DW_AT_name;
@@ -78,6 +76,9 @@ impl<'a> Image<'a> {
 }
 
 impl<'a> Image<'a> {
+    ghost use Rattle.dw_image.specs.Images.{units_in, entries_in, name_in, sections_in};
+    ghost use Rattle.dw_image.specs.Lookups.{entry_at};
+
     /// The entries of the image, as they were scanned.
     pub fn scanned(&self) -> &Entries<'a>
         ensures { result.now ≡ self.now.entries }
