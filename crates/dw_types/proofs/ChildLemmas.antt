@@ -9,6 +9,7 @@ use Rattle.dw_entries.specs.Header.{header_size}
 use Rattle.dw_entries.specs.Tree.{Node, Nodes, leaf, parent, none, ◌then◌, node_bytes}
 use Rattle.dw_entries.specs.Units.{DebugUnit, unit_bytes}
 use Rattle.dw_entries.specs.Entries.{Entry, node_count, nodes_count, first_id, node_entries, nodes_entries, entries_from, entries_of}
+use Rattle.dw_entries.proofs.EntryFacts.{length-nodes_entries}
 use Rattle.dw_types.specs.Children.{is_number, children_from, siblings_from, IsChild}
 
 -- ---- children among joined entries
@@ -130,22 +131,6 @@ below_get : (k : ℕ) (above : Option ℕ) (p : ℕ) → Below k above → above
 below_get k None p below is = absurd cc
 below_get k (Some q) p below is = let same : q ≡ p = cc in subst (λ x. x < k) same below
 
--- how many entries there are
-mutual
-  length-node_entries : (unit : ℕ) (above : Option ℕ) (depth : ℕ) (next : Option ℕ) (id at : ℕ) (n : Node) → length (node_entries unit above depth next id at n) ≡ node_count n
-  length-node_entries unit above depth next id at (leaf h) = refl
-  length-node_entries unit above depth next id at (parent h ns z) = ap suc (length-nodes_entries unit id (suc depth) (suc id) (at + length (head_bytes h)) ns)
-
-  length-nodes_entries : (unit above depth id at : ℕ) (ns : Nodes) → length (nodes_entries unit above depth id at ns) ≡ nodes_count ns
-  length-nodes_entries unit above depth id at none = refl
-  length-nodes_entries unit above depth id at (n then ns) =
-      omega (
-        arith,
-        length-append (node_entries unit (Some above) depth (first_id ns (id + node_count n)) id at n) (nodes_entries unit above depth (id + node_count n) (at + length (node_bytes n)) ns),
-        length-node_entries unit (Some above) depth (first_id ns (id + node_count n)) id at n,
-        length-nodes_entries unit above depth (id + node_count n) (at + length (node_bytes n)) ns,
-      )
-
 -- the first entry behind is no child: there is none
 first_none : (id : ℕ) (more : List Entry) → children_from more id (suc id) ≡ [] → First id more
 first_none id [] e = tt
@@ -223,11 +208,13 @@ drop_get [] i e is = absurd cc
 drop_get (x ∷ es) zero e is = let there : Some x ≡ Some e = is in let same : x ≡ e = cc in ap (λ y. y ∷ es) same
 drop_get (x ∷ es) (suc i) e is = drop_get es i e is
 
+pub get-drop : (es : List Entry) (m i : ℕ) → slice_get (drop m es) i ≡ slice_get es (m + i)
+get-drop es zero i = let same : i ≡ 0 + i = omega arith in ap (slice_get es) same
+get-drop [] (suc m) i = refl
+get-drop (e ∷ es) (suc m) i = let same : suc (m + i) ≡ suc m + i = omega arith in get-drop es m i ∙ ap (slice_get (e ∷ es)) same
+
 get_drop : (es rest : List Entry) (i : ℕ) (e : Entry) → drop i es ≡ e ∷ rest → slice_get es i ≡ Some e
-get_drop [] rest zero e is = absurd cc
-get_drop [] rest (suc i) e is = absurd cc
-get_drop (x ∷ es) rest zero e is = let same : x ≡ e = cc in ap Some same
-get_drop (x ∷ es) rest (suc i) e is = get_drop es rest i e is
+get_drop es rest i e is = let z : i ≡ i + 0 = omega arith in ap (slice_get es) z ∙ sym (get-drop es i 0) ∙ ap (λ xs. slice_get xs 0) is
 
 chained_get : (k : ℕ) (es : List Entry) (i : ℕ) (e : Entry) → Chained k es → slice_get es i ≡ Some e → Link (k + i) e (drop (suc i) es)
 chained_get k [] i e chained is = absurd cc
@@ -237,6 +224,15 @@ chained_get k (x ∷ es) zero e chained is =
     subst (λ y. Link (k + 0) y es) same (subst (λ n. Link n x es) (let z : k ≡ k + 0 = omega arith in z) chained.0)
 chained_get k (x ∷ es) (suc i) e chained is =
     subst (λ n. Link n e (drop (suc i) es)) (let z : suc k + i ≡ k + suc i = omega arith in z) (chained_get (suc k) es i e chained.1 is)
+
+-- what is behind an entry
+link-at : (us : List DebugUnit) (id : ℕ) (e : Entry) → slice_get (entries_of us) id ≡ Some e → Link id e (drop (suc id) (entries_of us))
+link-at us id e is =
+    subst (λ n. Link n e (drop (suc id) (entries_of us))) (let z : 0 + id ≡ id = omega arith in z) (chained_get 0 (entries_of us) id e (units_chained 0 0 0 us) is)
+
+-- the parent of an entry has a smaller number
+pub parent-before : (us : List DebugUnit) (id : ℕ) (e : Entry) (above : ℕ) → slice_get (entries_of us) id ≡ Some e → e.parent ≡ Some above → above < id
+parent-before us id e above is has = below_get id e.parent above (link-at us id e is).below has
 
 pub linked_there : (es : List Entry) (p m : ℕ) (e : Entry) → slice_get es m ≡ Some e → e.parent ≡ Some p → IsChild es p (Some m)
 linked_there es p m e there is = λ x found.
@@ -262,19 +258,16 @@ pub record Steps (es : List Entry) (p m : ℕ) (next : Option ℕ) : Type 0 wher
   pub left : siblings_from es p (Some m) ≡ m ∷ siblings_from es p next
   pub linked : IsChild es p next
 
-step_of : (es : List Entry) (p m : ℕ) (e : Entry) → Chained 0 es → slice_get es m ≡ Some e → e.parent ≡ Some p → Steps es p m e.next
-step_of es p m e chained there is =
-    let link : Link m e (drop (suc m) es) = subst (λ n. Link n e (drop (suc m) es)) (let z : 0 + m ≡ m = omega arith in z) (chained_get 0 es m e chained there) in
-    let after : After (suc m) (drop (suc m) es) (Some p) e.next = subst (λ above. After (suc m) (drop (suc m) es) above e.next) is link.after in
+pub next_of_child : (us : List DebugUnit) (p m : ℕ) (e : Entry) → slice_get (entries_of us) m ≡ Some e → e.parent ≡ Some p → Steps (entries_of us) p m e.next
+next_of_child us p m e there is =
+    let es : List Entry = entries_of us in
+    let after : After (suc m) (drop (suc m) es) (Some p) e.next = subst (λ above. After (suc m) (drop (suc m) es) above e.next) is (link-at us m e there).after in
     let on = goes_on es p m e.next after in
     let child : is_number p e.parent ≡ true = ap (is_number p) is ∙ equals p in
     record {
       left = ap (λ xs. children_from xs p m) (drop_get es m e there) ∙ take_one e (drop (suc m) es) p m child ∙ ap (λ xs. m ∷ xs) on.left;
       linked = on.linked;
     }
-
-pub next_of_child : (us : List DebugUnit) (p m : ℕ) (e : Entry) → slice_get (entries_of us) m ≡ Some e → e.parent ≡ Some p → Steps (entries_of us) p m e.next
-next_of_child us p m e = step_of (entries_of us) p m e (units_chained 0 0 0 us)
 
 -- entries up to a parent are none of its children
 skip_before : (p n k : ℕ) (es : List Entry) → Chained k es → k + n ≤ suc p → children_from es p k ≡ children_from (drop n es) p (k + n)
@@ -298,8 +291,7 @@ pub no_first : (us : List DebugUnit) (id : ℕ) (e d : Entry) → slice_get (ent
     → children_from (entries_of us) id 0 ≡ []
 no_first us id e d there behind isnt =
     let es : List Entry = entries_of us in
-    let link : Link id e (drop (suc id) es) = subst (λ n. Link n e (drop (suc id) es)) (let z : 0 + id ≡ id = omega arith in z) (chained_get 0 es id e (units_chained 0 0 0 us) there) in
-    let first : First id (d ∷ drop (suc (suc id)) es) = subst (First id) (drop_get es (suc id) d behind) link.first in
+    let first : First id (d ∷ drop (suc (suc id)) es) = subst (First id) (drop_get es (suc id) d behind) (link-at us id e there).first in
     children_behind us id ∙ ap (λ xs. children_from xs id (suc id)) (drop_get es (suc id) d behind) ∙ first isnt
 
 -- no entry stands behind: there is no child

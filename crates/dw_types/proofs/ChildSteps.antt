@@ -9,7 +9,7 @@ use Rattle.dw_entries.specs.Tree.{◌then◌}
 use Rattle.dw_entries.specs.Units.{DebugUnit}
 use Rattle.dw_entries.specs.Entries.{Entry, entries_of, placed}
 use Rattle.dw_types.specs.Children.{is_number, children_from, children_of, siblings_from, IsChild, rest_of_children, IsChildOf}
-use Rattle.dw_types.proofs.ChildLemmas.{linked_there, next_of_child, no_first, none_behind, first_behind, Steps}
+use Rattle.dw_types.proofs.ChildLemmas.{get-drop, linked_there, next_of_child, no_first, none_behind, first_behind, Steps}
 use Rattle.dw_types.specs.Entries.{entry_of, is_parent, is_child, children, Facts}
 use Rattle.dw_types.specs.FactsOf.{facts_in}
 use Rattle.dw_types.proofs.FactsLemmas.{facts-get, length-facts_of}
@@ -117,11 +117,6 @@ children-here facts p k (e ∷ es) are =
     let test : is_child facts p k ≡ is_number p e.parent = ap (λ (o : Option ℕ). is_parent o p) above ∙ parent-number e.parent p in
     let more : filter (is_child facts p) (range_with_len (k + 1) (length es)) ≡ children_from es p (suc k) = children-here facts p (k + 1) es (rest-are facts k e es are) ∙ ap (children_from es p) next in
     rw test (ap (λ (rest : List ℕ). if is_number p e.parent then k ∷ rest else rest) more)
-
-get-drop : (es : List Entry) (m i : ℕ) → slice_get (drop m es) i ≡ slice_get es (m + i)
-get-drop es zero i = let same : i ≡ 0 + i = omega arith in ap (slice_get es) same
-get-drop [] (suc m) i = refl
-get-drop (e ∷ es) (suc m) i = let same : suc (m + i) ≡ suc m + i = omega arith in get-drop es m i ∙ ap (slice_get (e ∷ es)) same
 
 module _ (us : List DebugUnit) where
   facts-from : (m : ℕ) → AreFactsFrom (facts_in us) m (drop m (entries_of us))
