@@ -1,5 +1,5 @@
 -- The count of one entry.
-use Rattle.std.proofs.Common.{◌&&◌, length, inl, inr, ◌≡◌, ℕ, ◌<◌, Bool, true, false, if◌then◌else◌, List, Option, Some, IfSome, refl, sym, ap, ◌∙◌, arith}
+use Rattle.std.proofs.Common.{◌&&◌, length, inl, inr, ◌≡◌, ℕ, ◌<◌, Bool, true, false, if◌then◌else◌, List, Option, IfSome, refl, sym, ◌∙◌, arith}
 use Rattle.std.specs.Prelude.{slice_get}
 use Rattle.std.proofs.lemmas.Option.{slice_get_cases}
 use Rattle.dw_entries.specs.Entries.{Entry, entries_of}

@@ -1,5 +1,5 @@
 -- Chapter: the facts of an entry that the rules on types, counts and sizes read (DWARF 5, chapter 5).
-use Rattle.std.specs.Prelude.{ℕ, List, Option, None, Some, map, slice_get}
+use Rattle.std.specs.Prelude.{ℕ, List, map, slice_get}
 use Rattle.std.specs.Option.{option_map_or}
 use Rattle.dw_forms.specs.Codes.{DW_AT_language, DW_AT_signature, DW_AT_type}
 use Rattle.dw_entries.specs.Asked.{values_of}

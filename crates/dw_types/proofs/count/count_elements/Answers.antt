@@ -1,7 +1,6 @@
-use Rattle.std.proofs.Common.{◌≡◌, ◌^◌, ◌||◌, ℕ, Bool, List, Some, filter, map, subst, sym, ap, ◌∙◌}
+use Rattle.std.proofs.Common.{◌≡◌, ◌^◌, ◌||◌, ℕ, List, Some, filter, map, subst, sym, ap, ◌∙◌}
 use Rattle.dw_types.specs.Children.{IsChildOf}
 use Rattle.dw_types.specs.ElementCounts.{child_factor}
-use Rattle.dw_types.specs.Entries.{Facts, entry_of}
 use Rattle.dw_types.specs.Counts.{is_subrange_tag}
 use Rattle.dw_types.specs.Sizes.{has_elements, is_subrange, product_of}
 use Rattle.dw_types.specs.SizeTables.{cap_size}

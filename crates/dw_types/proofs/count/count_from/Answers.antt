@@ -1,8 +1,8 @@
-use Rattle.std.proofs.Common.{◌≡◌, Bool, true, false, if◌then◌else◌, Option, None, Some, ℤ, pos, ◌+ℤ◌, ◌-ℤ◌, FitsSigned, arith, refl, sym, ap, ◌∙◌}
+use Rattle.std.proofs.Common.{◌≡◌, true, false, None, Some, ℤ, pos, ◌+ℤ◌, ◌-ℤ◌, FitsSigned, arith, refl, sym, ◌∙◌}
 use Rattle.std.proofs.lemmas.Int.{ints, to_z-of_z}
 use mir.Syntax.{w128}
-use Rattle.dw_types.specs.Constants.{IsOf64Bits, is_present, number_in}
-use Rattle.dw_types.specs.Counts.{count_between, lower_of, reads_bounds, upper_of}
+use Rattle.dw_types.specs.Constants.{IsOf64Bits, is_present}
+use Rattle.dw_types.specs.Counts.{lower_of, reads_bounds, upper_of}
 use Rattle.dw_types.proofs.count.count_from.Goals as goal
 
 -- numbers of 64 bits, their difference and one more fit 128 bits
