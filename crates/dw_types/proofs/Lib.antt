@@ -8,6 +8,7 @@ pub mod RankLemmas
 pub mod WalkLemmas
 pub mod CycleLemmas
 pub mod EndLemmas
+pub mod LongestLemmas
 pub mod PackingLemmas
 pub mod StepLemmas
 pub mod RoleLemmas

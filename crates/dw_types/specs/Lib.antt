@@ -12,6 +12,7 @@ pub mod Graphs
 pub mod Cycles
 pub mod Steps
 pub mod Orders
+pub mod LongestRows
 pub mod OrderFaults
 pub mod Sizes
 pub mod Extents

@@ -18,6 +18,6 @@ pub use dw_entries::constants;
 pub use facts::first_child;
 pub use graph::{Order, Packed, StepGraph};
 pub use numbers::{NoMemory, Numbers};
-pub use ordering::{OrderFault, clear_nodes, order};
+pub use ordering::{OrderFault, clear_nodes, longest_at, longest_rows, order};
 pub use size_rules::container_has_its_own_size;
 pub use size_table::{SizeTable, sizes};

@@ -1,0 +1,132 @@
+-- The longest rows of steps from nodes, by those from the nodes that their steps lead to.
+use Rattle.std.proofs.Common.{◌≡◌, ◌≢◌, ℕ, zero, suc, ◌+◌, ◌<◌, ◌≤◌, List, length, get_or, set, inl, inr}
+use Rattle.std.proofs.Common.{arith, refl, sym, ◌∙◌, subst, get_or-set_same, get_or-set_other}
+use Rattle.std.specs.Prelude.{◌⊎◌, Contains}
+use Rattle.std.proofs.lemmas.Bool.{cases_eq, cases_lt}
+use Rattle.std.proofs.lemmas.List.{get_or_default}
+use Rattle.dw_types.specs.Cycles.{AreClear, Leads, IsOnCycle, ReachesCycle}
+use Rattle.dw_types.specs.Graphs.{Graph, steps_of, step_at}
+use Rattle.dw_types.specs.LongestRows.{HasRow, IsLongest, AreLongest, IsAbove}
+
+-- a node by the nodes that its steps lead to
+module _ (graph : Graph) (counts : List ℕ) (node : ℕ) where
+  pub longest-above : (count : ℕ) → IsAbove graph counts node count
+      → ((k : ℕ) → k < length (steps_of graph node) → IsLongest graph (step_at graph node k) (get_or counts (step_at graph node k) 0))
+      → IsLongest graph node count
+  longest-above count above known = record { has_row = has_row above.tight; none_longer = bound }
+    where
+      has_row : (count ≡ 0) ⊎ ((k : ℕ) × (k < length (steps_of graph node)) × (count ≡ get_or counts (step_at graph node k) 0 + 1)) → HasRow graph node count
+      has_row (inl e) = let P : ℕ → Type 0 = λ n. HasRow graph node n in subst P (sym e) tt
+      has_row (inr (k, within, e)) =
+          let next = step_at graph node k in
+          let P : ℕ → Type 0 = λ n. HasRow graph node n in
+          let e' : suc (get_or counts next 0) ≡ count = omega arith in
+          subst P e' (next, (k, within, refl), (known k within).has_row)
+
+      bound : (k : ℕ) → HasRow graph node k → k ≤ count
+      bound zero w = omega arith
+      bound (suc k) (next, step, w) =
+          let W : ℕ → Type 0 = λ n. HasRow graph n k in
+          omega (arith, (known step.0 step.1).none_longer k (subst W (sym step.2) w), above.above step.0 step.1)
+
+-- a node has one longest row
+longest-one : (graph : Graph) (node a b : ℕ) → IsLongest graph node a → IsLongest graph node b → a ≡ b
+longest-one graph node a b x y = let p = x.none_longer b y.has_row in let q = y.none_longer a x.has_row in omega arith
+
+-- the longest rows from the first nodes are known, and none has more steps than nodes before it
+abbrev pub KnownUpTo : Graph → List ℕ → List ℕ → ℕ → Type 0
+KnownUpTo graph clear counts place = (k : ℕ) → k < place
+    → IsLongest graph (get_or clear k 0) (get_or counts (get_or clear k 0) 0) × (get_or counts (get_or clear k 0) 0 ≤ k)
+
+module _ (graph : Graph) (clear : List ℕ) (h : AreClear graph clear) (counts : List ℕ) (place : ℕ) where
+  -- what is known at the steps of the node at this place
+  pub known-step : KnownUpTo graph clear counts place → place < length clear → (k : ℕ) → k < length (steps_of graph (get_or clear place 0))
+      → IsLongest graph (step_at graph (get_or clear place 0) k) (get_or counts (step_at graph (get_or clear place 0) k) 0)
+      × (get_or counts (step_at graph (get_or clear place 0) k) 0 < place)
+  known-step known below k within =
+      let (before, less, same) = h.ordered place k below within in
+      let P : ℕ → Type 0 = λ n. IsLongest graph n (get_or counts n 0) × (get_or counts n 0 ≤ before) in
+      let moved = subst P same (known before less) in
+      (moved.0, omega (arith, moved.1))
+
+  pub known-more : (count : ℕ) → length counts ≡ length graph → place < length clear → KnownUpTo graph clear counts place
+      → IsAbove graph counts (get_or clear place 0) count → KnownUpTo graph clear (set counts (get_or clear place 0) count) (place + 1)
+  known-more count long below known above k within = elim (cases_eq (get_or clear k 0) node) [
+    | inl same ↦
+        let Q : ℕ → Type 0 = λ n. IsLongest graph n (get_or (set counts node count) n 0) × (get_or (set counts node count) n 0 ≤ k) in
+        let P : ℕ → Type 0 = λ n. IsLongest graph node n × (n ≤ k) in
+        subst Q (sym same) (subst P (sym (get_or-set_same counts node count 0 in_counts)) (here, few same))
+    | inr other ↦
+        let before : k < place = elim (cases_lt k place) [ inl less ↦ less | inr more ↦ (let same : k ≡ place = omega arith in let P : ℕ → Type 0 = λ n. get_or clear n 0 ≢ node in absurd (subst P same other refl)) ] in
+        let P : ℕ → Type 0 = λ n. IsLongest graph (get_or clear k 0) n × (n ≤ k) in
+        subst P (sym (get_or-set_other counts node (get_or clear k 0) count 0 other)) (known k before)
+  ]
+    where
+      node : ℕ
+      node = get_or clear place 0
+
+      in_counts : node < length counts
+      in_counts = let inside = h.within place below in omega arith
+
+      here : IsLongest graph node count
+      here = longest-above graph counts node count above (λ m w. (known-step known below m w).0)
+
+      low : (count ≡ 0) ⊎ ((k : ℕ) × (k < length (steps_of graph node)) × (count ≡ get_or counts (step_at graph node k) 0 + 1)) → count ≤ place
+      low (inl e) = omega arith
+      low (inr (m, w, e)) = let less = known-step known below m w in omega (arith, less.1)
+
+      few : get_or clear k 0 ≡ node → count ≤ k
+      few same = elim (cases_lt k place) [
+        | inl before ↦
+            let fact = known k before in
+            let P : ℕ → Type 0 = λ n. IsLongest graph n (get_or counts n 0) × (get_or counts n 0 ≤ k) in
+            let moved = subst P same fact in
+            let one = longest-one graph node count (get_or counts node 0) here moved.0 in
+            omega (arith, one, moved.1)
+        | inr last ↦ (let less = low above.tight in omega arith)
+      ]
+
+  pub known-all : length clear ≤ place → KnownUpTo graph clear counts place → AreLongest graph clear (λ node. get_or counts node 0)
+  known-all over known node (k, w, e) =
+      let same : get_or clear k 0 ≡ node = get_or_default clear k 0 node w ∙ e in
+      let P : ℕ → Type 0 = λ n. IsLongest graph n (get_or counts n 0) in
+      subst P same (known k (omega arith)).0
+
+-- a row that goes on where some steps lead
+pub row-after : (graph : Graph) (k n from to : ℕ) → Leads graph k from to → HasRow graph to n → HasRow graph from (k + n)
+row-after graph zero n from to same row =
+    let P : ℕ → Type 0 = λ m. HasRow graph from m in
+    let Q : ℕ → Type 0 = λ x. HasRow graph x n in
+    let e : n ≡ 0 + n = omega arith in
+    subst P e (subst Q (sym same) row)
+row-after graph (suc k) n from to (next, step, led) row =
+    let P : ℕ → Type 0 = λ m. HasRow graph from m in
+    let e : suc (k + n) ≡ suc k + n = omega arith in
+    subst P e (next, step, row-after graph k n next to led row)
+
+-- ---- nodes that reach no cycle
+
+module _ (graph : Graph) (clear : List ℕ) (h : AreClear graph clear) where
+  -- steps from one of them lead to one that is at least as many places before it
+  led-before : (k place to : ℕ) → place < length clear → Leads graph k (get_or clear place 0) to
+      → (before : ℕ) × (before + k ≤ place) × (get_or clear before 0 ≡ to)
+  led-before zero place to within same = (place, omega arith, same)
+  led-before (suc k) place to within (next, (m, below, is), led) =
+      let (before, less, same) = h.ordered place m within below in
+      let P : ℕ → Type 0 = λ n. Leads graph k n to in
+      let (last, fits, ends) = led-before k before to (omega arith) (subst P (sym (same ∙ is)) led) in
+      (last, omega (arith, fits), ends)
+
+  off-cycle : (most place : ℕ) → place < most → place < length clear → IsOnCycle graph (get_or clear place 0) → ⊥
+  off-cycle zero place less within cycle = absurd (omega arith)
+  off-cycle (suc most) place less within (k, led) =
+      let (before, fits, same) = led-before (suc k) place (get_or clear place 0) within led in
+      off-cycle most before (omega arith) (omega arith) (subst (IsOnCycle graph) (sym same) (k, led))
+
+  -- no step from one of them leads to a cycle
+  pub clear-free : (node : ℕ) → Contains clear node → ReachesCycle graph node → ⊥
+  clear-free node (place, within, is) (k, to, led, cycle) =
+      let here : get_or clear place 0 ≡ node = get_or_default clear place 0 node within ∙ is in
+      let P : ℕ → Type 0 = λ n. Leads graph k n to in
+      let (before, fits, same) = led-before k place to within (subst P (sym here) led) in
+      off-cycle (suc before) before (omega arith) (omega arith) (subst (IsOnCycle graph) (sym same) cycle)

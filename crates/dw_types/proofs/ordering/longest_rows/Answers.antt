@@ -1,0 +1,48 @@
+use Rattle.std.proofs.Common.{◌<◌, ◌≤◌, length, get_or, arith, ap, ◌∙◌, length-set}
+use Rattle.std.proofs.lemmas.List.{length-replicate}
+use Rattle.dw_types.specs.LongestRows.{IsAbove}
+use Rattle.dw_types.proofs.LongestLemmas.{known-step, known-more, known-all}
+use Rattle.dw_types.proofs.ordering.longest_rows.Goals as goal
+
+pub loop-rank-init : goal.loop-rank-init
+loop-rank-init g c = (ap length c.in_ok-counts.ensures ∙ (length-replicate c.nodes.result 0 ∙ c.nodes.ensures), λ k w. absurd (omega arith))
+
+pub one_above-most-requires-clause-node : goal.one_above-most-requires-clause-node
+one_above-most-requires-clause-node g c =
+    let below : c.loop-rank.rank < length c.args.clear.now.by_rank = rw (← c.count-rank-end.ensures) c.loop-rank-test.true in
+    rw c.node-node.ensures (c.requires.within c.loop-rank.rank below)
+
+pub one_above-most-requires-clause-fits : goal.one_above-most-requires-clause-fits
+one_above-most-requires-clause-fits g c =
+    let graph = g.G.StepGraph.graph c.args.graph.now in
+    let below : c.loop-rank.rank < length c.args.clear.now.by_rank = rw (← c.count-rank-end.ensures) c.loop-rank-test.true in
+    rw c.node-node.ensures
+    (λ k within.
+    let step = known-step graph c.args.clear.now.by_rank c.requires c.loop-rank.counts c.loop-rank.rank c.loop-rank.invariant.1 below k within in
+    omega (arith, step.1))
+
+pub set-requires : goal.set-requires
+set-requires g c =
+    let below : c.loop-rank.rank < length c.args.clear.now.by_rank = rw (← c.count-rank-end.ensures) c.loop-rank-test.true in
+    let within = c.requires.within c.loop-rank.rank below in
+    rw c.node-node.ensures (omega (arith, within, c.loop-rank.invariant.0))
+
+pub loop-rank-preserved : goal.loop-rank-preserved
+loop-rank-preserved g c =
+    let graph = g.G.StepGraph.graph c.args.graph.now in
+    let clear = c.args.clear.now.by_rank in
+    let counts = c.loop-rank.counts in
+    let rank = c.loop-rank.rank in
+    let count = c.one_above-most.result in
+    let below : rank < length clear = rw (← c.count-rank-end.ensures) c.loop-rank-test.true in
+    let above : IsAbove graph counts (get_or clear rank 0) count = rw c.node-node.ensures at c.one_above-most.ensures in
+    rw (c.in_ok-set.ensures, c.node-node.ensures) (
+      length-set counts (get_or clear rank 0) count ∙ c.loop-rank.invariant.0,
+      known-more graph clear c.requires counts rank count c.loop-rank.invariant.0 below c.loop-rank.invariant.1 above,
+    )
+
+pub returns : goal.returns
+returns g c =
+    let graph = g.G.StepGraph.graph c.args.graph.now in
+    let over : length c.args.clear.now.by_rank ≤ c.loop-rank.rank = rw (← c.count-rank-end.ensures) c.loop-rank-test.false in
+    known-all graph c.args.clear.now.by_rank c.requires c.loop-rank.counts c.loop-rank.rank over c.loop-rank.invariant.1
