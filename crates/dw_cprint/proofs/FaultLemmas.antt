@@ -1,51 +1,47 @@
 -- What is wrong with a type, by its own entry and by the types that it names.
 use Rattle.std.proofs.Common.{◌≡◌, ℕ, Bool, true, false, List, [], ◌∷◌, Option, Some, None, refl, sym, ap, subst, ◌∙◌}
-use Rattle.std.proofs.Common.{◌⊎◌, inl, inr, length, arith, map, zero, suc, ◌++◌}
+use Rattle.std.proofs.Common.{◌⊎◌, inl, inr, length, arith, map, zero, suc, ◌++◌, ◌+◌, ◌<◌, ◌≤◌, min, max}
+use Rattle.std.proofs.lemmas.Bool.{cases_lt, or_cases}
 use Rattle.std.specs.Prelude.{IsTrue, All, Any, ◌↔◌, ◌||◌, is_none, ◌==◌, Contains}
 use Rattle.std.specs.List.{list_any}
 use Rattle.std.proofs.lemmas.List.Elements.{All-weaker, All-nil, Contains-append_left, Contains-append_right}
 use Rattle.std.proofs.lemmas.List.Elements.{Contains-append_cases}
 use Rattle.std.proofs.lemmas.List.Folds.{Any-from_list_any, list_any-from_Any}
 use Rattle.dw_cprint.specs.Declarations.{is_cut_short, is_miscounted, is_misplaced}
-use Rattle.dw_cprint.specs.Shapes.{Struct, Union, Enum, Parameter, Typed, More, TypeAt, ShapeOf, array, qualified}
+use Rattle.dw_cprint.specs.Shapes.{Struct, Union, Enum, Parameter, TypeAt, ShapeOf, array, qualified}
 use Rattle.dw_cprint.specs.Shapes.{function, nameless, body, SubjectOf, typedef_subject, variable_subject, tag_subject}
-use Rattle.dw_cprint.specs.Shapes.{MemberOf, view_enumerator, view_member}
+use Rattle.dw_cprint.specs.Shapes.{view_enumerator}
 use Rattle.dw_cprint.specs.declared.shape.Enumerator.{Enumerator}
-use Rattle.dw_cprint.specs.declared.shape.Member.{Member}
-use Rattle.dw_cprint.specs.Steps.{member_types, parameter_types, types_declared, types_reached, entries_of, steps_reached}
-use Rattle.dw_cprint.specs.Steps.{IsReachedFrom, root, further}
+use Rattle.dw_cprint.specs.Steps.{parameter_types, types_declared, types_reached, entries_of, steps_reached}
+use Rattle.dw_cprint.specs.Steps.{IsReachedFrom, root, further, HasPath, HasPathFrom}
 use Rattle.dw_cprint.specs.Summaries.{IsBase, IsSummary, Knows, Summaries, base_known, is_own_unspeakable}
-use Rattle.dw_cprint.specs.Summaries.{is_unspeakable, is_wrong_base, kind_known, Faults, Summary, ReachesOne, IsForeign}
-use Rattle.dw_cprint.specs.Summaries.{AreFaults, AreFaultsOf}
+use Rattle.dw_cprint.specs.Summaries.{is_unspeakable, is_wrong_base, kind_known, Findings, Summary, ReachesOne, IsForeign}
+use Rattle.dw_cprint.specs.Summaries.{AreFound, AreFoundOf, IsDepth, IsEither, IsOwn}
 use Rattle.dw_cprint.specs.Wrong.{TypeKind, kind_at, kind_in, StandsUnder, nothing, itself, below, IsVoidLike}
 use Rattle.dw_cprint.specs.Wrong.{has_bad_name, has_own_bad_name, is_declared_enumeration, is_void, is_wrong}
 use Rattle.dw_cprint.specs.Wrong.{is_wrong_row, is_wrong_enumeration, lacks_value, object_types, IsUnspeakable, wrong}
 use Rattle.dw_cprint.specs.Wrong.{void_object, row, IsOwnUnspeakable, void_variable, unspeakable, declared_enumeration}
 use Rattle.dw_cprint.specs.Wrong.{HasBadName, is_foreign, is_own_foreign}
 use Rattle.dw_cprint.specs.Refusals.{Holds, own_name, name_reached, own_child, foreign_reached, own_shape}
-use Rattle.dw_cprint.specs.Refusals.{shape_reached, BadName, Foreign, Unspeakable}
+use Rattle.dw_cprint.specs.Refusals.{shape_reached, deep, BadName, Foreign, Unspeakable, TooDeep, TooLong, HoldsNoneBelow}
 use Rattle.dw_cprint.proofs.KindLemmas.{first-of, names-alike, others-of, own-names-alike, wrong-alike}
 use Rattle.dw_cprint.proofs.OptionLemmas.{or_left, or_right}
 use Rattle.dw_cprint.proofs.ReachLemmas.{entries-append}
 
-pub or-means : {A B : Type 0} (a b : Bool) → IsTrue a ↔ A → IsTrue b ↔ B → IsTrue (a || b) ↔ (A ⊎ B)
+or-means : {A B : Type 0} (a b : Bool) → IsTrue a ↔ A → IsTrue b ↔ B → IsTrue (a || b) ↔ (A ⊎ B)
 or-means {A = A} {B = B} true b f g = (λ _. inl (f.0 refl), λ _. refl)
 or-means {A = A} {B = B} false b f g =
     (λ h. inr (g.0 h), λ s. elim s as (λ _. IsTrue b) [ inl x ↦ (let no : false ≡ true = f.1 x in absurd (cc)) | inr y ↦ g.1 y ])
 
-pub iff-through : {A B C : Type 0} → A ↔ B → B ↔ C → A ↔ C
+iff-through : {A B C : Type 0} → A ↔ B → B ↔ C → A ↔ C
 iff-through f g = (λ a. g.0 (f.0 a), λ c. f.1 (g.1 c))
 
 -- a test that is another
-pub test-same : {A : Type 0} (a b : Bool) → a ≡ b → IsTrue b ↔ A → IsTrue a ↔ A
+test-same : {A : Type 0} (a b : Bool) → a ≡ b → IsTrue b ↔ A → IsTrue a ↔ A
 test-same a b same f = (λ h. f.0 (sym same ∙ h), λ x. same ∙ f.1 x)
 
-pub test-itself : (b c : Bool) → b ≡ c → IsTrue b ↔ (c ≡ true)
+test-itself : (b c : Bool) → b ≡ c → IsTrue b ↔ (c ≡ true)
 test-itself b c same = (λ h. sym same ∙ h, λ h. same ∙ h)
-
-pub or-cases : (a b : Bool) → (a || b) ≡ true → (a ≡ true) ⊎ (b ≡ true)
-or-cases true b h = inl refl
-or-cases false b h = inr h
 
 -- a test of each element, that says whether a fact holds of it
 any-iff : {X : Type 0} (P : X → Type 0) (p : X → Bool) (xs : List X) → All (λ x. IsTrue (p x) ↔ P x) xs → IsTrue (list_any p xs) ↔ Any P xs
@@ -106,10 +102,10 @@ module _ (shapes : ℕ → ShapeOf) (s : Summaries) where
   kinds-known : (types : List TypeAt) → All (Knows shapes s) types → All (λ at. kind_known s at ≡ kind_at shapes at) types
   kinds-known types all = All-weaker (Knows shapes s) (λ at. kind_known s at ≡ kind_at shapes at) (λ at known. known.is_kind) types all
 
-  pub names-known : (shape : ShapeOf) → All (Knows shapes s) (types_reached shape) → has_bad_name (kind_known s) shape ≡ has_bad_name (kind_at shapes) shape
+  names-known : (shape : ShapeOf) → All (Knows shapes s) (types_reached shape) → has_bad_name (kind_known s) shape ≡ has_bad_name (kind_at shapes) shape
   names-known shape all = names-alike (kind_known s) (kind_at shapes) shape (kinds-known (types_reached shape) all)
 
-  pub own-names-known : (subject : SubjectOf) → All (Knows shapes s) (types_declared subject) → has_own_bad_name (kind_known s) subject ≡ has_own_bad_name (kind_at shapes) subject
+  own-names-known : (subject : SubjectOf) → All (Knows shapes s) (types_declared subject) → has_own_bad_name (kind_known s) subject ≡ has_own_bad_name (kind_at shapes) subject
   own-names-known subject all = own-names-alike (kind_known s) (kind_at shapes) subject (kinds-known (types_declared subject) all)
 
   void-known : (at : TypeAt) → Knows shapes s at → IsTrue (is_void (base_known s at)) ↔ IsVoidLike shapes at
@@ -131,9 +127,9 @@ module _ (shapes : ℕ → ShapeOf) (s : Summaries) where
   row-told _ all h = absurd (cc)
 
   unspeakable-told : (shape : ShapeOf) → All (Knows shapes s) (types_reached shape) → is_unspeakable s shape ≡ true → IsUnspeakable shapes shape
-  unspeakable-told shape all t = elim (or-cases (is_wrong (kind_known s) shape) _ t) [
+  unspeakable-told shape all t = elim (or_cases (is_wrong (kind_known s) shape) _ t) [
     | inl h ↦ wrong (sym (wrong-known shape all) ∙ h)
-    | inr rest ↦ elim (or-cases (list_any (λ at. is_void (base_known s at)) (object_types shape)) _ rest) [
+    | inr rest ↦ elim (or_cases (list_any (λ at. is_void (base_known s at)) (object_types shape)) _ rest) [
       | inl h ↦ void_object ((voids-known shape all).0 h)
       | inr h ↦ row-told shape all h
     ]
@@ -146,10 +142,10 @@ module _ (shapes : ℕ → ShapeOf) (s : Summaries) where
       let base = (first-of (Knows shapes s) at [] all).is_base in
       ap (is_wrong_row q) (base-kind shapes at (base_known s at) base under stands) ∙ h
 
-  pub unspeakable-known : (shape : ShapeOf) → All (Knows shapes s) (types_reached shape) → IsTrue (is_unspeakable s shape) ↔ IsUnspeakable shapes shape
+  unspeakable-known : (shape : ShapeOf) → All (Knows shapes s) (types_reached shape) → IsTrue (is_unspeakable s shape) ↔ IsUnspeakable shapes shape
   unspeakable-known shape all = (unspeakable-told shape all, unspeakable-tells shape all)
 
-  pub own-unspeakable-known : (subject : SubjectOf) → All (Knows shapes s) (types_declared subject) → IsTrue (is_own_unspeakable s subject) ↔ IsOwnUnspeakable shapes subject
+  own-unspeakable-known : (subject : SubjectOf) → All (Knows shapes s) (types_declared subject) → IsTrue (is_own_unspeakable s subject) ↔ IsOwnUnspeakable shapes subject
   own-unspeakable-known (typedef_subject name at) all = (λ h. absurd (cc), λ h. elim h [ ])
   own-unspeakable-known (variable_subject name at) all =
       let void = void-known at (first-of (Knows shapes s) at [] all) in (λ h. void_variable (void.0 h), back)
@@ -159,28 +155,13 @@ module _ (shapes : ℕ → ShapeOf) (s : Summaries) where
   own-unspeakable-known (tag_subject name shape) all = (forth, back)
     where
       forth : (is_unspeakable s shape || is_declared_enumeration shape) ≡ true → IsOwnUnspeakable shapes (tag_subject name shape)
-      forth h = elim (or-cases (is_unspeakable s shape) _ h) [ inl t ↦ unspeakable (unspeakable-told shape all t) | inr t ↦ declared_enumeration t ]
+      forth h = elim (or_cases (is_unspeakable s shape) _ h) [ inl t ↦ unspeakable (unspeakable-told shape all t) | inr t ↦ declared_enumeration t ]
 
       back : IsOwnUnspeakable shapes (tag_subject name shape) → (is_unspeakable s shape || is_declared_enumeration shape) ≡ true
       back (unspeakable h) = or_left _ _ (unspeakable-tells shape all h)
       back (declared_enumeration h) = or_right _ _ h
 
 -- ---- parameters, counts and enumerators
-
-or-false : (b : Bool) → (b || false) ≡ b
-or-false true = refl
-or-false false = refl
-
--- a test of the type of each member
-pub any_member : (test : TypeAt → Bool) (ms all : List Member) (r : Bool) → r ≡ list_any (λ (m : Member). test m.type_at) ms → ms ≡ all → r ≡ list_any test (member_types (map view_member all))
-any_member test ms all r is same =
-    seen_any (λ (m : MemberOf). test m.type_at) view_member ms all r is same ∙ sym (any_seen test (λ (m : MemberOf). m.type_at) (map view_member all))
-
--- a test of the type of each parameter
-pub any_parameter : (test : TypeAt → Bool) (ps : List Parameter) → list_any (λ p. list_any test (parameter_types (p ∷ []))) ps ≡ list_any test (parameter_types ps)
-any_parameter test [] = refl
-any_parameter test (Typed at ∷ ps) = ap (λ (b : Bool). b || list_any (λ p. list_any test (parameter_types (p ∷ []))) ps) (or-false (test at)) ∙ ap (λ (b : Bool). test at || b) (any_parameter test ps)
-any_parameter test (More ∷ ps) = any_parameter test ps
 
 -- whether unspecified parameters among those that are left are misplaced
 abbrev pub has_spare : (typed : Bool) → List Parameter → Bool
@@ -190,9 +171,12 @@ has_spare false ps = is_misplaced ps
 pub miscounted : (one : Option ℕ) (counts all : List (Option ℕ)) (r : Bool) → all ≡ one ∷ counts → r ≡ list_any (λ c. is_none c) counts → r ≡ is_miscounted all
 miscounted one counts all r is any = any ∙ ap is_miscounted (sym is)
 
-pub wrong-enumeration : (es : List Enumerator) (empty r : Bool) → empty ≡ (length es == 0) → empty ≡ false → r ≡ list_any (λ e. is_none e.value) es → r ≡ is_wrong_enumeration (map view_enumerator es)
-wrong-enumeration [] empty r is not_empty any = absurd (cc)
-wrong-enumeration (e ∷ es) empty r is not_empty any = any ∙ sym (any_seen lacks_value view_enumerator (e ∷ es))
+pub wrong-enumeration : (es all : List Enumerator) (n : ℕ) (empty r : Bool) → es ≡ all → length es ≡ n → empty ≡ (n == 0) → empty ≡ false → r ≡ list_any (λ e. is_none e.value) es
+    → r ≡ is_wrong_enumeration (map view_enumerator all)
+wrong-enumeration [] all n empty r same long is some any =
+    absurd (let none : empty ≡ true = is ∙ ap (λ (k : ℕ). k == 0) (sym long) in let e : true ≡ false = sym none ∙ some in cc)
+wrong-enumeration (e ∷ es) all n empty r same long is some any =
+    any ∙ sym (any_seen lacks_value view_enumerator (e ∷ es)) ∙ ap (λ (xs : List Enumerator). is_wrong_enumeration (map view_enumerator xs)) same
 
 -- ---- what is wrong with an entry that is reached: with itself, or with those that it leads to
 
@@ -264,47 +248,96 @@ module _ (P : ShapeOf → Type 0) (shapes : ℕ → ShapeOf) where
         | inr later ↦ inr (entry, later, p)
       ]
 
--- what is wrong with the one or with the other
-pub record IsEither (f g all : Faults) : Type 0 where
-  pub bad_name : all.bad_name ≡ (f.bad_name || g.bad_name)
-  pub foreign_type : all.foreign ≡ (f.foreign || g.foreign)
-  pub unspeakable : all.unspeakable ≡ (f.unspeakable || g.unspeakable)
+-- ---- how long the longest path is
 
 module _ (shapes : ℕ → ShapeOf) where
-  pub faults-none : (f : Faults) → f.bad_name ≡ false → f.foreign ≡ false → f.unspeakable ≡ false
-      → AreFaults shapes [] f
-  faults-none f a b c = record {
+  depth-none : IsDepth shapes [] 0
+  depth-none zero few = (λ _. omega arith, λ _. tt)
+  depth-none (suc k) few = (λ path. absurd (let c = path.2 in omega (arith, c.1)), λ more. absurd (omega arith))
+
+  depth-join : (us bs : List ℕ) (m n : ℕ) → IsDepth shapes us m → IsDepth shapes bs n → IsDepth shapes (us ++ bs) (max m n)
+  depth-join us bs m n one two zero few = (λ _. omega arith, λ _. tt)
+  depth-join us bs m n one two (suc k) few = (forth, back)
+    where
+      forth : HasPathFrom shapes (us ++ bs) (suc k) → suc k ≤ max m n
+      forth (next, to, c, led) = elim (Contains-append_cases us bs next c) [
+        | inl here ↦ (let fits = (one (suc k) few).0 (next, to, here, led) in omega arith)
+        | inr here ↦ (let fits = (two (suc k) few).0 (next, to, here, led) in omega arith)
+      ]
+
+      back : suc k ≤ max m n → HasPathFrom shapes (us ++ bs) (suc k)
+      back most = elim (cases_lt k m) [
+        | inl fits ↦ (let (next, to, c, led) = (one (suc k) few).1 (omega arith) in (next, to, Contains-append_left us bs next c, led))
+        | inr over ↦ (let (next, to, c, led) = (two (suc k) few).1 (omega arith) in (next, to, Contains-append_right us bs next c, led))
+      ]
+
+  -- a path to an entry goes on to those that it leads to
+  depth-entry : (first m n : ℕ) → n ≡ min (m + 1) 4294967295 → IsDepth shapes (steps_reached shapes first) m → IsDepth shapes (first ∷ []) n
+  depth-entry first m n is under zero few = (λ _. omega arith, λ _. tt)
+  depth-entry first m n is under (suc k) few =
+      let there = under k (omega arith) in (
+        λ path. (let fits = there.0 (forth k path) in omega arith),
+        λ most. back k (there.1 (omega arith)),
+      )
+    where
+      forth : (k : ℕ) → HasPathFrom shapes (first ∷ []) (suc k) → HasPathFrom shapes (steps_reached shapes first) k
+      forth zero path = tt
+      forth (suc k) (next, to, (zero, w, is), (second, step, led)) =
+          let P : ℕ → Type 0 = λ x. Contains (steps_reached shapes x) second in
+          (second, to, subst P (sym is) step, led)
+      forth (suc k) (next, to, (suc j, w, is), led) = absurd (omega arith)
+
+      back : (k : ℕ) → HasPathFrom shapes (steps_reached shapes first) k → HasPathFrom shapes (first ∷ []) (suc k)
+      back zero path = (first, first, (0, omega arith, refl), refl)
+      back (suc k) (next, to, step, led) = (first, to, (0, omega arith, refl), (next, step, led))
+
+-- ---- what is found of types, of an entry, and of the declared entry
+
+module _ (shapes : ℕ → ShapeOf) where
+  pub found-none : (f : Findings) → f.bad_name ≡ false → f.foreign ≡ false → f.unspeakable ≡ false → f.depth ≡ 0
+      → AreFound shapes [] f
+  found-none f a b c d = record {
     bad_name = test-same f.bad_name false a (one-none (HasBadName shapes) shapes);
     foreign_type = test-same f.foreign false b (one-none IsForeign shapes);
     unspeakable = test-same f.unspeakable false c (one-none (IsUnspeakable shapes) shapes);
+    deep = subst (IsDepth shapes []) (sym d) (depth-none shapes);
   }
 
-  pub faults-join : (us bs : List TypeAt) (f g all : Faults) → AreFaults shapes us f → AreFaults shapes bs g
-      → IsEither f g all → AreFaults shapes (us ++ bs) all
-  faults-join us bs f g all one two is = record {
-    bad_name = test-same all.bad_name (f.bad_name || g.bad_name) is.bad_name (iff-through (or-means f.bad_name g.bad_name one.bad_name two.bad_name) (one-join (HasBadName shapes) shapes us bs));
-    foreign_type = test-same all.foreign (f.foreign || g.foreign) is.foreign_type (iff-through (or-means f.foreign g.foreign one.foreign_type two.foreign_type) (one-join IsForeign shapes us bs));
-    unspeakable = test-same all.unspeakable (f.unspeakable || g.unspeakable) is.unspeakable (iff-through (or-means f.unspeakable g.unspeakable one.unspeakable two.unspeakable) (one-join (IsUnspeakable shapes) shapes us bs));
+  -- a test that fails for one of two things holds for both
+  either : {A B C : Type 0} (a b all : Bool) → IsTrue a ↔ A → IsTrue b ↔ B → all ≡ (a || b) → (A ⊎ B) ↔ C → IsTrue all ↔ C
+  either a b all one other is joins = test-same all (a || b) is (iff-through (or-means a b one other) joins)
+
+  pub found-join : (us bs : List TypeAt) (f g all : Findings) → AreFound shapes us f → AreFound shapes bs g
+      → IsEither f g all → all.depth ≡ max f.depth g.depth → AreFound shapes (us ++ bs) all
+  found-join us bs f g all one two is depth = record {
+    bad_name = either f.bad_name g.bad_name all.bad_name one.bad_name two.bad_name is.bad_name (one-join (HasBadName shapes) shapes us bs);
+    foreign_type = either f.foreign g.foreign all.foreign one.foreign_type two.foreign_type is.foreign_type (one-join IsForeign shapes us bs);
+    unspeakable = either f.unspeakable g.unspeakable all.unspeakable one.unspeakable two.unspeakable is.unspeakable (one-join (IsUnspeakable shapes) shapes us bs);
+    deep =
+        let joined = depth-join shapes (entries_of us) (entries_of bs) f.depth g.depth one.deep two.deep in
+        rw (depth, entries-append us bs) joined;
   }
 
-  faults-entry : (first : ℕ) (own under all : Faults) → IsTrue own.bad_name ↔ HasBadName shapes (shapes first)
+  found-entry : (first : ℕ) (own under all : Findings) → IsTrue own.bad_name ↔ HasBadName shapes (shapes first)
       → own.foreign ≡ is_foreign (shapes first) → IsTrue own.unspeakable ↔ IsUnspeakable shapes (shapes first)
-      → AreFaults shapes (types_reached (shapes first)) under → IsEither own under all
-      → AreFaults shapes (Some first ∷ []) all
-  faults-entry first own under all bad strange odd rest is = record {
-    bad_name = test-same all.bad_name (own.bad_name || under.bad_name) is.bad_name (iff-through (or-means own.bad_name under.bad_name bad rest.bad_name) (one-entry (HasBadName shapes) shapes first));
-    foreign_type = test-same all.foreign (own.foreign || under.foreign) is.foreign_type
-        (iff-through (or-means own.foreign under.foreign (test-itself own.foreign (is_foreign (shapes first)) strange) rest.foreign_type) (one-entry IsForeign shapes first));
-    unspeakable = test-same all.unspeakable (own.unspeakable || under.unspeakable) is.unspeakable (iff-through (or-means own.unspeakable under.unspeakable odd rest.unspeakable) (one-entry (IsUnspeakable shapes) shapes first));
+      → AreFound shapes (types_reached (shapes first)) under → IsEither own under all → all.depth ≡ min (under.depth + 1) 4294967295
+      → AreFound shapes (Some first ∷ []) all
+  found-entry first own under all bad strange odd rest is depth = record {
+    bad_name = either own.bad_name under.bad_name all.bad_name bad rest.bad_name is.bad_name (one-entry (HasBadName shapes) shapes first);
+    foreign_type = either own.foreign under.foreign all.foreign (test-itself own.foreign (is_foreign (shapes first)) strange) rest.foreign_type is.foreign_type (one-entry IsForeign shapes first);
+    unspeakable = either own.unspeakable under.unspeakable all.unspeakable odd rest.unspeakable is.unspeakable (one-entry (IsUnspeakable shapes) shapes first);
+    deep = depth-entry shapes first under.depth all.depth depth rest.deep;
   }
 
-  pub faults-shape : (first : ℕ) (s : ShapeOf) (own under all : Faults) → shapes first ≡ s
-      → IsTrue own.bad_name ↔ HasBadName shapes s → own.foreign ≡ is_foreign s
-      → IsTrue own.unspeakable ↔ IsUnspeakable shapes s
-      → AreFaults shapes (types_reached s) under → IsEither own under all → AreFaults shapes (Some first ∷ []) all
-  faults-shape first s own under all is bad strange odd rest either =
-      let P : ShapeOf → Type 0 = λ x. (IsTrue own.bad_name ↔ HasBadName shapes x) → own.foreign ≡ is_foreign x → (IsTrue own.unspeakable ↔ IsUnspeakable shapes x) → AreFaults shapes (types_reached x) under → AreFaults shapes (Some first ∷ []) all in
-      subst P is (λ a b c d. faults-entry first own under all a b c d either) bad strange odd rest
+  -- of an entry, by its own shape and by what is known of the types that it names
+  pub found-shape : (known : Summaries) (first : ℕ) (s : ShapeOf) (own under all : Findings) (bytes : ℕ) → shapes first ≡ s
+      → All (Knows shapes known) (types_reached s) → IsOwn (has_bad_name (kind_known known) s) (is_foreign s) (is_unspeakable known s) bytes own
+      → AreFound shapes (types_reached s) under → IsEither own under all → all.depth ≡ min (under.depth + 1) 4294967295
+      → AreFound shapes (Some first ∷ []) all
+  found-shape known first s own under all bytes is knows mine rest both depth =
+      let P : ShapeOf → Type 0 = λ x. (IsTrue own.bad_name ↔ HasBadName shapes x) → own.foreign ≡ is_foreign x → (IsTrue own.unspeakable ↔ IsUnspeakable shapes x) → AreFound shapes (types_reached x) under → AreFound shapes (Some first ∷ []) all in
+      subst P is (λ a b c d. found-entry first own under all a b c d both depth) (test-itself own.bad_name _ (mine.bad_name ∙ names-known shapes known s knows)) mine.foreign_type
+      (test-same own.unspeakable _ mine.unspeakable (unspeakable-known shapes known s knows)) rest
 
   names-held : (subject : SubjectOf) → Holds shapes subject BadName
       → (has_own_bad_name (kind_at shapes) subject ≡ true) ⊎ ReachesOne (HasBadName shapes) shapes (types_declared subject)
@@ -321,18 +354,30 @@ module _ (shapes : ℕ → ShapeOf) where
   wrong-held subject (own_shape h) = inl h
   wrong-held subject (shape_reached entry r h) = inr (entry, r, h)
 
-  pub faults-subject : (subject : SubjectOf) (own under all : Faults)
-      → IsTrue own.bad_name ↔ (has_own_bad_name (kind_at shapes) subject ≡ true) → own.foreign ≡ is_own_foreign subject
-      → IsTrue own.unspeakable ↔ IsOwnUnspeakable shapes subject
-      → AreFaults shapes (types_declared subject) under → IsEither own under all → AreFaultsOf shapes subject all
-  faults-subject subject own under all bad strange odd rest is = record {
-    bad_name = test-same all.bad_name (own.bad_name || under.bad_name) is.bad_name
-        (iff-through (or-means own.bad_name under.bad_name bad rest.bad_name) (λ s. elim s [ inl h ↦ own_name h | inr h ↦ name_reached h.0 h.1 h.2 ], names-held subject));
-    foreign_type = test-same all.foreign (own.foreign || under.foreign) is.foreign_type
-        (iff-through (or-means own.foreign under.foreign (test-itself own.foreign (is_own_foreign subject) strange) rest.foreign_type) (λ s. elim s [ inl h ↦ own_child h | inr h ↦ foreign_reached h.0 h.1 h.2 ], foreign-held subject));
-    unspeakable = test-same all.unspeakable (own.unspeakable || under.unspeakable) is.unspeakable
-        (iff-through (or-means own.unspeakable under.unspeakable odd rest.unspeakable) (λ s. elim s [ inl h ↦ own_shape h | inr h ↦ shape_reached h.0 h.1 h.2 ], wrong-held subject));
+  deep-held : (subject : SubjectOf) → Holds shapes subject TooDeep → HasPath shapes subject 65
+  deep-held subject (deep far) = far
+
+  pub found-subject : (known : Summaries) (subject : SubjectOf) (own under all : Findings) (bytes : ℕ)
+      → All (Knows shapes known) (types_declared subject)
+      → IsOwn (has_own_bad_name (kind_known known) subject) (is_own_foreign subject) (is_own_unspeakable known subject) bytes own
+      → AreFound shapes (types_declared subject) under → IsEither own under all → all.depth ≡ under.depth
+      → (65536 < all.least → HoldsNoneBelow 6 shapes subject → Holds shapes subject TooLong) → AreFoundOf shapes subject all
+  found-subject known subject own under all bytes knows mine rest is depth long = record {
+    bad_name = either own.bad_name under.bad_name all.bad_name (test-itself own.bad_name _ (mine.bad_name ∙ own-names-known shapes known subject knows)) rest.bad_name is.bad_name
+        (λ s. elim s [ inl h ↦ own_name h | inr h ↦ name_reached h.0 h.1 h.2 ], names-held subject);
+    foreign_type = either own.foreign under.foreign all.foreign (test-itself own.foreign _ mine.foreign_type) rest.foreign_type is.foreign_type
+        (λ s. elim s [ inl h ↦ own_child h | inr h ↦ foreign_reached h.0 h.1 h.2 ], foreign-held subject);
+    unspeakable = either own.unspeakable under.unspeakable all.unspeakable (test-same own.unspeakable _ mine.unspeakable (own-unspeakable-known shapes known subject knows)) rest.unspeakable is.unspeakable
+        (λ s. elim s [ inl h ↦ own_shape h | inr h ↦ shape_reached h.0 h.1 h.2 ], wrong-held subject);
+    deep =
+        let few : 65 ≤ 65 = omega arith in
+        let far = rest.deep 65 few in
+        (λ over. deep (far.1 (omega (arith, depth, over))), λ h. deeper (far.0 (deep-held subject h)));
+    long = long;
   }
+    where
+      deeper : 65 ≤ under.depth → 64 < all.depth
+      deeper over = omega (arith, depth)
 
 pub same-summary : {shapes : ℕ → ShapeOf} {at : TypeAt} {s known : Summary} → s ≡ known → IsSummary shapes at known
     → IsSummary shapes at s

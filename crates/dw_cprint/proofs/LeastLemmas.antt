@@ -1,20 +1,22 @@
 -- The text of a type has at least as many bytes as are counted for it.
-use Rattle.std.proofs.Common.{◌≡◌, ℕ, ℤ, ◌+◌, ◌≤◌, Bool, true, List, [], ◌∷◌, ◌++◌, Option, Some, None, refl, ap, subst, ◌∙◌, length, length-append, arith}
-use Rattle.std.specs.Prelude.{All, option_map, option_and_then}
+use Rattle.std.proofs.Common.{◌≡◌, ℕ, ◌+◌, ◌≤◌, Bool, true, List, [], ◌∷◌, ◌++◌, Option, Some, None, refl, ap, subst, ◌∙◌, length, length-append, arith}
+use Rattle.std.specs.Prelude.{All, option_map, sum_by}
 use Rattle.std.proofs.lemmas.Grind.{flat_map-append}
+use Rattle.std.proofs.lemmas.List.Sums.{sum_by-cons}
 use Rattle.dw_types.specs.Sizes.{has_elements}
-use Rattle.dw_cprint.specs.Declarations.{arrays, bits_of, constants_of, declaration_by, has_more, is_miscounted, is_misplaced, members_by, parameters_by, term_by}
+use Rattle.dw_cprint.specs.Declarations.{arrays, bits_of, constants_of, declaration_by, has_more, is_miscounted, members_by, parameters_by, term_by}
 use Rattle.dw_cprint.specs.Declarators.{gap, opened, closed, pointer_row, before, after, core}
-use Rattle.dw_cprint.specs.Least.{byte_count, IsLeast, name_size, least_members, least_parameters, least_in, least_declared}
+use Rattle.dw_cprint.specs.Least.{byte_count, IsLeast, name_size, least_in, least_declared}
 use Rattle.dw_cprint.specs.Shapes.{Parameter, Typed, More, Name, TypeAt, MemberOf, EnumeratorOf, ShapeOf, base, typedef, qualified, pointer, array, function, tagged, body, enumeration, SubjectOf, typedef_subject, variable_subject, tag_subject}
 use Rattle.dw_cprint.specs.Steps.{member_types, parameter_types, types_declared, types_reached}
 use Rattle.dw_cprint.specs.Terms.{Enum, Constant, Valued, Term, Void, Named, Tagged, Body, Enumeration, Qualified, Pointer, Function, Unprototyped, Prototyped, Parameters, NoParameter, Parameter as ParameterTerm, Members, Member as MemberTerm, Declaration, Typedef, Variable, Aggregate, Constants, Declared}
-use Rattle.dw_cprint.specs.Tokens.{Token, Blank, Star, Open, Close, LeftBrace, RightBrace, Semicolon, Comma, TypedefWord, TagWord, Identifier, spelling, text_of}
-use Rattle.dw_cprint.specs.Writing.{spell, qualifying, bits_tokens, constant, constants, count_tokens, ellipsis, members_tokens, more_constants, more_parameters, name_tokens, signature_tokens, written}
+use Rattle.dw_cprint.specs.Tokens.{Token, Blank, Star, Open, Close, LeftBrace, RightBrace, Semicolon, Comma, Equals, TypedefWord, TagWord, Identifier, spelling, text_of}
+use Rattle.dw_cprint.specs.Writing.{spell, qualifying, bits_tokens, constant, constants, count_tokens, ellipsis, members_tokens, more_constants, more_parameters, name_tokens, signature_tokens, value_tokens, written}
 use Rattle.dw_cprint.proofs.DeclaratorLemmas.{in_parts}
+use Rattle.dw_cprint.proofs.ItemWriterLemmas.{more-constants}
 use Rattle.dw_cprint.proofs.KindLemmas.{first-of, others-of}
 use Rattle.dw_cprint.proofs.OptionLemmas.{map_inverted, then_inverted, unless_inverted}
-use Rattle.dw_cprint.proofs.WriterLemmas.{IsSpecifier, specifier-of, base-core}
+use Rattle.dw_cprint.proofs.WriterLemmas.{IsSpecifier, specifier-of, base-core, function-parts}
 
 -- ---- counts
 
@@ -40,7 +42,8 @@ name-count None = refl
 name-count (Some name) = let own = count-cons (Identifier name) [] in omega arith
 
 module _ (term : TypeAt → Option Term) (n : TypeAt → ℕ) where
-  members-least : (ms : List MemberOf) (us : Members) → All (Counts term n) (member_types ms) → members_by term ms ≡ Some us → least_members n ms ≤ byte_count (members_tokens us)
+  members-least : (ms : List MemberOf) (us : Members) → All (Counts term n) (member_types ms) → members_by term ms ≡ Some us
+      → sum_by (λ (m : MemberOf). name_size m.name + 2) ms + sum_by n (member_types ms) ≤ byte_count (members_tokens us)
   members-least [] us all e = omega arith
   members-least (m ∷ ms) us all e =
       let first = then_inverted (λ (t : Term). option_map (MemberTerm m.name t (bits_of m.bits)) (members_by term ms)) (term m.type_at) us e in
@@ -51,9 +54,11 @@ module _ (term : TypeAt → Option Term) (n : TypeAt → ℕ) where
       let named = name-count m.name in
       let a = count-append (spell [] t (name_tokens m.name)) (bits_tokens (bits_of m.bits) ++ Semicolon ∷ Blank ∷ members_tokens rest.0) in
       let b = count-append (bits_tokens (bits_of m.bits)) (Semicolon ∷ Blank ∷ members_tokens rest.0) in
+      let names = sum_by-cons (λ (m : MemberOf). name_size m.name + 2) m ms in
+      let types = sum_by-cons n m.type_at (member_types ms) in
       omega (arith, ap (λ (u : Members). byte_count (members_tokens u)) rest.2, count-cons Semicolon (Blank ∷ members_tokens rest.0), count-cons Blank (members_tokens rest.0))
 
-  parameters-least : (ps : List Parameter) (us : Parameters) → All (Counts term n) (parameter_types ps) → parameters_by term ps ≡ Some us → least_parameters n ps ≤ byte_count (more_parameters us)
+  parameters-least : (ps : List Parameter) (us : Parameters) → All (Counts term n) (parameter_types ps) → parameters_by term ps ≡ Some us → sum_by n (parameter_types ps) ≤ byte_count (more_parameters us)
   parameters-least [] us all e = omega arith
   parameters-least (Typed at ∷ ps) us all e =
       let first = then_inverted (λ (t : Term). option_map (ParameterTerm t) (parameters_by term ps)) (term at) us e in
@@ -63,6 +68,7 @@ module _ (term : TypeAt → Option Term) (n : TypeAt → ℕ) where
       let own = spell-least t [] (n at) (first-of (Counts term n) at (parameter_types ps) all t first.1) in
       let whole = ap (λ (u : Parameters). byte_count (more_parameters u)) rest.2 in
       let a = count-cons Comma (Blank ∷ (spell [] t [] ++ more_parameters rest.0)) in
+      let types = sum_by-cons n at (parameter_types ps) in
       omega (arith, count-cons Blank (spell [] t [] ++ more_parameters rest.0), count-append (spell [] t []) (more_parameters rest.0))
   parameters-least (More ∷ ps) us all e = parameters-least ps us all e
 
@@ -74,17 +80,19 @@ signature-least (ParameterTerm t us) more =
     let b = count-cons Blank (spell [] t [] ++ more_parameters us) in
     omega (arith, count-append (spell [] t []) (more_parameters us), count-append (spell [] t []) (more_parameters us ++ ellipsis more), count-append (more_parameters us) (ellipsis more))
 
-constants-least : (es : List EnumeratorOf) (cs : List Constant) → constants_of es ≡ Some cs → length es ≤ byte_count (more_constants cs)
+constants-least : (es : List EnumeratorOf) (cs : List Constant) → constants_of es ≡ Some cs
+    → sum_by (λ (e : EnumeratorOf). name_size e.name + 5) es ≤ byte_count (more_constants cs)
 constants-least [] cs e = omega arith
 constants-least (x ∷ es) cs e =
-    let rest = constants_of es in
-    let name = then_inverted (λ (name : List ℕ). option_and_then (λ (value : ℤ). option_map (λ (cs : List Constant). Valued name value ∷ cs) rest) x.value) x.name cs e in
-    let value = then_inverted (λ (value : ℤ). option_map (λ (cs : List Constant). Valued name.0 value ∷ cs) rest) x.value cs name.2 in
-    let others = map_inverted (λ (cs : List Constant). Valued name.0 value.0 ∷ cs) rest cs value.2 in
-    let inner = constants-least es others.0 others.1 in
-    let one = constant (Valued name.0 value.0) in
-    let whole = ap (λ (u : List Constant). byte_count (more_constants u)) others.2 in
-    omega (arith, count-cons Comma (Blank ∷ (one ++ more_constants others.0)), count-cons Blank (one ++ more_constants others.0), count-append one (more_constants others.0))
+    let m = more-constants x es cs e in
+    let inner = constants-least es m.others m.are_others in
+    let one = constant (Valued m.name m.value) in
+    let whole = ap (λ (u : List Constant). byte_count (more_constants u)) m.is in
+    let named = ap name_size m.is_name in
+    let names = sum_by-cons (λ (e : EnumeratorOf). name_size e.name + 5) x es in
+    let a = count-cons (Identifier m.name) (Blank ∷ Equals ∷ Blank ∷ value_tokens m.value) in
+    let b = count-append (Blank ∷ Equals ∷ Blank ∷ []) (value_tokens m.value) in
+    omega (arith, count-cons Comma (Blank ∷ (one ++ more_constants m.others)), count-cons Blank (one ++ more_constants m.others), count-append one (more_constants m.others))
 
 -- the braces make up for the comma and the space that are not before the first enumerator
 more-least : (cs : List Constant) → byte_count (more_constants cs) ≤ byte_count (constants cs) + 2
@@ -121,7 +129,7 @@ array-least : (c : Option ℕ) (cs : List (Option ℕ)) (t : Term) (n : ℕ) →
 array-least c cs t n least = λ qs inside.
     omega (arith, arrays-before cs t n least, arrays-after (c ∷ cs) t)
 
-function-least : (t : Term) (us : Parameters) (more : Bool) (n m : ℕ) → IsLeast t n → m ≤ byte_count (more_parameters us) → IsLeast (Function t (Prototyped us more)) (n + m)
+function-least : (t : Term) (us : Parameters) (more : Bool) (n m : ℕ) → IsLeast t n → m ≤ n + byte_count (more_parameters us) → IsLeast (Function t (Prototyped us more)) m
 function-least t us more n m least within = λ qs inside.
     let s = signature_tokens (Prototyped us more) in
     omega (arith, least [] true, signature-least us more, count-cons Open (s ++ Close ∷ after t), count-append s (Close ∷ after t), count-cons Close (after t))
@@ -135,62 +143,62 @@ bare-least t n least = λ qs inside.
     omega (arith, least [] true, count-cons Open (Close ∷ after t), count-cons Close (after t))
 
 module _ (term : TypeAt → Option Term) (n : TypeAt → ℕ) where
+  -- a shape that names one type
+  of-one : (at : TypeAt) (t : Term) → IsLeast t (n at) → IsLeast t (0 + sum_by n (at ∷ []))
+  of-one at t least = fewer-least t (n at) (0 + sum_by n (at ∷ [])) (omega (arith, sum_by-cons n at [])) least
+
   -- what is counted for a shape is right
   pub shape-least : (s : ShapeOf) (t : Term) → All (Counts term n) (types_reached s) → term_by term s ≡ Some t → IsLeast t (least_in n s)
   shape-least (base (Some name)) t all e =
-      core-least t (length name) (specifier-of term (base (Some name)) t refl e) (omega (arith, ap (λ (u : List ℕ). length u) (base-core name t e), count-cons (Identifier name) []))
+      core-least t (length name + 0) (specifier-of term (base (Some name)) t refl e) (omega (arith, ap (λ (u : List ℕ). length u) (base-core name t e), count-cons (Identifier name) []))
   shape-least (typedef (Some name)) t all e =
       let same : Named name ≡ t = cc in
-      core-least t (length name) (specifier-of term (typedef (Some name)) t refl e) (omega (arith, ap (λ (u : Term). byte_count (core u)) same, count-cons (Identifier name) []))
+      core-least t (length name + 0) (specifier-of term (typedef (Some name)) t refl e) (omega (arith, ap (λ (u : Term). byte_count (core u)) same, count-cons (Identifier name) []))
   shape-least (qualified q at) t all e =
       let u = map_inverted (Qualified q) (term at) t e in
       let P : Term → Type 0 = λ x. IsLeast x (n at) in
       let own = first-of (Counts term n) at [] all u.0 u.1 in
-      subst P u.2 (λ qs inside. own (qs ++ q ∷ []) inside)
+      of-one at t (subst P u.2 (λ qs inside. own (qs ++ q ∷ []) inside))
   shape-least (pointer at) t all e =
       let u = map_inverted Pointer (term at) t e in
       let P : Term → Type 0 = λ x. IsLeast x (n at) in
-      subst P u.2 (pointer-least u.0 (n at) (first-of (Counts term n) at [] all u.0 u.1))
+      of-one at t (subst P u.2 (pointer-least u.0 (n at) (first-of (Counts term n) at [] all u.0 u.1)))
   shape-least (array (c ∷ cs) strange at) t all e =
       let there = unless_inverted (is_miscounted (c ∷ cs)) (option_map (arrays (c ∷ cs)) (term at)) t e in
       let u = map_inverted (arrays (c ∷ cs)) (term at) t there.1 in
       let P : Term → Type 0 = λ x. IsLeast x (length (c ∷ cs) + n at) in
-      subst P u.2 (array-least c cs u.0 (n at) (first-of (Counts term n) at [] all u.0 u.1))
+      fewer-least t (length (c ∷ cs) + n at) (length (c ∷ cs) + sum_by n (at ∷ [])) (omega (arith, sum_by-cons n at []))
+      (subst P u.2 (array-least c cs u.0 (n at) (first-of (Counts term n) at [] all u.0 u.1)))
   shape-least (function at None) t all e =
       let u = map_inverted (λ (u : Term). Function u Unprototyped) (term at) t e in
       let P : Term → Type 0 = λ x. IsLeast x (n at) in
-      subst P u.2 (bare-least u.0 (n at) (first-of (Counts term n) at [] all u.0 u.1))
+      of-one at t (subst P u.2 (bare-least u.0 (n at) (first-of (Counts term n) at [] all u.0 u.1)))
   shape-least (function at (Some ps)) t all e =
-      let called : Term → Option Term = λ (u : Term). option_map (λ (us : Parameters). Function u (Prototyped us (has_more ps))) (parameters_by term ps) in
-      let there = unless_inverted (is_misplaced ps) (option_and_then called (term at)) t e in
-      let r = then_inverted called (term at) t there.1 in
-      let f = map_inverted (λ (us : Parameters). Function r.0 (Prototyped us (has_more ps))) (parameters_by term ps) t r.2 in
-      let P : Term → Type 0 = λ x. IsLeast x (n at + least_parameters n ps) in
-      subst P f.2 (function-least r.0 f.0 (has_more ps) (n at) (least_parameters n ps) (first-of (Counts term n) at (parameter_types ps) all r.0 r.1)
-      (parameters-least term n ps f.0 (others-of (Counts term n) at (parameter_types ps) all) f.1))
+      let f = function-parts term at ps t e in
+      let own = first-of (Counts term n) at (parameter_types ps) all f.result f.is_result in
+      let others = parameters-least term n ps f.parameters (others-of (Counts term n) at (parameter_types ps) all) f.are_parameters in
+      subst (λ (x : Term). IsLeast x (0 + sum_by n (at ∷ parameter_types ps))) f.is
+      (function-least f.result f.parameters (has_more ps) (n at) (0 + sum_by n (at ∷ parameter_types ps)) own (omega (arith, sum_by-cons n at (parameter_types ps), others)))
   shape-least (tagged word name) t all e =
       let same : Tagged word name ≡ t = cc in
       let long = ap (λ (u : Term). byte_count (core u)) same in
       let a = count-cons (TagWord word) (Blank ∷ Identifier name ∷ []) in
-      core-least t (length name) (specifier-of term (tagged word name) t refl e) (omega (arith, count-cons Blank (Identifier name ∷ []), count-cons (Identifier name) []))
+      core-least t (length name + 0) (specifier-of term (tagged word name) t refl e) (omega (arith, count-cons Blank (Identifier name ∷ []), count-cons (Identifier name) []))
   shape-least (body word odd ms) t all e =
       let f = map_inverted (Body word) (members_by term ms) t e in
       let inner = members-least term n ms f.0 all f.1 in
       let long = ap (λ (u : Term). byte_count (core u)) f.2 in
-      let a = count-cons (TagWord word) (Blank ∷ LeftBrace ∷ Blank ∷ (members_tokens f.0 ++ RightBrace ∷ [])) in
-      let b = count-cons Blank (LeftBrace ∷ Blank ∷ (members_tokens f.0 ++ RightBrace ∷ [])) in
-      let c = count-cons LeftBrace (Blank ∷ (members_tokens f.0 ++ RightBrace ∷ [])) in
-      let d = count-cons Blank (members_tokens f.0 ++ RightBrace ∷ []) in
-      core-least t (least_members n ms) (specifier-of term (body word odd ms) t refl e) (omega (arith, count-append (members_tokens f.0) (RightBrace ∷ [])))
+      let front = TagWord word ∷ Blank ∷ LeftBrace ∷ Blank ∷ [] in
+      let a = count-append front (members_tokens f.0 ++ RightBrace ∷ []) in
+      let b = count-cons (TagWord word) (Blank ∷ LeftBrace ∷ Blank ∷ []) in
+      core-least t (least_in n (body word odd ms)) (specifier-of term (body word odd ms) t refl e) (omega (arith, count-append (members_tokens f.0) (RightBrace ∷ [])))
   shape-least (enumeration odd es) t all e =
       let f = map_inverted Enumeration (constants_of es) t e in
       let inner = constants-least es f.0 f.1 in
       let long = ap (λ (u : Term). byte_count (core u)) f.2 in
-      let a = count-cons (TagWord Enum) (Blank ∷ LeftBrace ∷ Blank ∷ (constants f.0 ++ Blank ∷ RightBrace ∷ [])) in
-      let b = count-cons Blank (LeftBrace ∷ Blank ∷ (constants f.0 ++ Blank ∷ RightBrace ∷ [])) in
-      let c = count-cons LeftBrace (Blank ∷ (constants f.0 ++ Blank ∷ RightBrace ∷ [])) in
-      let d = count-cons Blank (constants f.0 ++ Blank ∷ RightBrace ∷ []) in
-      core-least t (length es) (specifier-of term (enumeration odd es) t refl e) (omega (arith, more-least f.0, count-append (constants f.0) (Blank ∷ RightBrace ∷ [])))
+      let front = TagWord Enum ∷ Blank ∷ LeftBrace ∷ Blank ∷ [] in
+      let a = count-append front (constants f.0 ++ Blank ∷ RightBrace ∷ []) in
+      core-least t (least_in n (enumeration odd es)) (specifier-of term (enumeration odd es) t refl e) (omega (arith, more-least f.0, count-append (constants f.0) (Blank ∷ RightBrace ∷ [])))
   shape-least _ t all e = absurd (cc)
 
   -- and for a declaration
@@ -199,28 +207,30 @@ module _ (term : TypeAt → Option Term) (n : TypeAt → ℕ) where
       let f = map_inverted (Typedef name) (term at) d e in
       let own = spell-least f.0 (Identifier name ∷ []) (n at) (first-of (Counts term n) at [] all f.0 f.1) in
       let whole = ap (λ (x : Declaration). length (written x)) f.2 in
-      let a = count-cons TypedefWord (Blank ∷ (spell [] f.0 (Identifier name ∷ []) ++ Semicolon ∷ [])) in
-      omega (arith, count-cons Blank (spell [] f.0 (Identifier name ∷ []) ++ Semicolon ∷ []), count-append (spell [] f.0 (Identifier name ∷ [])) (Semicolon ∷ []))
+      let a = count-append (TypedefWord ∷ Blank ∷ []) (spell [] f.0 (Identifier name ∷ []) ++ Semicolon ∷ []) in
+      omega (arith, sum_by-cons n at [], count-append (spell [] f.0 (Identifier name ∷ [])) (Semicolon ∷ []))
   declared-least (variable_subject (Some name) at) d all e =
       let f = map_inverted (Variable name) (term at) d e in
       let own = spell-least f.0 (Identifier name ∷ []) (n at) (first-of (Counts term n) at [] all f.0 f.1) in
-      omega (arith, ap (λ (x : Declaration). length (written x)) f.2, count-append (spell [] f.0 (Identifier name ∷ [])) (Semicolon ∷ []))
+      omega (arith, sum_by-cons n at [], ap (λ (x : Declaration). length (written x)) f.2, count-append (spell [] f.0 (Identifier name ∷ [])) (Semicolon ∷ []))
   declared-least (tag_subject (Some name) (body word odd ms)) d all e =
       let f = map_inverted (Aggregate word name) (members_by term ms) d e in
       let inner = members-least term n ms f.0 all f.1 in
       let whole = ap (λ (x : Declaration). length (written x)) f.2 in
-      let head = TagWord word ∷ Blank ∷ Identifier name ∷ Blank ∷ LeftBrace ∷ Blank ∷ [] in
-      omega (arith, count-append head (members_tokens f.0 ++ RightBrace ∷ Semicolon ∷ []), count-append (members_tokens f.0) (RightBrace ∷ Semicolon ∷ []))
+      let a = count-cons (TagWord word) (Blank ∷ Identifier name ∷ Blank ∷ LeftBrace ∷ Blank ∷ (members_tokens f.0 ++ RightBrace ∷ Semicolon ∷ [])) in
+      let b = count-cons (Identifier name) (Blank ∷ LeftBrace ∷ Blank ∷ (members_tokens f.0 ++ RightBrace ∷ Semicolon ∷ [])) in
+      omega (arith, count-append (members_tokens f.0) (RightBrace ∷ Semicolon ∷ []))
   declared-least (tag_subject (Some name) (enumeration odd es)) d all e =
       let f = map_inverted (Constants name) (constants_of es) d e in
       let inner = constants-least es f.0 f.1 in
       let most = more-least f.0 in
       let whole = ap (λ (x : Declaration). length (written x)) f.2 in
-      let head = TagWord Enum ∷ Blank ∷ Identifier name ∷ Blank ∷ LeftBrace ∷ Blank ∷ [] in
-      let a = count-append head (constants f.0 ++ Blank ∷ RightBrace ∷ Semicolon ∷ []) in
-      omega (arith, count-append (constants f.0) (Blank ∷ RightBrace ∷ Semicolon ∷ []), count-cons Blank (RightBrace ∷ Semicolon ∷ []), count-cons RightBrace (Semicolon ∷ []))
+      let a = count-cons (TagWord Enum) (Blank ∷ Identifier name ∷ Blank ∷ LeftBrace ∷ Blank ∷ (constants f.0 ++ Blank ∷ RightBrace ∷ Semicolon ∷ [])) in
+      let b = count-cons (Identifier name) (Blank ∷ LeftBrace ∷ Blank ∷ (constants f.0 ++ Blank ∷ RightBrace ∷ Semicolon ∷ [])) in
+      omega (arith, count-append (constants f.0) (Blank ∷ RightBrace ∷ Semicolon ∷ []))
   declared-least (tag_subject (Some name) (tagged word tag)) d all e =
       let same : Declared word tag ≡ d = cc in
       let whole = ap (λ (x : Declaration). length (written x)) same in
-      omega (arith, count-cons (TagWord word) (Blank ∷ Identifier tag ∷ Semicolon ∷ []), count-cons Blank (Identifier tag ∷ Semicolon ∷ []), count-cons (Identifier tag) (Semicolon ∷ []))
+      let a = count-cons (TagWord word) (Blank ∷ Identifier tag ∷ Semicolon ∷ []) in
+      omega (arith, count-cons (Identifier tag) (Semicolon ∷ []))
   declared-least _ d all e = absurd (cc)

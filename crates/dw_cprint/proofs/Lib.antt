@@ -15,7 +15,7 @@ pub mod DeclaratorReadingLemmas
 pub mod TextLaws
 pub mod WithinLemmas
 pub mod ReachLemmas
-pub mod LongestLemmas
+pub mod LevelLemmas
 pub mod SurveyLemmas
 pub mod ListingLemmas
 pub mod RefusalLemmas

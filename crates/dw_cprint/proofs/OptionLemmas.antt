@@ -1,6 +1,7 @@
 -- Values that may be absent, and tests on them.
 use Rattle.std.proofs.Common.{◌≡◌, Bool, true, false, Option, Some, None, Result, Ok, Err, refl}
-use Rattle.std.specs.Prelude.{IsSome, OnOk, option_map, option_and_then, not, ◌||◌, if◌then◌else◌}
+use Rattle.std.specs.Prelude.{IsSome, OnOk, option_map, option_and_then, not, if◌then◌else◌}
+pub use Rattle.std.proofs.lemmas.Bool.{or_left, or_right}
 
 pub map_inverted : {A B : Type 0} → (f : A → B) (o : Option A) (y : B) → option_map f o ≡ Some y → (x : A) × (o ≡ Some x) × (f x ≡ y)
 map_inverted f None y h = absurd (cc)
@@ -22,25 +23,9 @@ pub then_some : {A B : Type 0} → (f : A → Option B) (o : Option A) → IsSom
 then_some f None h g = absurd (cc)
 then_some f (Some x) h g = g x
 
-pub not_false : (b : Bool) → (b ≡ false → ⊥) → b ≡ true
-not_false true h = refl
-not_false false h = absurd (h refl)
-
-pub not_true : (b : Bool) → (b ≡ true → ⊥) → b ≡ false
-not_true true h = absurd (h refl)
-not_true false h = refl
-
 pub not_refuted : (b : Bool) → (not b ≡ true → ⊥) → b ≡ true
 not_refuted true h = refl
 not_refuted false h = absurd (h refl)
-
-pub or_left : (a b : Bool) → a ≡ true → (a || b) ≡ true
-or_left true b h = refl
-or_left false b h = absurd (cc)
-
-pub or_right : (a b : Bool) → b ≡ true → (a || b) ≡ true
-or_right true b h = refl
-or_right false b h = h
 
 -- nothing, where a test passes
 pub unless_inverted : {A : Type 0} → (b : Bool) (o : Option A) (y : A) → (if b then None else o) ≡ Some y → (b ≡ false) × (o ≡ Some y)

@@ -1,15 +1,14 @@
 -- The least refusal that holds, by the tests of each.
-use Rattle.std.proofs.Common.{◌≡◌, ℕ, zero, suc, ◌<◌, ◌≤◌, true, false, List, [], Option, Some, None, refl, sym, ◌∙◌, ap, subst, inl, inr, arith}
-use Rattle.std.specs.Prelude.{is_none}
+use Rattle.std.proofs.Common.{◌≡◌, ℕ, zero, suc, ◌<◌, ◌≤◌, true, false, List, [], Option, Some, refl, sym, ◌∙◌, ap, subst, inl, inr, arith}
+use Rattle.std.specs.Prelude.{All, is_none}
 use Rattle.std.proofs.lemmas.Bool.{cases_lt}
 use Rattle.dw_cprint.specs.Declarations.{declaration_by, declaration_of, term_at}
 use Rattle.dw_cprint.specs.Drafts.{appended}
-use Rattle.dw_cprint.specs.Judgements.{IsRefusalBelow}
 use Rattle.dw_cprint.specs.Kept.{WritesDeclaration}
 use Rattle.dw_cprint.specs.Refusals.{PrintFault, NotPrintable, BadName, Foreign, Unspeakable, TooDeep, TooLong, Memory, IsLonger, Holds, other_kind, cycle, deep, long, HoldsNoneBelow, Refuses, IsPrinted, number_of}
 use Rattle.dw_cprint.specs.Shapes.{ShapeOf, SubjectOf}
-use Rattle.dw_cprint.specs.Steps.{first_steps, types_declared, ReachACycle, IsDeepFrom}
-use Rattle.dw_cprint.specs.Summaries.{least_known}
+use Rattle.dw_cprint.specs.Steps.{first_steps, types_declared, ReachACycle}
+use Rattle.dw_cprint.specs.Summaries.{Knows, Summaries, least_known}
 use Rattle.dw_cprint.specs.Surveys.{AreAmong, IsSurveyOf}
 use Rattle.dw_cprint.specs.Terms.{Declaration}
 use Rattle.dw_cprint.specs.Writing.{written}
@@ -22,7 +21,6 @@ use Rattle.dw_cprint.proofs.SameLemmas.{declaration-kept}
 use Rattle.dw_cprint.proofs.LeastLemmas.{declared-least}
 use Rattle.dw_cprint.proofs.OptionLemmas.{some_value}
 use Rattle.dw_cprint.proofs.SummaryLemmas.{knows-counts}
-use Rattle.dw_cprint.proofs.SurveyLemmas.{types-known}
 
 -- ---- one refusal
 
@@ -86,15 +84,6 @@ module _ (shapes : ℕ → ShapeOf) (subject : SubjectOf) where
       neither (other_kind e) = kind e
       neither (cycle entry r round) = none (entry, r, round)
 
-  -- the fifth refusal, by what a survey tells
-  pub deep-holds : IsDeepFrom shapes (first_steps subject) → Holds shapes subject TooDeep
-  unfolding IsDeepFrom
-  deep-holds far = deep far
-
-  pub holds-deep : Holds shapes subject TooDeep → IsDeepFrom shapes (first_steps subject)
-  unfolding IsDeepFrom
-  holds-deep (deep far) = far
-
   holds-long : Holds shapes subject TooLong → IsLonger 65536 shapes subject
   holds-long (long far) = far
 
@@ -107,35 +96,32 @@ module _ (shapes : ℕ → ShapeOf) (subject : SubjectOf) where
 
   -- ---- the length of its text
 
-  module _ (roots : List ℕ) (s : Survey) (survey : IsSurveyOf shapes roots s) (among : AreAmong (first_steps subject) roots) (o : Option PrintFault) (refused : IsRefusalBelow 6 shapes subject o) (is : o ≡ None) where
-    none : HoldsNoneBelow 6 shapes subject
-    none = subst (λ (p : Option PrintFault). IsRefusalBelow 6 shapes subject p) is refused
+  -- it is too long, if it has at least a number of bytes that is greater than the limit
+  pub long-by-least : (s : Summaries) (n : ℕ) → All (Knows shapes s) (types_declared subject) → n ≤ least_declared (least_known s) subject → 65536 < n
+      → HoldsNoneBelow 6 shapes subject → Holds shapes subject TooLong
+  unfolding declaration_of
+  long-by-least s n known under over none =
+      let (d, is) = there-declared none in
+      let least = declared-least (term_at 65 shapes) (least_known s) subject d (knows-counts shapes s 65 (types_declared subject) known) is in
+      long (d, is, (omega arith))
 
-    -- it is too long, if it has at least a number of bytes that is greater than the limit
-    pub long-by-least : (n : ℕ) → n ≤ least_declared (least_known s.summaries) subject → 65536 < n → Refuses shapes subject TooLong
-    unfolding declaration_of
-    long-by-least n under over =
+  module _ (roots : List ℕ) (s : Survey) (survey : IsSurveyOf shapes roots s) (among : AreAmong (first_steps subject) roots) (none : HoldsNoneBelow 6 shapes subject)
+      (old new : Option (List ℕ)) (empty : old ≡ Some []) (writes : WritesDeclaration s subject old new) where
+    own : (d : Declaration) → declaration_of shapes subject ≡ Some d → new ≡ appended (Some []) (written d)
+    own d is = writes d (declaration-kept shapes roots s subject survey among ∙ is) ∙ ap (λ (o : Option (List ℕ)). appended o (written d)) empty
+
+    -- or if it does not fit into a draft
+    pub long-by-draft : is_none new ≡ true → Refuses shapes subject TooLong
+    long-by-draft over =
         let (d, is) = there-declared none in
-        let known = types-known shapes roots s survey (types_declared subject) among (λ (entry, r, round). none NotPrintable (omega arith) (cycle entry r round)) in
-        let least = declared-least (term_at 65 shapes) (least_known s.summaries) subject d (knows-counts shapes s.summaries 65 (types_declared subject) known) is in
-        record { holds = long (d, is, (omega arith)); least = none }
+        record { holds = long (d, is, none-over (written d) (sym (own d is) ∙ none-is new over)); least = none }
 
-    module _ (old new : Option (List ℕ)) (empty : old ≡ Some []) (writes : WritesDeclaration s subject old new) where
-      own : (d : Declaration) → declaration_of shapes subject ≡ Some d → new ≡ appended (Some []) (written d)
-      own d is = writes d (declaration-kept shapes roots s subject survey among ∙ is) ∙ ap (λ (o : Option (List ℕ)). appended o (written d)) empty
-
-      -- or if it does not fit into a draft
-      pub long-by-draft : is_none new ≡ true → Refuses shapes subject TooLong
-      long-by-draft over =
-          let (d, is) = there-declared none in
-          record { holds = long (d, is, none-over (written d) (sym (own d is) ∙ none-is new over)); least = none }
-
-      -- and else the draft has it
-      pub short-by-draft : is_none new ≡ false
-          → IsPrinted shapes subject × ((d : Declaration) × (declaration_of shapes subject ≡ Some d) × (new ≡ Some (written d)))
-      short-by-draft fits =
-          let (d, is) = there-declared none in
-          (none-more TooLong none (λ h. too-long (holds-long h)), (d, is, there-whole new (written d) (own d is) (there-is new fits)))
-        where
-          too-long : IsLonger 65536 shapes subject → ⊥
-          too-long (d, is, far) = there-is new fits (own d is ∙ appended-over [] (written d) (omega arith))
+    -- and else the draft has it
+    pub short-by-draft : is_none new ≡ false
+        → IsPrinted shapes subject × ((d : Declaration) × (declaration_of shapes subject ≡ Some d) × (new ≡ Some (written d)))
+    short-by-draft fits =
+        let (d, is) = there-declared none in
+        (none-more TooLong none (λ h. too-long (holds-long h)), (d, is, there-whole new (written d) (own d is) (there-is new fits)))
+      where
+        too-long : IsLonger 65536 shapes subject → ⊥
+        too-long (d, is, far) = there-is new fits (own d is ∙ appended-over [] (written d) (omega arith))

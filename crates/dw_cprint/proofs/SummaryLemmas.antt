@@ -9,32 +9,32 @@ use Rattle.dw_cprint.specs.Shapes.{Qualifier, TypeAt, ShapeOf, qualified, view_s
 use Rattle.dw_cprint.specs.Steps.{entries_of, types_reached}
 use Rattle.std.proofs.lemmas.List.Elements.{All-weaker}
 use Rattle.dw_cprint.specs.Least.{IsLeast}
-use Rattle.dw_cprint.specs.Summaries.{TypeKind, Summary, AreFaults, IsBase, IsSummary, least_known, Summaries, Knows, AreNodes, HaveSummaries, summary_at}
+use Rattle.dw_cprint.specs.Summaries.{TypeKind, Summary, AreFound, IsBase, IsSummary, least_known, Summaries, Knows, AreNodes, HaveSummaries, summary_at}
 use Rattle.dw_cprint.specs.Terms.{Term, Void}
 use Rattle.dw_cprint.specs.Wrong.{kind_in, nothing, itself, below}
 use Rattle.dw_cprint.specs.declared.shape.Shape.{Shape}
 use Rattle.dw_cprint.specs.declared.shape.Shape.TheVariants as shape
 use Rattle.dw_cprint.specs.declared.summary.TheConstants.{VOID}
-use Rattle.dw_cprint.proofs.FaultLemmas.{faults-none}
+use Rattle.dw_cprint.proofs.FaultLemmas.{found-none}
 use Rattle.dw_cprint.proofs.LeastLemmas.{Counts, void-least}
 
 -- ---- void
 
 pub void_summary : (shapes : ℕ → ShapeOf) → IsSummary shapes None VOID
 void_summary shapes =
-    let none = faults-none shapes VOID.faults refl refl refl in
+    let none = found-none shapes VOID.findings refl refl refl refl in
     record {
       is_kind = refl;
       is_base = (None, nothing, refl);
-      are_faults = record { bad_name = none.bad_name; foreign_type = none.foreign_type; unspeakable = none.unspeakable };
+      are_found = record { bad_name = none.bad_name; foreign_type = none.foreign_type; unspeakable = none.unspeakable; deep = none.deep };
       is_least = λ k t e. of_term k t e;
     }
   where
-    of_term : (k : ℕ) (t : Term) → term_at k shapes None ≡ Some t → IsLeast t VOID.least
+    of_term : (k : ℕ) (t : Term) → term_at k shapes None ≡ Some t → IsLeast t VOID.findings.least
     of_term zero t e = absurd (cc)
     of_term (suc k) t e =
         let same : Void ≡ t = cc in
-        let P : Term → Type 0 = λ u. IsLeast u VOID.least in
+        let P : Term → Type 0 = λ u. IsLeast u VOID.findings.least in
         subst P same void-least
 
 -- a fact of types holds of void, and of each entry among them
@@ -61,11 +61,11 @@ base_itself shapes entry s b is plain same =
 -- ---- one entry
 
 pub entry_summary : (shapes : ℕ → ShapeOf) (entry : ℕ) (s : ShapeOf) (known : Summary) → shapes entry ≡ s → known.kind ≡ kind_in (Some s) → IsBase shapes (Some entry) known.base
-    → AreFaults shapes (Some entry ∷ []) known.faults → ((k : ℕ) (t : Term) → term_by (term_at k shapes) s ≡ Some t → IsLeast t known.least) → IsSummary shapes (Some entry) known
-entry_summary shapes entry s known is kind base faults least =
-    record { is_kind = kind ∙ ap (λ (x : ShapeOf). kind_in (Some x)) (sym is); is_base = base; are_faults = faults; is_least = of_term }
+    → AreFound shapes (Some entry ∷ []) known.findings → ((k : ℕ) (t : Term) → term_by (term_at k shapes) s ≡ Some t → IsLeast t known.findings.least) → IsSummary shapes (Some entry) known
+entry_summary shapes entry s known is kind base found least =
+    record { is_kind = kind ∙ ap (λ (x : ShapeOf). kind_in (Some x)) (sym is); is_base = base; are_found = found; is_least = of_term }
   where
-    of_term : (k : ℕ) (t : Term) → term_at k shapes (Some entry) ≡ Some t → IsLeast t known.least
+    of_term : (k : ℕ) (t : Term) → term_at k shapes (Some entry) ≡ Some t → IsLeast t known.findings.least
     of_term zero t e = absurd (cc)
     of_term (suc k) t e = least k t (ap (term_by (term_at k shapes)) (sym is) ∙ e)
 

@@ -1,30 +1,28 @@
 -- What the graph of what is reached tells of the entries, and what a survey keeps of it.
-use Rattle.std.proofs.Common.{◌≡◌, ℕ, zero, suc, ◌+◌, ◌<◌, ◌≤◌, Bool, true, false, List, [], ◌∷◌, Option, Some, None, refl, sym, ◌∙◌, ap, subst, length, get_or, arith, map}
-use Rattle.std.specs.Prelude.{All, Contains, ◌↔◌, slice_get, option_and_then, option_map, is_some, is_none, nat_le}
+use Rattle.std.proofs.Common.{◌≡◌, ℕ, zero, suc, ◌<◌, Bool, true, false, List, [], ◌∷◌, Option, Some, None, refl, sym, ◌∙◌, ap, subst, length, get_or, arith, map}
+use Rattle.std.specs.Prelude.{All, Contains, ◌↔◌, slice_get, option_and_then, option_map, is_some, is_none}
 use Rattle.std.specs.List.{list_any}
 use Rattle.std.specs.Option.{option_map_or}
 use Rattle.std.proofs.lemmas.Option.{slice_get-get_or, slice_get-map, slice_get_within, same_Some}
 use Rattle.std.proofs.lemmas.List.{get_or_default, get_or-map, length-map}
-use Rattle.std.proofs.lemmas.Bool.{leb-true, le-leb}
 use Rattle.std.proofs.lemmas.List.Elements.{All-map, Contains-append_right}
 use Rattle.std.proofs.lemmas.List.Folds.{Any-from_list_any, list_any-from_Any}
 use Rattle.dw_types.specs.Graphs.{Graph, steps_of, step_at, IsStep}
 use Rattle.dw_types.specs.Cycles.{AreClear, Leads as NodeLeads, ReachesCycle as NodeReachesCycle}
 use Rattle.dw_cprint.specs.Kept.{kept}
-use Rattle.dw_cprint.specs.LongestRows.{HasRow, AreLongest}
 use Rattle.dw_cprint.specs.Reach.{IsReachOf}
 use Rattle.dw_cprint.specs.Regular.{IsRegular}
 use Rattle.dw_cprint.specs.Shapes.{ShapeOf, other, view_shape}
-use Rattle.dw_cprint.specs.Steps.{entries_of, steps_reached, IsReachedFrom, root, further, Leads, ReachesCycle, ReachACycle, HasPathFrom, IsDeepFrom}
+use Rattle.dw_cprint.specs.Steps.{entries_of, steps_reached, IsReachedFrom, root, further, Leads, ReachesCycle, ReachACycle}
 use Rattle.dw_cprint.specs.Summaries.{Knows, AreNodes, AreRight}
-use Rattle.dw_cprint.specs.Surveys.{found_at, AreAmong, HaveSummaries, has_summary, lacks_summary, depth_at, IsSurveyOf}
+use Rattle.dw_cprint.specs.Surveys.{found_at, AreAmong, HaveSummaries, has_summary, lacks_summary, IsSurveyOf}
 use Rattle.dw_cprint.specs.declared.shape.Shape.{Shape}
 use Rattle.dw_cprint.specs.declared.survey.Survey.{Survey}
 use Rattle.dw_cprint.specs.declared.summary.Summary.{Summary}
 use Rattle.dw_cprint.proofs.ReachLemmas.{entry-among, from-map, into-map}
 use Rattle.dw_cprint.proofs.SummaryLemmas.{all-types, void_summary}
-use Rattle.dw_cprint.proofs.LongestLemmas.{longest-clear, fewer-steps, row-after}
-use Rattle.dw_cprint.proofs.OptionLemmas.{not_false, not_true}
+use Rattle.dw_types.proofs.LongestLemmas.{clear-free}
+use Rattle.std.proofs.lemmas.Bool.{true_from_ne_false, false_from_ne_true}
 
 mapped : {A B : Type 0} (f : A → B) (o : Option A) (y d : B) → option_map f o ≡ Some y → option_map_or f o d ≡ y
 mapped f None y d e = absurd (cc)
@@ -80,20 +78,6 @@ module _ (shapes : ℕ → ShapeOf) (roots places found : List ℕ) (graph : Gra
       let P : ℕ → Type 0 = λ x. Leads shapes n x to in
       let (last, u, e, led) = entries-lead n m to v (subst P (sym f) l) in
       (last, u, e, (m, s, led))
-
-  -- rows of steps
-  pub row-leads : (n node : ℕ) → node < length found → HasRow graph node n → (to : ℕ) × Leads shapes n (get_or found node 0) to
-  row-leads zero node w row = (get_or found node 0, refl)
-  row-leads (suc n) node w (next, step, row) =
-      let (c, v) = node-step node next w step in
-      let (to, l) = row-leads n next v row in
-      (to, (get_or found next 0, c, l))
-
-  pub leads-row : (n node to : ℕ) → node < length found → Leads shapes n (get_or found node 0) to → HasRow graph node n
-  leads-row n node to w l =
-      let (last, u, e, led) = entries-lead n node to w l in
-      let all : n + 0 ≡ n = omega arith in
-      subst (λ (k : ℕ). HasRow graph node k) all (row-after graph n 0 node last led tt)
 
   -- cycles
   pub node-cycle : (node : ℕ) → node < length found → NodeReachesCycle graph node → ReachesCycle shapes (get_or found node 0)
@@ -161,9 +145,9 @@ module _ (shapes : ℕ → ShapeOf) (roots places found : List ℕ) (graph : Gra
           ap (λ (o : Option (Option Summary)). is_some (option_and_then (λ (x : Option Summary). x) o)) (at-node s.summaries.nodes.items node entry w e) ∙ flattened s.summaries.nodes.items node
 
       -- what a survey tells of these entries
-      pub survey-done : map view_shape s.shapes.items ≡ map shapes found → All (λ (shape : Shape). IsRegular (view_shape shape)) s.shapes.items → AreRight shapes found clear s.summaries → AreClear graph clear → AreLongest graph clear (λ node. get_or s.depths node 0)
+      pub survey-done : map view_shape s.shapes.items ≡ map shapes found → All (λ (shape : Shape). IsRegular (view_shape shape)) s.shapes.items → AreRight shapes found clear s.summaries → AreClear graph clear
           → IsSurveyOf shapes roots s
-      survey-done read fit right sorted longest = record { keeps = keeps-shapes read; regular = regular-of; clear = clear-of; known = known-of; depths = depths-of }
+      survey-done read fit right sorted = record { keeps = keeps-shapes read; regular = regular-of; clear = clear-of; known = known-of }
         where
           regular-of : (entry : ℕ) → IsReachedFrom shapes roots entry → IsRegular (shapes entry)
           regular-of entry r =
@@ -182,7 +166,7 @@ module _ (shapes : ℕ → ShapeOf) (roots places found : List ℕ) (graph : Gra
               let C : ℕ → Type 0 = λ x. ReachesCycle shapes x in
               let nodes = h.nodes in (
                 λ lacks. subst C e (node-cycle node w (sorted.others node (omega arith) (λ has. (let there = summary-same node entry w e ∙ (summarized node).0 has in absurd (cc))))),
-                λ cycle. not_true (has_summary s entry) (λ there. longest-clear graph node (get_or s.depths node 0) (longest node (clear-node node entry w e there)) (entry-cycle node w (subst C (sym e) cycle))),
+                λ cycle. false_from_ne_true (has_summary s entry) (λ there. clear-free graph clear sorted node (clear-node node entry w e there) (entry-cycle node w (subst C (sym e) cycle))),
               )
 
           known-of : (entry : ℕ) → IsReachedFrom shapes roots entry → has_summary s entry ≡ true → Knows shapes s.summaries (Some entry)
@@ -192,17 +176,6 @@ module _ (shapes : ℕ → ShapeOf) (roots places found : List ℕ) (graph : Gra
               let P : ℕ → Type 0 = λ n. Knows shapes s.summaries (Some (get_or found n 0)) in
               let Q : ℕ → Type 0 = λ x. Knows shapes s.summaries (Some x) in
               subst Q e (subst P (get_or_default clear i 0 node v ∙ at) (right i v))
-
-          depths-of : (entry count : ℕ) → IsReachedFrom shapes roots entry → has_summary s entry ≡ true → ((to : ℕ) × Leads shapes count entry to) ↔ (count ≤ depth_at s (Some entry))
-          depths-of entry count r summarized_here =
-              let (node, w, e) = found-all r in
-              let here = longest node (clear-node node entry w e summarized_here) in
-              let depth : depth_at s (Some entry) ≡ get_or s.depths node 0 =
-              ap (λ (o : Option ℕ). option_map_or (λ (n : ℕ). get_or s.depths n 0) o 0) (placed-at node entry w e) in
-              let P : ℕ → Type 0 = λ x. (to : ℕ) × Leads shapes count x to in (
-                λ goes. (let (to, l) = subst P (sym e) goes in let fits = here.none_longer count (leads-row count node to w l) in omega (arith, depth)),
-                λ below. subst P e (row-leads count node w (fewer-steps graph count (get_or s.depths node 0) node (omega (arith, depth)) here.has_row)),
-              )
 
 -- ---- what is reached from some entries
 
@@ -263,25 +236,8 @@ module _ (shapes : ℕ → ShapeOf) (roots : List ℕ) (s : Survey) (survey : Is
           any-type (lacks_summary s) types (Some from) (type-among types from has) (there-none _ ((survey.clear from (root (among from has))).1 (n, entry, led, cycle)))
 
   clear-there : (entry : ℕ) → Contains (entries_of types) entry → (ReachACycle shapes (entries_of types) → ⊥) → has_summary s entry ≡ true
-  clear-there entry has none = not_false (has_summary s entry) (λ lacks. none (cycle-from entry has lacks))
+  clear-there entry has none = true_from_ne_false (has_summary s entry) (λ lacks. none (cycle-from entry has lacks))
 
   -- what is known of each of the types, if they reach no cycle
   pub types-known : (ReachACycle shapes (entries_of types) → ⊥) → All (Knows shapes s.summaries) types
   types-known none = all-types (Knows shapes s.summaries) (void_summary shapes) types (λ to has. survey.known to (root (among to has)) (clear-there to has none))
-
-  -- a path of more than 64 steps begins at the types, if the longest path from one of them has 64
-  pub deep-told : (ReachACycle shapes (entries_of types) → ⊥) → (list_any (λ at. nat_le 64 (depth_at s at)) types ≡ true) ↔ IsDeepFrom shapes (entries_of types)
-  unfolding IsDeepFrom
-  deep-told none = (λ t. (let (k, at, w, e, far) = Any-from_list_any (λ at. nat_le 64 (depth_at s at)) types t in forth at (k, w, e) far), back)
-    where
-      forth : (at : Option ℕ) → Contains types at → nat_le 64 (depth_at s at) ≡ true → HasPathFrom shapes (entries_of types) 65
-      forth None has far = absurd (cc)
-      forth (Some entry) has far =
-          let there = entry-among types entry has in
-          let (to, led) = (survey.depths entry 64 (root (among entry there)) (clear-there entry there none)).1 (leb-true 64 (depth_at s (Some entry)) far) in
-          (entry, to, there, led)
-
-      back : HasPathFrom shapes (entries_of types) 65 → list_any (λ at. nat_le 64 (depth_at s at)) types ≡ true
-      back (entry, to, has, led) =
-          let fits = (survey.depths entry 64 (root (among entry has)) (clear-there entry has none)).0 (to, led) in
-          any-type (λ at. nat_le 64 (depth_at s at)) types (Some entry) (type-among types entry has) (le-leb 64 (depth_at s (Some entry)) fits)

@@ -16,16 +16,13 @@ use Rattle.dw_cprint.specs.Shapes.{Qualifier, TagKeyword, Parameter, Name, TypeA
 use Rattle.dw_cprint.specs.Shapes.{qualified, pointer, array, function, tagged, nameless, body, enumeration, foreign}
 use Rattle.dw_cprint.specs.Shapes.{other, typedef_subject, variable_subject, tag_subject, view_shape}
 use Rattle.dw_cprint.specs.Terms.{TypeWord, Enum, Term, Void, Named, Basic, Tagged, Body, Enumeration, Pointer}
-use Rattle.dw_cprint.specs.Terms.{Function, Unprototyped, Prototyped, Parameters, Members, Constant, Declaration, Typedef, Variable, Aggregate, Constants, Declared}
+use Rattle.dw_cprint.specs.Terms.{Function, Prototyped, Parameters, Members, Constant, Declaration, Typedef, Variable, Aggregate, Constants}
 use Rattle.dw_cprint.specs.Tokens.{Token, Blank, Star, Open, Close, LeftBrace, RightBrace, Semicolon, TypedefWord}
 use Rattle.dw_cprint.specs.Tokens.{TagWord, Identifier, spelling, text_of}
 use Rattle.dw_cprint.specs.Writing.{spell, qualifying, count_tokens, name_tokens, constants, signature_tokens}
 use Rattle.dw_cprint.specs.Writing.{members_tokens, declaration_tokens, written}
-use Rattle.dw_cprint.specs.declared.shape.Enumerator.{Enumerator}
-use Rattle.dw_cprint.specs.declared.shape.Member.{Member}
 use Rattle.dw_cprint.specs.declared.shape.Shape.{Shape}
 use Rattle.dw_cprint.specs.declared.shape.Shape.TheVariants as shape
-use Rattle.dw_cprint.specs.declared.words.Text.{Text}
 use Rattle.dw_cprint.proofs.DraftLemmas.{appended-twice}
 use Rattle.dw_cprint.proofs.DeclaratorLemmas.{in_parts}
 use Rattle.dw_cprint.proofs.NameLemmas.{words-text}
@@ -109,7 +106,7 @@ after-arrays [] u = refl
 after-arrays (c ∷ cs) u = append_assoc (count_tokens c) (flat_map count_tokens cs) (after u) ∙ ap (λ (v : List Token). count_tokens c ++ v) (after-arrays cs u)
 
 -- the parts of a function's term
-record IsFunction (term : TypeAt → Option Term) (at : TypeAt) (ps : List Parameter) (t : Term) : Type 0 where
+pub record IsFunction (term : TypeAt → Option Term) (at : TypeAt) (ps : List Parameter) (t : Term) : Type 0 where
   pub result : Term
   pub is_result : term at ≡ Some result
   pub placed : is_misplaced ps ≡ false
@@ -117,7 +114,7 @@ record IsFunction (term : TypeAt → Option Term) (at : TypeAt) (ps : List Param
   pub are_parameters : parameters_by term ps ≡ Some parameters
   pub is : Function result (Prototyped parameters (has_more ps)) ≡ t
 
-function-parts : (term : TypeAt → Option Term) (at : TypeAt) (ps : List Parameter) (t : Term) → term_by term (function at (Some ps)) ≡ Some t → IsFunction term at ps t
+pub function-parts : (term : TypeAt → Option Term) (at : TypeAt) (ps : List Parameter) (t : Term) → term_by term (function at (Some ps)) ≡ Some t → IsFunction term at ps t
 function-parts term at ps t e =
     let called : Term → Option Term = λ (t : Term). option_map (λ (us : Parameters). Function t (Prototyped us (has_more ps))) (parameters_by term ps) in
     let u = unless_inverted (is_misplaced ps) (option_and_then called (term at)) t e in
@@ -176,13 +173,6 @@ module _ (term : TypeAt → Option Term) (o : Option Term) (old new : Option (Li
       let f = map_inverted Pointer (term at) t (sym step ∙ e) in
       let P : Term → Type 0 = λ u. Writes (after u) old new in
       subst P f.2 (both (closed f.0) (after f.0) old mid new (closes f.0 f.1) (inner f.0 f.1))
-
-  pub bare_after : (mid : Option (List ℕ)) (at : TypeAt) → o ≡ term_by term (function at None) → Writes (Open ∷ Close ∷ []) old mid
-      → ((t : Term) → term at ≡ Some t → Writes (after t) mid new) → (t : Term) → o ≡ Some t → Writes (after t) old new
-  bare_after mid at step opens inner t e =
-      let f = map_inverted (λ (u : Term). Function u Unprototyped) (term at) t (sym step ∙ e) in
-      let P : Term → Type 0 = λ u. Writes (after u) old new in
-      subst P f.2 (both (Open ∷ Close ∷ []) (after f.0) old mid new opens (inner f.0 f.1))
 
   pub prototype_after : (mid mid2 mid3 : Option (List ℕ)) (at : TypeAt) (ps : List Parameter) → o ≡ term_by term (function at (Some ps)) → Writes (Open ∷ []) old mid
       → (is_misplaced ps ≡ false → (us : Parameters) → parameters_by term ps ≡ Some us → Writes (signature_tokens (Prototyped us (has_more ps))) mid mid2) → Writes (Close ∷ []) mid2 mid3
@@ -291,14 +281,6 @@ module _ (term : TypeAt → Option Term) (old mid mid2 new : Option (List ℕ)) 
       (as_tokens (tag ++ Blank ∷ (body ++ Semicolon ∷ [])) (declaration_tokens (Constants name f.0)) old new (ap (λ (u : List Token). tag ++ Blank ∷ u) same)
       (both tag (Blank ∷ (body ++ Semicolon ∷ [])) old mid new first (both (Blank ∷ []) (body ++ Semicolon ∷ []) mid mid2 new gap (both body (Semicolon ∷ []) mid2 mid3 new (inner f.0 f.1) last))))
 
-  pub declared_done : (word : TagKeyword) (name : Name) (tag : List ℕ) → Writes (TagWord word ∷ Blank ∷ Identifier tag ∷ []) old mid → Writes (Semicolon ∷ []) mid new
-      → (d : Declaration) → declaration_by term (tag_subject name (tagged word tag)) ≡ Some d → new ≡ appended old (written d)
-  declared_done word None tag first last d e = absurd (cc)
-  declared_done word (Some name) tag first last d e =
-      let same : Declared word tag ≡ d = cc in
-      let P : Declaration → Type 0 = λ d. new ≡ appended old (written d) in
-      subst P same (both (TagWord word ∷ Blank ∷ Identifier tag ∷ []) (Semicolon ∷ []) old mid new first last)
-
 -- ---- shapes as the code has them
 
 pub specifier-shape : (s : Shape) → ((q : Qualifier) (at : TypeAt) → s ≡ shape.Qualified q at → ⊥) → ((at : TypeAt) → s ≡ shape.Pointer at → ⊥) → ((counts : Vec (Option ℕ) Global) (strange : Bool) (at : TypeAt) → s ≡ shape.Array counts strange at → ⊥)
@@ -308,15 +290,6 @@ specifier-shape (shape.Pointer at) a b c d = absurd (b at refl)
 specifier-shape (shape.Array counts strange at) a b c d = absurd (c counts strange at refl)
 specifier-shape (shape.Function at parameters) a b c d = absurd (d at parameters refl)
 specifier-shape _ a b c d = refl
-
-pub nothing_done : (term : TypeAt → Option Term) (name : Name) (s : Shape) → ((word : TagKeyword) (odd : Bool) (members : Vec Member Global) → s ≡ shape.Body word odd members → ⊥)
-    → ((odd : Bool) (enumerators : Vec Enumerator Global) → s ≡ shape.Enumeration odd enumerators → ⊥) → ((word : TagKeyword) (text : Text) → s ≡ shape.Tagged word text → ⊥)
-    → (d : Declaration) → declaration_by term (tag_subject name (view_shape s)) ≡ Some d → ⊥
-nothing_done term None s a b c d e = cc
-nothing_done term (Some n) (shape.Body word odd members) a b c d e = a word odd members refl
-nothing_done term (Some n) (shape.Enumeration odd enumerators) a b c d e = b odd enumerators refl
-nothing_done term (Some n) (shape.Tagged word text) a b c d e = c word text refl
-nothing_done term (Some n) _ a b c d e = cc
 
 pub some-mapped : {X Y : Type 0} (f : X → Y) (o : Option X) → is_some o ≡ is_some (option_map f o)
 some-mapped f None = refl

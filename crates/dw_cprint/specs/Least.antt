@@ -1,9 +1,9 @@
 -- State: how many bytes the text of a type has at least, by those of the types that it names.
-use Rattle.std.specs.Prelude.{ℕ, ◌+◌, ◌≤◌, Bool, List, [], ◌∷◌, Some, None, length}
+use Rattle.std.specs.Prelude.{ℕ, ◌+◌, ◌≤◌, Bool, List, Some, None, length, sum_by}
 use Rattle.dw_cprint.specs.Declarators.{before, after}
-use Rattle.dw_cprint.specs.Shapes.{Qualifier, Parameter, Typed, More, Name, TypeAt, MemberOf, ShapeOf, base, typedef}
-use Rattle.dw_cprint.specs.Shapes.{qualified, pointer, array, function, tagged, body, enumeration, SubjectOf}
-use Rattle.dw_cprint.specs.Shapes.{typedef_subject, variable_subject, tag_subject}
+use Rattle.dw_cprint.specs.Shapes.{Qualifier, Name, TypeAt, MemberOf, EnumeratorOf, ShapeOf, base, typedef, array}
+use Rattle.dw_cprint.specs.Shapes.{tagged, body, enumeration, SubjectOf, tag_subject}
+use Rattle.dw_cprint.specs.Steps.{types_reached, types_declared}
 use Rattle.dw_cprint.specs.Terms.{Term}
 use Rattle.dw_cprint.specs.Tokens.{Token, text_of}
 
@@ -20,33 +20,26 @@ abbrev pub name_size : Name → ℕ
 name_size None = 0
 name_size (Some name) = length name
 
--- for each member those of its type and of its name, and one more
-abbrev pub least_members : (TypeAt → ℕ) → List MemberOf → ℕ
-least_members n [] = 0
-least_members n (m ∷ ms) = n m.type_at + name_size m.name + 1 + least_members n ms
+-- those of a shape that are its own: of its names, of a body without members, and some more for each dimension, member
+-- and enumerator
+abbrev pub own_size : ShapeOf → ℕ
+own_size (base name) = name_size name
+own_size (typedef name) = name_size name
+own_size (array counts strange at) = length counts
+own_size (tagged word name) = length name
+own_size (body word odd ms) = 4 + sum_by (λ (m : MemberOf). name_size m.name + 2) ms
+own_size (enumeration odd es) = 4 + sum_by (λ (e : EnumeratorOf). name_size e.name + 5) es
+own_size _ = 0
 
--- for each parameter those of its type, and one more
-abbrev pub least_parameters : (TypeAt → ℕ) → List Parameter → ℕ
-least_parameters n [] = 0
-least_parameters n (Typed at ∷ ps) = n at + 1 + least_parameters n ps
-least_parameters n (More ∷ ps) = least_parameters n ps
-
--- for a shape, by those of the types that it names
+-- for a shape, with those of the types that it names
 abbrev pub least_in : (TypeAt → ℕ) → ShapeOf → ℕ
-least_in n (base name) = name_size name
-least_in n (typedef name) = name_size name
-least_in n (qualified q at) = n at
-least_in n (pointer at) = n at
-least_in n (array counts strange at) = length counts + n at
-least_in n (function at None) = n at
-least_in n (function at (Some ps)) = n at + least_parameters n ps
-least_in n (tagged word name) = length name
-least_in n (body word odd ms) = least_members n ms
-least_in n (enumeration odd es) = length es
-least_in n _ = 0
+least_in n shape = own_size shape + sum_by n (types_reached shape)
 
--- for a declaration
+-- those of a declaration that are its own
+abbrev pub own_size_declared : SubjectOf → ℕ
+own_size_declared (tag_subject name shape) = own_size shape
+own_size_declared _ = 0
+
+-- for a declaration, with those of the types that it names
 abbrev pub least_declared : (TypeAt → ℕ) → SubjectOf → ℕ
-least_declared n (typedef_subject name at) = n at
-least_declared n (variable_subject name at) = n at
-least_declared n (tag_subject name shape) = least_in n shape
+least_declared n subject = own_size_declared subject + sum_by n (types_declared subject)

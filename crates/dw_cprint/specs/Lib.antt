@@ -12,7 +12,6 @@ pub mod Writing
 pub mod Wrong
 pub mod Refusals
 pub mod Reading
-pub mod LongestRows
 pub mod Listings
 -- State.
 pub mod StringSpans

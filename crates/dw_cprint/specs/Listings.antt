@@ -8,10 +8,10 @@ use Rattle.dw_image.specs.declared.image.Image.{Image}
 use Rattle.dw_image.specs.Images.{entries_in, steps_in}
 use Rattle.dw_types.specs.Cycles.{Leads}
 use Rattle.dw_types.specs.Graphs.{Graph}
+use Rattle.dw_types.specs.LongestRows.{IsLongest}
 use Rattle.dw_cprint.specs.Declarations.{declaration_of}
 use Rattle.dw_cprint.specs.Digits.{places}
 use Rattle.dw_cprint.specs.EntryShapes.{shape_in, subject_in}
-use Rattle.dw_cprint.specs.LongestRows.{IsLongest}
 use Rattle.dw_cprint.specs.Refusals.{PrintFault, NotPrintable, BadName, Foreign, Unspeakable, TooDeep, TooLong, Memory}
 use Rattle.dw_cprint.specs.Refusals.{Refuses, IsPrinted}
 use Rattle.dw_cprint.specs.Shapes.{body, enumeration, SubjectOf, typedef_subject, tag_subject}

@@ -77,10 +77,6 @@ abbrev pub HasPathFrom : (ℕ → ShapeOf) → List ℕ → ℕ → Type 0
 HasPathFrom shapes roots zero = Unit {0}
 HasPathFrom shapes roots (suc k) = (next to : ℕ) × Contains roots next × Leads shapes k next to
 
--- a path of more than 64 steps does
-unfoldable pub IsDeepFrom : (ℕ → ShapeOf) → List ℕ → Type 0
-IsDeepFrom shapes roots = HasPathFrom shapes roots 65
-
 -- a path of so many steps begins at the declared entry
 abbrev pub HasPath : (ℕ → ShapeOf) → SubjectOf → ℕ → Type 0
 HasPath shapes subject count = HasPathFrom shapes (first_steps subject) count

@@ -1,26 +1,26 @@
--- State: what a survey keeps of a type that reaches no cycle: its kind, what is wrong with it, and how many bytes its
--- text has at least.
-use Rattle.std.specs.Prelude.{◌≡◌, ℕ, ◌<◌, ◌↔◌, true, IsTrue, List, [], ◌∷◌, Option, Some}
+-- State: what a survey keeps of a type that reaches no cycle: its kind, what is wrong with it, how long the longest
+-- path from it is, and how many bytes its text has at least.
+use Rattle.std.specs.Prelude.{◌≡◌, ℕ, ◌<◌, ◌≤◌, ◌↔◌, true, IsTrue, List, [], ◌∷◌, Option, Some}
 use Rattle.std.specs.Prelude.{None, length, slice_get, slice_index, slice_index_or, is_some, option_and_then, unwrap_or}
 use Rattle.std.specs.Prelude.{Contains, Bool, false, ◌||◌}
 use Rattle.std.specs.List.{list_any}
 use Rattle.dw_cprint.specs.Declarations.{term_at}
 use Rattle.dw_cprint.specs.Least.{IsLeast}
-use Rattle.dw_cprint.specs.Refusals.{Holds, BadName, Foreign, Unspeakable}
+use Rattle.dw_cprint.specs.Refusals.{Holds, HoldsNoneBelow, BadName, Foreign, Unspeakable, TooDeep, TooLong}
 use Rattle.dw_cprint.specs.Shapes.{TypeAt, ShapeOf, qualified, SubjectOf, typedef_subject, variable_subject}
 use Rattle.dw_cprint.specs.Shapes.{tag_subject, view_shape}
-use Rattle.dw_cprint.specs.Steps.{entries_of, steps_reached, IsReachedFrom}
+use Rattle.dw_cprint.specs.Steps.{entries_of, steps_reached, IsReachedFrom, HasPathFrom}
 use Rattle.dw_cprint.specs.Terms.{Term}
 use Rattle.dw_cprint.specs.Wrong.{kind_at, StandsUnder, is_void, HasBadName, is_foreign, IsUnspeakable}
 use Rattle.dw_cprint.specs.Wrong.{is_declared_enumeration, is_wrong, is_wrong_row, object_types}
 use Rattle.dw_cprint.specs.declared.shape.Shape.{Shape}
 use Rattle.dw_cprint.specs.declared.summary.TheConstants.{VOID}
 pub use Rattle.dw_cprint.specs.Wrong.{TypeKind}
-pub use Rattle.dw_cprint.specs.declared.summary.Faults.{Faults}
+pub use Rattle.dw_cprint.specs.declared.summary.Findings.{Findings}
 pub use Rattle.dw_cprint.specs.declared.summary.Summary.{Summary}
 pub use Rattle.dw_cprint.specs.declared.summary.Summaries.{Summaries}
 
--- ---- what is wrong
+-- ---- what is found
 
 -- one of these types, or an entry that is reached from them, has a property
 abbrev pub ReachesOne : (ShapeOf → Type 0) → (ℕ → ShapeOf) → List TypeAt → Type 0
@@ -30,17 +30,39 @@ ReachesOne P shapes types = (entry : ℕ) × IsReachedFrom shapes (entries_of ty
 abbrev pub IsForeign : ShapeOf → Type 0
 IsForeign shape = is_foreign shape ≡ true
 
--- which of the second, third and fourth refusal holds for one of these types, or for an entry that is reached from them
-pub record AreFaults (shapes : ℕ → ShapeOf) (types : List TypeAt) (faults : Faults) : Type 0 where
-  pub bad_name : IsTrue faults.bad_name ↔ ReachesOne (HasBadName shapes) shapes types
-  pub foreign_type : IsTrue faults.foreign ↔ ReachesOne IsForeign shapes types
-  pub unspeakable : IsTrue faults.unspeakable ↔ ReachesOne (IsUnspeakable shapes) shapes types
+-- the longest path that begins with a step to one of some entries has so many steps; more than 65 are not told apart
+abbrev pub IsDepth : (ℕ → ShapeOf) → List ℕ → ℕ → Type 0
+IsDepth shapes roots depth = (k : ℕ) → k ≤ 65 → HasPathFrom shapes roots k ↔ (k ≤ depth)
 
--- which of them holds for the declared entry
-pub record AreFaultsOf (shapes : ℕ → ShapeOf) (subject : SubjectOf) (faults : Faults) : Type 0 where
-  pub bad_name : IsTrue faults.bad_name ↔ Holds shapes subject BadName
-  pub foreign_type : IsTrue faults.foreign ↔ Holds shapes subject Foreign
-  pub unspeakable : IsTrue faults.unspeakable ↔ Holds shapes subject Unspeakable
+-- which of the second, third and fourth refusal holds for one of these types, or for an entry that is reached from
+-- them, and how long the longest path to them is
+pub record AreFound (shapes : ℕ → ShapeOf) (types : List TypeAt) (found : Findings) : Type 0 where
+  pub bad_name : IsTrue found.bad_name ↔ ReachesOne (HasBadName shapes) shapes types
+  pub foreign_type : IsTrue found.foreign ↔ ReachesOne IsForeign shapes types
+  pub unspeakable : IsTrue found.unspeakable ↔ ReachesOne (IsUnspeakable shapes) shapes types
+  pub deep : IsDepth shapes (entries_of types) found.depth
+
+-- which of the second to the fifth refusal holds for the declared entry, and whether it is known that the sixth does
+pub record AreFoundOf (shapes : ℕ → ShapeOf) (subject : SubjectOf) (found : Findings) : Type 0 where
+  pub bad_name : IsTrue found.bad_name ↔ Holds shapes subject BadName
+  pub foreign_type : IsTrue found.foreign ↔ Holds shapes subject Foreign
+  pub unspeakable : IsTrue found.unspeakable ↔ Holds shapes subject Unspeakable
+  pub deep : (64 < found.depth) ↔ Holds shapes subject TooDeep
+  pub long : 65536 < found.least → HoldsNoneBelow 6 shapes subject → Holds shapes subject TooLong
+
+-- the tests of an entry itself, and how many bytes of its text are its own
+pub record IsOwn (name foreign words : Bool) (bytes : ℕ) (own : Findings) : Type 0 where
+  pub bad_name : own.bad_name ≡ name
+  pub foreign_type : own.foreign ≡ foreign
+  pub unspeakable : own.unspeakable ≡ words
+  pub shallow : own.depth ≡ 0
+  pub short : own.least ≤ bytes
+
+-- what is wrong with the one or with the other
+pub record IsEither (one other both : Findings) : Type 0 where
+  pub bad_name : both.bad_name ≡ (one.bad_name || other.bad_name)
+  pub foreign_type : both.foreign ≡ (one.foreign || other.foreign)
+  pub unspeakable : both.unspeakable ≡ (one.unspeakable || other.unspeakable)
 
 -- ---- summaries
 
@@ -52,8 +74,8 @@ IsBase shapes at own = (under : TypeAt) × StandsUnder shapes at under × (own �
 pub record IsSummary (shapes : ℕ → ShapeOf) (at : TypeAt) (known : Summary) : Type 0 where
   pub is_kind : known.kind ≡ kind_at shapes at
   pub is_base : IsBase shapes at known.base
-  pub are_faults : AreFaults shapes (at ∷ []) known.faults
-  pub is_least : (k : ℕ) (t : Term) → term_at k shapes at ≡ Some t → IsLeast t known.least
+  pub are_found : AreFound shapes (at ∷ []) known.findings
+  pub is_least : (k : ℕ) (t : Term) → term_at k shapes at ≡ Some t → IsLeast t known.findings.least
 
 -- what is listed for an entry, by the place of that entry
 abbrev pub found_at : {X : Type 0} → List ℕ → List X → ℕ → Option X
@@ -103,7 +125,7 @@ is_own_unspeakable s (tag_subject name shape) = is_unspeakable s shape || is_dec
 
 -- how many bytes they tell the text of a type to have at least
 abbrev pub least_known : Summaries → TypeAt → ℕ
-least_known s at = (known_of s at).least
+least_known s at = (known_of s at).findings.least
 
 -- nodes, each after those that its steps lead to; the entry of each node; and the shapes that are kept of them
 pub record AreNodes (shapes : ℕ → ShapeOf) (places found : List ℕ) (kept : List Shape) (clear : List ℕ) : Type 0 where

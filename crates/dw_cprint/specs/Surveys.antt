@@ -1,11 +1,10 @@
 -- State: what a survey of some declarations keeps of the entries that they reach.
-use Rattle.std.specs.Prelude.{◌≡◌, ◌↔◌, ℕ, ◌≤◌, Bool, true, false, List, Option, Some, None}
-use Rattle.std.specs.Prelude.{Contains, option_and_then, is_some, is_none, slice_get, slice_index}
-use Rattle.std.specs.Option.{option_map_or}
+use Rattle.std.specs.Prelude.{◌≡◌, ◌↔◌, ℕ, Bool, true, false, List, Option, Some, Contains, option_and_then, is_some}
+use Rattle.std.specs.Prelude.{is_none}
 use Rattle.dw_cprint.specs.Kept.{kept}
 use Rattle.dw_cprint.specs.Regular.{IsRegular}
 use Rattle.dw_cprint.specs.Shapes.{ShapeOf, TypeAt}
-use Rattle.dw_cprint.specs.Steps.{IsReachedFrom, Leads, ReachesCycle}
+use Rattle.dw_cprint.specs.Steps.{IsReachedFrom, ReachesCycle}
 use Rattle.dw_cprint.specs.declared.survey.Survey.{Survey}
 use Rattle.dw_cprint.specs.declared.summary.TheConstants.{VOID}
 pub use Rattle.dw_cprint.specs.Summaries.{found_at, HaveSummaries, summary_at}
@@ -25,13 +24,8 @@ has_summary s entry =
 abbrev pub lacks_summary : Survey → TypeAt → Bool
 lacks_summary s at = is_none (summary_at VOID s.summaries.places.items s.summaries.nodes.items at)
 
--- how many steps the longest path from a type has
-abbrev pub depth_at : Survey → TypeAt → ℕ
-depth_at s None = 0
-depth_at s (Some entry) = option_map_or (slice_index s.depths) (slice_get s.summaries.places.items entry) 0
-
--- a survey of some entries and of all that they reach: their shapes, which of them reach a cycle, what is known of the
--- others, and how long the longest path from each of the others is
+-- a survey of some entries and of all that they reach: their shapes, which of them reach a cycle, and what is known of
+-- the others
 pub record IsSurveyOf (shapes : ℕ → ShapeOf) (roots : List ℕ) (s : Survey) : Type 0 where
   pub keeps : (entry : ℕ) → IsReachedFrom shapes roots entry → kept s entry ≡ shapes entry
   pub regular : (entry : ℕ) → IsReachedFrom shapes roots entry → IsRegular (shapes entry)
@@ -39,8 +33,6 @@ pub record IsSurveyOf (shapes : ℕ → ShapeOf) (roots : List ℕ) (s : Survey)
       → (has_summary s entry ≡ false) ↔ ReachesCycle shapes entry
   pub known : (entry : ℕ) → IsReachedFrom shapes roots entry → has_summary s entry ≡ true
       → Knows shapes s.summaries (Some entry)
-  pub depths : (entry count : ℕ) → IsReachedFrom shapes roots entry → has_summary s entry ≡ true
-      → ((to : ℕ) × Leads shapes count entry to) ↔ (count ≤ depth_at s (Some entry))
 
 -- by the shapes of which this is a survey, if some entries are among those that it began with
 abbrev pub BySurvey : Survey → List ℕ → ((ℕ → ShapeOf) → Type 0) → Type 0

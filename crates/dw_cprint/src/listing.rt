@@ -15,12 +15,12 @@ use crate::fault::PrintFault;
 use crate::shape::Subject;
 use crate::shape_reader::subject_of;
 use crate::source::{Source, Strings, declared_at, has_name, tag_at};
-use crate::survey::{Survey, longest_at, longest_rows};
+use crate::survey::Survey;
 use crate::text::Draft;
 use crate::words::put_eight_digits;
 use dw_entries::constants::*;
 use dw_image::{EntryId, Image, NoMemory};
-use dw_types::{Numbers, clear_nodes};
+use dw_types::{Numbers, clear_nodes, longest_at, longest_rows};
 use std::alloc::{AllocError, Global};
 
 /// The named types of an image: those that are printed, those that are refused, and the text of both.

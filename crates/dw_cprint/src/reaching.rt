@@ -97,9 +97,7 @@ fn put_reached_types(types: &mut Vec<TypeAt>, shape: &Shape<'_>) -> Result<(), A
     ensures { OnOk result (types.new.items ≡ types.old.items ++ types_reached (view_shape shape.now)) }
 {
     match shape {
-        Shape::Qualified(_, at) => types.push(*at)?,
-        Shape::Pointer(at) => types.push(*at)?,
-        Shape::Array(_, _, at) => types.push(*at)?,
+        Shape::Qualified(_, at) | Shape::Pointer(at) | Shape::Array(_, _, at) => types.push(*at)?,
         Shape::Function(at, None) => types.push(*at)?,
         Shape::Function(at, Some(parameters)) => {
             types.push(*at)?;
@@ -125,8 +123,7 @@ fn put_declared_types(types: &mut Vec<TypeAt>, subject: &Subject<'_>) -> Result<
     ensures { OnOk result (types.new.items ≡ types.old.items ++ types_declared (view_subject subject.now)) }
 {
     match subject {
-        Subject::Typedef(_, at) => types.push(*at)?,
-        Subject::Variable(_, at) => types.push(*at)?,
+        Subject::Typedef(_, at) | Subject::Variable(_, at) => types.push(*at)?,
         Subject::Tag(_, shape) => put_reached_types(types, shape)?,
     }
     Ok(())

@@ -1,51 +1,74 @@
-//! What is known of a type that reaches no cycle, by the types that it names: its kind, and what is wrong with it.
+//! What is known of a type that reaches no cycle, by the types that it names: its kind, and what is found of it.
 
-ghost use Rattle.std.specs.Prelude.{◌≡◌, ◌<◌, ◌||◌, ℕ, List, [], ◌∷◌, Some, length, All, IfOk, ◌+◌, ◌≤◌, map};
+ghost use Rattle.std.specs.Prelude.{◌≡◌, ◌<◌, ◌≤◌, ◌+◌, ℕ, List, [], ◌∷◌, Some, false, length, map, max, sum_by, All};
+ghost use Rattle.std.specs.Prelude.{IfOk};
 ghost use Rattle.dw_cprint.specs.Judgements.{IsRefusalBelow};
+ghost use Rattle.dw_cprint.specs.Least.{least_in, name_size, own_size, own_size_declared};
 ghost use Rattle.dw_cprint.specs.Refusals.{HoldsNoneBelow};
-ghost use Rattle.dw_cprint.specs.Shapes.{ShapeOf, SubjectOf, view_shape, view_subject, view_member, view_name};
+ghost use Rattle.dw_cprint.specs.Shapes.{ShapeOf, SubjectOf, body, enumeration, view_enumerator, view_shape};
+ghost use Rattle.dw_cprint.specs.Shapes.{view_subject, view_member, view_name, Struct};
 ghost use Rattle.dw_cprint.specs.Steps.{types_declared, types_reached};
-ghost use Rattle.dw_cprint.specs.Summaries.{AreFaults, AreFaultsOf, AreNodes, AreRight, HaveSummaries, IsBase};
-ghost use Rattle.dw_cprint.specs.Summaries.{IsSummary, Knows, known_of, least_known, summary_at};
-ghost use Rattle.dw_cprint.specs.Wrong.{is_foreign, is_own_foreign};
-ghost use Rattle.dw_cprint.specs.Least.{least_declared, least_in, least_members, least_parameters, name_size};
+ghost use Rattle.dw_cprint.specs.Summaries.{AreFound, AreFoundOf, AreNodes, AreRight, HaveSummaries, IsBase, IsEither};
+ghost use Rattle.dw_cprint.specs.Summaries.{IsOwn, IsSummary, Knows, is_own_unspeakable, is_unspeakable, kind_known};
+ghost use Rattle.dw_cprint.specs.Summaries.{known_of, least_known, summary_at};
+ghost use Rattle.dw_cprint.specs.Wrong.{has_bad_name, has_own_bad_name, is_foreign, is_own_foreign};
 
 use crate::fault::PrintFault;
 use crate::reaching::reached_types;
 use crate::refusals::{
-    TypeKind, has_bad_name, has_own_bad_name, is_own_unspeakable, is_unspeakable, kind_of,
+    TypeKind, has_bad_name, is_declared_enumeration, is_unspeakable, is_void_like, kind_of,
+    lacks_name,
 };
-use crate::shape::{Member, Name, Parameter, Shape, Subject, TypeAt};
+use crate::shape::{Enumerator, Member, Name, Shape, Subject, TypeAt};
 use crate::text::LIMIT;
 use dw_types::Order;
 use std::alloc::{AllocError, Global};
 
-/// Which of the second, third and fourth refusal holds.
+/// The most spelling steps of a path that is printed.
+const STEP_LIMIT: u32 = 64;
+
+/// What is found of an entry and of those that it reaches.
 #[derive(Clone, Copy, Debug, PartialEq, Eq)]
-pub struct Faults {
+pub struct Findings {
+    /// Whether the second, the third and the fourth refusal hold.
     pub bad_name: bool,
     pub foreign: bool,
     pub unspeakable: bool,
+    /// How many steps the longest path has that begins with one to it.
+    pub depth: u32,
+    /// How many bytes its text has at least.
+    pub least: u32,
 }
 
-impl Faults {
-    /// What is wrong with one or the other.
-    fn or(self, other: Faults) -> Faults
-        ensures bad_name { result.bad_name ≡ (self.bad_name || other.bad_name) }
-        ensures foreign_type { result.foreign ≡ (self.foreign || other.foreign) }
-        ensures unspeakable { result.unspeakable ≡ (self.unspeakable || other.unspeakable) }
+/// What is found where there is no entry.
+const NOTHING: Findings = Findings {
+    bad_name: false,
+    foreign: false,
+    unspeakable: false,
+    depth: 0,
+    least: 0,
+};
+
+impl Findings {
+    /// What is found of one and the other.
+    fn with(self, other: Findings) -> Findings
+        ensures either { IsEither self other result }
+        ensures depth { result.depth ≡ max self.depth other.depth }
+        ensures least { result.least ≤ self.least + other.least }
     {
-        Faults {
+        Findings {
             bad_name: self.bad_name || other.bad_name,
             foreign: self.foreign || other.foreign,
             unspeakable: self.unspeakable || other.unspeakable,
+            depth: self.depth.max(other.depth),
+            least: self.least.saturating_add(other.least),
         }
     }
 
-    /// The first of them that holds for a declaration that is printable by the first refusal.
-    pub fn first(self) -> Option<PrintFault>
+    /// The first refusal that they show of a declaration for which the first one does not hold.
+    pub fn refusal(self) -> Option<PrintFault>
         ensures { (shapes : ℕ → ShapeOf) (subject : SubjectOf) → HoldsNoneBelow 2 shapes subject
-            → AreFaultsOf shapes subject self → IsRefusalBelow 5 shapes subject result }
+            → AreFoundOf shapes subject self → IsRefusalBelow 6 shapes subject result }
     {
         if self.bad_name {
             return Some(PrintFault::BadName);
@@ -55,6 +78,12 @@ impl Faults {
         }
         if self.unspeakable {
             return Some(PrintFault::Unspeakable);
+        }
+        if self.depth > STEP_LIMIT {
+            return Some(PrintFault::TooDeep);
+        }
+        if self.least as usize > LIMIT {
+            return Some(PrintFault::TooLong);
         }
         None
     }
@@ -66,22 +95,17 @@ pub struct Summary {
     pub kind: TypeKind,
     /// The kind of the type under its row of qualifiers, or its own, if it is no qualifier.
     pub base: TypeKind,
-    /// What is wrong with an entry that it reaches, or with itself.
-    pub faults: Faults,
-    /// How many bytes its text has at least, up to one more than the limit.
-    pub least: u32,
+    pub findings: Findings,
 }
 
 /// What is known of void.
 pub const VOID: Summary = Summary {
     kind: TypeKind::Void,
     base: TypeKind::Void,
-    faults: Faults {
-        bad_name: false,
-        foreign: false,
-        unspeakable: false,
+    findings: Findings {
+        least: 4,
+        ..NOTHING
     },
-    least: 4,
 };
 
 /// The summaries of types, by their entries. Types that reach a cycle have none.
@@ -114,17 +138,7 @@ impl Summaries {
     pub fn of(&self, at: TypeAt) -> Summary
         ensures { result ≡ known_of self.now at }
     {
-        match self.get(at) {
-            Some(summary) => summary,
-            None => VOID,
-        }
-    }
-
-    /// How many bytes the text of a type has at least.
-    pub fn least(&self, at: TypeAt) -> usize
-        ensures { result ≡ least_known self.now at }
-    {
-        self.of(at).least as usize
+        self.get(at).unwrap_or(VOID)
     }
 }
 
@@ -133,66 +147,144 @@ fn is_foreign_shape(shape: &Shape<'_>) -> bool
     ensures { result ≡ is_foreign (view_shape shape.now) }
 {
     match shape {
-        Shape::Foreign => true,
-        Shape::Other => true,
+        Shape::Foreign | Shape::Other => true,
         Shape::Body(_, odd, _) => *odd,
         Shape::Enumeration(odd, _) => *odd,
         _ => false,
     }
 }
 
-/// Whether the third refusal holds for the declared entry by itself.
-fn is_own_foreign(subject: &Subject<'_>) -> bool
-    ensures { result ≡ is_own_foreign (view_subject subject.now) }
+/// The bytes of a name, if there is one.
+fn name_size(name: Name<'_>) -> usize
+    ensures { result ≡ name_size (view_name name.entry) }
 {
-    match subject {
-        Subject::Tag(_, shape) => is_foreign_shape(shape),
-        _ => false,
+    name.map_or(0, |name| name.bytes.len())
+}
+
+/// How many bytes members have at least besides those of their types, and some more.
+fn members_size(members: &[Member<'_>]) -> usize
+    ensures { result ≤ own_size (body Struct false (map view_member members.now)) }
+{
+    let mut bytes: usize = 4;
+    for member in members {
+        bytes = bytes
+            .saturating_add(name_size(member.name))
+            .saturating_add(2);
+    }
+    bytes
+}
+
+/// How many bytes enumerators have at least, and some more.
+fn enumerators_size(enumerators: &[Enumerator<'_>]) -> usize
+    ensures { result ≤ own_size (enumeration false (map view_enumerator enumerators.now)) }
+{
+    let mut bytes: usize = 4;
+    for enumerator in enumerators {
+        bytes = bytes
+            .saturating_add(name_size(enumerator.name))
+            .saturating_add(5);
+    }
+    bytes
+}
+
+/// How many bytes the text of a shape has at least besides those of the types that it names.
+fn own_size(shape: &Shape<'_>) -> usize
+    ensures { result ≤ own_size (view_shape shape.now) }
+{
+    match shape {
+        Shape::Base(name) | Shape::Typedef(name) => name_size(*name),
+        Shape::Array(counts, _, _) => counts.len(),
+        Shape::Tagged(_, name) => name.bytes.len(),
+        Shape::Body(_, _, members) => members_size(members),
+        Shape::Enumeration(_, enumerators) => enumerators_size(enumerators),
+        _ => 0,
     }
 }
 
-/// What is wrong with some types, or with what they reach.
-fn faults_under(summaries: &Summaries, types: &[TypeAt]) -> Faults
-    ensures { (shapes : ℕ → ShapeOf) → All (Knows shapes summaries.now) types.now → AreFaults shapes types.now result }
+/// What is found of an entry itself that is reached. `types` are those that it leads to.
+fn own_findings(summaries: &Summaries, shape: &Shape<'_>, types: &[TypeAt]) -> Findings
+    requires { types.now ≡ types_reached (view_shape shape.now) }
+    ensures { IsOwn (has_bad_name (kind_known summaries.now) (view_shape shape.now))
+        (is_foreign (view_shape shape.now)) (is_unspeakable summaries.now (view_shape shape.now))
+        (own_size (view_shape shape.now)) result }
 {
-    let mut faults = Faults {
-        bad_name: false,
-        foreign: false,
-        unspeakable: false,
-    };
-    for at in types {
-        faults = faults.or(summaries.of(*at).faults);
-    }
-    faults
-}
-
-/// What is wrong with an entry that is reached, or with what it reaches.
-fn faults_of(alloc: Global, summaries: &Summaries, shape: &Shape<'_>) -> Result<Faults, AllocError>
-    ensures { IfOk result (λ faults. (shapes : ℕ → ShapeOf) (entry : ℕ) → shapes entry ≡ view_shape shape.now
-        → All (Knows shapes summaries.now) (types_reached (view_shape shape.now))
-        → AreFaults shapes (Some entry ∷ []) faults) }
-{
-    let types = reached_types(alloc, shape)?;
-    let own = Faults {
+    Findings {
         bad_name: has_bad_name(summaries, shape),
         foreign: is_foreign_shape(shape),
-        unspeakable: is_unspeakable(summaries, shape),
-    };
-    Ok(own.or(faults_under(summaries, &types)))
+        unspeakable: is_unspeakable(summaries, shape, types),
+        depth: 0,
+        least: own_size(shape).min(LIMIT + 1) as u32,
+    }
 }
 
-/// What is wrong with the declared entry, or with what it reaches. `types` are those that it leads to.
-pub fn subject_faults(summaries: &Summaries, subject: &Subject<'_>, types: &[TypeAt]) -> Faults
+/// What is found of the declared entry itself. `types` are those that it leads to.
+fn own_findings_declared(summaries: &Summaries, subject: &Subject<'_>, types: &[TypeAt]) -> Findings
+    requires { types.now ≡ types_declared (view_subject subject.now) }
+    ensures { IsOwn (has_own_bad_name (kind_known summaries.now) (view_subject subject.now))
+        (is_own_foreign (view_subject subject.now)) (is_own_unspeakable summaries.now (view_subject subject.now))
+        (own_size_declared (view_subject subject.now)) result }
+{
+    match subject {
+        Subject::Typedef(name, _) => Findings {
+            bad_name: lacks_name(*name),
+            ..NOTHING
+        },
+        Subject::Variable(name, at) => Findings {
+            bad_name: lacks_name(*name),
+            unspeakable: is_void_like(summaries, *at),
+            ..NOTHING
+        },
+        Subject::Tag(name, shape) => {
+            let own = own_findings(summaries, shape, types);
+            Findings {
+                bad_name: lacks_name(*name) || own.bad_name,
+                unspeakable: own.unspeakable || is_declared_enumeration(shape),
+                ..own
+            }
+        }
+    }
+}
+
+/// What is found of some types.
+fn findings_under(summaries: &Summaries, types: &[TypeAt]) -> Findings
+    ensures found { (shapes : ℕ → ShapeOf) → All (Knows shapes summaries.now) types.now
+        → AreFound shapes types.now result }
+    ensures least { result.least ≤ sum_by (least_known summaries.now) types.now }
+{
+    let mut findings = NOTHING;
+    for at in types {
+        findings = findings.with(summaries.of(*at).findings);
+    }
+    findings
+}
+
+/// What is found of an entry that is reached.
+fn findings_of(
+    alloc: Global,
+    summaries: &Summaries,
+    shape: &Shape<'_>,
+) -> Result<Findings, AllocError>
+    ensures found { IfOk result (λ findings. (shapes : ℕ → ShapeOf) (entry : ℕ) → shapes entry ≡ view_shape shape.now
+        → All (Knows shapes summaries.now) (types_reached (view_shape shape.now))
+        → AreFound shapes (Some entry ∷ []) findings) }
+    ensures least { IfOk result
+        (λ findings. findings.least ≤ least_in (least_known summaries.now) (view_shape shape.now)) }
+{
+    let types = reached_types(alloc, shape)?;
+    let all = own_findings(summaries, shape, &types).with(findings_under(summaries, &types));
+    Ok(Findings {
+        depth: all.depth.saturating_add(1),
+        ..all
+    })
+}
+
+/// What is found of the declared entry. `types` are those that it leads to.
+pub fn findings_declared(summaries: &Summaries, subject: &Subject<'_>, types: &[TypeAt]) -> Findings
     requires { types.now ≡ types_declared (view_subject subject.now) }
     ensures { (shapes : ℕ → ShapeOf) → All (Knows shapes summaries.now) types.now
-        → AreFaultsOf shapes (view_subject subject.now) result }
+        → AreFoundOf shapes (view_subject subject.now) result }
 {
-    let own = Faults {
-        bad_name: has_own_bad_name(summaries, subject),
-        foreign: is_own_foreign(subject),
-        unspeakable: is_own_unspeakable(summaries, subject),
-    };
-    own.or(faults_under(summaries, types))
+    own_findings_declared(summaries, subject, types).with(findings_under(summaries, types))
 }
 
 /// The kind of the type under the row of qualifiers that begins with this shape.
@@ -216,12 +308,10 @@ fn summary_of(
         → All (Knows shapes summaries.now) (types_reached (view_shape shape.now))
         → IsSummary shapes (Some entry) known) }
 {
-    let faults = faults_of(alloc, summaries, shape)?;
     Ok(Summary {
         kind: kind_of(shape),
         base: base_of(summaries, shape),
-        faults,
-        least: capped(least_of(summaries, shape)),
+        findings: findings_of(alloc, summaries, shape)?,
     })
 }
 
@@ -249,103 +339,4 @@ pub fn summarize(
         summaries.nodes[node] = Some(summary);
     }
     Ok(summaries)
-}
-
-/// The sum, or one more than the limit, whichever is less.
-fn add(a: usize, b: usize) -> usize
-    ensures { result ≤ a + b }
-{
-    a.saturating_add(b).min(LIMIT + 1)
-}
-
-/// The same number, or one more than the limit, whichever is less.
-pub fn capped(bytes: usize) -> u32
-    ensures { result ≤ bytes }
-{
-    bytes.min(LIMIT + 1) as u32
-}
-
-/// The bytes of a name, if there is one.
-fn name_size(name: Name<'_>) -> usize
-    ensures { result ≡ name_size (view_name name.entry) }
-{
-    match name {
-        None => 0,
-        Some(name) => name.bytes.len(),
-    }
-}
-
-/// The bytes of the type of a member and of its name, and one more.
-fn member_least(summaries: &Summaries, member: &Member<'_>) -> usize
-    ensures { result ≤ least_members (least_known summaries.now) (view_member member.now ∷ []) }
-{
-    let named = add(summaries.least(member.type_at), name_size(member.name));
-    add(named, 1)
-}
-
-/// For each member the bytes of its type and of its name, and one more.
-fn members_least(summaries: &Summaries, members: &[Member<'_>]) -> usize
-    ensures { result ≤ least_members (least_known summaries.now) (map view_member members.now) }
-{
-    let mut bytes = 0;
-    for member in members {
-        bytes = add(bytes, member_least(summaries, member));
-    }
-    bytes
-}
-
-/// The bytes of the type of a parameter, and one more.
-fn parameter_least(summaries: &Summaries, parameter: Parameter) -> usize
-    ensures { result ≤ least_parameters (least_known summaries.now) (parameter ∷ []) }
-{
-    match parameter {
-        Parameter::Typed(at) => add(summaries.least(at), 1),
-        Parameter::More => 0,
-    }
-}
-
-/// For each parameter the bytes of its type, and one more.
-fn parameters_least(summaries: &Summaries, parameters: &[Parameter]) -> usize
-    ensures { result ≤ least_parameters (least_known summaries.now) parameters.now }
-{
-    let mut bytes = 0;
-    for parameter in parameters {
-        bytes = add(bytes, parameter_least(summaries, *parameter));
-    }
-    bytes
-}
-
-/// How many bytes the text of a shape has at least, by those of the types that it names.
-pub fn least_of(summaries: &Summaries, shape: &Shape<'_>) -> usize
-    ensures { result ≤ least_in (least_known summaries.now) (view_shape shape.now) }
-{
-    match shape {
-        Shape::Base(name) => name_size(*name),
-        Shape::Typedef(name) => name_size(*name),
-        Shape::Qualified(_, at) => summaries.least(*at),
-        Shape::Pointer(at) => summaries.least(*at),
-        Shape::Array(counts, _, at) => add(counts.len(), summaries.least(*at)),
-        Shape::Function(at, None) => summaries.least(*at),
-        Shape::Function(at, Some(parameters)) => {
-            add(
-                summaries.least(*at),
-                parameters_least(summaries, parameters),
-            )
-        }
-        Shape::Tagged(_, name) => name.bytes.len(),
-        Shape::Body(_, _, members) => members_least(summaries, members),
-        Shape::Enumeration(_, enumerators) => enumerators.len(),
-        _ => 0,
-    }
-}
-
-/// How many bytes the text of a declaration has at least.
-pub fn least_declared(summaries: &Summaries, subject: &Subject<'_>) -> usize
-    ensures { result ≤ least_declared (least_known summaries.now) (view_subject subject.now) }
-{
-    match subject {
-        Subject::Typedef(_, at) => summaries.least(*at),
-        Subject::Variable(_, at) => summaries.least(*at),
-        Subject::Tag(_, shape) => least_of(summaries, shape),
-    }
 }

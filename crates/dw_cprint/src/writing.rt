@@ -280,18 +280,16 @@ impl<'a> Survey<'a> {
                 put_counts(out, counts)?;
                 self.put_after(alloc, out, *element, below)
             }
-            Shape::Function(returned, parameters) => match parameters {
-                None => {
-                    out.put(b"()")?;
-                    self.put_after(alloc, out, *returned, below)
-                }
-                Some(parameters) => {
-                    out.put(b"(")?;
-                    self.put_parameters(alloc, out, parameters, below)?;
-                    out.put(b")")?;
-                    self.put_after(alloc, out, *returned, below)
-                }
-            },
+            Shape::Function(returned, None) => {
+                out.put(b"()")?;
+                self.put_after(alloc, out, *returned, below)
+            }
+            Shape::Function(returned, Some(parameters)) => {
+                out.put(b"(")?;
+                self.put_parameters(alloc, out, parameters, below)?;
+                out.put(b")")?;
+                self.put_after(alloc, out, *returned, below)
+            }
             _ => Ok(()),
         }
     }

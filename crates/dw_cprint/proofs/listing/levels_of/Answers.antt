@@ -1,8 +1,8 @@
 use Rattle.std.proofs.Common.{get_or, subst}
 use Rattle.dw_types.specs.Cycles.{AreClear}
 use Rattle.dw_types.specs.Graphs.{Graph}
-use Rattle.dw_cprint.specs.LongestRows.{AreLongest}
-use Rattle.dw_cprint.proofs.LongestLemmas.{all-clear}
+use Rattle.dw_types.specs.LongestRows.{AreLongest}
+use Rattle.dw_cprint.proofs.LevelLemmas.{all-clear}
 use Rattle.dw_cprint.proofs.listing.levels_of.Goals as goal
 
 pub returns : goal.returns

@@ -11,7 +11,7 @@ use Rattle.dw_cprint.specs.Regular.{IsRegular}
 use Rattle.dw_cprint.specs.Shapes.{ShapeOf, TypeAt, view_shape}
 use Rattle.dw_cprint.specs.Steps.{entries_of, steps_reached, types_reached}
 use Rattle.dw_cprint.specs.declared.shape.Shape.{Shape}
-use Rattle.dw_cprint.proofs.LongestLemmas.{few-entries}
+use Rattle.dw_cprint.proofs.LevelLemmas.{few-entries}
 use Rattle.dw_cprint.proofs.ReachLemmas.{so_far-start, so_far-more, so_far-done, read-done, packed-start, packed-more, rows-more, room}
 use Rattle.dw_cprint.proofs.WithinLemmas.{shape_within}
 use Rattle.dw_cprint.proofs.reaching.reach.Goals as goal

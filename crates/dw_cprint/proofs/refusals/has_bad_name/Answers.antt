@@ -1,7 +1,11 @@
-use Rattle.std.proofs.Common.{◌≡◌, sym, subst}
-use Rattle.dw_cprint.specs.Shapes.{EnumeratorOf, MemberOf, view_enumerator, view_member, view_shape}
+use Rattle.std.proofs.Common.{◌≡◌, sym, subst, rules, tests}
+use Rattle.std.proofs.lemmas.Iterator.{YieldsList-from_slice}
+use Rattle.std.proofs.lemmas.Iterator.Search.{any_from_yields_List}
+use Rattle.dw_cprint.specs.Shapes.{EnumeratorOf, MemberOf, view_enumerator, view_member, view_name, view_shape}
 use Rattle.dw_cprint.specs.Summaries.{kind_known}
 use Rattle.dw_cprint.specs.Wrong.{has_bad_name, lacks_member_name, lacks_name}
+use Rattle.dw_cprint.specs.declared.shape.Enumerator.{Enumerator}
+use Rattle.dw_cprint.specs.declared.shape.Member.{Member}
 use Rattle.dw_cprint.specs.declared.shape.Shape.{Shape}
 use Rattle.dw_cprint.proofs.FaultLemmas.{seen_any}
 use Rattle.dw_cprint.proofs.refusals.has_bad_name.Goals as goal
@@ -9,12 +13,16 @@ use Rattle.dw_cprint.proofs.refusals.has_bad_name.Goals as goal
 pub returns-in-Body : goal.returns-in-Body
 returns-in-Body c =
     let kinds = kind_known c.args.summaries.now in
-    let P : Shape → Type 0 = λ s. c.has_wrong_member_name.result ≡ has_bad_name kinds (view_shape s) in
+    let P : Shape → Type 0 = λ s. c.any.result ≡ has_bad_name kinds (view_shape s) in
     subst P (sym c.in-Body.is)
-    (seen_any (λ (m : MemberOf). lacks_member_name (kinds m.type_at) m.bits m.name) view_member _ _ _ c.has_wrong_member_name.ensures c.deref.ensures.value)
+    (seen_any (λ (m : MemberOf). lacks_member_name (kinds m.type_at) m.bits m.name) view_member _ _ _
+    (any_from_yields_List (λ (m : Member). lacks_member_name (kinds m.type_at) m.bits (view_name m.name)) _ _ _ c.any.ensures.ran (YieldsList-from_slice c.deref.result.now cc) (λ x b q k. search (rules, tests)))
+    c.deref.ensures.value)
 
 pub returns-in-Enumeration : goal.returns-in-Enumeration
 returns-in-Enumeration c =
-    let P : Shape → Type 0 = λ s. c.has_wrong_enumerator_name.result ≡ has_bad_name (kind_known c.args.summaries.now) (view_shape s) in
+    let P : Shape → Type 0 = λ s. c.any-in-Enumeration.result ≡ has_bad_name (kind_known c.args.summaries.now) (view_shape s) in
     subst P (sym c.in-Enumeration.is)
-    (seen_any (λ (e : EnumeratorOf). lacks_name e.name) view_enumerator _ _ _ c.has_wrong_enumerator_name.ensures c.deref-in-Enumeration.ensures.value)
+    (seen_any (λ (e : EnumeratorOf). lacks_name e.name) view_enumerator _ _ _
+    (any_from_yields_List (λ (e : Enumerator). lacks_name (view_name e.name)) _ _ _ c.any-in-Enumeration.ensures.ran (YieldsList-from_slice c.deref-in-Enumeration.result.now cc) (λ x b q k. search (rules, tests)))
+    c.deref-in-Enumeration.ensures.value)

@@ -1,4 +1,4 @@
-use Rattle.std.proofs.Common.{◌≡◌, ℕ, ◌%◌, ◌/◌, ◌+◌, ◌∷◌, [], List, Option, sym, ap, ◌∙◌, arith}
+use Rattle.std.proofs.Common.{ℕ, ◌%◌, ◌/◌, ◌+◌, ◌∷◌, [], List, Option, sym, ap, ◌∙◌, arith}
 use Rattle.dw_cprint.specs.Digits.{numeral}
 use Rattle.dw_cprint.specs.Drafts.{appended}
 use Rattle.dw_cprint.proofs.DraftLemmas.{appended-twice}
@@ -11,6 +11,6 @@ returns t c =
     let n = c.args.n in
     let old = c.args.out.now in
     let last = (48 + n % 10) ∷ [] in
-    ok_then c.put-2.result (c.put-2.new.self ≡ appended c.put_number.new.out last) (c.put-2.new.self ≡ appended old (numeral n))
+    ok_then c.put-2.result _ _
     (λ h. h ∙ ap (λ (o : Option (List ℕ)). appended o last) c.in_ok-put_number.ensures ∙ appended-twice old (numeral (n / 10)) last ∙ ap (appended old) (sym (numeral_step n (omega arith))))
     c.put-2.ensures

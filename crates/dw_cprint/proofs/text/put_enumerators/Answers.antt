@@ -1,11 +1,11 @@
 use Rattle.std.proofs.Common.{◌+◌, ◌∙◌, ◌∷◌, [], List, map, drop, ap, sym, subst, refl}
 use Rattle.std.proofs.lemmas.List.{drop_all}
-use Rattle.dw_cprint.specs.Kept.{Writes, WritesEnumerators}
+use Rattle.dw_cprint.specs.Kept.{WritesEnumerators}
 use Rattle.dw_cprint.specs.Tokens.{Blank, RightBrace, text_of}
 use Rattle.dw_cprint.specs.Shapes.{EnumeratorOf, view_enumerator}
 use Rattle.dw_cprint.proofs.DraftLemmas.{none-is, over-stays}
 use Rattle.dw_cprint.proofs.OptionLemmas.{ok_then}
-use Rattle.dw_cprint.proofs.ItemWriterLemmas.{next-of, EnumeratorsLeft, enumerators_next, enumerators_over, enumerators_done}
+use Rattle.dw_cprint.proofs.ItemWriterLemmas.{IsLeft, next-of, left-over, enumerators_left, enumerators_next, enumerators_done}
 use Rattle.dw_cprint.proofs.text.put_enumerators.Goals as goal
 
 pub loop-enumerator-preserved : goal.loop-enumerator-preserved
@@ -14,7 +14,7 @@ loop-enumerator-preserved c =
     let all = map view_enumerator others in
     let i = c.loop-enumerator.enumerator-index in
     let one = c.enumerator-item.result in
-    let P : List EnumeratorOf → Type 0 = λ left. EnumeratorsLeft all c.put_enumerator.new.out left c.loop-enumerator.out in
+    let P : List EnumeratorOf → Type 0 = λ left. IsLeft enumerators_left all c.put_enumerator.new.out left c.loop-enumerator.out in
     enumerators_next all (view_enumerator one) (map view_enumerator (drop (i + 1) others)) c.put_enumerator.new.out c.loop-enumerator.out
     c.put-in-loop-enumerator.new.self c.put_enumerator-in-loop-enumerator.new.out
     (subst P (next-of view_enumerator others i one c.enumerator-item.is c.loop-enumerator-test.true) c.loop-enumerator.invariant) c.in_ok-put-2.ensures c.in_ok-put_enumerator-2.ensures
@@ -25,11 +25,11 @@ returns c =
     let old = c.put_enumerator.new.out in
     let out = c.loop-enumerator.out in
     let new = c.put-3.new.self in
-    let P : List EnumeratorOf → Type 0 = λ left. EnumeratorsLeft all old left out in
+    let P : List EnumeratorOf → Type 0 = λ left. IsLeft enumerators_left all old left out in
     let none = ap (map view_enumerator) (drop_all c.loop-enumerator.enumerator-index c.in-Some.others.now c.loop-enumerator-test.false) in
     let left = subst P none c.loop-enumerator.invariant in
     let Q : List EnumeratorOf → Type 0 = λ es. WritesEnumerators es c.args.out.now new in
-    ok_then c.put-3.result (Writes (Blank ∷ RightBrace ∷ []) out new) (Q (map view_enumerator c.args.enumerators.now))
+    ok_then c.put-3.result _ _
     (λ closes. subst Q (sym (ap (map view_enumerator) c.in-Some.ensures.cases.0))
     (enumerators_done (view_enumerator c.in-Some.first.now) all c.args.out.now c.put-2.new.self old out new c.in_ok-put.ensures c.in_ok-put_enumerator.ensures left closes))
     c.put-3.ensures
@@ -43,4 +43,4 @@ returns-then-is_over c =
     let Q : List EnumeratorOf → Type 0 = λ es. WritesEnumerators es c.args.out.now out in
     subst Q (sym (ap (map view_enumerator) c.in-Some.ensures.cases.0))
     (enumerators_done (view_enumerator c.in-Some.first.now) all c.args.out.now c.put-2.new.self old out out c.in_ok-put.ensures c.in_ok-put_enumerator.ensures
-    (enumerators_over all (map view_enumerator (drop c.loop-enumerator.enumerator-index c.in-Some.others.now)) old out is c.loop-enumerator.invariant) (over-stays out out (text_of (Blank ∷ RightBrace ∷ [])) is refl))
+    (left-over enumerators_left all old _ out refl is c.loop-enumerator.invariant) (over-stays out out (text_of (Blank ∷ RightBrace ∷ [])) is refl))

@@ -2,7 +2,7 @@ use Rattle.std.proofs.Common.{◌+◌, ◌*◌, map, drop}
 use Rattle.dw_cprint.specs.Declarations.{term_at}
 use Rattle.dw_cprint.specs.Kept.{kept}
 use Rattle.dw_cprint.specs.Shapes.{view_member}
-use Rattle.dw_cprint.proofs.ItemWriterLemmas.{MembersLeft, ParametersLeft}
+use Rattle.dw_cprint.proofs.ItemWriterLemmas.{IsLeft, members_left, parameters_left}
 use Rattle.dw_cprint.proofs.survey.Survey.+writing.Given as goal
 
 -- calls fall in depth, or stay there and go on to what needs less
@@ -32,7 +32,7 @@ decreases-put_core l = 5 * l.depth + 4
 
 abbrev pub invariant-put_members-loop-member : goal.invariant-put_members-loop-member
 invariant-put_members-loop-member l =
-    MembersLeft (term_at l.depth (kept l.self)) (map view_member l.members) l.initial.out (map view_member (drop l.member-index l.members)) l.out
+    IsLeft (members_left (term_at l.depth (kept l.self))) (map view_member l.members) l.initial.out (map view_member (drop l.member-index l.members)) l.out
 
 abbrev pub invariant-put_parameters-loop-parameter : goal.invariant-put_parameters-loop-parameter
-invariant-put_parameters-loop-parameter l = ParametersLeft (term_at l.depth (kept l.self)) l.others l.initial.out (drop l.parameter-index l.others) l.out
+invariant-put_parameters-loop-parameter l = IsLeft (parameters_left (term_at l.depth (kept l.self))) l.others l.initial.out (drop l.parameter-index l.others) l.out

@@ -29,11 +29,11 @@ returns c =
     let graph = cut r.graph.steps 0 r.graph.ends in
     let clear = c.in_ok-clear.clear.by_rank in
     let summaries = c.in_ok-summaries.summaries in
-    let s : Survey = record { shapes = r.shapes; summaries = summaries; depths = c.in_ok-depths.depths } in
+    let s : Survey = record { shapes = r.shapes; summaries = summaries } in
     let R : List ℕ → Type 0 = λ xs. IsReachOf shapes xs r.places.items r.found graph in
     let reach = subst R (ap entries_of c.deref.ensures.value ∙ c.in_ok-types.ensures) c.in_ok-reached.ensures.reach in
     let N : List Shape → Type 0 = λ kept. AreNodes shapes r.places.items r.found kept clear in
     let nodes = nodes-of shapes roots r.places.items r.found graph reach r.shapes.items clear c.in_ok-reached.ensures.shapes c.in_ok-clear.ensures in
     let right = c.in_ok-summaries.ensures.right shapes r.found (subst N (sym c.deref-2.ensures.value) nodes) in
     survey-done shapes roots r.places.items r.found graph reach s c.in_ok-summaries.ensures.places clear c.in_ok-summaries.ensures.clear
-    c.in_ok-reached.ensures.shapes c.in_ok-reached.ensures.fit right c.in_ok-clear.ensures c.in_ok-depths.ensures
+    c.in_ok-reached.ensures.shapes c.in_ok-reached.ensures.fit right c.in_ok-clear.ensures

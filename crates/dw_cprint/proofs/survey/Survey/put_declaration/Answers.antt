@@ -1,7 +1,6 @@
-use Rattle.std.proofs.Common.{[], ◌∷◌, ap, sym, subst}
+use Rattle.std.proofs.Common.{ap, sym, subst}
 use Rattle.dw_cprint.specs.Declarations.{declaration_of, term_at}
-use Rattle.dw_cprint.specs.Kept.{kept, Writes, WritesDeclaration}
-use Rattle.dw_cprint.specs.Tokens.{Semicolon}
+use Rattle.dw_cprint.specs.Kept.{kept, WritesDeclaration}
 use Rattle.dw_cprint.specs.Shapes.{SubjectOf, view_name, view_subject}
 use Rattle.dw_cprint.proofs.OptionLemmas.{ok_then}
 use Rattle.dw_cprint.proofs.WriterLemmas.{typedef_done, variable_done}
@@ -10,23 +9,17 @@ use Rattle.dw_cprint.proofs.survey.Survey.put_declaration.Goals as goal
 pub returns-in_ok-put_named-in-Typedef : goal.returns-in_ok-put_named-in-Typedef
 unfolding declaration_of
 returns-in_ok-put_named-in-Typedef c =
-    let s = c.args.self.now in
-    let mid = c.put.new.self in
-    let mid2 = c.put_named.new.out in
-    let new = c.put-in-Typedef.new.self in
-    let P : SubjectOf → Type 0 = λ subject. WritesDeclaration s subject c.args.out.now new in
-    ok_then c.put-in-Typedef.result (Writes (Semicolon ∷ []) mid2 new) (P (view_subject c.args.subject.now))
+    let P : SubjectOf → Type 0 = λ subject. WritesDeclaration c.args.self.now subject c.args.out.now c.put-in-Typedef.new.self in
+    ok_then _ _ _
     (λ last. subst P (sym (ap view_subject c.in-Typedef.is))
-    (typedef_done (term_at 65 (kept s)) c.args.out.now mid mid2 new (view_name c.in-Typedef.name) c.in-Typedef.at c.in_ok-put-in-Typedef.ensures c.in_ok-put_named-in-Typedef.ensures last))
+    (typedef_done (term_at 65 (kept c.args.self.now)) _ _ _ _ (view_name c.in-Typedef.name) c.in-Typedef.at c.in_ok-put-in-Typedef.ensures c.in_ok-put_named-in-Typedef.ensures last))
     c.put-in-Typedef.ensures
 
 pub returns-in_ok-put_named-in-Variable : goal.returns-in_ok-put_named-in-Variable
 unfolding declaration_of
 returns-in_ok-put_named-in-Variable c =
-    let mid = c.put_named-in-Variable.new.out in
-    let new = c.put-in-Variable.new.self in
-    let P : SubjectOf → Type 0 = λ subject. WritesDeclaration c.args.self.now subject c.args.out.now new in
-    ok_then c.put-in-Variable.result (Writes (Semicolon ∷ []) mid new) (P (view_subject c.args.subject.now))
+    let P : SubjectOf → Type 0 = λ subject. WritesDeclaration c.args.self.now subject c.args.out.now c.put-in-Variable.new.self in
+    ok_then _ _ _
     (λ last. subst P (sym (ap view_subject c.in-Variable.is))
-    (variable_done (term_at 65 (kept c.args.self.now)) c.args.out.now mid mid new (view_name c.in-Variable.name) c.in-Variable.at c.in_ok-put_named-in-Variable.ensures last))
+    (variable_done (term_at 65 (kept c.args.self.now)) _ _ c.put_named-in-Variable.new.out _ (view_name c.in-Variable.name) c.in-Variable.at c.in_ok-put_named-in-Variable.ensures last))
     c.put-in-Variable.ensures
