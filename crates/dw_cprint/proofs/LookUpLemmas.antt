@@ -1,13 +1,13 @@
--- What is read of an entry, and of a list of children from its front.
+-- What is read of an entry, and of its children from the first on.
 use Rattle.std.proofs.Common.{suc, ◌+◌, true, false, Bool, [], ◌∷◌, ◌≡◌, ℕ, ◌<◌, ◌≤◌, List, Option, Some, None, IfSome}
-use Rattle.std.proofs.Common.{refl, ap, ◌∙◌, arith, length, inl, inr, ◌++◌, sym, get_or, drop, drop-cons, add-one}
-use Rattle.std.proofs.Common.{append_assoc, map}
-use Rattle.std.specs.Prelude.{slice_get, option_and_then, option_map, is_some, All, if◌then◌else◌, filter}
+use Rattle.std.proofs.Common.{refl, ap, ◌∙◌, arith, length, inl, inr, ◌++◌, sym, subst, append-nil, map}
+use Rattle.std.specs.List.{filter_map, list_any}
+use Rattle.std.specs.Prelude.{slice_get, option_and_then, option_map, is_some, All, if◌then◌else◌}
 use Rattle.std.specs.Option.{option_map_or}
 use Rattle.std.proofs.lemmas.Option.{slice_get_cases}
-use Rattle.std.proofs.lemmas.List.Elements.{All-nil, All-cons}
-use Rattle.std.proofs.lemmas.List.{map-append}
+use Rattle.std.proofs.lemmas.List.Elements.{All-nil, All-cons, All-head, All-tail}
 use Rattle.dw_entries.specs.Entries.{Entry}
+use Rattle.dw_cprint.specs.Children.{AreKept}
 use Rattle.dw_image.specs.Lookups.{is_number, children_from, children_of}
 
 none_past : (es : List Entry) (i : ℕ) → slice_get es i ≡ None → length es ≤ i
@@ -54,24 +54,34 @@ named_there {P = P} es id text name place within says = mapped place ∙ ap is_s
     mapped None = refl
     mapped (Some x) = refl
 
--- ---- reading a list of children from its front: what was read, and what is left
+-- ---- reading children from the first on
 
--- a child that is taken
-pub taken : {X : Type 0} (f : ℕ → X) (p : ℕ → Bool) (new out all : List X) (y : X) (xs : List ℕ) (i x : ℕ) → new ≡ out ++ y ∷ [] → y ≡ f x → i < length xs → x ≡ get_or xs i x → p x ≡ true
-    → out ++ map f (filter p (drop i xs)) ≡ all → new ++ map f (filter p (drop (i + 1) xs)) ≡ all
-taken {X = X} f p new out all y xs i x pushed read within is passes so_far =
-    let split : drop i xs ≡ x ∷ drop (suc i) xs = drop-cons xs i x within ∙ ap (λ (z : ℕ). z ∷ drop (suc i) xs) (sym is) in
-    let here : map f (filter p (drop i xs)) ≡ f x ∷ map f (filter p (drop (suc i) xs)) = rw (split, passes) refl in
-    rw (add-one, pushed, read) (append_assoc out (f x ∷ []) (map f (filter p (drop (suc i) xs))) ∙ ap (λ (u : List X). out ++ u) (sym here) ∙ so_far)
+-- the first child passes a test
+pub any-first : (passes : ℕ → Bool) (left : List ℕ) (child : ℕ) (rest : List ℕ) → left ≡ child ∷ rest → true ≡ passes child → true ≡ list_any passes left
+any-first passes left child rest is e = rw (is, sym e) refl
 
--- a child that is not
-pub passed : {X : Type 0} (f : ℕ → X) (p : ℕ → Bool) (new out all : List X) (xs : List ℕ) (i x : ℕ) → new ≡ out → i < length xs → x ≡ get_or xs i x → p x ≡ false
-    → out ++ map f (filter p (drop i xs)) ≡ all → new ++ map f (filter p (drop (i + 1) xs)) ≡ all
-passed {X = X} f p new out all xs i x same within is fails so_far =
-    let split : drop i xs ≡ x ∷ drop (suc i) xs = drop-cons xs i x within ∙ ap (λ (z : ℕ). z ∷ drop (suc i) xs) (sym is) in
-    let here : map f (filter p (drop i xs)) ≡ map f (filter p (drop (suc i) xs)) = rw (split, fails) refl in
-    rw (add-one, same) (ap (λ (u : List X). out ++ u) (sym here) ∙ so_far)
+-- it does not
+pub any-next : (passes : ℕ → Bool) (left : List ℕ) (child : ℕ) (rest : List ℕ) (found : Bool) → left ≡ child ∷ rest → false ≡ passes child → found ≡ list_any passes rest
+    → found ≡ list_any passes left
+any-next passes left child rest found is e same = rw (is, sym e) same
 
--- what is seen of a list behind which one more stands
-pub seen : {X Y : Type 0} (g : Y → X) (new out : List Y) (y : Y) → new ≡ out ++ y ∷ [] → map g new ≡ map g out ++ g y ∷ []
-seen g new out y pushed = ap (map g) pushed ∙ map-append g out (y ∷ [])
+-- what is kept of all, if the rest is kept of those that are left
+abbrev pub KeepsSoFar : {T : Type 0} → (ℕ → Option T → Type 0) → (all left : List ℕ) → List T → Type 0
+KeepsSoFar {T = T} read all left kept = (rest : List T) → AreKept read left rest → AreKept read all (kept ++ rest)
+
+-- none is left
+pub kept-all : {T : Type 0} (read : ℕ → Option T → Type 0) (all left : List ℕ) (kept : List T) → KeepsSoFar read all left kept → left ≡ [] → AreKept read all kept
+kept-all {T = T} read all [] kept so_far is = subst (λ (ts : List T). AreKept read all ts) (append-nil kept) (so_far [] refl)
+kept-all read all (x ∷ xs) kept so_far is = absurd cc
+
+-- what is kept of the children of an entry, if a function gives the value of what each call returns
+pub kept-are : {T V : Type 0} (view : T → V) (f : ℕ → Option V) (es : List Entry) (id : ℕ) (read : ℕ → Option T → Type 0) (kept : List T) → AreKept read (children_of es id) kept
+    → ((child : ℕ) (one : Option T) → child < length es → read child one → option_map view one ≡ f child) → map view kept ≡ filter_map f (children_of es id)
+kept-are {T} view f es id read kept keeps says = go (children_of es id) kept keeps (children_within es id)
+  where
+    go : (all : List ℕ) (kept : List T) → AreKept read all kept → All (λ child. child < length es) all → map view kept ≡ filter_map f all
+    go [] kept keeps within = ap (map view) keeps
+    go (child ∷ all) kept (None, rest, is, same, keeps) within =
+        rw (same, sym (says child None (All-head (λ child. child < length es) child all within) is)) (go all rest keeps (All-tail (λ child. child < length es) child all within))
+    go (child ∷ all) kept (Some one, rest, is, same, keeps) within =
+        rw (same, sym (says child (Some one) (All-head (λ child. child < length es) child all within) is), go all rest keeps (All-tail (λ child. child < length es) child all within)) refl

@@ -1,6 +1,7 @@
 -- Each type that a shape or a declaration names is an entry.
 use Rattle.std.proofs.Common.{◌≡◌, ℕ, ◌<◌, Bool, true, false, List, [], ◌∷◌, Option, Some, None, refl, length, map, arith}
-use Rattle.std.specs.Prelude.{slice_get, option_and_then, All, filter, ◌==◌, if◌then◌else◌}
+use Rattle.std.specs.Prelude.{slice_get, option_and_then, All, ◌==◌, if◌then◌else◌}
+use Rattle.std.specs.List.{cons_option, filter_map}
 use Rattle.std.proofs.lemmas.List.Elements.{All-nil, All-cons, All-append}
 use Rattle.std.proofs.lemmas.Option.{slice_get_within}
 use Rattle.dw_entries.specs.Entries.{Entry}
@@ -8,9 +9,9 @@ use Rattle.dw_image.specs.declared.image.Image.{Image}
 use Rattle.dw_image.specs.Images.{entries_in, type_in}
 use Rattle.dw_image.specs.Lookups.{is_type_entry, type_number}
 use Rattle.dw_forms.specs.Codes.{DW_AT_prototyped, DW_TAG_array_type, DW_TAG_atomic_type, DW_TAG_base_type, DW_TAG_const_type, DW_TAG_enumeration_type, DW_TAG_pointer_type, DW_TAG_restrict_type, DW_TAG_structure_type, DW_TAG_subroutine_type, DW_TAG_typedef, DW_TAG_union_type, DW_TAG_variable, DW_TAG_volatile_type, is_type_tag}
-use Rattle.dw_cprint.specs.EntryShapes.{member_at, parameter_at, parameters_in, parameters_of, shape_in, subject_in, body_in, tag_in, tag_shape, declared_name, is_plain_member, is_parameter, counts_in, is_strange}
+use Rattle.dw_cprint.specs.EntryShapes.{member_at, parameter_at, parameters_in, shape_in, subject_in, body_in, tag_in, tag_shape, declared_name, counts_in, is_strange}
 use Rattle.dw_cprint.specs.LookUps.{tag_at, type_at, name_at, flag_at, declared_at, children_at}
-use Rattle.dw_cprint.specs.Shapes.{Parameter, Typed, More, TagKeyword, Struct, Union, Enum, Const, Volatile, Restrict, Atomic, base, typedef, qualified, pointer, array, function, foreign, other, Name, TypeAt, ShapeOf, nameless, SubjectOf, typedef_subject, variable_subject, tag_subject}
+use Rattle.dw_cprint.specs.Shapes.{Parameter, Typed, More, TagKeyword, Struct, Union, Enum, Const, Volatile, Restrict, Atomic, base, typedef, qualified, pointer, array, function, foreign, other, Name, TypeAt, MemberOf, ShapeOf, nameless, SubjectOf, typedef_subject, variable_subject, tag_subject}
 use Rattle.dw_cprint.specs.Steps.{entries_of, parameter_types, member_types, types_reached, types_declared, first_steps, roots_of}
 
 one_within : (b : Bool) (n id to : ℕ) → id < n → (if b then Some id else None) ≡ Some to → to < n
@@ -55,17 +56,24 @@ more_within n (Some to) types below rest = record { all = All-cons (λ to. to < 
 type_more : (image : Image) (id : ℕ) (types : List (Option ℕ)) → AreWithin (length (entries_in image)) types → AreWithin (length (entries_in image)) (type_at image id ∷ types)
 type_more image id types rest = more_within (length (entries_in image)) (type_at image id) types (type_within image id) rest
 
-members_within : (image : Image) (ids : List ℕ) → AreWithin (length (entries_in image)) (member_types (map (member_at image) ids))
+member_more : (n : ℕ) (b : Bool) (m : MemberOf) (ms : List MemberOf) → ((to : ℕ) → m.type_at ≡ Some to → to < n) → AreWithin n (member_types ms)
+    → AreWithin n (member_types (cons_option (if b then Some m else None) ms))
+member_more n true m ms below rest = more_within n m.type_at (member_types ms) below rest
+member_more n false m ms below rest = rest
+
+members_within : (image : Image) (ids : List ℕ) → AreWithin (length (entries_in image)) (member_types (filter_map (member_at image) ids))
 members_within image [] = none_within (length (entries_in image))
-members_within image (id ∷ ids) = type_more image id (member_types (map (member_at image) ids)) (members_within image ids)
+members_within image (id ∷ ids) = member_more (length (entries_in image)) _ _ (filter_map (member_at image) ids) (type_within image id) (members_within image ids)
 
-parameter_within : (n : ℕ) (b : Bool) (at : TypeAt) (ps : List Parameter) → ((to : ℕ) → at ≡ Some to → to < n) → AreWithin n (parameter_types ps) → AreWithin n (parameter_types ((if b then Typed at else More) ∷ ps))
-parameter_within n true at ps below rest = more_within n at (parameter_types ps) below rest
-parameter_within n false at ps below rest = rest
+parameter_more : (n : ℕ) (a b : Bool) (at : TypeAt) (ps : List Parameter) → ((to : ℕ) → at ≡ Some to → to < n) → AreWithin n (parameter_types ps)
+    → AreWithin n (parameter_types (cons_option (if a then Some (Typed at) else if b then Some More else None) ps))
+parameter_more n true b at ps below rest = more_within n at (parameter_types ps) below rest
+parameter_more n false true at ps below rest = rest
+parameter_more n false false at ps below rest = rest
 
-parameters_within : (image : Image) (ids : List ℕ) → AreWithin (length (entries_in image)) (parameter_types (map (parameter_at image) ids))
+parameters_within : (image : Image) (ids : List ℕ) → AreWithin (length (entries_in image)) (parameter_types (filter_map (parameter_at image) ids))
 parameters_within image [] = none_within (length (entries_in image))
-parameters_within image (id ∷ ids) = parameter_within (length (entries_in image)) _ (type_at image id) (map (parameter_at image) ids) (type_within image id) (parameters_within image ids)
+parameters_within image (id ∷ ids) = parameter_more (length (entries_in image)) _ _ (type_at image id) (filter_map (parameter_at image) ids) (type_within image id) (parameters_within image ids)
 
 none_shape : (n : ℕ) (s : ShapeOf) → types_reached s ≡ [] → IsWithin n s
 none_shape n s none = record { all = rw none (none_within n) }
@@ -74,13 +82,13 @@ either : (n : ℕ) (b : Bool) (x y : ShapeOf) → IsWithin n x → IsWithin n y 
 either n true x y one another = one
 either n false x y one another = another
 
-function_within : (image : Image) (id : ℕ) (b : Bool) (ids : List ℕ) → IsWithin (length (entries_in image)) (function (type_at image id) (if b then Some (parameters_of image ids) else None))
-function_within image id true ids = record { all = type_more image id (parameter_types (parameters_of image ids)) (parameters_within image (filter (is_parameter image) ids)) }
+function_within : (image : Image) (id : ℕ) (b : Bool) (ids : List ℕ) → IsWithin (length (entries_in image)) (function (type_at image id) (if b then Some (filter_map (parameter_at image) ids) else None))
+function_within image id true ids = record { all = type_more image id (parameter_types (filter_map (parameter_at image) ids)) (parameters_within image ids) }
 function_within image id false ids = record { all = type_more image id [] (none_within (length (entries_in image))) }
 
 body_within : (image : Image) (id : ℕ) (word : TagKeyword) → IsWithin (length (entries_in image)) (body_in image id word)
 body_within image id Enum = none_shape (length (entries_in image)) _ refl
-body_within image id _ = record { all = members_within image (filter (is_plain_member image) (children_at image id)) }
+body_within image id _ = record { all = members_within image (children_at image id) }
 
 tag_within : (image : Image) (id : ℕ) (word : TagKeyword) (name : Name) → IsWithin (length (entries_in image)) (tag_shape image id word name)
 tag_within image id word (Some name) = none_shape (length (entries_in image)) _ refl

@@ -1,7 +1,7 @@
 -- Chapter: the shape of each entry of an image, by its tag, its attributes and its children (DWARF 5, chapter 5).
-use Rattle.std.specs.Prelude.{ℕ, pos, zero, suc, Bool, ◌==◌, ◌&&◌, ◌||◌, not, List, Option, Some, None, map, filter}
+use Rattle.std.specs.Prelude.{ℕ, pos, zero, suc, Bool, ◌==◌, ◌&&◌, ◌||◌, not, List, Option, Some, None}
 use Rattle.std.specs.Prelude.{if◌then◌else◌}
-use Rattle.std.specs.List.{list_any}
+use Rattle.std.specs.List.{list_any, filter_map}
 use Rattle.dw_forms.specs.Codes.{DW_AT_bit_size, DW_AT_bit_stride, DW_AT_byte_stride, DW_AT_const_value}
 use Rattle.dw_forms.specs.Codes.{DW_AT_prototyped, DW_TAG_array_type, DW_TAG_atomic_type, DW_TAG_base_type}
 use Rattle.dw_forms.specs.Codes.{DW_TAG_const_type, DW_TAG_enumeration_type, DW_TAG_enumerator, DW_TAG_formal_parameter}
@@ -45,9 +45,13 @@ has_stride image id = has_at image id DW_AT_byte_stride || has_at image id DW_AT
 abbrev pub is_strided_dimension : Image → ℕ → Bool
 is_strided_dimension image id = is_dimension image id && has_stride image id
 
+-- the count of a child that is a dimension
+abbrev pub dimension_at : Image → ℕ → Option (Option ℕ)
+dimension_at image id = if is_dimension image id then Some (count_in image id) else None
+
 -- the counts of the dimensions
 abbrev pub counts_in : Image → ℕ → List (Option ℕ)
-counts_in image id = map (count_in image) (filter (is_dimension image) (children_at image id))
+counts_in image id = filter_map (dimension_at image) (children_at image id)
 
 -- a stride, or a dimension that is no subrange
 abbrev pub is_strange : Image → ℕ → Bool
@@ -58,22 +62,17 @@ is_strange image id =
 
 -- ---- subroutines (DWARF 5, 5.8)
 
--- a parameter, or the entry that represents unspecified parameters
-abbrev pub is_parameter : Image → ℕ → Bool
-is_parameter image id = tag_at image id == DW_TAG_formal_parameter || tag_at image id == DW_TAG_unspecified_parameters
-
--- a parameter by its type, or unspecified parameters
-abbrev pub parameter_at : Image → ℕ → Parameter
-parameter_at image id = if tag_at image id == DW_TAG_formal_parameter then Typed (type_at image id) else More
-
--- the parameters among these children
-abbrev pub parameters_of : Image → List ℕ → List Parameter
-parameters_of image ids = map (parameter_at image) (filter (is_parameter image) ids)
+-- a parameter by its type, or unspecified parameters, if a child is one
+abbrev pub parameter_at : Image → ℕ → Option Parameter
+parameter_at image id =
+    if tag_at image id == DW_TAG_formal_parameter then Some (Typed (type_at image id))
+    else if tag_at image id == DW_TAG_unspecified_parameters then Some More
+    else None
 
 -- the parameters of a subroutine type that is prototyped; none if it is not
 abbrev pub parameters_in : Image → ℕ → Option (List Parameter)
 parameters_in image id =
-    if flag_at image id DW_AT_prototyped then Some (parameters_of image (children_at image id)) else None
+    if flag_at image id DW_AT_prototyped then Some (filter_map (parameter_at image) (children_at image id)) else None
 
 -- ---- structures and unions (DWARF 5, 5.7)
 
@@ -86,32 +85,33 @@ bits_in (Some (signed (pos zero))) = Wrong
 bits_in (Some (signed (pos (suc n)))) = Number (suc n)
 bits_in (Some _) = Wrong
 
--- a child with tag member that is not declared
-abbrev pub is_plain_member : Image → ℕ → Bool
-is_plain_member image id = tag_at image id == DW_TAG_member && not (declared_at image id)
-
--- a member: its name, its type and its bit size
-abbrev pub member_at : Image → ℕ → MemberOf
+-- a child that is a member and not declared: its name, its type and its bit size
+abbrev pub member_at : Image → ℕ → Option MemberOf
 member_at image id =
-    record { name = name_at image id; type_at = type_at image id; bits = bits_in (value_at image id DW_AT_bit_size) }
+    if tag_at image id == DW_TAG_member && not (declared_at image id)
+    then Some (record {
+      name = name_at image id;
+      type_at = type_at image id;
+      bits = bits_in (value_at image id DW_AT_bit_size);
+    })
+    else None
 
 -- the plain members of a structure or a union, in rising offset
 abbrev pub members_in : Image → ℕ → List MemberOf
-members_in image id = map (member_at image) (filter (is_plain_member image) (children_at image id))
+members_in image id = filter_map (member_at image) (children_at image id)
 
 -- ---- enumerations (DWARF 5, 5.9)
 
--- a child with tag enumerator
-abbrev pub is_enumerator : Image → ℕ → Bool
-is_enumerator image id = tag_at image id == DW_TAG_enumerator
-
--- an enumerator: its name, and its value if that is a number
-abbrev pub enumerator_at : Image → ℕ → EnumeratorOf
-enumerator_at image id = record { name = name_at image id; value = integer_at image id DW_AT_const_value }
+-- a child that is an enumerator: its name, and its value if that is a number
+abbrev pub enumerator_at : Image → ℕ → Option EnumeratorOf
+enumerator_at image id =
+    if tag_at image id == DW_TAG_enumerator
+    then Some (record { name = name_at image id; value = integer_at image id DW_AT_const_value })
+    else None
 
 -- the enumerators of an enumeration, in rising offset
 abbrev pub enumerators_in : Image → ℕ → List EnumeratorOf
-enumerators_in image id = map (enumerator_at image) (filter (is_enumerator image) (children_at image id))
+enumerators_in image id = filter_map (enumerator_at image) (children_at image id)
 
 -- ---- all entries
 

@@ -14,6 +14,7 @@ pub mod Refusals
 pub mod Reading
 pub mod Listings
 -- State.
+pub mod Children
 pub mod StringSpans
 pub mod Declarators
 pub mod Regular

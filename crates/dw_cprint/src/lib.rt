@@ -1,7 +1,6 @@
 //! C declarations of entries: what is printed, what is refused and why, and the listing of all named types.
 #![tactic(auto)]
 
-mod body_reader;
 mod declaring;
 mod fault;
 mod laws;

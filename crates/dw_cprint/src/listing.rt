@@ -14,7 +14,7 @@ ghost use Rattle.dw_cprint.specs.Surveys.{BySurvey};
 use crate::fault::PrintFault;
 use crate::shape::Subject;
 use crate::shape_reader::subject_of;
-use crate::source::{Source, Strings, declared_at, has_name, tag_at};
+use crate::source::{Source, Strings, flag_at, has_name, tag_at};
 use crate::survey::Survey;
 use crate::text::Draft;
 use crate::words::put_eight_digits;
@@ -67,7 +67,7 @@ fn is_named_type(image: &Image<'_>, id: EntryId) -> bool
     match tag_at(image, id) {
         DW_TAG_typedef => has_name(image, id),
         DW_TAG_structure_type | DW_TAG_union_type | DW_TAG_enumeration_type => {
-            !declared_at(image, id) && has_name(image, id)
+            !flag_at(image, id, DW_AT_declaration) && has_name(image, id)
         }
         _ => false,
     }

@@ -1,14 +1,13 @@
 //! What is declared is read from: an image, and its strings. A string is not read again for each of its suffixes.
 
-ghost use Rattle.std.specs.Prelude.{◌≡◌, ◌<◌, ◌≤◌, length, drop, IfOk, slice_get, IfSome, All, option_map, is_some};
+ghost use Rattle.std.specs.Prelude.{◌≡◌, ◌<◌, ◌≤◌, length, drop, IfOk, option_map, is_some};
 ghost use Rattle.dw_forms.specs.Value.{view};
 ghost use Rattle.dw_forms.specs.Codes.{DW_AT_bit_size};
 ghost use Rattle.dw_image.specs.Contributions.{string_at};
 ghost use Rattle.dw_image.specs.Images.{entries_in, sections_in};
 ghost use Rattle.dw_image.specs.Slots.{IsPlace};
 ghost use Rattle.dw_image.specs.ValueTexts.{text_there};
-ghost use Rattle.dw_cprint.specs.LookUps.{name_at, tag_at, value_at, type_at, children_at, count_in, has_at, flag_at};
-ghost use Rattle.dw_cprint.specs.LookUps.{declared_at, integer_at};
+ghost use Rattle.dw_cprint.specs.LookUps.{name_at, tag_at, value_at, type_at, flag_at, integer_at};
 ghost use Rattle.dw_cprint.specs.Shapes.{view_name};
 ghost use Rattle.dw_cprint.specs.StringSpans.{AreSpans, IsSpan};
 ghost use Rattle.dw_cprint.specs.EntryShapes.{bits_in};
@@ -163,7 +162,7 @@ pub fn tag_at(image: &Image<'_>, id: EntryId) -> Tag
 }
 
 /// The value of an entry's attribute.
-fn value_at<'a>(image: &Image<'a>, id: EntryId, attribute: Attribute) -> Option<Value<'a>>
+pub fn value_at<'a>(image: &Image<'a>, id: EntryId, attribute: Attribute) -> Option<Value<'a>>
     requires { id < length (entries_in image.now) }
     ensures { option_map view result ≡ value_at image.now id attribute }
 {
@@ -181,46 +180,12 @@ pub fn has_name(image: &Image<'_>, id: EntryId) -> bool
 /// The type of an entry.
 pub fn type_at(image: &Image<'_>, id: EntryId) -> TypeAt
     requires { id < length (entries_in image.now) }
-    ensures exact { result ≡ type_at image.now id }
-    ensures within { IfSome result (λ to. to < length (entries_in image.now)) }
+    ensures { result ≡ type_at image.now id }
 {
     match image.type_of(id) {
         Some(it) => Some(it.entry().number()),
         None => None,
     }
-}
-
-/// The children of an entry, in rising offset.
-pub fn children_at(
-    alloc: Global,
-    image: &Image<'_>,
-    id: EntryId,
-) -> Result<Vec<EntryId>, AllocError>
-    requires { id < length (entries_in image.now) }
-    ensures exact { IfOk result (λ children. children.items ≡ children_at image.now id) }
-    ensures within { IfOk result (λ children. All (λ child. child < length (entries_in image.now)) children.items) }
-{
-    let mut children = Vec::new(alloc);
-    for child in image.children(id) {
-        children.push(child)?;
-    }
-    Ok(children)
-}
-
-/// The known count of a dimension.
-pub fn count_at(image: &Image<'_>, id: EntryId) -> Option<u128>
-    requires { id < length (entries_in image.now) }
-    ensures { result ≡ count_in image.now id }
-{
-    image.count_of(id)
-}
-
-/// Whether an entry has an attribute.
-pub fn has_at(image: &Image<'_>, id: EntryId, attribute: Attribute) -> bool
-    requires { id < length (entries_in image.now) }
-    ensures { result ≡ has_at image.now id attribute }
-{
-    value_at(image, id, attribute).is_some()
 }
 
 /// Whether a flag of an entry is there and true.
@@ -232,14 +197,6 @@ pub fn flag_at(image: &Image<'_>, id: EntryId, attribute: Attribute) -> bool
         Some(Value::Flag(flag)) => flag,
         _ => false,
     }
-}
-
-/// Whether an entry is a declaration only.
-pub fn declared_at(image: &Image<'_>, id: EntryId) -> bool
-    requires { id < length (entries_in image.now) }
-    ensures { result ≡ declared_at image.now id }
-{
-    flag_at(image, id, DW_AT_declaration)
 }
 
 /// The number under an attribute of an entry. This project's choice: the form data16 gives none.
@@ -261,12 +218,8 @@ pub fn bits_at(image: &Image<'_>, id: EntryId) -> Bits
 {
     match value_at(image, id, DW_AT_bit_size) {
         None => Bits::Absent,
-        Some(Value::Unsigned(n)) => if n == 0 { Bits::Wrong } else { Bits::Number(n) },
-        Some(Value::Signed(n)) => if n < 1 {
-            Bits::Wrong
-        } else {
-            Bits::Number(n as u64)
-        },
+        Some(Value::Unsigned(n)) if n > 0 => Bits::Number(n),
+        Some(Value::Signed(n)) if n > 0 => Bits::Number(n as u64),
         Some(_) => Bits::Wrong,
     }
 }

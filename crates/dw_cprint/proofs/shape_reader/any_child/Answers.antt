@@ -1,0 +1,32 @@
+use Rattle.std.proofs.Common.{◌<◌, ℕ, length, true, false, ap, refl, ◌∙◌}
+use Rattle.std.proofs.lemmas.List.Elements.{All-head, All-rest, All-same}
+use Rattle.dw_image.specs.ChildrenLeft.{children_left}
+use Rattle.dw_image.specs.Images.{entries_in}
+use Rattle.dw_cprint.proofs.LookUpLemmas.{any-first, any-next, children_within}
+use Rattle.dw_cprint.proofs.shape_reader.any_child.Goals as goal
+
+pub loop-child-init : goal.loop-child-init
+loop-child-init g c =
+    let es = entries_in c.args.image.now in
+    let all = ap children_left c.into_iter-child-iterator.ensures.into_iter_gives ∙ c.children-child-items.ensures in
+    record { within = All-same (λ child. child < length es) _ _ all (children_within es c.args.id); so_far = λ found has. rw (← all) has }
+
+pub test-requires : goal.test-requires
+test-requires g c = c.requires.callable c.in-Some.child (All-head (λ child. child < length (entries_in c.args.image.now)) _ _ (rw c.in-Some.ensures.steps at c.loop-child.invariant.within))
+
+pub returns-then-test : goal.returns-then-test
+returns-then-test g c =
+    let below = All-head (λ child. child < length (entries_in c.args.image.now)) _ _ (rw c.in-Some.ensures.steps at c.loop-child.invariant.within) in
+    c.loop-child.invariant.so_far true (λ passes says. any-first passes _ _ _ c.in-Some.ensures.steps (says c.in-Some.child true below c.if-test.ensures))
+
+pub loop-child-preserved : goal.loop-child-preserved
+loop-child-preserved g c =
+    let within = λ (child : ℕ). child < length (entries_in c.args.image.now) in
+    let below = All-head within _ _ (rw c.in-Some.ensures.steps at c.loop-child.invariant.within) in
+    record {
+      within = All-rest within _ _ _ c.in-Some.ensures.steps c.loop-child.invariant.within;
+      so_far = λ found has. c.loop-child.invariant.so_far found (λ passes says. any-next passes _ _ _ found c.in-Some.ensures.steps (says c.in-Some.child false below c.if-test.ensures) (has passes says));
+    }
+
+pub returns : goal.returns
+returns g c = c.loop-child.invariant.so_far false (λ passes says. rw c.in-None.ensures.steps.0 refl)

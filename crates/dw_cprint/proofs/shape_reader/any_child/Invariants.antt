@@ -1,0 +1,14 @@
+use Rattle.std.proofs.Common.{◌<◌, Bool, length}
+use Rattle.std.specs.Prelude.{All}
+use Rattle.dw_image.specs.ChildrenLeft.{children_left}
+use Rattle.dw_image.specs.Images.{entries_in}
+use Rattle.dw_cprint.specs.Children.{TellsAny}
+use Rattle.dw_cprint.specs.LookUps.{children_at}
+use Rattle.dw_cprint.proofs.shape_reader.any_child.Given as goal
+
+abbrev pub invariant-loop-child : goal.invariant-loop-child
+invariant-loop-child g l = record {
+  within : All (λ child. child < length (entries_in l.image)) (children_left l.child-iterator);
+  so_far : (found : Bool) → TellsAny (goal.F-post g l.test) (length (entries_in l.image)) (children_left l.child-iterator) found
+      → TellsAny (goal.F-post g l.test) (length (entries_in l.image)) (children_at l.image l.fn.id) found;
+}

@@ -1,0 +1,22 @@
+use Rattle.std.proofs.Common.{rules}
+use Rattle.dw_image.specs.Images.{entries_in}
+use Rattle.dw_cprint.specs.EntryShapes.{enumerator_at, has_tag, member_at}
+use Rattle.dw_cprint.specs.Shapes.{view_enumerator, view_member}
+use Rattle.dw_cprint.proofs.LookUpLemmas.{kept-are}
+use Rattle.dw_cprint.proofs.shape_reader.body_at.Goals as goal
+
+pub returns-then-eq-clause-shape : goal.returns-then-eq-clause-shape
+returns-then-eq-clause-shape c =
+    let image = c.args.source.now.image.now in
+    rw (
+      c.any_child-odd.ensures (has_tag image 0x1c 0x33) (λ child r w is. search rules),
+      kept-are view_enumerator (enumerator_at image) (entries_in image) c.args.id _ _ c.in_ok-enumerators.ensures (λ child one w is. search rules),
+    ) (search rules)
+
+pub returns-clause-shape : goal.returns-clause-shape
+returns-clause-shape c =
+    let image = c.args.source.now.image.now in
+    rw (
+      c.any_child-odd.ensures (has_tag image 0x1c 0x33) (λ child r w is. search rules),
+      kept-are view_member (member_at image) (entries_in image) c.args.id _ _ c.in_ok-members.ensures (λ child one w is. search rules),
+    ) (search rules)
