@@ -28,7 +28,7 @@ pub mod ValueLaws
 pub mod Scanned
 pub mod Records
 pub mod Walk
-pub mod Token
+pub mod NamedDecls
 pub mod Stopped
 pub mod OptionalIds
 pub mod Cursors

@@ -15,7 +15,7 @@ ghost use Rattle.dw_entries.specs.Grammar.{declared_in};
 ghost use Rattle.dw_entries.specs.Items.{numbered_decl};
 ghost use Rattle.dw_entries.specs.Reading.{seen, after, code_at, value_rule as rule_of_value, attribute_at};
 ghost use Rattle.dw_entries.specs.Reading.{attributes_at, item_at, first_at};
-ghost use Rattle.dw_entries.specs.Token.{declared_view, token_decl};
+ghost use Rattle.dw_entries.specs.NamedDecls.{declared_view};
 ghost use Rattle.dw_entries.specs.Units.{context_in, numbers_in, DebugUnit, Spells};
 ghost use Rattle.dw_entries.specs.Scanned.{Scanned, units_of};
 ghost use Rattle.dw_entries.specs.Views.{sections_of};
@@ -81,13 +81,6 @@ pub fn unit_table(
 pub struct Declared<'a> {
     pub number: u32,
     pub decl: Decl<'a>,
-}
-
-/// An item: a null, or an entry of this declaration.
-#[derive(Clone, Copy)]
-pub enum Token<'a> {
-    Null,
-    Entry(Declared<'a>),
 }
 
 impl From<NumberFault> for Failing {
@@ -212,19 +205,19 @@ fn find_decl(context: UnitContext<'_>, code: u64) -> Option<Declared<'_>>
     }
 }
 
-/// The item at the front, and the bytes after it.
+/// The declaration of the entry at the front, or none at a null, and the bytes after it.
 #[inline(always)]
 #[tactic(auto, unfolding(crate::specs::Reading::item_at, crate::specs::Reading::entry_by))]
 pub fn read_item<'a, 'b>(
     context: UnitContext<'a>,
     bytes: &'b [u8],
-) -> Result<(Token<'a>, &'b [u8]), Failing>
-    ensures { Gives (λ x. (token_decl x.0, x.1.now)) result
+) -> Result<(Option<Declared<'a>>, &'b [u8]), Failing>
+    ensures { Gives (λ x. (option_map declared_view x.0, x.1.now)) result
         (seen (numbered_decl (numbers_in context.entry)) (item_at (context_in context.entry) bytes.now)) }
 {
     let (code, rest) = read_code(bytes)?;
     if code == 0 {
-        return Ok((Token::Null, rest));
+        return Ok((None, rest));
     }
     match find_decl(context, code) {
         None => Err(Failing {
@@ -233,7 +226,7 @@ pub fn read_item<'a, 'b>(
         }),
         Some(declared) => {
             let rest = skip_attributes(context, declared.decl, rest)?;
-            Ok((Token::Entry(declared), rest))
+            Ok((Some(declared), rest))
         }
     }
 }

@@ -3,7 +3,7 @@
 ghost use Rattle.std.specs.Prelude.{◌≡◌, ◌<◌, ◌^◌, OnOk, length, Some, reverse, ◌+◌, ◌≤◌, [], Ok, false, IfSome};
 ghost use Rattle.std.specs.Prelude.{IfNone, IfOk, IfErr};
 ghost use Rattle.dw_elf.specs.declared.TheConstants.{SECTION_LIMIT};
-ghost use Rattle.dw_entries.specs.Token.{declared_view};
+ghost use Rattle.dw_entries.specs.NamedDecls.{declared_view};
 ghost use Rattle.dw_entries.specs.Walk.{link, enter as entered, walk_of, step};
 ghost use Rattle.dw_entries.specs.Header.{header_size};
 ghost use Rattle.dw_entries.specs.Reading.{code_at, item_at, seen, null_first};
@@ -16,7 +16,7 @@ use crate::context::UnitContext;
 use crate::fault::{Broken, Failing, Rule, Section};
 use crate::header::{HeaderKind, UnitHeader};
 use crate::id::OptionalId;
-use crate::scanning::{Declared, Token, read_code, read_first, read_item};
+use crate::scanning::{Declared, read_code, read_first, read_item};
 use dw_forms::{AbbrevTables, Stop};
 use std::alloc::{AllocError, Global};
 
@@ -144,13 +144,12 @@ fn turn<'b>(
 {
     match read_item(context, rest) {
         Err(failing) => Err(Stop::Fault(failing)),
-        Ok((token, after)) => {
-            match token {
-                Token::Null => {
-                    levels.pop();
-                }
-                Token::Entry(declared) => enter(records, levels, at, declared)?,
-            }
+        Ok((None, after)) => {
+            levels.pop();
+            Ok(after)
+        }
+        Ok((Some(declared), after)) => {
+            enter(records, levels, at, declared)?;
             Ok(after)
         }
     }

@@ -1,7 +1,7 @@
 use Rattle.std.proofs.Common.{◌≡◌, ◌+◌, ◌-◌, length, [], ap, reverse, arith}
 use Rattle.dw_entries.specs.Units.{context_in, numbers_in}
 use Rattle.dw_entries.specs.Reading.{first_at}
-use Rattle.dw_entries.specs.Token.{declared_view}
+use Rattle.dw_entries.specs.NamedDecls.{declared_view}
 use Rattle.dw_entries.specs.Walk.{step, walk_of}
 use Rattle.dw_entries.specs.Items.{numbered_decl}
 use Rattle.dw_entries.specs.ReadingLaws.{seen_err}
