@@ -318,44 +318,24 @@ module _ (shapes : ℕ → ShapeOf) where
         rw (depth, entries-append us bs) joined;
   }
 
-  found-entry : (first : ℕ) (own under all : Findings) → IsTrue own.bad_name ↔ HasBadName shapes (shapes first)
-      → own.foreign ≡ is_foreign (shapes first) → IsTrue own.unspeakable ↔ IsUnspeakable shapes (shapes first)
-      → AreFound shapes (types_reached (shapes first)) under → IsEither own under all → all.depth ≡ min (under.depth + 1) 4294967295
-      → AreFound shapes (Some first ∷ []) all
-  found-entry first own under all bad strange odd rest is depth = record {
-    bad_name = either own.bad_name under.bad_name all.bad_name bad rest.bad_name is.bad_name (one-entry (HasBadName shapes) shapes first);
-    foreign_type = either own.foreign under.foreign all.foreign (test-itself own.foreign (is_foreign (shapes first)) strange) rest.foreign_type is.foreign_type (one-entry IsForeign shapes first);
-    unspeakable = either own.unspeakable under.unspeakable all.unspeakable odd rest.unspeakable is.unspeakable (one-entry (IsUnspeakable shapes) shapes first);
-    deep = depth-entry shapes first under.depth all.depth depth rest.deep;
-  }
-
   -- of an entry, by its own shape and by what is known of the types that it names
   pub found-shape : (known : Summaries) (first : ℕ) (s : ShapeOf) (own under all : Findings) (bytes : ℕ) → shapes first ≡ s
       → All (Knows shapes known) (types_reached s) → IsOwn (has_bad_name (kind_known known) s) (is_foreign s) (is_unspeakable known s) bytes own
       → AreFound shapes (types_reached s) under → IsEither own under all → all.depth ≡ min (under.depth + 1) 4294967295
       → AreFound shapes (Some first ∷ []) all
-  found-shape known first s own under all bytes is knows mine rest both depth =
-      let P : ShapeOf → Type 0 = λ x. (IsTrue own.bad_name ↔ HasBadName shapes x) → own.foreign ≡ is_foreign x → (IsTrue own.unspeakable ↔ IsUnspeakable shapes x) → AreFound shapes (types_reached x) under → AreFound shapes (Some first ∷ []) all in
-      subst P is (λ a b c d. found-entry first own under all a b c d both depth) (test-itself own.bad_name _ (mine.bad_name ∙ names-known shapes known s knows)) mine.foreign_type
-      (test-same own.unspeakable _ mine.unspeakable (unspeakable-known shapes known s knows)) rest
+  found-shape known first s own under all bytes is knows mine rest both depth = subst Goal is found knows mine rest
+    where
+      Goal : ShapeOf → Type 0
+      Goal x = All (Knows shapes known) (types_reached x) → IsOwn (has_bad_name (kind_known known) x) (is_foreign x) (is_unspeakable known x) bytes own
+          → AreFound shapes (types_reached x) under → AreFound shapes (Some first ∷ []) all
 
-  names-held : (subject : SubjectOf) → Holds shapes subject BadName
-      → (has_own_bad_name (kind_at shapes) subject ≡ true) ⊎ ReachesOne (HasBadName shapes) shapes (types_declared subject)
-  names-held subject (own_name h) = inl h
-  names-held subject (name_reached entry r h) = inr (entry, r, h)
-
-  foreign-held : (subject : SubjectOf) → Holds shapes subject Foreign
-      → (is_own_foreign subject ≡ true) ⊎ ReachesOne IsForeign shapes (types_declared subject)
-  foreign-held subject (own_child h) = inl h
-  foreign-held subject (foreign_reached entry r h) = inr (entry, r, h)
-
-  wrong-held : (subject : SubjectOf) → Holds shapes subject Unspeakable
-      → IsOwnUnspeakable shapes subject ⊎ ReachesOne (IsUnspeakable shapes) shapes (types_declared subject)
-  wrong-held subject (own_shape h) = inl h
-  wrong-held subject (shape_reached entry r h) = inr (entry, r, h)
-
-  deep-held : (subject : SubjectOf) → Holds shapes subject TooDeep → HasPath shapes subject 65
-  deep-held subject (deep far) = far
+      found : Goal (shapes first)
+      found knows mine rest = record {
+        bad_name = either own.bad_name under.bad_name all.bad_name (test-itself own.bad_name _ (mine.bad_name ∙ names-known shapes known (shapes first) knows)) rest.bad_name both.bad_name (one-entry (HasBadName shapes) shapes first);
+        foreign_type = either own.foreign under.foreign all.foreign (test-itself own.foreign _ mine.foreign_type) rest.foreign_type both.foreign_type (one-entry IsForeign shapes first);
+        unspeakable = either own.unspeakable under.unspeakable all.unspeakable (test-same own.unspeakable _ mine.unspeakable (unspeakable-known shapes known (shapes first) knows)) rest.unspeakable both.unspeakable (one-entry (IsUnspeakable shapes) shapes first);
+        deep = depth-entry shapes first under.depth all.depth depth rest.deep;
+      }
 
   pub found-subject : (known : Summaries) (subject : SubjectOf) (own under all : Findings) (bytes : ℕ)
       → All (Knows shapes known) (types_declared subject)
@@ -364,15 +344,15 @@ module _ (shapes : ℕ → ShapeOf) where
       → (65536 < all.least → HoldsNoneBelow 6 shapes subject → Holds shapes subject TooLong) → AreFoundOf shapes subject all
   found-subject known subject own under all bytes knows mine rest is depth long = record {
     bad_name = either own.bad_name under.bad_name all.bad_name (test-itself own.bad_name _ (mine.bad_name ∙ own-names-known shapes known subject knows)) rest.bad_name is.bad_name
-        (λ s. elim s [ inl h ↦ own_name h | inr h ↦ name_reached h.0 h.1 h.2 ], names-held subject);
+        (λ s. elim s [ inl h ↦ own_name h | inr h ↦ name_reached h.0 h.1 h.2 ], λ h. elim h [ own_name x ↦ inl x | name_reached e r x ↦ inr (e, r, x) ]);
     foreign_type = either own.foreign under.foreign all.foreign (test-itself own.foreign _ mine.foreign_type) rest.foreign_type is.foreign_type
-        (λ s. elim s [ inl h ↦ own_child h | inr h ↦ foreign_reached h.0 h.1 h.2 ], foreign-held subject);
+        (λ s. elim s [ inl h ↦ own_child h | inr h ↦ foreign_reached h.0 h.1 h.2 ], λ h. elim h [ own_child x ↦ inl x | foreign_reached e r x ↦ inr (e, r, x) ]);
     unspeakable = either own.unspeakable under.unspeakable all.unspeakable (test-same own.unspeakable _ mine.unspeakable (own-unspeakable-known shapes known subject knows)) rest.unspeakable is.unspeakable
-        (λ s. elim s [ inl h ↦ own_shape h | inr h ↦ shape_reached h.0 h.1 h.2 ], wrong-held subject);
+        (λ s. elim s [ inl h ↦ own_shape h | inr h ↦ shape_reached h.0 h.1 h.2 ], λ h. elim h [ own_shape x ↦ inl x | shape_reached e r x ↦ inr (e, r, x) ]);
     deep =
         let few : 65 ≤ 65 = omega arith in
         let far = rest.deep 65 few in
-        (λ over. deep (far.1 (omega (arith, depth, over))), λ h. deeper (far.0 (deep-held subject h)));
+        (λ over. deep (far.1 (omega (arith, depth, over))), λ h. elim h [ deep path ↦ deeper (far.0 path) ]);
     long = long;
   }
     where

@@ -93,7 +93,7 @@ fn put_parameter_types(types: &mut Vec<TypeAt>, parameters: &[Parameter]) -> Res
 }
 
 /// Appends the types that an entry leads to where it is reached.
-fn put_reached_types(types: &mut Vec<TypeAt>, shape: &Shape<'_>) -> Result<(), AllocError>
+pub fn put_reached_types(types: &mut Vec<TypeAt>, shape: &Shape<'_>) -> Result<(), AllocError>
     ensures { OnOk result (types.new.items ≡ types.old.items ++ types_reached (view_shape shape.now)) }
 {
     match shape {
@@ -109,17 +109,8 @@ fn put_reached_types(types: &mut Vec<TypeAt>, shape: &Shape<'_>) -> Result<(), A
     Ok(())
 }
 
-/// The types that an entry leads to where it is reached.
-pub fn reached_types(alloc: Global, shape: &Shape<'_>) -> Result<Vec<TypeAt>, AllocError>
-    ensures { IfOk result (λ types. types.items ≡ types_reached (view_shape shape.now)) }
-{
-    let mut types = Vec::new(alloc);
-    put_reached_types(&mut types, shape)?;
-    Ok(types)
-}
-
 /// Appends the types that the declared entry leads to.
-fn put_declared_types(types: &mut Vec<TypeAt>, subject: &Subject<'_>) -> Result<(), AllocError>
+pub fn put_declared_types(types: &mut Vec<TypeAt>, subject: &Subject<'_>) -> Result<(), AllocError>
     ensures { OnOk result (types.new.items ≡ types.old.items ++ types_declared (view_subject subject.now)) }
 {
     match subject {
@@ -127,15 +118,6 @@ fn put_declared_types(types: &mut Vec<TypeAt>, subject: &Subject<'_>) -> Result<
         Subject::Tag(_, shape) => put_reached_types(types, shape)?,
     }
     Ok(())
-}
-
-/// The types that the declared entry leads to.
-pub fn declared_types(alloc: Global, subject: &Subject<'_>) -> Result<Vec<TypeAt>, AllocError>
-    ensures { IfOk result (λ types. types.items ≡ types_declared (view_subject subject.now)) }
-{
-    let mut types = Vec::new(alloc);
-    put_declared_types(&mut types, subject)?;
-    Ok(types)
 }
 
 /// The shape of the entry with a number.

@@ -30,13 +30,6 @@ pub enum TypeKind {
 }
 
 impl TypeKind {
-    /// Whether it is a function.
-    pub fn is_function(self) -> bool
-        ensures { result ≡ is_function self }
-    {
-        matches!(self, TypeKind::Function)
-    }
-
     /// Whether it is an array or a function, whose brackets bind before a star.
     pub fn is_bracketed(self) -> bool
         ensures { result ≡ is_bracketed self }
@@ -107,18 +100,13 @@ pub fn has_bad_name(summaries: &Summaries, shape: &Shape<'_>) -> bool
     }
 }
 
-/// Whether a type is void, or a row of qualifiers over void.
-pub fn is_void_like(summaries: &Summaries, at: TypeAt) -> bool
-    ensures { result ≡ is_void (base_known summaries.now at) }
-{
-    matches!(summaries.of(at).base, TypeKind::Void)
-}
-
-/// Whether one of some types is void.
-fn has_void(summaries: &Summaries, types: &[TypeAt]) -> bool
+/// Whether one of some types is void, or a row of qualifiers over void.
+pub fn has_void(summaries: &Summaries, types: &[TypeAt]) -> bool
     ensures { result ≡ list_any (λ at. is_void (base_known summaries.now at)) types.now }
 {
-    types.iter().any(|at| is_void_like(summaries, *at))
+    types
+        .iter()
+        .any(|at| matches!(summaries.of(*at).base, TypeKind::Void))
 }
 
 /// Whether a member is a function, or its size in bits is no number of 1 or more, or that of an array or a pointer.
@@ -128,7 +116,7 @@ fn is_wrong_member(summaries: &Summaries, member: &Member<'_>) -> bool
 {
     let kind = summaries.of(member.type_at).kind;
     match member.bits {
-        Bits::Absent => kind.is_function(),
+        Bits::Absent => matches!(kind, TypeKind::Function),
         Bits::Number(_) => { kind.is_bracketed() || matches!(kind, TypeKind::Pointer) }
         Bits::Wrong => true,
     }
@@ -171,7 +159,7 @@ fn is_wrong(summaries: &Summaries, shape: &Shape<'_>) -> bool
             let kind = summaries.of(*at).kind;
             *strange
                 || has_wrong_counts(counts)
-                || kind.is_function()
+                || matches!(kind, TypeKind::Function)
                 || matches!(kind, TypeKind::Array { open: true })
         }
         Shape::Function(at, None) => summaries.of(*at).kind.is_bracketed(),

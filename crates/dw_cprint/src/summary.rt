@@ -14,10 +14,9 @@ ghost use Rattle.dw_cprint.specs.Summaries.{known_of, least_known, summary_at};
 ghost use Rattle.dw_cprint.specs.Wrong.{has_bad_name, has_own_bad_name, is_foreign, is_own_foreign};
 
 use crate::fault::PrintFault;
-use crate::reaching::reached_types;
+use crate::reaching::put_reached_types;
 use crate::refusals::{
-    TypeKind, has_bad_name, is_declared_enumeration, is_unspeakable, is_void_like, kind_of,
-    lacks_name,
+    TypeKind, has_bad_name, has_void, is_declared_enumeration, is_unspeakable, kind_of, lacks_name,
 };
 use crate::shape::{Enumerator, Member, Name, Shape, Subject, TypeAt};
 use crate::text::LIMIT;
@@ -142,18 +141,6 @@ impl Summaries {
     }
 }
 
-/// Whether the third refusal holds for an entry that is reached.
-fn is_foreign_shape(shape: &Shape<'_>) -> bool
-    ensures { result ≡ is_foreign (view_shape shape.now) }
-{
-    match shape {
-        Shape::Foreign | Shape::Other => true,
-        Shape::Body(_, odd, _) => *odd,
-        Shape::Enumeration(odd, _) => *odd,
-        _ => false,
-    }
-}
-
 /// The bytes of a name, if there is one.
 fn name_size(name: Name<'_>) -> usize
     ensures { result ≡ name_size (view_name name.entry) }
@@ -210,7 +197,10 @@ fn own_findings(summaries: &Summaries, shape: &Shape<'_>, types: &[TypeAt]) -> F
 {
     Findings {
         bad_name: has_bad_name(summaries, shape),
-        foreign: is_foreign_shape(shape),
+        foreign: matches!(
+            shape,
+            Shape::Foreign | Shape::Other | Shape::Body(_, true, _) | Shape::Enumeration(true, _)
+        ),
         unspeakable: is_unspeakable(summaries, shape, types),
         depth: 0,
         least: own_size(shape).min(LIMIT + 1) as u32,
@@ -229,9 +219,9 @@ fn own_findings_declared(summaries: &Summaries, subject: &Subject<'_>, types: &[
             bad_name: lacks_name(*name),
             ..NOTHING
         },
-        Subject::Variable(name, at) => Findings {
+        Subject::Variable(name, _) => Findings {
             bad_name: lacks_name(*name),
-            unspeakable: is_void_like(summaries, *at),
+            unspeakable: has_void(summaries, types),
             ..NOTHING
         },
         Subject::Tag(name, shape) => {
@@ -270,7 +260,8 @@ fn findings_of(
     ensures least { IfOk result
         (λ findings. findings.least ≤ least_in (least_known summaries.now) (view_shape shape.now)) }
 {
-    let types = reached_types(alloc, shape)?;
+    let mut types = Vec::new(alloc);
+    put_reached_types(&mut types, shape)?;
     let all = own_findings(summaries, shape, &types).with(findings_under(summaries, &types));
     Ok(Findings {
         depth: all.depth.saturating_add(1),

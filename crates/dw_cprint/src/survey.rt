@@ -12,7 +12,7 @@ ghost use Rattle.dw_cprint.specs.Surveys.{BySurvey, IsSurveyOf, lacks_summary};
 ghost use Rattle.dw_cprint.specs.Wrong.{is_other_kind};
 
 use crate::fault::PrintFault;
-use crate::reaching::{all_types, declared_types, reach};
+use crate::reaching::{all_types, put_declared_types, reach};
 use crate::shape::{Shape, Subject, TypeAt};
 use crate::source::Source;
 use crate::summary::{Summaries, findings_declared, summarize};
@@ -81,7 +81,8 @@ impl<'a> Survey<'a> {
         ensures { IfOk result (λ r. BySurvey self.now (first_steps (view_subject subject.now)) (λ shapes.
             IsJudgement shapes (view_subject subject.now) draft.new r)) }
     {
-        let types = declared_types(alloc, subject)?;
+        let mut types = Vec::new(alloc);
+        put_declared_types(&mut types, subject)?;
         if is_other_kind(subject) {
             return Ok(Some(PrintFault::NotPrintable));
         }

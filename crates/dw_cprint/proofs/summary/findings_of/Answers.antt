@@ -1,6 +1,7 @@
-use Rattle.std.proofs.Common.{List, subst, ap, ◌∙◌, arith, sum_by}
+use Rattle.std.proofs.Common.{◌≡◌, List, subst, ap, arith, rules, sum_by}
 use Rattle.std.specs.Prelude.{All}
 use Rattle.dw_cprint.specs.Shapes.{TypeAt, view_shape}
+use Rattle.dw_cprint.specs.Steps.{types_reached}
 use Rattle.dw_cprint.specs.Summaries.{AreFound, Knows, least_known}
 use Rattle.dw_cprint.proofs.FaultLemmas.{found-shape}
 use Rattle.dw_cprint.proofs.summary.findings_of.Goals as goal
@@ -8,7 +9,7 @@ use Rattle.dw_cprint.proofs.summary.findings_of.Goals as goal
 pub returns-clause-found : goal.returns-clause-found
 returns-clause-found c = λ shapes entry is known.
     let s = c.args.summaries.now in
-    let same = c.deref-2.ensures.value ∙ c.in_ok-types.ensures in
+    let same : c.deref-2.result.now ≡ types_reached (view_shape c.args.shape.now) = search rules in
     let P : List TypeAt → Type 0 = λ ts. All (Knows shapes s) ts → AreFound shapes ts c.findings_under.result in
     let both = c.with-all.ensures.either in
     found-shape shapes s entry (view_shape c.args.shape.now) c.own_findings.result c.findings_under.result _ _ is known c.own_findings.ensures
@@ -18,5 +19,6 @@ returns-clause-found c = λ shapes entry is known.
 
 pub returns-clause-least : goal.returns-clause-least
 returns-clause-least c =
-    let sum = ap (λ (ts : List TypeAt). sum_by (least_known c.args.summaries.now) ts) (c.deref-2.ensures.value ∙ c.in_ok-types.ensures) in
+    let same : c.deref-2.result.now ≡ types_reached (view_shape c.args.shape.now) = search rules in
+    let sum = ap (λ (ts : List TypeAt). sum_by (least_known c.args.summaries.now) ts) same in
     omega (arith, sum, c.own_findings.ensures.short, c.with-all.ensures.least, c.findings_under.ensures.least)

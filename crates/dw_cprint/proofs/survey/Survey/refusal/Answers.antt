@@ -1,4 +1,4 @@
-use Rattle.std.proofs.Common.{◌≡◌, ℕ, Bool, true, false, List, Option, ap, sym, subst, ◌∙◌}
+use Rattle.std.proofs.Common.{rules, ◌≡◌, ℕ, Bool, true, false, List, Option, ap, sym, subst, ◌∙◌}
 use Rattle.std.specs.Prelude.{All}
 use Rattle.std.specs.List.{list_any}
 use Rattle.dw_cprint.specs.Judgements.{IsRefusalBelow}
@@ -34,21 +34,21 @@ returns-then-is_other_kind c = λ shapes roots survey among.
 pub returns-then-reaches_cycle : goal.returns-then-reaches_cycle
 returns-then-reaches_cycle c = λ shapes roots survey among.
     let told = cycle-told shapes roots c.args.self.now survey (types_declared (view_subject c.args.subject.now)) among in
-    let same = c.deref.ensures.value ∙ c.in_ok-types.ensures in
+    let same : c.deref.result.now ≡ types_declared (view_subject c.args.subject.now) = search rules in
     let (entry, r, round) = told.0 (sym (rw same at c.reaches_cycle.ensures) ∙ c.if-reaches_cycle.true) in
     record { holds = cycle entry r round; least = none-first shapes (view_subject c.args.subject.now) }
 
 pub returns-in-Some : goal.returns-in-Some
 returns-in-Some c = λ shapes roots survey among.
     let x = view_subject c.args.subject.now in
-    let same = c.deref-2.ensures.value ∙ c.in_ok-types.ensures in
+    let same : c.deref-2.result.now ≡ types_declared x = search rules in
     let six = settled shapes roots c.args.self.now x c.deref-2.result.now c.is_other_kind.result c.reaches_cycle.result c.findings_declared.result c.refusal.result survey among same c.is_other_kind.ensures c.if-is_other_kind.false (c.reaches_cycle.ensures ∙ ap (list_any (lacks_summary c.args.self.now)) (c.deref.ensures.value ∙ sym c.deref-2.ensures.value)) c.if-reaches_cycle.false c.findings_declared.ensures c.refusal.ensures in
     subst (λ (o : Option PrintFault). IsRefusalBelow 6 shapes x o) c.in-Some.is six
 
 pub returns-then-is_over : goal.returns-then-is_over
 returns-then-is_over c = λ shapes roots survey among.
     let x = view_subject c.args.subject.now in
-    let same = c.deref-2.ensures.value ∙ c.in_ok-types.ensures in
+    let same : c.deref-2.result.now ≡ types_declared x = search rules in
     let six = settled shapes roots c.args.self.now x c.deref-2.result.now c.is_other_kind.result c.reaches_cycle.result c.findings_declared.result c.refusal.result survey among same c.is_other_kind.ensures c.if-is_other_kind.false (c.reaches_cycle.ensures ∙ ap (list_any (lacks_summary c.args.self.now)) (c.deref.ensures.value ∙ sym c.deref-2.ensures.value)) c.if-reaches_cycle.false c.findings_declared.ensures c.refusal.ensures in
     long-by-draft shapes x roots c.args.self.now survey among (subst (λ (o : Option PrintFault). IsRefusalBelow 6 shapes x o) c.in_default.is six)
     c.clear.new.self c.put_declaration.new.out c.clear.ensures c.in_ok-put_declaration.ensures (sym c.is_over.ensures ∙ c.if-is_over.true)
@@ -56,7 +56,7 @@ returns-then-is_over c = λ shapes roots survey among.
 pub returns : goal.returns
 returns c = λ shapes roots survey among.
     let x = view_subject c.args.subject.now in
-    let same = c.deref-2.ensures.value ∙ c.in_ok-types.ensures in
+    let same : c.deref-2.result.now ≡ types_declared x = search rules in
     let six = settled shapes roots c.args.self.now x c.deref-2.result.now c.is_other_kind.result c.reaches_cycle.result c.findings_declared.result c.refusal.result survey among same c.is_other_kind.ensures c.if-is_other_kind.false (c.reaches_cycle.ensures ∙ ap (list_any (lacks_summary c.args.self.now)) (c.deref.ensures.value ∙ sym c.deref-2.ensures.value)) c.if-reaches_cycle.false c.findings_declared.ensures c.refusal.ensures in
     short-by-draft shapes x roots c.args.self.now survey among (subst (λ (o : Option PrintFault). IsRefusalBelow 6 shapes x o) c.in_default.is six)
     c.clear.new.self c.put_declaration.new.out c.clear.ensures c.in_ok-put_declaration.ensures (sym c.is_over.ensures ∙ c.if-is_over.false)
