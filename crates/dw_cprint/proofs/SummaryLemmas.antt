@@ -1,6 +1,6 @@
 -- Summaries: of void, of one entry by those of the types that it names, and of all nodes in turn.
-use Rattle.std.proofs.Common.{◌≡◌, ℕ, zero, suc, ◌+◌, ◌<◌, true, List, [], ◌∷◌, ◌++◌, Option, Some, None, refl, sym, ap, subst, ◌∙◌, ◌⊎◌, inl, inr, length, get_or, set, take, arith}
-use Rattle.std.specs.Prelude.{All, Contains, ◌↔◌, slice_get, is_some, option_and_then, unwrap_or}
+use Rattle.std.proofs.Common.{◌≡◌, ℕ, zero, suc, ◌+◌, ◌<◌, false, List, [], ◌∷◌, ◌++◌, Option, Some, None, refl, sym, ap, subst, ◌∙◌, ◌⊎◌, inl, inr, length, get_or, set, take, arith}
+use Rattle.std.specs.Prelude.{All, Contains, ◌↔◌, slice_get, is_none, option_and_then, unwrap_or}
 use Rattle.std.proofs.lemmas.Bool.{cases_eq}
 use Rattle.std.proofs.lemmas.List.{take_more, get_or-set_same, get_or-set_other}
 use Rattle.std.proofs.lemmas.List.Elements.{Contains-push, Contains-append_left, Contains-push_cases}
@@ -89,7 +89,7 @@ get-set-other (y ∷ xs) (suc i) zero x apart = refl
 get-set-other (y ∷ xs) (suc i) (suc j) x apart = get-set-other xs i j x (λ e. apart (ap suc e))
 
 abbrev Has : List (Option Summary) → ℕ → Type 0
-Has nodes node = is_some (get_or nodes node None) ≡ true
+Has nodes node = is_none (get_or nodes node None) ≡ false
 
 pub have_more : (clear : List ℕ) (nodes : List (Option Summary)) (i : ℕ) (s : Summary) → i < length clear → get_or clear i 0 < length nodes → HaveSummaries (take i clear) nodes
     → HaveSummaries (take (i + 1) clear) (set nodes (get_or clear i 0) (Some s))
@@ -101,9 +101,9 @@ have_more clear nodes i s within there have node =
     by_node (inl same) =
         let Q : ℕ → Type 0 = λ n. Contains (take i clear ++ get_or clear i 0 ∷ []) n ↔ Has (set nodes (get_or clear i 0) (Some s)) n in
         let new = get_or-set_same nodes (get_or clear i 0) (Some s) None there in
-        subst Q same (λ _. ap (λ (o : Option Summary). is_some o) new, λ _. Contains-push (take i clear) (get_or clear i 0))
+        subst Q same (λ _. ap (λ (o : Option Summary). is_none o) new, λ _. Contains-push (take i clear) (get_or clear i 0))
     by_node (inr apart) =
-        let kept = ap (λ (o : Option Summary). is_some o) (get_or-set_other nodes (get_or clear i 0) node (Some s) None (λ e. apart (sym e))) in (
+        let kept = ap (λ (o : Option Summary). is_none o) (get_or-set_other nodes (get_or clear i 0) node (Some s) None (λ e. apart (sym e))) in (
           λ c. elim (Contains-push_cases (take i clear) (get_or clear i 0) node c) [ inl old ↦ kept ∙ (have node).0 old | inr same ↦ absurd (apart same) ],
           λ h. Contains-append_left (take i clear) (get_or clear i 0 ∷ []) node ((have node).1 (sym kept ∙ h)),
         )

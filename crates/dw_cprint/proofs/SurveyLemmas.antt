@@ -15,7 +15,7 @@ use Rattle.dw_cprint.specs.Regular.{IsRegular}
 use Rattle.dw_cprint.specs.Shapes.{ShapeOf, other, view_shape}
 use Rattle.dw_cprint.specs.Steps.{entries_of, steps_reached, IsReachedFrom, root, further, Leads, ReachesCycle, ReachACycle}
 use Rattle.dw_cprint.specs.Summaries.{Knows, AreNodes, AreRight}
-use Rattle.dw_cprint.specs.Surveys.{found_at, AreAmong, HaveSummaries, has_summary, lacks_summary, IsSurveyOf}
+use Rattle.dw_cprint.specs.Surveys.{found_at, AreAmong, HaveSummaries, lacks_summary, IsSurveyOf}
 use Rattle.dw_cprint.specs.declared.shape.Shape.{Shape}
 use Rattle.dw_cprint.specs.declared.survey.Survey.{Survey}
 use Rattle.dw_cprint.specs.declared.summary.Summary.{Summary}
@@ -28,7 +28,7 @@ mapped : {A B : Type 0} (f : A → B) (o : Option A) (y d : B) → option_map f 
 mapped f None y d e = absurd (cc)
 mapped f (Some x) y d e = same_Some (f x) y e
 
-flattened : (xs : List (Option Summary)) (n : ℕ) → is_some (option_and_then (λ (x : Option Summary). x) (slice_get xs n)) ≡ is_some (get_or xs n None)
+flattened : (xs : List (Option Summary)) (n : ℕ) → is_none (option_and_then (λ (x : Option Summary). x) (slice_get xs n)) ≡ is_none (get_or xs n None)
 flattened [] n = refl
 flattened (x ∷ xs) zero = refl
 flattened (x ∷ xs) (suc n) = flattened xs n
@@ -140,9 +140,9 @@ module _ (shapes : ℕ → ShapeOf) (roots places found : List ℕ) (graph : Gra
         ap (λ (o : Option Shape). option_map_or view_shape o other) (at-node s.shapes.items node entry w e) ∙ mapped view_shape (slice_get s.shapes.items node) (shapes entry) other seen
 
     module _ (clear : List ℕ) (summarized : HaveSummaries clear s.summaries.nodes.items) where
-      summary-same : (node entry : ℕ) → node < length found → get_or found node 0 ≡ entry → has_summary s entry ≡ is_some (get_or s.summaries.nodes.items node None)
+      summary-same : (node entry : ℕ) → node < length found → get_or found node 0 ≡ entry → lacks_summary s (Some entry) ≡ is_none (get_or s.summaries.nodes.items node None)
       summary-same node entry w e =
-          ap (λ (o : Option (Option Summary)). is_some (option_and_then (λ (x : Option Summary). x) o)) (at-node s.summaries.nodes.items node entry w e) ∙ flattened s.summaries.nodes.items node
+          ap (λ (o : Option (Option Summary)). is_none (option_and_then (λ (x : Option Summary). x) o)) (at-node s.summaries.nodes.items node entry w e) ∙ flattened s.summaries.nodes.items node
 
       -- what a survey tells of these entries
       pub survey-done : map view_shape s.shapes.items ≡ map shapes found → All (λ (shape : Shape). IsRegular (view_shape shape)) s.shapes.items → AreRight shapes found clear s.summaries → AreClear graph clear
@@ -157,19 +157,19 @@ module _ (shapes : ℕ → ShapeOf) (roots places found : List ℕ) (graph : Gra
               let all = subst P read (All-map IsRegular view_shape s.shapes.items fit) in
               subst Q (get_or-map shapes found node 0 other w ∙ ap shapes e) (all node other (omega (arith, length-map found shapes)))
 
-          clear-node : (node entry : ℕ) → node < length found → get_or found node 0 ≡ entry → has_summary s entry ≡ true → Contains clear node
+          clear-node : (node entry : ℕ) → node < length found → get_or found node 0 ≡ entry → lacks_summary s (Some entry) ≡ false → Contains clear node
           clear-node node entry w e has = (summarized node).1 (sym (summary-same node entry w e) ∙ has)
 
-          clear-of : (entry : ℕ) → IsReachedFrom shapes roots entry → (has_summary s entry ≡ false) ↔ ReachesCycle shapes entry
+          clear-of : (entry : ℕ) → IsReachedFrom shapes roots entry → (lacks_summary s (Some entry) ≡ true) ↔ ReachesCycle shapes entry
           clear-of entry r =
               let (node, w, e) = found-all r in
               let C : ℕ → Type 0 = λ x. ReachesCycle shapes x in
               let nodes = h.nodes in (
                 λ lacks. subst C e (node-cycle node w (sorted.others node (omega arith) (λ has. (let there = summary-same node entry w e ∙ (summarized node).0 has in absurd (cc))))),
-                λ cycle. false_from_ne_true (has_summary s entry) (λ there. clear-free graph clear sorted node (clear-node node entry w e there) (entry-cycle node w (subst C (sym e) cycle))),
+                λ cycle. true_from_ne_false (lacks_summary s (Some entry)) (λ there. clear-free graph clear sorted node (clear-node node entry w e there) (entry-cycle node w (subst C (sym e) cycle))),
               )
 
-          known-of : (entry : ℕ) → IsReachedFrom shapes roots entry → has_summary s entry ≡ true → Knows shapes s.summaries (Some entry)
+          known-of : (entry : ℕ) → IsReachedFrom shapes roots entry → lacks_summary s (Some entry) ≡ false → Knows shapes s.summaries (Some entry)
           known-of entry r summarized_here =
               let (node, w, e) = found-all r in
               let (i, v, at) = clear-node node entry w e summarized_here in
@@ -208,16 +208,8 @@ type-among (Some x ∷ types) entry (suc k, w, e) = Contains-append_right (Some 
 any-type : (test : Option ℕ → Bool) (types : List (Option ℕ)) (at : Option ℕ) → Contains types at → test at ≡ true → list_any test types ≡ true
 any-type test types at (k, w, e) t = list_any-from_Any test types (k, at, w, e, t)
 
-lacking : (o : Option Summary) → is_none o ≡ true → is_some o ≡ false
-lacking None e = refl
-lacking (Some x) e = absurd (cc)
-
-there-none : (o : Option Summary) → is_some o ≡ false → is_none o ≡ true
-there-none None e = refl
-there-none (Some x) e = absurd (cc)
-
 module _ (shapes : ℕ → ShapeOf) (roots : List ℕ) (s : Survey) (survey : IsSurveyOf shapes roots s) (types : List (Option ℕ)) (among : AreAmong (entries_of types) roots) where
-  cycle-from : (entry : ℕ) → Contains (entries_of types) entry → has_summary s entry ≡ false → ReachACycle shapes (entries_of types)
+  cycle-from : (entry : ℕ) → Contains (entries_of types) entry → lacks_summary s (Some entry) ≡ true → ReachACycle shapes (entries_of types)
   cycle-from entry has lacks =
       let (n, to, led, cycle) = (survey.clear entry (root (among entry has))).0 lacks in
       (to, reached-on shapes (entries_of types) n entry to (root has) led, cycle)
@@ -228,15 +220,15 @@ module _ (shapes : ℕ → ShapeOf) (roots : List ℕ) (s : Survey) (survey : Is
     where
       forth : (at : Option ℕ) → Contains types at → lacks_summary s at ≡ true → ReachACycle shapes (entries_of types)
       forth None has lacks = absurd (cc)
-      forth (Some entry) has lacks = cycle-from entry (entry-among types entry has) (lacking _ lacks)
+      forth (Some entry) has lacks = cycle-from entry (entry-among types entry has) lacks
 
       back : ReachACycle shapes (entries_of types) → list_any (lacks_summary s) types ≡ true
       back (entry, r, cycle) =
           let (from, n, has, led) = reached-from-one r in
-          any-type (lacks_summary s) types (Some from) (type-among types from has) (there-none _ ((survey.clear from (root (among from has))).1 (n, entry, led, cycle)))
+          any-type (lacks_summary s) types (Some from) (type-among types from has) ((survey.clear from (root (among from has))).1 (n, entry, led, cycle))
 
-  clear-there : (entry : ℕ) → Contains (entries_of types) entry → (ReachACycle shapes (entries_of types) → ⊥) → has_summary s entry ≡ true
-  clear-there entry has none = true_from_ne_false (has_summary s entry) (λ lacks. none (cycle-from entry has lacks))
+  clear-there : (entry : ℕ) → Contains (entries_of types) entry → (ReachACycle shapes (entries_of types) → ⊥) → lacks_summary s (Some entry) ≡ false
+  clear-there entry has none = false_from_ne_true (lacks_summary s (Some entry)) (λ lacks. none (cycle-from entry has lacks))
 
   -- what is known of each of the types, if they reach no cycle
   pub types-known : (ReachACycle shapes (entries_of types) → ⊥) → All (Knows shapes s.summaries) types

@@ -1,7 +1,7 @@
 -- State: what a survey keeps of a type that reaches no cycle: its kind, what is wrong with it, how long the longest
 -- path from it is, and how many bytes its text has at least.
 use Rattle.std.specs.Prelude.{◌≡◌, ℕ, ◌<◌, ◌≤◌, ◌↔◌, true, IsTrue, List, [], ◌∷◌, Option, Some}
-use Rattle.std.specs.Prelude.{None, length, slice_get, slice_index, slice_index_or, is_some, option_and_then, unwrap_or}
+use Rattle.std.specs.Prelude.{None, length, slice_get, slice_index, slice_index_or, is_none, option_and_then, unwrap_or}
 use Rattle.std.specs.Prelude.{Contains, Bool, false, ◌||◌}
 use Rattle.std.specs.List.{list_any}
 use Rattle.dw_cprint.specs.Declarations.{term_at}
@@ -83,7 +83,7 @@ found_at places xs entry = option_and_then (slice_get xs) (slice_get places entr
 
 -- exactly some nodes have summaries
 abbrev pub HaveSummaries : List ℕ → List (Option Summary) → Type 0
-HaveSummaries clear nodes = (node : ℕ) → Contains clear node ↔ (is_some (slice_index_or nodes node None) ≡ true)
+HaveSummaries clear nodes = (node : ℕ) → Contains clear node ↔ (is_none (slice_index_or nodes node None) ≡ false)
 
 -- the summary of a type: that of its entry, if that has one
 abbrev pub summary_at : (void : Summary) → List ℕ → List (Option Summary) → TypeAt → Option Summary

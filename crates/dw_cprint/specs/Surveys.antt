@@ -1,6 +1,5 @@
 -- State: what a survey of some declarations keeps of the entries that they reach.
-use Rattle.std.specs.Prelude.{◌≡◌, ◌↔◌, ℕ, Bool, true, false, List, Option, Some, Contains, option_and_then, is_some}
-use Rattle.std.specs.Prelude.{is_none}
+use Rattle.std.specs.Prelude.{◌≡◌, ◌↔◌, ℕ, Bool, true, false, List, Some, Contains, is_none}
 use Rattle.dw_cprint.specs.Kept.{kept}
 use Rattle.dw_cprint.specs.Regular.{IsRegular}
 use Rattle.dw_cprint.specs.Shapes.{ShapeOf, TypeAt}
@@ -8,17 +7,11 @@ use Rattle.dw_cprint.specs.Steps.{IsReachedFrom, ReachesCycle}
 use Rattle.dw_cprint.specs.declared.survey.Survey.{Survey}
 use Rattle.dw_cprint.specs.declared.summary.TheConstants.{VOID}
 pub use Rattle.dw_cprint.specs.Summaries.{found_at, HaveSummaries, summary_at}
-use Rattle.dw_cprint.specs.Summaries.{Summary, Knows}
+use Rattle.dw_cprint.specs.Summaries.{Knows}
 
 -- each of some entries is one of others
 abbrev pub AreAmong : List ℕ → List ℕ → Type 0
 AreAmong some all = (entry : ℕ) → Contains some entry → Contains all entry
-
--- an entry has a summary
-abbrev pub has_summary : Survey → ℕ → Bool
-has_summary s entry =
-    is_some (option_and_then (λ (o : Option Summary). o)
-    (found_at s.summaries.places.items s.summaries.nodes.items entry))
 
 -- a type has no summary
 abbrev pub lacks_summary : Survey → TypeAt → Bool
@@ -30,8 +23,8 @@ pub record IsSurveyOf (shapes : ℕ → ShapeOf) (roots : List ℕ) (s : Survey)
   pub keeps : (entry : ℕ) → IsReachedFrom shapes roots entry → kept s entry ≡ shapes entry
   pub regular : (entry : ℕ) → IsReachedFrom shapes roots entry → IsRegular (shapes entry)
   pub clear : (entry : ℕ) → IsReachedFrom shapes roots entry
-      → (has_summary s entry ≡ false) ↔ ReachesCycle shapes entry
-  pub known : (entry : ℕ) → IsReachedFrom shapes roots entry → has_summary s entry ≡ true
+      → (lacks_summary s (Some entry) ≡ true) ↔ ReachesCycle shapes entry
+  pub known : (entry : ℕ) → IsReachedFrom shapes roots entry → lacks_summary s (Some entry) ≡ false
       → Knows shapes s.summaries (Some entry)
 
 -- by the shapes of which this is a survey, if some entries are among those that it began with
