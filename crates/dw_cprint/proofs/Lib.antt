@@ -21,5 +21,6 @@ pub mod ListingLemmas
 pub mod RefusalLemmas
 pub mod KindLemmas
 pub mod FaultLemmas
+pub mod FoundLemmas
 pub mod LeastLemmas
 pub mod SummaryLemmas

@@ -26,7 +26,7 @@ use Rattle.dw_cprint.specs.declared.survey.Survey.{Survey}
 use Rattle.dw_cprint.proofs.KindLemmas.{names-alike, own-names-alike, wrong-alike}
 use Rattle.dw_cprint.proofs.HasTermLemmas.{any_here, any_there, head_of, rest_of}
 use Rattle.dw_cprint.proofs.LegibleLemmas.{subject_legible}
-use Rattle.dw_cprint.proofs.FaultLemmas.{reached-wider}
+use Rattle.dw_cprint.proofs.FoundLemmas.{reached-wider}
 use Rattle.dw_cprint.proofs.TextLaws.{one_text}
 
 -- some entries, each the same in both, with those that its steps lead to

@@ -15,7 +15,7 @@ use Rattle.dw_cprint.specs.Wrong.{kind_in, nothing, itself, below}
 use Rattle.dw_cprint.specs.declared.shape.Shape.{Shape}
 use Rattle.dw_cprint.specs.declared.shape.Shape.TheVariants as shape
 use Rattle.dw_cprint.specs.declared.summary.TheConstants.{VOID}
-use Rattle.dw_cprint.proofs.FaultLemmas.{found-none}
+use Rattle.dw_cprint.proofs.FoundLemmas.{found-none}
 use Rattle.dw_cprint.proofs.LeastLemmas.{Counts, void-least}
 
 -- ---- void

@@ -1,6 +1,6 @@
 -- What the graph of what is reached tells of the entries, and what a survey keeps of it.
 use Rattle.std.proofs.Common.{◌≡◌, ℕ, zero, suc, ◌<◌, Bool, true, false, List, [], ◌∷◌, Option, Some, None, refl, sym, ◌∙◌, ap, subst, length, get_or, arith, map}
-use Rattle.std.specs.Prelude.{All, Contains, ◌↔◌, slice_get, option_and_then, option_map, is_some, is_none}
+use Rattle.std.specs.Prelude.{All, Contains, ◌↔◌, slice_get, option_and_then, option_map, is_none}
 use Rattle.std.specs.List.{list_any}
 use Rattle.std.specs.Option.{option_map_or}
 use Rattle.std.proofs.lemmas.Option.{slice_get-get_or, slice_get-map, slice_get_within, same_Some}

@@ -5,7 +5,7 @@ use Rattle.dw_cprint.specs.Steps.{types_reached}
 use Rattle.dw_cprint.specs.Summaries.{Knows}
 use Rattle.dw_cprint.specs.declared.shape.Shape.{Shape}
 use Rattle.dw_cprint.proofs.SummaryLemmas.{base_qualified, base_itself}
-use Rattle.dw_cprint.proofs.FaultLemmas.{same-summary}
+use Rattle.dw_cprint.proofs.FoundLemmas.{same-summary}
 use Rattle.dw_cprint.proofs.summary.base_of.Goals as goal
 
 pub returns-in-Qualified : goal.returns-in-Qualified

@@ -2,7 +2,7 @@ use Rattle.std.proofs.Common.{List, subst, ap, arith, sum_by}
 use Rattle.std.specs.Prelude.{All}
 use Rattle.dw_cprint.specs.Shapes.{TypeAt, view_subject}
 use Rattle.dw_cprint.specs.Summaries.{Knows, AreFound, least_known}
-use Rattle.dw_cprint.proofs.FaultLemmas.{found-subject}
+use Rattle.dw_cprint.proofs.FoundLemmas.{found-subject}
 use Rattle.dw_cprint.proofs.RefusalLemmas.{long-by-least}
 use Rattle.dw_cprint.proofs.summary.findings_declared.Goals as goal
 

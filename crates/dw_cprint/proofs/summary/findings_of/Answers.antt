@@ -3,7 +3,7 @@ use Rattle.std.specs.Prelude.{All}
 use Rattle.dw_cprint.specs.Shapes.{TypeAt, view_shape}
 use Rattle.dw_cprint.specs.Steps.{types_reached}
 use Rattle.dw_cprint.specs.Summaries.{AreFound, Knows, least_known}
-use Rattle.dw_cprint.proofs.FaultLemmas.{found-shape}
+use Rattle.dw_cprint.proofs.FoundLemmas.{found-shape}
 use Rattle.dw_cprint.proofs.summary.findings_of.Goals as goal
 
 pub returns-clause-found : goal.returns-clause-found

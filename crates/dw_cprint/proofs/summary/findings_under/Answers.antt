@@ -3,7 +3,7 @@ use Rattle.std.proofs.lemmas.List.{take_all, take_more}
 use Rattle.std.proofs.lemmas.List.Sums.{sum_by_more}
 use Rattle.dw_cprint.specs.Shapes.{TypeAt}
 use Rattle.dw_cprint.specs.Summaries.{AreFound, Summary, least_known}
-use Rattle.dw_cprint.proofs.FaultLemmas.{found-none, found-join, same-summary}
+use Rattle.dw_cprint.proofs.FoundLemmas.{found-none, found-join, same-summary}
 use Rattle.dw_cprint.proofs.summary.findings_under.Goals as goal
 
 pub loop-at-init : goal.loop-at-init
