@@ -72,16 +72,9 @@ specifier-base name t e = by_name (is_identifier name) (words_of 4 (parts_of nam
     by_name false (Some ws) e = let same : Basic ws ≡ t = cc in subst IsSpecifier same (record { front = λ qs inside. refl; back = refl })
 
 pub specifier-of : (term : TypeAt → Option Term) (s : ShapeOf) (t : Term) → is_specifier s ≡ true → term_by term s ≡ Some t → IsSpecifier t
-specifier-of term (base None) t is e = absurd (cc)
 specifier-of term (base (Some name)) t is e = specifier-base name t e
-specifier-of term (typedef None) t is e = absurd (cc)
 specifier-of term (typedef (Some name)) t is e = let same : Named name ≡ t = cc in subst IsSpecifier same (specifier-named name)
-specifier-of term (qualified q at) t is e = absurd (cc)
-specifier-of term (pointer at) t is e = absurd (cc)
-specifier-of term (array counts strange at) t is e = absurd (cc)
-specifier-of term (function at ps) t is e = absurd (cc)
 specifier-of term (tagged word name) t is e = let same : Tagged word name ≡ t = cc in subst IsSpecifier same (record { front = λ qs inside. refl; back = refl })
-specifier-of term (nameless word) t is e = absurd (cc)
 specifier-of term (body word odd ms) t is e =
     let f = map_inverted (Body word) (members_by term ms) t e in
     subst IsSpecifier f.2 (record {
@@ -94,8 +87,7 @@ specifier-of term (enumeration odd es) t is e =
       front = λ qs inside. ap (λ (u : List Token). qualifying qs ++ TagWord Enum ∷ Blank ∷ LeftBrace ∷ Blank ∷ u) (append_assoc (constants f.0) (Blank ∷ RightBrace ∷ []) (gap inside));
       back = refl;
     })
-specifier-of term foreign t is e = absurd (cc)
-specifier-of term other t is e = absurd (cc)
+specifier-of term _ t is e = absurd (cc)
 
 before-arrays : (counts : List (Option ℕ)) (u : Term) → before [] (arrays counts u) true ≡ before [] u true
 before-arrays [] u = refl

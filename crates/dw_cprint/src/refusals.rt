@@ -6,7 +6,7 @@ ghost use Rattle.dw_cprint.specs.Declarations.{is_miscounted, is_misplaced};
 ghost use Rattle.dw_cprint.specs.Shapes.{view_shape, view_name};
 ghost use Rattle.dw_cprint.specs.Steps.{types_reached};
 ghost use Rattle.dw_cprint.specs.Summaries.{base_known, is_unspeakable, is_wrong_base, kind_known};
-ghost use Rattle.dw_cprint.specs.Wrong.{has_bad_name, is_bracketed, is_declared_enumeration, is_function, is_void};
+ghost use Rattle.dw_cprint.specs.Wrong.{has_bad_name, is_bracketed, is_function, is_void};
 ghost use Rattle.dw_cprint.specs.Wrong.{is_wrong, is_wrong_bits, kind_in, lacks_member_name, lacks_name, object_types};
 
 use crate::names::is_base_name;
@@ -159,8 +159,7 @@ fn is_wrong(summaries: &Summaries, shape: &Shape<'_>) -> bool
             let kind = summaries.of(*at).kind;
             *strange
                 || has_wrong_counts(counts)
-                || matches!(kind, TypeKind::Function)
-                || matches!(kind, TypeKind::Array { open: true })
+                || matches!(kind, TypeKind::Function | TypeKind::Array { open: true })
         }
         Shape::Function(at, None) => summaries.of(*at).kind.is_bracketed(),
         Shape::Function(at, Some(parameters)) => {
@@ -215,14 +214,4 @@ pub fn is_unspeakable(summaries: &Summaries, shape: &Shape<'_>, types: &[TypeAt]
     is_wrong(summaries, shape)
         || has_void_object(summaries, shape, types)
         || is_wrong_base(summaries, shape)
-}
-
-/// Whether a shape is an enumeration that is only declared.
-pub fn is_declared_enumeration(shape: &Shape<'_>) -> bool
-    ensures { result ≡ is_declared_enumeration (view_shape shape.now) }
-{
-    matches!(
-        shape,
-        Shape::Tagged(TagKeyword::Enum, _) | Shape::Nameless(TagKeyword::Enum)
-    )
 }

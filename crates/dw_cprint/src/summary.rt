@@ -15,11 +15,10 @@ ghost use Rattle.dw_cprint.specs.Wrong.{has_bad_name, has_own_bad_name, is_forei
 
 use crate::fault::PrintFault;
 use crate::reaching::put_reached_types;
-use crate::refusals::{
-    TypeKind, has_bad_name, has_void, is_declared_enumeration, is_unspeakable, kind_of, lacks_name,
-};
+use crate::refusals::{TypeKind, has_bad_name, has_void, is_unspeakable, kind_of, lacks_name};
 use crate::shape::{Enumerator, Member, Name, Shape, Subject, TypeAt};
 use crate::text::LIMIT;
+use crate::words::TagKeyword;
 use dw_types::Order;
 use std::alloc::{AllocError, Global};
 
@@ -121,16 +120,11 @@ impl Summaries {
     pub fn get(&self, at: TypeAt) -> Option<Summary>
         ensures { result ≡ summary_at VOID self.now.places.items self.now.nodes.items at }
     {
-        match at {
-            None => Some(VOID),
-            Some(entry) => match self.places.get(entry) {
-                Some(place) => match self.nodes.get(*place as usize) {
-                    Some(summary) => *summary,
-                    None => None,
-                },
-                None => None,
-            },
-        }
+        let Some(entry) = at else {
+            return Some(VOID);
+        };
+        let place = self.places.get(entry)?;
+        *self.nodes.get(*place as usize)?
     }
 
     /// What is known of a type.
@@ -228,7 +222,11 @@ fn own_findings_declared(summaries: &Summaries, subject: &Subject<'_>, types: &[
             let own = own_findings(summaries, shape, types);
             Findings {
                 bad_name: lacks_name(*name) || own.bad_name,
-                unspeakable: own.unspeakable || is_declared_enumeration(shape),
+                unspeakable: own.unspeakable
+                    || matches!(
+                        shape,
+                        Shape::Tagged(TagKeyword::Enum, _) | Shape::Nameless(TagKeyword::Enum)
+                    ),
                 ..own
             }
         }

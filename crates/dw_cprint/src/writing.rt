@@ -25,10 +25,8 @@ impl<'a> Survey<'a> {
         ensures { MatchOption result (kept self.now entry ≡ other)
             (λ shape. view_shape shape.now ≡ kept self.now entry) }
     {
-        match self.summaries.places.get(entry) {
-            Some(place) => self.shapes.get(*place as usize),
-            None => None,
-        }
+        let place = self.summaries.places.get(entry)?;
+        self.shapes.get(*place as usize)
     }
 
     /// The shape of an entry, and how deep the types that it names may be.

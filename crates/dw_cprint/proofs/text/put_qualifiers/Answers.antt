@@ -12,14 +12,10 @@ use Rattle.dw_cprint.proofs.text.put_qualifiers.Goals as goal
 
 pub loop-qualifier-preserved : goal.loop-qualifier-preserved
 loop-qualifier-preserved c =
-    let qs = c.args.qualifiers.now in
-    let i = c.loop-qualifier.qualifier-index in
-    let q = get_or qs i Const in
-    let out = c.loop-qualifier.out in
-    let mid = c.put.new.self in
-    let word : Writes (QualifierWord q ∷ []) out mid = c.in_ok-put.ensures ∙ ap (appended out) (c.text.ensures ∙ sym (append-nil (spelling (QualifierWord q)))) in
-    moved (QualifierWord q ∷ Blank ∷ []) (qualifying (drop (i + 1) qs)) (qualifying (drop i qs)) c.args.out.now out c.put-in-loop-qualifier.new.self (text_of (qualifying qs))
-    (both (QualifierWord q ∷ []) (Blank ∷ []) out mid c.put-in-loop-qualifier.new.self word c.in_ok-put-2.ensures) (ap qualifying (sym (drop_more qs i Const c.loop-qualifier-test.true))) c.loop-qualifier.invariant
+    let q = get_or c.args.qualifiers.now c.loop-qualifier.qualifier-index Const in
+    let word : Writes (QualifierWord q ∷ []) c.loop-qualifier.out c.put.new.self = c.in_ok-put.ensures ∙ ap (appended c.loop-qualifier.out) (c.text.ensures ∙ sym (append-nil (spelling (QualifierWord q)))) in
+    moved (QualifierWord q ∷ Blank ∷ []) _ _ c.args.out.now _ _ (text_of (qualifying c.args.qualifiers.now)) (both (QualifierWord q ∷ []) (Blank ∷ []) _ _ _ word c.in_ok-put-2.ensures)
+    (ap qualifying (sym (drop_more c.args.qualifiers.now c.loop-qualifier.qualifier-index Const c.loop-qualifier-test.true))) c.loop-qualifier.invariant
 
 pub returns : goal.returns
 returns c =

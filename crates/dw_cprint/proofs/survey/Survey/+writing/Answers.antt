@@ -122,68 +122,48 @@ put_named-returns t c =
 pub put_members-loop-member-preserved : goal.put_members-loop-member-preserved
 put_members-loop-member-preserved t c =
     let term = term_at c.args.depth (kept c.args.self.now) in
-    let ms = c.args.members.now in
-    let i = c.loop-member.member-index in
-    let P : List MemberOf → Type 0 = λ left. IsLeft (members_left term) (map view_member ms) c.put.new.self left c.loop-member.out in
-    members_next term (map view_member ms) (view_member c.member-item.result) (map view_member (drop (i + 1) ms)) c.put.new.self c.loop-member.out c.put_member.new.out
-    (subst P (next-of view_member ms i c.member-item.result c.member-item.is c.loop-member-test.true) c.loop-member.invariant) c.in_ok-put_member.ensures
+    let P : List MemberOf → Type 0 = λ left. IsLeft (members_left term) (map view_member c.args.members.now) c.put.new.self left c.loop-member.out in
+    members_next term _ _ _ _ _ _
+    (subst P (next-of view_member c.args.members.now c.loop-member.member-index c.member-item.result c.member-item.is c.loop-member-test.true) c.loop-member.invariant) c.in_ok-put_member.ensures
 
 pub put_parameters-loop-parameter-preserved : goal.put_parameters-loop-parameter-preserved
 put_parameters-loop-parameter-preserved t c =
     let term = term_at c.args.depth (kept c.args.self.now) in
     let others = c.in-Some.others.now in
     let i = c.loop-parameter.parameter-index in
-    let mid = c.put-in-loop-parameter.new.self in
-    let new = c.put_parameter-in-loop-parameter.new.out in
-    let p = get_or others i (Typed None) in
     let P : List Parameter → Type 0 = λ left. IsLeft (parameters_left term) others c.put_parameter.new.out left c.loop-parameter.out in
-    parameters_next term others p (drop (i + 1) others) c.put_parameter.new.out c.loop-parameter.out mid new
+    parameters_next term _ (get_or others i (Typed None)) _ _ _ _ _
     (subst P (drop_more others i (Typed None) c.loop-parameter-test.true) c.loop-parameter.invariant) c.in_ok-put.ensures
-    (item-of c.args.self.now c.args.depth p mid new c.in_ok-put_parameter-2.ensures)
+    (item-of c.args.self.now c.args.depth _ _ _ c.in_ok-put_parameter-2.ensures)
 
 pub put_parameters-returns : goal.put_parameters-returns
 put_parameters-returns t c =
     let s = c.args.self.now in
-    let term = term_at c.args.depth (kept s) in
     let others = c.in-Some.others.now in
-    let begin = c.args.out.now in
-    let old = c.put_parameter.new.out in
-    let out = c.loop-parameter.out in
-    let P : List Parameter → Type 0 = λ left. IsLeft (parameters_left term) others old left out in
-    let Q : List Parameter → Type 0 = λ ps. WritesParameters s c.args.depth ps begin out in
+    let P : List Parameter → Type 0 = λ left. IsLeft (parameters_left (term_at c.args.depth (kept s))) others c.put_parameter.new.out left c.loop-parameter.out in
+    let Q : List Parameter → Type 0 = λ ps. WritesParameters s c.args.depth ps c.args.out.now c.loop-parameter.out in
     subst Q (sym c.in-Some.ensures.cases.0)
-    (parameters_done term c.in-Some.first.now others begin old out (item-of s c.args.depth c.in-Some.first.now begin old c.in_ok-put_parameter.ensures)
+    (parameters_done _ c.in-Some.first.now others _ _ _ (item-of s c.args.depth _ _ _ c.in_ok-put_parameter.ensures)
     (subst P (drop_all c.loop-parameter.parameter-index others c.loop-parameter-test.false) c.loop-parameter.invariant))
 
 pub put_members-returns-then-is_over : goal.put_members-returns-then-is_over
 put_members-returns-then-is_over t c = λ us e.
-    let term = term_at c.args.depth (kept c.args.self.now) in
-    let ms = c.args.members.now in
     let out = c.loop-member.out in
     let is = none-is out (sym c.is_over.ensures ∙ c.if-is_over.true) in
-    members_done term (map view_member ms) c.args.out.now c.put.new.self out out c.in_ok-put.ensures
-    (left-over (members_left term) (map view_member ms) c.put.new.self _ out refl is c.loop-member.invariant)
-    (over-stays out out (text_of (RightBrace ∷ [])) is refl) us e
+    members_done (term_at c.args.depth (kept c.args.self.now)) _ _ _ out _ c.in_ok-put.ensures (left-over _ _ _ _ out refl is c.loop-member.invariant) (over-stays out out (text_of (RightBrace ∷ [])) is refl) us e
 
 pub put_members-returns : goal.put_members-returns
 put_members-returns t c = λ us e.
     let term = term_at c.args.depth (kept c.args.self.now) in
-    let ms = c.args.members.now in
-    let out = c.loop-member.out in
-    let P : List MemberOf → Type 0 = λ left. IsLeft (members_left term) (map view_member ms) c.put.new.self left out in
-    let none = ap (map view_member) (drop_all c.loop-member.member-index ms c.loop-member-test.false) in
-    members_done term (map view_member ms) c.args.out.now c.put.new.self out c.put-2.new.self c.in_ok-put.ensures (subst P none c.loop-member.invariant) c.in_ok-put-2.ensures us e
+    let P : List MemberOf → Type 0 = λ left. IsLeft (members_left term) (map view_member c.args.members.now) c.put.new.self left c.loop-member.out in
+    let none = ap (map view_member) (drop_all c.loop-member.member-index c.args.members.now c.loop-member-test.false) in
+    members_done term _ _ _ _ _ c.in_ok-put.ensures (subst P none c.loop-member.invariant) c.in_ok-put-2.ensures us e
 
 pub put_parameters-returns-then-is_over : goal.put_parameters-returns-then-is_over
 put_parameters-returns-then-is_over t c =
     let s = c.args.self.now in
-    let term = term_at c.args.depth (kept s) in
-    let others = c.in-Some.others.now in
-    let begin = c.args.out.now in
-    let old = c.put_parameter.new.out in
     let out = c.loop-parameter.out in
     let is = none-is out (sym c.is_over.ensures ∙ c.if-is_over.true) in
-    let Q : List Parameter → Type 0 = λ ps. WritesParameters s c.args.depth ps begin out in
+    let Q : List Parameter → Type 0 = λ ps. WritesParameters s c.args.depth ps c.args.out.now out in
     subst Q (sym c.in-Some.ensures.cases.0)
-    (parameters_done term c.in-Some.first.now others begin old out (item-of s c.args.depth c.in-Some.first.now begin old c.in_ok-put_parameter.ensures)
-    (left-over (parameters_left term) others old _ out refl is c.loop-parameter.invariant))
+    (parameters_done _ c.in-Some.first.now c.in-Some.others.now _ _ _ (item-of s c.args.depth _ _ _ c.in_ok-put_parameter.ensures) (left-over _ _ _ _ out refl is c.loop-parameter.invariant))
