@@ -11,11 +11,13 @@ ghost use Rattle.dw_types.specs.Shapes.{ShapeFailures};
 ghost use Rattle.dw_types.specs.Entries.{children, entry_of};
 ghost use Rattle.dw_types.specs.Graphs.{IsStep};
 ghost use Rattle.dw_types.specs.Held.{all_facts};
-ghost use Rattle.dw_types.specs.Kinds.{has_members, is_array, is_declared_type, passes_type_on, type_count};
+ghost use Rattle.dw_types.specs.Kinds.{has_members, is_array, is_declared_type, is_dimensions};
+ghost use Rattle.dw_types.specs.Kinds.{passes_type_on, type_count};
 ghost use Rattle.dw_types.specs.Noted.{IsNoted};
 ghost use Rattle.dw_types.specs.ShapesSeen.{HasSeenArray, HasSeenShapes};
 ghost use Rattle.dw_types.specs.Steps.{by_value, part_step, steps_by_value, targets_if, IsStepByValue};
 
+use crate::count::Constant;
 use crate::facts::{FactsAt, FactsList};
 use crate::graph::{Packed, StepGraph};
 use crate::kind::Role;
@@ -57,13 +59,14 @@ impl FactsAt<'_, '_> {
 
     /// Whether it is a dimension with a known count below 0.
     #[inline(always)]
-    fn has_bad_count(&self, parent: Role) -> bool
+    fn has_bad_count(&self, parent: Role, language: Constant) -> bool
+        requires { is_dimensions parent ≡ true → language ≡ self.now.language }
         ensures { result ≡ has_bad_count parent self.now }
     {
         if !self.is_dimension(parent) {
             return false;
         }
-        match self.known_count() {
+        match self.known_count(language) {
             Some(n) => n < 0,
             None => false,
         }
@@ -71,13 +74,14 @@ impl FactsAt<'_, '_> {
 
     /// The rule on shapes that the entry breaks: the one with the least number.
     #[inline(always)]
-    pub(crate) fn broken_shape(&self, parent: Role) -> Option<Rule>
+    fn broken_shape(&self, parent: Role, language: Constant) -> Option<Rule>
+        requires { is_dimensions parent ≡ true → language ≡ self.now.language }
         ensures { IsLeast (λ rule. breaks_shape parent self.now rule ≡ true) result }
     {
         if self.misses_type(parent) {
             return Some(Rule::MissingType);
         }
-        if self.has_bad_count(parent) {
+        if self.has_bad_count(parent, language) {
             return Some(Rule::BadCount);
         }
         None
@@ -143,7 +147,11 @@ fn push_members(
     let mut next = entries.first_child(node);
     while let Some(child) = next {
         let member = entries.at(child);
-        note(least, child, member.broken_shape(Role::Members));
+        note(
+            least,
+            child,
+            member.broken_shape(Role::Members, Constant::Absent),
+        );
         if member.is_plain(Role::Members) {
             push_to(steps, member.type_target())?;
         }
@@ -163,7 +171,12 @@ fn note_dimensions(entries: &mut FactsList<'_, '_>, least: &mut LeastFault, node
     let mut next = entries.first_child(node);
     while let Some(child) = next {
         let dimension = entries.at(child);
-        note(least, child, dimension.broken_shape(Role::Dimensions));
+        let language = entries.language(child);
+        note(
+            least,
+            child,
+            dimension.broken_shape(Role::Dimensions, language),
+        );
         next = entries.next_sibling(child);
     }
 }
@@ -185,7 +198,11 @@ fn note_array(
     if !entry.is_array() {
         return;
     }
-    note(least, node, entry.broken_shape(Role::Other));
+    note(
+        least,
+        node,
+        entry.broken_shape(Role::Other, Constant::Absent),
+    );
     note_dimensions(entries, least, node);
 }
 

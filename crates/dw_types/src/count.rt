@@ -181,14 +181,15 @@ impl FactsAt<'_, '_> {
         matches!(self.tag(), DW_TAG_subrange_type) && parent.is_dimensions()
     }
 
-    /// The count of a dimension, which may be below 0, if it is known.
+    /// The count of a dimension in a unit of this language. It may be below 0.
     #[inline(always)]
-    pub(crate) fn known_count(&self) -> Option<i128>
+    pub(crate) fn known_count(&self, language: Constant) -> Option<i128>
+        requires { language ≡ self.now.language }
         ensures { result ≡ count_of self.now }
     {
         count_from(
             self.constant(DW_AT_count),
-            self.language(),
+            language,
             self.constant(DW_AT_upper_bound),
             self.constant(DW_AT_lower_bound),
         )
@@ -197,7 +198,8 @@ impl FactsAt<'_, '_> {
     /// By how much the entry, a child of an array, multiplies the number of elements. An index of another kind, and a
     /// stride on a dimension, leave it unknown. 2^63 stands for each factor that is no smaller.
     #[inline(always)]
-    fn capped_factor(&self) -> Option<u64>
+    fn capped_factor(&self, language: Constant) -> Option<u64>
+        requires { language ≡ self.now.language }
         ensures { (entries : List Facts) (child : ℕ) → self.now ≡ entry_of entries child
             → result ≡ cap_size (2 ^ 63) (child_factor entries child) }
     {
@@ -209,7 +211,7 @@ impl FactsAt<'_, '_> {
                 {
                     return None;
                 }
-                capped_count(known_natural(self.known_count()))
+                capped_count(known_natural(self.known_count(language)))
             }
             _ => Some(1),
         }
@@ -296,7 +298,8 @@ pub(crate) fn count_elements(entries: &mut FactsList<'_, '_>, node: usize) -> Op
     let mut next = entries.first_child(node);
     while let Some(child) = next {
         let entry = entries.at(child);
-        product = capped_times(product, entry.capped_factor());
+        let language = entries.language(child);
+        product = capped_times(product, entry.capped_factor(language));
         has_dimension |= is_subrange_tag(entry.tag());
         next = entries.next_sibling(child);
     }

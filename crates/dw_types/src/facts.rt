@@ -124,14 +124,6 @@ impl FactsAt<'_, '_> {
         let number = self.entry.unit();
         self.links.entries.unit(number).header.address_size
     }
-
-    /// DW_AT_language of the first entry of its unit.
-    #[inline(always)]
-    pub(crate) fn language(&self) -> Constant
-        ensures { result ≡ self.now.language }
-    {
-        language_of(self.links.entries, self.entry.unit())
-    }
 }
 
 /// The entries of .debug_info by rising offset, each with its facts. Of entries that are looked up one after another,
@@ -140,18 +132,25 @@ impl FactsAt<'_, '_> {
 pub(crate) struct FactsList<'r, 'a> {
     cursor: Cursor<'r, 'a>,
     links: &'r Links<'r, 'a>,
+    /// The number of the unit whose language was read last, and that language.
+    language: Option<(usize, Constant)>,
 }
 
 impl<'r, 'a> Model for FactsList<'r, 'a> {
-    ghost use Rattle.std.specs.Prelude.{◌≡◌, List};
+    ghost use Rattle.std.specs.Prelude.{◌≡◌, List, IfSome, slice_get};
+    ghost use Rattle.std.specs.Option.{ForSome};
+    ghost use Rattle.dw_entries.specs.Entries.{placed};
     ghost use Rattle.dw_types.specs.Entries.{Facts};
-    ghost use Rattle.dw_types.specs.Held.{all_facts};
+    ghost use Rattle.dw_types.specs.FactsOf.{language_of};
+    ghost use Rattle.dw_types.specs.Held.{all_facts, units_held};
 
     ghost Value = { List Facts };
 
     ghost view = { λ it. all_facts it.links.now };
 
-    ghost invariant = { λ it. it.cursor.entries.now ≡ it.links.now.entries.now };
+    ghost invariant = { λ it. (it.cursor.entries.now ≡ it.links.now.entries.now)
+        × ForSome it.language (λ read. IfSome (slice_get (placed (units_held it.links.now)) read.0)
+        (λ u. read.1 ≡ language_of u)) };
 }
 
 impl<'r, 'a> FactsList<'r, 'a> {
@@ -163,6 +162,7 @@ impl<'r, 'a> FactsList<'r, 'a> {
         FactsList {
             cursor: links.entries.cursor(),
             links,
+            language: None,
         }
     }
 
@@ -206,6 +206,26 @@ impl<'r, 'a> FactsList<'r, 'a> {
             entry: self.cursor.at(id),
             links: self.links,
             id,
+        }
+    }
+
+    /// DW_AT_language of the first entry of the unit of the entry with a number. It is read once for entries of one
+    /// unit that come one after another.
+    #[inline(always)]
+    pub(crate) fn language(&mut self, node: usize) -> Constant
+        requires { node < length self.old }
+        ensures same { self.new ≡ self.old }
+        ensures is { result ≡ (entry_of self.old node).language }
+    {
+        let id = self.cursor.entries.id(node);
+        let unit = self.cursor.at(id).unit();
+        match self.language {
+            Some((number, language)) if number == unit => language,
+            _ => {
+                let language = language_of(self.links.entries, unit);
+                self.language = Some((unit, language));
+                language
+            }
         }
     }
 

@@ -32,14 +32,17 @@ loop-next-preserved c =
     let R : List ℕ → Type 0 = λ visited. IsNoted fails (λ k. HasSeenArray entries node k ⊎ Contains visited k) c.note.new.least in
     let found = rw c.loop-next.invariant.1 at c.at-dimension.ensures.found in
     let h : HasPassed entries node P Q (Some child) = subst (HasPassed entries node P Q) c.in-Some.is c.loop-next.invariant.0 in
-    let rest = rw (c.at-dimension.ensures.same, c.loop-next.invariant.1) at c.next_sibling-next.ensures.children node in
-    let is = rw (c.at-dimension.ensures.same, c.loop-next.invariant.1) at c.next_sibling-next.ensures.child node in
+    let rest = rw (c.language-language.ensures.same, c.at-dimension.ensures.same, c.loop-next.invariant.1) at c.next_sibling-next.ensures.children node in
+    let is = rw (c.language-language.ensures.same, c.at-dimension.ensures.same, c.loop-next.invariant.1) at c.next_sibling-next.ensures.child node in
     let none = array-no_members (entry_of entries node) c.requires.array in
     let least = part-least entries node child Dimensions c.broken_shape.result (dimensions-role (entry_of entries node) none c.requires.array) h.next_is (rw found at c.broken_shape.ensures) in (
       passed-more entries node P Q R child c.next_sibling-next.result h (rest h.next_is.parent_is) (is h.next_is.parent_is) h.next_is
           (λ visited q. rw c.note.ensures (noted-child fails (HasSeenArray entries node) visited child c.loop-next.least c.broken_shape.result least q)),
-      c.at-dimension.ensures.same ∙ c.loop-next.invariant.1,
+      c.language-language.ensures.same ∙ c.at-dimension.ensures.same ∙ c.loop-next.invariant.1,
     )
+
+pub broken_shape-requires : goal.broken_shape-requires
+broken_shape-requires c = λ yes. rw c.at-dimension.ensures.found (rw c.at-dimension.ensures.same at c.language-language.ensures.is)
 
 pub returns-clause-noted : goal.returns-clause-noted
 returns-clause-noted c =

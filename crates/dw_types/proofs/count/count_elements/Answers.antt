@@ -18,13 +18,16 @@ loop-next-preserved c =
     let R : List ℕ → Type 0 = λ visited. (c.capped_times-product.result ≡ cap_size (2 ^ 63) (product_of (map (child_factor entries) visited))) × ((c.loop-next.has_dimension || c.is_subrange_tag-has_dimension.result) ≡ has_elements (filter (is_subrange entries) visited)) in
     let found = rw c.loop-next.invariant.1 at c.at-entry.ensures.found in
     let h : HasPassed entries node P Q (Some child) = subst (HasPassed entries node P Q) c.in-Some.is c.loop-next.invariant.0 in
-    let rest = rw (c.at-entry.ensures.same, c.loop-next.invariant.1) at c.next_sibling-next.ensures.children node in
-    let is = rw (c.at-entry.ensures.same, c.loop-next.invariant.1) at c.next_sibling-next.ensures.child node in
+    let rest = rw (c.language-language.ensures.same, c.at-entry.ensures.same, c.loop-next.invariant.1) at c.next_sibling-next.ensures.children node in
+    let is = rw (c.language-language.ensures.same, c.at-entry.ensures.same, c.loop-next.invariant.1) at c.next_sibling-next.ensures.child node in
     let factor = c.capped_factor.ensures entries child found in
     let subrange : c.is_subrange_tag-has_dimension.result ≡ is_subrange entries child = rw found at (c.is_subrange_tag-has_dimension.ensures ∙ ap is_subrange_tag c.tag.ensures) in (
       passed-more entries node P Q R child c.next_sibling-next.result h (rest h.next_is.parent_is) (is h.next_is.parent_is) h.next_is (λ visited q. (
         c.capped_times-product.ensures.value ∙ rw (q.0, factor) (cap-both (product_of (map (child_factor entries) visited)) (child_factor entries child)) ∙ ap (cap_size (2 ^ 63)) (sym (factors-push entries visited child)),
         rw (q.1, subrange) (sym (dimensions-push entries visited child)),
       )),
-      c.at-entry.ensures.same ∙ c.loop-next.invariant.1,
+      c.language-language.ensures.same ∙ c.at-entry.ensures.same ∙ c.loop-next.invariant.1,
     )
+
+pub capped_factor-requires : goal.capped_factor-requires
+capped_factor-requires c = rw c.at-entry.ensures.found (rw c.at-entry.ensures.same at c.language-language.ensures.is)
