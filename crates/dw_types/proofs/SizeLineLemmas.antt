@@ -135,18 +135,3 @@ capped_line entries table node = cap_size (2 ^ 63) (size_line entries table node
 
 pub capped_line-local : (entries : List Facts) → IsLocal (by_value entries) (capped_line entries)
 capped_line-local entries table other node in_graph same = ap (cap_size (2 ^ 63)) (size_line-local entries table other node in_graph same)
-
--- a structure or union that is not declared has a size of its own
-
-container-tag : (tag : ℕ) → is_one_of container_tags tag ≡ true → (tag ≡ DW_TAG_structure_type) ⊎ (tag ≡ DW_TAG_union_type)
-container-tag tag is = grind arith
-
-not-declared_by : (b : Bool) → not b ≡ true → b ≡ false
-not-declared_by true e = cc
-not-declared_by false e = refl
-
-pub members-own : (entry : Facts) → has_members entry ≡ true → kind_of entry ≡ OwnSized
-members-own entry is =
-    let parts = and_parts (is_one_of container_tags entry.tag) (not entry.declared) is in
-    let plain = not-declared_by entry.declared parts.1 in
-    elim (container-tag entry.tag parts.0) [ inl structure ↦ rw (structure, plain) refl | inr union ↦ rw (union, plain) refl ]
