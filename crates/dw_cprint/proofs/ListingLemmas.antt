@@ -2,30 +2,26 @@
 use Rattle.std.proofs.Common.{◌≡◌, ◌≢◌, ℕ, zero, suc, ◌+◌, ◌<◌, ◌≤◌, Bool, true, false, not, cond, List, [], ◌∷◌, ◌++◌}
 use Rattle.std.proofs.Common.{refl, sym, ◌∙◌, ap, subst, inl, inr, length, get_or, arith, append_assoc, drop, map, Some}
 use Rattle.std.proofs.Common.{None}
-use Rattle.std.specs.Prelude.{◌⊎◌, ◌&&◌, All, Contains, AllPairs, IsPermutation, filter, flat_map, ◌↔◌, nat_lt}
+use Rattle.std.specs.Prelude.{◌⊎◌, ◌&&◌, All, Contains, AllPairs, IsPermutation, filter, flat_map, nat_lt, if◌then◌else◌}
 use Rattle.std.specs.List.Sorted.{IsNonDecreasingBy, IsStableByKey, ties}
 use Rattle.std.specs.Ordering.{nat_cmp, is_lt}
-use Rattle.std.specs.List.{range_with_len}
-use Rattle.std.proofs.lemmas.Bool.{cases_lt}
+use Rattle.std.specs.List.{range_with_len, filter_map, cons_option}
+use Rattle.std.proofs.lemmas.Bool.{and_parts, cases_lt}
 use Rattle.std.proofs.lemmas.Bool.Decides.{nat_tests}
 use Rattle.std.proofs.lemmas.List.{get_or_default, drop_more, flat_map_more, length-map}
 use Rattle.std.proofs.lemmas.List.Elements.{All-contains, Contains-append_left, Contains-append_right, Contains-get_or}
-use Rattle.std.proofs.lemmas.List.Elements.{Contains-push, Contains-push_cases, All-filter, All-from_get_or}
+use Rattle.std.proofs.lemmas.List.Elements.{Contains-push, Contains-push_cases}
 use Rattle.std.proofs.lemmas.List.Elements.{filter_passes}
 use Rattle.std.proofs.lemmas.List.Kept.{AllPairs-filter}
 use Rattle.std.proofs.lemmas.List.Quantifiers.{all_pairs_push}
 use Rattle.std.proofs.lemmas.List.Sorted.{IsPermutation-sym, Contains-permutation}
-use Rattle.std.proofs.lemmas.Option.{cond_some}
-use Rattle.std.proofs.lemmas.List.FromFn.{filter_of_map_range_with_len_more, get_or-map-range_with_len}
-use Rattle.std.proofs.lemmas.List.FromFn.{length-map-range_with_len}
-use Rattle.dw_entries.specs.Entries.{Entry}
-use Rattle.dw_entries.specs.Lookups.{nth_of}
+use Rattle.std.proofs.lemmas.List.FromFn.{get_or-range_with_len, length-range_with_len}
 use Rattle.dw_image.specs.declared.image.Image.{Image}
 use Rattle.dw_image.specs.Images.{entries_in}
 use Rattle.dw_cprint.specs.EntryShapes.{shape_in, subject_in}
 use Rattle.dw_cprint.specs.Judgements.{IsAdded, printed, refused}
 use Rattle.dw_cprint.specs.Listings.{IsNamedType, AreNamedTypes, AreLevels, StandsBefore, IsListing, declared_line}
-use Rattle.dw_cprint.specs.Listings.{is_named_type}
+use Rattle.dw_cprint.specs.Listings.{is_named_type, named_number}
 use Rattle.dw_cprint.specs.Refusals.{PrintFault, Refuses, IsPrinted}
 use Rattle.dw_cprint.specs.Shapes.{SubjectOf, view_subject}
 use Rattle.dw_cprint.specs.Steps.{first_steps, roots_of}
@@ -280,53 +276,41 @@ pub seven-parts : (o o1 o2 o3 o4 o5 o6 o7 a b c d e f g : List ℕ) → o1 ≡ o
     → o7 ≡ o ++ (a ++ b ++ c ++ d ++ e ++ f ++ g)
 seven-parts o o1 o2 o3 o4 o5 o6 o7 a b c d e f g e1 e2 e3 e4 e5 e6 e7 = rw (e7, e6, e5, e4, e3, e2, e1) (simp append_assoc)
 
--- ---- the named types of an image, found one entry after another
+-- ---- the named types of an image
 
-pub nth-number : (es : List Entry) (k id : ℕ) → nth_of es k ≡ Some id → k ≡ id
-nth-number es k id is = (cond_some (nat_lt k (length es)) k id is).1
+kept-numbers : (p : ℕ → Bool) (xs : List ℕ) → filter_map (λ k. if p k then Some k else None) xs ≡ filter p xs
+kept-numbers p [] = refl
+kept-numbers p (x ∷ xs) = by_test (p x) (kept-numbers p xs)
+  where
+    by_test : (b : Bool) → filter_map (λ k. if p k then Some k else None) xs ≡ filter p xs
+        → cons_option (if b then Some x else None) (filter_map (λ k. if p k then Some k else None) xs) ≡ cond b (x ∷ filter p xs) (filter p xs)
+    by_test true e = ap (λ ys. x ∷ ys) e
+    by_test false e = e
 
-pub nth-past : (es : List Entry) (k : ℕ) → nth_of es k ≡ None → length es ≤ k
-nth-past es k none = elim (cases_lt k (length es)) [
-  | inl less ↦ (let inside : nat_lt k (length es) ≡ true = grind (arith, nat_tests) in let e : Some k ≡ None = rw inside at none in absurd (cc))
-  | inr more ↦ more
-]
-
--- the numbers below n that pass a test
-module _ (p : ℕ → Bool) (n : ℕ) where
-  abbrev pub passing : List ℕ
-  passing = filter p (map (λ k. k) (range_with_len 0 n))
-
-  at : (i d : ℕ) → i < n → get_or (map (λ k. k) (range_with_len 0 n)) i d ≡ i
-  at i d w = get_or-map-range_with_len (λ k. k) 0 n i i d w (omega arith)
-
-  long : length (map (λ k. k) (range_with_len 0 n)) ≡ n
-  long = length-map-range_with_len (λ k. k) 0 n
-
-  pub passing-all : (entry : ℕ) → Contains passing entry ↔ ((entry < n) × (p entry ≡ true))
-  passing-all entry = (
-    λ has. (
-      All-contains (λ x. x < n) passing entry
-          (All-filter p (λ x. x < n) (map (λ k. k) (range_with_len 0 n)) (All-from_get_or (λ x. x < n) (map (λ k. k) (range_with_len 0 n)) 0 (λ i w. (let e = at i 0 (omega (arith, long)) in omega (arith, e, long))))) has,
-      All-contains (λ x. p x ≡ true) passing entry (filter_passes p (map (λ k. k) (range_with_len 0 n))) has,
-    ),
-    λ (w, t). subst (λ (x : ℕ). Contains passing x) (at entry 0 w) (kept-there p (map (λ k. k) (range_with_len 0 n)) entry 0 (omega (arith, long)) (ap p (at entry 0 w) ∙ t)),
-  )
-
-  pub passing-rising : AllPairs (λ a b. a < b) passing
-  passing-rising =
-      AllPairs-filter (λ a b. a < b) p (map (λ k. k) (range_with_len 0 n)) (λ i j d less w. (let a = at i d (omega (arith, long)) in let b = at j d (omega (arith, long)) in omega (arith, a, b)))
-
--- those among the first so many entries
-abbrev pub named_below : Image → ℕ → List ℕ
-named_below image count = passing (λ k. is_named_type (subject_in image k)) count
-
-pub named-step : (image : Image) (count : ℕ) (b : Bool) → is_named_type (subject_in image count) ≡ b → named_below image (count + 1) ≡ named_below image count ++ cond b (count ∷ []) []
-named-step image count b is =
-    filter_of_map_range_with_len_more (λ k. is_named_type (subject_in image k)) (λ k. k) 0 count count (omega arith)
-    ∙ ap (λ (t : Bool). named_below image count ++ cond t (count ∷ []) []) is
-
-pub named-done : (image : Image) (named : List ℕ) → named ≡ named_below image (length (entries_in image)) → AreNamedTypes image named
-named-done image named is = rw is (record {
-  all = passing-all (λ k. is_named_type (subject_in image k)) (length (entries_in image));
-  rising = passing-rising (λ k. is_named_type (subject_in image k)) (length (entries_in image));
+pub named-done : (image : Image) (named : List ℕ) → named ≡ filter_map (named_number image) (range_with_len 0 (length (entries_in image))) → AreNamedTypes image named
+named-done image named is = rw (is, kept-numbers p range) (record {
+  all = λ entry. (λ has. passed entry (All-contains (λ x. p x ≡ true) (filter p range) entry (filter_passes p range) has), λ (w, t). there entry w t);
+  rising = AllPairs-filter (λ a b. a < b) p range (λ i j d less w. (let long = length-range_with_len 0 n in omega (arith, get_or-range_with_len 0 n i d (omega arith), get_or-range_with_len 0 n j d (omega arith))));
 })
+  where
+    n : ℕ
+    n = length (entries_in image)
+
+    range : List ℕ
+    range = range_with_len 0 n
+
+    p : ℕ → Bool
+    p k = nat_lt k n && is_named_type (subject_in image k)
+
+    passed : (entry : ℕ) → p entry ≡ true → IsNamedType image entry
+    passed entry t =
+        let (below, is) = and_parts (nat_lt entry n) (is_named_type (subject_in image entry)) t in
+        (grind (arith, nat_tests), is)
+
+    there : (entry : ℕ) → entry < n → is_named_type (subject_in image entry) ≡ true → Contains (filter p range) entry
+    there entry w t =
+        let here = get_or-range_with_len 0 n entry 0 w in
+        let at : get_or range entry 0 ≡ entry = omega arith in
+        let long = length-range_with_len 0 n in
+        let below : nat_lt entry n ≡ true = grind (arith, nat_tests) in
+        subst (λ (x : ℕ). Contains (filter p range) x) at (kept-there p range entry 0 (omega arith) (ap p at ∙ rw (below, t) refl))

@@ -1,8 +1,8 @@
 -- What is read of an entry, and of its children from the first on.
 use Rattle.std.proofs.Common.{suc, ◌+◌, true, false, Bool, [], ◌∷◌, ◌≡◌, ℕ, ◌<◌, ◌≤◌, List, Option, Some, None, IfSome}
-use Rattle.std.proofs.Common.{refl, ap, ◌∙◌, arith, length, inl, inr, ◌++◌, sym, subst, append-nil, map}
+use Rattle.std.proofs.Common.{refl, ap, arith, length, inl, inr, ◌++◌, sym, subst, append-nil, map}
 use Rattle.std.specs.List.{filter_map, list_any}
-use Rattle.std.specs.Prelude.{slice_get, option_and_then, option_map, is_some, All, if◌then◌else◌}
+use Rattle.std.specs.Prelude.{slice_get, option_map, All, if◌then◌else◌}
 use Rattle.std.specs.Option.{option_map_or}
 use Rattle.std.proofs.lemmas.Option.{slice_get_cases}
 use Rattle.std.proofs.lemmas.List.Elements.{All-nil, All-cons, All-head, All-tail}
@@ -16,15 +16,7 @@ none_past es i gone = elim (slice_get_cases es i).1 [
   | inr it ↦ it.0
 ]
 
--- what a function of the entry says where it is said of the entry that stands there
-pub read_there : {X : Type 0} (es : List Entry) (id : ℕ) (f : Entry → Option X) (r : Option X) → id < length es → IfSome (slice_get es id) (λ e. r ≡ f e) → r ≡ option_and_then f (slice_get es id)
-read_there {X = X} es id f r within says = go (slice_get es id) (λ gone. none_past es id gone) says
-  where
-    go : (found : Option Entry) → (found ≡ None → length es ≤ id) → IfSome found (λ e. r ≡ f e) → r ≡ option_and_then f found
-    go None past says = absurd (omega (arith, past refl))
-    go (Some e) past says = says
-
--- the same of a function that every entry has, and d where none stands there
+-- what is said of the entry with a number holds of what is read of it, and of d if there is none
 pub read_or : {X : Type 0} (es : List Entry) (id : ℕ) (f : Entry → X) (r d : X) → id < length es → IfSome (slice_get es id) (λ e. r ≡ f e) → r ≡ option_map_or f (slice_get es id) d
 read_or {X = X} es id f r d within says = go (slice_get es id) (λ gone. none_past es id gone) says
   where
@@ -44,15 +36,6 @@ within_from (e ∷ es) id k n fits = within_one (is_number id e.parent) k n (chi
 pub children_within : (es : List Entry) (id : ℕ) → All (λ child. child < length es) (children_of es id)
 unfolding children_of
 children_within es id = within_from es id 0 (length es) (omega arith)
-
--- whether there is a name, by the place of its text
-pub named_there : {P : Type 0} (es : List Entry) (id : ℕ) (text : P → List ℕ) (name : Entry → Option (List ℕ)) (place : Option P) → id < length es
-    → IfSome (slice_get es id) (λ e. option_map text place ≡ name e) → is_some place ≡ is_some (option_and_then name (slice_get es id))
-named_there {P = P} es id text name place within says = mapped place ∙ ap is_some (read_there es id name (option_map text place) within says)
-  where
-    mapped : (o : Option P) → is_some o ≡ is_some (option_map text o)
-    mapped None = refl
-    mapped (Some x) = refl
 
 -- ---- reading children from the first on
 

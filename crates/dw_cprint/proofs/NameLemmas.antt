@@ -27,9 +27,9 @@ use Rattle.dw_cprint.specs.declared.source.Span.{Span}
 use Rattle.dw_cprint.proofs.OptionLemmas.{map_inverted, then_inverted}
 
 -- a keyword is one of the short ones or one of the longest
-pub keyword-parts : (word : List ℕ) → is_keyword word ≡ (list_any (λ k. bytes_eq word k.now) KEYWORDS || list_any (λ k. bytes_eq word k.now) LONG_KEYWORDS)
+pub keyword_parts : (word : List ℕ) → is_keyword word ≡ (list_any (λ k. bytes_eq word k.now) KEYWORDS || list_any (λ k. bytes_eq word k.now) LONG_KEYWORDS)
 unfolding is_keyword
-keyword-parts word = list_any-append (λ k. bytes_eq word k.now) KEYWORDS LONG_KEYWORDS
+keyword_parts word = list_any-append (λ k. bytes_eq word k.now) KEYWORDS LONG_KEYWORDS
 
 module _ {X : Type 0} (p : X → Bool) where
   split-whole : (xs : List X) → length xs ≤ position_or_len p xs → slice_split p xs ≡ xs ∷ []
@@ -167,8 +167,8 @@ words-few (suc most) (part ∷ parts) ws e =
     omega (arith, words-few most parts others.0 others.1, ap length others.2)
 
 -- a name of more bytes is not type words
-pub no-words : (name : List ℕ) → 36 < length name → is_some (words_of 4 (parts_of name)) ≡ false
-no-words name long = by_words (words_of 4 (parts_of name)) refl
+pub no_words : (name : List ℕ) → 36 < length name → is_some (words_of 4 (parts_of name)) ≡ false
+no_words name long = by_words (words_of 4 (parts_of name)) refl
   where
     by_words : (found : Option (List TypeWord)) → words_of 4 (parts_of name) ≡ found → is_some found ≡ false
     by_words None is = refl

@@ -1,6 +1,6 @@
 -- Chapter: the listing of all named types of an image, and its text.
 use Rattle.std.specs.Prelude.{◌≡◌, ℕ, suc, ◌<◌, ◌⊎◌, ◌↔◌, Bool, true, false, List, [], ◌∷◌, ◌++◌}
-use Rattle.std.specs.Prelude.{Option, Some, None, is_some, codes}
+use Rattle.std.specs.Prelude.{Option, Some, None, is_some, codes, ◌&&◌, nat_lt, if◌then◌else◌}
 use Rattle.std.specs.Prelude.{length, slice_get, flat_map, Contains, AllPairs}
 use Rattle.std.specs.Option.{option_map_or}
 use Rattle.dw_entries.specs.Entries.{Entry}
@@ -28,6 +28,11 @@ is_named_type _ = false
 -- the entry of this number is a named type
 abbrev pub IsNamedType : Image → ℕ → Type 0
 IsNamedType image entry = (entry < length (entries_in image)) × (is_named_type (subject_in image entry) ≡ true)
+
+-- a number, if the entry of this number is a named type
+abbrev pub named_number : Image → ℕ → Option ℕ
+named_number image k =
+    if nat_lt k (length (entries_in image)) && is_named_type (subject_in image k) then Some k else None
 
 -- the named types of an image, in rising offset
 pub record AreNamedTypes (image : Image) (named : List ℕ) : Type 0 where

@@ -1,7 +1,6 @@
 //! C declarations of entries: what is printed, what is refused and why, and the listing of all named types.
 #![tactic(auto)]
 
-mod declaring;
 mod fault;
 mod laws;
 mod listing;
@@ -17,13 +16,12 @@ mod text;
 mod words;
 mod writing;
 
-pub use declaring::declare;
 pub use dw_image::{EntryId, Image, NoMemory};
 pub use fault::PrintFault;
 pub use laws::{
     declared_if_not_refused, held_types_come_first, one_reading, shapes_reached_decide,
     text_in_parts, types_are_entries,
 };
-pub use listing::{Listing, declare_all};
+pub use listing::{Listing, declare, declare_all};
 pub use source::{Source, Strings};
 pub use words::{Text, digit_of, put_eight_digits};

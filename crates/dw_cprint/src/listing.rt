@@ -1,27 +1,129 @@
-//! The listing of all named types.
+//! The declaration of one entry, and the listing of all named types.
 
-ghost use Rattle.std.specs.Prelude.{◌≡◌, ◌<◌, ◌++◌, length, slice_index, map, flat_map, All, AllPairs, IsPermutation};
-ghost use Rattle.std.specs.Prelude.{IfOk, OnOk};
+ghost use Rattle.std.specs.Prelude.{◌≡◌, ◌≢◌, ◌<◌, ◌++◌, length, slice_index, map, flat_map, All, AllPairs, IsPermutation};
+ghost use Rattle.std.specs.Prelude.{IfOk, OnOk, OnErr, Err};
 ghost use Rattle.dw_image.specs.Images.{entries_in};
-ghost use Rattle.dw_cprint.specs.EntryShapes.{subject_in};
+ghost use Rattle.dw_cprint.specs.EntryShapes.{shape_in, subject_in};
 ghost use Rattle.dw_cprint.specs.Judgements.{IsAdded};
+ghost use Rattle.dw_cprint.specs.Kept.{WritesDeclaration};
 ghost use Rattle.dw_cprint.specs.Listings.{AreLevels, AreNamedTypes, IsListing, StandsBefore, is_named_type};
-ghost use Rattle.dw_cprint.specs.Listings.{listing_text, refused_line, refused_line_in};
-ghost use Rattle.dw_cprint.specs.Shapes.{view_subject};
+ghost use Rattle.dw_cprint.specs.Listings.{listing_text, named_number, refused_line, refused_line_in};
+ghost use Rattle.dw_cprint.specs.Refusals.{AppendsDeclaration, HasOneReading, IsPrinted, Refuses};
+ghost use Rattle.dw_cprint.specs.Shapes.{tag_subject, view_name, view_shape, view_subject};
 ghost use Rattle.dw_cprint.specs.Steps.{first_steps};
 ghost use Rattle.dw_cprint.specs.Surveys.{BySurvey};
+ghost use Rattle.dw_cprint.specs.declared.fault.PrintFault.{PrintFault as PrintFaultOf};
+ghost use Rattle.dw_cprint.specs.declared.fault.PrintFault.TheVariants.{Memory};
 
 use crate::fault::PrintFault;
-use crate::shape::Subject;
+use crate::shape::{Name, Shape, Subject};
 use crate::shape_reader::subject_of;
 use crate::source::{Source, Strings, flag_at, has_name, tag_at};
 use crate::survey::Survey;
-use crate::text::Draft;
-use crate::words::put_eight_digits;
+use crate::text::{Draft, put_enumerators, put_tag};
+use crate::words::{TagKeyword, put_eight_digits};
 use dw_entries::constants::*;
 use dw_image::{EntryId, Image, NoMemory};
 use dw_types::{Numbers, clear_nodes, longest_at, longest_rows};
 use std::alloc::{AllocError, Global};
+use std::slice::from_ref;
+
+/// The most types on a path that is printed: 64 entries, and void after the last.
+const DEPTH: usize = 65;
+
+impl<'a> Survey<'a> {
+    /// The declaration of a structure, union or enumeration.
+    #[tactic(auto, unfolding(crate::specs::Declarations::declaration_of))]
+    fn put_tag_declaration(
+        &self,
+        alloc: Global,
+        out: &mut Draft,
+        name: Name<'_>,
+        shape: &Shape<'a>,
+    ) -> Result<(), AllocError>
+        ensures { OnOk result (WritesDeclaration self.now
+            (tag_subject (view_name name.entry) (view_shape shape.now)) out.old out.new) }
+    {
+        match shape {
+            Shape::Body(tag, _, members) => {
+                put_tag(out, *tag, name)?;
+                out.put(b" ")?;
+                self.put_members(alloc, out, members, DEPTH)?;
+                out.put(b";")
+            }
+            Shape::Enumeration(_, enumerators) => {
+                put_tag(out, TagKeyword::Enum, name)?;
+                out.put(b" ")?;
+                put_enumerators(out, enumerators)?;
+                out.put(b";")
+            }
+            Shape::Tagged(tag, name) => {
+                put_tag(out, *tag, Some(*name))?;
+                out.put(b";")
+            }
+            _ => Ok(()),
+        }
+    }
+
+    /// A declaration.
+    #[tactic(auto, unfolding(crate::specs::Declarations::declaration_of))]
+    pub fn put_declaration(
+        &self,
+        alloc: Global,
+        out: &mut Draft,
+        subject: &Subject<'a>,
+    ) -> Result<(), AllocError>
+        ensures { OnOk result (WritesDeclaration self.now (view_subject subject.now) out.old out.new) }
+    {
+        match subject {
+            Subject::Typedef(name, at) => {
+                out.put(b"typedef ")?;
+                self.put_named(alloc, out, *at, *name, DEPTH)?;
+                out.put(b";")
+            }
+            Subject::Variable(name, at) => {
+                self.put_named(alloc, out, *at, *name, DEPTH)?;
+                out.put(b";")
+            }
+            Subject::Tag(name, shape) => self.put_tag_declaration(alloc, out, *name, shape),
+        }
+    }
+}
+
+/// Appends the C declaration of an entry (DWARF 5, chapter 5): a typedef, a variable, a structure, a union or an
+/// enumeration. The text has at most 65,536 bytes and no line feed.
+///
+/// An error says why the entry is not printed, or that an allocation failed; `out` is then as it was. Each call reads
+/// all strings, and makes a table with an element for each entry of the image: for all types call `declare_all`.
+pub fn declare(
+    alloc: Global,
+    image: &Image<'_>,
+    id: EntryId,
+    out: &mut Vec<u8>,
+) -> Result<(), PrintFault>
+    requires { id < length (entries_in image.now) }
+    ensures printed { OnOk result (IsPrinted (shape_in image.now) (subject_in image.now id)) }
+    ensures text { OnOk result
+        (AppendsDeclaration (shape_in image.now) (subject_in image.now id) out.old.items out.new.items) }
+    // No other declaration has that text.
+    ensures one { OnOk result (HasOneReading (shape_in image.now) (subject_in image.now id)) }
+    ensures err { OnErr result (out.new.items ≡ out.old.items) }
+    ensures refused { (rule : PrintFaultOf) → rule ≢ Memory → result ≡ Err rule
+        → Refuses (shape_in image.now) (subject_in image.now id) rule }
+{
+    let source = Source {
+        image,
+        strings: Strings::read(alloc, image)?,
+    };
+    let subject = subject_of(alloc, &source, id)?;
+    let survey = Survey::new(alloc, &source, from_ref(&subject))?;
+    let mut draft = Draft::new(alloc);
+    if let Some(fault) = survey.refusal(alloc, &subject, &mut draft)? {
+        return Err(fault);
+    }
+    out.extend_from_slice(draft.bytes())?;
+    Ok(())
+}
 
 /// The named types of an image: those that are printed, those that are refused, and the text of both.
 #[derive(Drop)]
@@ -73,19 +175,21 @@ fn is_named_type(image: &Image<'_>, id: EntryId) -> bool
     }
 }
 
+/// The entry with a number, if it is a named type.
+fn named_type(image: &Image<'_>, k: usize) -> Option<EntryId>
+    ensures { result ≡ named_number image.now k }
+{
+    let id = image.nth(k)?;
+    is_named_type(image, id).then_some(id)
+}
+
 /// The named types, in rising offset.
 fn named_types(alloc: Global, image: &Image<'_>) -> Result<Vec<EntryId>, AllocError>
     ensures { IfOk result (λ named. AreNamedTypes image.now named.items) }
 {
-    let mut named = Vec::new(alloc);
-    for k in 0..image.entries() {
-        if let Some(id) = image.nth(k) {
-            if is_named_type(image, id) {
-                named.push(id)?;
-            }
-        }
-    }
-    Ok(named)
+    (0..image.entries())
+        .filter_map(|k| named_type(image, k))
+        .collect(alloc)
 }
 
 /// What is declared at each of some entries.

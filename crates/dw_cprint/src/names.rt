@@ -21,6 +21,7 @@ const KEYWORDS: [&str; 40] = [
 const LONG_KEYWORDS: [&str; 4] = ["_Imaginary", "_Noreturn", "_Static_assert", "_Thread_local"];
 
 /// Whether the text is a keyword of C.
+#[tactic(auto, using(crate::proofs::NameLemmas::keyword_parts))]
 fn is_keyword_text(word: &[u8]) -> bool
     ensures { result ≡ is_keyword word.now }
 {
@@ -34,18 +35,13 @@ fn is_one_of(word: &[u8], words: &[&str]) -> bool
     words.iter().any(|k| word == k.as_bytes())
 }
 
-/// Whether the byte is a letter, a digit or an underscore.
-fn is_word(b: u8) -> bool
-    ensures { result ≡ is_word_byte b }
-{
-    b.is_ascii_alphanumeric() || b == b'_'
-}
-
 /// Whether all bytes are letters, digits or underscores.
 pub fn are_words(bytes: &[u8]) -> bool
     ensures { result ≡ list_all is_word_byte bytes.now }
 {
-    bytes.iter().all(|b| is_word(*b))
+    bytes
+        .iter()
+        .all(|b| b.is_ascii_alphanumeric() || *b == b'_')
 }
 
 /// Whether the name is an identifier of C, by whether all its bytes are letters, digits or underscores.
@@ -96,6 +92,7 @@ fn are_type_words(name: &[u8], most: u8) -> bool
 const MOST_BYTES: usize = 36;
 
 /// Whether the name is one for a base type: an identifier, or 1 to 4 type words separated by one space each.
+#[tactic(auto, using(crate::proofs::NameLemmas::no_words))]
 pub fn is_base_name(name: Text<'_>) -> bool
     ensures { result ≡ is_base_name name.entry.bytes.now }
 {

@@ -66,11 +66,7 @@ fn dimension_at(image: &Image<'_>, id: EntryId) -> Option<Option<u128>>
     requires { id < length (entries_in image.now) }
     ensures { result ≡ dimension_at image.now id }
 {
-    if tag_at(image, id) == DW_TAG_subrange_type {
-        Some(image.count_of(id))
-    } else {
-        None
-    }
+    (tag_at(image, id) == DW_TAG_subrange_type).then_some(image.count_of(id))
 }
 
 /// The shape of an array.

@@ -142,6 +142,7 @@ impl<'i, 'a> Source<'i, 'a> {
     }
 
     /// The name of an entry.
+    #[tactic(auto, unfolding(crate::specs::LookUps::name_at))]
     pub fn name(&self, id: EntryId) -> Name<'a>
         requires { id < length (entries_in self.now.image.now) }
         ensures { view_name result ≡ name_at self.now.image.now id }
@@ -154,6 +155,7 @@ impl<'i, 'a> Source<'i, 'a> {
 }
 
 /// The tag of an entry.
+#[tactic(auto, unfolding(crate::specs::LookUps::tag_at))]
 pub fn tag_at(image: &Image<'_>, id: EntryId) -> Tag
     requires { id < length (entries_in image.now) }
     ensures { result ≡ tag_at image.now id }
@@ -162,6 +164,7 @@ pub fn tag_at(image: &Image<'_>, id: EntryId) -> Tag
 }
 
 /// The value of an entry's attribute.
+#[tactic(auto, unfolding(crate::specs::LookUps::value_at))]
 pub fn value_at<'a>(image: &Image<'a>, id: EntryId, attribute: Attribute) -> Option<Value<'a>>
     requires { id < length (entries_in image.now) }
     ensures { option_map view result ≡ value_at image.now id attribute }
@@ -170,6 +173,7 @@ pub fn value_at<'a>(image: &Image<'a>, id: EntryId, attribute: Attribute) -> Opt
 }
 
 /// Whether an entry has a name. Its text is not read.
+#[tactic(auto, unfolding(crate::specs::LookUps::name_at))]
 pub fn has_name(image: &Image<'_>, id: EntryId) -> bool
     requires { id < length (entries_in image.now) }
     ensures { result ≡ is_some (name_at image.now id) }
@@ -178,14 +182,12 @@ pub fn has_name(image: &Image<'_>, id: EntryId) -> bool
 }
 
 /// The type of an entry.
+#[tactic(auto, unfolding(crate::specs::LookUps::type_at, dw_image::specs::Images::type_in))]
 pub fn type_at(image: &Image<'_>, id: EntryId) -> TypeAt
     requires { id < length (entries_in image.now) }
     ensures { result ≡ type_at image.now id }
 {
-    match image.type_of(id) {
-        Some(it) => Some(it.entry().number()),
-        None => None,
-    }
+    image.type_of(id).map(|it| it.entry().number())
 }
 
 /// Whether a flag of an entry is there and true.
@@ -193,10 +195,7 @@ pub fn flag_at(image: &Image<'_>, id: EntryId, attribute: Attribute) -> bool
     requires { id < length (entries_in image.now) }
     ensures { result ≡ flag_at image.now id attribute }
 {
-    match value_at(image, id, attribute) {
-        Some(Value::Flag(flag)) => flag,
-        _ => false,
-    }
+    matches!(value_at(image, id, attribute), Some(Value::Flag(true)))
 }
 
 /// The number under an attribute of an entry. This project's choice: the form data16 gives none.

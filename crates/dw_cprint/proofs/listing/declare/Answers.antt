@@ -14,7 +14,7 @@ use Rattle.dw_cprint.specs.declared.shape.Subject.{Subject}
 use Rattle.dw_cprint.specs.declared.survey.Survey.{Survey}
 use Rattle.dw_cprint.proofs.SameLemmas.{printed-one, survey-regular}
 use Rattle.dw_cprint.proofs.WithinLemmas.{roots_within}
-use Rattle.dw_cprint.proofs.declaring.declare.Goals as goal
+use Rattle.dw_cprint.proofs.listing.declare.Goals as goal
 
 -- the first steps of one declaration are among those of it alone
 among-own : (s : SubjectOf) → AreAmong (first_steps s) (roots_of (s ∷ []))
