@@ -1,7 +1,7 @@
 //! The declaration of one entry, and the listing of all named types.
 
-ghost use Rattle.std.specs.Prelude.{◌≡◌, ◌≢◌, ◌<◌, ◌++◌, length, slice_index, map, flat_map, All, AllPairs, IsPermutation};
-ghost use Rattle.std.specs.Prelude.{IfOk, OnOk, OnErr, Err};
+ghost use Rattle.std.specs.Prelude.{◌≡◌, ◌≢◌, ◌<◌, ◌++◌, length, slice_index, map, flat_map, All, AllPairs};
+ghost use Rattle.std.specs.Prelude.{IsPermutation, IfOk, OnOk, OnErr, Err};
 ghost use Rattle.dw_image.specs.Images.{entries_in};
 ghost use Rattle.dw_cprint.specs.EntryShapes.{shape_in, subject_in};
 ghost use Rattle.dw_cprint.specs.Judgements.{IsAdded};

@@ -1,5 +1,5 @@
-//! The numbers under attributes (DWARF 5, 2.19 and 7.5.5), the count of a dimension, and how many elements an array has:
-//! the product of the counts of its dimensions (5.5 and 5.13).
+//! The numbers under attributes (DWARF 5, 2.19 and 7.5.5), the count of a dimension, and how many elements an array
+//! has: the product of the counts of its dimensions (5.5 and 5.13).
 
 ghost use Rattle.std.specs.Prelude.{◌≡◌, ◌≤◌, ◌^◌, ◌<◌, ℕ, List, length, option_map, slice_get, IfSome};
 ghost use Rattle.dw_forms.specs.Value.{view};
