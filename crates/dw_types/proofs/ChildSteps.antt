@@ -78,25 +78,6 @@ none_past us id k is le = none_behind us id (omega (arith, is, le))
 pub fewer_left : (m : ℕ) (old new : List ℕ) → old ≡ m ∷ new → length new < length old
 fewer_left m old new is = let same : length old ≡ suc (length new) = ap length is in omega (arith, same)
 
--- what the look-up of a number answers
-pub record IsNth (n k id : ℕ) : Type 0 where
-  pub same : id ≡ k
-  pub within : k < n
-
-nth_cases : (k n : ℕ) (b : Bool) (found : Option ℕ) → nat_lt k n ≡ b → found ≡ (if b then Some k else None) → (id : ℕ) → found ≡ Some id → IsNth n k id
-nth_cases k n true found lt is id some = let both : Some k ≡ Some id = sym is ∙ some in record { same = (let e : k ≡ id = cc in sym e); within = ltb-true k n lt }
-nth_cases k n false found lt is id some = absurd cc
-
-pub nth_is : (es : List Entry) (k : ℕ) (found : Option ℕ) → found ≡ nth_of es k → (id : ℕ) → found ≡ Some id → IsNth (length es) k id
-nth_is es k found is = nth_cases k (length es) (nat_lt k (length es)) found refl is
-
-none_cases : (k n : ℕ) (b : Bool) (found : Option ℕ) → nat_lt k n ≡ b → found ≡ (if b then Some k else None) → found ≡ None → n ≤ k
-none_cases k n true found lt is gone = absurd cc
-none_cases k n false found lt is gone = ltb-false k n lt
-
-pub nth_gone : (es : List Entry) (k : ℕ) (found : Option ℕ) → found ≡ nth_of es k → found ≡ None → length es ≤ k
-nth_gone es k found is = none_cases k (length es) (nat_lt k (length es)) found refl is
-
 parent-number : (above : Option ℕ) (p : ℕ) → is_parent above p ≡ is_number p above
 parent-number None p = refl
 parent-number (Some q) p = refl

@@ -283,14 +283,14 @@ pub fn first_child(entries: &Entries<'_>, id: EntryId) -> Option<EntryId>
         ≡ children_of (all_entries entries.now.scanned) id }
     ensures linked { IsChild (all_entries entries.now.scanned) id result }
 {
-    match entries.nth(id.number() + 1) {
-        Some(behind) => {
-            if is_child(entries, behind, id) {
-                Some(behind)
-            } else {
-                None
-            }
-        }
-        None => None,
+    let number = id.number() + 1;
+    if number >= entries.count() {
+        return None;
+    }
+    let behind = entries.id(number);
+    if is_child(entries, behind, id) {
+        Some(behind)
+    } else {
+        None
     }
 }
