@@ -1,10 +1,9 @@
 -- The children of an entry, in the words of the look-ups and by the facts of entries, and a loop over them.
-use Rattle.std.proofs.Common.{◌≡◌, ℕ, zero, suc, ◌+◌, ◌<◌, ◌≤◌, Bool, true, false, if◌then◌else◌, List, [], ◌∷◌, length, Option, Some, None, IfSome, refl, sym, ap, subst, ◌∙◌, arith, eqb-true, nat_lt, ltb-true, ltb-false, ◌-◌, drop, inl, inr, length-drop, ◌++◌, append_assoc}
+use Rattle.std.proofs.Common.{◌≡◌, ℕ, zero, suc, ◌+◌, ◌<◌, ◌≤◌, true, false, if◌then◌else◌, List, [], ◌∷◌, length, Option, Some, None, IfSome, refl, sym, ap, subst, ◌∙◌, arith, eqb-true, ◌-◌, drop, inl, inr, length-drop, ◌++◌, append_assoc}
 use Rattle.std.specs.Prelude.{slice_get, option_map, All}
 use Rattle.std.proofs.lemmas.Option.{slice_get_within, slice_get_cases}
 use Rattle.std.specs.List.{filter, range_with_len}
 use Rattle.std.proofs.lemmas.List.Elements.{All-append, All-cons, All-nil}
-use Rattle.dw_entries.specs.Lookups.{nth_of}
 use Rattle.dw_entries.specs.Tree.{◌then◌}
 use Rattle.dw_entries.specs.Units.{DebugUnit}
 use Rattle.dw_entries.specs.Entries.{Entry, entries_of, placed}

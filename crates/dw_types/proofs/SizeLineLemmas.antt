@@ -1,15 +1,13 @@
 -- The size lines read a table at steps by value alone, and may take capped sizes.
-use Rattle.std.proofs.Common.{◌⊎◌, inl, inr, ◌≡◌, ℕ, ◌*◌, ◌^◌, ◌<◌, min, Bool, true, false, not, if◌then◌else◌, List, map, Option, Some, None, length, arith, refl, sym, ap, ◌∙◌}
+use Rattle.std.proofs.Common.{◌≡◌, ℕ, ◌*◌, ◌^◌, ◌<◌, min, Bool, true, false, if◌then◌else◌, List, map, Option, Some, None, length, arith, refl, sym, ap, ◌∙◌}
 use Rattle.dw_types.specs.declared.count.Constant.{Constant}
 use Rattle.dw_types.specs.declared.count.Constant.TheVariants.{Absent, NotNumber, Unsigned, Signed}
 use Rattle.dw_types.specs.declared.kind.Kind.{Kind}
 use Rattle.dw_types.specs.declared.kind.Kind.TheVariants.{Declared, OwnSized, Pointer, Alias, Enumeration, Array, Subroutine, NoType}
 use Rattle.dw_types.specs.Entries.{entry_of, TargetsAreEntries, Facts, byte_size, constant}
 use Rattle.dw_types.specs.Graphs.{IsStep}
-use Rattle.std.proofs.lemmas.Bool.{and_parts}
-use Rattle.dw_forms.specs.Codes.{DW_TAG_structure_type, DW_TAG_union_type, DW_AT_byte_stride}
-use Rattle.dw_types.specs.Kinds.{container_tags, has_members, passes_type_on, is_declared_type, kind_of}
-use Rattle.dw_links.specs.Classes.{is_one_of}
+use Rattle.dw_forms.specs.Codes.{DW_AT_byte_stride}
+use Rattle.dw_types.specs.Kinds.{passes_type_on, is_declared_type, kind_of}
 use Rattle.dw_types.specs.SizeTables.{Size, cap_size}
 use Rattle.dw_types.specs.Sizes.{size_of_kind, size_line, size_to, constant_or, times, is_regular, product_of, factor_of, dimensions}
 use Rattle.dw_types.specs.Steps.{by_value, by_type, by_signature}

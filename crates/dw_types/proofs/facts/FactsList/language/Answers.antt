@@ -1,4 +1,4 @@
-use Rattle.std.proofs.Common.{◌≡◌, ◌<◌, length, IfSome}
+use Rattle.std.proofs.Common.{◌≡◌, IfSome}
 use Rattle.std.specs.Prelude.{slice_get}
 use Rattle.dw_entries.specs.Entries.{entries_of, placed}
 use Rattle.dw_types.specs.declared.count.Constant.TheVariants.{Absent}
