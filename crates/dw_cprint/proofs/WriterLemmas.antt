@@ -13,8 +13,8 @@ use Rattle.dw_cprint.specs.Drafts.{appended}
 use Rattle.dw_cprint.specs.Kept.{Writes}
 use Rattle.dw_cprint.specs.Legible.{is_identifier}
 use Rattle.dw_cprint.specs.Shapes.{Qualifier, TagKeyword, Parameter, Name, TypeAt, MemberOf, EnumeratorOf, ShapeOf, base, typedef}
-use Rattle.dw_cprint.specs.Shapes.{qualified, pointer, array, function, tagged, nameless, body, enumeration, foreign}
-use Rattle.dw_cprint.specs.Shapes.{other, typedef_subject, variable_subject, tag_subject, view_shape}
+use Rattle.dw_cprint.specs.Shapes.{qualified, pointer, array, function, tagged, body, enumeration}
+use Rattle.dw_cprint.specs.Shapes.{typedef_subject, variable_subject, tag_subject, view_shape}
 use Rattle.dw_cprint.specs.Terms.{TypeWord, Enum, Term, Void, Named, Basic, Tagged, Body, Enumeration, Pointer}
 use Rattle.dw_cprint.specs.Terms.{Function, Prototyped, Parameters, Members, Constant, Declaration, Typedef, Variable, Aggregate, Constants}
 use Rattle.dw_cprint.specs.Tokens.{Token, Blank, Star, Open, Close, LeftBrace, RightBrace, Semicolon, TypedefWord}

@@ -5,9 +5,9 @@ ghost use Rattle.std.specs.List.{list_any};
 ghost use Rattle.dw_cprint.specs.Declarations.{is_miscounted, is_misplaced};
 ghost use Rattle.dw_cprint.specs.Shapes.{view_shape, view_name};
 ghost use Rattle.dw_cprint.specs.Steps.{types_reached};
-ghost use Rattle.dw_cprint.specs.Summaries.{base_known, is_unspeakable, is_wrong_base, kind_known};
-ghost use Rattle.dw_cprint.specs.Wrong.{has_bad_name, is_bracketed, is_function, is_void};
-ghost use Rattle.dw_cprint.specs.Wrong.{is_wrong, is_wrong_bits, kind_in, lacks_member_name, lacks_name, object_types};
+ghost use Rattle.dw_cprint.specs.Summaries.{base_known, is_unspeakable, kind_known};
+ghost use Rattle.dw_cprint.specs.Wrong.{has_bad_name, is_bracketed, is_function, is_void, is_wrong_bits, kind_in};
+ghost use Rattle.dw_cprint.specs.Wrong.{lacks_member_name, lacks_name};
 
 use crate::names::is_base_name;
 use crate::shape::{Bits, Member, Name, Parameter, Shape, TypeAt};
@@ -150,49 +150,10 @@ fn has_misplaced(parameters: &[Parameter]) -> bool
     false
 }
 
-/// Whether C has no such array, function, body or enumeration. Types that are void are checked elsewhere.
-fn is_wrong(summaries: &Summaries, shape: &Shape<'_>) -> bool
-    ensures { result ≡ is_wrong (kind_known summaries.now) (view_shape shape.now) }
-{
-    match shape {
-        Shape::Array(counts, strange, at) => {
-            let kind = summaries.of(*at).kind;
-            *strange
-                || has_wrong_counts(counts)
-                || matches!(kind, TypeKind::Function | TypeKind::Array { open: true })
-        }
-        Shape::Function(at, None) => summaries.of(*at).kind.is_bracketed(),
-        Shape::Function(at, Some(parameters)) => {
-            summaries.of(*at).kind.is_bracketed() || has_misplaced(parameters)
-        }
-        Shape::Body(_, _, members) => members
-            .iter()
-            .any(|member| is_wrong_member(summaries, member)),
-        Shape::Enumeration(_, enumerators) => {
-            enumerators.is_empty()
-                || enumerators
-                    .iter()
-                    .any(|enumerator| enumerator.value.is_none())
-        }
-        _ => false,
-    }
-}
-
-/// Whether the elements, a parameter or a member of a shape are void. `types` are those that it names.
-fn has_void_object(summaries: &Summaries, shape: &Shape<'_>, types: &[TypeAt]) -> bool
+/// Whether the fourth refusal holds for an entry that is reached. `types` are those that it names.
+pub fn is_unspeakable(summaries: &Summaries, shape: &Shape<'_>, types: &[TypeAt]) -> bool
     requires { types.now ≡ types_reached (view_shape shape.now) }
-    ensures { result ≡ list_any (λ at. is_void (base_known summaries.now at)) (object_types (view_shape shape.now)) }
-{
-    match shape {
-        Shape::Array(_, _, _) | Shape::Body(_, _, _) => has_void(summaries, types),
-        Shape::Function(_, _) => has_void(summaries, &types[1..]),
-        _ => false,
-    }
-}
-
-/// Whether a shape begins a row of qualifiers that C does not have.
-fn is_wrong_base(summaries: &Summaries, shape: &Shape<'_>) -> bool
-    ensures { result ≡ is_wrong_base (base_known summaries.now) (view_shape shape.now) }
+    ensures { result ≡ is_unspeakable summaries.now (view_shape shape.now) }
 {
     match shape {
         Shape::Qualified(Qualifier::Restrict, at) => {
@@ -202,16 +163,31 @@ fn is_wrong_base(summaries: &Summaries, shape: &Shape<'_>) -> bool
             )
         }
         Shape::Qualified(_, at) => summaries.of(*at).base.is_bracketed(),
+        Shape::Array(counts, strange, at) => {
+            let kind = summaries.of(*at).kind;
+            *strange
+                || has_wrong_counts(counts)
+                || matches!(kind, TypeKind::Function | TypeKind::Array { open: true })
+                || has_void(summaries, types)
+        }
+        Shape::Function(at, None) => summaries.of(*at).kind.is_bracketed(),
+        Shape::Function(at, Some(parameters)) => {
+            summaries.of(*at).kind.is_bracketed()
+                || has_misplaced(parameters)
+                || has_void(summaries, &types[1..])
+        }
+        Shape::Body(_, _, members) => {
+            has_void(summaries, types)
+                || members
+                    .iter()
+                    .any(|member| is_wrong_member(summaries, member))
+        }
+        Shape::Enumeration(_, enumerators) => {
+            enumerators.is_empty()
+                || enumerators
+                    .iter()
+                    .any(|enumerator| enumerator.value.is_none())
+        }
         _ => false,
     }
-}
-
-/// Whether the fourth refusal holds for an entry that is reached. `types` are those that it names.
-pub fn is_unspeakable(summaries: &Summaries, shape: &Shape<'_>, types: &[TypeAt]) -> bool
-    requires { types.now ≡ types_reached (view_shape shape.now) }
-    ensures { result ≡ is_unspeakable summaries.now (view_shape shape.now) }
-{
-    is_wrong(summaries, shape)
-        || has_void_object(summaries, shape, types)
-        || is_wrong_base(summaries, shape)
 }

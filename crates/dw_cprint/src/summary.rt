@@ -1,9 +1,8 @@
 //! What is known of a type that reaches no cycle, by the types that it names: its kind, and what is found of it.
 
-ghost use Rattle.std.specs.Prelude.{◌≡◌, ◌<◌, ◌≤◌, ◌+◌, ℕ, List, [], ◌∷◌, Some, false, length, map, max, sum_by, All};
-ghost use Rattle.std.specs.Prelude.{IfOk};
+ghost use Rattle.std.specs.Prelude.{◌≡◌, ◌<◌, ◌≤◌, ◌+◌, ℕ, List, Some, false, length, map, max, sum_by, All, IfOk};
 ghost use Rattle.dw_cprint.specs.Judgements.{IsRefusalBelow};
-ghost use Rattle.dw_cprint.specs.Least.{least_in, name_size, own_size, own_size_declared};
+ghost use Rattle.dw_cprint.specs.Least.{name_size, own_size, own_size_declared};
 ghost use Rattle.dw_cprint.specs.Refusals.{HoldsNoneBelow};
 ghost use Rattle.dw_cprint.specs.Shapes.{ShapeOf, SubjectOf, body, enumeration, view_enumerator, view_shape};
 ghost use Rattle.dw_cprint.specs.Shapes.{view_subject, view_member, view_name, Struct};
@@ -246,27 +245,6 @@ fn findings_under(summaries: &Summaries, types: &[TypeAt]) -> Findings
     findings
 }
 
-/// What is found of an entry that is reached.
-fn findings_of(
-    alloc: Global,
-    summaries: &Summaries,
-    shape: &Shape<'_>,
-) -> Result<Findings, AllocError>
-    ensures found { IfOk result (λ findings. (shapes : ℕ → ShapeOf) (entry : ℕ) → shapes entry ≡ view_shape shape.now
-        → All (Knows shapes summaries.now) (types_reached (view_shape shape.now))
-        → AreFound shapes (Some entry ∷ []) findings) }
-    ensures least { IfOk result
-        (λ findings. findings.least ≤ least_in (least_known summaries.now) (view_shape shape.now)) }
-{
-    let mut types = Vec::new(alloc);
-    put_reached_types(&mut types, shape)?;
-    let all = own_findings(summaries, shape, &types).with(findings_under(summaries, &types));
-    Ok(Findings {
-        depth: all.depth.saturating_add(1),
-        ..all
-    })
-}
-
 /// What is found of the declared entry. `types` are those that it leads to.
 pub fn findings_declared(summaries: &Summaries, subject: &Subject<'_>, types: &[TypeAt]) -> Findings
     requires { types.now ≡ types_declared (view_subject subject.now) }
@@ -297,10 +275,16 @@ fn summary_of(
         → All (Knows shapes summaries.now) (types_reached (view_shape shape.now))
         → IsSummary shapes (Some entry) known) }
 {
+    let mut types = Vec::new(alloc);
+    put_reached_types(&mut types, shape)?;
+    let all = own_findings(summaries, shape, &types).with(findings_under(summaries, &types));
     Ok(Summary {
         kind: kind_of(shape),
         base: base_of(summaries, shape),
-        findings: findings_of(alloc, summaries, shape)?,
+        findings: Findings {
+            depth: all.depth.saturating_add(1),
+            ..all
+        },
     })
 }
 

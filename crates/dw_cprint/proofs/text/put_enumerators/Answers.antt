@@ -1,4 +1,4 @@
-use Rattle.std.proofs.Common.{◌+◌, ◌∙◌, ◌∷◌, [], List, map, drop, ap, sym, subst, refl}
+use Rattle.std.proofs.Common.{◌∙◌, ◌∷◌, [], List, map, ap, sym, subst, refl}
 use Rattle.std.proofs.lemmas.List.{drop_all}
 use Rattle.dw_cprint.specs.Kept.{WritesEnumerators}
 use Rattle.dw_cprint.specs.Tokens.{Blank, RightBrace, text_of}

@@ -1,5 +1,5 @@
-use Rattle.std.proofs.Common.{◌≡◌, ◌+◌, [], ◌∷◌, Bool, List, Some, None, true, refl, ap, sym, ◌∙◌}
-use Rattle.std.proofs.Common.{subst, get_or, drop, map, append-nil, rules}
+use Rattle.std.proofs.Common.{◌≡◌, [], ◌∷◌, Bool, List, Some, None, true, refl, ap, sym, ◌∙◌}
+use Rattle.std.proofs.Common.{subst, get_or, map, append-nil, rules}
 use Rattle.std.specs.Prelude.{flat_map}
 use Rattle.std.proofs.lemmas.List.{drop_more, drop_all}
 use Rattle.dw_cprint.specs.Declarations.{term_at}
