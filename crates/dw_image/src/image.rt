@@ -8,7 +8,7 @@ ghost use Rattle.dw_links.specs.Classes.{ClassFailures};
 ghost use Rattle.dw_links.specs.Strings.{StringFailures};
 ghost use Rattle.dw_links.specs.References.{ReferenceFailures};
 ghost use Rattle.dw_links.specs.Tables.{AreTables};
-ghost use Rattle.dw_types.specs.FactsOf.{facts_in};
+ghost use Rattle.dw_types.specs.FactsOf.{facts_in, languages_in};
 ghost use Rattle.dw_image.specs.Measures.{AreMeasures, AreSteps};
 ghost use Rattle.dw_forms.specs.Value.{view};
 ghost use Rattle.dw_entries.specs.Lookups.{nth_of, full_head, value_at_entry};
@@ -22,13 +22,15 @@ use dw_elf::Sections;
 use dw_entries::constants::DW_AT_name;
 use dw_entries::{Attribute, Entries, EntryId, Head, Tag, Value};
 use dw_links::{LinkTables, TextPlace};
-use dw_types::{ByValue, SizeTable, first_child};
+use dw_types::{ByValue, Constant, SizeTable, first_child};
 
 /// The image of valid sections. Only `verify` makes one.
 #[derive(Drop)]
 pub struct Image<'a> {
     pub(crate) entries: Entries<'a>,
     pub(crate) tables: LinkTables,
+    /// The language of each unit.
+    pub(crate) languages: Vec<Constant>,
     /// What each entry holds by value.
     pub(crate) steps: ByValue,
     pub(crate) sizes: SizeTable,
@@ -36,6 +38,7 @@ pub struct Image<'a> {
     ghost classes: { HasNone (ClassFailures (units_of entries.scanned)) },
     ghost strings: { HasNone (StringFailures (sections_of entries) (units_of entries.scanned)) },
     ghost references: { HasNone (ReferenceFailures (units_of entries.scanned)) },
+    ghost languages_read: { languages.items ≡ languages_in (units_of entries.scanned) },
     ghost stepped: { AreSteps (facts_in (units_of entries.scanned)) steps },
     ghost measured: { AreMeasures (facts_in (units_of entries.scanned)) sizes },
 }

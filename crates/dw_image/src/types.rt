@@ -89,7 +89,7 @@ impl Image<'_> {
         requires { id < length (entries_in self.now) }
         ensures { result ≡ count_at (facts_in (units_in self.now)) id }
     {
-        count_at(&self.entries, id)
+        count_at(&self.entries, &self.languages, id)
     }
 
     /// The steps by value of all entries. An entry is the node of its number.

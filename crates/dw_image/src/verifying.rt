@@ -17,7 +17,7 @@ use crate::image::Image;
 use dw_elf::Sections;
 use dw_entries::{Entries, Fault, Rule, Section, Stop, scan};
 use dw_links::{Links, link};
-use dw_types::{ByValue, NoMemory, OrderFault, SizeTable, order, sizes};
+use dw_types::{ByValue, NoMemory, OrderFault, SizeTable, languages_of, order, sizes};
 use std::alloc::{AllocError, Global};
 
 /// What sections are found to be.
@@ -101,9 +101,11 @@ fn image_of<'a>(alloc: Global, sections: Sections<'a>) -> Result<Image<'a>, Stop
     let links = link(alloc, &entries)?;
     let (steps, sizes) = measure(alloc, &links)?;
     let tables = links.into_tables();
+    let languages = languages_of(alloc, &entries)?;
     Ok(Image {
         entries,
         tables,
+        languages,
         steps,
         sizes,
     })

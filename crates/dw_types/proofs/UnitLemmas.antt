@@ -1,8 +1,9 @@
 -- What is read of the unit of an entry.
-use Rattle.std.proofs.Common.{◌≡◌, ℕ, ◌<◌, List, length, Option, Some, IfSome, inl, inr, ap, ◌∙◌, arith}
-use Rattle.std.specs.Prelude.{slice_get}
+use Rattle.std.proofs.Common.{◌≡◌, ℕ, ◌+◌, ◌<◌, ◌≤◌, List, [], ◌∷◌, ◌++◌, length, map, take, Option, None, Some, IfSome, inl, inr, refl, sym, ap, ◌∙◌, arith}
+use Rattle.std.specs.Prelude.{slice_get, option_map}
 use Rattle.std.specs.Option.{option_map_or}
-use Rattle.std.proofs.lemmas.Option.{IfSome_then, slice_get_cases, slice_get_within}
+use Rattle.std.proofs.lemmas.List.{length-map, map_push, take_all, take_more}
+use Rattle.std.proofs.lemmas.Option.{IfSome_then, get_or_from_slice_get, same_Some, slice_get-map, slice_get_cases, slice_get_within}
 use Rattle.dw_forms.specs.Codes.{DW_AT_language}
 use Rattle.dw_entries.specs.declared.lookup.UnitHead.{UnitHead}
 use Rattle.dw_entries.specs.Asked.{values_of}
@@ -10,10 +11,10 @@ use Rattle.dw_entries.specs.Entries.{Entry, PlacedUnit, entries_of, placed}
 use Rattle.dw_entries.specs.Grammar.{Head}
 use Rattle.dw_entries.specs.Lookups.{unit_head, value_in}
 use Rattle.dw_entries.specs.Units.{DebugUnit, Spells}
-use Rattle.dw_entries.proofs.EntryFacts.{first_entry, placed_get}
+use Rattle.dw_entries.proofs.EntryFacts.{first_entry, length-placed_from, placed_get}
 use Rattle.dw_entries.proofs.HeadLaws.{head_stands}
 use Rattle.dw_types.specs.declared.count.Constant.{Constant}
-use Rattle.dw_types.specs.FactsOf.{constant_at, language_of}
+use Rattle.dw_types.specs.FactsOf.{constant_at, language_of, languages_in}
 use Rattle.dw_types.specs.Constants.{constant_of}
 
 -- the unit with a number, where it is
@@ -60,3 +61,31 @@ module _ (a info : List ℕ) (us : List DebugUnit) (spells : Spells a us info) (
       let p = placed-unit us number unit-below in
       let same : found ≡ f p.0 = rw p.1 at is in
       IfSome_then o is_unit (λ e h. rw (← h, p.1) same)
+
+-- ---- the languages of units, one after another
+
+pub languages-long : (us : List DebugUnit) → length (languages_in us) ≡ length us
+languages-long us = length-map (placed us) language_of ∙ length-placed_from 0 0 us
+
+-- the one of a number is that of the unit with this number
+pub language-there : (us : List DebugUnit) (number : ℕ) (language : Constant) → slice_get (languages_in us) number ≡ Some language → IfSome (slice_get (placed us) number) (λ u. language ≡ language_of u)
+language-there us number language at = go (slice_get (placed us) number) refl
+  where
+    go : (o : Option PlacedUnit) → slice_get (placed us) number ≡ o → IfSome o (λ u. language ≡ language_of u)
+    go None is = tt
+    go (Some u) is =
+        let listed : slice_get (languages_in us) number ≡ Some (language_of u) = slice_get-map language_of (placed us) number ∙ ap (option_map language_of) is in
+        same_Some language (language_of u) (sym at ∙ listed)
+
+pub languages-more : (us : List DebugUnit) (number : ℕ) (language : Constant) → number < length us → IfSome (slice_get (placed us) number) (λ u. language ≡ language_of u)
+    → map language_of (take number (placed us)) ++ language ∷ [] ≡ map language_of (take (number + 1) (placed us))
+languages-more us number language below is =
+    let u = placed-unit us number below in
+    let same : language ≡ language_of u.0 = rw u.1 at is in
+    let inside = slice_get_within (placed us) number u.0 u.1 in
+    let there = get_or_from_slice_get (placed us) number u.0 u.0 u.1 in
+    ap (λ (x : Constant). map language_of (take number (placed us)) ++ x ∷ []) same
+    ∙ (sym (map_push language_of (take number (placed us)) u.0) ∙ ap (map language_of) (ap (λ (x : PlacedUnit). take number (placed us) ++ x ∷ []) (sym there) ∙ sym (take_more (placed us) number u.0 inside)))
+
+pub languages-all : (us : List DebugUnit) (number : ℕ) → length us ≤ number → map language_of (take number (placed us)) ≡ languages_in us
+languages-all us number over = let long = length-placed_from 0 0 us in ap (map language_of) (take_all number (placed us) (omega arith))

@@ -25,6 +25,10 @@ address_size_of u = u.unit.header.address_size
 abbrev pub language_of : PlacedUnit → Constant
 language_of u = constant_of (value_in (values_of (head_of u.unit.root)) DW_AT_language)
 
+-- the same of each unit
+abbrev pub languages_in : List DebugUnit → List Constant
+languages_in us = map language_of (placed us)
+
 -- the facts of an entry
 abbrev pub facts_at : List Entry → List PlacedUnit → Entry → Facts
 facts_at entries units e = record {

@@ -18,7 +18,7 @@ ghost use Rattle.dw_types.specs.ShapesSeen.{HasSeenArray, HasSeenShapes};
 ghost use Rattle.dw_types.specs.Steps.{by_value, part_step, steps_by_value, targets_if, IsStepByValue};
 
 use crate::count::Constant;
-use crate::facts::{FactsAt, FactsList};
+use crate::facts::{FactsAt, FactsList, languages_of};
 use crate::graph::{Packed, StepGraph};
 use crate::kind::Role;
 use crate::numbers::Numbers;
@@ -248,7 +248,8 @@ impl ByValue {
         ensures sound { OnOk result (HasNone (ShapeFailures (all_facts links.now))) }
         ensures fault { IfErr result (IfPlainFault (IsFirst (ShapeFailures (all_facts links.now)))) }
     {
-        let mut entries = FactsList::new(links);
+        let languages = languages_of(alloc, links.entries)?;
+        let mut entries = FactsList::new(links, &languages);
         let count = entries.count();
         let mut steps = Numbers::with_room(alloc, count / 2)?;
         let mut ends = Numbers::with_room(alloc, count)?;

@@ -9,12 +9,12 @@ ghost use Rattle.dw_types.specs.Entries.{Facts, children, entry_of};
 ghost use Rattle.dw_types.specs.Counts.{count_at, count_from, count_of, is_array_tag, is_dimension, is_subrange_tag};
 ghost use Rattle.dw_types.specs.Counts.{known_natural, lower_of, reads_bounds, upper_of};
 ghost use Rattle.dw_types.specs.Constants.{IsOf64Bits, constant_of, is_negative, is_present, natural_of, number_in};
-ghost use Rattle.dw_types.specs.FactsOf.{constant_at, facts_in};
+ghost use Rattle.dw_types.specs.FactsOf.{constant_at, facts_in, languages_in};
 ghost use Rattle.dw_types.specs.Kinds.{is_dimensions, parent_role, role_in};
 ghost use Rattle.dw_types.specs.SizeTables.{cap_size};
 ghost use Rattle.dw_types.specs.Sizes.{constant_or, times};
 
-use crate::facts::{FactsAt, FactsList, language_of};
+use crate::facts::{FactsAt, FactsList, language_at};
 use crate::kind::Role;
 use dw_entries::constants::*;
 use dw_entries::{Attribute, Entries, EntryAt, EntryId, Value};
@@ -261,9 +261,10 @@ fn is_dimension(entries: &Entries<'_>, id: EntryId, entry: &EntryAt<'_, '_>) -> 
     is_subrange_tag(entry.tag()) && is_in_array(entries, entry.parent())
 }
 
-/// The known count of a dimension, and none for any other entry.
-pub fn count_at(entries: &Entries<'_>, id: EntryId) -> Option<u128>
-    requires { id < length (all_entries entries.now.scanned) }
+/// The known count of a dimension, by the languages of the units, and none for any other entry.
+pub fn count_at(entries: &Entries<'_>, languages: &[Constant], id: EntryId) -> Option<u128>
+    requires id { id < length (all_entries entries.now.scanned) }
+    requires languages { languages.now ≡ languages_in (units_of entries.now.scanned) }
     ensures { result ≡ count_at (facts_in (units_of entries.now.scanned)) id }
 {
     let entry = entries.at(id);
@@ -272,7 +273,7 @@ pub fn count_at(entries: &Entries<'_>, id: EntryId) -> Option<u128>
     }
     known_natural(count_from(
         Constant::read(&entry, DW_AT_count),
-        language_of(entries, entry.unit()),
+        language_at(languages, entry.unit()),
         Constant::read(&entry, DW_AT_upper_bound),
         Constant::read(&entry, DW_AT_lower_bound),
     ))

@@ -1,19 +1,20 @@
 //! What types, counts and sizes read of an entry, and the children of an entry.
 
-ghost use Rattle.std.specs.Prelude.{◌≡◌, ◌^◌, ◌<◌, ◌∷◌, ℕ, Some, length, slice_get, option_map, IfSome};
+ghost use Rattle.std.specs.Prelude.{◌≡◌, ◌^◌, ◌<◌, ◌∷◌, ℕ, Some, length, slice_get, option_map, IfOk, IfSome};
 ghost use Rattle.dw_forms.specs.Codes.{is_type_tag};
 ghost use Rattle.dw_forms.specs.Value.{view};
 ghost use Rattle.dw_links.specs.References.{is_true};
 ghost use Rattle.dw_entries.specs.Scanned.{all_entries, all_units, units_of};
 ghost use Rattle.dw_types.specs.Children.{children_of, is_number, rest_of_children, siblings_from, IsChildOf, IsChild};
 ghost use Rattle.dw_types.specs.Entries.{children, constant, entry_of};
-ghost use Rattle.dw_types.specs.FactsOf.{facts_in, language_of};
-ghost use Rattle.dw_types.specs.Held.{all_facts, entries_held};
+ghost use Rattle.dw_types.specs.FactsOf.{facts_in, language_of, languages_in};
+ghost use Rattle.dw_types.specs.Held.{all_facts, entries_held, units_held};
 
 use crate::count::Constant;
 use dw_entries::constants::*;
 use dw_entries::{Attribute, Cursor, Entries, EntryAt, EntryId, Value};
 use dw_links::Links;
+use std::alloc::{AllocError, Global};
 use std::marker::Model;
 
 /// Whether a flag is there and true.
@@ -39,11 +40,32 @@ fn number_of(id: Option<EntryId>) -> Option<usize>
 }
 
 /// DW_AT_language of the first entry of the unit with a number.
-pub(crate) fn language_of(entries: &Entries<'_>, unit: usize) -> Constant
+fn language_of(entries: &Entries<'_>, unit: usize) -> Constant
     requires { unit < length (units_of entries.now.scanned) }
     ensures { IfSome (slice_get (all_units entries.now.scanned) unit) (λ u. result ≡ language_of u) }
 {
     Constant::read(&entries.at(entries.unit(unit).first), DW_AT_language)
+}
+
+/// DW_AT_language of the first entry of each unit, in their order. Each is read once: it may come after many values.
+pub fn languages_of(alloc: Global, entries: &Entries<'_>) -> Result<Vec<Constant>, AllocError>
+    ensures { IfOk result (λ languages. languages.items ≡ languages_in (units_of entries.now.scanned)) }
+{
+    let count = entries.unit_count();
+    let mut languages = Vec::with_capacity(alloc, count)?;
+    for number in 0..count {
+        languages.push(language_of(entries, number))?;
+    }
+    Ok(languages)
+}
+
+/// The language of the unit with a number.
+#[inline(always)]
+pub(crate) fn language_at(languages: &[Constant], number: usize) -> Constant
+    requires { number < length languages.now }
+    ensures { slice_get languages.now number ≡ Some result }
+{
+    languages[number]
 }
 
 /// One entry. Its tag is at hand; each other fact is read when it is needed, and no value under another attribute is
@@ -132,16 +154,14 @@ impl FactsAt<'_, '_> {
 pub(crate) struct FactsList<'r, 'a> {
     cursor: Cursor<'r, 'a>,
     links: &'r Links<'r, 'a>,
-    /// The number of the unit whose language was read last, and that language.
-    language: Option<(usize, Constant)>,
+    /// The language of each unit.
+    languages: &'r [Constant],
 }
 
 impl<'r, 'a> Model for FactsList<'r, 'a> {
-    ghost use Rattle.std.specs.Prelude.{◌≡◌, List, IfSome, slice_get};
-    ghost use Rattle.std.specs.Option.{ForSome};
-    ghost use Rattle.dw_entries.specs.Entries.{placed};
+    ghost use Rattle.std.specs.Prelude.{◌≡◌, List};
     ghost use Rattle.dw_types.specs.Entries.{Facts};
-    ghost use Rattle.dw_types.specs.FactsOf.{language_of};
+    ghost use Rattle.dw_types.specs.FactsOf.{languages_in};
     ghost use Rattle.dw_types.specs.Held.{all_facts, units_held};
 
     ghost Value = { List Facts };
@@ -149,20 +169,20 @@ impl<'r, 'a> Model for FactsList<'r, 'a> {
     ghost view = { λ it. all_facts it.links.now };
 
     ghost invariant = { λ it. (it.cursor.entries.now ≡ it.links.now.entries.now)
-        × ForSome it.language (λ read. IfSome (slice_get (placed (units_held it.links.now)) read.0)
-        (λ u. read.1 ≡ language_of u)) };
+        × (it.languages.now ≡ languages_in (units_held it.links.now)) };
 }
 
 impl<'r, 'a> FactsList<'r, 'a> {
-    /// The facts of entries, by their links.
-    pub(crate) fn new(links: &'r Links<'r, 'a>) -> Self
+    /// The facts of entries, by their links and the languages of their units.
+    pub(crate) fn new(links: &'r Links<'r, 'a>, languages: &'r [Constant]) -> Self
+        requires { languages.now ≡ languages_in (units_held links.now) }
         ensures same { result ≡ all_facts links.now }
         ensures few { length result < 2 ^ 32 }
     {
         FactsList {
             cursor: links.entries.cursor(),
             links,
-            language: None,
+            languages,
         }
     }
 
@@ -209,8 +229,7 @@ impl<'r, 'a> FactsList<'r, 'a> {
         }
     }
 
-    /// DW_AT_language of the first entry of the unit of the entry with a number. It is read once for entries of one
-    /// unit that come one after another.
+    /// DW_AT_language of the first entry of the unit of the entry with a number.
     #[inline(always)]
     pub(crate) fn language(&mut self, node: usize) -> Constant
         requires { node < length self.old }
@@ -218,15 +237,7 @@ impl<'r, 'a> FactsList<'r, 'a> {
         ensures is { result ≡ (entry_of self.old node).language }
     {
         let id = self.cursor.entries.id(node);
-        let unit = self.cursor.at(id).unit();
-        match self.language {
-            Some((number, language)) if number == unit => language,
-            _ => {
-                let language = language_of(self.links.entries, unit);
-                self.language = Some((unit, language));
-                language
-            }
-        }
+        language_at(self.languages, self.cursor.at(id).unit())
     }
 
     /// The entries without their facts.

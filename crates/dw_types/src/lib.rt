@@ -13,9 +13,9 @@ mod size_table;
 mod walk;
 
 pub use by_value::ByValue;
-pub use count::count_at;
+pub use count::{Constant, count_at};
 pub use dw_entries::constants;
-pub use facts::first_child;
+pub use facts::{first_child, languages_of};
 pub use graph::{Order, Packed, StepGraph};
 pub use numbers::{NoMemory, Numbers};
 pub use ordering::{OrderFault, clear_nodes, longest_at, longest_rows, order};

@@ -16,7 +16,7 @@ ghost use Rattle.dw_types.specs.SizeFaults.{IsFirstSizeFault, SizeFailures, fail
 ghost use Rattle.dw_types.specs.Steps.{by_value};
 
 use crate::count::{capped_times, count_elements};
-use crate::facts::{FactsAt, FactsList};
+use crate::facts::{FactsAt, FactsList, languages_of};
 use crate::graph::Order;
 use crate::kind::Kind;
 use crate::numbers::Numbers;
@@ -261,7 +261,8 @@ pub fn sizes(alloc: Global, links: &Links<'_, '_>, order: &Order) -> Result<Size
     ensures sound { IfOk result (λ table. HasNone (SizeFailures (all_facts links.now) (size_at table))) }
     ensures fault { IfErr result (IfPlainFault (IsFirstSizeFault (all_facts links.now))) }
 {
-    let mut entries = FactsList::new(links);
+    let languages = languages_of(alloc, links.entries)?;
+    let mut entries = FactsList::new(links, &languages);
     let mut sizes = SizeTable::none(alloc, entries.count())?;
     let mut least: LeastFault = None;
     for rank in 0..order.count() {
