@@ -1,7 +1,7 @@
 -- What is read of an entry, and of its children from the first on.
 use Rattle.std.proofs.Common.{suc, ◌+◌, true, false, Bool, [], ◌∷◌, ◌≡◌, ℕ, ◌<◌, ◌≤◌, List, Option, Some, None, IfSome}
 use Rattle.std.proofs.Common.{refl, ap, arith, length, inl, inr, ◌++◌, sym, subst, append-nil, map}
-use Rattle.std.specs.List.{filter_map, list_any}
+use Rattle.std.specs.List.{filter_map}
 use Rattle.std.specs.Prelude.{slice_get, option_map, All, if◌then◌else◌}
 use Rattle.std.specs.Option.{option_map_or}
 use Rattle.std.proofs.lemmas.Option.{slice_get_cases}
@@ -38,15 +38,6 @@ unfolding children_of
 children_within es id = within_from es id 0 (length es) (omega arith)
 
 -- ---- reading children from the first on
-
--- the first child passes a test
-pub any-first : (passes : ℕ → Bool) (left : List ℕ) (child : ℕ) (rest : List ℕ) → left ≡ child ∷ rest → true ≡ passes child → true ≡ list_any passes left
-any-first passes left child rest is e = rw (is, sym e) refl
-
--- it does not
-pub any-next : (passes : ℕ → Bool) (left : List ℕ) (child : ℕ) (rest : List ℕ) (found : Bool) → left ≡ child ∷ rest → false ≡ passes child → found ≡ list_any passes rest
-    → found ≡ list_any passes left
-any-next passes left child rest found is e same = rw (is, sym e) same
 
 -- what is kept of all, if the rest is kept of those that are left
 abbrev pub KeepsSoFar : {T : Type 0} → (ℕ → Option T → Type 0) → (all left : List ℕ) → List T → Type 0
