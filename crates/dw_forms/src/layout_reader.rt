@@ -13,7 +13,6 @@ use byteorder::{ByteOrder, LittleEndian};
 use memchr::memchr;
 
 /// The number in the first bytes, lowest first.
-#[inline]
 #[tactic(auto, unfolding(crate::specs::ValueReading::fixed_at))]
 pub(crate) fn fixed(bytes: &[u8], size: usize) -> Result<u64, ValueFault>
     requires some { 1 ≤ size }
@@ -28,7 +27,6 @@ pub(crate) fn fixed(bytes: &[u8], size: usize) -> Result<u64, ValueFault>
 }
 
 /// The number in an address. Each of the two sizes is read by one instruction.
-#[inline]
 fn address(bytes: &[u8], size: u8) -> Result<u64, ValueFault>
     requires { (size ≡ 4) ⊎ (size ≡ 8) }
     ensures within { IfOk result (λ _. size ≤ length bytes.now) }
@@ -42,7 +40,6 @@ fn address(bytes: &[u8], size: u8) -> Result<u64, ValueFault>
 }
 
 /// The number in an offset of 4 bytes.
-#[inline]
 #[tactic(auto, unfolding(crate::specs::ValueReading::fixed_at))]
 pub(crate) fn offset(bytes: &[u8]) -> Result<u32, ValueFault>
     ensures within { IfOk result (λ _. 4 ≤ length bytes.now) }
@@ -55,7 +52,6 @@ pub(crate) fn offset(bytes: &[u8]) -> Result<u32, ValueFault>
 }
 
 /// As many bytes as a length says.
-#[inline]
 #[tactic(auto, unfolding(crate::specs::ValueReading::block_at))]
 fn block(bytes: &[u8], len: u64) -> Result<&[u8], ValueFault>
     ensures within { IfOk result (λ _. len ≤ length bytes.now) }
@@ -105,7 +101,6 @@ pub(crate) fn leb_counted(bytes: &[u8]) -> Result<(&[u8], usize), ValueFault>
 }
 
 /// A number of so many bytes, and how many bytes the value has; so for all below.
-#[inline]
 #[tactic(auto, unfolding(crate::specs::ValueReading::layout_at))]
 pub(crate) fn fixed_number<'a>(
     bytes: &'a [u8],
@@ -122,7 +117,6 @@ pub(crate) fn fixed_number<'a>(
 }
 
 /// An address.
-#[inline]
 #[tactic(auto, unfolding(crate::specs::ValueReading::layout_at))]
 pub(crate) fn address_value(bytes: &[u8], size: u8) -> Result<(Value<'_>, usize), ValueFault>
     requires { (size ≡ 4) ⊎ (size ≡ 8) }
@@ -134,7 +128,6 @@ pub(crate) fn address_value(bytes: &[u8], size: u8) -> Result<(Value<'_>, usize)
 }
 
 /// An offset into a section.
-#[inline]
 #[tactic(auto, unfolding(crate::specs::ValueReading::layout_at))]
 pub(crate) fn section_offset<'a>(
     bytes: &'a [u8],
@@ -148,7 +141,6 @@ pub(crate) fn section_offset<'a>(
 }
 
 /// An unsigned LEB128 number.
-#[inline]
 #[tactic(auto, unfolding(crate::specs::ValueReading::layout_at, crate::specs::ValueReading::uleb_then))]
 pub(crate) fn leb_number<'a>(
     bytes: &'a [u8],
@@ -162,7 +154,6 @@ pub(crate) fn leb_number<'a>(
 }
 
 /// A signed LEB128 number.
-#[inline]
 #[tactic(auto, unfolding(crate::specs::ValueReading::layout_at, crate::specs::ValueReading::sleb_then))]
 pub(crate) fn signed_number(bytes: &[u8]) -> Result<(Value<'_>, usize), ValueFault>
     ensures within { IfOk result (λ x. x.1 ≤ length bytes.now) }
@@ -173,7 +164,6 @@ pub(crate) fn signed_number(bytes: &[u8]) -> Result<(Value<'_>, usize), ValueFau
 }
 
 /// A length of so many bytes, and as many bytes.
-#[inline]
 #[tactic(auto, unfolding(crate::specs::ValueReading::layout_at))]
 pub(crate) fn counted_block(bytes: &[u8], size: usize) -> Result<(Value<'_>, usize), ValueFault>
     requires some { 1 ≤ size }
@@ -186,7 +176,6 @@ pub(crate) fn counted_block(bytes: &[u8], size: usize) -> Result<(Value<'_>, usi
 }
 
 /// A length as a LEB128 number, and as many bytes.
-#[inline]
 #[tactic(auto, unfolding(crate::specs::ValueReading::layout_at))]
 pub(crate) fn leb_block(bytes: &[u8]) -> Result<(Value<'_>, usize), ValueFault>
     ensures within { IfOk result (λ x. x.1 ≤ length bytes.now) }
@@ -197,7 +186,6 @@ pub(crate) fn leb_block(bytes: &[u8]) -> Result<(Value<'_>, usize), ValueFault>
 }
 
 /// A length as a LEB128 number, and an expression of as many bytes.
-#[inline]
 #[tactic(auto, unfolding(crate::specs::ValueReading::layout_at))]
 pub(crate) fn expression(bytes: &[u8]) -> Result<(Value<'_>, usize), ValueFault>
     ensures within { IfOk result (λ x. x.1 ≤ length bytes.now) }
@@ -208,7 +196,6 @@ pub(crate) fn expression(bytes: &[u8]) -> Result<(Value<'_>, usize), ValueFault>
 }
 
 /// A constant of 16 bytes.
-#[inline]
 #[tactic(auto, unfolding(crate::specs::ValueReading::layout_at))]
 pub(crate) fn wide_constant(bytes: &[u8]) -> Result<(Value<'_>, usize), ValueFault>
     ensures within { IfOk result (λ x. x.1 ≤ length bytes.now) }
@@ -219,7 +206,6 @@ pub(crate) fn wide_constant(bytes: &[u8]) -> Result<(Value<'_>, usize), ValueFau
 }
 
 /// A string and its zero byte.
-#[inline]
 #[tactic(auto, unfolding(crate::specs::ValueReading::layout_at))]
 pub(crate) fn text_value(bytes: &[u8]) -> Result<(Value<'_>, usize), ValueFault>
     ensures within { IfOk result (λ x. x.1 ≤ length bytes.now) }

@@ -137,7 +137,6 @@ pub(crate) enum Number {
 
 impl Number {
     /// The value that has this number.
-    #[inline]
     pub(crate) fn value<'a>(self, number: u64) -> Value<'a>
         ensures { view result ≡ number_datum self number }
     {
@@ -166,7 +165,6 @@ pub(crate) enum SectionOffset {
 
 impl SectionOffset {
     /// The value that has this offset.
-    #[inline]
     pub(crate) fn value<'a>(self, offset: u32) -> Value<'a>
         ensures { view result ≡ offset_datum self offset }
     {

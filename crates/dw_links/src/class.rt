@@ -203,13 +203,11 @@ struct Open;
 impl Choice for Open {
     ghost passes = { λ _ spec. (units : List PlacedUnit) → Passes (ClassFails units) spec };
 
-    #[inline]
     fn asks(&self, spec: &AttributeSpec) -> bool {
         is_open(spec)
     }
 
     // A search stops at values that take no bytes, if `is_allowed` forbids their class.
-    #[inline]
     fn keeps_to_stops(&self) {}
 }
 

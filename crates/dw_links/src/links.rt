@@ -84,7 +84,6 @@ impl LinkTables {
     }
 
     /// The entry that an entry's attribute reaches. None where the attribute is absent or no reference.
-    #[inline]
     pub fn target(
         &self,
         entries: &Entries<'_>,
@@ -142,7 +141,6 @@ pub fn link<'r, 'a>(alloc: Global, entries: &'r Entries<'a>) -> Result<Links<'r,
 
 impl<'a> Links<'_, 'a> {
     /// The entry that an entry's attribute reaches. None where the attribute is absent or no reference.
-    #[inline]
     pub fn target(&self, id: EntryId, attribute: Attribute) -> Option<EntryId>
         requires { id < length (all_entries self.now.entries.now.scanned) }
         ensures exact { IfSome (slice_get (all_entries self.now.entries.now.scanned) id)

@@ -43,7 +43,6 @@ pub fn string_ends(sections: &Sections<'_>) -> StringEnds
 }
 
 /// The rule on an offset into a section whose strings begin below `end`.
-#[inline]
 fn ask_offset(section: &[u8], end: usize, offset: u32) -> Option<Rule>
     requires { IsEndOfStrings section.now end }
     ensures { IsLeast (OffsetFails section.now offset) result }

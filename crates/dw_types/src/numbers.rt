@@ -51,7 +51,6 @@ impl Numbers {
     }
 
     /// How many numbers there are.
-    #[inline]
     pub fn len(&self) -> usize
         ensures { result ≡ length self.now }
     {
@@ -59,7 +58,6 @@ impl Numbers {
     }
 
     /// The number at a place.
-    #[inline]
     pub fn get(&self, place: usize) -> usize
         requires { place < length self.now }
         ensures { result ≡ slice_index self.now place }
@@ -68,7 +66,6 @@ impl Numbers {
     }
 
     /// The number so many places after another.
-    #[inline]
     pub(crate) fn get_behind(&self, start: usize, count: usize) -> usize
         requires { start + count < length self.now }
         ensures { result ≡ slice_index self.now (start + count) }
@@ -83,7 +80,6 @@ impl Numbers {
     }
 
     /// Adds a number at the end.
-    #[inline]
     pub fn push(&mut self, number: usize) -> Result<(), AllocError>
         ensures { OnOk result (self.new ≡ self.old ++ number ∷ []) }
     {
@@ -96,7 +92,6 @@ impl Numbers {
     }
 
     /// Takes the last number away, if there is one.
-    #[inline]
     pub(crate) fn pop(&mut self)
         ensures { self.new ≡ take (length self.old - 1) self.old }
     {
@@ -116,7 +111,6 @@ impl Numbers {
     }
 
     /// The last number, if there is one.
-    #[inline]
     pub(crate) fn last(&self) -> Option<usize>
         ensures { MatchOption result (self.now ≡ [])
             (λ last. (0 < length self.now) × (slice_index self.now (length self.now - 1) ≡ last)) }
@@ -142,7 +136,6 @@ impl Numbers {
     }
 
     /// Writes a number at a place.
-    #[inline]
     pub fn set(&mut self, alloc: Global, place: usize, number: usize) -> Result<(), AllocError>
         requires { place < length self.old }
         ensures { OnOk result (self.new ≡ slice_set self.old place number) }
