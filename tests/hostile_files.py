@@ -616,6 +616,25 @@ def nested():
     return elf([(".debug_abbrev", TABLE), (".debug_info", info)]), "".join(lines)
 
 
+# 1 compile unit with a name and a language, 2 array with a type in any unit, 3 dimension with an upper bound of a byte,
+# 4 base type with a name and a size
+TURNS = bytes.fromhex("0111010308130b0000" "02010149100000" "0321002f0b0000" "04240003080b0b0000" "00")
+
+
+def turns():
+    """Arrays of two units in turns: the elements of each are the next one, and each unit has a long first entry."""
+    first, last, array, header = b"\x01" + b"n" * (4 << 20) + b"\0\x0c", b"\x04c\0\x01", 8, 12
+    one = header + len(first) + len(last)
+    two = one + MANY // 2 * array + 1 + header + len(first)
+
+    def arrays(targets):
+        return b"".join(b"\x02" + struct.pack("<I", to) + b"\x03\0\0" for to in targets)
+
+    ones = arrays(two + n * array for n in range(MANY // 2))
+    twos = arrays([one + n * array for n in range(1, MANY // 2)] + [header + len(first)])
+    return [(".debug_abbrev", TURNS), (".debug_info", unit(first + last + ones + b"\0") + unit(first + twos + b"\0"))]
+
+
 def runs():
     """Each run: its name, the file, what asks it, and the beginning of what it must say."""
     check, check_soon = asking("check"), asking("check", memory=SOON_MEMORY, seconds=SOON_TIME)
@@ -626,6 +645,8 @@ def runs():
     for some in (inside(), flagged(), tiny()):
         for name, sections, want in some:
             yield name, elf(sections), check_soon, want
+    yield (f"{MANY:,} arrays of two units in turns, whose DW_AT_language comes after a name of 4 MB", elf(turns()),
+           check_soon, f"sound: 2 units, {2 * MANY + 3} entries, {2 * MANY + 1} types")
     for name, sections, memory in coded():
         yield name, elf(sections), kept_within(memory), "sound: 1 units, 1 entries, 0 types"
     name, row, units, count = inside_attributes()
