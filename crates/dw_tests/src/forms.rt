@@ -1,7 +1,7 @@
 //! An abbreviation table that is read by itself.
 
 use dw_forms::constants::*;
-use dw_forms::{AbbrevFault, AbbrevFault, AbbrevRule, AttributeSpec, Form, read_table};
+use dw_forms::{AbbrevFault, AbbrevRule, AttributeSpec, Form, Stop, read_table};
 use std::test::Fail;
 
 /// A variable, a base type with a name and a size, and a typedef with a type; codes 3, 200 and 1 in this order.
@@ -55,7 +55,7 @@ fn no_bytes(rt: HostRuntime) {
         attribute: 0,
     };
     match read_table(rt.alloc(), &[], 0) {
-        Err(AbbrevFault::Broken(broken)) => assert_eq!(rt; broken, cut),
+        Err(Stop::Fault(broken)) => assert_eq!(rt; broken, cut),
         _ => assert!(rt; false),
     }
 }
