@@ -16,7 +16,7 @@ pub record Facts : Type 0 where
   -- DW_AT_declaration is true
   pub declared : Bool
   pub parent : Option ℕ
-  -- the entries that DW_AT_type and DW_AT_signature reach
+  -- the entries that DW_AT_type and DW_AT_signature refer to
   pub type_target : Option ℕ
   pub signature_target : Option ℕ
   -- of the entry's unit: the size of an address, and DW_AT_language of its first entry

@@ -122,7 +122,7 @@ impl FactsAt<'_, '_> {
         Constant::read(&self.entry, attribute)
     }
 
-    /// The number of the entry that DW_AT_type reaches, which is kept since the links were made.
+    /// The number of the entry that DW_AT_type refers to, which is kept since the links were made.
     #[inline(always)]
     pub(crate) fn type_target(&self) -> Option<usize>
         ensures { result ≡ self.now.type_target }
@@ -130,7 +130,7 @@ impl FactsAt<'_, '_> {
         number_of(self.links.target(self.id, DW_AT_type))
     }
 
-    /// The number of the entry that DW_AT_signature reaches.
+    /// The number of the entry that DW_AT_signature refers to.
     #[inline(always)]
     pub(crate) fn signature_target(&self) -> Option<usize>
         ensures { result ≡ self.now.signature_target }
