@@ -196,7 +196,7 @@ impl FactsAt<'_, '_> {
     }
 
     /// By how much the entry, a child of an array, multiplies the number of elements. An index of another kind, and a
-    /// stride on a dimension, leave it unknown. 2^63 stands for each factor that is no smaller.
+    /// stride on a dimension, leave it unknown. 2^63 represents each factor that is no smaller.
     #[inline(always)]
     fn capped_factor(&self, language: Constant) -> Option<u64>
         requires { language ≡ self.now.language }
@@ -218,7 +218,7 @@ impl FactsAt<'_, '_> {
     }
 }
 
-/// A count, where 2^63 stands for each that is no smaller.
+/// A count, where 2^63 represents each that is no smaller.
 fn capped_count(count: Option<u128>) -> Option<u64>
     ensures { result ≡ cap_size (2 ^ 63) count }
 {
@@ -279,7 +279,7 @@ pub fn count_at(entries: &Entries<'_>, languages: &[Constant], id: EntryId) -> O
     ))
 }
 
-/// The product where both are known. 2^63 stands for each product that is no smaller.
+/// The product where both are known. 2^63 represents each product that is no smaller.
 pub(crate) fn capped_times(a: Option<u64>, b: Option<u64>) -> Option<u64>
     ensures value { result ≡ cap_size (2 ^ 63) (times a b) }
     ensures small { IfSome result (λ n. n ≤ 2 ^ 63) }

@@ -30,7 +30,7 @@ use std::marker::Model;
 /// The size of each entry in bytes, or none, by the entry's number. An entry that is no type has none.
 #[derive(Drop)]
 pub struct SizeTable {
-    /// 0 stands for none, and each other number for the size before it.
+    /// 0 represents none, and each other number for the size before it.
     sizes: Numbers,
 }
 
@@ -54,7 +54,7 @@ impl SizeTable {
         })
     }
 
-    /// The number that stands for the size of an entry.
+    /// The number that represents the size of an entry.
     fn number(&self, node: usize) -> usize
         requires { node < length self.now }
         ensures { size_in result ≡ size_at self.now node }
@@ -108,7 +108,7 @@ impl SizeTable {
     }
 }
 
-/// The number that stands for a size.
+/// The number that represents a size.
 fn stored(size: Option<u64>) -> usize
     requires { IfSome size (λ n. n ≤ 2 ^ 63) }
     ensures { size_in result ≡ size }
@@ -119,7 +119,7 @@ fn stored(size: Option<u64>) -> usize
     }
 }
 
-/// A size, where 2^63 stands for all that is no smaller.
+/// A size, where 2^63 represents all that is no smaller.
 fn capped(size: Option<u64>) -> Option<u64>
     ensures value { result ≡ cap_size (2 ^ 63) size }
     ensures small { IfSome result (λ n. n ≤ 2 ^ 63) }
