@@ -1,11 +1,12 @@
 -- A file has one fault: of two checks that fail first, at places where all lower ones pass, neither comes
 -- before the other.
-use Rattle.std.proofs.Common.{◌≡◌, ℕ, ⊎_elim, List, cond, eqb, refl, sym, ap, subst, ◌∙◌}
+use Rattle.std.proofs.Common.{rules}
+use Rattle.std.proofs.Common.{◌≡◌, ℕ, List, cond, eqb, refl, sym, subst}
 use Rattle.std.proofs.lemmas.Bool.{cases_order}
 use Rattle.dw_elf.specs.declared.fault.ElfRule.{ElfRule}
 use Rattle.dw_elf.specs.declared.fault.ElfFault.{ElfFault}
 use Rattle.dw_elf.specs.Checks.{Check, NotElf64, NotLinked, SectionTable, SectionName, Zdebug, SectionTwice, NoBits, Compressed, SectionRange, TooLarge, NoInfo, turn}
-use Rattle.dw_elf.specs.Rules.{rule_of, section_of, FailsAt, IsFault}
+use Rattle.dw_elf.specs.Rules.{FailsAt, IsFault}
 
 -- the check that has this turn
 check_at : ℕ → Check
@@ -27,28 +28,15 @@ check_at-turn NoInfo = refl
 
 -- of the checks of one place the first that fails is one
 check_is_one : (file : List ℕ) (k : ℕ) (r s : ElfRule) (m n : ℕ) → (e : FailsAt file k r m) (f : FailsAt file k s n) → e.check ≡ f.check
-check_is_one file k r s m n e f =
-    ⊎_elim
-    (λ same. sym (check_at-turn e.check) ∙ ap check_at same ∙ check_at-turn f.check)
-    (λ other. ⊎_elim (λ lt. absurd (f.before e.check lt e.fails)) (λ lt. absurd (e.before f.check lt f.fails)) other)
-    (cases_order (turn e.check) (turn f.check))
+check_is_one file k r s m n e f = search (rules, check_at-turn, check_at, cases_order)
 
 -- of two faults of one file, the places are one
 place_is_one : (file : List ℕ) (a b : ElfFault) → (e : IsFault file a) (f : IsFault file b) → e.place ≡ f.place
-place_is_one file a b e f =
-    ⊎_elim (λ same. same)
-    (λ other. ⊎_elim
-    (λ lt. absurd (f.below e.place lt e.first.check e.first.fails))
-    (λ lt. absurd (e.below f.place lt f.first.check f.first.fails)) other)
-    (cases_order e.place f.place)
+place_is_one file a b e f = search (rules, cases_order)
 
 -- at one place, the rule and the section that are named are one
 fault_at_place : (file : List ℕ) (k : ℕ) (a b : ElfFault) → FailsAt file k a.rule a.section → FailsAt file k b.rule b.section → a ≡ b
-fault_at_place file k a b e f =
-    let check : e.check ≡ f.check = check_is_one file k a.rule b.rule a.section b.section e f in
-    let rule : a.rule ≡ b.rule = e.rule_is ∙ ap rule_of check ∙ sym f.rule_is in
-    let section : a.section ≡ b.section = e.section_is ∙ ap (λ c. section_of c k) check ∙ sym f.section_is in
-    ap (λ r. record a { rule = r }) rule ∙ ap (λ n. record b { section = n }) section
+fault_at_place file k a b e f = search (rules, check_is_one)
 
 -- a file has one fault
 pub fault_is_one : (file : List ℕ) (a b : ElfFault) → IsFault file a → IsFault file b → a ≡ b

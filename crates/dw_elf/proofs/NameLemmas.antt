@@ -1,5 +1,5 @@
 -- Names in the name table: where they can begin, and what the first bytes of one tell of it.
-use Rattle.std.proofs.Common.{◌≡◌, ℕ, zero, suc, ◌+◌, ◌-◌, ◌<◌, ◌≤◌, ◌==◌, Bool, true, false, List, [], ◌∷◌, length, take, get_or, refl, sym, ap, subst, ◌∙◌, arith, rules, length-drop}
+use Rattle.std.proofs.Common.{◌≡◌, ℕ, zero, suc, ◌+◌, ◌-◌, ◌<◌, ◌≤◌, ◌==◌, List, [], ◌∷◌, length, take, get_or, refl, sym, ap, subst, ◌∙◌, arith, rules, length-drop}
 use Rattle.std.specs.List.{before_first, position_or_len}
 use Rattle.std.proofs.lemmas.List.{get_or-drop, length-take, take-take, take_all}
 use Rattle.std.proofs.lemmas.List.Sums.{position_or_len_is}
@@ -17,13 +17,7 @@ no_zero bytes none = (omega arith, (λ lt. absurd (omega (arith, lt))), λ k le 
 
 -- the byte with this number is the last that is zero
 pub last_zero : (bytes : List ℕ) (last : ℕ) → NoneAfter (Passes (is_byte 0) bytes) 0 (length bytes) last → Passes (is_byte 0) bytes last → IsAfterLastZero bytes (last + 1)
-last_zero bytes last none here = (
-  omega (arith, none.high),
-  (λ lt.
-      let before : last + 1 - 1 ≡ last = omega arith in
-      ap (λ i. get_or bytes i 0) before ∙ eqb-true _ 0 here),
-  λ k le lt is. none.after k le lt (eq-eqb _ 0 is),
-)
+last_zero bytes last none here = search (rules, eqb-true, eq-eqb)
 
 -- a text that begins before the end has a zero byte at its own end
 pub has_text : (bytes : List ℕ) (end offset : ℕ) → IsAfterLastZero bytes end → offset < end → HasText bytes offset
@@ -39,12 +33,7 @@ has_text bytes end offset is lt =
 
 -- what is before a first zero byte
 pub take_before_first : (xs : List ℕ) (k : ℕ) → NoneBefore (Passes (is_byte 0) xs) 0 (length xs) k → Passes (is_byte 0) xs k → take k xs ≡ before_first (λ b. b == 0) xs
-take_before_first xs k none here =
-    let is_k : position_or_len (λ b. b == 0) xs ≡ k =
-    position_or_len_is (λ b. b == 0) xs k 0 (omega (arith, none.high))
-    (λ j lt. search (rules, none.before j (omega arith) lt, cases_Bool (get_or xs j 0 == 0)))
-    (λ _. here) in
-    ap (λ n. take n xs) (sym is_k)
+take_before_first xs k none here = search (rules, position_or_len_is, cases_Bool)
 
 -- all bytes where none is zero
 pub all_before_first : (xs : List ℕ) → Nowhere (Passes (is_byte 0) xs) 0 (length xs) → xs ≡ before_first (λ b. b == 0) xs
@@ -56,22 +45,13 @@ all_before_first xs none =
     sym (ap (λ n. take n xs) is_end ∙ take_all (length xs) xs (omega arith))
 
 take_next : (k x : ℕ) (xs : List ℕ) → take (1 + k) (x ∷ xs) ≡ x ∷ take k xs
-take_next k x xs =
-    let next : 1 + k ≡ suc k = omega arith in
-    rw next refl
+take_next k x xs = search (rules)
 
 -- the text at the front of the first n bytes is as much of the text at the front of all
 front_before_first : (n : ℕ) (xs : List ℕ) → before_first (λ b. b == 0) (take n xs) ≡ take n (before_first (λ b. b == 0) xs)
 front_before_first zero xs = refl
 front_before_first (suc n) [] = refl
-front_before_first (suc n) (x ∷ xs) = by (ap (λ l. x ∷ l) (front_before_first n xs)) (x == 0) refl
-  where
-    by : x ∷ before_first (λ b. b == 0) (take n xs) ≡ x ∷ take n (before_first (λ b. b == 0) xs)
-        → (t : Bool) → (x == 0) ≡ t → before_first (λ b. b == 0) (take (suc n) (x ∷ xs)) ≡ take (suc n) (before_first (λ b. b == 0) (x ∷ xs))
-    by rest true e = rw e refl
-    by rest false e =
-        rw e (take_next (position_or_len (λ b. b == 0) (take n xs)) x (take n xs) ∙ rest
-        ∙ sym (ap (λ l. take (suc n) l) (take_next (position_or_len (λ b. b == 0) xs) x xs)))
+front_before_first (suc n) (x ∷ xs) = search (rules, take_next, (front_before_first n xs))
 
 -- each of the six names has at most 18 bytes
 name_short : (s : DebugSection) → length (name_of s) ≤ 18
@@ -84,19 +64,7 @@ name_short Addr = omega arith
 
 -- so the first 19 bytes of a name stand for it
 first_bytes_stand : (name : List ℕ) → StandsFor (take 19 name) name
-first_bytes_stand name =
-    let same = take-take 8 19 name (omega arith) in
-    record {
-      zdebug = (λ e. sym same ∙ e, λ e. same ∙ e);
-      named = λ s. (
-        (λ e.
-            let len : length (take 19 name) ≤ 18 = subst (λ n. n ≤ 18) (sym (ap length e)) (name_short s) in
-            sym (take_all 19 name (omega (arith, len, length-take 19 name))) ∙ e),
-        (λ e.
-            let len : length name ≤ 18 = subst (λ n. n ≤ 18) (sym (ap length e)) (name_short s) in
-            take_all 19 name (omega (arith, len)) ∙ e),
-      );
-    }
+first_bytes_stand name = search (rules, take-take, name_short, take_all, length-take)
 
 -- what the first 19 bytes have of a text stands for it
 pub part_stands : (rest part : List ℕ) → part ≡ before_first (λ b. b == 0) (take 19 rest) → StandsFor part (before_first (λ b. b == 0) rest)

@@ -1,5 +1,6 @@
 -- Where the bytes of a section are in the file.
-use Rattle.std.proofs.Common.{◌≡◌, ℕ, zero, suc, inl, inr, List, [], ◌∷◌, length, take, drop, refl, sym, ap, ◌∙◌}
+use Rattle.std.proofs.Common.{rules}
+use Rattle.std.proofs.Common.{◌≡◌, ℕ, zero, suc, inl, inr, List, [], ◌∷◌, length, take, drop, refl, ap}
 use Rattle.dw_elf.specs.declared.sections.DebugSection.{DebugSection}
 use Rattle.dw_elf.specs.Elf.{IsHeader, section_name, section_bytes, section_offset, section_size}
 use Rattle.dw_elf.specs.Names.{name_of}
@@ -18,8 +19,5 @@ starts file k = take_again (section_size file k) (drop (section_offset file k) f
 -- the header of a section says where its bytes start
 pub header_says : (file : List ℕ) (k start : ℕ) (s : DebugSection) → IsHeader file k → section_name file k ≡ name_of s
     → start ≡ section_offset file k → (bytes : List ℕ) → IsSection file (name_of s) bytes → IsAt file start bytes
-header_says file k start s head named is bytes (inl (j, one, same)) =
-    let there : k ≡ j = one.alone k head named in
-    let bytes_are : bytes ≡ section_bytes file k = same ∙ ap (section_bytes file) (sym there) in
-    rw (is, bytes_are) (starts file k)
+header_says file k start s head named is bytes (inl (j, one, same)) = search (rules, starts)
 header_says file k start s head named is bytes (inr (none, empty)) = absurd (none k head named)

@@ -1,4 +1,5 @@
 -- What the headers so far name, from one header to the next, and what it says once all are read.
+use Rattle.std.proofs.Common.{rules}
 use Rattle.std.proofs.Common.{◌≡◌, ◌≢◌, ℕ, ◌+◌, ◌*◌, ◌<◌, ◌≤◌, ◌⊎◌, inl, inr, ⊎_elim, true, false, cond, eqb, List, [], length, slice_index, Option, Some, None, is_some, unwrap_or, refl, sym, ap, subst, ◌∙◌, arith}
 use Rattle.std.specs.Option.{option_copied}
 use Rattle.std.proofs.lemmas.Bool.{cases_eq}
@@ -34,34 +35,16 @@ same_section : (s t : DebugSection) → name_of s ≡ name_of t → s ≡ t
 same_section s t e = sym (section_by-name s) ∙ ap (λ name. section_by (key_of name)) e ∙ section_by-name t
 
 same_or_other : (s t : DebugSection) → (s ≡ t) ⊎ (s ≢ t)
-same_or_other s t =
-    ⊎_elim
-    (λ e. inl (sym (section_by-name s) ∙ ap section_by e ∙ section_by-name t))
-    (λ ne. inr (λ e. ne (ap (λ r. key_of (name_of r)) e)))
-    (cases_eq (key_of (name_of s)) (key_of (name_of t)))
+same_or_other s t = search (rules, section_by-name, section_by, key_of, cases_eq)
 
 -- a slot after a header of another name
 slot_other : (file : List ℕ) (k : ℕ) (name : List ℕ) (o : Option (List ℕ)) → section_name file k ≢ name → IsSlot file k name o → IsSlot file (k + 1) name o
 slot_other file k name None ne h = λ j pos lt is. ⊎_elim (λ e. ne (ap (section_name file) (sym e) ∙ is)) (λ other. h j pos (omega arith) is) (cases_eq j k)
-slot_other file k name (Some bytes) ne h = (
-  h.0,
-  (h.1.0, omega arith),
-  h.2,
-  (λ i pos lt is. ⊎_elim (λ e. absurd (ne (ap (section_name file) (sym e) ∙ is))) (λ other. h.3 i pos (omega arith) is) (cases_eq i k)),
-  h.4,
-  h.5,
-)
+slot_other file k name (Some bytes) ne h = search (rules, cases_eq)
 
 -- a slot after the first header of its name
 slot_first : (file : List ℕ) (k : ℕ) (name bytes : List ℕ) → IsSlot file k name None → 0 < k → section_name file k ≡ name → bytes ≡ section_bytes file k → length bytes ≤ section_limit → IsSlot file (k + 1) name (Some bytes)
-slot_first file k name bytes h pos is same small = (
-  k,
-  (pos, omega arith),
-  is,
-  (λ i above lt named. ⊎_elim (λ e. e) (λ other. absurd (h i above (omega arith) named)) (cases_eq i k)),
-  same,
-  small,
-)
+slot_first file k name bytes h pos is same small = search (rules, cases_eq)
 
 -- after a header that is not looked for
 pub slots_after_other : (file : List ℕ) (k : ℕ) (f : Found) → ¬ IsWanted (section_name file k) → SlotsUpTo file k f → SlotsUpTo file (k + 1) f
@@ -69,16 +52,8 @@ slots_after_other file k f other h = λ s. slot_other file k (name_of s) (slot f
 
 -- after a header that is
 pub slots_after_put : (file : List ℕ) (k : ℕ) (f g : Found) (s : DebugSection) (bytes : List ℕ) → SlotsUpTo file k f → 0 < k → section_name file k ≡ name_of s → slot f s ≡ None → bytes ≡ section_bytes file k → length bytes ≤ section_limit → slot g s ≡ Some bytes → ((t : DebugSection) → t ≢ s → slot g t ≡ slot f t) → SlotsUpTo file (k + 1) g
-slots_after_put file k f g s bytes h pos is none same small at others = λ t.
-    ⊎_elim
-    (λ e.
-    let empty : IsSlot file k (name_of s) None = subst (λ o. IsSlot file k (name_of s) o) none (h s) in
-    subst (λ r. IsSlot file (k + 1) (name_of r) (slot g r)) (sym e)
-    (subst (λ o. IsSlot file (k + 1) (name_of s) o) (sym at) (slot_first file k (name_of s) bytes empty pos is same small)))
-    (λ ne.
-    subst (λ o. IsSlot file (k + 1) (name_of t) o) (sym (others t ne))
-    (slot_other file k (name_of t) (slot f t) (λ e. ne (same_section t s (sym e ∙ is))) (h t)))
-    (same_or_other t s)
+slots_after_put file k f g s bytes h pos is none same small at others =
+    search (rules, slot_first, slot_other, same_section, same_or_other)
 
 -- a slot that is taken names a lower header
 slot_taken : (file : List ℕ) (k : ℕ) (name : List ℕ) (o : Option (List ℕ)) → IsSlot file k name o → is_some o ≡ true → name ≡ section_name file k → IsNamedBefore file k

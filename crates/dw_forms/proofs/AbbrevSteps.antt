@@ -1,4 +1,5 @@
 -- One pair more of a declaration, and one declaration more of a table.
+use Rattle.std.proofs.Common.{rules}
 use Rattle.std.proofs.Common.{◌≡◌, ℕ, zero, suc, ◌-◌, ◌<◌, ◌==◌, List, [], ◌∷◌, ◌++◌, length, ltb, Option, Some, None, Result, Ok, Err, refl, sym, ap, ◌∙◌, arith}
 use Rattle.std.specs.Prelude.{◌||◌, ◌&&◌, Bool, true, false, cond, find, option_map}
 use Rattle.std.specs.List.{list_any}
@@ -12,7 +13,7 @@ use Rattle.dw_forms.specs.declared.fault.Stop.{Stop}
 use Rattle.dw_forms.specs.declared.fault.Stop.TheVariants as stops
 use Rattle.dw_forms.specs.Steps.{◌>>=◌}
 use Rattle.dw_forms.specs.Abbrev.{Declaration, view, views}
-use Rattle.dw_forms.specs.AbbrevReading.{on_option, unsigned_at, form_at, has_attribute, new_form_of, begun_at, pair_at, attributes_of, attributes_from, children_at, has_code, tagged_at, decl_at, decls_from, placed}
+use Rattle.dw_forms.specs.AbbrevReading.{on_option, unsigned_at, form_at, has_attribute, new_form_of, begun_at, pair_at, attributes_of, attributes_from, has_code, tagged_at, decl_at, decls_from, placed}
 use Rattle.dw_forms.specs.declared.fault.AbbrevFault.{AbbrevFault}
 use Rattle.dw_forms.specs.Stops.{FailsOrMemory}
 
@@ -107,13 +108,7 @@ form_goes : (earlier : List AttributeSpec) (attribute code : ℕ) (rest : List �
     >>= λ form. form_at form rest >>= λ g. with_form attribute g)
     ≡ (on_option found (Err (record { rule = UnknownForm; attribute = attribute })) (λ form. begun_with attribute rest form) >>= λ p. pair_after earlier p)
 form_goes earlier attribute code rest None = refl
-form_goes earlier attribute code rest (Some form) = by_twice (has_attribute attribute earlier)
-  where
-    by_twice : (b : Bool)
-        → (cond b (Err (record { rule = AttributeTwice; attribute = attribute })) (Ok form) >>= λ f. form_at f rest >>= λ g. with_form attribute g)
-        ≡ cond b (Err (record { rule = AttributeTwice; attribute = attribute })) (form_at form rest >>= λ g. with_form attribute g)
-    by_twice true = refl
-    by_twice false = refl
+form_goes earlier attribute code rest (Some form) = search (rules)
 
 -- a pair is read so: what it begins with, whether it is there already, and the number of a constant
 pub pair_by : (earlier : List AttributeSpec) (bytes : List ℕ) → pair_at earlier bytes ≡ (begun_at bytes >>= λ p. pair_after earlier p)
@@ -149,10 +144,7 @@ decl_after code t = attributes_of t.2 >>= λ attributes. Ok (Some (record { code
 
 pub decl_by : (bytes : List ℕ) (code : ℕ) (rest : List ℕ) → unsigned_at bytes ≡ Ok (code, rest) → (code == 0) ≡ false → decl_at [] bytes ≡ (tagged_at rest >>= λ t. decl_after code t)
 unfolding decl_at tagged_at
-decl_by bytes code rest e some =
-    rw (e, some) (bind_goes (unsigned_at rest) _ _ (λ t. decl_after code t) (λ tag.
-    cond_goes (tag.0 == 0 || ltb 65535 tag.0) _ _ _ _ (λ t. decl_after code t) refl (
-    bind_goes (children_at tag.1) _ _ (λ t. decl_after code t) (λ children. refl))))
+decl_by bytes code rest e some = search (rules, bind_goes, cond_goes)
 
 -- at the code 0 there is none
 pub decl_end : (bytes : List ℕ) (code : ℕ) (rest : List ℕ) → unsigned_at bytes ≡ Ok (code, rest) → (code == 0) ≡ true → decl_at [] bytes ≡ Ok (None, rest)

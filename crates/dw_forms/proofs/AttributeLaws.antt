@@ -1,6 +1,7 @@
 -- The attributes of a declaration are read as they are spelled, and no other way.
+use Rattle.std.proofs.Common.{rules}
 use Rattle.std.proofs.Common.{◌≡◌, ◌≢◌, ℕ, zero, suc, ◌<◌, Bool, true, false, cond, eqb, ltb, List, [], ◌++◌, length, take, Option, Some, None, Result, Ok, Err, refl, sym, ap, subst, ◌∙◌, inl, inr, append_assoc, arith}
-use Rattle.std.specs.Prelude.{MatchResult, ◌⊎◌, ◌&&◌, ◌||◌, ℤ, Any}
+use Rattle.std.specs.Prelude.{MatchResult, ◌⊎◌, ◌&&◌, ◌||◌, Any}
 use Rattle.std.proofs.lemmas.Bool.{ltb-true, ltb-false, eqb-true, eqb-false, ne_eqb, le-ltb, and_parts, or_parts}
 use Rattle.std.proofs.lemmas.List.{drop_at, take-append-drop}
 use Rattle.dw_forms.specs.declared.form.Form.{Form}
@@ -84,9 +85,7 @@ abbrev IsWhole : Form → List ℕ → Form → Type 0
 IsWhole f text g = (code_of g ≡ code_of f) × SpellsConstant g text
 
 form_says : (f : Form) (bytes : List ℕ) → MatchResult (form_at f bytes) (λ (x : Form × List ℕ). Takes (IsWhole f) bytes x.0 x.1) (λ fault. (code_of f ≡ 0x21) × ConstantFails bytes fault)
-form_says (form.ImplicitConst number) bytes = bind_says (signed_at bytes) (λ n. Ok (form.ImplicitConst n.0, n.1)) (λ (x : ℤ × List ℕ). Takes Sleb bytes x.0 x.1) (ConstantFails bytes)
-    (λ (x : Form × List ℕ). Takes (IsWhole (form.ImplicitConst number)) bytes x.0 x.1) (λ fault. (code_of (form.ImplicitConst number) ≡ 0x21) × ConstantFails bytes fault)
-    (signed_reader.says bytes) (λ n t. record { text = t.text; parts = t.parts; spelled = (refl, t.spelled) }) (λ fault h. (refl, h))
+form_says (form.ImplicitConst number) bytes = search (rules, signed_reader)
 form_says f bytes = record { text = []; parts = refl; spelled = (refl, refl) }
 
 form_again : (f : Form) (text rest : List ℕ) → SpellsConstant f text → form_at (bare f) (text ++ rest) ≡ Ok (f, rest)
@@ -111,19 +110,10 @@ is_bad : (a c : ℕ) → (eqb a 0 && eqb c 0) ≡ false → (eqb a 0 || eqb c 0 
 is_bad zero zero e h = absurd cc
 is_bad zero (suc c) e h = inl (refl, omega arith)
 is_bad (suc a) zero e h = inr (inl (omega arith, refl))
-is_bad (suc a) (suc c) e h =
-    let p : eqb (suc a) 0 ≡ false = ne_eqb (suc a) 0 (λ same. absurd (omega arith)) in
-    let q : eqb (suc c) 0 ≡ false = ne_eqb (suc c) 0 (λ same. absurd (omega arith)) in
-    inr (inr (ltb-true 65535 (suc a) (rw (p, q) at h)))
+is_bad (suc a) (suc c) e h = search (rules, ne_eqb, ltb-true)
 
 is_good : (a c : ℕ) → (eqb a 0 || eqb c 0 || ltb 65535 a) ≡ false → IsCode16 a × (0 < c)
-is_good a c e =
-    let p = or_parts (eqb a 0 || eqb c 0) (ltb 65535 a) e in
-    let q = or_parts (eqb a 0) (eqb c 0) p.0 in
-    let le = ltb-false 65535 a p.1 in
-    let a-some = eqb-false a 0 q.0 in
-    let c-some = eqb-false c 0 q.1 in
-    (record { some = omega arith; small = le }, omega arith)
+is_good a c e = search (rules, or_parts, ltb-false, eqb-false)
 
 -- the step after the two numbers
 abbrev pub after_numbers : List AttributeSpec → ℕ → ℕ → List ℕ → Result (Option AttributeSpec × List ℕ) DeclFault
@@ -195,12 +185,7 @@ module _ (earlier : List AttributeSpec) (rest : List ℕ) where
   end_again text p = numbers_again text rest 0 0 p
 
   pub not_bad : (a c : ℕ) → IsCode16 a → 0 < c → ((eqb a 0 && eqb c 0) ≡ false) × ((eqb a 0 || eqb c 0 || ltb 65535 a) ≡ false)
-  not_bad a c good some =
-      let h = good.some in
-      let p : eqb a 0 ≡ false = ne_eqb a 0 (λ same. absurd (omega arith)) in
-      let q : eqb c 0 ≡ false = ne_eqb c 0 (λ same. absurd (omega arith)) in
-      let r : ltb 65535 a ≡ false = le-ltb 65535 a good.small in
-      (rw p refl, rw (p, q, r) refl)
+  not_bad a c good some = search (rules, ne_eqb, le-ltb)
 
   pub next_again : (text : List ℕ) (s : AttributeSpec) → SpellsAttribute text s → IsCode16 s.attribute → Lacks attribute_of s.attribute earlier → pair_at earlier (text ++ rest) ≡ Ok (Some s, rest)
   next_again text s p good lacks =

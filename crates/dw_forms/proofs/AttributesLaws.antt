@@ -1,8 +1,10 @@
 -- All attributes of a declaration.
+use Rattle.std.proofs.Common.{rules}
+use Rattle.std.proofs.lemmas.Grind.{common_steps}
 use Rattle.std.proofs.Common.{◌≡◌, ℕ, zero, suc, ◌<◌, ◌≤◌, List, [], ◌∷◌, ◌++◌, length, Option, Some, None, Ok, refl, sym, ap, subst, ◌∙◌, append_assoc, arith}
 use Rattle.std.specs.Prelude.{MatchResult}
 use Rattle.std.proofs.lemmas.List.{append-nil, length-append, get_or_at}
-use Rattle.std.proofs.lemmas.List.Elements.{All-nil, All-push}
+use Rattle.std.proofs.lemmas.List.Elements.{All-nil}
 use Rattle.std.proofs.lemmas.Result.{MatchResult-weaker}
 use Rattle.dw_forms.specs.declared.decl.AttributeSpec.{AttributeSpec}
 use Rattle.dw_forms.specs.declared.fault.DeclFault.{DeclFault}
@@ -24,18 +26,13 @@ pub uleb_some : (text : List ℕ) (n : ℕ) → Uleb text n → 0 < length text
 uleb_some text n u = ended_some text u.ended
 
 pub spec_some : (text : List ℕ) (s : AttributeSpec) → SpellsAttribute text s → 0 < length text
-spec_some text s p =
-    let n = uleb_some p.is_pair.first s.attribute p.is_pair.is_first in
-    omega (arith, ap length p.parts, length-append p.pair p.constant, ap length p.is_pair.parts, length-append p.is_pair.first p.is_pair.second)
+spec_some text s p = search (rules, uleb_some, length-append)
 
 pub none_allowed : AreAttributes []
 none_allowed = record { each = All-nil (λ s. IsCode16 s.attribute); distinct = λ i j d lt long. absurd (omega arith) }
 
 push_allowed : (earlier : List AttributeSpec) (text : List ℕ) (s : AttributeSpec) → AreAttributes earlier → NextAttribute earlier text (Some s) → AreAttributes (earlier ++ s ∷ [])
-push_allowed earlier text s a n = record {
-  each = All-push (λ s. IsCode16 s.attribute) earlier s a.each n.1;
-  distinct = apart_push attribute_of earlier s a.distinct n.2;
-}
+push_allowed earlier text s a n = grind (arith, common_steps, apart_push, attribute_of)
 
 -- ---- what is read is spelled
 

@@ -1,4 +1,5 @@
 -- Codes that agree in their lowest bits.
+use Rattle.std.proofs.Common.{rules}
 use Rattle.std.proofs.Common.{◌≡◌, ℕ, zero, suc, ◌+◌, ◌%◌, ◌^◌, ◌<◌, ◌≤◌, Bool, true, false, refl, sym, ap, ◌∙◌, inl, inr, arith}
 use Rattle.std.specs.Prelude.{◌==◌, not, bit_xor}
 use Rattle.std.specs.Int.{bit_at, w64, trailing_zeros}
@@ -76,10 +77,7 @@ parts_from code bit other e other_bit = rw (e, differ (bit_at other bit) (bit_at
 
 -- of two bits that differ, any third is one
 other_bits : (a b c : ℕ) → a < 2 → b < 2 → c < 2 → (a ≡ b → ⊥) → (c == b) ≡ not (c == a)
-other_bits a b c la lb lc apart = elim (cases_eq c b) [
-  | inl is ↦ rw (eq_true c b is, differ c a (λ e. apart (sym e ∙ is))) refl
-  | inr isnt ↦ rw (differ c b isnt, eq_true c a (omega (arith, la, lb, lc, apart, isnt))) refl
-]
+other_bits a b c la lb lc apart = search (rules, cases_eq, eq_true, differ)
 
 -- codes that differ from the first one in the bit agree in one bit more with one that differs too
 pub parts_turn : (code bit first other : ℕ) → agrees code bit first ≡ true → (bit_at first bit ≡ bit_at code bit → ⊥) → agrees code (suc bit) other ≡ parts first bit other

@@ -1,12 +1,14 @@
 -- The branches of a new link, as they are appended one after another.
-use Rattle.std.proofs.Common.{◌≡◌, ℕ, suc, ◌+◌, ◌-◌, ◌<◌, ◌≤◌, ◌⊎◌, Bool, true, List, [], ◌∷◌, ◌++◌, length, get_or, Option, Some, refl, sym, ap, ◌∙◌, inl, inr, arith}
+use Rattle.std.proofs.lemmas.Grind.{common_steps}
+use Rattle.std.proofs.Common.{rules}
+use Rattle.std.proofs.Common.{◌≡◌, ℕ, suc, ◌+◌, ◌-◌, ◌<◌, ◌≤◌, ◌⊎◌, Bool, true, List, [], ◌∷◌, ◌++◌, length, get_or, refl, sym, ap, ◌∙◌, inl, inr, arith}
 use Rattle.std.specs.Prelude.{bit_xor}
 use Rattle.std.specs.Int.{bit_at}
 use Rattle.std.proofs.lemmas.Bool.{cases_eq}
 use Rattle.std.proofs.lemmas.List.{length-append, get_or_append_left, get_or_at, get_or_default}
 use Rattle.dw_forms.specs.declared.chains.Link.{Link}
 use Rattle.dw_forms.specs.CodeBits.{agrees, parts}
-use Rattle.dw_forms.specs.Chains.{codes_in, codes_of, item_of, number_where, AreBranches, AreBelow, AreFound}
+use Rattle.dw_forms.specs.Chains.{codes_in, codes_of, number_where, AreBranches, AreBelow, AreFound}
 use Rattle.dw_forms.proofs.BitLaws.{agrees_more, agrees_less, parts_later, parts_as, parts_from, parts_turn, bit_same, bit_other}
 use Rattle.dw_forms.proofs.ChainLaws.{where_same, where_passes, narrowed, are_numbered}
 use Rattle.dw_forms.proofs.CodeLaws.{codes_none, found_stay, code_read}
@@ -43,47 +45,20 @@ first_of_all branches links rest code are within (inr some) = first_read branche
 
 -- before the first bit
 pub appended_none : (branches : List ℕ) (links : List Link) (rest code : ℕ) → AreFound branches links → rest ≤ length links → AreAppended branches branches links rest code 0 rest
-appended_none branches links rest code are within = record {
-  found = are;
-  within = within;
-  long = omega arith;
-  first = first_of_all branches links rest code are within (cases_eq rest 0);
-  each = λ i less. absurd (omega (arith, less));
-  below = λ i less. absurd (omega (arith, less));
-}
+appended_none branches links rest code are within = search (rules, first_of_all, cases_eq)
 
 -- one branch more
 module _ (old branches : List ℕ) (links : List Link) (rest code bit number next : ℕ) (are : AreAppended old branches links rest code bit number) where
   more_each : next ≡ number_where (parts code bit) (codes_in links rest) → (i : ℕ) → i < bit + 1 → get_or (branches ++ next ∷ []) (length old + i) 0 ≡ number_where (parts code i) (codes_in links rest)
-  more_each is i less = elim (cases_eq i bit) [
-    | inl same ↦ get_or_at branches next [] 0 (length old + i) (let l = are.long in omega (arith, l, same)) ∙ is ∙ ap (λ (n : ℕ). number_where (parts code n) (codes_in links rest)) (sym same)
-    | inr other ↦
-        let below : i < bit = omega (arith, less, other) in
-        get_or_append_left branches (next ∷ []) 0 (length old + i) (let l = are.long in omega (arith, l, below)) ∙ are.each i below
-  ]
+  more_each is i less = search (rules, cases_eq, get_or_at, is, get_or_append_left)
 
   more_below : next < suc (length links) → AreBelow (branches ++ next ∷ []) (length old) (bit + 1) (suc (length links))
-  more_below small i less = elim (cases_eq i bit) [
-    | inl same ↦ rw (get_or_at branches next [] 0 (length old + i) (let l = are.long in omega (arith, l, same))) small
-    | inr other ↦
-        let below : i < bit = omega (arith, less, other) in
-        let b = are.below i below in
-        rw (get_or_append_left branches (next ∷ []) 0 (length old + i) (let l = are.long in omega (arith, l, below))) b
-  ]
+  more_below small i less = search (rules, cases_eq, get_or_at, small, get_or_append_left)
 
   pub one_more : (then : ℕ) → next ≡ number_where (parts code bit) (codes_in links rest) → next < suc (length links)
       → then ≡ number_where (agrees code (suc bit)) (codes_in links rest) → then ≤ length links → AreAppended old (branches ++ next ∷ []) links rest code (bit + 1) then
   one_more then is small turn within =
-      let one : suc bit ≡ bit + 1 = omega arith in
-      let l = are.long in
-      record {
-        found = found_stay branches next links are.found;
-        within = within;
-        long = omega (arith, l, length-append branches (next ∷ []));
-        first = turn ∙ ap (λ (n : ℕ). number_where (agrees code n) (codes_in links rest)) one;
-        each = more_each is;
-        below = more_below small;
-      }
+      grind (arith, common_steps, found_stay, length-append, more_each, is, more_below, small)
 
 -- at the first link whose code agrees in the lower bits
 module _ (old branches : List ℕ) (links : List Link) (rest code bit number : ℕ) (x : Link) (next : ℕ) (are : AreAppended old branches links rest code bit number) (some : 0 < number) (read : x ≡ get_or links (number - 1) x)
@@ -96,12 +71,7 @@ module _ (old branches : List ℕ) (links : List Link) (rest code bit number : �
 
   -- its code agrees
   agreeing : agrees code bit x.code ≡ true
-  agreeing =
-      let e = are.first in
-      let found = where_passes (codes_of links) (agrees code bit) (codes_in links rest) (are_numbered (codes_of links) rest) (omega (arith, e, some)) in
-      let there : ◌≡◌ {A = Option ℕ} (Some x.code) (Some found.0) = sym (code_read links number x some are.within read) ∙ ap (item_of (codes_of links)) e ∙ found.1 in
-      let same : x.code ≡ found.0 = cc in
-      ap (agrees code bit) same ∙ found.2
+  agreeing = search (rules, where_passes, are_numbered, code_read)
 
   -- what is searched for in the chain from the link on
   from_there : (p : ℕ → Bool) → ((c : ℕ) → p c ≡ true → agrees code bit c ≡ true) → number_where p (codes_in links rest) ≡ number_where p (codes_in links number)

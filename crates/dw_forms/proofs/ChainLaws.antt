@@ -1,6 +1,8 @@
 -- Chains of items that are kept, as one more is kept.
+use Rattle.std.proofs.Common.{rules}
+use Rattle.std.proofs.lemmas.Grind.{common_steps}
 use Rattle.std.proofs.Common.{◌≡◌, ℕ, zero, suc, ◌+◌, ◌-◌, ◌<◌, ◌≤◌, Bool, true, false, cond, List, [], ◌∷◌, ◌++◌, length, map, Option, Some, None, refl, sym, ap, ◌∙◌, inl, inr, append_assoc, append-nil, arith}
-use Rattle.std.specs.Prelude.{◌⊎◌, ◌||◌, get_or, slice_get, option_map}
+use Rattle.std.specs.Prelude.{◌⊎◌, ◌||◌, get_or}
 use Rattle.std.specs.List.{list_any}
 use Rattle.std.proofs.lemmas.List.{length-append, length-map, map-append, get_or_append_left, get_or_at}
 use Rattle.std.proofs.Math.ListN.{get_or-eq_default}
@@ -42,25 +44,17 @@ module _ {X : Type 0} (items : List (X × ℕ)) (k : X × ℕ) where
 
   -- the old chains stay
   pub old_chain : (n : ℕ) → n ≤ length items → chain_in (chains_of (items ++ k ∷ [])) n ≡ chain_in (chains_of items) n
-  old_chain n within =
-      ap (λ (ts : List (List (Numbered X))). chain_in ts n) chains_more
-      ∙ get_or_append_left (chains_of items) ((numbered (length (chains_of items)) k ∷ chain_in (chains_of items) k.1) ∷ []) [] n (omega (arith, within, chains_long items))
+  old_chain n within = search (rules, chains_more, get_or_append_left, chains_long)
 
   -- the new one is the item and the chain after it
   pub new_chain : chain_in (chains_of (items ++ k ∷ [])) (suc (length items)) ≡ numbered (suc (length items)) k ∷ chain_in (chains_of items) k.1
-  new_chain =
-      ap (λ (ts : List (List (Numbered X))). chain_in ts (suc (length items))) chains_more
-      ∙ get_or_at (chains_of items) (numbered (length (chains_of items)) k ∷ chain_in (chains_of items) k.1) [] [] (suc (length items)) (chains_long items)
-      ∙ ap (λ (n : ℕ). numbered n k ∷ chain_in (chains_of items) k.1) (chains_long items)
+  new_chain = search (rules, chains_more, get_or_at, chains_long)
 
 -- ---- one item more
 
 item_more : {X : Type 0} → (items : List (X × ℕ)) (k : X × ℕ) (n : ℕ) (d : X) → item_of items n ≡ Some d → item_of (items ++ k ∷ []) n ≡ Some d
 item_more items k zero d is = is
-item_more {X} [] k (suc n) d is =
-    let none : slice_get [] n ≡ None = slice_get_past {X = X × ℕ} [] n (omega arith) in
-    let no : ◌≡◌ {A = Option X} None (Some d) = ap (option_map (λ (x : X × ℕ). x.0)) (sym none) ∙ is in
-    absurd cc
+item_more {X} [] k (suc n) d is = grind (arith, common_steps, slice_get_past)
 item_more (x ∷ items) k (suc zero) d is = is
 item_more (x ∷ items) k (suc (suc n)) d is = item_more items k (suc n) d is
 
@@ -140,34 +134,13 @@ module _ {X : Type 0} (p q : X → Bool) (narrower : (c : X) → p c ≡ true �
   none_narrows chains n some none is = record { within = rw is some; same = rw (is, none) refl }
 
   longer_narrows : (chains : List (List (Numbered X))) (new : List (Numbered X)) (n : ℕ) → n < length chains → Narrows chains n → Narrows (chains ++ new ∷ []) n
-  longer_narrows chains new n less is =
-      let w = is.within in
-      record {
-        within = rw (get_or_append_left chains (new ∷ []) [] n less) (omega (arith, w, length-append chains (new ∷ [])));
-        same = rw (get_or_append_left chains (new ∷ []) [] n less) (is.same ∙ ap (number_where p) (sym (get_or_append_left chains (new ∷ []) [] (number_where q (chain_in chains n)) w)));
-      }
+  longer_narrows chains new n less is = search (rules, get_or_append_left, length-append)
 
   new_narrows : (chains : List (List (Numbered X))) (first : Numbered X) (rest : ℕ) (b : Bool) → q first.item ≡ b → first.number ≡ length chains → Narrows chains rest
       → Narrows (chains ++ (first ∷ chain_in chains rest) ∷ []) (length chains)
-  new_narrows chains first rest true is number before =
-      let new = first ∷ chain_in chains rest in
-      let here : chain_in (chains ++ new ∷ []) (length chains) ≡ new = get_or_at chains new [] [] (length chains) refl in
-      let at : number_where q new ≡ length chains = where_first q first (chain_in chains rest) is ∙ number in
-      record {
-        within = rw (here, at) (omega (arith, length-append chains (new ∷ [])));
-        same = ap (number_where p) (ap (chain_in (chains ++ new ∷ [])) (sym (ap (number_where q) here ∙ at)));
-      }
+  new_narrows chains first rest true is number before = search (rules, get_or_at, where_first, length-append)
   new_narrows chains first rest false is number before =
-      let new = first ∷ chain_in chains rest in
-      let here : chain_in (chains ++ new ∷ []) (length chains) ≡ new = get_or_at chains new [] [] (length chains) refl in
-      let at : number_where q new ≡ number_where q (chain_in chains rest) = where_later q first (chain_in chains rest) is in
-      let w = before.within in
-      let passed : p first.item ≡ false = not_narrower first.item is (p first.item) (narrower first.item) in
-      record {
-        within = rw (here, at) (omega (arith, w, length-append chains (new ∷ [])));
-        same = ap (number_where p) here ∙ where_later p first (chain_in chains rest) passed ∙ before.same
-            ∙ ap (number_where p) (sym (get_or_append_left chains (new ∷ []) [] (number_where q (chain_in chains rest)) w) ∙ ap (chain_in (chains ++ new ∷ [])) (sym (ap (number_where q) here ∙ at)));
-      }
+      search (rules, get_or_at, where_later, not_narrower, length-append, get_or_append_left)
 
   narrows_from : (chains : List (List (Numbered X))) (items : List (X × ℕ)) → 0 < length chains → chain_in chains 0 ≡ [] → ((n : ℕ) → Narrows chains n) → (n : ℕ) → Narrows (chains_from chains items) n
   unfolding chains_from
@@ -190,19 +163,14 @@ module _ {X : Type 0} (p q : X → Bool) (narrower : (c : X) → p c ≡ true �
 
 pub item_within : {X : Type 0} → (items : List (X × ℕ)) (number : ℕ) (d : X) → item_of items number ≡ Some d → number ≤ length items
 item_within items zero d is = omega arith
-item_within {X} [] (suc n) d is =
-    let none : slice_get [] n ≡ None = slice_get_past {X = X × ℕ} [] n (omega arith) in
-    let no : ◌≡◌ {A = Option X} None (Some d) = ap (option_map (λ (x : X × ℕ). x.0)) (sym none) ∙ is in
-    absurd cc
+item_within {X} [] (suc n) d is = search (rules, slice_get_past)
 item_within (x ∷ items) (suc zero) d is = omega arith
 item_within (x ∷ items) (suc (suc n)) d is = let within = item_within items (suc n) d is in omega (arith, within)
 
 -- the item that is read at the place before a number
 pub item_read : {X : Type 0} → (items : List (X × ℕ)) (number : ℕ) (x : X × ℕ) → 0 < number → number ≤ length items → x ≡ get_or items (number - 1) x → item_of items number ≡ Some (x.0)
 item_read items zero x some within read = absurd (omega (arith, some))
-item_read {X} items (suc n) x some within read =
-    let place : suc n - 1 ≡ n = omega arith in
-    ap (option_map (λ (y : X × ℕ). y.0)) (slice_get-get_or items n x within ∙ ap (λ (y : X × ℕ). Some y) (sym (read ∙ ap (λ (i : ℕ). get_or items i x) place)))
+item_read {X} items (suc n) x some within read = search (rules, slice_get-get_or)
 
 -- ---- chains of what is made of the items
 

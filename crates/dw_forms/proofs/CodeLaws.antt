@@ -1,11 +1,13 @@
 -- Codes are found in chains of links, also with one link more.
+use Rattle.std.proofs.lemmas.Grind.{common_steps}
+use Rattle.std.proofs.Common.{rules}
 use Rattle.std.proofs.Common.{◌≡◌, ℕ, zero, suc, ◌+◌, ◌-◌, ◌<◌, ◌≤◌, Bool, true, false, cond, List, [], ◌∷◌, ◌++◌, length, Some, refl, sym, ap, ◌∙◌, inl, inr, arith}
 use Rattle.std.specs.Prelude.{◌==◌, get_or}
 use Rattle.std.proofs.lemmas.Bool.{cases_eq}
 use Rattle.std.proofs.lemmas.List.{length-append, length-map, map-append, get_or-map, get_or_append_left, get_or_at}
 use Rattle.dw_forms.specs.declared.chains.Link.{Link}
 use Rattle.dw_forms.specs.CodeBits.{parts}
-use Rattle.dw_forms.specs.Chains.{Numbered, chain_in, chains_of, item_of, number_where, number_in, codes_of, codes_in, AreNumbered, IsRun, AreBranches, AreBelow, IsFoundBy, AreFound}
+use Rattle.dw_forms.specs.Chains.{Numbered, item_of, number_where, number_in, codes_of, codes_in, AreNumbered, IsRun, AreBranches, AreBelow, IsFoundBy, AreFound}
 use Rattle.dw_forms.proofs.BitLaws.{differ, eq_true, parts_self}
 use Rattle.dw_forms.proofs.ChainLaws.{chain_none, old_chain, new_chain, where_first, where_later, are_numbered, item_within, item_read}
 
@@ -26,17 +28,11 @@ codes_more links k = map-append part links (k ∷ [])
 
 -- the old chains stay
 pub old_codes : (links : List Link) (k : Link) (n : ℕ) → n ≤ length links → codes_in (links ++ k ∷ []) n ≡ codes_in links n
-old_codes links k n within =
-    ap (λ (items : List (ℕ × ℕ)). chain_in (chains_of items) n) (codes_more links k)
-    ∙ old_chain (codes_of links) (part k) n (omega (arith, within, codes_long links))
+old_codes links k n within = search (rules, codes_more, old_chain, codes_long)
 
 -- the new one is the link and the chain after it
 pub new_codes : (links : List Link) (k : Link) → codes_in (links ++ k ∷ []) (suc (length links)) ≡ own (suc (length links)) k ∷ codes_in links k.rest
-new_codes links k =
-    ap (λ (items : List (ℕ × ℕ)). chain_in (chains_of items) (suc (length links))) (codes_more links k)
-    ∙ ap (λ (n : ℕ). chain_in (chains_of (codes_of links ++ part k ∷ [])) (suc n)) (sym (codes_long links))
-    ∙ new_chain (codes_of links) (part k)
-    ∙ ap (λ (n : ℕ). own (suc n) k ∷ codes_in links k.rest) (codes_long links)
+new_codes links k = search (rules, codes_more, codes_long, new_chain)
 
 -- the link that is read at the place before a number
 pub code_read : (links : List Link) (number : ℕ) (x : Link) → 0 < number → number ≤ length links → x ≡ get_or links (number - 1) x → item_of (codes_of links) number ≡ Some x.code
@@ -52,9 +48,7 @@ none_number links chain code none = rw (none, codes_none links) refl
 -- a run with one link more
 run_more : (chain : List (Numbered ℕ)) (k : Link) (last : ℕ) → ((i : ℕ) → i + 1 < k.run → number_in chain (k.code + (i + 1)) ≡ last - i) → IsRun (own (suc last) k ∷ chain) k.run k.code (suc last)
 unfolding number_where
-run_more chain k last run zero few =
-    let all : suc last ≡ suc last - 0 = omega arith in
-    ap (λ (b : Bool). cond b (suc last) (number_in chain (k.code + 0))) (eq_true k.code (k.code + 0) (omega arith)) ∙ all
+run_more chain k last run zero few = search (rules, eq_true)
 run_more chain k last run (suc i) few =
     let one : i + 1 ≡ suc i = omega arith in
     let less : last - i ≡ suc last - suc i = omega arith in
@@ -65,38 +59,18 @@ run_more chain k last run (suc i) few =
 
 -- none of the branches that are there changes
 pub branches_stay : (branches : List ℕ) (more from count code : ℕ) (chain : List (Numbered ℕ)) → AreBranches branches from count code chain → AreBranches (branches ++ more ∷ []) from count code chain
-branches_stay branches more from count code chain are =
-    let w = are.within in
-    record {
-      within = omega (arith, w, length-append branches (more ∷ []));
-      each = λ bit less. get_or_append_left branches (more ∷ []) 0 (from + bit) (omega (arith, w, less)) ∙ are.each bit less;
-      others = are.others;
-    }
+branches_stay branches more from count code chain are = search (rules, length-append, get_or_append_left)
 
 below_stay : (branches : List ℕ) (more from count number : ℕ) → from + count ≤ length branches → AreBelow branches from count number → AreBelow (branches ++ more ∷ []) from count number
 below_stay branches more from count number within are = λ bit less.
     let b = are bit less in rw (get_or_append_left branches (more ∷ []) 0 (from + bit) (omega (arith, within, less))) b
 
 pub found_stay : (branches : List ℕ) (more : ℕ) (links : List Link) → AreFound branches links → AreFound (branches ++ more ∷ []) links
-found_stay branches more links are = λ n x less read.
-    let is = are n x less read in
-    record {
-      first = is.first;
-      short = is.short;
-      run = is.run;
-      below = below_stay branches more x.branches x.branch_count (suc n) is.codes.within is.below;
-      codes = branches_stay branches more x.branches x.branch_count x.code (codes_in links (suc n)) is.codes;
-    }
+found_stay branches more links are = grind (arith, common_steps, below_stay, branches_stay)
 
 module _ (branches : List ℕ) (links : List Link) (k : Link) (are : AreFound branches links) where
   old_found : (n : ℕ) (x : Link) → n ≤ length links → IsFoundBy branches links n x → IsFoundBy branches (links ++ k ∷ []) n x
-  old_found n x within is = record {
-    first = rw (old_codes links k n within) is.first;
-    short = is.short;
-    run = rw (old_codes links k n within) is.run;
-    below = is.below;
-    codes = rw (old_codes links k n within) is.codes;
-  }
+  old_found n x within is = search (rules, old_codes)
 
   module _ (short : k.run ≤ length links + 1)
       (run : (i : ℕ) → i + 1 < k.run → number_in (codes_in links k.rest) (k.code + (i + 1)) ≡ length links - i)

@@ -1,4 +1,5 @@
 -- The next declaration of a table is read as it is spelled, and no other way.
+use Rattle.std.proofs.Common.{rules}
 use Rattle.std.proofs.Common.{◌≡◌, ℕ, zero, suc, ◌<◌, Bool, true, false, cond, eqb, ltb, List, [], ◌∷◌, ◌++◌, Option, Some, None, Result, Ok, Err, refl, sym, ap, subst, ◌∙◌, inl, inr, append_assoc, arith}
 use Rattle.std.specs.Prelude.{MatchResult, ◌⊎◌, ◌||◌}
 use Rattle.std.proofs.lemmas.Result.{MatchResult-at_ok}
@@ -47,17 +48,10 @@ children_again false rest = refl
 -- ---- the steps
 
 pub tag_is : (tag : ℕ) → (eqb tag 0 || ltb 65535 tag) ≡ false → IsCode16 tag
-tag_is tag e =
-    let p = or_parts (eqb tag 0) (ltb 65535 tag) e in
-    let ne = eqb-false tag 0 p.0 in
-    record { some = omega arith; small = ltb-false 65535 tag p.1 }
+tag_is tag e = search (rules, or_parts, eqb-false, ltb-false)
 
 tag_isnt : (tag : ℕ) → (eqb tag 0 || ltb 65535 tag) ≡ true → IsCode16 tag → ⊥
-tag_isnt tag e good =
-    let p : eqb tag 0 ≡ false = ne_eqb tag 0 (λ same. let h = good.some in absurd (omega arith)) in
-    let q : ltb 65535 tag ≡ false = le-ltb 65535 tag good.small in
-    let h : false ≡ true = rw (p, q) at e in
-    cc
+tag_isnt tag e good = search (rules, ne_eqb, le-ltb)
 
 abbrev pub made : ℕ → ℕ → Bool → List AttributeSpec → Declaration
 made code tag children attributes = record { code = code; tag = tag; has_children = children; attributes = attributes }

@@ -1,8 +1,8 @@
 -- Tables of declarations that are kept, as one more is kept, and how codes are found in them.
+use Rattle.std.proofs.Common.{rules}
 use Rattle.std.proofs.Common.{◌≡◌, ℕ, suc, ◌-◌, ◌<◌, ◌≤◌, Bool, true, false, cond, List, [], ◌∷◌, ◌++◌, length, map, Option, Some, refl, sym, ap, ◌∙◌, arith}
 use Rattle.std.specs.Prelude.{◌==◌, find, get_or}
 use Rattle.std.proofs.lemmas.List.{length-append, length-map, map-append, get_or-map}
-use Rattle.dw_forms.specs.declared.decl.AttributeSpec.{AttributeSpec}
 use Rattle.dw_forms.specs.declared.attribute_lists.Node.{Node}
 use Rattle.dw_forms.specs.declared.chains.Link.{Link}
 use Rattle.dw_forms.specs.declared.attribute_lists.Step.{Step}
@@ -11,7 +11,7 @@ use Rattle.dw_forms.specs.Abbrev.{Declaration}
 use Rattle.dw_forms.specs.AbbrevReading.{has_code}
 use Rattle.dw_forms.specs.Chains.{Numbered, items_of, chain_in, chains_of, number_where, AreNumbered, codes_of, codes_in, number_in as code_number}
 use Rattle.dw_forms.specs.KeptDecls.{kept_view, decls_of, tables_of, table_in, decl_of, number_in, AreWithin, AreCoded}
-use Rattle.dw_forms.specs.AttributeLists.{numbered_in, HasList}
+use Rattle.dw_forms.specs.AttributeLists.{HasList}
 use Rattle.dw_forms.specs.ListOffsets.{StayNodes}
 use Rattle.dw_forms.proofs.ChainLaws.{chain_map, where_map, chains_long, chain_none, chains_more, are_numbered, item_read, none_has, some_has}
 use Rattle.dw_forms.proofs.CodeLaws.{codes_long}
@@ -37,9 +37,7 @@ tables_more nodes kept k = ap chains_of (map-append (part nodes) kept (k ∷ [])
 
 -- more attributes change no table
 pub view_stays : (old new : List Node) (k : KeptDecl) → StayNodes old new → k.first ≤ length old → kept_view new k ≡ kept_view old k
-view_stays old new k stay within =
-    let made : List (Numbered AttributeSpec) → Declaration = λ list. record { code = k.code; tag = k.tag; has_children = k.has_children; attributes = items_of list } in
-    ap made (ap (λ (nodes : List Node). numbered_in nodes k.first) stay.1 ∙ lists_stay stay.0 old k.first within)
+view_stays old new k stay within = search (rules, lists_stay)
 
 views_same : (nodes more : List Node) (kept : List KeptDecl) → AreWithin nodes kept → decls_of (nodes ++ more) kept ≡ decls_of nodes kept
 views_same nodes more [] within = refl
@@ -52,10 +50,7 @@ pub tables_same : (old new : List Node) (kept : List KeptDecl) → StayNodes old
 tables_same old new kept stay within = ap (λ (nodes : List Node). tables_of nodes kept) stay.1 ∙ ap chains_of (views_same old stay.0 kept within)
 
 pub has_stays : (old new : List Node) (first : ℕ) (step : Step) → StayNodes old new → HasList old first step → HasList new first step
-has_stays old new first step stay has =
-    let w = has.within in
-    let same : numbered_in new first ≡ numbered_in old first = ap (λ (nodes : List Node). numbered_in nodes first) stay.1 ∙ lists_stay stay.0 old first w in
-    record { within = omega (arith, w, ap length stay.1, length-append old stay.0); step = rw same has.step }
+has_stays old new first step stay has = search (rules, lists_stay, length-append)
 
 pub within_stays : (old new : List Node) (kept : List KeptDecl) → StayNodes old new → AreWithin old kept → AreWithin new kept
 within_stays old new kept stay within k d less = has_stays old new _ _ stay (within k d less)

@@ -1,4 +1,5 @@
 -- Lists of attributes that begin at offsets of a section, as more attributes are kept.
+use Rattle.std.proofs.Common.{rules}
 use Rattle.std.proofs.Common.{◌≡◌, ℕ, suc, ◌<◌, ◌≤◌, List, [], ◌∷◌, ◌++◌, ◌-◌, length, drop, Option, Some, None, Ok, refl, sym, ap, subst, ◌∙◌, inl, inr, append_assoc, append-nil, arith}
 use Rattle.std.specs.Prelude.{get_or}
 use Rattle.std.proofs.lemmas.Bool.{cases_eq}
@@ -13,7 +14,7 @@ use Rattle.dw_forms.specs.declared.fault.DeclFault.{DeclFault}
 use Rattle.dw_forms.specs.declared.fault.Stop.TheVariants as stops
 use Rattle.dw_forms.specs.AbbrevReading.{pair_at}
 use Rattle.dw_forms.specs.Chains.{Numbered, items_of}
-use Rattle.dw_forms.specs.AttributeLists.{specs_of, numbered_in, list_in, IsLast, AddedSpec}
+use Rattle.dw_forms.specs.AttributeLists.{numbered_in, list_in, IsLast, AddedSpec}
 use Rattle.dw_forms.specs.Offsets.{BeginsAt, NothingAt}
 use Rattle.dw_forms.specs.ListOffsets.{IsListAt, ArePlaced, AreNew, NoListAt, AreAfter, Leads, StayNodes}
 use Rattle.dw_forms.specs.Stops.{IfFault, FailsOrMemory}
@@ -31,15 +32,7 @@ lists_stay (n ∷ more) nodes number within =
     ∙ lists_stay more (nodes ++ n ∷ []) number (omega (arith, within, length-append nodes (n ∷ []))) ∙ old_list nodes n number within
 
 pub list_stays : (section : List ℕ) (old new : List Node) (offset number end : ℕ) → StayNodes old new → IsListAt section old offset number end → IsListAt section new offset number end
-list_stays section old new offset number end stay is =
-    let w = is.within in
-    record {
-      within = omega (arith, w, ap length stay.1, length-append old stay.0);
-      list = is.list ∙ ap (λ (list : List (Numbered AttributeSpec)). Ok (items_of list, drop end section))
-          (sym (ap (λ (all : List Node). numbered_in all number) stay.1 ∙ lists_stay stay.0 old number w));
-      rises = is.rises;
-      fits = is.fits;
-    }
+list_stays section old new offset number end stay is = search (rules, length-append, lists_stay)
 
 pub nodes_stay : (nodes : List Node) → StayNodes nodes nodes
 nodes_stay nodes = ([], sym (append-nil nodes))
@@ -151,9 +144,7 @@ module _ (section : List ℕ) (old new : List Node) (offset : ℕ) (all left : L
   popped = after_pop section left offset leads.0 p (subst (λ (xs : List Pair). AreAfter section xs offset leads.0) parts leads.1)
 
   pub pair_before : (p.at < leads.0) × (p.at < length section)
-  pair_before =
-      let less = pair_takes (drop p.at section) (drop leads.0 section) p.spec popped.1 in
-      (omega (arith, less, length-drop p.at section, length-drop leads.0 section), omega (arith, less, length-drop p.at section))
+  pair_before = search (rules, pair_takes, popped, length-drop)
 
   pub code_before : IsCode16 p.spec.attribute
   code_before = pair_code (drop p.at section) (drop leads.0 section) p.spec popped.1
@@ -162,9 +153,7 @@ module _ (section : List ℕ) (old new : List Node) (offset : ℕ) (all left : L
   no_list added = none_after section left offset p.at popped.0 (turn_none section old new p.at leads.0 list.first list.end p.spec popped.1 leads.2 added)
 
   pub next_new : (starts : List ℕ) → AreNew starts all → NothingAt starts p.at × AreNew (starts ++ p.at ∷ []) left
-  next_new starts are =
-      let r = new_pop starts left p (subst (AreNew starts) parts are) in
-      (r.1, new_stay section starts left offset p.at popped.0 r.0)
+  next_new starts are = search (rules, new_pop, new_stay, popped)
 
   module _ (number : ℕ) (added : AddedSpec p.spec list.first old new (Some number)) where
     pub next_leads : Leads section new left offset (record { first = number; end = list.end })
@@ -184,12 +173,7 @@ pair_rest section offset o after e = let t = taken (drop offset section) o after
 
 -- at the pair 0, 0 begins the list without attributes
 pub end_list : (section : List ℕ) (nodes : List Node) (at after : ℕ) → pair_at [] (drop at section) ≡ Ok (None, drop after section) → at < after → after ≤ length section → IsListAt section nodes at 0 after
-end_list section nodes at after e rises fits = record {
-  within = omega arith;
-  list = list_end (drop at section) (drop after section) e ∙ ap (λ (list : List (Numbered AttributeSpec)). Ok (items_of list, drop after section)) (sym (chain_none (specs_of nodes)));
-  rises = rises;
-  fits = fits;
-}
+end_list section nodes at after e rises fits = search (rules, list_end, chain_none)
 
 -- where an attribute is broken, no list begins before it
 pub pairs_break : (section : List ℕ) (pairs : List Pair) (offset at : ℕ) → AreAfter section pairs offset at → (error : Stop DeclFault) → FailsOrMemory error (pair_at [] (drop at section)) → IfFault (λ _. NoListAt section offset) error
@@ -199,8 +183,4 @@ pairs_break section pairs offset at after (stops.Fault fault) e = none_after sec
 -- a list that is kept begins at its offset
 pub kept_list : (section : List ℕ) (nodes : List Node) (starts ends : List ℕ) (offset number end : ℕ) → ArePlaced section nodes starts ends → BeginsAt starts number offset → 0 < number → end ≡ get_or ends (number - 1) 0
     → IsListAt section nodes offset number end
-kept_list section nodes starts ends offset number end placed begins some read =
-    let (within, at_is) = begins_within starts number offset begins in
-    let one : suc (number - 1) ≡ number = omega (arith, some) in
-    let is = placed.lists (number - 1) (omega (arith, within, placed.starts_long)) in
-    subst (λ (m : ℕ). IsListAt section nodes offset m end) one (rw (← at_is, read) is)
+kept_list section nodes starts ends offset number end placed begins some read = search (rules, begins_within)

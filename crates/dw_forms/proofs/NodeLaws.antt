@@ -1,9 +1,10 @@
 -- Codes are found in lists of attributes.
-use Rattle.std.proofs.Common.{◌≡◌, ℕ, zero, suc, ◌<◌, ◌≤◌, true, false, List, [], ◌∷◌, ◌++◌, length, map, refl, sym, ap, subst, ◌∙◌, inl, inr, arith}
+use Rattle.std.proofs.Common.{rules}
+use Rattle.std.proofs.lemmas.Grind.{common_steps}
+use Rattle.std.proofs.Common.{◌≡◌, ℕ, zero, suc, ◌<◌, ◌≤◌, true, false, List, [], ◌∷◌, ◌++◌, length, map, refl, sym, ap, ◌∙◌, inl, inr, arith}
 use Rattle.std.specs.Prelude.{◌==◌, not, get_or}
 use Rattle.std.proofs.lemmas.Bool.{cases_eq}
 use Rattle.std.proofs.lemmas.List.{length-append, length-map, map-append, get_or_append_left, get_or_at, get_or_default}
-use Rattle.std.proofs.lemmas.List.Elements.{All-cons}
 use Rattle.dw_forms.specs.declared.decl.AttributeSpec.{AttributeSpec}
 use Rattle.dw_forms.specs.declared.attribute_lists.Node.{Node}
 use Rattle.dw_forms.specs.declared.chains.Link.{Link}
@@ -50,10 +51,7 @@ has links nodes number code are some =
 
 -- an attribute is in the list exactly if the search finds a link
 pub has_is : (links : List Link) (nodes : List Node) (number code found : ℕ) → AreCoded links nodes → found ≡ number_in (codes_in links number) code → not (found == 0) ≡ has_attribute code (list_in nodes number)
-has_is links nodes number code found are is = elim (cases_eq found 0) [
-  | inl none ↦ ap not (eq_true found 0 none) ∙ sym (lacks links nodes number code are (sym is ∙ none))
-  | inr some ↦ ap not (differ found 0 some) ∙ sym (has links nodes number code are (omega (arith, is, some)))
-]
+has_is links nodes number code found are is = search (rules, cases_eq, eq_true, lacks, differ, has)
 
 -- ---- one attribute more
 
@@ -62,30 +60,19 @@ specs_more nodes n = map-append (λ (x : Node). (spec_of x, x.next)) nodes (n �
 
 -- the old lists stay
 pub old_list : (nodes : List Node) (n : Node) (number : ℕ) → number ≤ length nodes → numbered_in (nodes ++ n ∷ []) number ≡ numbered_in nodes number
-old_list nodes n number within =
-    ap (λ (items : List (AttributeSpec × ℕ)). chain_in (chains_of items) number) (specs_more nodes n)
-    ∙ old_chain (specs_of nodes) (spec_of n, n.next) number (omega (arith, within, length-map {B = AttributeSpec × ℕ} nodes (λ (x : Node). (spec_of x, x.next))))
+old_list nodes n number within = search (rules, specs_more, old_chain, length-map)
 
 -- the new one is the attribute and the list after it
 pub new_list : (nodes : List Node) (n : Node) → numbered_in (nodes ++ n ∷ []) (suc (length nodes)) ≡ record { number = suc (length nodes); item = spec_of n } ∷ numbered_in nodes n.next
-new_list nodes n =
-    let long : length (specs_of nodes) ≡ length nodes = length-map {B = AttributeSpec × ℕ} nodes (λ (x : Node). (spec_of x, x.next)) in
-    ap (λ (items : List (AttributeSpec × ℕ)). chain_in (chains_of items) (suc (length nodes))) (specs_more nodes n)
-    ∙ ap (λ (m : ℕ). chain_in (chains_of (specs_of nodes ++ (spec_of n, n.next) ∷ [])) (suc m)) (sym long)
-    ∙ new_chain (specs_of nodes) (spec_of n, n.next)
-    ∙ ap (λ (m : ℕ). record { number = suc m; item = spec_of n } ∷ numbered_in nodes n.next) long
+new_list nodes n = search (rules, length-map, specs_more, new_chain)
 
 -- the links have its code, too
 pub coded_more : (old new : List Link) (nodes : List Node) (n : Node) → AreCoded old nodes → codes_of new ≡ codes_of old ++ (n.attribute, n.next) ∷ [] → AreCoded new (nodes ++ n ∷ [])
-coded_more old new nodes n are more =
-    more ∙ ap (λ (items : List (ℕ × ℕ)). items ++ (n.attribute, n.next) ∷ []) are
-    ∙ sym (map-append (λ (x : Node). (x.attribute, x.next)) nodes (n ∷ []))
+coded_more old new nodes n are more = search (rules, map-append)
 
 pub coded_push : (old new : List Link) (nodes : List Node) (n : Node) (spec : AttributeSpec) (rest code : ℕ) → spec_of n ≡ spec → n.next ≡ rest → code ≡ spec.attribute → AreCoded old nodes
     → codes_of new ≡ codes_of old ++ (code, rest) ∷ [] → AreCoded new (nodes ++ n ∷ [])
-coded_push old new nodes n spec rest code spec_is next_is code_is are more =
-    let same : code ≡ n.attribute = code_is ∙ ap attribute_of (sym spec_is) in
-    coded_more old new nodes n are (more ∙ ap (λ (x : ℕ). codes_of old ++ (x, rest) ∷ []) same ∙ ap (λ (x : ℕ). codes_of old ++ (n.attribute, x) ∷ []) (sym next_is))
+coded_push old new nodes n spec rest code spec_is next_is code_is are more = search (rules, code_is, coded_more)
 
 pub links_long : (links : List Link) (nodes : List Node) → AreCoded links nodes → length links ≡ length nodes
 links_long links nodes are = sym (codes_long links) ∙ ap length are ∙ length-map {B = ℕ × ℕ} nodes (λ (n : Node). (n.attribute, n.next))
@@ -93,10 +80,7 @@ links_long links nodes are = sym (codes_long links) ∙ ap length are ∙ length
 -- ---- what is known of the new list
 
 pub attributes_more : (spec : AttributeSpec) (specs : List AttributeSpec) → AreAttributes specs → IsCode16 spec.attribute → has_attribute spec.attribute specs ≡ false → AreAttributes (spec ∷ specs)
-attributes_more spec specs are code none = record {
-  each = All-cons (λ (s : AttributeSpec). IsCode16 s.attribute) spec specs code are.each;
-  distinct = apart_cons attribute_of spec specs (lacks_from attribute_of spec.attribute specs none) are.distinct;
-}
+attributes_more spec specs are code none = grind (arith, common_steps, apart_cons, lacks_from)
 
 pub attributes_in : (nodes : List Node) (number : ℕ) → AreKnown nodes → number ≤ length nodes → AreAttributes (list_in nodes number)
 attributes_in nodes zero known within = rw (chain_none (specs_of nodes)) none_allowed
@@ -106,16 +90,7 @@ attributes_in (d ∷ nodes) (suc k) known within =
 
 module _ (nodes : List Node) (n : Node) where
   old_known : (number : ℕ) (x : Node) → number ≤ length nodes → IsKnown nodes number x → IsKnown (nodes ++ n ∷ []) number x
-  old_known number x within is =
-      let less = is.next in
-      record {
-        next = is.next;
-        begins = old_list nodes n number within ∙ is.begins
-            ∙ ap (λ (list : List (Numbered AttributeSpec)). record { number = number; item = spec_of x } ∷ list) (sym (old_list nodes n x.next (omega (arith, less, within))));
-        attributes = rw (old_list nodes n number within) is.attributes;
-        knows = rw (old_list nodes n number within) is.knows;
-        after = rw (old_list nodes n x.next (omega (arith, less, within))) is.after;
-      }
+  old_known number x within is = search (rules, old_list)
 
   pub known_more : AreKnown nodes → n.next ≤ length nodes → IsCode16 n.attribute → has_attribute n.attribute (list_in nodes n.next) ≡ false
       → Knows (record { number = suc (length nodes); item = spec_of n } ∷ numbered_in nodes n.next) n → IsStep (numbered_in nodes n.next) n.after → AreKnown (nodes ++ n ∷ [])
@@ -136,11 +111,4 @@ module _ (nodes : List Node) (n : Node) where
 
   pub known_push : (spec : AttributeSpec) (rest number : ℕ) → spec_of n ≡ spec → n.next ≡ rest → number ≡ suc (length nodes) → AreKnown nodes → rest ≤ length nodes → IsCode16 spec.attribute
       → has_attribute spec.attribute (list_in nodes rest) ≡ false → Knows (record { number = number; item = spec } ∷ numbered_in nodes rest) n → IsStep (numbered_in nodes rest) n.after → AreKnown (nodes ++ n ∷ [])
-  known_push spec rest number spec_is next_is number_is known within code none knows after =
-      let own : n.attribute ≡ spec.attribute = ap attribute_of spec_is in
-      let list =
-      ap (λ (m : ℕ). record { number = m; item = spec } ∷ numbered_in nodes rest) number_is
-      ∙ ap (λ (s : AttributeSpec). record { number = suc (length nodes); item = s } ∷ numbered_in nodes rest) (sym spec_is)
-      ∙ ap (λ (m : ℕ). record { number = suc (length nodes); item = spec_of n } ∷ numbered_in nodes m) (sym next_is) in
-      known_more known (rw next_is within) (subst IsCode16 (sym own) code) (rw (own, next_is) none)
-      (subst (λ (l : List (Numbered AttributeSpec)). Knows l n) list knows) (subst (λ (m : ℕ). IsStep (numbered_in nodes m) n.after) (sym next_is) after)
+  known_push spec rest number spec_is next_is number_is known within code none knows after = search (rules, known_more)

@@ -1,7 +1,7 @@
 -- What is known of a list with one attribute more.
-use Rattle.std.proofs.Common.{◌≡◌, ℕ, suc, ◌+◌, ◌-◌, ◌*◌, ◌<◌, ◌≤◌, Bool, true, false, cond, List, ◌∷◌, length, refl, sym, subst, ◌∙◌, arith}
+use Rattle.std.proofs.Common.{rules}
+use Rattle.std.proofs.Common.{◌≡◌, ℕ, ◌+◌, ◌-◌, ◌*◌, ◌<◌, ◌≤◌, Bool, true, false, cond, List, ◌∷◌, length, refl, sym, ◌∙◌, arith}
 use Rattle.std.specs.Prelude.{◌&&◌, ◌%◌, ◌^◌, bit_or, get_or}
-use Rattle.std.specs.Int.{bit_at}
 use Rattle.std.proofs.lemmas.List.{length-map}
 use Rattle.std.proofs.lemmas.List.Sums.{sum_by-cons}
 use Rattle.dw_forms.specs.declared.decl.AttributeSpec.{AttributeSpec}
@@ -10,7 +10,6 @@ use Rattle.dw_forms.specs.Abbrev.{AreAttributes}
 use Rattle.dw_forms.specs.AttributeLists.{IsKnown, AreKnown}
 use Rattle.dw_forms.specs.Chains.{Numbered, items_of, number_where}
 use Rattle.dw_forms.specs.Plans.{known_size, known_sum}
-use Rattle.std.proofs.lemmas.List.Elements.{All-cons}
 use Rattle.dw_forms.specs.Remainders.{HasRemainders}
 use Rattle.dw_forms.proofs.FewAttributes.{few_specs}
 use Rattle.dw_forms.proofs.RemainderLaws.{stays, comes}
@@ -22,9 +21,7 @@ unfolding number_where
 next_more test number spec list b next result here there is = rw (is, here, there) refl
 
 pub sum_more : (size : ℕ) (spec : AttributeSpec) (specs : List AttributeSpec) (known own : ℕ) → known ≡ known_sum size specs → own ≡ known_size size spec.form → known + own ≡ known_sum size (spec ∷ specs)
-sum_more size spec specs known own e o =
-    let more = sum_by-cons (λ (s : AttributeSpec). known_size size s.form) spec specs in
-    omega (arith, more, e, o)
+sum_more size spec specs known own e o = search (rules, sum_by-cons)
 
 -- whether both hold, if the second one holds
 pub and_true : (own all result next : Bool) → next ≡ all → next ≡ true → result ≡ own → result ≡ (own && all)
@@ -38,9 +35,7 @@ and_false false all result next e failed is = is ∙ failed
 
 -- the bit of its own code is set, and those of the others stay set
 pub remainders_more : (bits : ℕ) (spec : AttributeSpec) (specs : List AttributeSpec) (bit : ℕ) → bit ≡ 2 ^ (spec.attribute % 32) → HasRemainders bits specs → HasRemainders (bit_or bits bit) (spec ∷ specs)
-remainders_more bits spec specs bit e has =
-    All-cons (λ (s : AttributeSpec). bit_at (bit_or bits bit) (s.attribute % 32) ≡ 1) spec specs (rw e (comes bits (spec.attribute % 32)))
-    (λ k d less. stays bits bit _ (has k d less))
+remainders_more bits spec specs bit e has = search (rules, comes, stays)
 
 -- ---- the sums are small
 
@@ -50,6 +45,4 @@ known_small list known are le = omega (arith, le, few_specs (items_of list) are,
 -- ---- the node that is read at the place before a number
 
 pub node_read : (nodes : List Node) (number : ℕ) (n : Node) → AreKnown nodes → 0 < number → number ≤ length nodes → n ≡ get_or nodes (number - 1) n → IsKnown nodes number n
-node_read nodes number n are some within read =
-    let one : suc (number - 1) ≡ number = omega (arith, some) in
-    subst (λ (m : ℕ). IsKnown nodes m n) one (are (number - 1) n (omega (arith, some, within)) read)
+node_read nodes number n are some within read = search (rules)

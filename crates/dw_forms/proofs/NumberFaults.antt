@@ -1,4 +1,5 @@
 -- The faults of numbers and values are those that reading answers, so the same bytes have one at most.
+use Rattle.std.proofs.Common.{rules}
 use Rattle.std.proofs.Common.{◌≡◌, ℕ, zero, suc, ◌+◌, ◌<◌, ◌≤◌, Bool, true, false, List, [], ◌∷◌, length, take, Option, Some, None, Result, Ok, Err, refl, sym, ap, ◌∙◌, inl, inr, All, arith}
 use Rattle.std.specs.Prelude.{◌⊎◌, ℤ, ◌^◌}
 use Rattle.std.proofs.lemmas.Bool.{lt-ltb, le-ltb, cases_lt}
@@ -128,9 +129,7 @@ unnamed version size rest code (Some g) is no_one = rw (barred_by version g (may
 
 named_refuses : (version code size : ℕ) (rest : List ℕ) (f : ValueFault) → NamedFails version code size rest f → named_at version (form_of code) size rest ≡ Err f
 named_refuses version code size rest f (inl h) = rw h.1 (unnamed version size rest code (form_of code) (form_of_says code) h.0)
-named_refuses version code size rest f (inr h) =
-    let is : form_of code ≡ Some (bare h.0) = ap form_of (sym h.1) ∙ form_of-code_of h.0 in
-    rw is (named_again version h.0 size rest h.2 ∙ plain_refuses (layout_of size h.0) rest f h.3)
+named_refuses version code size rest f (inr h) = search (rules, bare, form_of-code_of, named_again, plain_refuses)
 
 indirect_refuses : (version size : ℕ) (bytes : List ℕ) (f : ValueFault) → FailsIn named version size bytes f → value_at version form.Indirect size bytes ≡ Err f
 indirect_refuses version size bytes f (inl h) = rw (leb_refuses bytes f h) refl

@@ -1,4 +1,5 @@
 -- What begins at an offset of a section.
+use Rattle.std.proofs.Common.{rules}
 use Rattle.std.proofs.Common.{◌≡◌, ℕ, ◌-◌, ◌<◌, ◌≤◌, Bool, true, false, ◌||◌, ◌⊎◌, List, [], ◌∷◌, ◌++◌, length, refl, sym, ◌∙◌, inl, inr, arith}
 use Rattle.std.specs.Prelude.{get_or, nat_eq}
 use Rattle.std.specs.List.{list_any}
@@ -19,12 +20,8 @@ begins_within starts number offset e = (slice_get_within starts (number - 1) off
 -- ---- nothing begins at an offset
 
 pub nothing_push : (starts : List ℕ) (start offset : ℕ) → NothingAt starts offset → (start ≡ offset → ⊥) → NothingAt (starts ++ start ∷ []) offset
-nothing_push starts start offset nothing other k less same = elim (cases_eq k (length starts)) [
-  | inl last ↦ other (sym (get_or_at starts start [] 0 k (sym last)) ∙ same)
-  | inr before ↦
-      let within : k < length starts = omega (arith, before, less, length-append starts (start ∷ [])) in
-      nothing k within (sym (get_or_append_left starts (start ∷ []) 0 k within) ∙ same)
-]
+nothing_push starts start offset nothing other k less same =
+    search (rules, cases_eq, get_or_at, length-append, get_or_append_left)
 
 -- ---- each thing begins at an offset of its own
 

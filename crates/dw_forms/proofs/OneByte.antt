@@ -1,5 +1,6 @@
 -- A number of one byte.
-use Rattle.std.proofs.Common.{◌≡◌, ℕ, ◌+◌, ◌*◌, ◌^◌, ◌%◌, ◌<◌, ◌≤◌, List, [], ◌∷◌, length, get_or, Result, Ok, refl, arith}
+use Rattle.std.proofs.Common.{rules}
+use Rattle.std.proofs.Common.{◌≡◌, ℕ, ◌<◌, ◌≤◌, List, [], ◌∷◌, length, get_or, Result, Ok, arith}
 use Rattle.std.proofs.lemmas.Bool.{lt-ltb}
 use Rattle.dw_forms.specs.declared.leb.NumberFault.{NumberFault}
 use Rattle.dw_forms.specs.LebReading.{spelling_from, uleb_at}
@@ -7,6 +8,4 @@ use Rattle.dw_forms.specs.LebReading.{spelling_from, uleb_at}
 pub uleb_one : (bytes : List ℕ) (n : ℕ) → 1 ≤ length bytes → n ≡ get_or bytes 0 0 → get_or bytes 0 0 < 128 → ◌≡◌ {A = Result (ℕ × ℕ) NumberFault} (Ok (n, 1)) (uleb_at bytes)
 unfolding uleb_at spelling_from
 uleb_one [] n some e low = absurd (omega arith)
-uleb_one (b ∷ bytes) n some e low =
-    let total : 0 + (b % 128) * 128 ^ 0 ≡ b = omega arith in
-    rw (lt-ltb b 128 low, total, lt-ltb b (2 ^ 64) (omega arith), e) refl
+uleb_one (b ∷ bytes) n some e low = search (rules, lt-ltb)

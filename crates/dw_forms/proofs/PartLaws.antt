@@ -1,4 +1,5 @@
 -- Lists of attributes that go on as another list: where the next attribute of a kind is, and what comes before it.
+use Rattle.std.proofs.Common.{rules}
 use Rattle.std.proofs.Common.{◌≡◌, ℕ, zero, suc, ◌-◌, ◌<◌, ◌≤◌, Bool, true, false, List, [], ◌∷◌, ◌++◌, length, refl, sym, ap, subst, ◌∙◌, inl, inr, arith}
 use Rattle.std.specs.Prelude.{◌⊎◌, ◌||◌, get_or}
 use Rattle.std.specs.List.{list_any}
@@ -109,15 +110,7 @@ no_first m list e = cc
 
 module _ (test : AttributeSpec → Bool) (nodes : List Node) (known : AreKnown nodes) where
   split_here : (number : ℕ) (n : Node) (b : Bool) → IsKnown nodes number n → test (spec_of n) ≡ b → IsSplit test nodes n.next (number_where test (numbered_in nodes n.next)) → IsSplit test nodes number (number_where test (numbered_in nodes number))
-  split_here number n true is here rest =
-      let found : number_where test (numbered_in nodes number) ≡ number = ap (number_where test) is.begins ∙ where_first test (record { number = number; item = spec_of n }) (numbered_in nodes n.next) here in
-      rw found (record {
-        before = [];
-        goes = refl;
-        none = refl;
-        within = omega arith;
-        passes = λ m list e. first_passes test (record { number = number; item = spec_of n }) m (numbered_in nodes n.next) list (sym is.begins ∙ e) here;
-      })
+  split_here number n true is here rest = search (rules, where_first, first_passes)
   split_here number n false is here rest =
       let found : number_where test (numbered_in nodes number) ≡ number_where test (numbered_in nodes n.next) = ap (number_where test) is.begins ∙ where_later test (record { number = number; item = spec_of n }) (numbered_in nodes n.next) here in
       let less = is.next in
@@ -132,9 +125,7 @@ module _ (test : AttributeSpec → Bool) (nodes : List Node) (known : AreKnown n
 
   split_to : (bound number : ℕ) → number ≤ bound → number ≤ length nodes → IsSplit test nodes number (number_where test (numbered_in nodes number))
   unfolding number_where
-  split_to bound zero le within =
-      let none : number_where test (numbered_in nodes 0) ≡ 0 = ap (number_where test) (chain_none (specs_of nodes)) in
-      rw none (record { before = []; goes = refl; none = refl; within = omega arith; passes = λ m list e. absurd (no_first m list (sym (chain_none (specs_of nodes)) ∙ e)) })
+  split_to bound zero le within = search (rules, chain_none, no_first)
   split_to zero (suc k) le within = absurd (omega (arith, le))
   split_to (suc bound) (suc k) le within =
       let (n, is) = known_at nodes known (suc k) (omega arith) within in
@@ -152,9 +143,7 @@ none_here test bound to m before list true is falls starts le rest =
     let found = where_first test m (before ++ list) is in
     let less = head_above bound to m before list falls starts in
     absurd (omega (arith, found, less, le))
-none_here test bound to m before list false is falls starts le rest =
-    let found = where_later test m (before ++ list) is in
-    none_both (test m.item) (list_any test (items_of before)) is (rest (omega (arith, found, le)))
+none_here test bound to m before list false is falls starts le rest = search (rules, where_later, none_both)
 
 pub none_before : (test : AttributeSpec → Bool) (bound to : ℕ) (before list : List (Numbered AttributeSpec)) → Falls bound (before ++ list) → StartsAt to list → number_where test (before ++ list) ≤ to
     → list_any test (items_of before) ≡ false
@@ -173,9 +162,7 @@ pub record IsPart (z : Numbered AttributeSpec) (zs front before list : List (Num
 part_by : (to : ℕ) (z : Numbered AttributeSpec) (zs front before list : List (Numbered AttributeSpec)) → Falls to list → StartsAt to list → to < z.number → Parted before list front (z ∷ zs) → IsPart z zs front before list
 unfolding Parted
 part_by to z zs front before list falls starts less (inl ([], e, f)) = absurd (let same : z.number ≡ to = subst (StartsAt to) (sym f) starts in omega (arith, same, less))
-part_by to z zs front before list falls starts less (inl (y ∷ others, e, f)) =
-    let same = first_is z y zs (others ++ list) f in
-    record { others = others; parts = e ∙ ap (λ (x : Numbered AttributeSpec). front ++ x ∷ others) (sym same.0); goes = same.1 }
+part_by to z zs front before list falls starts less (inl (y ∷ others, e, f)) = search (rules, first_is)
 part_by to z zs front before list falls starts less (inr (c, e, f)) = absurd (let le = member_below to c z zs (subst (Falls to) f falls) in omega (arith, le, less))
 
 pub part_at : (to : ℕ) (z : Numbered AttributeSpec) (zs front before list : List (Numbered AttributeSpec)) → Falls to list → StartsAt to list → to < z.number → before ++ list ≡ front ++ z ∷ zs → IsPart z zs front before list

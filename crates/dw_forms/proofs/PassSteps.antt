@@ -1,4 +1,6 @@
 -- Values are passed run by run: from one value of no one size to the next.
+use Rattle.std.proofs.lemmas.Grind.{common_steps}
+use Rattle.std.proofs.Common.{rules}
 use Rattle.std.proofs.Common.{◌≡◌, ℕ, ◌+◌, ◌<◌, ◌≤◌, ◌⊎◌, Bool, true, false, ltb, List, [], ◌∷◌, ◌++◌, length, drop, Some, Result, Ok, Err, inl, inr, refl, sym, ap, ◌∙◌, arith}
 use Rattle.std.specs.List.{list_any}
 use Rattle.std.proofs.lemmas.Bool.{lt-ltb, le-ltb, ltb-true, ltb-false, or_parts}
@@ -11,7 +13,7 @@ use Rattle.dw_forms.specs.declared.value.ValueFault.TheVariants.{Cut}
 use Rattle.dw_forms.specs.declared.decl.AttributeSpec.{AttributeSpec}
 use Rattle.dw_forms.specs.declared.attribute_lists.Node.{Node}
 use Rattle.dw_forms.specs.Chains.{Numbered, items_of}
-use Rattle.dw_forms.specs.AttributeLists.{Knows, EndsWith, known_of, varies, numbered_in, list_in}
+use Rattle.dw_forms.specs.AttributeLists.{Knows, EndsWith, known_of, varies, list_in}
 use Rattle.dw_forms.specs.Steps.{◌>>=◌}
 use Rattle.dw_forms.specs.Sizes.{fixed_size_of, rest_at}
 use Rattle.dw_forms.specs.SizeLaws.{rest_skips, rest_cuts}
@@ -48,23 +50,7 @@ cut_long : (len : ℕ) (bytes : List ℕ) → len ≤ length bytes → cut_at le
 cut_long len bytes le = rw (le-ltb _ _ le) refl
 
 cut_cut : (m n : ℕ) (bytes : List ℕ) → (cut_at m bytes >>= λ rest. cut_at n rest) ≡ cut_at (m + n) bytes
-cut_cut m n bytes = by_first (ltb (length bytes) m) refl
-  where
-    by_both : m ≤ length bytes → (b : Bool) → ltb (length (drop m bytes)) n ≡ b → cut_at n (drop m bytes) ≡ cut_at (m + n) bytes
-    by_both le true e =
-        let lt = ltb-true _ _ e in
-        cut_short n (drop m bytes) lt ∙ sym (cut_short (m + n) bytes (omega (arith, lt, le, length-drop m bytes)))
-    by_both le false e =
-        let more = ltb-false _ _ e in
-        cut_long n (drop m bytes) more ∙ ap (λ (b : List ℕ). Ok b) (drop-drop n m bytes) ∙ sym (cut_long (m + n) bytes (omega (arith, more, le, length-drop m bytes)))
-
-    by_first : (b : Bool) → ltb (length bytes) m ≡ b → (cut_at m bytes >>= λ rest. cut_at n rest) ≡ cut_at (m + n) bytes
-    by_first true e =
-        let lt = ltb-true _ _ e in
-        ap (λ (r : Result (List ℕ) ValueFault). r >>= λ rest. cut_at n rest) (cut_short m bytes lt) ∙ sym (cut_short (m + n) bytes (omega (arith, lt)))
-    by_first false e =
-        let le = ltb-false _ _ e in
-        ap (λ (r : Result (List ℕ) ValueFault). r >>= λ rest. cut_at n rest) (cut_long m bytes le) ∙ by_both le (ltb (length (drop m bytes)) n) refl
+cut_cut m n bytes = search (rules, ltb-true, cut_short, length-drop, ltb-false, cut_long, drop-drop)
 
 rest_cut : (version : ℕ) (f : Form) (size : ℕ) (bytes : List ℕ) → does_vary f ≡ false → rest_at version f size bytes ≡ cut_at (known_size size f) bytes
 rest_cut version f size bytes e = by_length (ltb (length bytes) (known_size size f)) refl
@@ -116,10 +102,7 @@ none_vary (n ∷ list) e =
 
 sum_append : (size : ℕ) (xs ys : List AttributeSpec) → known_sum size (xs ++ ys) ≡ known_sum size xs + known_sum size ys
 sum_append size [] ys = omega arith
-sum_append size (x ∷ xs) ys =
-    let all = sum_by-cons (λ (s : AttributeSpec). known_size size s.form) x (xs ++ ys) in
-    let some = sum_by-cons (λ (s : AttributeSpec). known_size size s.form) x xs in
-    omega (arith, all, some, sum_append size xs ys)
+sum_append size (x ∷ xs) ys = grind (arith, common_steps, sum_by-cons)
 
 pub items_append : (xs ys : List (Numbered AttributeSpec)) → items_of (xs ++ ys) ≡ items_of xs ++ items_of ys
 items_append xs ys = map-append (λ (n : Numbered AttributeSpec). n.item) xs ys
@@ -127,9 +110,7 @@ items_append xs ys = map-append (λ (n : Numbered AttributeSpec). n.item) xs ys
 -- the sum of the known sizes before a list
 pub sum_goes : (size : ℕ) (nodes : List Node) (from to : ℕ) (before : List (Numbered AttributeSpec)) → EndsWith nodes from to before
     → known_sum size (list_in nodes from) ≡ known_sum size (items_of before) + known_sum size (list_in nodes to)
-sum_goes size nodes from to before goes =
-    ap (λ (list : List (Numbered AttributeSpec)). known_sum size (items_of list)) goes
-    ∙ ap (known_sum size) (items_append before (numbered_in nodes to)) ∙ sum_append size (items_of before) (list_in nodes to)
+sum_goes size nodes from to before goes = search (rules, items_append, sum_append)
 
 pub known_is : (size : ℕ) (list : List (Numbered AttributeSpec)) (n : Node) → (size ≡ 4) ⊎ (size ≡ 8) → Knows list n → known_of size n ≡ known_sum size (items_of list)
 known_is size list n (inl e) k = rw e k.known_with_4
@@ -145,10 +126,7 @@ module _ (version size : ℕ) (front others : List (Numbered AttributeSpec)) (z 
   one : values_end version size (items_of (front ++ z ∷ others)) bytes
       ≡ (cut_at (known_sum size (items_of front)) bytes >>= λ mid. rest_at version z.item.form size mid >>= λ rest. values_end version size (items_of others) rest)
   unfolding values_end
-  one =
-      ap (λ (specs : List AttributeSpec). values_end version size specs bytes) (items_append front (z ∷ others))
-      ∙ ends_append version size (items_of front) (z.item ∷ items_of others) bytes
-      ∙ ap (λ (r : Result (List ℕ) ValueFault). r >>= λ mid. rest_at version z.item.form size mid >>= λ rest. values_end version size (items_of others) rest) (run version size front bytes none)
+  one = search (rules, items_append, ends_append, run)
 
   pub run_fails : (f : ValueFault) → cut_at (known_sum size (items_of front)) bytes ≡ Err f → values_end version size (items_of (front ++ z ∷ others)) bytes ≡ Err f
   run_fails f e = one ∙ ap (λ (r : Result (List ℕ) ValueFault). r >>= λ mid. rest_at version z.item.form size mid >>= λ rest. values_end version size (items_of others) rest) e

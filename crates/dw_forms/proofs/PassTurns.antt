@@ -1,4 +1,5 @@
 -- One turn of passing values: up to the next value of no one size, or up to the end.
+use Rattle.std.proofs.Common.{rules}
 use Rattle.std.proofs.Common.{◌≡◌, ℕ, ◌+◌, ◌-◌, ◌<◌, ◌≤◌, ◌⊎◌, false, List, [], ◌∷◌, ◌++◌, length, Ok, Err, refl, sym, ap, subst, ◌∙◌, arith}
 use Rattle.std.specs.Prelude.{get_or}
 use Rattle.std.specs.List.{list_any}
@@ -16,11 +17,7 @@ use Rattle.dw_forms.proofs.PassSteps.{known_is, sum_goes, run, run_fails, one_fa
 
 -- where some attributes come before a list, its number is lower
 above_by : (at to : ℕ) (before here there : List (Numbered AttributeSpec)) → here ≡ before ++ there → Falls at here → StartsAt at here → StartsAt to there → (at ≡ to → ⊥) → to < at
-above_by at to [] here there e falls here_starts there_starts other = absurd (same here there e here_starts there_starts)
-  where
-    same : (xs ys : List (Numbered AttributeSpec)) → xs ≡ ys → StartsAt at xs → StartsAt to ys → ⊥
-    same xs [] e h t = other (subst (StartsAt at) e h ∙ sym t)
-    same xs (y ∷ ys) e h t = other (sym (subst (StartsAt at) e h) ∙ t)
+above_by at to [] here there e falls here_starts there_starts other = search (rules)
 above_by at to (m ∷ before) here there e falls here_starts there_starts other =
     let first : m.number ≡ at = subst (StartsAt at) e here_starts in
     let less = head_above at to m before there (subst (Falls at) e falls) there_starts in
@@ -116,20 +113,13 @@ same_before : (xs ys zs : List (Numbered AttributeSpec)) → xs ++ zs ≡ ys ++ 
 same_before xs ys zs e = append_cancel_right xs ys zs e
 
 pub passes_first : (nodes : List Node) (version size from to : ℕ) (bytes : List ℕ) (before : List (Numbered AttributeSpec)) → EndsWith nodes from to before → from ≤ length nodes → Passes nodes version size from to bytes from bytes
-passes_first nodes version size from to bytes before goes within = record {
-  left = before;
-  goes = goes;
-  within = within;
-  same = λ other also. ap (λ (b : List (Numbered AttributeSpec)). values_end version size (items_of b) bytes) (same_before before other (numbered_in nodes to) (sym goes ∙ also));
-}
+passes_first nodes version size from to bytes before goes within = search (rules, same_before)
 
 -- at the list that is asked for all values are passed
 pub passes_last : (nodes : List Node) → AreKnown nodes → (version size from to : ℕ) (bytes : List ℕ) (at : ℕ) (rest : List ℕ) → Passes nodes version size from to bytes at rest → to ≤ length nodes → at ≡ to
     → (before : List (Numbered AttributeSpec)) → EndsWith nodes from to before → values_end version size (items_of before) bytes ≡ Ok rest
 unfolding values_end
-passes_last nodes known version size from to bytes at rest p to_within same before goes =
-    let none = ends_here nodes known at to p.left p.goes p.within to_within same in
-    sym (p.same before goes) ∙ ap (λ (list : List (Numbered AttributeSpec)). values_end version size (items_of list) rest) none
+passes_last nodes known version size from to bytes at rest p to_within same before goes = search (rules, ends_here)
 
 module _ (nodes : List Node) (known : AreKnown nodes) (version size from to : ℕ) (bytes : List ℕ) (at : ℕ) (rest : List ℕ) (p : Passes nodes version size from to bytes at rest) (to_within : to ≤ length nodes) (other : at ≡ to → ⊥) where
   pub passes_above : to < at

@@ -1,5 +1,6 @@
 -- The place of a declaration is kept as declarations are added, and it is the one that is found.
-use Rattle.std.proofs.Common.{◌≡◌, ◌≢◌, ℕ, zero, suc, ◌+◌, ◌<◌, Bool, true, false, List, [], ◌∷◌, ◌++◌, length, get_or, Option, Some, None, refl, sym, ap, ◌∙◌, inl, inr, All, arith}
+use Rattle.std.proofs.Common.{rules}
+use Rattle.std.proofs.Common.{◌≡◌, ◌≢◌, ℕ, zero, suc, ◌+◌, ◌<◌, Bool, true, false, List, [], ◌∷◌, ◌++◌, length, get_or, Option, Some, None, refl, sym, ap, ◌∙◌, All, arith}
 use Rattle.std.specs.Prelude.{find, option_and_then, slice_get, IfSome, IfNone, is_some, ◌||◌, ◌==◌}
 use Rattle.std.specs.List.{list_any}
 use Rattle.std.specs.Ordering.{nat_cmp}
@@ -21,18 +22,8 @@ pub lacks_of : (code : ℕ) (ds : List TableDecl) → has_code code (views ds) �
 lacks_of code ds e = lacks_from code_of_decl code ds (sym (has_code_views code ds) ∙ e)
 
 pub index_pushed : (ds : List TableDecl) (m : BTreeMap ℕ ℕ) (d : TableDecl) → IsIndex ds m → Lacks code_of_decl d.code ds → (d.code ≢ length ds + 1 → get nat_cmp m d.code ≡ Some (length ds)) → IsIndex (ds ++ d ∷ []) m
-index_pushed ds m d index lacks here = record {
-  distinct = apart_push code_of_decl ds d index.distinct lacks;
-  complete = λ i e lt ne. elim (cases_lt i (length ds)) [
-    | inl low ↦
-        let p : get_or (ds ++ d ∷ []) i e ≡ get_or ds i e = get_or_append_left ds (d ∷ []) e i low in
-        rw p (index.complete i e low (rw p at ne))
-    | inr high ↦
-        let at_end : i ≡ length ds = omega (arith, length-append ds (d ∷ []), lt, high) in
-        let p : get_or (ds ++ d ∷ []) i e ≡ d = get_or_at ds d [] e i (sym at_end) in
-        rw (p, at_end) (here (rw (p, at_end) at ne))
-  ];
-}
+index_pushed ds m d index lacks here =
+    search (rules, apart_push, cases_lt, get_or_append_left, length-append, get_or_at)
 
 -- ---- what is found
 

@@ -1,6 +1,7 @@
 -- Bits of remainders: one that is set stays set, and one that is not says that no code has it.
-use Rattle.std.proofs.Common.{◌≡◌, Bool, true, false, ℕ, refl, sym, ap, ◌∙◌, arith, ◌^◌, List}
-use Rattle.std.specs.Prelude.{◌%◌, ◌≢◌, ◌==◌, All, slice_index_or, bit_or, bit_and}
+use Rattle.std.proofs.Common.{rules}
+use Rattle.std.proofs.Common.{◌≡◌, ℕ, arith, ◌^◌, List}
+use Rattle.std.specs.Prelude.{◌%◌, ◌≢◌, ◌==◌, All, bit_or, bit_and}
 use Rattle.std.specs.Bool.{OnTrue}
 use Rattle.std.proofs.lemmas.Bool.{eqb-true}
 use Rattle.std.proofs.lemmas.Nat.Bits.{bit_at_or, bit_at-pow_same, and_pow}
@@ -15,16 +16,8 @@ pub comes : (bits i : ℕ) → bit_at (bit_or bits (2 ^ i)) i ≡ 1
 comes bits i = omega (arith, bit_at_or bits (2 ^ i) i, bit_at-pow_same i)
 
 pub absent : (bits : ℕ) (specs : List AttributeSpec) (code : ℕ) → HasRemainders bits specs → bit_and bits (2 ^ (code % 32)) ≡ 0 → All (λ (spec : AttributeSpec). spec.attribute ≢ code) specs
-absent bits specs code has none k d within same =
-    let set : bit_at bits ((slice_index_or specs k d).attribute % 32) ≡ 1 = has k d within in
-    let here : bit_at bits (code % 32) ≡ 1 = rw same at set in
-    let one : bit_and bits (2 ^ (code % 32)) ≡ 2 ^ (code % 32) = and_pow bits (code % 32) ∙ rw here (omega arith) in
-    omega (arith, none, one)
+absent bits specs code has none k d within same = search (rules, and_pow)
 
 -- so where no remainder is that of a code, none has it
 pub absent_on : (bits bit : ℕ) (specs : List AttributeSpec) (code : ℕ) → HasRemainders bits specs → bit ≡ 2 ^ (code % 32) → OnTrue (bit_and bits bit == 0) (All (λ (spec : AttributeSpec). spec.attribute ≢ code) specs)
-absent_on bits bit specs code has is = by_test (bit_and bits bit == 0) refl
-  where
-    by_test : (b : Bool) → (bit_and bits bit == 0) ≡ b → OnTrue b (All (λ (spec : AttributeSpec). spec.attribute ≢ code) specs)
-    by_test true e = absent bits specs code has (ap (bit_and bits) (sym is) ∙ eqb-true (bit_and bits bit) 0 e)
-    by_test false e = tt
+absent_on bits bit specs code has is = search (rules, absent, eqb-true)

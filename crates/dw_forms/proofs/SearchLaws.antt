@@ -1,5 +1,6 @@
 -- How a search for a code goes on at a link.
-use Rattle.std.proofs.Common.{◌≡◌, ℕ, suc, ◌+◌, ◌-◌, ◌<◌, ◌≤◌, ◌⊎◌, Bool, true, List, length, get_or, refl, sym, ap, subst, ◌∙◌, inl, inr, arith}
+use Rattle.std.proofs.Common.{rules}
+use Rattle.std.proofs.Common.{◌≡◌, ℕ, ◌+◌, ◌-◌, ◌<◌, ◌≤◌, ◌⊎◌, Bool, true, List, length, get_or, refl, sym, ap, ◌∙◌, inl, inr, arith}
 use Rattle.std.specs.Prelude.{◌==◌}
 use Rattle.std.proofs.lemmas.Bool.{eqb-true}
 use Rattle.std.proofs.lemmas.List.{get_or_default}
@@ -27,9 +28,7 @@ less_or_not i j = grind arith
 -- at a link that is read
 module _ (branches : List ℕ) (links : List Link) (n : ℕ) (x : Link) (are : AreFound branches links) (some : 0 < n) (within : n ≤ length links) (read : x ≡ get_or links (n - 1) x) where
   pub is_found : IsFoundBy branches links n x
-  is_found =
-      let one : suc (n - 1) ≡ n = omega (arith, some) in
-      subst (λ (m : ℕ). IsFoundBy branches links m x) one (are (n - 1) x (omega (arith, some, within)) read)
+  is_found = search (rules)
 
   -- it has its own code
   pub first_passes : (p : ℕ → Bool) → p x.code ≡ true → number_where p (codes_in links n) ≡ n

@@ -1,4 +1,6 @@
 -- One byte more of a LEB128 number.
+use Rattle.std.proofs.lemmas.Grind.{common_steps}
+use Rattle.std.proofs.Common.{rules}
 use Rattle.std.proofs.Common.{◌≡◌, ℕ, zero, suc, ◌+◌, ◌*◌, ◌^◌, ◌%◌, ◌<◌, ◌≤◌, List, length, get_or, drop, Ok, Err, refl, ap, ◌∙◌, arith}
 use Rattle.std.specs.Prelude.{bit_and, pos, ◌-ℤ◌}
 use Rattle.std.specs.Int.{w128}
@@ -28,23 +30,15 @@ shifted b place low is le =
     rw low_seven (shl_whole (b % 128) 7 (7 * place) 128 below (omega arith) ∙ ap (λ (p : ℕ). (b % 128) * p) power)
 
 pub next_small : (b place sum : ℕ) → sum < 128 ^ place → sum + (b % 128) * 128 ^ place < 128 ^ (place + 1)
-next_small b place sum lt =
-    let below : b % 128 < 128 = omega arith in
-    rw (add-one, pow-suc) (omega (arith, mul-add-lt (b % 128) (128 ^ place) sum 128 below lt))
+next_small b place sum lt = grind (arith, common_steps, add-one, pow-suc, mul-add-lt)
 
 pub bits_70 : (place n : ℕ) → place ≤ 9 → n < 128 ^ (place + 1) → n < 2 ^ 70
-bits_70 place n le lt =
-    let positive : 0 < 128 = omega arith in
-    let p : place + 1 ≤ 10 = omega arith in
-    let most : 128 ^ (place + 1) ≤ 128 ^ 10 = pow-le-pow_right positive p in
-    omega arith
+bits_70 place n le lt = search (rules, pow-le-pow_right)
 
 pub step_end : (bytes : List ℕ) (place sum : ℕ) → place < length bytes → get_or bytes place 0 < 128
     → spelling_from place sum (drop place bytes) ≡ Ok (record { sum = sum + (get_or bytes place 0 % 128) * 128 ^ place; last = get_or bytes place 0; len = place + 1 })
 unfolding spelling_from
-step_end bytes place sum lt low =
-    let e = lt-ltb (get_or bytes place 0) 128 low in
-    at_drop_more (spelling_from place sum) bytes place 0 lt ∙ rw e refl
+step_end bytes place sum lt low = grind (arith, common_steps, lt-ltb, at_drop_more)
 
 pub step_on : (bytes : List ℕ) (place sum : ℕ) → place < length bytes → 128 ≤ get_or bytes place 0 → place < 9
     → spelling_from place sum (drop place bytes) ≡ spelling_from (place + 1) (sum + (get_or bytes place 0 % 128) * 128 ^ place) (drop (place + 1) bytes)
@@ -68,8 +62,4 @@ difference s p small_s small_p = omega (arith, ints)
 
 -- a power of 128 is taken off
 pub taken_off : (s k : ℕ) → k ≤ 10 → s < 2 ^ 70 → to_z w128 (of_z w128 (to_z w128 s -ℤ to_z w128 (1 * 2 ^ (7 * k) % 2 ^ 128))) ≡ pos s -ℤ pos (128 ^ k)
-taken_off s k le lt =
-    let power : 1 * 2 ^ (7 * k) % 2 ^ 128 ≡ 128 ^ k = one_shl (7 * k) 128 (omega arith) ∙ sevens k in
-    let positive : 0 < 128 = omega arith in
-    let most : 128 ^ k ≤ 128 ^ 10 = pow-le-pow_right positive le in
-    rw power (difference s (128 ^ k) (omega arith) (omega arith))
+taken_off s k le lt = search (rules, one_shl, sevens, pow-le-pow_right, difference)

@@ -1,5 +1,6 @@
 -- Tables that begin at offsets of a section, as more declarations are kept.
-use Rattle.std.proofs.Common.{◌≡◌, ℕ, suc, ◌-◌, ◌<◌, true, List, [], ◌∷◌, ◌++◌, length, drop, Some, None, Ok, sym, ap, subst, ◌∙◌, inl, inr, append_assoc, append-nil, arith}
+use Rattle.std.proofs.Common.{rules}
+use Rattle.std.proofs.Common.{◌≡◌, ℕ, suc, ◌<◌, true, List, [], ◌∷◌, ◌++◌, length, drop, Some, None, Ok, sym, ap, subst, ◌∙◌, inl, inr, append_assoc, append-nil, arith}
 use Rattle.std.specs.Prelude.{get_or}
 use Rattle.std.proofs.lemmas.Bool.{cases_eq}
 use Rattle.std.proofs.lemmas.List.{length-append, get_or_append_left, get_or_at}
@@ -31,10 +32,7 @@ pub table_stays : (old new : Tables) (number : ℕ) → Stay old new → number 
 table_stays old new number stay within = ap (λ (ts : Tables). chain_in ts number) stay.1 ∙ get_or_append_left old stay.0 [] number within
 
 pub is_table_stays : (section : List ℕ) (old new : Tables) (offset number : ℕ) → Stay old new → IsTableIn section old offset number → IsTableIn section new offset number
-is_table_stays section old new offset number stay is = record {
-  within = omega (arith, ap length stay.1, length-append old stay.0, is.within);
-  table = is.table ∙ ap (λ (t : List (Numbered Declaration)). Ok (items_of t)) (sym (table_stays old new number stay is.within));
-}
+is_table_stays section old new offset number stay is = search (rules, length-append, table_stays)
 
 -- one start more, with its table
 pub starts_more : (section : List ℕ) (old new : Tables) (starts : List ℕ) (start number : ℕ) → AreStarts section old starts → Stay old new → length new ≡ suc (length old) → number ≡ length old → IsTableIn section new start number
@@ -76,14 +74,8 @@ new_stay nodes section starts (x ∷ xs) offset end p new =
 
 -- the table before which declarations were read
 pub goes_on : (nodes : List Node) (section : List ℕ) (kept : List KeptDecl) (starts : List ℕ) (offset rest : ℕ) → AreStarts section (tables_of nodes kept) starts → GoesOn section starts offset rest → IsTableIn section (tables_of nodes kept) offset rest
-goes_on nodes section kept starts offset rest are (inl (some, begins)) =
-    let (within, offset_is) = begins_within starts rest offset begins in
-    let one : suc (rest - 1) ≡ rest = omega (arith, some) in
-    subst (λ (n : ℕ). IsTableIn section (tables_of nodes kept) offset n) one (rw (← offset_is) (are.each (rest - 1) within))
-goes_on nodes section kept starts offset rest are (inr (none, is)) = record {
-  within = omega (arith, none, tables_long nodes kept);
-  table = is ∙ ap (λ (t : List (Numbered Declaration)). Ok (items_of t)) (sym (ap (chain_in (tables_of nodes kept)) none ∙ table_none nodes kept));
-}
+goes_on nodes section kept starts offset rest are (inl (some, begins)) = search (rules, begins_within)
+goes_on nodes section kept starts offset rest are (inr (none, is)) = search (rules, tables_long, table_none)
 
 code_twice : (code : ℕ) (ds : List Declaration) → has_code code ds ≡ true → Lacks code_of_decl code ds → ⊥
 code_twice code ds has lacks =
@@ -104,10 +96,7 @@ module _ (nodes : List Node) (section : List ℕ) (kept new : List KeptDecl) (ta
       (none_twice section s.start leads.0 (kept_view nodes s.decl) (table_in (tables_of nodes kept) table) popped.2 leads.2.table (code_twice s.decl.code (table_in (tables_of nodes kept) table) added.0))
 
   pub turn_new : (starts : List ℕ) → AreNew starts all → NothingAt starts s.start × (s.start < length section) × AreNew (starts ++ s.start ∷ []) rest
-  turn_new starts are =
-      let r = new_pop starts rest s (subst (AreNew starts) parts are) in
-      let less = decl_takes section s.start leads.0 (kept_view nodes s.decl) popped.2 in
-      (r.1, less.1, new_stay nodes section starts rest offset s.start popped.0 r.0)
+  turn_new starts are = search (rules, new_pop, decl_takes, popped, new_stay)
 
   module _ (number : ℕ) (added : Added (kept_view nodes s.decl) table (tables_of nodes kept) (tables_of nodes new) (Some number)) where
     pub turn_stay : Stay (tables_of nodes kept) (tables_of nodes new)

@@ -1,4 +1,6 @@
 -- Attributes from one on: the first of them, those after it, and those from the next one of a kind on.
+use Rattle.std.proofs.lemmas.Grind.{common_steps}
+use Rattle.std.proofs.Common.{rules}
 use Rattle.std.proofs.Common.{◌≡◌, ◌≢◌, ℕ, ◌-◌, ◌≤◌, Bool, true, false, List, [], ◌∷◌, ◌++◌, length, take, Result, Ok, Err, refl, sym, ap, subst, ◌∙◌, append_assoc, append-nil, arith}
 use Rattle.std.specs.Prelude.{All, slice_index_or}
 use Rattle.std.specs.List.{list_any, slice_range}
@@ -30,17 +32,11 @@ none_there a none = ap (numbered_in (nodes_of a)) none ∙ chain_none (specs_of 
 
 -- the first attribute, and those after it
 pub first_ends : (a rest : Attributes) (n : Node) → IsKnown (nodes_of a) a.first n → nodes_of rest ≡ nodes_of a → rest.first ≡ n.next → Ends a rest (record { number = a.first; item = spec_of n } ∷ [])
-first_ends a rest n is same next = record {
-  nodes = same;
-  parts = is.begins ∙ ap (λ (number : ℕ). record { number = a.first; item = spec_of n } ∷ numbered_in (nodes_of a) number) (sym next);
-}
+first_ends a rest n is same next = search (rules)
 
 -- all of them, and then none
 pub none_ends : (a rest : Attributes) → nodes_of rest ≡ nodes_of a → rest.first ≡ 0 → Ends a rest (numbered a)
-none_ends a rest same none = record {
-  nodes = same;
-  parts = sym (append-nil (numbered a)) ∙ ap (λ (list : List (Numbered AttributeSpec)). numbered a ++ list) (sym (ap (numbered_in (nodes_of a)) none ∙ chain_none (specs_of (nodes_of a))));
-}
+none_ends a rest same none = search (rules, append-nil, chain_none)
 
 -- the attributes in another list that one ends with
 pub numbered_ends : (a b : Attributes) (before : List (Numbered AttributeSpec)) → Ends a b before → numbered a ≡ before ++ numbered b
@@ -55,11 +51,7 @@ first_specs all rest spec ends = specs_ends all rest (record { number = all.firs
 
 -- a list ends with what its end ends with
 pub ends_on : (a b c : Attributes) (xs ys : List (Numbered AttributeSpec)) → Ends a b xs → Ends b c ys → Ends a c (xs ++ ys)
-ends_on a b c xs ys e f = record {
-  nodes = f.nodes ∙ e.nodes;
-  parts = numbered_ends a b xs e ∙ ap (λ (list : List (Numbered AttributeSpec)). xs ++ list) (numbered_ends b c ys f) ∙ sym (append_assoc xs ys (numbered c))
-      ∙ ap (λ (nodes : List Node). (xs ++ ys) ++ numbered_in nodes c.first) (f.nodes ∙ e.nodes);
-}
+ends_on a b c xs ys e f = search (rules, numbered_ends, append_assoc)
 
 -- the sum of the sizes of a list, by the nodes of another that ends with it
 pub sum_there : (size sum : ℕ) (a b : Attributes) (before : List (Numbered AttributeSpec)) → Ends a b before → sum ≡ known_sum size (specs_in b) → sum ≡ known_sum size (list_in (nodes_of a) b.first)
@@ -87,15 +79,7 @@ module _ (test : AttributeSpec → Bool) (all : Attributes) where
 
   pub follow : (found : Attributes) → IsFrom test all found → Follow found
   unfolding parted
-  follow found is =
-      let s = parted in
-      let here : numbered_in (nodes_of all) (number_where test (numbered all)) ≡ numbered found = ap (numbered_in (nodes_of all)) (sym is.first) ∙ ap (λ (nodes : List Node). numbered_in nodes found.first) (sym is.nodes) in
-      record {
-        before = s.before;
-        ends = record { nodes = is.nodes; parts = s.goes ∙ ap (λ (number : ℕ). s.before ++ numbered_in (nodes_of all) number) (sym is.first) };
-        none = s.none;
-        passes = λ spec rest first. s.passes (record { number = found.first; item = spec }) (numbered rest) (here ∙ numbered_ends found rest (record { number = found.first; item = spec } ∷ []) first);
-      }
+  follow found is = search (rules, parted, numbered_ends)
 
   -- where there are none from it on, all fail the test
   pub none_follow : (found : Attributes) → IsFrom test all found → specs_in found ≡ [] → list_any test (specs_in all) ≡ false
@@ -128,11 +112,8 @@ module _ (all : Attributes) (code : ℕ) where
 
 -- the first one with the code comes after some that have another
 stands_first : (code : ℕ) (front : List AttributeSpec) (spec : AttributeSpec) (back : List AttributeSpec) → list_any (has_this code) front ≡ false → has_this code spec ≡ true → StandsFirst (front ++ spec ∷ back) code (length front)
-stands_first code front spec back none is = record {
-  within = omega (arith, length-append front (spec ∷ back));
-  has = λ d. ap attribute_of (get_or_at front spec back d (length front) refl) ∙ eqb-true spec.attribute code is;
-  none_before = λ k d less same. lacks_from attribute_of code front none k d less (ap attribute_of (sym (get_or_append_left front (spec ∷ back) d k less)) ∙ same);
-}
+stands_first code front spec back none is =
+    grind (arith, common_steps, length-append, attribute_of, get_or_at, eqb-true, lacks_from, get_or_append_left)
 
 take_front : (xs ys : List AttributeSpec) → take (length xs) (xs ++ ys) ≡ xs
 take_front [] ys = refl

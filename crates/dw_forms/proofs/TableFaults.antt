@@ -1,4 +1,5 @@
 -- The faults of a table are those that reading answers, so the same bytes have one at most.
+use Rattle.std.proofs.Common.{rules}
 use Rattle.std.proofs.Common.{◌≡◌, ◌≢◌, ℕ, zero, suc, ◌+◌, ◌-◌, ◌<◌, ◌≤◌, Bool, true, false, eqb, ltb, List, [], ◌∷◌, ◌++◌, length, take, drop, Option, Some, None, Result, Ok, Err, refl, sym, ap, subst, ◌∙◌, inl, inr, append_assoc, arith}
 use Rattle.std.specs.Prelude.{◌&&◌, ◌||◌, pos, Any}
 use Rattle.std.specs.List.{list_any}
@@ -47,18 +48,9 @@ or_true true = refl
 or_true false = refl
 
 bad_tests : (a c : ℕ) → IsBadPair a c → ((eqb a 0 && eqb c 0) ≡ false) × ((eqb a 0 || eqb c 0 || ltb 65535 a) ≡ true)
-bad_tests a c (inl h) =
-    let p : eqb a 0 ≡ true = eq-eqb a 0 h.0 in
-    let q : eqb c 0 ≡ false = ne_eqb c 0 (λ same. let k = h.1 in absurd (omega arith)) in
-    (rw (p, q) refl, rw p refl)
-bad_tests a c (inr (inl h)) =
-    let p : eqb a 0 ≡ false = ne_eqb a 0 (λ same. let k = h.0 in absurd (omega arith)) in
-    let q : eqb c 0 ≡ true = eq-eqb c 0 h.1 in
-    (rw p refl, rw (p, q) refl)
-bad_tests a c (inr (inr h)) =
-    let p : eqb a 0 ≡ false = ne_eqb a 0 (λ same. absurd (omega arith)) in
-    let q : ltb 65535 a ≡ true = lt-ltb 65535 a h in
-    (rw p refl, rw (p, q) (or_true (eqb c 0)))
+bad_tests a c (inl h) = search (rules, eq-eqb, ne_eqb)
+bad_tests a c (inr (inl h)) = search (rules, ne_eqb, eq-eqb)
+bad_tests a c (inr (inr h)) = search (rules, ne_eqb, lt-ltb, or_true)
 
 pair_on : (earlier : List AttributeSpec) (bytes : List ℕ) (a c : ℕ) (rest : List ℕ) → Takes SpellsPair bytes (a, c) rest → pair_at earlier bytes ≡ after_numbers earlier a c rest
 pair_on earlier bytes a c rest t = ap (pair_at earlier) t.parts ∙ numbers_again earlier [] t.text rest a c t.spelled
@@ -124,10 +116,7 @@ tag_on tag true e bad = e
 tag_on tag false e bad = absurd (bad (tag_is tag e))
 
 tag_good : (tag : ℕ) → IsCode16 tag → (eqb tag 0 || ltb 65535 tag) ≡ false
-tag_good tag good =
-    let p : eqb tag 0 ≡ false = ne_eqb tag 0 (λ same. let h = good.some in absurd (omega arith)) in
-    let q : ltb 65535 tag ≡ false = le-ltb 65535 tag good.small in
-    rw (p, q) refl
+tag_good tag good = search (rules, ne_eqb, le-ltb)
 
 bad_byte : (byte : ℕ) (rest : List ℕ) → 1 < byte → children_at (byte ∷ rest) ≡ Err (broken BadChildren 0)
 bad_byte zero rest lt = absurd (omega arith)

@@ -1,4 +1,5 @@
 -- A whole table is read as it is spelled, and no other way.
+use Rattle.std.proofs.Common.{rules}
 use Rattle.std.proofs.Common.{◌≡◌, ℕ, zero, suc, ◌+◌, ◌-◌, ◌<◌, ◌≤◌, List, [], ◌∷◌, ◌++◌, length, drop, Option, Some, None, Result, Ok, Err, refl, sym, ap, subst, ◌∙◌, append_assoc, arith}
 use Rattle.std.specs.Prelude.{MatchResult, IfOk, IfErr}
 use Rattle.std.proofs.lemmas.List.{append-nil, length-append, length-drop, get_or_at}
@@ -11,7 +12,7 @@ use Rattle.dw_forms.specs.declared.fault.Stop.TheVariants as stops
 use Rattle.dw_forms.specs.AbbrevFaults.{fault_at}
 use Rattle.dw_forms.specs.Steps.{◌>>=◌}
 use Rattle.dw_forms.specs.Front.{BeginsWith, BeginsWithNone, Takes}
-use Rattle.dw_forms.specs.Abbrev.{Declaration, children_byte, SpellsDecl, SpellsDecls, SpellsTable, IsDeclaration, AreDeclarations, DeclFails, Decls, TableFails}
+use Rattle.dw_forms.specs.Abbrev.{Declaration, SpellsDecl, SpellsDecls, SpellsTable, IsDeclaration, AreDeclarations, DeclFails, Decls, TableFails}
 use Rattle.dw_forms.specs.AbbrevReading.{on_option, decl_at, placed, decls_from, decls_of, table_at}
 use Rattle.dw_forms.specs.Says.{bind_says}
 use Rattle.dw_forms.specs.Readers.{IsReader, read_is, not_both, reader_begins, reader_none, reader_fails}
@@ -21,9 +22,7 @@ use Rattle.dw_forms.proofs.AttributesLaws.{uleb_some}
 use Rattle.dw_forms.proofs.DeclLaws.{code_of_decl, NextDecl, decl_says, end_again, next_again}
 
 pub decl_some : (text : List ℕ) (d : Declaration) → SpellsDecl text d → 0 < length text
-decl_some text d p =
-    let n = uleb_some p.is_pair.first d.code p.is_pair.is_first in
-    omega (arith, ap length p.parts, length-append p.pair (children_byte d.has_children ∷ p.attributes), ap length p.is_pair.parts, length-append p.is_pair.first p.is_pair.second)
+decl_some text d p = search (rules, uleb_some, length-append)
 
 none_allowed : AreDeclarations []
 none_allowed = record { each = All-nil IsDeclaration; distinct = λ i j d lt long. absurd (omega arith) }

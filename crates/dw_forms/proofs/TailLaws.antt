@@ -1,4 +1,5 @@
 -- A declaration and the table after it: they are a table where no code occurs twice, and no other table begins there.
+use Rattle.std.proofs.Common.{rules}
 use Rattle.std.proofs.Common.{◌≡◌, ◌≤◌, ℕ, suc, ◌+◌, ◌-◌, ◌<◌, List, [], ◌∷◌, ◌++◌, length, take, drop, Option, Some, None, Result, Ok, Err, refl, sym, ap, subst, ◌∙◌, append_assoc, arith}
 use Rattle.std.proofs.lemmas.List.{length-append, length-take, length-drop, take-append-drop}
 use Rattle.std.proofs.lemmas.List.Elements.{All-cons}
@@ -11,7 +12,7 @@ use Rattle.dw_forms.specs.declared.fault.Stop.TheVariants as stops
 use Rattle.dw_forms.specs.AbbrevFaults.{fault_at}
 use Rattle.dw_forms.specs.Front.{Takes}
 use Rattle.dw_forms.specs.Abbrev.{Declaration, SpellsTable, IsDeclaration, AreDeclarations, DeclFails, Decls, TableFails}
-use Rattle.dw_forms.specs.AbbrevReading.{decl_at, decls_of, decls_from, table_at}
+use Rattle.dw_forms.specs.AbbrevReading.{decl_at, decls_from, table_at}
 use Rattle.dw_forms.specs.Readers.{read_is, not_both}
 use Rattle.dw_forms.specs.declared.attribute_lists.Node.{Node}
 use Rattle.dw_forms.specs.AttributeLists.{HasList}
@@ -35,9 +36,7 @@ taken bytes o rest e = MatchResult-at_ok (λ (x : Option Declaration × List ℕ
 module _ (section : List ℕ) where
   -- what is spelled at an offset is the table there
   table_spelled : (offset : ℕ) (text rest : List ℕ) (ds : List Declaration) → drop offset section ≡ text ++ rest → Decls text ds → table_at section offset ≡ Ok ds
-  table_spelled offset text rest ds parts s =
-      let read : decls_of (length section) (drop offset section) ≡ Ok (ds, rest) = ap (decls_of (length section)) parts ∙ decls_again (length section) text rest ds s in
-      rw read refl
+  table_spelled offset text rest ds parts s = search (rules, decls_again)
 
   -- a declaration with a new code and the table after it are a table
   pub table_more : (offset next : ℕ) (d : Declaration) (ds : List Declaration) → decl_at [] (drop offset section) ≡ Ok (Some d, drop next section) → table_at section next ≡ Ok ds
@@ -190,10 +189,7 @@ pub table_allowed : (section : List ℕ) (offset : ℕ) (ds : List Declaration) 
 table_allowed section offset ds is = let (len, b) = table_found section offset ds is in b.spelled.allowed
 
 pub table_fewer : (section : List ℕ) (offset : ℕ) (ds : List Declaration) → table_at section offset ≡ Ok ds → length ds < length section
-table_fewer section offset ds is =
-    let (len, b) = table_found section offset ds is in
-    let n = ds_fewer ds (take len (drop offset section)) b.spelled.spelled in
-    omega (arith, length-take len (drop offset section), length-drop offset section)
+table_fewer section offset ds is = search (rules, table_found, ds_fewer, length-take, length-drop)
 
 -- the fault that plain reading gives is the table's
 pub broken_by : (section : List ℕ) (offset : ℕ) (fault : Stop AbbrevFault) → offset ≤ length section → FailsOrMemory fault (table_at section offset) → IfFault (TableFails section offset) fault

@@ -1,5 +1,6 @@
 -- Where the first step in the list of a number goes to, and what comes before that attribute.
-use Rattle.std.proofs.Common.{◌≡◌, ℕ, zero, suc, ◌+◌, ◌<◌, ◌≤◌, ◌⊎◌, Bool, true, false, not, List, [], ◌∷◌, length, refl, sym, ap, subst, ◌∙◌, inl, inr, arith}
+use Rattle.std.proofs.Common.{rules}
+use Rattle.std.proofs.Common.{◌≡◌, ℕ, zero, suc, ◌+◌, ◌<◌, ◌≤◌, ◌⊎◌, Bool, true, false, not, List, ◌∷◌, length, refl, sym, ap, subst, ◌∙◌, inl, inr, arith}
 use Rattle.std.specs.Prelude.{◌==◌, ◌&&◌}
 use Rattle.std.specs.List.{list_any}
 use Rattle.std.proofs.lemmas.Bool.{ne_eqb, or_parts}
@@ -7,7 +8,7 @@ use Rattle.std.proofs.lemmas.List.Sums.{sum_by-cons}
 use Rattle.dw_forms.specs.declared.decl.AttributeSpec.{AttributeSpec}
 use Rattle.dw_forms.specs.declared.attribute_lists.Node.{Node}
 use Rattle.dw_forms.specs.declared.attribute_lists.Step.{Step}
-use Rattle.dw_forms.specs.AttributeLists.{spec_of, specs_of, numbered_in, varies, IsKnown, AreKnown, EndsWith}
+use Rattle.dw_forms.specs.AttributeLists.{spec_of, numbered_in, varies, IsKnown, AreKnown, EndsWith}
 use Rattle.dw_forms.specs.Chains.{Numbered, items_of}
 use Rattle.dw_forms.specs.Plans.{does_vary, known_size, known_sum}
 use Rattle.dw_forms.specs.Walks.{does_lead, stops_at, step_in, skip_in, IsStep}
@@ -56,20 +57,7 @@ pub record Walks (nodes : List Node) (number found : ℕ) : Type 0 where
 module _ (nodes : List Node) (known : AreKnown nodes) where
   walks_here : (number : ℕ) (n : Node) (b : Bool) → 0 < number → IsKnown nodes number n → stops_at (step_in (numbered_in nodes n.next)) (spec_of n) ≡ b
       → Walks nodes n.next (step_in (numbered_in nodes n.next)) → Walks nodes number (step_in (numbered_in nodes number))
-  walks_here number n true some is stops rest =
-      let first : Numbered AttributeSpec = record { number = number; item = spec_of n } in
-      let found : step_in (numbered_in nodes number) ≡ number = ap step_in is.begins ∙ stops_first first (numbered_in nodes n.next) stops in
-      rw found (record {
-        within = omega arith;
-        none = λ e. absurd (omega (arith, e, some));
-        goes = λ other. record {
-          before = [];
-          goes = refl;
-          none_leads = refl;
-          none_varies = refl;
-          skips = λ size. ap (skip_in size) is.begins ∙ skips_none size first (numbered_in nodes n.next) stops;
-        };
-      })
+  walks_here number n true some is stops rest = search (rules, stops_first, skips_none)
   walks_here number n false some is stops rest =
       let first : Numbered AttributeSpec = record { number = number; item = spec_of n } in
       let found : step_in (numbered_in nodes number) ≡ step_in (numbered_in nodes n.next) = ap step_in is.begins ∙ stops_later first (numbered_in nodes n.next) stops in
@@ -95,14 +83,7 @@ module _ (nodes : List Node) (known : AreKnown nodes) where
 
   walks_to : (bound number : ℕ) → number ≤ bound → number ≤ length nodes → Walks nodes number (step_in (numbered_in nodes number))
   unfolding step_in
-  walks_to bound zero le within =
-      let empty : numbered_in nodes 0 ≡ [] = chain_none (specs_of nodes) in
-      let none : step_in (numbered_in nodes 0) ≡ 0 = ap step_in empty in
-      rw none (record {
-        within = omega arith;
-        none = λ e. ap (λ (list : List (Numbered AttributeSpec)). list_any does_lead (items_of list)) empty;
-        goes = λ other. absurd (other refl);
-      })
+  walks_to bound zero le within = search (rules, chain_none)
   walks_to zero (suc k) le within = absurd (omega (arith, le))
   walks_to (suc bound) (suc k) le within =
       let (n, is) = known_at nodes known (suc k) (omega arith) within in

@@ -1,5 +1,5 @@
 -- Chapter: an abbreviation table read from left to right, or the first fault.
-use Rattle.std.specs.Prelude.{◌≡◌, ℕ, zero, suc, List, [], ◌∷◌, ◌++◌, length, drop, Option, Some, None, Bool, true}
+use Rattle.std.specs.Prelude.{ℕ, zero, suc, List, [], ◌∷◌, ◌++◌, length, drop, Option, Some, None, Bool, true}
 use Rattle.std.specs.Prelude.{false, Result, Ok, Err, ◌==◌, nat_lt, ◌-◌, ◌&&◌, ◌||◌, if◌then◌else◌, ℤ}
 use Rattle.std.specs.List.{list_any}
 use Rattle.dw_forms.specs.Steps.{◌>>=◌}

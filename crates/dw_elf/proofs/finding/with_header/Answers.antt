@@ -1,10 +1,9 @@
+use Rattle.std.proofs.Common.{rules}
 use Rattle.dw_elf.proofs.SlotLemmas.{slots_after_other, slots_after_put}
 use Rattle.dw_elf.proofs.finding.with_header.Goals as goal
 
 pub returns-in-Ok-Some-clause-found : goal.returns-in-Ok-Some-clause-found
-returns-in-Ok-Some-clause-found c =
-    let said = rw c.in-Ok-Some.field-0-is at c.in-Ok-Some.ensures in
-    slots_after_put _ c.args.k c.args.found _ c.in-Ok-Some.section _ c.requires.so_far c.requires.header.0 said.named said.first said.bytes said.small c.put.ensures.at c.put.ensures.others
+returns-in-Ok-Some-clause-found c = search (rules, slots_after_put)
 
 pub returns-in-Ok-None-clause-found : goal.returns-in-Ok-None-clause-found
 returns-in-Ok-None-clause-found c =

@@ -7,14 +7,7 @@ use Rattle.dw_forms.proofs.StartLaws.{popped, turn_long, stay_same, stay_on, sta
 use Rattle.dw_forms.proofs.abbrev_tables.keep.Goals as goal
 
 pub loop-start-init : goal.loop-start-init
-loop-start-init c = record {
-  coded = c.requires.coded;
-  within = c.requires.within;
-  starts = c.requires.starts;
-  stay = stay_same _;
-  new = c.requires.new;
-  leads = (c.args.front.end, c.requires.front, goes_on c.args.lists.now.nodes.items c.args.section.now c.args.kept.now.items c.args.starts.now.starts.items c.args.front.end c.args.front.rest c.requires.starts c.requires.goes_on);
-}
+loop-start-init c = search (rules, stay_same, goes_on)
 
 pub push-requires-clause-few : goal.push-requires-clause-few
 push-requires-clause-few c =
@@ -24,15 +17,10 @@ push-requires-clause-few c =
     omega (arith, are.long, few, long, c.requires.fits)
 
 pub push-requires-clause-rest : goal.push-requires-clause-rest
-push-requires-clause-rest c =
-    let within = c.loop-start.invariant.leads.2.within in
-    let long = tables_long c.args.lists.now.nodes.items c.loop-start.kept.items in
-    omega (arith, within, long)
+push-requires-clause-rest c = search (rules, tables_long)
 
 pub returns-in_default-2-clause-starts : goal.returns-in_default-2-clause-starts
-returns-in_default-2-clause-starts c =
-    let added = rw c.in_default-2.is at c.in_ok-longer.ensures.added in
-    rw added.1 c.loop-start.invariant.starts
+returns-in_default-2-clause-starts c = search (rules)
 
 pub returns-in_default-2-clause-whole : goal.returns-in_default-2-clause-whole
 returns-in_default-2-clause-whole c =

@@ -1,3 +1,4 @@
+use Rattle.std.proofs.Common.{rules}
 use Rattle.std.proofs.Common.{List, ℕ, sym, ap, subst, ◌∙◌}
 use Rattle.std.proofs.lemmas.Result.{err_from_is_err_and}
 use Rattle.dw_forms.specs.AbbrevReading.{unsigned_at}
@@ -13,9 +14,7 @@ returns-in_err-code-clause-fault c =
     rw (p.1, p.2) (code_breaks c.args.section.now c.args.offset c.in_err-code.field-0.0 fails)
 
 pub returns-then-code-eq0-clause-exact : goal.returns-then-code-eq0-clause-exact
-returns-then-code-eq0-clause-exact c =
-    let code = sym (ap unsigned_at (bytes_from c.args.section.now c.args.offset)) ∙ c.in_ok-code.ensures.exact in
-    next_none c.args.section.now c.args.offset c.in_ok-code.code c.in_ok-code.rest.now code c.if-code-eq0.true
+returns-then-code-eq0-clause-exact c = search (rules, bytes_from, next_none)
 
 pub returns-in-Err-clause-fault : goal.returns-in-Err-clause-fault
 returns-in-Err-clause-fault c =

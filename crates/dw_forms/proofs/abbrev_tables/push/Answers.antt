@@ -1,4 +1,5 @@
-use Rattle.std.proofs.Common.{◌≡◌, suc, length, refl, sym, ap, ◌∙◌, arith}
+use Rattle.std.proofs.Common.{rules}
+use Rattle.std.proofs.Common.{◌≡◌, suc, length, sym, ap, ◌∙◌, arith}
 use Rattle.std.proofs.lemmas.List.Elements.{All-push}
 use Rattle.dw_forms.specs.declared.decl.KeptDecl.{KeptDecl}
 use Rattle.dw_forms.specs.AttributeLists.{HasList}
@@ -7,12 +8,7 @@ use Rattle.dw_forms.proofs.KeptLaws.{code_is, links_long, none_code, some_code, 
 use Rattle.dw_forms.proofs.abbrev_tables.push.Goals as goal
 
 pub returns-then-find-ne0-clause-added : goal.returns-then-find-ne0-clause-added
-returns-then-find-ne0-clause-added c =
-    let nodes = c.args.lists.now.nodes.items in
-    let kept = c.args.kept.now.items in
-    let same = code_is c.args.codes.now.links.items nodes kept c.args.rest c.args.decl.code c.requires.coded in
-    let some = c.if-find-ne0.true in
-    (some_code nodes kept c.args.rest c.args.decl.code (omega (arith, some, c.find.ensures, same)), refl)
+returns-then-find-ne0-clause-added c = search (rules, code_is, some_code)
 
 pub returns-clause-added : goal.returns-clause-added
 returns-clause-added c =

@@ -1,4 +1,5 @@
-use Rattle.std.proofs.Common.{refl, inl, inr, arith}
+use Rattle.std.proofs.Common.{rules}
+use Rattle.std.proofs.Common.{refl, arith}
 use Rattle.dw_forms.proofs.ListStarts.{nodes_stay, nodes_on}
 use Rattle.dw_forms.proofs.TailLaws.{table_end, behind_push, behind_stays, front_fails}
 use Rattle.dw_forms.proofs.StartLaws.{new_decl}
@@ -8,18 +9,14 @@ pub loop-decls-init : goal.loop-decls-init
 loop-decls-init c = record { from = omega arith; within = c.requires.offset; lists = c.requires.lists; stay = nodes_stay _; behind = rw c.new-decls.ensures.items refl; new = rw c.new-decls.ensures.items tt }
 
 pub returns-then-rest-ne0-clause-goes_on : goal.returns-then-rest-ne0-clause-goes_on
-returns-then-rest-ne0-clause-goes_on c =
-    let some = c.if-rest-ne0.true in
-    inl (omega (arith, some), c.find-rest.ensures.begins (omega (arith, some)))
+returns-then-rest-ne0-clause-goes_on c = search (rules)
 
 pub returns-in-Err-clause-fault : goal.returns-in-Err-clause-fault
 returns-in-Err-clause-fault c =
     front_fails c.args.section.now c.loop-decls.lists.lists.nodes.items c.in-Err.error c.loop-decls.decls.items c.args.offset c.loop-decls.end c.loop-decls.invariant.behind c.in-Err.ensures.fault
 
 pub returns-in_default-clause-goes_on : goal.returns-in_default-clause-goes_on
-returns-in_default-clause-goes_on c =
-    let none = c.if-rest-ne0.false in
-    inr (omega (arith, none), table_end c.args.section.now c.loop-decls.end _ (rw c.in_default.is at c.in-Ok.ensures.exact))
+returns-in_default-clause-goes_on c = search (rules, table_end)
 
 pub returns-in_default-clause-front : goal.returns-in_default-clause-front
 returns-in_default-clause-front c = behind_stays c.args.section.now _ _ c.loop-decls.decls.items c.args.offset c.loop-decls.end c.in-Ok.ensures.stay c.loop-decls.invariant.behind

@@ -1,3 +1,4 @@
+use Rattle.std.proofs.Common.{rules}
 use Rattle.std.proofs.Common.{get_or, sym, ◌∙◌, arith}
 use Rattle.dw_forms.proofs.SpellingSteps.{shifted, next_small, bits_70, step_end, step_on, step_bad, step_cut}
 use Rattle.dw_forms.proofs.leb.read_spelling.Goals as goal
@@ -11,10 +12,7 @@ overflow_add-sum c =
     omega arith
 
 pub returns-then-byte-lt128-clause-exact : goal.returns-then-byte-lt128-clause-exact
-returns-then-byte-lt128-clause-exact c =
-    let byte = get_or c.args.bytes.now c.loop-place.place 0 in
-    rw (shifted byte c.loop-place.place c.from.result c.from.ensures c.loop-place.invariant.short)
-    (sym (step_end c.args.bytes.now c.loop-place.place c.loop-place.sum c.loop-place-test.true c.if-byte-lt128.true) ∙ c.loop-place.invariant.same)
+returns-then-byte-lt128-clause-exact c = search (rules, shifted, step_end)
 
 pub returns-then-byte-lt128-clause-bits : goal.returns-then-byte-lt128-clause-bits
 returns-then-byte-lt128-clause-bits c =
@@ -27,14 +25,7 @@ returns-then-place-eq9-clause-exact c =
     sym (step_bad c.args.bytes.now c.loop-place.place c.loop-place.sum c.loop-place-test.true (omega arith) (omega arith)) ∙ c.loop-place.invariant.same
 
 pub loop-place-preserved : goal.loop-place-preserved
-loop-place-preserved c =
-    let byte = get_or c.args.bytes.now c.loop-place.place 0 in
-    rw (shifted byte c.loop-place.place c.from.result c.from.ensures c.loop-place.invariant.short)
-    record {
-      short = omega arith;
-      small = next_small byte c.loop-place.place c.loop-place.sum c.loop-place.invariant.small;
-      same = sym (step_on c.args.bytes.now c.loop-place.place c.loop-place.sum c.loop-place-test.true (omega arith) (omega arith)) ∙ c.loop-place.invariant.same;
-    }
+loop-place-preserved c = search (rules, shifted, next_small, step_on)
 
 pub returns-clause-exact : goal.returns-clause-exact
 returns-clause-exact c = sym (step_cut c.args.bytes.now c.loop-place.place c.loop-place.sum (omega arith)) ∙ c.loop-place.invariant.same

@@ -1,4 +1,4 @@
-use Rattle.std.proofs.Common.{length, rules, arith}
+use Rattle.std.proofs.Common.{rules, arith}
 use Rattle.dw_forms.proofs.ListStarts.{nodes_stay, nodes_on, pair_before, code_before, no_list, next_leads, next_new, next_placed, next_stay}
 use Rattle.dw_forms.proofs.OffsetLaws.{apart_few}
 use Rattle.dw_forms.proofs.list_reader.keep_pairs.Goals as goal
@@ -10,10 +10,7 @@ pub push-requires-clause-rest : goal.push-requires-clause-rest
 push-requires-clause-rest c = c.loop-at.invariant.leads.2.within
 
 pub push-requires-clause-few : goal.push-requires-clause-few
-push-requires-clause-few c =
-    let placed = c.loop-at.invariant.placed in
-    let few = apart_few (length c.args.section.now) c.loop-at.starts.starts.items placed.apart in
-    omega (arith, placed.starts_long, few, c.requires.fits)
+push-requires-clause-few c = search (rules, apart_few)
 
 pub push-requires-clause-code : goal.push-requires-clause-code
 push-requires-clause-code c =

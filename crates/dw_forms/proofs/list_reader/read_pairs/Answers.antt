@@ -1,3 +1,4 @@
+use Rattle.std.proofs.Common.{rules}
 use Rattle.std.proofs.Common.{refl, arith}
 use Rattle.dw_forms.proofs.ListStarts.{after_push, end_list, kept_list, new_pair, pairs_break}
 use Rattle.dw_forms.proofs.list_reader.read_pairs.Goals as goal
@@ -18,9 +19,7 @@ pub returns-in-Err-clause-fault : goal.returns-in-Err-clause-fault
 returns-in-Err-clause-fault c = pairs_break c.args.section.now c.loop-end.pairs.items c.args.offset c.loop-end.at c.loop-end.invariant.after c.in-Err.error c.in-Err.ensures.exact
 
 pub returns-in_default-clause-leads : goal.returns-in_default-clause-leads
-returns-in_default-clause-leads c =
-    let at = c.loop-end.at in
-    (at, c.loop-end.invariant.after, end_list c.args.section.now c.args.lists.now.nodes.items at c.in-Ok.found.1 (rw c.in_default.is at c.in-Ok.ensures.exact) c.in-Ok.ensures.rises c.in-Ok.ensures.within)
+returns-in_default-clause-leads c = search (rules, end_list)
 
 pub loop-end-preserved : goal.loop-end-preserved
 loop-end-preserved c =

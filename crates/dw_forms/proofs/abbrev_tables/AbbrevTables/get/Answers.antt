@@ -1,3 +1,4 @@
+use Rattle.std.proofs.Common.{rules}
 use Rattle.std.proofs.Common.{◌-◌, ◌<◌, Some, length, ◌∙◌, sym, ap, subst, arith}
 use Rattle.dw_forms.specs.declared.decl.KeptDecl.{KeptDecl}
 use Rattle.dw_forms.specs.AttributeLists.{HasList}
@@ -8,10 +9,7 @@ use Rattle.dw_forms.proofs.KeptLaws.{code_is, links_long, own_numbers, numbers_f
 use Rattle.dw_forms.proofs.abbrev_tables.AbbrevTables.get.Goals as goal
 
 pub find-number-requires : goal.find-number-requires
-find-number-requires c =
-    let a = c.args.self.now in
-    let within = c.requires.table in
-    omega (arith, within, tables_long a.lists.lists.nodes.items a.kept.items, links_long a.codes.links.items a.kept.items c.requires.searchable.coded)
+find-number-requires c = search (rules, tables_long, links_long)
 
 pub returns-then-number-eq0-clause-decl : goal.returns-then-number-eq0-clause-decl
 returns-then-number-eq0-clause-decl c =
@@ -21,11 +19,7 @@ returns-then-number-eq0-clause-decl c =
     ap (decl_of nodes a.kept.items) (sym c.if-number-eq0.true ∙ c.find-number.ensures ∙ same) ∙ numbers_find nodes a.kept.items _ c.args.code (own_numbers nodes a.kept.items c.args.table)
 
 pub index-kept-requires : goal.index-kept-requires
-index-kept-requires c =
-    let a = c.args.self.now in
-    let within = number_within a.codes.links.items c.args.table c.args.code in
-    let some = c.if-number-eq0.false in
-    omega (arith, c.find-number.ensures, within, some, links_long a.codes.links.items a.kept.items c.requires.searchable.coded)
+index-kept-requires c = search (rules, number_within, links_long)
 
 pub returns-clause-decl : goal.returns-clause-decl
 returns-clause-decl c =
@@ -49,6 +43,4 @@ new-requires c =
     subst (λ (k : KeptDecl). HasList nodes k.first k.step) (sym c.index-kept.ensures) (c.requires.searchable.within (c.find-number.result - 1) c.index-kept.result.now less)
 
 pub returns-clause-number : goal.returns-clause-number
-returns-clause-number c =
-    let a = c.args.self.now in
-    c.find-number.ensures ∙ code_is a.codes.links.items a.lists.lists.nodes.items a.kept.items c.args.table c.args.code c.requires.searchable.coded
+returns-clause-number c = search (rules, code_is)

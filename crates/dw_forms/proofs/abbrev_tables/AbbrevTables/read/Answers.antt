@@ -1,6 +1,7 @@
-use Rattle.std.proofs.Common.{ℕ, List, sym, subst}
+use Rattle.std.proofs.Common.{rules}
+use Rattle.std.proofs.Common.{subst}
 use Rattle.dw_forms.specs.KeptDecls.{Tables, tables_of}
-use Rattle.dw_forms.specs.TableStarts.{AreStarts, Stay}
+use Rattle.dw_forms.specs.TableStarts.{Stay}
 use Rattle.dw_forms.proofs.KeptLaws.{within_stays, tables_same}
 use Rattle.dw_forms.proofs.StartLaws.{allowed_in, fewer_in}
 use Rattle.dw_forms.proofs.abbrev_tables.AbbrevTables.read.Goals as goal
@@ -12,11 +13,7 @@ keep-requires-clause-within c =
     within_stays a.lists.lists.nodes.items c.read_front.new.lists.lists.nodes.items a.kept.items c.in-Ok.ensures.stay c.requires.tables.searchable.within
 
 pub keep-requires-clause-starts : goal.keep-requires-clause-starts
-keep-requires-clause-starts c =
-    let a = c.args.self.now in
-    let same = tables_same a.lists.lists.nodes.items c.read_front.new.lists.lists.nodes.items a.kept.items c.in-Ok.ensures.stay c.requires.tables.searchable.within in
-    subst (λ (starts : List ℕ). AreStarts c.args.section.now (tables_of c.read_front.new.lists.lists.nodes.items a.kept.items) starts) (sym c.enter_from.ensures.same)
-    (subst (λ (tables : Tables). AreStarts c.args.section.now tables a.starts.starts.items) (sym same) c.requires.tables.starts)
+keep-requires-clause-starts c = search (rules, tables_same)
 
 pub returns-in-Some-clause-stay : goal.returns-in-Some-clause-stay
 returns-in-Some-clause-stay c =

@@ -26,19 +26,4 @@ invariant_of-self-in-Ok c =
     }
 
 pub returns-in-Ok : goal.returns-in-Ok
-returns-in-Ok c =
-    let a = c.args.self.now in
-    let n = c.node_before-node.result in
-    let made = c.node_before-node.ensures in
-    record {
-      added = (
-        sym c.has.ensures ∙ c.if-has.false,
-        c.in-Ok.ensures.added.0 ∙ ap suc (links_long a.codes.links.items a.nodes.items a.coded),
-        record {
-          node = n;
-          spec_is = made.spec;
-          next_is = made.next;
-          nodes = c.push_reserved.ensures.items ∙ ap (λ (xs : List Node). xs ++ n ∷ []) c.reserve.ensures.items;
-        },
-      );
-    }
+returns-in-Ok c = search (rules, links_long)

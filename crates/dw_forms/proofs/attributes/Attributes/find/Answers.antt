@@ -7,10 +7,7 @@ pub search-found-requires : goal.search-found-requires
 search-found-requires c = first_within c.args.self.now c.args.attribute
 
 pub new-requires : goal.new-requires
-new-requires c =
-    let a = c.args.self.now in
-    let code : c.from.result ≡ c.args.attribute = search rules in
-    found_within a c.args.attribute c.search-found.result (c.search-found.ensures ∙ ap (number_in (codes_in a.lists.now.codes.links.items a.first)) code)
+new-requires c = search (rules, found_within)
 
 pub returns : goal.returns
 returns c =

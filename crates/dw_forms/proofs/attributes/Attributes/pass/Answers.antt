@@ -1,3 +1,4 @@
+use Rattle.std.proofs.Common.{rules}
 use Rattle.std.proofs.Common.{◌≡◌, ◌-◌, ◌∙◌, ℕ, sym, ap, arith}
 use Rattle.std.proofs.lemmas.Result.{err_from_is_err_and}
 use Rattle.dw_forms.specs.AttributeLists.{known_of}
@@ -7,9 +8,7 @@ use Rattle.dw_forms.proofs.SuffixLaws.{sum_there, within_there}
 use Rattle.dw_forms.proofs.attributes.Attributes.pass.Goals as goal
 
 pub loop-at-init : goal.loop-at-init
-loop-at-init c =
-    let a = c.args.self.now in
-    passes_first a.lists.now.nodes.items c.args.version c.args.address_size a.first c.args.to.first c.args.bytes.now c.requires.ends.0 c.requires.ends.1.parts a.within
+loop-at-init c = search (rules, passes_first)
 
 pub overflow_sub-at : goal.overflow_sub-at
 overflow_sub-at c =
@@ -22,15 +21,7 @@ overflow_sub-at c =
     omega (arith, above)
 
 pub index-here-requires : goal.index-here-requires
-index-here-requires c =
-    let a = c.args.self.now in
-    let l = c.loop-at in
-    let nodes = a.lists.now.nodes.items in
-    let ends = c.requires.ends.1 in
-    let to_within = within_there a c.args.to c.requires.ends.0 ends in
-    let above = passes_above nodes a.lists.now.known c.args.version c.args.address_size a.first c.args.to.first c.args.bytes.now l.at l.rest.now l.invariant to_within c.loop-at-test.true in
-    let within = l.invariant.within in
-    omega (arith, above, within)
+index-here-requires c = search (rules, within_there, passes_above)
 
 pub overflow_sub-known : goal.overflow_sub-known
 overflow_sub-known c =

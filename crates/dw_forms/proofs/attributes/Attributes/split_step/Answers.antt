@@ -1,25 +1,14 @@
-use Rattle.std.proofs.Common.{[], ◌∷◌, ap, sym, subst, arith}
-use Rattle.dw_forms.specs.declared.decl.AttributeSpec.{AttributeSpec}
-use Rattle.dw_forms.specs.AttributeLists.{numbered_in}
+use Rattle.std.proofs.Common.{rules}
+use Rattle.std.proofs.Common.{ap}
 use Rattle.dw_forms.specs.Chains.{items_of}
-use Rattle.dw_forms.specs.Suffixes.{Ends}
-use Rattle.dw_forms.specs.Walks.{IsStep}
 use Rattle.dw_forms.proofs.SuffixLaws.{first_ends}
 use Rattle.dw_forms.proofs.attributes.Attributes.split_step.Goals as goal
 
 pub new-rest-requires : goal.new-rest-requires
-new-rest-requires c =
-    let less = c.in-Some.ensures.known.next in
-    let within = c.args.self.now.within in
-    omega (arith, less, within)
+new-rest-requires c = search (rules)
 
 pub returns-in-Some : goal.returns-in-Some
-returns-in-Some c =
-    let a = c.args.self.now in
-    let rest = c.new-rest.result in (
-      subst (λ (spec : AttributeSpec). Ends a rest (record { number = a.first; item = spec } ∷ [])) (sym c.spec.ensures) (first_ends a rest c.in-Some.node.now c.in-Some.ensures.known c.new-rest.ensures.lists c.new-rest.ensures.first),
-      subst (λ list. IsStep list c.in-Some.node.now.after) (sym (λ i. numbered_in (c.new-rest.ensures.lists i) (c.new-rest.ensures.first i))) c.in-Some.ensures.known.after,
-    )
+returns-in-Some c = search (rules, first_ends)
 
 pub returns-in-None : goal.returns-in-None
 returns-in-None c = ap items_of c.in-None.ensures.none

@@ -1,4 +1,4 @@
-use Rattle.std.proofs.Common.{rules, ◌≡◌, length, arith}
+use Rattle.std.proofs.Common.{rules, ◌≡◌, length}
 use Rattle.dw_forms.proofs.CodeLaws.{found_more, found_either, codes_more}
 use Rattle.dw_forms.proofs.chains.Chains.push.Goals as goal
 
@@ -16,7 +16,4 @@ invariant_of-self-2 c =
     }
 
 pub returns-clause-added : goal.returns-clause-added
-returns-clause-added c =
-    let links = c.args.self.now.links.items in
-    let long = c.len.ensures in
-    (omega (arith, long), rw c.in_ok-push.ensures.items (codes_more links _))
+returns-clause-added c = search (rules, codes_more)

@@ -1,4 +1,4 @@
-use Rattle.std.proofs.Common.{[], length, refl, arith}
+use Rattle.std.proofs.Common.{length, refl, arith}
 use Rattle.dw_forms.proofs.OffsetLaws.{apart_none}
 use Rattle.dw_forms.proofs.list_reader.KeptLists.new.Goals as goal
 
