@@ -1,5 +1,6 @@
 -- Which rules a group of failures has, and that one of them is named at a place.
-use Rattle.std.proofs.Common.{◌≡◌, ℕ, true, List, Option, Some, None, refl, sym, ap, ◌∙◌, arith, subst, inl, inr, ◌+◌, ◌<◌, ◌≤◌, ◌==◌, if◌then◌else◌}
+use Rattle.std.proofs.Common.{rules}
+use Rattle.std.proofs.Common.{◌≡◌, ℕ, true, List, Option, Some, None, refl, sym, ap, ◌∙◌, arith, inl, inr, ◌+◌, ◌<◌, ◌≤◌, ◌==◌, if◌then◌else◌}
 use Rattle.dw_elf.specs.declared.sections.Sections.{Sections}
 use Rattle.dw_forms.specs.Value.{Datum, str, line_str, str_index, sec_offset, addr_index}
 use Rattle.dw_entries.specs.declared.header.UnitHeader.{UnitHeader}
@@ -7,22 +8,19 @@ use Rattle.dw_entries.specs.declared.fault.Rule.{Rule}
 use Rattle.dw_entries.specs.declared.fault.Rule.TheVariants.{BadStrBase, StrIndex, StringEnd, BadAddrBase, AddrIndex, NoEntry, WrongKind, NotNextSibling, NoSignature, MissingType, BadCount, NoSize, SizeTooGreat, MemberOutside, EnumSize}
 use Rattle.dw_entries.specs.declared.lookup.EntryHead.{EntryHead}
 use Rattle.dw_entries.specs.Units.{DebugUnit, AreUnits}
-use Rattle.dw_entries.specs.Entries.{Entry, entries_of, PlacedUnit, placed}
-use Rattle.dw_entries.specs.Lookups.{entry_head}
+use Rattle.dw_entries.specs.Entries.{Entry, entries_of, PlacedUnit}
 use Rattle.dw_entries.specs.Places.{at_header, at_attribute}
 use Rattle.dw_entries.specs.Rules.{group_of}
 use Rattle.dw_entries.specs.Failures.{Failure, HasNone}
 use Rattle.dw_entries.proofs.EntryFacts.{entries_rise}
 use Rattle.dw_links.specs.Strings.{OffsetFails, StringIndexFails, AddressIndexFails, BaseFails, StringFailsIn}
 use Rattle.dw_links.specs.References.{ReferenceFailsBy, HeaderFails}
-use Rattle.dw_links.specs.Signatures.{type_in}
 use Rattle.dw_types.specs.declared.kind.Role.{Role}
 use Rattle.dw_types.specs.Entries.{entry_of, Facts}
 use Rattle.dw_types.specs.FactsOf.{facts_in}
 use Rattle.dw_types.specs.Kinds.{parent_role}
 use Rattle.dw_types.specs.Shapes.{breaks_shape}
 use Rattle.dw_types.specs.SizeTables.{Size}
-use Rattle.dw_types.specs.Sizes.{size_to}
 use Rattle.dw_types.specs.SizeFaults.{breaks_size}
 use Rattle.dw_image.specs.First.{Group, classes, strings, references, shapes, cycles, sizes, turn_of, failures_of}
 use Rattle.dw_image.proofs.RuleLaws.{one_rule}
@@ -94,21 +92,11 @@ HasGroup n Fails = (f : Failure) → Fails f → group_of f.rule ≡ n
 
 has_group : (s : Sections) (us : List DebugUnit) (group : Group) → HasGroup (turn_of group) (failures_of s us group)
 has_group s us classes f fails = ap group_of fails.fails.fails.only
-has_group s us strings f fails =
-    let w = fails.fails.fails in
-    string_group s w.unit.unit.header _ _ (entry_head fails.item) f.attribute fails.fails.value f.rule w.fails
-has_group s us references f fails =
-    elim fails [
-      | inl p ↦ header_group (entries_of us) (placed us) p.number p.item.at (type_in p.item.unit.header.kind) f.rule p.fails.fails
-      | inr p ↦ reference_group (entries_of us) (placed us) (entry_head p.item) f.attribute p.fails.value f.rule p.fails.fails.1
-    ]
+has_group s us strings f fails = search (rules, string_group)
+has_group s us references f fails = search (rules, header_group, reference_group)
 has_group s us shapes f fails = shape_group (parent_role (facts_in us) fails.number) (entry_of (facts_in us) fails.number) f.rule fails.fails.fails
 has_group s us cycles f fails = ap group_of fails.rule
-has_group s us sizes f fails =
-    let p = fails.fails in
-    let facts = facts_in us in
-    size_group (parent_role facts p.number) (entry_of facts p.number) (fails.table p.number) (size_to fails.table (entry_of facts p.number).parent) (size_to fails.table (entry_of facts p.number).type_target)
-    f.rule p.fails.fails
+has_group s us sizes f fails = search (rules, size_group)
 
 behind_first : (group : Group) → turn_of group ≡ 1 → ⊥
 behind_first classes is = omega (arith, is)
@@ -128,27 +116,14 @@ no_header at offset k same = absurd cc
 has_one_attribute : (s : Sections) (us : List DebugUnit) → AreUnits s.«abbrev».now us → (group : Group) → HasOneAttribute (failures_of s us group)
 has_one_attribute s us are classes f g p q here = one_attribute (entries_of us) _ (entries_rise s.«abbrev».now us are) f g p q here
 has_one_attribute s us are strings f g p q here = one_attribute (entries_of us) _ (entries_rise s.«abbrev».now us are) f g p q here
-has_one_attribute s us are references f g p q here =
-    elim p [
-      | inl a ↦ elim q [
-        | inl b ↦ a.fails.attribute ∙ sym b.fails.attribute
-        | inr b ↦ absurd (no_header a.item.at b.item.at b.fails.position (sym a.fails.stands ∙ here ∙ b.fails.place))
-      ]
-      | inr a ↦ elim q [
-        | inl b ↦ absurd (no_header b.item.at a.item.at a.fails.position (sym b.fails.stands ∙ sym here ∙ a.fails.place))
-        | inr b ↦ one_attribute (entries_of us) _ (entries_rise s.«abbrev».now us are) f g a b here
-      ]
-    ]
+has_one_attribute s us are references f g p q here = search (rules, no_header, one_attribute, entries_rise)
 has_one_attribute s us are shapes f g p q here = p.fails.attribute ∙ sym q.fails.attribute
 has_one_attribute s us are cycles f g p q here = p.attribute ∙ sym q.attribute
 has_one_attribute s us are sizes f g p q here = p.fails.fails.attribute ∙ sym q.fails.fails.attribute
 
 -- one failure of a group is named at a place
 pub one_at_place : (s : Sections) (us : List DebugUnit) → AreUnits s.«abbrev».now us → (group : Group) → AreOneAtPlace (failures_of s us group)
-one_at_place s us are group f g p q here number =
-    let first = has_group s us group f p in
-    let second = has_group s us group g q in
-    (one_rule f.rule g.rule (λ one. behind_first group (sym first ∙ one)) (first ∙ sym second) number, has_one_attribute s us are group f g p q here)
+one_at_place s us are group f g p q here number = search (rules, has_group, one_rule, behind_first, has_one_attribute)
 
 -- ---- the order of the groups
 
@@ -184,9 +159,4 @@ pub none_before : (s : Sections) (us : List DebugUnit) → HoldBefore s us 2
 none_before s us earlier less = absurd (let p = second_or_later earlier in omega (arith, p, less))
 
 pub one_more : (s : Sections) (us : List DebugUnit) (group : Group) → HoldBefore s us (turn_of group) → HasNone (failures_of s us group) → HoldBefore s us (turn_of group + 1)
-one_more s us group before here earlier less =
-    elim (three_ways (turn_of earlier) (turn_of group)) [
-      | inl (inl lt) ↦ before earlier lt
-      | inl (inr same) ↦ subst (λ g. HasNone (failures_of s us g)) (sym (one_group earlier group same)) here
-      | inr more ↦ absurd (omega (arith, less, more))
-    ]
+one_more s us group before here earlier less = search (rules, three_ways, one_group)

@@ -1,13 +1,12 @@
 -- What an image keeps: the steps by value, the sizes, and how many entries are types.
+use Rattle.std.proofs.Common.{rules}
 use Rattle.std.proofs.Common.{◌≡◌, ℕ, ◌<◌, ◌≤◌, List, length, Some, None, sym, ap, ◌∙◌, arith, ◌+◌, Bool, [], ◌∷◌, map, refl}
 use Rattle.std.specs.Prelude.{slice_get, cond}
 use Rattle.std.proofs.lemmas.Option.{slice_get-get_or, slice_get_past}
 use Rattle.std.specs.List.{count_by, fold}
-use Rattle.dw_forms.specs.Codes.{is_type_tag}
 use Rattle.dw_entries.specs.Entries.{entries_of, placed}
 use Rattle.dw_entries.specs.Units.{DebugUnit}
-use Rattle.dw_entries.specs.Scanned.{units_of}
-use Rattle.dw_types.specs.FactsOf.{facts_in, facts_at, facts_of}
+use Rattle.dw_types.specs.FactsOf.{facts_in, facts_of}
 use Rattle.dw_types.specs.Graphs.{Graph, step_at, steps_of}
 use Rattle.dw_types.specs.Steps.{by_value}
 use Rattle.dw_types.proofs.FactsLemmas.{facts-targets, length-facts_of}
@@ -16,7 +15,6 @@ use Rattle.dw_types.specs.Kinds.{type_count}
 use Rattle.dw_image.specs.declared.image.Image.{Image}
 use Rattle.dw_image.specs.Images.{units_in, entries_in}
 use Rattle.dw_image.specs.Lookups.{is_type_entry}
-use Rattle.dw_types.specs.Entries.{Facts}
 
 module _ (us : List DebugUnit) (graph : Graph) (is : graph ≡ by_value (facts_in us)) where
   -- each entry is a node
@@ -41,11 +39,7 @@ module _ (us : List DebugUnit) (graph : Graph) (is : graph ≡ by_value (facts_i
 -- each entry has a size or none
 pub size_within : (i : Image) (id : ℕ) → id < length (entries_in i) → id < length i.sizes
 unfolding units_in
-size_within i id below =
-    let us = units_of i.entries.scanned in
-    let long = i.measured.long in
-    let same = length-facts_of (entries_of us) (placed us) in
-    omega (arith, below, long, same)
+size_within i id below = search (rules, length-facts_of)
 
 module _ {X Y : Type 0} (p : Y → Bool) (q : X → Bool) (f : X → Y) (same : (x : X) → p (f x) ≡ q x) where
   count-along : (a : ℕ) (xs : List X) → fold (λ s y. s + cond (p y) 1 0) a (map f xs) ≡ fold (λ s x. s + cond (q x) 1 0) a xs
@@ -58,7 +52,4 @@ module _ {X Y : Type 0} (p : Y → Bool) (q : X → Bool) (f : X → Y) (same : 
 -- by their facts as by themselves
 pub types-counted : (us : List DebugUnit) → type_count (facts_in us) ≡ count_by is_type_entry (entries_of us)
 unfolding facts_of
-types-counted us =
-    let entries = entries_of us in
-    let units = placed us in
-    count-map (λ (facts : Facts). is_type_tag facts.tag) is_type_entry (facts_at entries units) (λ e. refl) entries
+types-counted us = search (rules, count-map)

@@ -1,6 +1,7 @@
 -- The groups of rules join: valid sections have no fault, and others have one; and the groups in their order, as they
 -- are asked.
-use Rattle.std.proofs.Common.{◌≡◌, ◌<◌, List, refl, sym, ap, ◌∙◌, subst, inl, inr, arith}
+use Rattle.std.proofs.Common.{rules}
+use Rattle.std.proofs.Common.{◌≡◌, ◌<◌, List, sym, ap, ◌∙◌, subst, inl, inr, arith}
 use Rattle.dw_elf.specs.declared.sections.Sections.{Sections}
 use Rattle.dw_entries.specs.declared.fault.Fault.{Fault}
 use Rattle.dw_entries.specs.declared.fault.Broken.{Broken}
@@ -60,15 +61,11 @@ none_named s units sizes fault none first = none_first (failures_of s units size
 -- valid sections have no fault
 pub no_fault_of : (s : Sections) (fault : Fault) → IsValid s → IsFirstFault s fault → ⊥
 no_fault_of s fault valid (in_trees fails cycle) = no_list s.«abbrev».now s.info.now valid.0 (broken_of fault) valid.1.trees fails
-no_fault_of s fault valid (in_group group fails) =
-    let same = one_list_of s valid.0 fails.units valid.1.trees fails.spelled in
-    none_named s fails.units group fault (subst (λ units. HasNone (failures_of s units group)) same (holds_of s valid.0 valid.1 group)) fails.first
+no_fault_of s fault valid (in_group group fails) = search (rules, one_list_of, none_named, holds_of)
 
 -- a group's failure is of the first group that has one
 no_earlier : (s : Sections) (group later : Group) (fault other : Fault) → FailsInGroup s group fault → FailsInGroup s later other → turn_of group < turn_of later → ⊥
-no_earlier s group later fault other p q less =
-    let same = one_list_of s p.units q.units p.spelled q.spelled in
-    none_named s q.units group fault (q.before group less) (subst (λ units. IsFirstIn s units group fault) same p.first)
+no_earlier s group later fault other p q less = search (rules, one_list_of, none_named)
 
 one_of_group : (s : Sections) (units : List DebugUnit) (group : Group) (fault other : Fault) → SpellsInfo s units
     → IsPlainFault (IsFirst (failures_of s units group)) fault → IsPlainFault (IsFirst (failures_of s units group)) other → IsOneFault fault other
@@ -87,9 +84,7 @@ one_named s units cycles fault other spelled p q = inr (record { one = ap (λ (b
 one_named s units sizes fault other spelled p q = one_of_group s units sizes fault other spelled p q
 
 one_in_group : (s : Sections) (group : Group) (fault other : Fault) → FailsInGroup s group fault → FailsInGroup s group other → IsOneFault fault other
-one_in_group s group fault other p q =
-    let same = one_list_of s p.units q.units p.spelled q.spelled in
-    one_named s q.units group fault other q.spelled (subst (λ units. IsFirstIn s units group fault) same p.first) q.first
+one_in_group s group fault other p q = search (rules, one_list_of, one_named)
 
 one_in_groups : (s : Sections) (group later : Group) (fault other : Fault) → FailsInGroup s group fault → FailsInGroup s later other → IsOneFault fault other
 one_in_groups s group later fault other p q =
@@ -120,17 +115,7 @@ spelled_of s units spells = λ id e there.
 -- the sections of an image are valid
 valid_by : (image : Image) → IsValidBy (sections_in image) (units_in image)
 unfolding sections_in units_in size_table_in
-valid_by image =
-    let m = image.measured in
-    record {
-      trees = image.entries.scanned.1.spells;
-      classes = image.classes;
-      strings = image.strings;
-      references = image.references;
-      shapes = m.shapes;
-      contained = m.contained;
-      sizes = (size_table_in image, m.sizes);
-    }
+valid_by image = search (rules)
 
 -- no rule on sizes fails by the table that an image keeps
 sizes_of : (image : Image) → HasSizes (facts_in (units_in image)) (size_table_in image)
@@ -140,29 +125,11 @@ sizes_of image = image.measured.sizes
 -- sections that are valid by these units are sound by them
 pub sound_by : (s : Sections) (units : List DebugUnit) → IsValidBy s units → IsSoundBy s units
 sound_by s units holds =
-    let valid : IsValid s = (units, holds) in
-    record {
-      trees = record {
-        spelled = holds.trees;
-        only = λ others spells. one_list_of s others units spells holds.trees;
-        entries = spelled_of s units holds.trees;
-      };
-      classes = classes_of units holds.classes;
-      texts = texts_of s units holds.strings;
-      references = references_of s units holds.trees holds.references;
-      contained = contained_of units holds.shapes holds.contained;
-      sizes = holds.sizes;
-      valid = valid;
-      faultless = λ fault first. no_fault_of s fault valid first;
-    }
+    search (rules, one_list_of, spelled_of, classes_of, texts_of, references_of, contained_of, no_fault_of)
 
 -- each image is one of its sections
 pub sound_image : (image : Image) → IsImageOf (sections_in image) image
-sound_image image = record {
-  sections = refl;
-  sound = sound_by (sections_in image) (units_in image) (valid_by image);
-  sizes = sizes_of image;
-}
+sound_image image = search (rules, sound_by, valid_by, sizes_of)
 
 -- the image of entries that were scanned in these sections
 pub image_of : (s : Sections) (image : Image) → image.entries.sections ≡ s → IsImageOf s image

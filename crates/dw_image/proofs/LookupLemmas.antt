@@ -1,7 +1,8 @@
 -- The entry that starts at an offset: offsets rise, so there is one at most; and a text is no longer than its section.
-use Rattle.std.proofs.Common.{◌≡◌, ◌≢◌, ℕ, zero, suc, ◌+◌, ◌<◌, ◌==◌, true, false, List, [], ◌∷◌, Option, Some, None, IfSome, refl, sym, ap, ◌∙◌, arith, length, ne_eqb, eq-eqb, ◌≤◌, drop, length-take, length-drop}
+use Rattle.std.proofs.Common.{rules}
+use Rattle.std.proofs.Common.{◌≡◌, ◌≢◌, ℕ, zero, suc, ◌+◌, ◌<◌, ◌==◌, false, List, [], ◌∷◌, Option, Some, None, IfSome, refl, sym, ap, ◌∙◌, arith, length, ne_eqb, eq-eqb, ◌≤◌, length-take, length-drop}
 use Rattle.std.specs.Prelude.{slice_get, All, IfNone}
-use Rattle.std.specs.List.{position_from, position_or_len}
+use Rattle.std.specs.List.{position_from}
 use Rattle.std.proofs.lemmas.List.Elements.{All-head, All-tail}
 use Rattle.dw_elf.specs.declared.sections.Sections.{Sections}
 use Rattle.dw_elf.specs.Limits.{section_limit}
@@ -17,11 +18,7 @@ use Rattle.dw_image.specs.Lookups.{entry_at}
 found_from : (es : List Entry) (offset k i : ℕ) (e : Entry) → slice_get es i ≡ Some e → e.at ≡ offset → ((j : ℕ) (d : Entry) → j < i → slice_get es j ≡ Some d → (d.at == offset) ≡ false)
     → position_from (λ d. d.at == offset) k es ≡ Some (k + i)
 found_from [] offset k i e there is before = absurd cc
-found_from (x ∷ es) offset k zero e there is before =
-    let both : Some x ≡ Some e = there in
-    let same : x ≡ e = cc in
-    let here : (x.at == offset) ≡ true = eq-eqb x.at offset (ap (λ (d : Entry). d.at) same ∙ is) in
-    rw here (ap Some (let z : k ≡ k + 0 = omega arith in z))
+found_from (x ∷ es) offset k zero e there is before = search (rules, eq-eqb)
 found_from (x ∷ es) offset k (suc i) e there is before =
     let not_here : (x.at == offset) ≡ false = before 0 x (omega arith) refl in
     rw not_here (found_from es offset (k + 1) i e there is (λ j d lt at. before (suc j) d (omega (arith, lt)) at) ∙ ap Some (let z : k + 1 + i ≡ k + suc i = omega arith in z))
@@ -55,9 +52,7 @@ entry_is es offset None rise there within gone = sym (entry_gone es offset gone)
 entry_is es offset (Some id) rise there within gone = sym (entry_found es offset id rise within there)
 
 string_short : (section : List ℕ) (offset : ℕ) → length (string_at section offset) ≤ length section
-string_short section offset =
-    let rest : List ℕ = drop offset section in
-    omega (arith, length-take (position_or_len (λ byte. byte == 0) rest) rest, length-drop offset section)
+string_short section offset = search (rules, length-take, length-drop)
 
 pub text_short : (s : Sections) (place : TextPlace) → length (text_there s place) ≤ section_limit
 text_short s (Info offset) = omega (arith, string_short s.info.now offset, s.info_fits)

@@ -1,6 +1,8 @@
 -- Cycles of steps by value, and the rules on sizes by the one table: what is made of the types of entries, and how it
 -- fails.
-use Rattle.std.proofs.Common.{◌≡◌, ℕ, ◌+◌, ◌-◌, ◌<◌, ◌≤◌, ◌⊎◌, List, [], length, refl, sym, ap, ◌∙◌, subst, arith, inl, inr, Option, Some, None}
+use Rattle.std.proofs.lemmas.Grind.{common_steps}
+use Rattle.std.proofs.Common.{rules}
+use Rattle.std.proofs.Common.{◌≡◌, ℕ, ◌+◌, ◌-◌, ◌<◌, ◌⊎◌, List, length, refl, sym, ap, ◌∙◌, subst, arith, inl, inr, Option, Some, None}
 use Rattle.std.specs.Prelude.{slice_index, slice_get, IfSome}
 use Rattle.std.proofs.lemmas.List.{get_or_past}
 use Rattle.std.proofs.lemmas.Option.{slice_get_within}
@@ -15,7 +17,7 @@ use Rattle.dw_entries.specs.declared.fault.Broken.{Broken}
 use Rattle.dw_entries.specs.declared.fault.Fault.{Fault}
 use Rattle.dw_links.proofs.Skips.{there}
 use Rattle.dw_types.proofs.FactsLemmas.{facts-get, length-facts_of, facts-parents_first, facts-targets}
-use Rattle.dw_types.specs.Graphs.{Graph, IsStep, steps_of, IsCycle, HasNoCycle}
+use Rattle.dw_types.specs.Graphs.{Graph, IsStep, IsCycle, HasNoCycle}
 use Rattle.dw_types.proofs.StepLemmas.{length-by_value, by_value-from_step, step-from_by_value}
 use Rattle.dw_types.specs.FactsOf.{facts_in}
 use Rattle.dw_types.specs.Shapes.{ShapeFailures}
@@ -40,26 +42,12 @@ pub cycle_fails : (facts : List Facts) (nodes : List ℕ) → IsCycle (by_value 
 cycle_fails facts nodes cycle = record { nodes = nodes; is_cycle = cycle; rule = refl; place = refl; attribute = refl }
 
 pub contained_of : (units : List DebugUnit) → HasNone (ShapeFailures (facts_in units)) → HasNoCycle (by_value (facts_in units)) → HoldsNoneOfItself units
-contained_of units sound none = record {
-  shapes = sound;
-  steps = λ from to. (by_value-from_step (facts_in units) from to, step-from_by_value (facts_in units) from to);
-  none = none;
-}
+contained_of units sound none = search (rules, by_value-from_step, step-from_by_value)
 
 -- ---- the nodes of a cycle are entries
 
 from_below : (graph : Graph) (from to : ℕ) → IsStep graph from to → from < length graph
-from_below graph from to step = go two_ways
-  where
-    two_ways : (from < length graph) ⊎ (length graph ≤ from)
-    two_ways = grind arith
-
-    go : (from < length graph) ⊎ (length graph ≤ from) → from < length graph
-    go (inl below) = below
-    go (inr past) =
-        let none : steps_of graph from ≡ [] = get_or_past graph from [] past in
-        let within : step.0 < length (steps_of graph from) = step.1 in
-        absurd (omega (arith, within, ap length none))
+from_below graph from to step = search (rules, get_or_past)
 
 pub node_below : (graph : Graph) (nodes : List ℕ) → IsCycle graph nodes → (k : ℕ) → k < length nodes → slice_index nodes k < length graph
 node_below graph nodes cycle k within = go two_ways
@@ -75,11 +63,7 @@ node_below graph nodes cycle k within = go two_ways
         subst (λ n. n < length graph) (cycle.closed.closed ∙ ap (slice_index nodes) (sym last)) first
 
 pub entry_below : (units : List DebugUnit) (nodes : List ℕ) → IsCycle (by_value (facts_in units)) nodes → (k : ℕ) → k < length nodes → slice_index nodes k < length (entries_of units)
-entry_below units nodes cycle k within =
-    let p = node_below (by_value (facts_in units)) nodes cycle k within in
-    let long = length-by_value (facts_in units) in
-    let same = length-facts_of (entries_of units) (placed units) in
-    omega (arith, p, long, same)
+entry_below units nodes cycle k within = search (rules, node_below, length-by_value, length-facts_of)
 
 -- where an entry begins
 pub offset_told : (units : List DebugUnit) (number offset : ℕ) → number < length (entries_of units) → IfSome (slice_get (entries_of units) number) (λ e. offset ≡ e.at)
@@ -109,18 +93,7 @@ module _ (facts : List Facts) (parents : ParentsComeFirst facts) (targets : Targ
 
   -- what fails by one fails by the other
   pub same_failures : (table other : ℕ → Size) → IsSizeTable facts table → IsSizeTable facts other → (f : Failure) → SizeFailures facts other f → SizeFailures facts table f
-  same_failures table other one two f fails =
-      let below = slice_get_within facts fails.number fails.item fails.is_item in
-      record {
-        number = fails.number;
-        item = fails.item;
-        is_item = fails.is_item;
-        fails = record {
-          stands = fails.fails.stands;
-          attribute = fails.fails.attribute;
-          fails = sym (same_fails table other one two fails.number below f.rule) ∙ fails.fails.fails;
-        };
-      }
+  same_failures table other one two f fails = grind (arith, common_steps, slice_get_within, same_fails)
 
   pub none_by_size : (table : ℕ → Size) → IsSizeTable facts table → HasNone (SizeFailures facts table) → HasNone (FailsBySize facts)
   none_by_size table one none f fails = none f (same_failures table fails.table one fails.one f fails.fails)

@@ -1,11 +1,11 @@
 -- Where no rule on classes, strings, addresses and references fails, each value has one of its attribute's classes,
 -- each string and address is there, and each reference has its target.
-use Rattle.std.proofs.Common.{◌≡◌, Bool, true, false, List, refl, ◌≢◌, ℕ, zero, suc, ◌+◌, ◌-◌, ◌<◌, ◌≤◌, ◌==◌, ◌%◌, [], ◌∷◌, length, Option, None, Some, sym, ap, ◌∙◌, arith, inl, inr, ◌⊎◌}
+use Rattle.std.proofs.Common.{rules}
+use Rattle.std.proofs.Common.{◌≡◌, Bool, true, false, List, refl, ◌≢◌, ℕ, zero, suc, ◌+◌, ◌-◌, ◌<◌, ◌≤◌, ◌==◌, [], ◌∷◌, length, Option, None, Some, sym, ap, ◌∙◌, arith, inl, inr, ◌⊎◌}
 use Rattle.std.specs.Prelude.{slice_get, slice_index}
 use Rattle.std.specs.Option.{option_and_then}
 use Rattle.std.proofs.lemmas.Bool.Decides.{nat_tests}
 use Rattle.dw_elf.specs.declared.sections.Sections.{Sections}
-use Rattle.dw_elf.specs.Elf.{number_at}
 use Rattle.dw_forms.specs.Codes.{DW_AT_str_offsets_base, DW_AT_addr_base}
 use Rattle.dw_forms.specs.Value.{Datum, str, line_str, str_index, sec_offset, addr_index}
 use Rattle.dw_entries.specs.declared.fault.Rule.TheVariants.{WrongClass, BadStrBase, StrIndex, StringEnd, BadAddrBase, AddrIndex}
@@ -15,12 +15,12 @@ use Rattle.dw_entries.specs.Places.{at_attribute}
 use Rattle.dw_entries.specs.Failures.{HasNone}
 use Rattle.dw_entries.specs.declared.fault.Rule.{Rule}
 use Rattle.dw_entries.specs.Entries.{Entry, entries_of, PlacedUnit, placed}
-use Rattle.dw_entries.specs.Lookups.{entry_head, value_in, value_at_entry}
+use Rattle.dw_entries.specs.Lookups.{entry_head, value_in}
 use Rattle.dw_entries.specs.Asked.{HasAttribute, values_of}
 use Rattle.dw_entries.proofs.EntryFacts.{first_entry}
 use Rattle.dw_links.specs.Classes.{class_of, allows_in, ClassFailures}
-use Rattle.dw_links.specs.Contributions.{length_before, IsContribution, slot_count, slot_at, Ends}
-use Rattle.dw_links.specs.Bases.{base_in, section_offset_of, section_offset_in}
+use Rattle.dw_links.specs.Contributions.{IsContribution, slot_count, slot_at, Ends}
+use Rattle.dw_links.specs.Bases.{base_in, section_offset_in}
 use Rattle.dw_links.specs.Strings.{IsStringContribution, IsAddressContribution, StringFailsIn, StringFailures}
 use Rattle.dw_links.specs.References.{ReferenceFailures}
 use Rattle.dw_links.proofs.LinkedEntries.{have_targets, have_types}
@@ -83,44 +83,7 @@ ends_or_not section offset =
 
 -- a contribution is at the base, or none is
 contribution_or_not : (section : List ℕ) (slot mark base : ℕ) → Decided (IsContribution section slot mark base)
-contribution_or_not section slot mark base =
-    elim (decide_le 8 base) [
-      | inr against ↦ inr (λ c. against c.header)
-      | inl header ↦
-          elim (decide_le base (length section)) [
-            | inr against ↦ inr (λ c. against c.within)
-            | inl within ↦
-                elim (decide_lt (length_before section base) 0xfffffff0) [
-                  | inr against ↦ inr (λ c. against c.is_32_bit)
-                  | inl is_32_bit ↦
-                      elim (decide_le 4 (length_before section base)) [
-                        | inr against ↦ inr (λ c. against c.long)
-                        | inl long ↦
-                            elim (decide_eq (number_at 2 section (base - 4)) 5) [
-                              | inr against ↦ inr (λ c. against c.version)
-                              | inl version ↦
-                                  elim (decide_eq (number_at 1 section (base - 2)) mark) [
-                                    | inr against ↦ inr (λ c. against c.marked)
-                                    | inl marked ↦
-                                        elim (decide_eq (number_at 1 section (base - 1)) 0) [
-                                          | inr against ↦ inr (λ c. against c.zero_behind)
-                                          | inl zero_behind ↦
-                                              elim (decide_eq ((length_before section base - 4) % slot) 0) [
-                                                | inr against ↦ inr (λ c. against c.slots)
-                                                | inl slots ↦
-                                                    elim (decide_le (base - 4 + length_before section base) (length section)) [
-                                                      | inr against ↦ inr (λ c. against c.ends)
-                                                      | inl ends ↦
-                                                          inl (record { header = header; within = within; is_32_bit = is_32_bit; long = long; version = version; marked = marked; zero_behind = zero_behind; slots = slots; ends = ends })
-                                                    ]
-                                              ]
-                                        ]
-                                  ]
-                            ]
-                      ]
-                ]
-          ]
-    ]
+contribution_or_not section slot mark base = search (rules, decide_le, decide_lt, decide_eq)
 
 -- what can be decided and is not refuted holds
 sure : {P : Type 0} → Decided P → ((P → ⊥) → ⊥) → P
@@ -133,11 +96,7 @@ At values attribute v = (position : ℕ) × (slice_get values position ≡ Some 
 
 value_here : (x : ℕ × Datum) (xs : List (ℕ × Datum)) (attribute : ℕ) (v : Datum) → value_in (x ∷ xs) attribute ≡ Some v → (value_in xs attribute ≡ Some v → At xs attribute v)
     → (b : Bool) → (x.0 == attribute) ≡ b → At (x ∷ xs) attribute v
-value_here x xs attribute v is more true here =
-    let e : Some x.1 ≡ Some v = rw here at is in
-    let value : x.1 ≡ v = cc in
-    let code : x.0 ≡ attribute = grind (arith, nat_tests, here) in
-    (0, ap (λ (p : ℕ × Datum). Some p) (let q : (x.0, x.1) ≡ (attribute, v) = cc in q))
+value_here x xs attribute v is more true here = search (rules, nat_tests)
 value_here x xs attribute v is more false here =
     let behind = more (rw here at is) in
     (suc behind.0, behind.1)
@@ -149,22 +108,12 @@ value_stands (x ∷ xs) attribute v is = value_here x xs attribute v is (value_s
 in_section_offset : (o : Option Datum) (base : ℕ) → option_and_then section_offset_in o ≡ Some base → o ≡ Some (sec_offset base)
 in_section_offset None base is = absurd cc
 in_section_offset (Some (sec_offset offset)) base is = let e : Some offset ≡ Some base = is in let same : offset ≡ base = cc in ap (λ n. Some (sec_offset n)) same
-in_section_offset (Some _) base is = absurd (none_is is)
-  where
-    none_is : None ≡ Some base → ⊥
-    none_is same = cc
+in_section_offset (Some _) base is = search (rules)
 
 -- a base that a unit names is an attribute of its first entry
 base_stands : (entries : List Entry) (unit : PlacedUnit) (attribute base : ℕ) (first : Entry) → slice_get entries unit.first ≡ Some first → base_in entries unit attribute ≡ Some base
     → (version_of unit.unit.header.kind ≢ 4) × At (values_of first.head) attribute (sec_offset base)
-base_stands entries unit attribute base first is named = go (version_of unit.unit.header.kind == 4) refl
-  where
-    go : (b : Bool) → (version_of unit.unit.header.kind == 4) ≡ b → (version_of unit.unit.header.kind ≢ 4) × At (values_of first.head) attribute (sec_offset base)
-    go true here = let e : None ≡ Some base = rw here at named in absurd cc
-    go false here =
-        let e : option_and_then (λ first. section_offset_of first attribute) (slice_get entries unit.first) ≡ Some base = rw here at named in
-        let f : section_offset_of first attribute ≡ Some base = rw is at e in
-        ((λ four. absurd (grind (arith, nat_tests, here, four))), value_stands (values_of first.head) attribute (sec_offset base) (in_section_offset (value_at_entry first attribute) base f))
+base_stands entries unit attribute base first is named = search (rules, nat_tests, value_stands, in_section_offset)
 
 -- ---- what no failure means
 
@@ -246,7 +195,4 @@ texts_of s units none id e is position attribute v has unit in_unit =
     leads s units none unit e attribute v in_unit (passes_in s units none id e unit position attribute v is in_unit has)
 
 pub references_of : (s : Sections) (units : List DebugUnit) → SpellsInfo s units → HasNone (ReferenceFailures units) → HasReferences units
-references_of s units spelled none = record {
-  targets = have_targets s.«abbrev».now s.info.now units spelled none;
-  types = have_types s.«abbrev».now s.info.now units spelled none;
-}
+references_of s units spelled none = search (rules, have_targets, have_types)

@@ -1,7 +1,7 @@
-use Rattle.std.proofs.Common.{subst, sym, ◌∙◌}
+use Rattle.std.proofs.Common.{rules}
+use Rattle.std.proofs.Common.{subst}
 use Rattle.std.proofs.lemmas.Result.{err_from_is_err_and}
 use Rattle.dw_entries.specs.Views.{sections_of}
-use Rattle.dw_entries.specs.Entries.{entries_of, placed}
 use Rattle.dw_entries.proofs.StopLaws.{faulty_weaker}
 use Rattle.dw_types.specs.Graphs.{HasNoCycle}
 use Rattle.dw_types.specs.Held.{units_held}
@@ -10,10 +10,7 @@ use Rattle.dw_image.proofs.MeasureLemmas.{wrong_shape, contains_itself, wrong_si
 use Rattle.dw_image.proofs.verifying.measure.Goals as goal
 
 pub returns-in_err-steps-clause-fault : goal.returns-in_err-steps-clause-fault
-returns-in_err-steps-clause-fault c =
-    let links = c.args.links.now in
-    let p = err_from_is_err_and c.from_residual.result c.from_residual.ensures.1 in
-    rw (p.1, p.2) (faulty_weaker c.in_err-steps.field-0.0 (wrong_shape (sections_of links.entries.now) (units_held links)) c.in_err-steps.ensures.fault)
+returns-in_err-steps-clause-fault c = search (rules, err_from_is_err_and, faulty_weaker, wrong_shape)
 
 pub returns-in_err-sizes-in-Ok-clause-fault : goal.returns-in_err-sizes-in-Ok-clause-fault
 returns-in_err-sizes-in-Ok-clause-fault c =
@@ -27,17 +24,7 @@ pub returns-in-Ok-clause-steps : goal.returns-in-Ok-clause-steps
 returns-in-Ok-clause-steps c = record { graph = c.in_ok-steps.ensures.graph; types = c.in_ok-steps.ensures.types }
 
 pub returns-in-Ok-clause-sizes : goal.returns-in-Ok-clause-sizes
-returns-in-Ok-clause-sizes c =
-    let us = units_held c.args.links.now in
-    record {
-      shapes = c.in_ok-steps.ensures.sound;
-      contained = subst HasNoCycle c.in_ok-steps.ensures.graph c.in-Ok.ensures.no_cycle;
-      long = c.in_ok-sizes-in-Ok.ensures.long ∙ sym (length-facts_of (entries_of us) (placed us));
-      sizes = record { one = c.in_ok-sizes-in-Ok.ensures.only; none = c.in_ok-sizes-in-Ok.ensures.sound };
-    }
+returns-in-Ok-clause-sizes c = search (rules, length-facts_of)
 
 pub returns-in-Err-Cycle-clause-fault : goal.returns-in-Err-Cycle-clause-fault
-returns-in-Err-Cycle-clause-fault c =
-    let links = c.args.links.now in
-    let fault = c.in_ok-cycle_fault-in-Err-Cycle in
-    contains_itself (sections_of links.entries.now) (units_held links) fault.field-0 c.in_ok-steps.ensures.sound fault.ensures
+returns-in-Err-Cycle-clause-fault c = search (rules, contains_itself)

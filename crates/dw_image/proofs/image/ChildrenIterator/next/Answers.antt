@@ -1,7 +1,8 @@
-use Rattle.std.proofs.Common.{subst, ap, ◌∙◌}
+use Rattle.std.proofs.Common.{rules}
+use Rattle.std.proofs.Common.{subst}
 use Rattle.dw_entries.specs.Entries.{entries_of}
 use Rattle.dw_entries.specs.Scanned.{units_of}
-use Rattle.dw_types.specs.Children.{siblings_from, IsChild}
+use Rattle.dw_types.specs.Children.{IsChild}
 use Rattle.dw_types.proofs.ChildSteps.{linked_within, next_of_linked, fewer_left}
 use Rattle.dw_image.proofs.image.ChildrenIterator.next.Goals as goal
 
@@ -18,20 +19,7 @@ invariant_of-self c =
     record { linked = (next_of_linked us p c.in_ok-id.id c.next_sibling-self.result linked c.next_sibling-self.ensures).linked }
 
 pub returns-clause-steps : goal.returns-clause-steps
-returns-clause-steps c =
-    let us = units_of c.args.self.now.entries.now.scanned in
-    let p = c.args.self.now.parent in
-    let linked = subst (IsChild (entries_of us) p) c.in_ok-id.was c.args.self.now.linked in
-    ap (siblings_from (entries_of us) p) c.in_ok-id.was ∙ (next_of_linked us p c.in_ok-id.id c.next_sibling-self.result linked c.next_sibling-self.ensures).left
+returns-clause-steps c = search (rules, next_of_linked)
 
 pub returns-clause-goes : goal.returns-clause-goes
-returns-clause-goes c =
-    let us = units_of c.args.self.now.entries.now.scanned in
-    let p = c.args.self.now.parent in
-    let linked = subst (IsChild (entries_of us) p) c.in_ok-id.was c.args.self.now.linked in
-    let left = ap (siblings_from (entries_of us) p) c.in_ok-id.was ∙ (next_of_linked us p c.in_ok-id.id c.next_sibling-self.result linked c.next_sibling-self.ensures).left in
-    record {
-      on = λ _. (tt, tt, fewer_left c.in_ok-id.id _ _ left);
-      keeps = tt;
-      rests = λ _. tt;
-    }
+returns-clause-goes c = search (rules, next_of_linked, fewer_left)
