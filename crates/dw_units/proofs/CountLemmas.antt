@@ -1,5 +1,6 @@
 -- One unit alone among the sections, and one more unit after those so far.
-use Rattle.std.proofs.Common.{◌≡◌, ℕ, ◌+◌, suc, ◌<◌, ◌≤◌, List, [], ◌∷◌, ◌++◌, length, map, take, drop, Option, Some, None, refl, sym, ap, subst, ◌∙◌, inl, inr, arith, append_assoc, append-nil, length-append, take-append-drop}
+use Rattle.std.proofs.Common.{rules}
+use Rattle.std.proofs.Common.{◌≡◌, ℕ, ◌+◌, suc, ◌≤◌, List, [], ◌∷◌, ◌++◌, length, map, take, drop, Option, Some, None, refl, sym, ap, subst, ◌∙◌, inl, inr, arith, append_assoc, append-nil, length-append, take-append-drop}
 use Rattle.std.specs.Prelude.{slice_get}
 use Rattle.std.specs.List.{AllByRecursion, count_by}
 use Rattle.std.specs.Prelude.{cond}
@@ -19,7 +20,7 @@ use Rattle.dw_entries.specs.Failures.{HasNone}
 use Rattle.dw_entries.proofs.HeadLaws.{all-append}
 use Rattle.dw_links.specs.Bases.{base_in}
 use Rattle.dw_entries.specs.Lookups.{entry_head}
-use Rattle.dw_links.specs.Contributions.{IsContribution, slot_count, slot_at, Ends}
+use Rattle.dw_links.specs.Contributions.{IsContribution, slot_count}
 use Rattle.dw_links.specs.Strings.{StringIndexFails, AddressIndexFails, OffsetFails, BaseFails, StringFailsIn, StringFailures}
 use Rattle.dw_units.specs.declared.counting.Counts.{Counts}
 use Rattle.dw_image.specs.declared.image.Image.{Image}
@@ -92,10 +93,7 @@ module _ (s own : Sections) (shares : Shares s own) where
   string_index_in None index rule fails = absurd fails
   string_index_in (Some base) index StrIndex fails =
       subst (λ (l : List ℕ). IsContribution l 4 0 base × (slot_count l 4 base ≤ index)) (sym shares.str_offsets_same) fails
-  string_index_in (Some base) index StringEnd fails =
-      subst (λ (l : List ℕ). IsContribution own.str_offsets.now 4 0 base × (index < slot_count own.str_offsets.now 4 base) × (Ends l (slot_at own.str_offsets.now 4 base index) → ⊥))
-      (sym shares.str_same)
-      (subst (λ (l : List ℕ). IsContribution l 4 0 base × (index < slot_count l 4 base) × (Ends s.str.now (slot_at l 4 base index) → ⊥)) (sym shares.str_offsets_same) fails)
+  string_index_in (Some base) index StringEnd fails = search (rules)
   string_index_in (Some base) index rule fails = absurd fails
 
   address_index_in : (header : UnitHeader) (base : Option ℕ) (index : ℕ) (rule : Rule) → AddressIndexFails s header base index rule → AddressIndexFails own header base index rule
@@ -170,9 +168,7 @@ module _ (s own : Sections) (shares : Shares s own) where
 
 types_moved : (n first place : ℕ) (es : List Entry) → count_by is_type_entry (map (moved n first place) es) ≡ count_by is_type_entry es
 types_moved n first place [] = refl
-types_moved n first place (e ∷ es) = sum_by-cons (λ (x : Entry). cond (is_type_entry x) 1 0) (moved n first place e) (map (moved n first place) es)
-    ∙ ap (λ (k : ℕ). cond (is_type_entry e) 1 0 + k) (types_moved n first place es)
-    ∙ sym (sum_by-cons (λ (x : Entry). cond (is_type_entry x) 1 0) e es)
+types_moved n first place (e ∷ es) = search (rules, sum_by-cons, moved, (types_moved n first place es))
 
 -- the units so far, which each stand alone, with the sums of their counts, and the bytes after them
 pub record AreSoFar (s : Sections) (rest : List ℕ) (units entries types : ℕ) : Type 0 where

@@ -1,13 +1,13 @@
 -- Sizes: one table for all, made of those of the units, and no rule on sizes fails; and units that each stand alone
 -- spell their bytes, joined.
-use Rattle.std.proofs.Common.{◌≡◌, List, [], ◌∷◌, ℕ, ◌+◌, ◌-◌, ◌<◌, ◌≤◌, zero, suc, Bool, true, false, length, Option, Some, None, refl, sym, ap, subst, ◌∙◌, arith, nat_lt, lt-ltb, append-nil}
+use Rattle.std.proofs.Common.{rules}
+use Rattle.std.proofs.Common.{◌≡◌, List, [], ◌∷◌, ℕ, ◌+◌, ◌-◌, ◌<◌, ◌≤◌, zero, suc, Bool, false, length, Option, Some, None, refl, sym, ap, subst, ◌∙◌, arith, nat_lt, lt-ltb, append-nil}
 use Rattle.std.specs.List.{AllByRecursion}
 use Rattle.std.specs.Prelude.{slice_get, if◌then◌else◌}
 use Rattle.std.proofs.lemmas.Option.{slice_get_within}
 use Rattle.dw_elf.specs.declared.sections.Sections.{Sections}
 use Rattle.dw_entries.specs.Units.{DebugUnit, AreUnits, units_bytes, unit_bytes}
-use Rattle.dw_entries.specs.Header.{header_size}
-use Rattle.dw_entries.specs.Entries.{node_count, node_entries, entries_of, PlacedUnit, placed_from, placed}
+use Rattle.dw_entries.specs.Entries.{node_count, PlacedUnit, placed_from, placed}
 use Rattle.dw_entries.specs.Places.{at_entry}
 use Rattle.dw_entries.specs.Failures.{HasNone}
 use Rattle.dw_entries.proofs.EntryFacts.{length-node_entries}
@@ -32,10 +32,7 @@ pub trees_join : (s : Sections) (us : List DebugUnit) → AllByRecursion (Stands
 trees_join s us all parts = record { are = are_units s us all; parts = parts }
 
 count_alone : (u : DebugUnit) → length (facts_in (u ∷ [])) ≡ node_count u.root
-count_alone u =
-    length-facts_of (entries_of (u ∷ [])) (placed (u ∷ []))
-    ∙ ap length (append-nil (node_entries 0 None 0 None 0 (0 + header_size u.header.kind) u.root))
-    ∙ length-node_entries 0 None 0 None 0 (0 + header_size u.header.kind) u.root
+count_alone u = search (rules, length-facts_of, append-nil, length-node_entries)
 
 -- a table of all agrees with one of each unit
 abbrev Agrees : (ℕ → Size) → PlacedUnit → Type 0
@@ -44,20 +41,12 @@ Agrees table p = (lone : ℕ → Size) × HasSizes (facts_in (p.unit ∷ [])) lo
 
 first_low : (at first : ℕ) (us : List DebugUnit) (k : ℕ) (p : PlacedUnit) → slice_get (placed_from at first us) k ≡ Some p → first ≤ p.first
 first_low at first [] k p is = absurd cc
-first_low at first (u ∷ us) zero p is =
-    let some : ◌≡◌ {A = Option PlacedUnit} (Some (record { at = at; first = first; unit = u })) (Some p) = is in
-    let same : ◌≡◌ {A = PlacedUnit} (record { at = at; first = first; unit = u }) p = cc in
-    let begins = ap (λ (q : PlacedUnit). q.first) same in
-    omega (arith, begins)
+first_low at first (u ∷ us) zero p is = search (rules)
 first_low at first (u ∷ us) (suc k) p is =
     let more = first_low (at + length (unit_bytes u)) (first + node_count u.root) us k p is in omega (arith, more)
 
 not_below : (a b : ℕ) → b ≤ a → nat_lt a b ≡ false
-not_below a b le = go (nat_lt a b) refl
-  where
-    go : (x : Bool) → nat_lt a b ≡ x → nat_lt a b ≡ false
-    go true is = absurd (grind (arith, is, le))
-    go false is = is
+not_below a b le = search (rules)
 
 table_join : (s : Sections) (at first : ℕ) (us : List DebugUnit) → AllByRecursion (StandsAlone s) us
     → (table : ℕ → Size) × ((k : ℕ) (p : PlacedUnit) → slice_get (placed_from at first us) k ≡ Some p → Agrees table p)
@@ -143,12 +132,5 @@ sizes_join s us all =
 
 -- THE law
 pub join : JoinsUnits
-join s us all parts = record {
-  trees = trees_join s us all parts;
-  classes = classes_join s us all;
-  strings = strings_join s us all;
-  references = references_join s us all;
-  shapes = shapes_join s us all;
-  contained = contained_join s us all;
-  sizes = sizes_join s us all;
-}
+join s us all parts =
+    search (rules, trees_join, classes_join, strings_join, references_join, shapes_join, contained_join, sizes_join)

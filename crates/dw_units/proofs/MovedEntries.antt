@@ -1,4 +1,5 @@
 -- The entries of units, each unit's those of the unit alone in their place.
+use Rattle.std.proofs.Common.{rules}
 use Rattle.std.proofs.Common.{◌≡◌, ℕ, zero, suc, ◌+◌, ◌-◌, ◌<◌, ◌≤◌, ◌⊎◌, List, [], ◌∷◌, ◌++◌, length, map, Option, Some, None, refl, sym, ap, subst, ◌∙◌, inl, inr, arith, append-nil}
 use Rattle.std.specs.Prelude.{slice_get, option_map}
 use Rattle.std.proofs.lemmas.List.{map-append}
@@ -94,17 +95,11 @@ front_get : (number first at : ℕ) (u : DebugUnit) (more : List Entry) (i : ℕ
     → slice_get (node_entries number None 0 None first (at + header_size u.header.kind) u.root ++ more) i ≡ Some e
     → (d : Entry) × (slice_get (entries_of (u ∷ [])) i ≡ Some d) × (moved number first at d ≡ e)
 front_get number first at u more i e below is =
-    let es : List Entry = node_entries number None 0 None first (at + header_size u.header.kind) u.root in
-    let count = length-node_entries number None 0 None first (at + header_size u.header.kind) u.root in
-    let here : slice_get es i ≡ Some e = sym (get_front es more i (omega (arith, below, count))) ∙ is in
-    map_some (moved number first at) (slice_get (entries_of (u ∷ [])) i) e
-    (sym (slice_get-map (moved number first at) (entries_of (u ∷ [])) i) ∙ ap (λ (xs : List Entry). slice_get xs i) (sym (unit_moved number first at u)) ∙ here)
+    search (rules, length-node_entries, get_front, map_some, slice_get-map, unit_moved)
 
 get_moved : (number first at : ℕ) (u : DebugUnit) (i : ℕ) (d : Entry) → slice_get (entries_of (u ∷ [])) i ≡ Some d
     → slice_get (node_entries number None 0 None first (at + header_size u.header.kind) u.root) i ≡ Some (moved number first at d)
-get_moved number first at u i d is =
-    ap (λ (xs : List Entry). slice_get xs i) (unit_moved number first at u)
-    ∙ slice_get-map (moved number first at) (entries_of (u ∷ [])) i ∙ ap (option_map (moved number first at)) is
+get_moved number first at u i d is = search (rules, unit_moved, slice_get-map)
 
 -- an entry among all: the unit that it is of, and which entry of the unit alone
 pub record Found (units : List PlacedUnit) (unit id i : ℕ) (e : Entry) : Type 0 where

@@ -1,22 +1,19 @@
 -- The facts of an entry in its place are those of the entry alone, moved.
-use Rattle.std.proofs.Common.{◌≡◌, ℕ, ◌+◌, suc, ◌==◌, Bool, true, false, List, [], ◌∷◌, Option, Some, None, refl, sym, ap, ◌∙◌}
-use Rattle.std.specs.Prelude.{slice_get, if◌then◌else◌, is_some, option_and_then}
+use Rattle.std.proofs.Common.{rules}
+use Rattle.std.proofs.Common.{◌≡◌, ℕ, ◌+◌, suc, ◌==◌, Bool, true, false, List, [], ◌∷◌, Some, refl, sym, ap, ◌∙◌}
+use Rattle.std.specs.Prelude.{slice_get}
 use Rattle.std.specs.Option.{option_map_or}
 use Rattle.std.specs.List.{AllByRecursion}
 use Rattle.dw_elf.specs.declared.sections.Sections.{Sections}
-use Rattle.dw_forms.specs.Codes.{DW_AT_signature, DW_AT_type}
 use Rattle.dw_forms.specs.Value.{Datum}
 use Rattle.dw_entries.specs.Units.{DebugUnit}
 use Rattle.dw_entries.specs.Entries.{Entry, entries_of, PlacedUnit, placed}
-use Rattle.dw_entries.specs.Asked.{OffsetsRise, values_of}
-use Rattle.dw_entries.specs.Lookups.{value_at_entry, value_in}
+use Rattle.dw_entries.specs.Asked.{OffsetsRise}
+use Rattle.dw_entries.specs.Lookups.{value_in}
 use Rattle.dw_entries.proofs.EntryFacts.{entries_rise}
-use Rattle.dw_links.specs.References.{is_declared}
-use Rattle.dw_links.specs.Targets.{reach_of, target_of}
-use Rattle.dw_types.specs.declared.count.Constant.{Constant}
-use Rattle.dw_types.specs.declared.count.Constant.TheVariants.{Absent}
-use Rattle.dw_types.specs.Entries.{entry_of, Facts}
-use Rattle.dw_types.specs.FactsOf.{facts_in, facts_at, address_size_of, language_of}
+use Rattle.dw_links.specs.Targets.{target_of}
+use Rattle.dw_types.specs.Entries.{entry_of}
+use Rattle.dw_types.specs.FactsOf.{facts_in, facts_at}
 use Rattle.dw_types.proofs.FactsLemmas.{facts-get}
 use Rattle.dw_units.specs.Alone.{StaysInside, StandsAlone}
 use Rattle.dw_units.proofs.MovedEntries.{moved_number, moved, moved_facts, get}
@@ -44,40 +41,15 @@ module _ (us : List DebugUnit) (rise : OffsetsRise (entries_of us)) (number : �
       → target_of (entries_of us) (placed us) (moved number p.first p.at e) attribute
       ≡ moved_number p.first (target_of (entries_of (p.unit ∷ [])) (placed (p.unit ∷ [])) e attribute)
   unfolding target_of
-  target_moved e of stays attribute = go (value_at_entry e attribute) refl
-    where
-      go : (o : Option Datum) → value_at_entry e attribute ≡ o → option_and_then (reach_of (entries_of us) (placed us) number) o
-          ≡ moved_number p.first (option_and_then (reach_of (entries_of (p.unit ∷ [])) (placed (p.unit ∷ [])) e.unit) o)
-      go None at = refl
-      go (Some v) at =
-          let (position, code, has) = value_has (values_of e.head) attribute v at in
-          reach_moved us rise number p is alone_rise v (stays position code v has)
-          ∙ ap (λ (n : ℕ). moved_number p.first (reach_of (entries_of (p.unit ∷ [])) (placed (p.unit ∷ [])) n v)) (sym of)
+  target_moved e of stays attribute = search (rules, moved_number, value_has, reach_moved)
 
   of_unit : {X : Type 0} (f : PlacedUnit → X) (d : X) (e : Entry) → e.unit ≡ 0 → f (lone p.unit) ≡ f p
       → option_map_or f (slice_get (placed us) number) d ≡ option_map_or f (slice_get (placed (p.unit ∷ [])) e.unit) d
-  of_unit f d e of same =
-      ap (λ (o : Option PlacedUnit). option_map_or f o d) is ∙ sym same
-      ∙ sym (ap (λ (n : ℕ). option_map_or f (slice_get (placed (p.unit ∷ [])) n) d) of)
+  of_unit f d e of same = search (rules)
 
   facts_moved : (e : Entry) → e.unit ≡ 0 → StaysInside e → facts_at (entries_of us) (placed us) (moved number p.first p.at e)
       ≡ moved_facts p.first p.at (facts_at (entries_of (p.unit ∷ [])) (placed (p.unit ∷ [])) e)
-  facts_moved e of stays =
-      let type = target_moved e of stays DW_AT_type in
-      let signature = target_moved e of stays DW_AT_signature in
-      let size = of_unit address_size_of 0 e of refl in
-      let language = of_unit language_of Absent e of refl in
-      λ i. record {
-        offset = p.at + e.at;
-        tag = e.head.decl.tag;
-        declared = is_declared e;
-        parent = moved_number p.first e.parent;
-        type_target = type i;
-        signature_target = signature i;
-        address_size = size i;
-        language = language i;
-        values = values_of e.head;
-      }
+  facts_moved e of stays = search (rules, target_moved, of_unit, moved_number)
 
 -- the facts of an entry of a unit alone, in the unit's place
 pub facts_get : (s : Sections) (us : List DebugUnit) → AllByRecursion (StandsAlone s) us → (number : ℕ) (p : PlacedUnit)

@@ -1,4 +1,5 @@
 -- References inside a unit: what is reached in the unit's place, and the rules on references.
+use Rattle.std.proofs.Common.{rules}
 use Rattle.std.proofs.Common.{◌≡◌, ℕ, ◌+◌, false, List, [], ◌∷◌, Option, Some, None, refl, sym, ap, subst, ◌∙◌, arith}
 use Rattle.std.specs.Prelude.{slice_get}
 use Rattle.dw_forms.specs.Value.{Datum, ref_unit, ref_info, ref_sig, address, block, unsigned, signed, wide, text, flag, str, line_str, str_index, sec_offset, expr, addr_index, loc_index, rng_index}
@@ -79,16 +80,7 @@ module _ (us : List DebugUnit) (rise : OffsetsRise (entries_of us)) (number : �
 
   in_unit_moved : (offset : ℕ) → reach_in_unit (entries_of us) (placed us) number offset
       ≡ moved_number p.first (reach_in_unit (entries_of (p.unit ∷ [])) (placed (p.unit ∷ [])) 0 offset)
-  in_unit_moved offset = go (reach_in_unit (entries_of us) (placed us) number offset)
-      (reach_in_unit (entries_of (p.unit ∷ [])) (placed (p.unit ∷ [])) 0 offset) refl refl
-    where
-      go : (all alone : Option ℕ) → reach_in_unit (entries_of us) (placed us) number offset ≡ all
-          → reach_in_unit (entries_of (p.unit ∷ [])) (placed (p.unit ∷ [])) 0 offset ≡ alone
-          → reach_in_unit (entries_of us) (placed us) number offset
-          ≡ moved_number p.first (reach_in_unit (entries_of (p.unit ∷ [])) (placed (p.unit ∷ [])) 0 offset)
-      go all (Some id) is_all is_alone = reached_in_place offset id is_alone ∙ sym (ap (moved_number p.first) is_alone)
-      go None None is_all is_alone = is_all ∙ sym (ap (moved_number p.first) is_alone)
-      go (Some id) None is_all is_alone = absurd (none_in_place offset id is_alone is_all)
+  in_unit_moved offset = search (rules, moved_number, reached_in_place, none_in_place)
 
   -- what a value that stays inside reaches
   pub reach_moved : (v : Datum) → leads_out v ≡ false → reach_of (entries_of us) (placed us) number v

@@ -1,10 +1,11 @@
 -- The rules on references: none fails.
-use Rattle.std.proofs.Common.{◌≡◌, ℕ, ◌+◌, ◌<◌, ◌==◌, ◌&&◌, not, Bool, true, false, List, [], ◌∷◌, length, Option, Some, None, refl, sym, ap, subst, ◌∙◌, inl, inr, arith, eq-eqb, ne_eqb}
+use Rattle.std.proofs.Common.{rules}
+use Rattle.std.proofs.lemmas.Grind.{common_steps}
+use Rattle.std.proofs.Common.{◌≡◌, ℕ, ◌+◌, ◌<◌, ◌==◌, true, false, List, [], ◌∷◌, length, Option, Some, None, refl, sym, ap, subst, ◌∙◌, inl, inr, arith, eq-eqb}
 use Rattle.std.proofs.lemmas.Bool.{eqb-true}
-use Rattle.std.specs.Prelude.{slice_get, if◌then◌else◌}
+use Rattle.std.specs.Prelude.{slice_get}
 use Rattle.std.specs.List.{AllByRecursion}
 use Rattle.dw_elf.specs.declared.sections.Sections.{Sections}
-use Rattle.dw_forms.specs.Codes.{DW_AT_import, DW_AT_specification, DW_AT_type, DW_TAG_imported_unit, DW_TAG_compile_unit, DW_TAG_partial_unit, is_type_tag}
 use Rattle.dw_forms.specs.Value.{Datum, ref_unit, ref_info, ref_sig}
 use Rattle.dw_entries.specs.declared.fault.Rule.{Rule}
 use Rattle.dw_entries.specs.declared.fault.Rule.TheVariants.{NoEntry, WrongKind, NotNextSibling, NoSignature}
@@ -15,9 +16,8 @@ use Rattle.dw_entries.specs.Failures.{HasNone}
 use Rattle.dw_entries.specs.Asked.{OffsetsRise}
 use Rattle.dw_entries.proofs.EntryFacts.{entries_rise}
 use Rattle.dw_entries.proofs.Firsts.{same_some}
-use Rattle.dw_links.specs.Classes.{is_one_of}
 use Rattle.dw_links.specs.Targets.{reach_of}
-use Rattle.dw_links.specs.References.{permits, is_declared, is_signed, NoSignatureThere, IsOtherThan, ReachesWrong, ReferenceFailsBy, ReferenceFails, HeaderFails, HeaderFailures, AttributeFailures, ReferenceFailures}
+use Rattle.dw_links.specs.References.{permits, NoSignatureThere, IsOtherThan, ReachesWrong, ReferenceFailsBy, ReferenceFails, HeaderFails, HeaderFailures, AttributeFailures, ReferenceFailures}
 use Rattle.dw_links.proofs.Skips.{there}
 use Rattle.std.proofs.lemmas.Option.{slice_get_within}
 use Rattle.dw_links.proofs.TargetLaws.{at_reach_in_unit}
@@ -35,21 +35,12 @@ some_moved first None id is = absurd cc
 some_moved first (Some k) id is = (k, refl, cc)
 
 pub eqb_moved : (at a b : ℕ) → (at + a == at + b) ≡ (a == b)
-eqb_moved at a b = go (a == b) refl
-  where
-    go : (x : Bool) → (a == b) ≡ x → (at + a == at + b) ≡ (a == b)
-    go true same = let e = eqb-true a b same in eq-eqb (at + a) (at + b) (omega (arith, e)) ∙ sym same
-    go false apart = ne_eqb (at + a) (at + b) (λ e. let no : true ≡ false = sym (eq-eqb a b (omega (arith, e))) ∙ apart in cc) ∙ sym apart
+eqb_moved at a b = search (rules, eqb-true, eq-eqb)
 
 -- a target is permitted in its place as alone
 permits_moved : (number first at : ℕ) (e t : Entry) (attribute : ℕ) → permits (entry_head (moved number first at e)) attribute (moved number first at t)
     ≡ permits (entry_head e) attribute t
-permits_moved number first at e t attribute =
-    ap (λ (b : Bool). if attribute == DW_AT_type then is_type_tag t.head.decl.tag
-    else (if attribute == DW_AT_specification then not b && is_declared t
-    else (if is_signed (entry_head e) attribute then t.head.decl.tag == e.head.decl.tag
-    else (if attribute == DW_AT_import && e.head.decl.tag == DW_TAG_imported_unit then is_one_of (DW_TAG_compile_unit ∷ DW_TAG_partial_unit ∷ []) t.head.decl.tag
-    else true)))) (eqb_moved at t.at e.at)
+permits_moved number first at e t attribute = search (rules, eqb_moved)
 
 reached_below : (entries : List Entry) (units : List PlacedUnit) (unit : ℕ) (v : Datum) (k : ℕ) → leads_out v ≡ false
     → reach_of entries units unit v ≡ Some k → k < length entries
@@ -96,26 +87,15 @@ module _ (us : List DebugUnit) (rise : OffsetsRise (entries_of us)) (number : �
       (by_offset, none_moved p.first (reach_of (entries_of (p.unit ∷ [])) (placed (p.unit ∷ [])) e.unit v) (sym reached ∙ none))
   by_alone e attribute v WrongKind stays reached (inl form) = inl form
   by_alone e attribute v WrongKind stays reached (inr wrong) =
-      inr (wrong_alone e attribute (reach_of (entries_of (p.unit ∷ [])) (placed (p.unit ∷ [])) e.unit v)
-      (λ k is_k. reached_below (entries_of (p.unit ∷ [])) (placed (p.unit ∷ [])) e.unit v k stays is_k)
-      (subst (ReachesWrong (entries_of us) (entry_head (moved number p.first p.at e)) attribute) reached wrong))
-  by_alone e attribute v NotNextSibling stays reached (sibling, other) = (
-    sibling,
-    other_alone p.first e.next (reach_of (entries_of (p.unit ∷ [])) (placed (p.unit ∷ [])) e.unit v)
-        (subst (IsOtherThan (moved_number p.first e.next)) reached other),
-  )
+      grind (arith, common_steps, wrong_alone, reached_below, moved)
+  by_alone e attribute v NotNextSibling stays reached (sibling, other) = search (rules, other_alone, moved_number)
   by_alone e attribute v NoSignature stays reached fails = absurd (no_signature (placed us) v stays fails)
   by_alone e attribute v rule stays reached fails = absurd fails
 
   pub reference_alone : (e : Entry) → e.unit ≡ 0 → (attribute : ℕ) (v : Datum) (rule : Rule) → leads_out v ≡ false
       → ReferenceFails (entries_of us) (placed us) (entry_head (moved number p.first p.at e)) attribute v rule
       → ReferenceFails (entries_of (p.unit ∷ [])) (placed (p.unit ∷ [])) (entry_head e) attribute v rule
-  reference_alone e of attribute v rule stays (reference, fails) = (
-    reference,
-    by_alone e attribute v rule stays
-        (reach_moved us rise number p is alone_rise v stays ∙ ap (λ (n : ℕ). moved_number p.first (reach_of (entries_of (p.unit ∷ [])) (placed (p.unit ∷ [])) n v)) (sym of))
-        fails,
-  )
+  reference_alone e of attribute v rule stays (reference, fails) = search (rules, by_alone, reach_moved, moved_number)
 
 pub all_units : (s : Sections) (us : List DebugUnit) → AllByRecursion (StandsAlone s) us → AreUnits s.«abbrev».now us
 all_units s [] all = tt

@@ -1,4 +1,5 @@
 -- Classes, strings and addresses: a failure among all is one of a unit alone.
+use Rattle.std.proofs.Common.{rules}
 use Rattle.std.proofs.Common.{◌≡◌, ℕ, ◌+◌, zero, suc, false, List, [], ◌∷◌, length, Option, Some, None, refl, sym, ap, subst, ◌∙◌, arith, append-nil}
 use Rattle.std.specs.Prelude.{slice_get, if◌then◌else◌, ◌==◌, option_and_then}
 use Rattle.std.proofs.lemmas.Option.{slice_get_within}
@@ -34,10 +35,7 @@ lone u = record { at = 0; first = 0; unit = u }
 all_placed : (P : DebugUnit → Type 0) (at first : ℕ) (us : List DebugUnit) (number : ℕ) (p : PlacedUnit) → AllByRecursion P us
     → slice_get (placed_from at first us) number ≡ Some p → P p.unit
 all_placed P at first [] number p all is = absurd cc
-all_placed P at first (u ∷ us) zero p (one, more) is =
-    let some : ◌≡◌ {A = Option PlacedUnit} (Some (record { at = at; first = first; unit = u })) (Some p) = is in
-    let same : ◌≡◌ {A = PlacedUnit} (record { at = at; first = first; unit = u }) p = cc in
-    subst (λ (q : PlacedUnit). P q.unit) same one
+all_placed P at first (u ∷ us) zero p (one, more) is = search (rules)
 all_placed P at first (u ∷ us) (suc number) p (one, more) is =
     all_placed P (at + length (unit_bytes u)) (first + node_count u.root) us number p more is
 

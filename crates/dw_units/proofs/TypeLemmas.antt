@@ -1,5 +1,6 @@
 -- Shapes and containment: no rule fails among all.
-use Rattle.std.proofs.Common.{◌≡◌, ℕ, ◌+◌, ◌-◌, ◌<◌, ◌≤◌, List, [], ◌∷◌, length, map, Some, refl, sym, ap, ◌∙◌, inl, inr, ◌⊎◌, arith}
+use Rattle.std.proofs.Common.{rules}
+use Rattle.std.proofs.Common.{◌≡◌, ℕ, ◌+◌, ◌-◌, ◌<◌, ◌≤◌, List, [], ◌∷◌, length, map, Some, refl, sym, ap, ◌∙◌, arith}
 use Rattle.std.specs.Prelude.{slice_get, slice_index}
 use Rattle.std.specs.List.{AllByRecursion}
 use Rattle.std.proofs.lemmas.Option.{slice_get_within}
@@ -12,7 +13,7 @@ use Rattle.dw_entries.proofs.Firsts.{same_some}
 use Rattle.dw_links.proofs.Skips.{there}
 use Rattle.dw_types.specs.Entries.{entry_of, Facts}
 use Rattle.dw_types.specs.FactsOf.{facts_in}
-use Rattle.dw_types.specs.Graphs.{Graph, IsStep, steps_of, HasNoCycle}
+use Rattle.dw_types.specs.Graphs.{Graph, IsStep, HasNoCycle}
 use Rattle.dw_types.proofs.StepLemmas.{length-by_value}
 use Rattle.std.proofs.lemmas.List.{get_or_past}
 use Rattle.dw_types.specs.Shapes.{fails_shape, ShapeFailures}
@@ -125,17 +126,7 @@ shapes_join s us all f fails =
     })
 
 from_below : (graph : Graph) (from to : ℕ) → IsStep graph from to → from < length graph
-from_below graph from to step = go two_ways
-  where
-    two_ways : (from < length graph) ⊎ (length graph ≤ from)
-    two_ways = grind arith
-
-    go : (from < length graph) ⊎ (length graph ≤ from) → from < length graph
-    go (inl below) = below
-    go (inr past) =
-        let none : steps_of graph from ≡ [] = get_or_past graph from [] past in
-        let within : step.0 < length (steps_of graph from) = step.1 in
-        absurd (omega (arith, within, ap length none))
+from_below graph from to step = search (rules, get_or_past)
 
 pub contained_join : (s : Sections) (us : List DebugUnit) → AllByRecursion (StandsAlone s) us → HasNoCycle (by_value (facts_in us))
 contained_join s us all nodes closed =

@@ -1,4 +1,5 @@
 -- The facts of a unit among all, as a window: shapes and steps there are those of the unit alone.
+use Rattle.std.proofs.Common.{rules}
 use Rattle.std.proofs.Common.{◌≡◌, ℕ, ◌+◌, ◌-◌, zero, suc, ◌<◌, ◌≤◌, Bool, true, false, List, [], ◌∷◌, length, map, Option, Some, None, refl, sym, ap, subst, ◌∙◌, arith}
 use Rattle.std.proofs.lemmas.Bool.{eqb-true}
 use Rattle.std.specs.Prelude.{slice_index, is_some, nat_eq, not, ◌&&◌, ◌||◌}
@@ -54,9 +55,7 @@ module _ (all alone : List Facts) (first at : ℕ) (w : IsWindow all alone first
   role_moved (Some k) below = ap role_of (w.facts k (below k refl))
 
   pub role_same : (inner : ℕ) → inner < length alone → parent_role all (first + inner) ≡ parent_role alone inner
-  role_same inner inside =
-      ap (λ (f : Facts). role_in all f.parent) (w.facts inner inside)
-      ∙ role_moved (entry_of alone inner).parent (λ k is. let before = w.parents inner k is in omega (arith, before, inside))
+  role_same inner inside = search (rules, role_moved)
 
   shape_moved : (role : Role) (f : Facts) (rule : Rule) → breaks_shape role (moved_facts first at f) rule ≡ breaks_shape role f rule
   shape_moved role f MissingType =
@@ -65,17 +64,11 @@ module _ (all alone : List Facts) (first at : ℕ) (w : IsWindow all alone first
   shape_moved role f rule = refl
 
   pub shape_same : (inner : ℕ) → inner < length alone → (rule : Rule) → fails_shape all (first + inner) rule ≡ fails_shape alone inner rule
-  shape_same inner inside rule =
-      ap (λ (role : Role). breaks_shape role (entry_of all (first + inner)) rule) (role_same inner inside)
-      ∙ ap (λ (f : Facts). breaks_shape (parent_role alone inner) f rule) (w.facts inner inside)
-      ∙ shape_moved (parent_role alone inner) (entry_of alone inner) rule
+  shape_same inner inside rule = search (rules, role_same, shape_moved)
 
   plain_member_same : (inner k : ℕ) → inner < length alone → k < length alone
       → is_plain_member all (first + inner) (first + k) ≡ is_plain_member alone inner k
-  plain_member_same inner k inside within =
-      ap (λ (f : Facts). has_members_and f (entry_of all (first + k)) (first + inner)) (w.facts inner inside)
-      ∙ ap (λ (f : Facts). has_members_and (entry_of alone inner) f (first + inner)) (w.facts k within)
-      ∙ ap (λ (b : Bool). has_and (entry_of alone inner) (entry_of alone k) b) (parent_of_moved first (entry_of alone k).parent inner)
+  plain_member_same inner k inside within = search (rules, parent_of_moved)
 
   -- a step from an entry of the window is one of the entry alone
   pub step_alone : (inner to : ℕ) → inner < length alone → IsStepByValue all (first + inner) to

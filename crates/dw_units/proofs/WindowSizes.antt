@@ -1,4 +1,5 @@
 -- Children and sizes in a window are those of the entries alone.
+use Rattle.std.proofs.Common.{rules}
 use Rattle.std.proofs.Common.{◌≡◌, ℕ, ◌+◌, ◌-◌, zero, suc, ◌<◌, ◌≤◌, Bool, true, false, List, [], ◌∷◌, ◌++◌, length, map, filter, Option, Some, None, refl, ap, ◌∙◌, arith, append-nil}
 use Rattle.std.specs.Prelude.{nat_eq, not, ◌&&◌, ◌||◌, if◌then◌else◌}
 use Rattle.std.specs.List.{AllByRecursion, list_any, range_with_len}
@@ -24,10 +25,7 @@ use Rattle.dw_units.proofs.WindowLemmas.{IsWindow, role_same, parent_of_moved, p
 -- ---- lists of numbers
 
 range_split : (n m a k : ℕ) → k ≡ n + m → range_with_len a k ≡ range_with_len a n ++ range_with_len (a + n) m
-range_split zero m a k is =
-    let here : a ≡ a + 0 = omega arith in
-    let all : k ≡ m = omega (arith, is) in
-    ap (range_with_len a) all ∙ ap (λ (b : ℕ). range_with_len b m) here
+range_split zero m a k is = search (rules)
 range_split (suc n) m a k is =
     let all : k ≡ suc (n + m) = omega (arith, is) in
     let next : a + 1 + n ≡ a + suc n = omega arith in
@@ -36,9 +34,7 @@ range_split (suc n) m a k is =
 
 range_moved : (first n a b : ℕ) → b ≡ first + a → range_with_len b n ≡ map (λ (k : ℕ). first + k) (range_with_len a n)
 range_moved first zero a b is = refl
-range_moved first (suc n) a b is =
-    ap (λ (x : ℕ). x ∷ range_with_len (b + 1) n) is
-    ∙ ap (λ (xs : List ℕ). (first + a) ∷ xs) (range_moved first n (a + 1) (b + 1) (omega (arith, is)))
+range_moved first (suc n) a b is = search (rules, (range_moved first n (a + 1) (b + 1) (omega (arith, is))))
 
 filter_none : (P : ℕ → Bool) (n a : ℕ) → ((k : ℕ) → a ≤ k → k < a + n → P k ≡ false) → filter P (range_with_len a n) ≡ []
 filter_none P zero a none = refl
@@ -53,36 +49,23 @@ all_range (suc n) a m within = (omega (arith, within), all_range n (a + 1) m (om
 
 all_filter : (P : ℕ → Bool) (m : ℕ) (xs : List ℕ) → AllByRecursion (λ (k : ℕ). k < m) xs → AllByRecursion (λ (k : ℕ). k < m) (filter P xs)
 all_filter P m [] all = tt
-all_filter P m (x ∷ xs) (one, more) = go (P x) refl (all_filter P m xs more)
-  where
-    go : (b : Bool) → P x ≡ b → AllByRecursion (λ (k : ℕ). k < m) (filter P xs) → AllByRecursion (λ (k : ℕ). k < m) (filter P (x ∷ xs))
-    go true is rest = rw is (one, rest)
-    go false is rest = rw is rest
+all_filter P m (x ∷ xs) (one, more) = search (rules, (all_filter P m xs more))
 
 module _ (first m : ℕ) where
   filter_moved : (P Q : ℕ → Bool) (xs : List ℕ) → AllByRecursion (λ (k : ℕ). k < m) xs → ((k : ℕ) → k < m → P (first + k) ≡ Q k)
       → filter P (map (λ (k : ℕ). first + k) xs) ≡ map (λ (k : ℕ). first + k) (filter Q xs)
   filter_moved P Q [] all same = refl
-  filter_moved P Q (x ∷ xs) (one, more) same = go (Q x) refl (filter_moved P Q xs more same)
-    where
-      go : (b : Bool) → Q x ≡ b → filter P (map (λ (k : ℕ). first + k) xs) ≡ map (λ (k : ℕ). first + k) (filter Q xs)
-          → filter P (map (λ (k : ℕ). first + k) (x ∷ xs)) ≡ map (λ (k : ℕ). first + k) (filter Q (x ∷ xs))
-      go true is rest = let there = same x one ∙ is in rw there (rw is (ap (λ (ys : List ℕ). (first + x) ∷ ys) rest))
-      go false is rest = let there = same x one ∙ is in rw there (rw is rest)
+  filter_moved P Q (x ∷ xs) (one, more) same = search (rules, (filter_moved P Q xs more same))
 
   any_moved : (P Q : ℕ → Bool) (xs : List ℕ) → AllByRecursion (λ (k : ℕ). k < m) xs → ((k : ℕ) → k < m → P (first + k) ≡ Q k)
       → list_any P (map (λ (k : ℕ). first + k) xs) ≡ list_any Q xs
   any_moved P Q [] all same = refl
-  any_moved P Q (x ∷ xs) (one, more) same =
-      ap (λ (b : Bool). b || list_any P (map (λ (k : ℕ). first + k) xs)) (same x one)
-      ∙ ap (λ (b : Bool). Q x || b) (any_moved P Q xs more same)
+  any_moved P Q (x ∷ xs) (one, more) same = search (rules, (any_moved P Q xs more same))
 
   map_moved : {X : Type 0} (f g : ℕ → X) (xs : List ℕ) → AllByRecursion (λ (k : ℕ). k < m) xs → ((k : ℕ) → k < m → f (first + k) ≡ g k)
       → map f (map (λ (k : ℕ). first + k) xs) ≡ map g xs
   map_moved f g [] all same = refl
-  map_moved f g (x ∷ xs) (one, more) same =
-      ap (λ y. y ∷ map f (map (λ (k : ℕ). first + k) xs)) (same x one)
-      ∙ ap (λ ys. g x ∷ ys) (map_moved f g xs more same)
+  map_moved f g (x ∷ xs) (one, more) same = search (rules, (map_moved f g xs more same))
 
 elements_moved : (first : ℕ) (xs : List ℕ) → has_elements (map (λ (k : ℕ). first + k) xs) ≡ has_elements xs
 elements_moved first [] = refl
