@@ -1,4 +1,5 @@
 -- The line of an entry, the lines of the entries so far, and the bytes of a name as they are shown.
+use Rattle.std.proofs.Common.{rules}
 use Rattle.std.proofs.Common.{◌≡◌, ℕ, zero, suc, ◌+◌, ◌<◌, List, [], ◌∷◌, ◌++◌, length, slice_index, take, drop, Option, Some, None, IfSome, refl, sym, ap, ◌∙◌, append_assoc, append-nil, arith}
 use Rattle.std.specs.Prelude.{slice_get}
 use Rattle.std.specs.List.{enumerate_from, flat_map, All}
@@ -43,20 +44,13 @@ pub entry_line_told : (i : Image) (number : ℕ) (found : Option Entry) (head : 
     → new ≡ old ++ shown_line head.offset head.depth head.tag name size → IfSome found (λ e. new ≡ old ++ entry_line i (number, e))
 unfolding entry_line
 entry_line_told i number None head name size old new is_head is_name is_size is = tt
-entry_line_told i number (Some e) head name size old new is_head is_name is_size is =
-    is ∙ ap (λ (h : Head). old ++ shown_line h.offset h.depth h.tag name size) is_head
-    ∙ ap (λ n. old ++ shown_line e.at e.depth e.head.decl.tag n size) is_name
-    ∙ ap (λ s. old ++ shown_line e.at e.depth e.head.decl.tag (name_in i e) s) is_size
+entry_line_told i number (Some e) head name size old new is_head is_name is_size is = search (rules)
 
 -- one item more of a numbered list
 more_lines : (f : ℕ × Entry → List ℕ) (es : List Entry) (n k : ℕ) (e : Entry) → slice_get es k ≡ Some e
     → flat_map f (take (suc k) (enumerate_from n es)) ≡ flat_map f (take k (enumerate_from n es)) ++ f (n + k, e)
 more_lines f [] n k e there = absurd cc
-more_lines f (x ∷ es) n zero e there =
-    let both : Some x ≡ Some e = there in
-    let same : x ≡ e = cc in
-    let at : n ≡ n + 0 = omega arith in
-    rw (same, ← at) (append-nil _)
+more_lines f (x ∷ es) n zero e there = search (rules, append-nil)
 more_lines f (x ∷ es) n (suc k) e there =
     let at : n + 1 + k ≡ n + suc k = omega arith in
     ap (λ l. f (n, x) ++ l) (more_lines f es (n + 1) k e there ∙ ap (λ m. flat_map f (take k (enumerate_from (n + 1) es)) ++ f (m, e)) at)

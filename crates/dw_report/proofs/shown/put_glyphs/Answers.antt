@@ -6,14 +6,7 @@ use Rattle.dw_report.proofs.ShownLemmas.{glyphs_plain, glyphs_split}
 use Rattle.dw_report.proofs.shown.put_glyphs.Goals as goal
 
 pub loop-at-preserved : goal.loop-at-preserved
-loop-at-preserved c =
-    let rest = c.loop-at.rest.now in
-    let new = c.put_escape.new.text.items in
-    let found = c.in-Some.ensures in
-    ap (λ u. new ++ flat_map glyph u) (take_rest rest (c.in-Some.at + 1))
-    ∙ glyphs_split c.loop-at.text.items _ new _ rest c.in-Some.at found.within found.plain found.escaped
-    c.in_ok-extend_from_slice.ensures.items c.in_ok-put_escape.ensures.ok
-    ∙ c.loop-at.invariant
+loop-at-preserved c = search (rules, take_rest, glyphs_split)
 
 pub returns : goal.returns
 returns c =
