@@ -101,13 +101,8 @@ module _ (all alone : List Facts) (first at : ℕ) (w : IsWindow all alone first
       let middle : filter P (range_with_len (0 + first) n) ≡ map (λ (k : ℕ). first + k) (children alone inner) =
       ap (filter P) (range_moved first n 0 (0 + first) (omega arith))
       ∙ filter_moved first n P (is_child alone inner) (range_with_len 0 n) (all_range n 0 n (omega arith)) (λ k k_in. child_moved inner k k_in) in
-      ap (filter P) (range_split first (n + rest) 0 (length all) (omega (arith, within))
-      ∙ ap (λ (xs : List ℕ). range_with_len 0 first ++ xs) (range_split n rest (0 + first) (n + rest) refl))
-      ∙ filter-append P (range_with_len 0 first) (range_with_len (0 + first) n ++ range_with_len (0 + first + n) rest)
-      ∙ ap (λ (xs : List ℕ). xs ++ filter P (range_with_len (0 + first) n ++ range_with_len (0 + first + n) rest)) before
-      ∙ filter-append P (range_with_len (0 + first) n) (range_with_len (0 + first + n) rest)
-      ∙ ap (λ (xs : List ℕ). filter P (range_with_len (0 + first) n) ++ xs) behind
-      ∙ append-nil (filter P (range_with_len (0 + first) n)) ∙ middle
+      rw (range_split first (n + rest) 0 (length all) (omega (arith, within)), range_split n rest (0 + first) (n + rest) refl)
+      (simp (filter-append, before, behind, middle, append-nil))
 
   children_below : (inner : ℕ) → AllByRecursion (λ (k : ℕ). k < length alone) (children alone inner)
   children_below inner = all_filter (is_child alone inner) (length alone) (entry_numbers alone) (all_range (length alone) 0 (length alone) (omega arith))
@@ -123,7 +118,6 @@ module _ (all alone : List Facts) (first at : ℕ) (w : IsWindow all alone first
 
   regular_moved : (inner : ℕ) → inner < length alone → is_regular all (first + inner) ≡ is_regular alone inner
   regular_moved inner inside =
-      let R : Bool → Bool → Bool → Bool → Bool = λ elements other stride any. (elements && not other) && (not stride && not any) in
       let elements : has_elements (dimensions all (first + inner)) ≡ has_elements (dimensions alone inner) =
       ap has_elements (dimensions_moved inner inside) ∙ elements_moved first (dimensions alone inner) in
       let other : list_any (is_other_index all) (children all (first + inner)) ≡ list_any (is_other_index alone) (children alone inner) =
@@ -136,21 +130,13 @@ module _ (all alone : List Facts) (first at : ℕ) (w : IsWindow all alone first
       ap (list_any (has_stride all)) (dimensions_moved inner inside)
       ∙ any_moved first (length alone) (has_stride all) (has_stride alone) (dimensions alone inner) (dimensions_below inner)
       (λ k within. ap (λ (f : Facts). is_present (constant f DW_AT_bit_stride) || is_present (constant f DW_AT_byte_stride)) (w.facts k within)) in
-      ap (λ (b : Bool). R b (list_any (is_other_index all) (children all (first + inner))) (is_present (constant (entry_of all (first + inner)) DW_AT_bit_stride))
-      (list_any (has_stride all) (dimensions all (first + inner)))) elements
-      ∙ ap (λ (b : Bool). R (has_elements (dimensions alone inner)) b (is_present (constant (entry_of all (first + inner)) DW_AT_bit_stride))
-      (list_any (has_stride all) (dimensions all (first + inner)))) other
-      ∙ ap (λ (b : Bool). R (has_elements (dimensions alone inner)) (list_any (is_other_index alone) (children alone inner)) b
-      (list_any (has_stride all) (dimensions all (first + inner)))) stride
-      ∙ ap (λ (b : Bool). R (has_elements (dimensions alone inner)) (list_any (is_other_index alone) (children alone inner))
-      (is_present (constant (entry_of alone inner) DW_AT_bit_stride)) b) any
+      rw (elements, other, stride, any)
 
   product_moved : (inner : ℕ) → inner < length alone → product_of (map (factor_of all) (dimensions all (first + inner)))
       ≡ product_of (map (factor_of alone) (dimensions alone inner))
   product_moved inner inside =
-      ap (λ (xs : List ℕ). product_of (map (factor_of all) xs)) (dimensions_moved inner inside)
-      ∙ ap product_of (map_moved first (length alone) (factor_of all) (factor_of alone) (dimensions alone inner) (dimensions_below inner)
-      (λ k within. ap (λ (f : Facts). known_natural (count_of f)) (w.facts k within)))
+      rw (dimensions_moved inner inside) (ap product_of (map_moved first (length alone) (factor_of all) (factor_of alone) (dimensions alone inner) (dimensions_below inner)
+      (λ k within. ap (λ (f : Facts). known_natural (count_of f)) (w.facts k within))))
 
   -- ---- sizes, by a table of all and one of the entries alone that agree
 
@@ -179,14 +165,7 @@ module _ (all alone : List Facts) (first at : ℕ) (w : IsWindow all alone first
 
     array_moved : (inner : ℕ) → inner < length alone → array_size all table (first + inner) ≡ array_size alone lone inner
     array_moved inner inside =
-        ap (λ (b : Bool). if b then times (constant_or (constant (entry_of all (first + inner)) DW_AT_byte_stride) (size_to table (entry_of all (first + inner)).type_target))
-        (product_of (map (factor_of all) (dimensions all (first + inner)))) else None) (regular_moved inner inside)
-        ∙ ap (λ (f : Facts). if is_regular alone inner then times (constant_or (constant f DW_AT_byte_stride) (size_to table (entry_of all (first + inner)).type_target))
-        (product_of (map (factor_of all) (dimensions all (first + inner)))) else None) (w.facts inner inside)
-        ∙ ap (λ (z : Size). if is_regular alone inner then times (constant_or (constant (entry_of alone inner) DW_AT_byte_stride) z)
-        (product_of (map (factor_of all) (dimensions all (first + inner)))) else None) (type_moved inner inside)
-        ∙ ap (λ (z : Size). if is_regular alone inner then times (constant_or (constant (entry_of alone inner) DW_AT_byte_stride) (size_to lone (entry_of alone inner).type_target))
-        z else None) (product_moved inner inside)
+        rw (regular_moved inner inside, type_moved inner inside, product_moved inner inside, w.facts inner inside)
 
     kind_moved : (kind : Kind) (inner : ℕ) → inner < length alone → size_of_kind kind all table (first + inner) ≡ size_of_kind kind alone lone inner
     kind_moved Declared inner inside = signature_moved inner inside
@@ -194,11 +173,9 @@ module _ (all alone : List Facts) (first at : ℕ) (w : IsWindow all alone first
     kind_moved Pointer inner inside = ap (λ (f : Facts). constant_or (byte_size f) (Some f.address_size)) (w.facts inner inside)
     kind_moved Alias inner inside = type_moved inner inside
     kind_moved Enumeration inner inside =
-        ap (λ (f : Facts). constant_or (byte_size f) (size_to table (entry_of all (first + inner)).type_target)) (w.facts inner inside)
-        ∙ ap (constant_or (byte_size (entry_of alone inner))) (type_moved inner inside)
+        rw (type_moved inner inside, w.facts inner inside)
     kind_moved Array inner inside =
-        ap (λ (f : Facts). constant_or (byte_size f) (array_size all table (first + inner))) (w.facts inner inside)
-        ∙ ap (constant_or (byte_size (entry_of alone inner))) (array_moved inner inside)
+        rw (array_moved inner inside, w.facts inner inside)
     kind_moved Subroutine inner inside = refl
     kind_moved NoType inner inside = refl
 
@@ -218,15 +195,6 @@ module _ (all alone : List Facts) (first at : ℕ) (w : IsWindow all alone first
 
     pub fails_moved : (inner : ℕ) → inner < length alone → (rule : Rule) → fails_size all table (first + inner) rule ≡ fails_size alone lone inner rule
     fails_moved inner inside rule =
-        ap (λ (role : Role). breaks_size role (entry_of all (first + inner)) (table (first + inner)) (size_to table (entry_of all (first + inner)).parent)
-        (size_to table (entry_of all (first + inner)).type_target) rule) (role_same all alone first at w inner inside)
-        ∙ ap (λ (z : Size). breaks_size (parent_role alone inner) (entry_of all (first + inner)) z (size_to table (entry_of all (first + inner)).parent)
-        (size_to table (entry_of all (first + inner)).type_target) rule) (agree inner inside)
-        ∙ ap (λ (z : Size). breaks_size (parent_role alone inner) (entry_of all (first + inner)) (lone inner) z
-        (size_to table (entry_of all (first + inner)).type_target) rule) (parent_moved inner inside)
-        ∙ ap (λ (z : Size). breaks_size (parent_role alone inner) (entry_of all (first + inner)) (lone inner) (size_to lone (entry_of alone inner).parent)
-        z rule) (type_moved inner inside)
-        ∙ ap (λ (f : Facts). breaks_size (parent_role alone inner) f (lone inner) (size_to lone (entry_of alone inner).parent)
-        (size_to lone (entry_of alone inner).type_target) rule) (w.facts inner inside)
-        ∙ breaks_moved (parent_role alone inner) (entry_of alone inner) (lone inner) (size_to lone (entry_of alone inner).parent)
-        (size_to lone (entry_of alone inner).type_target) rule
+        rw (role_same all alone first at w inner inside, agree inner inside, parent_moved inner inside, type_moved inner inside, w.facts inner inside)
+        (breaks_moved (parent_role alone inner) (entry_of alone inner) (lone inner) (size_to lone (entry_of alone inner).parent)
+        (size_to lone (entry_of alone inner).type_target) rule)
