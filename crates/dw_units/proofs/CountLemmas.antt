@@ -6,6 +6,7 @@ use Rattle.std.specs.List.{AllByRecursion, count_by}
 use Rattle.std.specs.Prelude.{cond}
 use Rattle.std.proofs.lemmas.List.Sums.{sum_by-append, sum_by-cons}
 use Rattle.std.proofs.lemmas.Grind.{flat_map-append}
+use Rattle.std.proofs.lemmas.List.{length-map}
 use Rattle.dw_elf.specs.declared.sections.Sections.{Sections}
 use Rattle.dw_forms.specs.Value.{Datum, str, line_str, str_index, addr_index, sec_offset}
 use Rattle.dw_forms.specs.Codes.{DW_AT_str_offsets_base, DW_AT_addr_base}
@@ -56,10 +57,6 @@ entries_more unit id at (v ∷ us) u =
       ap (λ (xs : List Entry). es ++ xs) same
           ∙ sym (append_assoc es (entries_from (suc unit) (id + node_count v.root) (at + length (unit_bytes v)) us) (map (moved n first place) (entries_of (u ∷ [])))),
     )
-
-length_moved : (n first place : ℕ) (es : List Entry) → length (map (moved n first place) es) ≡ length es
-length_moved n first place [] = refl
-length_moved n first place (e ∷ es) = ap suc (length_moved n first place es)
 
 one_unit : (us : List DebugUnit) → length us ≡ 1 → (u : DebugUnit) × (us ≡ u ∷ [])
 one_unit [] is = absurd (omega (arith, is))
@@ -191,27 +188,20 @@ so_far_next s rest size units entries types units_to entries_to types_to a so on
     let (n, first, place, same) = entries_more 0 0 0 us u in
     let unit_count = so.unit_count in
     let entry_count = so.entry_count in
+    let type_count = so.type_count in
     let one_entries = one.entry_count in
+    let one_types = one.type_count in
+    let counted = ap (count_by is_type_entry) same
+    ∙ sum_by-append (λ (x : Entry). cond (is_type_entry x) 1 0) (entries_of us) (map (moved n first place) (entries_of (u ∷ []))) in
     let split : rest ≡ unit_bytes u ++ drop size rest = sym (take-append-drop size rest) ∙ ap (λ (xs : List ℕ). xs ++ drop size rest) one.bytes in
     record {
       so_far = us ++ u ∷ [];
       alone = all-append (StandsAlone s) us (u ∷ []) so.alone (one.alone, tt);
-      bytes = so.bytes ∙ ap (λ (xs : List ℕ). units_bytes us ++ xs) split ∙ sym (append_assoc (units_bytes us) (unit_bytes u) (drop size rest))
-          ∙ ap (λ (xs : List ℕ). (units_bytes us ++ xs) ++ drop size rest) (sym (append-nil (unit_bytes u)))
-          ∙ ap (λ (xs : List ℕ). xs ++ drop size rest) (sym (flat_map-append unit_bytes us (u ∷ [])));
+      bytes = so.bytes ∙ ap (λ (xs : List ℕ). units_bytes us ++ xs) split 
+          ∙ rw (flat_map-append unit_bytes us (u ∷ []), append-nil (unit_bytes u), append_assoc (units_bytes us) (unit_bytes u) (drop size rest));
       unit_count = omega (arith, p, unit_count, length-append us (u ∷ []));
-      entry_count = omega (
-        arith,
-        q,
-        entry_count,
-        one_entries,
-        ap length same,
-        length-append (entries_of us) (map (moved n first place) (entries_of (u ∷ []))),
-        length_moved n first place (entries_of (u ∷ [])),
-      );
-      type_count = r ∙ ap (λ (k : ℕ). k + a.types) so.type_count ∙ ap (λ (k : ℕ). count_by is_type_entry (entries_of us) + k) (one.type_count ∙ sym (types_moved n first place (entries_of (u ∷ []))))
-          ∙ sym (sum_by-append (λ (x : Entry). cond (is_type_entry x) 1 0) (entries_of us) (map (moved n first place) (entries_of (u ∷ []))))
-          ∙ sym (ap (count_by is_type_entry) same);
+      entry_count = omega (arith, q, entry_count, one_entries, ap length same, length-append {A = Entry}, length-map (entries_of (u ∷ [])) (moved n first place));
+      type_count = omega (arith, r, type_count, one_types, counted, types_moved n first place (entries_of (u ∷ [])));
     }
 
 pub so_far_all : (s : Sections) (c : Counts) → AreSoFar s [] c.units c.entries c.types → AreCounts s c

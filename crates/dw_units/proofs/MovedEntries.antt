@@ -57,11 +57,10 @@ module _ (number first at : ℕ) where
     node_moved above next above_to next_to depth id pos id_to to (leaf h) i p q r =
         ap (λ (e : Entry). e ∷ []) (head_moved above next above_to next_to depth pos to h p q r)
     node_moved above next above_to next_to depth id pos id_to to (parent h ns z) i p q r =
-        ap (λ (e : Entry). e ∷ nodes_entries number id_to (suc depth) (suc id_to) (to + length (head_bytes h)) ns)
-        (head_moved above next above_to next_to depth pos to h p q r)
-        ∙ ap (λ (es : List Entry). moved number first at (record { at = pos; unit = 0; parent = above; depth = depth; next = next; head = h }) ∷ es)
-        (nodes_moved id id_to (suc depth) (suc id) (pos + length (head_bytes h)) (suc id_to) (to + length (head_bytes h)) ns
-        i (omega (arith, i)) (omega (arith, p)))
+        rw (
+          head_moved above next above_to next_to depth pos to h p q r,
+          nodes_moved id id_to (suc depth) (suc id) (pos + length (head_bytes h)) (suc id_to) (to + length (head_bytes h)) ns i (omega arith) (omega arith),
+        )
 
     nodes_moved : (above above_to depth id pos id_to to : ℕ) (ns : Nodes) → above_to ≡ first + above → id_to ≡ first + id
         → to ≡ at + pos
@@ -69,14 +68,13 @@ module _ (number first at : ℕ) where
         ≡ map (moved number first at) (nodes_entries 0 above depth id pos ns)
     nodes_moved above above_to depth id pos id_to to none a i p = refl
     nodes_moved above above_to depth id pos id_to to (n then ns) a i p =
-        ap (λ (es : List Entry). es ++ nodes_entries number above_to depth (id_to + node_count n) (to + length (node_bytes n)) ns)
-        (node_moved (Some above) (first_id ns (id + node_count n)) (Some above_to) (first_id ns (id_to + node_count n)) depth id pos id_to to n
-        i p (ap Some a) (first_moved ns first (id + node_count n) (id_to + node_count n) (omega (arith, i))))
-        ∙ ap (λ (es : List Entry). map (moved number first at) (node_entries 0 (Some above) depth (first_id ns (id + node_count n)) id pos n) ++ es)
-        (nodes_moved above above_to depth (id + node_count n) (pos + length (node_bytes n)) (id_to + node_count n) (to + length (node_bytes n)) ns
-        a (omega (arith, i)) (omega (arith, p)))
-        ∙ sym (map-append (moved number first at) (node_entries 0 (Some above) depth (first_id ns (id + node_count n)) id pos n)
-        (nodes_entries 0 above depth (id + node_count n) (pos + length (node_bytes n)) ns))
+        rw (
+          node_moved (Some above) (first_id ns (id + node_count n)) (Some above_to) (first_id ns (id_to + node_count n)) depth id pos id_to to n
+              i p (ap Some a) (first_moved ns first (id + node_count n) (id_to + node_count n) (omega arith)),
+          nodes_moved above above_to depth (id + node_count n) (pos + length (node_bytes n)) (id_to + node_count n) (to + length (node_bytes n)) ns
+              a (omega arith) (omega arith),
+          map-append,
+        )
 
 -- the entries of a unit in its place
 pub unit_moved : (number first at : ℕ) (u : DebugUnit) → node_entries number None 0 None first (at + header_size u.header.kind) u.root
