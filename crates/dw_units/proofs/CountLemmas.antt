@@ -197,7 +197,7 @@ so_far_next s rest size units entries types units_to entries_to types_to a so on
     record {
       so_far = us ++ u ∷ [];
       alone = all-append (StandsAlone s) us (u ∷ []) so.alone (one.alone, tt);
-      bytes = so.bytes ∙ ap (λ (xs : List ℕ). units_bytes us ++ xs) split 
+      bytes = so.bytes ∙ ap (λ (xs : List ℕ). units_bytes us ++ xs) split
           ∙ rw (flat_map-append unit_bytes us (u ∷ []), append-nil (unit_bytes u), append_assoc (units_bytes us) (unit_bytes u) (drop size rest));
       unit_count = omega (arith, p, unit_count, length-append us (u ∷ []));
       entry_count = omega (arith, q, entry_count, one_entries, ap length same, length-append {A = Entry}, length-map (entries_of (u ∷ [])) (moved n first place));

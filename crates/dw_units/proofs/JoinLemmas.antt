@@ -6,7 +6,7 @@ use Rattle.std.specs.List.{AllByRecursion}
 use Rattle.std.specs.Prelude.{slice_get, if◌then◌else◌}
 use Rattle.std.proofs.lemmas.Option.{slice_get_within}
 use Rattle.dw_elf.specs.declared.sections.Sections.{Sections}
-use Rattle.dw_entries.specs.Units.{DebugUnit, AreUnits, units_bytes, unit_bytes}
+use Rattle.dw_entries.specs.Units.{DebugUnit, units_bytes, unit_bytes}
 use Rattle.dw_entries.specs.Entries.{node_count, PlacedUnit, placed_from, placed}
 use Rattle.dw_entries.specs.Places.{at_entry}
 use Rattle.dw_entries.specs.Failures.{HasNone}
@@ -22,14 +22,10 @@ use Rattle.dw_units.specs.Alone.{StandsAlone, JoinsUnits}
 use Rattle.dw_units.proofs.TypeLemmas.{in_window, shapes_join, contained_join}
 use Rattle.dw_units.proofs.WindowSizes.{line_moved, fails_moved}
 use Rattle.dw_units.proofs.TextLemmas.{classes_join, strings_join}
-use Rattle.dw_units.proofs.ReferenceLemmas.{references_join}
-
-are_units : (s : Sections) (us : List DebugUnit) → AllByRecursion (StandsAlone s) us → AreUnits s.«abbrev».now us
-are_units s [] all = tt
-are_units s (u ∷ us) (one, more) = (one.is_unit, are_units s us more)
+use Rattle.dw_units.proofs.ReferenceLemmas.{all_units, references_join}
 
 pub trees_join : (s : Sections) (us : List DebugUnit) → AllByRecursion (StandsAlone s) us → s.info.now ≡ units_bytes us → SpellsInfo s us
-trees_join s us all parts = record { are = are_units s us all; parts = parts }
+trees_join s us all parts = record { are = all_units s us all; parts = parts }
 
 count_alone : (u : DebugUnit) → length (facts_in (u ∷ [])) ≡ node_count u.root
 count_alone u = search (rules, length-facts_of, append-nil, length-node_entries)

@@ -18,6 +18,10 @@ abbrev pub moved_number : ℕ → Option ℕ → Option ℕ
 moved_number first None = None
 moved_number first (Some id) = Some (first + id)
 
+pub none_moved : (first : ℕ) (o : Option ℕ) → moved_number first o ≡ None → o ≡ None
+none_moved first None is = refl
+none_moved first (Some id) is = absurd cc
+
 -- an entry of the unit alone, in the place of the unit with this number, first entry and offset
 abbrev pub moved : (number first at : ℕ) → Entry → Entry
 moved number first at e = record {

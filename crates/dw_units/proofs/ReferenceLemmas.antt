@@ -22,13 +22,9 @@ use Rattle.dw_links.proofs.Skips.{there}
 use Rattle.std.proofs.lemmas.Option.{slice_get_within}
 use Rattle.dw_links.proofs.TargetLaws.{at_reach_in_unit}
 use Rattle.dw_units.specs.Alone.{leads_out, StandsAlone}
-use Rattle.dw_units.proofs.MovedEntries.{moved_number, moved, get}
+use Rattle.dw_units.proofs.MovedEntries.{moved_number, none_moved, moved, get}
 use Rattle.dw_units.proofs.TextLemmas.{unit_zero, alone_at, heads_join}
 use Rattle.dw_units.proofs.ReachLemmas.{reach_moved}
-
-pub none_moved : (first : ℕ) (o : Option ℕ) → moved_number first o ≡ None → o ≡ None
-none_moved first None is = refl
-none_moved first (Some id) is = absurd cc
 
 pub some_moved : (first : ℕ) (o : Option ℕ) (id : ℕ) → moved_number first o ≡ Some id → (k : ℕ) × (o ≡ Some k) × (first + k ≡ id)
 some_moved first None id is = absurd cc

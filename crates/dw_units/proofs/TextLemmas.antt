@@ -25,7 +25,7 @@ use Rattle.dw_links.specs.Classes.{class_of, allows_in, ClassFails, ClassFailure
 use Rattle.dw_links.specs.Strings.{StringFailsIn, StringFails, StringFailures}
 use Rattle.dw_links.specs.Bases.{base_in, section_offset_in, section_offset_of}
 use Rattle.dw_units.specs.Alone.{StandsAlone}
-use Rattle.dw_units.proofs.MovedEntries.{moved_number, moved, found}
+use Rattle.dw_units.proofs.MovedEntries.{none_moved, moved, found}
 
 -- a unit alone, in its place
 abbrev pub lone : DebugUnit → PlacedUnit
@@ -123,16 +123,12 @@ base_same us number p attribute is =
     else option_and_then section_offset_in (value_in (values_of h) attribute) in
     ap F all.is_entry ∙ ap G heads ∙ sym (ap F alone.is_entry)
 
-no_parent : (first : ℕ) (parent : Option ℕ) → moved_number first parent ≡ None → parent ≡ None
-no_parent first None is = refl
-no_parent first (Some id) is = absurd cc
-
 -- of the head only its parent is asked
 strings_in : (s : Sections) (header : UnitHeader) (strings addresses : Option ℕ) (number first at : ℕ) (e : Entry) (attribute : ℕ) (v : Datum)
     (rule : Rule) → StringFailsIn s header strings addresses (entry_head (moved number first at e)) attribute v rule
     → StringFailsIn s header strings addresses (entry_head e) attribute v rule
 strings_in s header strings addresses number first at e attribute (sec_offset base) rule (parent, version, fails) =
-    (no_parent first e.parent parent, version, fails)
+    (none_moved first e.parent parent, version, fails)
 strings_in s header strings addresses number first at e attribute v rule fails = fails
 
 string_alone : (s : Sections) (us : List DebugUnit) (number : ℕ) (p : PlacedUnit) → slice_get (placed us) number ≡ Some p → (e : Entry)

@@ -1,7 +1,7 @@
 -- The facts of a unit among all, as a window: shapes and steps there are those of the unit alone.
 use Rattle.std.proofs.Common.{rules}
-use Rattle.std.proofs.Common.{◌≡◌, ℕ, ◌+◌, ◌-◌, zero, suc, ◌<◌, ◌≤◌, Bool, true, false, List, [], ◌∷◌, length, map, Option, Some, None, refl, sym, ap, subst, ◌∙◌, arith}
-use Rattle.std.proofs.lemmas.Bool.{eqb-true}
+use Rattle.std.proofs.Common.{◌≡◌, ℕ, ◌+◌, ◌-◌, zero, suc, ◌<◌, ◌≤◌, Bool, true, List, [], ◌∷◌, length, map, Option, Some, None, refl, sym, ap, subst, ◌∙◌, arith}
+use Rattle.std.proofs.lemmas.Bool.{and_parts, eqb-true}
 use Rattle.std.specs.Prelude.{slice_index, is_some, nat_eq, not, ◌&&◌, ◌||◌}
 use Rattle.dw_entries.specs.declared.fault.Rule.{Rule}
 use Rattle.dw_entries.specs.declared.fault.Rule.TheVariants.{MissingType, BadCount}
@@ -38,17 +38,6 @@ pub parent_is : (o : Option ℕ) (node : ℕ) → is_parent o node ≡ true → 
 parent_is None node is = absurd cc
 parent_is (Some k) node is = ap Some (eqb-true k node is)
 
-both_are : (a b : Bool) → (a && b) ≡ true → (a ≡ true) × (b ≡ true)
-both_are true b is = (refl, is)
-both_are false b is = absurd cc
-
--- a plain member, by its container, itself and whether the one is the parent of the other
-abbrev has_and : Facts → Facts → Bool → Bool
-has_and container member child = has_members container && (nat_eq member.tag DW_TAG_member && (not member.declared && child))
-
-abbrev has_members_and : Facts → Facts → ℕ → Bool
-has_members_and container member node = has_and container member (is_parent member.parent node)
-
 module _ (all alone : List Facts) (first at : ℕ) (w : IsWindow all alone first at) where
   role_moved : (o : Option ℕ) → ((k : ℕ) → o ≡ Some k → k < length alone) → role_in all (moved_number first o) ≡ role_in alone o
   role_moved None below = refl
@@ -78,9 +67,9 @@ module _ (all alone : List Facts) (first at : ℕ) (w : IsWindow all alone first
       let (k, target, same) = some_moved first (entry_of alone inner).type_target to (sym (ap (λ (x : Facts). x.type_target) f) ∙ is) in
       (k, (w.targets inner k).0 target, sym same, by_type (sym (ap passes_type_on f) ∙ passes) target)
   step_alone inner to inside (by_member member below plain is) =
-      let (has, rest) = both_are (has_members (entry_of all (first + inner))) (nat_eq (entry_of all member).tag DW_TAG_member && (not (entry_of all member).declared && is_parent (entry_of all member).parent (first + inner))) plain in
-      let (tag, more) = both_are (nat_eq (entry_of all member).tag DW_TAG_member) (not (entry_of all member).declared && is_parent (entry_of all member).parent (first + inner)) rest in
-      let (kept, child) = both_are (not (entry_of all member).declared) (is_parent (entry_of all member).parent (first + inner)) more in
+      let rest = and_parts (has_members (entry_of all (first + inner))) _ plain in
+      let more = and_parts (nat_eq (entry_of all member).tag DW_TAG_member) _ rest.1 in
+      let child = (and_parts (not (entry_of all member).declared) _ more.1).1 in
       let (m, within, there) = w.children member inner below inside (parent_is (entry_of all member).parent (first + inner) child) in
       let f = w.facts m within in
       let target_is : (entry_of all (first + m)).type_target ≡ Some to = ap (λ (n : ℕ). (entry_of all n).type_target) (sym there) ∙ is in

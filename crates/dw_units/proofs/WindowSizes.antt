@@ -1,7 +1,7 @@
 -- Children and sizes in a window are those of the entries alone.
 use Rattle.std.proofs.Common.{rules}
 use Rattle.std.proofs.Common.{◌≡◌, ℕ, ◌+◌, ◌-◌, zero, suc, ◌<◌, ◌≤◌, Bool, true, false, List, [], ◌∷◌, ◌++◌, length, map, filter, Option, Some, None, refl, ap, ◌∙◌, arith, append-nil}
-use Rattle.std.specs.Prelude.{nat_eq, not, ◌&&◌, ◌||◌, if◌then◌else◌}
+use Rattle.std.specs.Prelude.{nat_eq, not, ◌&&◌, ◌||◌}
 use Rattle.std.specs.List.{AllByRecursion, list_any, range_with_len}
 use Rattle.std.proofs.lemmas.List.Elements.{filter-append}
 use Rattle.dw_entries.specs.declared.fault.Rule.{Rule}
@@ -17,7 +17,7 @@ use Rattle.dw_types.specs.Shapes.{stands_alone}
 use Rattle.dw_links.specs.Classes.{is_one_of}
 use Rattle.dw_forms.specs.Codes.{DW_TAG_enumeration_type, DW_TAG_generic_subrange, DW_TAG_subrange_type, DW_AT_bit_stride, DW_AT_byte_stride}
 use Rattle.dw_types.specs.SizeTables.{Size}
-use Rattle.dw_types.specs.Sizes.{is_subrange, dimensions, times, product_of, factor_of, has_stride, is_other_index, has_elements, is_regular, size_to, constant_or, array_size, size_of_kind, size_line}
+use Rattle.dw_types.specs.Sizes.{is_subrange, dimensions, product_of, factor_of, has_stride, is_other_index, has_elements, is_regular, size_to, constant_or, array_size, size_of_kind, size_line}
 use Rattle.dw_types.specs.SizeFaults.{breaks_size, fails_size, differ}
 use Rattle.dw_units.proofs.MovedEntries.{moved_number, moved_facts}
 use Rattle.dw_units.proofs.WindowLemmas.{IsWindow, role_same, parent_of_moved, parent_is, some_of_moved}
