@@ -1,6 +1,6 @@
 -- One unit alone among the sections, and one more unit after those so far.
 use Rattle.std.proofs.Common.{rules}
-use Rattle.std.proofs.Common.{◌≡◌, ℕ, ◌+◌, suc, ◌≤◌, List, [], ◌∷◌, ◌++◌, length, map, take, drop, Option, Some, None, refl, sym, ap, subst, ◌∙◌, inl, inr, arith, append_assoc, append-nil, length-append, take-append-drop}
+use Rattle.std.proofs.Common.{◌≡◌, ℕ, ◌+◌, suc, List, [], ◌∷◌, ◌++◌, length, map, take, drop, Option, Some, None, refl, sym, ap, subst, ◌∙◌, inl, inr, arith, append_assoc, append-nil, length-append, take-append-drop}
 use Rattle.std.specs.Prelude.{slice_get}
 use Rattle.std.specs.List.{AllByRecursion, count_by}
 use Rattle.std.specs.Prelude.{cond}
@@ -21,7 +21,6 @@ use Rattle.dw_entries.specs.Failures.{HasNone}
 use Rattle.dw_entries.proofs.HeadLaws.{all-append}
 use Rattle.dw_links.specs.Bases.{base_in}
 use Rattle.dw_entries.specs.Lookups.{entry_head}
-use Rattle.dw_links.specs.Contributions.{IsContribution, slot_count}
 use Rattle.dw_links.specs.Strings.{StringIndexFails, AddressIndexFails, OffsetFails, BaseFails, StringFailsIn, StringFailures}
 use Rattle.dw_units.specs.declared.counting.Counts.{Counts}
 use Rattle.dw_image.specs.declared.image.Image.{Image}
@@ -88,23 +87,19 @@ module _ (s own : Sections) (shares : Shares s own) where
   string_index_in : (base : Option ℕ) (index : ℕ) (rule : Rule) → StringIndexFails s base index rule → StringIndexFails own base index rule
   string_index_in None index BadStrBase fails = tt
   string_index_in None index rule fails = absurd fails
-  string_index_in (Some base) index StrIndex fails =
-      subst (λ (l : List ℕ). IsContribution l 4 0 base × (slot_count l 4 base ≤ index)) (sym shares.str_offsets_same) fails
+  string_index_in (Some base) index StrIndex fails = search (rules)
   string_index_in (Some base) index StringEnd fails = search (rules)
   string_index_in (Some base) index rule fails = absurd fails
 
   address_index_in : (header : UnitHeader) (base : Option ℕ) (index : ℕ) (rule : Rule) → AddressIndexFails s header base index rule → AddressIndexFails own header base index rule
   address_index_in header None index BadAddrBase fails = tt
   address_index_in header None index rule fails = absurd fails
-  address_index_in header (Some base) index AddrIndex fails =
-      subst (λ (l : List ℕ). IsContribution l header.address_size header.address_size base × (slot_count l header.address_size base ≤ index)) (sym shares.addr_same) fails
+  address_index_in header (Some base) index AddrIndex fails = search (rules)
   address_index_in header (Some base) index rule fails = absurd fails
 
   base_in_own : (header : UnitHeader) (attribute base : ℕ) (rule : Rule) → BaseFails s header attribute base rule → BaseFails own header attribute base rule
-  base_in_own header attribute base rule (inl (is, only, never)) =
-      inl (is, only, λ yes. never (subst (λ (l : List ℕ). IsContribution l 4 0 base) shares.str_offsets_same yes))
-  base_in_own header attribute base rule (inr (is, only, never)) =
-      inr (is, only, λ yes. never (subst (λ (l : List ℕ). IsContribution l header.address_size header.address_size base) shares.addr_same yes))
+  base_in_own header attribute base rule (inl (is, only, never)) = search (rules)
+  base_in_own header attribute base rule (inr (is, only, never)) = search (rules)
 
   string_in_own : (header : UnitHeader) (strings addresses : Option ℕ) (head : EntryHead) (attribute : ℕ) (v : Datum) (rule : Rule)
       → StringFailsIn s header strings addresses head attribute v rule → StringFailsIn own header strings addresses head attribute v rule

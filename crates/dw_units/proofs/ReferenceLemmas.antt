@@ -1,7 +1,7 @@
 -- The rules on references: none fails.
 use Rattle.std.proofs.Common.{rules}
 use Rattle.std.proofs.lemmas.Grind.{common_steps}
-use Rattle.std.proofs.Common.{◌≡◌, ℕ, ◌+◌, ◌<◌, ◌==◌, true, false, List, [], ◌∷◌, length, Option, Some, None, refl, sym, ap, subst, ◌∙◌, inl, inr, arith, eq-eqb}
+use Rattle.std.proofs.Common.{◌≡◌, ℕ, ◌+◌, ◌<◌, ◌==◌, true, false, List, [], ◌∷◌, length, Option, Some, None, refl, sym, ap, subst, ◌∙◌, inl, inr, eq-eqb}
 use Rattle.std.proofs.lemmas.Bool.{eqb-true}
 use Rattle.std.specs.Prelude.{slice_get}
 use Rattle.std.specs.List.{AllByRecursion}
@@ -52,8 +52,7 @@ no_signature units v stays fails = fails
 
 other_alone : (first : ℕ) (next alone : Option ℕ) → IsOtherThan (moved_number first next) (moved_number first alone) → IsOtherThan next alone
 other_alone first None alone other = tt
-other_alone first (Some n) alone (id, reached, apart) =
-    let (k, is, same) = some_moved first alone id reached in (k, is, λ e. apart (omega (arith, same, e)))
+other_alone first (Some n) alone (id, reached, apart) = search (rules, some_moved)
 
 module _ (us : List DebugUnit) (rise : OffsetsRise (entries_of us)) (number : ℕ) (p : PlacedUnit) (is : slice_get (placed us) number ≡ Some p)
     (alone_rise : OffsetsRise (entries_of (p.unit ∷ []))) where
@@ -79,11 +78,10 @@ module _ (us : List DebugUnit) (rise : OffsetsRise (entries_of us)) (number : �
       → reach_of (entries_of us) (placed us) number v ≡ moved_number p.first (reach_of (entries_of (p.unit ∷ [])) (placed (p.unit ∷ [])) e.unit v)
       → ReferenceFailsBy (entries_of us) (placed us) (entry_head (moved number p.first p.at e)) attribute v rule
       → ReferenceFailsBy (entries_of (p.unit ∷ [])) (placed (p.unit ∷ [])) (entry_head e) attribute v rule
-  by_alone e attribute v NoEntry stays reached (by_offset, none) =
-      (by_offset, none_moved p.first (reach_of (entries_of (p.unit ∷ [])) (placed (p.unit ∷ [])) e.unit v) (sym reached ∙ none))
+  by_alone e attribute v NoEntry stays reached (by_offset, none) = search (rules, none_moved)
   by_alone e attribute v WrongKind stays reached (inl form) = inl form
   by_alone e attribute v WrongKind stays reached (inr wrong) =
-      grind (arith, common_steps, wrong_alone, reached_below, moved)
+      search (rules, common_steps, wrong_alone, reached_below, moved)
   by_alone e attribute v NotNextSibling stays reached (sibling, other) = search (rules, other_alone, moved_number)
   by_alone e attribute v NoSignature stays reached fails = absurd (no_signature (placed us) v stays fails)
   by_alone e attribute v rule stays reached fails = absurd fails

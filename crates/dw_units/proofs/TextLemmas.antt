@@ -128,7 +128,7 @@ strings_in : (s : Sections) (header : UnitHeader) (strings addresses : Option �
     (rule : Rule) → StringFailsIn s header strings addresses (entry_head (moved number first at e)) attribute v rule
     → StringFailsIn s header strings addresses (entry_head e) attribute v rule
 strings_in s header strings addresses number first at e attribute (sec_offset base) rule (parent, version, fails) =
-    (none_moved first e.parent parent, version, fails)
+    search (rules, none_moved)
 strings_in s header strings addresses number first at e attribute v rule fails = fails
 
 string_alone : (s : Sections) (us : List DebugUnit) (number : ℕ) (p : PlacedUnit) → slice_get (placed us) number ≡ Some p → (e : Entry)

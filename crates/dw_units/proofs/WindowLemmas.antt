@@ -1,17 +1,17 @@
 -- The facts of a unit among all, as a window: shapes and steps there are those of the unit alone.
 use Rattle.std.proofs.Common.{rules}
-use Rattle.std.proofs.Common.{◌≡◌, ℕ, ◌+◌, ◌-◌, zero, suc, ◌<◌, ◌≤◌, Bool, true, List, [], ◌∷◌, length, map, Option, Some, None, refl, sym, ap, subst, ◌∙◌, arith}
+use Rattle.std.proofs.Common.{◌≡◌, ℕ, ◌+◌, ◌-◌, zero, suc, ◌<◌, ◌≤◌, true, List, [], ◌∷◌, length, map, Option, Some, None, refl, sym, ap, subst, ◌∙◌, arith}
 use Rattle.std.proofs.lemmas.Bool.{and_parts, eqb-true}
-use Rattle.std.specs.Prelude.{slice_index, is_some, nat_eq, not, ◌&&◌, ◌||◌}
+use Rattle.std.specs.Prelude.{slice_index, is_some, nat_eq, not}
 use Rattle.dw_entries.specs.declared.fault.Rule.{Rule}
 use Rattle.dw_entries.specs.declared.fault.Rule.TheVariants.{MissingType, BadCount}
 use Rattle.dw_types.specs.declared.kind.Role.{Role}
 use Rattle.dw_types.specs.Entries.{entry_of, is_parent, ParentsComeFirst, TargetsAreEntries, Facts}
 use Rattle.dw_types.specs.Graphs.{IsStep, IsClosed}
-use Rattle.dw_types.specs.Kinds.{role_of, role_in, parent_role, is_array, has_members, passes_type_on, is_declared_type}
+use Rattle.dw_types.specs.Kinds.{role_of, role_in, parent_role, has_members, passes_type_on, is_declared_type}
 use Rattle.dw_forms.specs.Codes.{DW_TAG_member}
 use Rattle.std.proofs.lemmas.List.{length-map}
-use Rattle.dw_types.specs.Shapes.{is_plain, stands_alone, breaks_shape, fails_shape}
+use Rattle.dw_types.specs.Shapes.{breaks_shape, fails_shape}
 use Rattle.dw_types.specs.Steps.{by_value, IsStepByValue, by_type, by_member, by_signature, is_plain_member}
 use Rattle.dw_types.proofs.StepLemmas.{by_value-from_step, step-from_by_value}
 use Rattle.dw_units.proofs.MovedEntries.{moved_number, moved_facts}
@@ -47,8 +47,7 @@ module _ (all alone : List Facts) (first at : ℕ) (w : IsWindow all alone first
   role_same inner inside = search (rules, role_moved)
 
   shape_moved : (role : Role) (f : Facts) (rule : Rule) → breaks_shape role (moved_facts first at f) rule ≡ breaks_shape role f rule
-  shape_moved role f MissingType =
-      ap (λ (b : Bool). (is_array f || is_plain role f) && (not b && stands_alone f)) (some_of_moved first f.type_target)
+  shape_moved role f MissingType = search (rules, some_of_moved)
   shape_moved role f BadCount = refl
   shape_moved role f rule = refl
 

@@ -11,7 +11,7 @@ use Rattle.dw_types.specs.declared.kind.Kind.TheVariants.{Declared, OwnSized, Po
 use Rattle.dw_types.specs.declared.kind.Role.{Role}
 use Rattle.dw_types.specs.Constants.{is_present, natural_of}
 use Rattle.dw_types.specs.Counts.{count_of, known_natural}
-use Rattle.dw_types.specs.Entries.{entry_of, is_parent, is_child, children, entry_numbers, Facts, byte_size, constant}
+use Rattle.dw_types.specs.Entries.{entry_of, is_child, children, entry_numbers, Facts, byte_size, constant}
 use Rattle.dw_types.specs.Kinds.{kind_of, parent_role, is_enumeration}
 use Rattle.dw_types.specs.Shapes.{stands_alone}
 use Rattle.dw_links.specs.Classes.{is_one_of}
@@ -79,8 +79,7 @@ false_unless false never = refl
 
 module _ (all alone : List Facts) (first at : ℕ) (w : IsWindow all alone first at) where
   child_moved : (inner k : ℕ) → k < length alone → is_child all (first + inner) (first + k) ≡ is_child alone inner k
-  child_moved inner k within =
-      ap (λ (f : Facts). is_parent f.parent (first + inner)) (w.facts k within) ∙ parent_of_moved first (entry_of alone k).parent inner
+  child_moved inner k within = search (rules, parent_of_moved)
 
   no_child : (inner k : ℕ) → inner < length alone → k < length all → ((j : ℕ) → j < length alone → k ≡ first + j → ⊥)
       → is_child all (first + inner) k ≡ false
