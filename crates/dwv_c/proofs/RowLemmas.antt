@@ -1,8 +1,9 @@
 -- The row of an entry, and the rows that are written so far.
-use Rattle.std.proofs.Common.{◌≡◌, ℕ, zero, suc, ◌+◌, ◌<◌, ◌≤◌, ◌⊎◌, inl, inr, Bool, true, false, cond, List}
+use Rattle.std.proofs.Common.{rules}
+use Rattle.std.proofs.Common.{◌≡◌, ℕ, zero, suc, ◌+◌, ◌<◌, ◌≤◌, ◌⊎◌, List}
 use Rattle.std.proofs.Common.{[], ◌∷◌, length, drop, min, Option, Some, None, Err, IfSome, refl, sym, ap, subst, ◌∙◌}
 use Rattle.std.proofs.Common.{arith}
-use Rattle.std.specs.Prelude.{nat_lt, slice_get, slice_set, option_map}
+use Rattle.std.specs.Prelude.{slice_get, slice_set, option_map}
 use Rattle.std.specs.Option.{IsSomeAnd}
 use Rattle.dw_elf.specs.Sections.{IsAt}
 use Rattle.dw_entries.specs.Entries.{Entry}
@@ -94,33 +95,16 @@ one_more_row : (file : List ℕ) (i : Image) (n : ℕ) (rows : List EntryRow) (r
     → n < length rows → HaveRows file i n rows
     → IfSome (slice_get (entries_in i) n) (λ e. IsRow file i n e r) → HaveRows file i (n + 1) (slice_set rows n r)
 one_more_row file i n rows r below room so_far says k d within at =
-    elim (below_or_not k n) [
-      | inl less ↦ subst (λ (o : Option EntryRow). IsSomeAnd o (IsRow file i k d))
-          (sym (get_set_other rows n k r less)) (so_far k d less at)
-      | inr past ↦
-          let same : n ≡ k = omega (arith, within, past) in
-          let here : IfSome (slice_get (entries_in i) k) (λ e. IsRow file i k e r) =
-          subst (λ (m : ℕ). IfSome (slice_get (entries_in i) m) (λ e. IsRow file i m e r)) same says in
-          let row : IsRow file i k d r = rw at at here in
-          subst (λ (o : Option EntryRow). IsSomeAnd o (IsRow file i k d))
-          (sym (ap (λ (m : ℕ). slice_get (slice_set rows n r) m) (sym same) ∙ get_set_same rows n r room)) row
-    ]
+    search (rules, below_or_not, get_set_other, get_set_same)
 
 nth_is : (entries : List Entry) (k id : ℕ) → Some id ≡ nth_of entries k → id ≡ k
-nth_is entries k id is = go (nat_lt k (length entries)) is
-  where
-    go : (b : Bool) → Some id ≡ cond b (Some k) None → id ≡ k
-    go true is = some_is is
-    go false is = absurd cc
+nth_is entries k id is = search (rules, some_is)
 
 -- so with the row of the entry that a look-up by its number returns
 pub next_row : (file : List ℕ) (i : Image) (n id : ℕ) (rows : List EntryRow) (r : EntryRow)
     → Some id ≡ nth_of (entries_in i) n → n < entry_count i → n < length rows → HaveRows file i n rows
     → IfSome (slice_get (entries_in i) id) (λ e. IsRow file i id e r) → HaveRows file i (n + 1) (slice_set rows n r)
-next_row file i n id rows r found below room so_far says =
-    one_more_row file i n rows r below room so_far
-    (subst (λ (m : ℕ). IfSome (slice_get (entries_in i) m) (λ e. IsRow file i m e r))
-    (nth_is (entries_in i) n id found) says)
+next_row file i n id rows r found below room so_far says = search (rules, one_more_row, nth_is)
 
 -- a parent has an earlier number
 pub parent_before : (i : Image) (k : ℕ) (room : ℕ) (found : Option Entry) (parent : Option ℕ) → k ≤ room

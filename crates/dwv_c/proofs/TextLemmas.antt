@@ -1,5 +1,6 @@
 -- The texts of a verdict are shorter than their fields.
-use Rattle.std.proofs.Common.{◌≡◌, ℕ, ◌-◌, ◌<◌, List, ◌++◌, length, drop, replicate, refl, ap, ◌∙◌, arith}
+use Rattle.std.proofs.Common.{rules}
+use Rattle.std.proofs.Common.{◌≡◌, ℕ, ◌<◌, List, ◌++◌, length, drop, replicate, refl, arith}
 use Rattle.std.proofs.lemmas.List.{drop-replicate}
 use Rattle.dw_elf.specs.declared.fault.ElfRule.{ElfRule}
 use Rattle.dw_elf.specs.declared.fault.ElfRule.TheVariants.{TooLarge}
@@ -15,10 +16,7 @@ use Rattle.dwv_c.specs.Verdicts.{fault_verdict, field_text}
 -- a text over the first of n zero bytes
 pub filled : (n : ℕ) (text bytes field : List ℕ) → bytes ≡ text
     → field ≡ bytes ++ drop (length bytes) (replicate n 0) → field ≡ field_text n text
-filled n text bytes field same is =
-    let zeros : ◌≡◌ {A = List ℕ} (drop (length text) (replicate n 0)) (replicate (n - length text) 0) =
-    drop-replicate (length text) n 0 in
-    is ∙ ap (λ bs. bs ++ drop (length bs) (replicate n 0)) same ∙ ap (λ zs. text ++ zs) zeros
+filled n text bytes field same is = search (rules, drop-replicate)
 
 pub with_fields : (at attribute : ℕ) (rule section name r s n : List ℕ) → r ≡ field_text 8 rule
     → s ≡ field_text 16 section

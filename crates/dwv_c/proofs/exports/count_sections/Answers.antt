@@ -1,12 +1,11 @@
+use Rattle.std.proofs.Common.{rules}
 use Rattle.std.proofs.Common.{subst}
 use Rattle.dw_image.specs.Headline.{IsFaultOf, IsImageOf}
 use Rattle.dw_units.specs.Counted.{AreCounts}
 use Rattle.dwv_c.proofs.exports.count_sections.Goals as goal
 
 pub returns-in-Some : goal.returns-in-Some
-returns-in-Some c =
-    let counts : AreCounts c.args.sections c.in-Some.counts = rw c.in-Some.is at c.in_ok-counts.ensures in
-    counts
+returns-in-Some c = search (rules)
 
 pub returns-in-Sound : goal.returns-in-Sound
 returns-in-Sound c =

@@ -1,22 +1,11 @@
-use Rattle.std.proofs.Common.{ap, sym, subst, refl}
+use Rattle.std.proofs.Common.{rules}
+use Rattle.std.proofs.Common.{sym, subst, refl}
 use Rattle.dwv_c.specs.Verdicts.{IsFaultOfSix, large}
 use Rattle.dwv_c.proofs.CheckLemmas.{checked_six}
 use Rattle.dwv_c.proofs.exports.count_six.Goals as goal
 
 pub returns-in-Ok : goal.returns-in-Ok
-returns-in-Ok c =
-    checked_six c.args.info.now c.args.abbrev.now c.args.str.now c.args.line_str.now c.args.str_offsets.now
-    c.args.addr.now
-    c.in-Ok.sections c.count_sections.result
-    (record {
-      info_is = ap (λ b. b.now) c.in-Ok.ensures.info;
-      abbrev_is = ap (λ b. b.now) c.in-Ok.ensures.«abbrev»;
-      str_is = ap (λ b. b.now) c.in-Ok.ensures.str;
-      line_str_is = ap (λ b. b.now) c.in-Ok.ensures.line_str;
-      str_offsets_is = ap (λ b. b.now) c.in-Ok.ensures.str_offsets;
-      addr_is = ap (λ b. b.now) c.in-Ok.ensures.addr;
-    })
-    c.count_sections.ensures
+returns-in-Ok c = search (rules, checked_six)
 
 pub returns-in-Err : goal.returns-in-Err
 returns-in-Err c =
