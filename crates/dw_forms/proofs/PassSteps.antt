@@ -1,7 +1,8 @@
 -- Values are passed run by run: from one value of no one size to the next.
 use Rattle.std.proofs.lemmas.Grind.{common_steps}
-use Rattle.std.proofs.Common.{rules}
-use Rattle.std.proofs.Common.{◌≡◌, ℕ, ◌+◌, ◌<◌, ◌≤◌, ◌⊎◌, Bool, true, false, ltb, List, [], ◌∷◌, ◌++◌, length, drop, Some, Result, Ok, Err, inl, inr, refl, sym, ap, ◌∙◌, arith}
+use Rattle.std.proofs.Common.{◌≡◌, ℕ, ◌+◌, ◌<◌, ◌≤◌, ◌⊎◌, Bool, true, false, ltb, List, [], ◌∷◌, ◌++◌, length, drop, Option, Some, None, Result, Ok, Err, inl, inr, refl, sym, ap, ◌∙◌, rules, arith}
+use Rattle.std.specs.Prelude.{is_none}
+use Rattle.std.specs.Option.{unwrap_or}
 use Rattle.std.specs.List.{list_any}
 use Rattle.std.proofs.lemmas.Bool.{lt-ltb, le-ltb, ltb-true, ltb-false, or_parts}
 use Rattle.std.proofs.lemmas.List.{drop-drop, length-drop, map-append}
@@ -21,25 +22,16 @@ use Rattle.dw_forms.specs.Plans.{known_size, does_vary, known_sum, cut_at, value
 
 -- ---- a form that does not vary has one size
 
-apart : true ≡ false → ⊥
-apart e = cc
+some_is : (o : Option ℕ) → is_none o ≡ false → o ≡ Some (unwrap_or o 0)
+some_is None e = absurd cc
+some_is (Some n) e = refl
+
+vary_same : (f : Form) (size : ℕ) → is_none (fixed_size_of size f) ≡ does_vary f
+vary_same form.Addr size = refl
+vary_same f size = refl
 
 pub has_size : (f : Form) (size : ℕ) → does_vary f ≡ false → fixed_size_of size f ≡ Some (known_size size f)
-has_size form.Block2 size e = absurd (apart e)
-has_size form.Block4 size e = absurd (apart e)
-has_size form.Text size e = absurd (apart e)
-has_size form.Block size e = absurd (apart e)
-has_size form.Block1 size e = absurd (apart e)
-has_size form.Sdata size e = absurd (apart e)
-has_size form.Udata size e = absurd (apart e)
-has_size form.RefUdata size e = absurd (apart e)
-has_size form.Indirect size e = absurd (apart e)
-has_size form.Exprloc size e = absurd (apart e)
-has_size form.Strx size e = absurd (apart e)
-has_size form.Addrx size e = absurd (apart e)
-has_size form.Loclistx size e = absurd (apart e)
-has_size form.Rnglistx size e = absurd (apart e)
-has_size f size e = refl
+has_size f size e = some_is (fixed_size_of size f) (vary_same f size ∙ e)
 
 -- ---- bytes that are cut off one after another
 
@@ -122,21 +114,8 @@ pub run : (version size : ℕ) (before : List (Numbered AttributeSpec)) (bytes :
 run version size before bytes none = run_ends version size (items_of before) bytes (none_vary before none)
 
 -- values that do not vary, one, and others
-module _ (version size : ℕ) (front others : List (Numbered AttributeSpec)) (z : Numbered AttributeSpec) (bytes : List ℕ) (none : list_any varies (items_of front) ≡ false) where
-  one : values_end version size (items_of (front ++ z ∷ others)) bytes
-      ≡ (cut_at (known_sum size (items_of front)) bytes >>= λ mid. rest_at version z.item.form size mid >>= λ rest. values_end version size (items_of others) rest)
-  unfolding values_end
-  one = search (rules, items_append, ends_append, run)
-
-  pub run_fails : (f : ValueFault) → cut_at (known_sum size (items_of front)) bytes ≡ Err f → values_end version size (items_of (front ++ z ∷ others)) bytes ≡ Err f
-  run_fails f e = one ∙ ap (λ (r : Result (List ℕ) ValueFault). r >>= λ mid. rest_at version z.item.form size mid >>= λ rest. values_end version size (items_of others) rest) e
-
-  module _ (mid : List ℕ) (cut : cut_at (known_sum size (items_of front)) bytes ≡ Ok mid) where
-    on : values_end version size (items_of (front ++ z ∷ others)) bytes ≡ (rest_at version z.item.form size mid >>= λ rest. values_end version size (items_of others) rest)
-    on = one ∙ ap (λ (r : Result (List ℕ) ValueFault). r >>= λ m. rest_at version z.item.form size m >>= λ rest. values_end version size (items_of others) rest) cut
-
-    pub one_fails : (f : ValueFault) → rest_at version z.item.form size mid ≡ Err f → values_end version size (items_of (front ++ z ∷ others)) bytes ≡ Err f
-    one_fails f e = on ∙ ap (λ (r : Result (List ℕ) ValueFault). r >>= λ rest. values_end version size (items_of others) rest) e
-
-    pub one_passes : (rest : List ℕ) → rest_at version z.item.form size mid ≡ Ok rest → values_end version size (items_of (front ++ z ∷ others)) bytes ≡ values_end version size (items_of others) rest
-    one_passes rest e = on ∙ ap (λ (r : Result (List ℕ) ValueFault). r >>= λ more. values_end version size (items_of others) more) e
+pub one : (version size : ℕ) (front others : List (Numbered AttributeSpec)) (z : Numbered AttributeSpec) (bytes : List ℕ) → list_any varies (items_of front) ≡ false
+    → values_end version size (items_of (front ++ z ∷ others)) bytes
+    ≡ (cut_at (known_sum size (items_of front)) bytes >>= λ mid. rest_at version z.item.form size mid >>= λ rest. values_end version size (items_of others) rest)
+unfolding values_end
+one version size front others z bytes none = search (rules, items_append, ends_append, run)

@@ -23,7 +23,6 @@ pub mod Datums
 pub mod SizeLaws
 -- State.
 pub mod Stops
-pub mod NumberValues
 pub mod Sizes
 pub mod Marks
 pub mod Plans

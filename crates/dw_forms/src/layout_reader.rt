@@ -1,13 +1,11 @@
 //! Reading a value by its layout (DWARF 5, 7.5.6): first what its bytes hold, then the value, one function a layout.
 
 ghost use Rattle.std.specs.Prelude.{◌≡◌, ◌+◌, ◌≤◌, ◌⊎◌, length, drop, IfOk};
-ghost use Rattle.dw_forms.specs.Value.{fixed as number_layout, leb, signed_leb, counted as counted_layout};
-ghost use Rattle.dw_forms.specs.Value.{leb_counted as leb_counted_layout, ended, exactly, address as address_datum};
-ghost use Rattle.dw_forms.specs.Value.{block as block_datum, signed, wide, text as text_datum, expr};
-ghost use Rattle.dw_forms.specs.NumberValues.{number_datum, offset_datum};
+ghost use Rattle.dw_forms.specs.Value.{counted as counted_layout, leb_counted as leb_counted_layout};
+ghost use Rattle.dw_forms.specs.Value.{block as block_datum};
 ghost use Rattle.dw_forms.specs.ValueReading.{Gives, GivesIn, fixed_at, block_at, counted_at, leb_counted_at, ended_at};
 
-use crate::leb::{Number, SectionOffset, read_sleb, read_uleb};
+use crate::leb::read_uleb;
 use crate::value::{Value, ValueFault};
 use byteorder::{ByteOrder, LittleEndian};
 use memchr::memchr;
@@ -27,7 +25,7 @@ pub(crate) fn fixed(bytes: &[u8], size: usize) -> Result<u64, ValueFault>
 }
 
 /// The number in an address. Each of the two sizes is read by one instruction.
-fn address(bytes: &[u8], size: u8) -> Result<u64, ValueFault>
+pub(crate) fn address(bytes: &[u8], size: u8) -> Result<u64, ValueFault>
     requires { (size ≡ 4) ⊎ (size ≡ 8) }
     ensures within { IfOk result (λ _. size ≤ length bytes.now) }
     ensures exact { Gives (λ n. (n, drop size bytes.now)) result (fixed_at size bytes.now) }
@@ -53,7 +51,7 @@ pub(crate) fn offset(bytes: &[u8]) -> Result<u32, ValueFault>
 
 /// As many bytes as a length says.
 #[tactic(auto, unfolding(crate::specs::ValueReading::block_at))]
-fn block(bytes: &[u8], len: u64) -> Result<&[u8], ValueFault>
+pub(crate) fn block(bytes: &[u8], len: u64) -> Result<&[u8], ValueFault>
     ensures within { IfOk result (λ _. len ≤ length bytes.now) }
     ensures whole { IfOk result (λ content. length content.now ≡ len) }
     ensures exact { Gives (λ content. (content.now, drop len bytes.now)) result (block_at len bytes.now) }
@@ -100,70 +98,7 @@ pub(crate) fn leb_counted(bytes: &[u8]) -> Result<(&[u8], usize), ValueFault>
     Ok((content, before + content.len()))
 }
 
-/// A number of so many bytes, and how many bytes the value has; so for all below.
-#[tactic(auto, unfolding(crate::specs::ValueReading::layout_at))]
-pub(crate) fn fixed_number<'a>(
-    bytes: &'a [u8],
-    size: usize,
-    number: Number,
-) -> Result<(Value<'a>, usize), ValueFault>
-    requires some { 1 ≤ size }
-    requires few { size ≤ 8 }
-    ensures within { IfOk result (λ x. x.1 ≤ length bytes.now) }
-    ensures exact { GivesIn (number_layout size (number_datum number)) bytes.now result }
-{
-    let found = fixed(bytes, size)?;
-    Ok((number.value(found), size))
-}
-
-/// An address.
-#[tactic(auto, unfolding(crate::specs::ValueReading::layout_at))]
-pub(crate) fn address_value(bytes: &[u8], size: u8) -> Result<(Value<'_>, usize), ValueFault>
-    requires { (size ≡ 4) ⊎ (size ≡ 8) }
-    ensures within { IfOk result (λ x. x.1 ≤ length bytes.now) }
-    ensures exact { GivesIn (number_layout size address_datum) bytes.now result }
-{
-    let found = address(bytes, size)?;
-    Ok((Value::Addr(found), usize::from(size)))
-}
-
-/// An offset into a section.
-#[tactic(auto, unfolding(crate::specs::ValueReading::layout_at))]
-pub(crate) fn section_offset<'a>(
-    bytes: &'a [u8],
-    section: SectionOffset,
-) -> Result<(Value<'a>, usize), ValueFault>
-    ensures within { IfOk result (λ x. x.1 ≤ length bytes.now) }
-    ensures exact { GivesIn (number_layout 4 (offset_datum section)) bytes.now result }
-{
-    let found = offset(bytes)?;
-    Ok((section.value(found), 4))
-}
-
-/// An unsigned LEB128 number.
-#[tactic(auto, unfolding(crate::specs::ValueReading::layout_at, crate::specs::ValueReading::uleb_then))]
-pub(crate) fn leb_number<'a>(
-    bytes: &'a [u8],
-    number: Number,
-) -> Result<(Value<'a>, usize), ValueFault>
-    ensures within { IfOk result (λ x. x.1 ≤ length bytes.now) }
-    ensures exact { GivesIn (leb (number_datum number)) bytes.now result }
-{
-    let (found, len) = read_uleb(bytes)?;
-    Ok((number.value(found), len))
-}
-
-/// A signed LEB128 number.
-#[tactic(auto, unfolding(crate::specs::ValueReading::layout_at, crate::specs::ValueReading::sleb_then))]
-pub(crate) fn signed_number(bytes: &[u8]) -> Result<(Value<'_>, usize), ValueFault>
-    ensures within { IfOk result (λ x. x.1 ≤ length bytes.now) }
-    ensures exact { GivesIn (signed_leb signed) bytes.now result }
-{
-    let (found, len) = read_sleb(bytes)?;
-    Ok((Value::Signed(found), len))
-}
-
-/// A length of so many bytes, and as many bytes.
+/// A length of so many bytes, as many bytes, and how many bytes the value has.
 #[tactic(auto, unfolding(crate::specs::ValueReading::layout_at))]
 pub(crate) fn counted_block(bytes: &[u8], size: usize) -> Result<(Value<'_>, usize), ValueFault>
     requires some { 1 ≤ size }
@@ -183,34 +118,4 @@ pub(crate) fn leb_block(bytes: &[u8]) -> Result<(Value<'_>, usize), ValueFault>
 {
     let (content, len) = leb_counted(bytes)?;
     Ok((Value::Block(content), len))
-}
-
-/// A length as a LEB128 number, and an expression of as many bytes.
-#[tactic(auto, unfolding(crate::specs::ValueReading::layout_at))]
-pub(crate) fn expression(bytes: &[u8]) -> Result<(Value<'_>, usize), ValueFault>
-    ensures within { IfOk result (λ x. x.1 ≤ length bytes.now) }
-    ensures exact { GivesIn (leb_counted_layout expr) bytes.now result }
-{
-    let (content, len) = leb_counted(bytes)?;
-    Ok((Value::Expr(content), len))
-}
-
-/// A constant of 16 bytes.
-#[tactic(auto, unfolding(crate::specs::ValueReading::layout_at))]
-pub(crate) fn wide_constant(bytes: &[u8]) -> Result<(Value<'_>, usize), ValueFault>
-    ensures within { IfOk result (λ x. x.1 ≤ length bytes.now) }
-    ensures exact { GivesIn (exactly 16 wide) bytes.now result }
-{
-    let content = block(bytes, 16)?;
-    Ok((Value::Wide(content), 16))
-}
-
-/// A string and its zero byte.
-#[tactic(auto, unfolding(crate::specs::ValueReading::layout_at))]
-pub(crate) fn text_value(bytes: &[u8]) -> Result<(Value<'_>, usize), ValueFault>
-    ensures within { IfOk result (λ x. x.1 ≤ length bytes.now) }
-    ensures exact { GivesIn (ended text_datum) bytes.now result }
-{
-    let content = text(bytes)?;
-    Ok((Value::Text(content), content.len() + 1))
 }

@@ -10,61 +10,94 @@ ghost use Rattle.dw_forms.specs.ValueReading.{Gives, GivesIn, named_at, value_at
 
 use crate::form::Form;
 use crate::layout_reader::{
-    address_value, counted, counted_block, expression, fixed, fixed_number, leb_block, leb_counted,
-    leb_number, offset, section_offset, signed_number, text, text_value, wide_constant,
+    address, block, counted, counted_block, fixed, leb_block, leb_counted, offset, text,
 };
-use crate::leb::{Number, SectionOffset, read_sleb, read_uleb};
+use crate::leb::{read_sleb, read_uleb};
 use crate::value::{Value, ValueFault};
 
 /// The value of a form that names no other form, and how many bytes it has.
 #[inline(never)]
-#[tactic(auto, unfolding(crate::specs::ValueReading::layout_at))]
+#[tactic(
+    auto,
+    unfolding(
+        crate::specs::ValueReading::layout_at,
+        crate::specs::ValueReading::uleb_then,
+        crate::specs::ValueReading::sleb_then
+    )
+)]
 fn plain(form: Form, address_size: u8, bytes: &[u8]) -> Result<(Value<'_>, usize), ValueFault>
     requires { (address_size ≡ 4) ⊎ (address_size ≡ 8) }
     ensures within { IfOk result (λ x. x.1 ≤ length bytes.now) }
     ensures exact { GivesIn (layout_of address_size form) bytes.now result }
 {
     match form {
-        Form::Addr => address_value(bytes, address_size),
+        Form::Addr => Ok((Value::Addr(address(bytes, address_size)?), usize::from(address_size))),
         Form::Block2 => counted_block(bytes, 2),
         Form::Block4 => counted_block(bytes, 4),
-        Form::Data2 => fixed_number(bytes, 2, Number::Unsigned),
-        Form::Data4 => fixed_number(bytes, 4, Number::Unsigned),
-        Form::Data8 => fixed_number(bytes, 8, Number::Unsigned),
-        Form::Text => text_value(bytes),
+        Form::Data2 => Ok((Value::Unsigned(fixed(bytes, 2)?), 2)),
+        Form::Data4 => Ok((Value::Unsigned(fixed(bytes, 4)?), 4)),
+        Form::Data8 => Ok((Value::Unsigned(fixed(bytes, 8)?), 8)),
+        Form::Text => {
+            let content = text(bytes)?;
+            Ok((Value::Text(content), content.len() + 1))
+        }
         Form::Block => leb_block(bytes),
         Form::Block1 => counted_block(bytes, 1),
-        Form::Data1 => fixed_number(bytes, 1, Number::Unsigned),
-        Form::Flag => fixed_number(bytes, 1, Number::Flag),
-        Form::Sdata => signed_number(bytes),
-        Form::Strp => section_offset(bytes, SectionOffset::Str),
-        Form::Udata => leb_number(bytes, Number::Unsigned),
-        Form::RefAddr => section_offset(bytes, SectionOffset::Info),
-        Form::Ref1 => fixed_number(bytes, 1, Number::RefUnit),
-        Form::Ref2 => fixed_number(bytes, 2, Number::RefUnit),
-        Form::Ref4 => fixed_number(bytes, 4, Number::RefUnit),
-        Form::Ref8 => fixed_number(bytes, 8, Number::RefUnit),
-        Form::RefUdata => leb_number(bytes, Number::RefUnit),
+        Form::Data1 => Ok((Value::Unsigned(fixed(bytes, 1)?), 1)),
+        Form::Flag => Ok((Value::Flag(fixed(bytes, 1)? != 0), 1)),
+        Form::Sdata => {
+            let (number, len) = read_sleb(bytes)?;
+            Ok((Value::Signed(number), len))
+        }
+        Form::Strp => Ok((Value::Str(offset(bytes)?), 4)),
+        Form::Udata => {
+            let (number, len) = read_uleb(bytes)?;
+            Ok((Value::Unsigned(number), len))
+        }
+        Form::RefAddr => Ok((Value::RefInfo(offset(bytes)?), 4)),
+        Form::Ref1 => Ok((Value::RefUnit(fixed(bytes, 1)?), 1)),
+        Form::Ref2 => Ok((Value::RefUnit(fixed(bytes, 2)?), 2)),
+        Form::Ref4 => Ok((Value::RefUnit(fixed(bytes, 4)?), 4)),
+        Form::Ref8 => Ok((Value::RefUnit(fixed(bytes, 8)?), 8)),
+        Form::RefUdata => {
+            let (number, len) = read_uleb(bytes)?;
+            Ok((Value::RefUnit(number), len))
+        }
         Form::Indirect => Err(ValueFault::BadIndirect),
-        Form::SecOffset => section_offset(bytes, SectionOffset::Implied),
-        Form::Exprloc => expression(bytes),
+        Form::SecOffset => Ok((Value::SecOffset(offset(bytes)?), 4)),
+        Form::Exprloc => {
+            let (content, len) = leb_counted(bytes)?;
+            Ok((Value::Expr(content), len))
+        }
         Form::FlagPresent => Ok((Value::Flag(true), 0)),
-        Form::Strx => leb_number(bytes, Number::StrIndex),
-        Form::Addrx => leb_number(bytes, Number::AddrIndex),
-        Form::Data16 => wide_constant(bytes),
-        Form::LineStrp => section_offset(bytes, SectionOffset::LineStr),
-        Form::RefSig8 => fixed_number(bytes, 8, Number::RefSig),
+        Form::Strx => {
+            let (number, len) = read_uleb(bytes)?;
+            Ok((Value::StrIndex(number), len))
+        }
+        Form::Addrx => {
+            let (number, len) = read_uleb(bytes)?;
+            Ok((Value::AddrIndex(number), len))
+        }
+        Form::Data16 => Ok((Value::Wide(block(bytes, 16)?), 16)),
+        Form::LineStrp => Ok((Value::LineStr(offset(bytes)?), 4)),
+        Form::RefSig8 => Ok((Value::RefSig(fixed(bytes, 8)?), 8)),
         Form::ImplicitConst(number) => Ok((Value::Signed(number), 0)),
-        Form::Loclistx => leb_number(bytes, Number::LocIndex),
-        Form::Rnglistx => leb_number(bytes, Number::RngIndex),
-        Form::Strx1 => fixed_number(bytes, 1, Number::StrIndex),
-        Form::Strx2 => fixed_number(bytes, 2, Number::StrIndex),
-        Form::Strx3 => fixed_number(bytes, 3, Number::StrIndex),
-        Form::Strx4 => fixed_number(bytes, 4, Number::StrIndex),
-        Form::Addrx1 => fixed_number(bytes, 1, Number::AddrIndex),
-        Form::Addrx2 => fixed_number(bytes, 2, Number::AddrIndex),
-        Form::Addrx3 => fixed_number(bytes, 3, Number::AddrIndex),
-        Form::Addrx4 => fixed_number(bytes, 4, Number::AddrIndex),
+        Form::Loclistx => {
+            let (number, len) = read_uleb(bytes)?;
+            Ok((Value::LocIndex(number), len))
+        }
+        Form::Rnglistx => {
+            let (number, len) = read_uleb(bytes)?;
+            Ok((Value::RngIndex(number), len))
+        }
+        Form::Strx1 => Ok((Value::StrIndex(fixed(bytes, 1)?), 1)),
+        Form::Strx2 => Ok((Value::StrIndex(fixed(bytes, 2)?), 2)),
+        Form::Strx3 => Ok((Value::StrIndex(fixed(bytes, 3)?), 3)),
+        Form::Strx4 => Ok((Value::StrIndex(fixed(bytes, 4)?), 4)),
+        Form::Addrx1 => Ok((Value::AddrIndex(fixed(bytes, 1)?), 1)),
+        Form::Addrx2 => Ok((Value::AddrIndex(fixed(bytes, 2)?), 2)),
+        Form::Addrx3 => Ok((Value::AddrIndex(fixed(bytes, 3)?), 3)),
+        Form::Addrx4 => Ok((Value::AddrIndex(fixed(bytes, 4)?), 4)),
     }
 }
 

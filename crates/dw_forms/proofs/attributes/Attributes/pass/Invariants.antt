@@ -2,7 +2,7 @@ use Rattle.dw_forms.proofs.PassTurns.{Passes}
 use Rattle.dw_forms.proofs.attributes.Attributes.pass.Given as goal
 
 abbrev pub invariant-loop-at : goal.invariant-loop-at
-invariant-loop-at l = Passes l.self.lists.now.nodes.items l.version l.address_size l.self.first l.to.first l.bytes l.at l.rest
+invariant-loop-at l = Passes l.self l.to l.version l.address_size l.bytes l.at l.rest
 
 abbrev pub decreases-loop-at : goal.decreases-loop-at
 decreases-loop-at l = l.at
