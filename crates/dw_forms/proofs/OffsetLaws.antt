@@ -1,6 +1,5 @@
 -- What begins at an offset of a section.
-use Rattle.std.proofs.Common.{rules}
-use Rattle.std.proofs.Common.{◌≡◌, ℕ, ◌-◌, ◌<◌, ◌≤◌, Bool, true, false, ◌||◌, ◌⊎◌, List, [], ◌∷◌, ◌++◌, length, refl, sym, ◌∙◌, inl, inr, arith}
+use Rattle.std.proofs.Common.{◌≡◌, ℕ, ◌-◌, ◌<◌, ◌≤◌, Bool, true, false, ◌||◌, ◌⊎◌, List, [], ◌∷◌, ◌++◌, length, refl, sym, ◌∙◌, inl, inr, subst, rules, arith}
 use Rattle.std.specs.Prelude.{get_or, nat_eq}
 use Rattle.std.specs.List.{list_any}
 use Rattle.std.proofs.lemmas.Bool.{cases_eq, eqb-true}
@@ -10,7 +9,8 @@ use Rattle.std.proofs.lemmas.List.Folds.{list_any-append, list_any_none}
 use Rattle.std.proofs.lemmas.Map.Keys.{IsDistinct-push, IsDistinct-from_apart}
 use Rattle.std.proofs.lemmas.Map.Steps.{length-le_from_distinct_below}
 use Rattle.std.proofs.lemmas.Option.{slice_get_within, get_or_from_slice_get}
-use Rattle.dw_forms.specs.Offsets.{BeginsAt, NothingAt, AreApart}
+use Rattle.dw_forms.specs.declared.offsets.Placed.{Placed}
+use Rattle.dw_forms.specs.Offsets.{BeginsAt, NothingAt, AreApart, AreAlong, AreNew}
 use Rattle.dw_forms.proofs.BitLaws.{differ}
 
 -- what begins at an offset is one of those that are kept
@@ -52,3 +52,44 @@ apart_push end starts start are nothing less = record {
 -- so there are no more of them than offsets
 pub apart_few : (end : ℕ) (starts : List ℕ) → AreApart end starts → length starts ≤ end
 apart_few end starts are = length-le_from_distinct_below starts end are.distinct are.before
+
+-- ---- things one after another
+
+module _ {T : Type 0} (Is : ℕ → T → ℕ → Type 0) where
+  pub along_push : (xs : List (Placed T)) (offset end next : ℕ) (x : T) → AreAlong Is xs offset end → Is end x next → AreAlong Is (xs ++ record { at = end; item = x } ∷ []) offset next
+  along_push [] offset end next x here is = (sym here, next, subst (λ (n : ℕ). Is n x next) (sym here) is, refl)
+  along_push (y ∷ xs) offset end next x a is = (a.0, a.1, a.2, along_push xs a.1 end next x a.3 is)
+
+  pub along_pop : (xs : List (Placed T)) (offset end : ℕ) (x : Placed T) → AreAlong Is (xs ++ x ∷ []) offset end → AreAlong Is xs offset x.at × Is x.at x.item end
+  along_pop [] offset end x a = (sym a.0, subst (λ (n : ℕ). Is n x.item end) (sym a.0) (subst (λ (n : ℕ). Is offset x.item n) a.3 a.2))
+  along_pop (y ∷ xs) offset end x a = let r = along_pop xs a.1 end x a.3 in ((a.0, a.1, a.2, r.0), r.1)
+
+  -- what passes from the end of each to its offset passes from the end of all
+  pub along_back : (P : ℕ → Type 0) → ((offset next : ℕ) (x : T) → Is offset x next → P next → P offset) → (xs : List (Placed T)) (offset end : ℕ) → AreAlong Is xs offset end → P end → P offset
+  along_back P back [] offset end here p = subst P (sym here) p
+  along_back P back (x ∷ xs) offset end a p = back offset a.1 x.item a.2 (along_back P back xs a.1 end a.3 p)
+
+  module _ (rises : (offset next : ℕ) (x : T) → Is offset x next → offset < next) where
+    along_on : (xs : List (Placed T)) (offset end : ℕ) → AreAlong Is xs offset end → offset ≤ end
+    along_on [] offset end here = omega (arith, here)
+    along_on (x ∷ xs) offset end a = let less = rises offset a.1 x.item a.2 in let on = along_on xs a.1 end a.3 in omega (arith, less, on)
+
+    -- things before an offset are new when one is kept that begins there
+    pub new_stay : (starts : List ℕ) (xs : List (Placed T)) (offset end : ℕ) → AreAlong Is xs offset end → AreNew starts xs → AreNew (starts ++ end ∷ []) xs
+    new_stay starts [] offset end a new = tt
+    new_stay starts (x ∷ xs) offset end a new =
+        let less = rises offset a.1 x.item a.2 in
+        let on = along_on xs a.1 end a.3 in
+        (nothing_push starts end x.at new.0 (λ e. omega (arith, e, a.0, less, on)), new_stay starts xs a.1 end a.3 new.1)
+
+pub along_same : {T : Type 0} (Is Was : ℕ → T → ℕ → Type 0) → ((offset next : ℕ) (x : T) → Was offset x next → Is offset x next) → (xs : List (Placed T)) (offset end : ℕ) → AreAlong Was xs offset end → AreAlong Is xs offset end
+along_same Is Was same [] offset end here = here
+along_same Is Was same (x ∷ xs) offset end a = (a.0, a.1, same offset a.1 x.item a.2, along_same Is Was same xs a.1 end a.3)
+
+pub new_push : {T : Type 0} (starts : List ℕ) (xs : List (Placed T)) (x : Placed T) → AreNew starts xs → NothingAt starts x.at → AreNew starts (xs ++ x ∷ [])
+new_push starts [] x new nothing = (nothing, tt)
+new_push starts (y ∷ xs) x new nothing = (new.0, new_push starts xs x new.1 nothing)
+
+pub new_pop : {T : Type 0} (starts : List ℕ) (xs : List (Placed T)) (x : Placed T) → AreNew starts (xs ++ x ∷ []) → AreNew starts xs × NothingAt starts x.at
+new_pop starts [] x new = (tt, new.0)
+new_pop starts (y ∷ xs) x new = let r = new_pop starts xs x new.1 in ((new.0, r.0), r.1)

@@ -1,6 +1,5 @@
 -- Bits of remainders: one that is set stays set, and one that is not says that no code has it.
-use Rattle.std.proofs.Common.{rules}
-use Rattle.std.proofs.Common.{◌≡◌, ℕ, arith, ◌^◌, List}
+use Rattle.std.proofs.Common.{rules, ◌≡◌, ℕ, arith, ◌^◌, List}
 use Rattle.std.specs.Prelude.{◌%◌, ◌≢◌, ◌==◌, All, bit_or, bit_and}
 use Rattle.std.specs.Bool.{OnTrue}
 use Rattle.std.proofs.lemmas.Bool.{eqb-true}

@@ -1,11 +1,11 @@
 -- A declaration and the table after it: they are a table where no code occurs twice, and no other table begins there.
-use Rattle.std.proofs.Common.{rules}
-use Rattle.std.proofs.Common.{◌≡◌, ◌≤◌, ℕ, suc, ◌+◌, ◌-◌, ◌<◌, List, [], ◌∷◌, ◌++◌, length, take, drop, Option, Some, None, Result, Ok, Err, refl, sym, ap, subst, ◌∙◌, append_assoc, arith}
+use Rattle.std.proofs.Common.{◌≡◌, ◌≤◌, ℕ, suc, ◌-◌, ◌<◌, List, [], ◌∷◌, ◌++◌, length, take, drop, Option, Some, None, Result, Ok, Err, refl, sym, ap, subst, ◌∙◌, append_assoc, rules, arith}
 use Rattle.std.proofs.lemmas.List.{length-append, length-take, length-drop, take-append-drop}
 use Rattle.std.proofs.lemmas.List.Elements.{All-cons}
 use Rattle.std.proofs.lemmas.Result.{MatchResult-at_ok}
 use Rattle.dw_forms.specs.declared.fault.DeclFault.{DeclFault}
-use Rattle.dw_forms.specs.declared.abbrev_tables.Started.{Started}
+use Rattle.dw_forms.specs.declared.decl.KeptDecl.{KeptDecl}
+use Rattle.dw_forms.specs.declared.offsets.Placed.{Placed}
 use Rattle.dw_forms.specs.declared.fault.Stop.{Stop}
 use Rattle.dw_forms.specs.declared.fault.AbbrevFault.{AbbrevFault}
 use Rattle.dw_forms.specs.declared.fault.Stop.TheVariants as stops
@@ -15,13 +15,14 @@ use Rattle.dw_forms.specs.Abbrev.{Declaration, SpellsTable, IsDeclaration, AreDe
 use Rattle.dw_forms.specs.AbbrevReading.{decl_at, decls_from, table_at}
 use Rattle.dw_forms.specs.Readers.{read_is, not_both}
 use Rattle.dw_forms.specs.declared.attribute_lists.Node.{Node}
-use Rattle.dw_forms.specs.AttributeLists.{HasList}
 use Rattle.dw_forms.specs.KeptDecls.{kept_view}
 use Rattle.dw_forms.specs.ListOffsets.{StayNodes}
-use Rattle.dw_forms.specs.TableStarts.{NoTable, AreBehind, IfNoDecl}
+use Rattle.dw_forms.specs.TableStarts.{NoTable, IsDeclAt, IfNoDecl}
+use Rattle.dw_forms.specs.Offsets.{AreAlong}
 use Rattle.dw_forms.specs.Stops.{IfFault, FailsOrMemory}
 use Rattle.dw_forms.proofs.KeptLaws.{view_stays, has_stays}
 use Rattle.dw_forms.proofs.Keys.{Lacks, apart_cons}
+use Rattle.dw_forms.proofs.OffsetLaws.{along_back, along_same}
 use Rattle.dw_forms.proofs.AttributesLaws.{uleb_some}
 use Rattle.dw_forms.proofs.DeclLaws.{code_of_decl, NextDecl, decl_says, end_again, next_again}
 use Rattle.dw_forms.proofs.TableLaws.{table_found, table_fails, decls_again, decl_some, one_of}
@@ -130,51 +131,23 @@ module _ (section : List ℕ) where
 
   -- ---- some declarations
 
-  -- a declaration takes bytes
-  pub decl_takes : (offset next : ℕ) (d : Declaration) → decl_at [] (drop offset section) ≡ Ok (Some d, drop next section) → (offset < next) × (offset < length section)
-  decl_takes offset next d e =
-      let t = taken (drop offset section) (Some d) (drop next section) e in
-      let some = decl_some t.text d t.spelled.0 in
-      let long : length (drop offset section) ≡ length t.text + length (drop next section) = ap length t.parts ∙ length-append t.text (drop next section) in
-      (omega (arith, some, long, length-drop offset section, length-drop next section), omega (arith, some, long, length-drop offset section, length-drop next section))
+  -- where no table begins after them, none begins with them
+  pub none_along : (nodes : List Node) (xs : List (Placed KeptDecl)) (offset end : ℕ) → AreAlong (IsDeclAt section nodes) xs offset end → NoTable section end → NoTable section offset
+  none_along nodes = along_back (IsDeclAt section nodes) (NoTable section) (λ offset next d e none. none_before offset next (kept_view nodes d) e.is none)
 
-  -- they end at their offset or after it
-  pub behind_on : (nodes : List Node) (xs : List Started) (offset end : ℕ) → AreBehind nodes section xs offset end → offset ≤ end
-  behind_on nodes [] offset end here = omega (arith, here)
-  behind_on nodes (x ∷ xs) offset end p =
-      let less = decl_takes offset p.2 (kept_view nodes x.decl) p.3 in
-      let on = behind_on nodes xs p.2 end p.4 in
-      omega (arith, less.0, on)
-
-  -- one more after them
-  pub behind_push : (nodes : List Node) (xs : List Started) (offset end next : ℕ) (s : Started) → AreBehind nodes section xs offset end → s.start ≡ end → HasList nodes s.decl.first s.decl.step
-      → decl_at [] (drop end section) ≡ Ok (Some (kept_view nodes s.decl), drop next section) → AreBehind nodes section (xs ++ s ∷ []) offset next
-  behind_push nodes [] offset end next s here start kept e = (start ∙ sym here, kept, next, ap (λ (n : ℕ). decl_at [] (drop n section)) here ∙ e, refl)
-  behind_push nodes (x ∷ xs) offset end next s p start kept e = (p.0, p.1, p.2, p.3, behind_push nodes xs p.2 end next s p.4 start kept e)
-
-  -- the last of them, with those before it
-  pub behind_pop : (nodes : List Node) (xs : List Started) (offset end : ℕ) (s : Started) → AreBehind nodes section (xs ++ s ∷ []) offset end
-      → AreBehind nodes section xs offset s.start × HasList nodes s.decl.first s.decl.step × (decl_at [] (drop s.start section) ≡ Ok (Some (kept_view nodes s.decl), drop end section))
-  behind_pop nodes [] offset end s p =
-      (sym p.0, p.1, ap (λ (n : ℕ). decl_at [] (drop n section)) p.0 ∙ p.3 ∙ ap (λ (n : ℕ). Ok (Some (kept_view nodes s.decl), drop n section)) p.4)
-  behind_pop nodes (x ∷ xs) offset end s p = let r = behind_pop nodes xs p.2 end s p.4 in ((p.0, p.1, p.2, p.3, r.0), r.1, r.2)
+  pub front_fails : (nodes : List Node) (error : Stop DeclFault) (xs : List (Placed KeptDecl)) (offset end : ℕ) → AreAlong (IsDeclAt section nodes) xs offset end → IfFault (λ _. IfNoDecl section end) error
+      → IfFault (λ _. NoTable section offset) error
+  front_fails nodes stops.Memory xs offset end along e = tt
+  front_fails nodes (stops.Fault fault) xs offset end along e = none_along nodes xs offset end along (table_broken end e.0 e.1)
 
   -- they stay as more attributes are kept
-  pub behind_stays : (old new : List Node) (xs : List Started) (offset end : ℕ) → StayNodes old new → AreBehind old section xs offset end → AreBehind new section xs offset end
-  behind_stays old new [] offset end stay here = here
-  behind_stays old new (x ∷ xs) offset end stay p =
-      let same : kept_view new x.decl ≡ kept_view old x.decl = view_stays old new x.decl stay p.1.within in
-      (p.0, has_stays old new _ _ stay p.1, p.2, p.3 ∙ ap (λ (d : Declaration). Ok (Some d, drop p.2 section)) (sym same), behind_stays old new xs p.2 end stay p.4)
-
-  -- where no table begins after them, none begins with them
-  pub none_behind : (nodes : List Node) (xs : List Started) (offset end : ℕ) → AreBehind nodes section xs offset end → NoTable section end → NoTable section offset
-  none_behind nodes [] offset end here none = subst (NoTable section) (sym here) none
-  none_behind nodes (x ∷ xs) offset end p none = none_before offset p.2 (kept_view nodes x.decl) p.3 (none_behind nodes xs p.2 end p.4 none)
-
-  pub front_fails : (nodes : List Node) (error : Stop DeclFault) (xs : List Started) (offset end : ℕ) → AreBehind nodes section xs offset end → IfFault (λ _. IfNoDecl section end) error
-      → IfFault (λ _. NoTable section offset) error
-  front_fails nodes stops.Memory xs offset end behind e = tt
-  front_fails nodes (stops.Fault fault) xs offset end behind e = none_behind nodes xs offset end behind (table_broken end e.0 e.1)
+  pub decls_stay : (old new : List Node) → StayNodes old new → (xs : List (Placed KeptDecl)) (offset end : ℕ) → AreAlong (IsDeclAt section old) xs offset end → AreAlong (IsDeclAt section new) xs offset end
+  decls_stay old new stay = along_same (IsDeclAt section new) (IsDeclAt section old) (λ offset next d e. record {
+    is = e.is ∙ ap (λ (v : Declaration). Ok (Some v, drop next section)) (sym (view_stays old new d stay e.kept.within));
+    kept = has_stays old new _ _ stay e.kept;
+    rises = e.rises;
+    fits = e.fits;
+  })
 
 -- ---- a table and its bytes
 

@@ -1,7 +1,7 @@
 -- State: the abbreviation tables that were read of a section.
 use Rattle.std.specs.Prelude.{ℕ, List}
 use Rattle.dw_forms.specs.declared.abbrev_tables.AbbrevTables.{AbbrevTables}
-use Rattle.dw_forms.specs.KeptDecls.{Tables, tables_of, AreWithin, AreCoded}
+use Rattle.dw_forms.specs.KeptDecls.{Tables, tables_of, AreReadable}
 use Rattle.dw_forms.specs.ListOffsets.{AreListsOf}
 use Rattle.dw_forms.specs.TableStarts.{AreStarts}
 
@@ -10,9 +10,8 @@ abbrev pub tables_in : AbbrevTables → Tables
 tables_in t = tables_of t.lists.lists.nodes.items t.kept.items
 
 -- codes are found in the tables, and attributes in the declarations
-pub record AreSearchable (t : AbbrevTables) : Type 0 where
-  pub coded : AreCoded t.codes.links.items t.kept.items
-  pub within : AreWithin t.lists.lists.nodes.items t.kept.items
+abbrev pub AreSearchable : AbbrevTables → Type 0
+AreSearchable t = AreReadable t.codes.links.items t.lists.lists.nodes.items t.kept.items
 
 -- the tables are those of this section
 pub record AreTablesOf (section : List ℕ) (t : AbbrevTables) : Type 0 where

@@ -52,3 +52,8 @@ AreWithin nodes kept = All (λ (k : KeptDecl). HasList nodes k.first k.step) kep
 -- the links have the codes of the declarations
 abbrev pub AreCoded : List Link → List KeptDecl → Type 0
 AreCoded links kept = codes_of links ≡ map (λ (k : KeptDecl). (k.code, k.rest)) kept
+
+-- codes are found in the tables by the links, and attributes in the declarations by the nodes
+pub record AreReadable (links : List Link) (nodes : List Node) (kept : List KeptDecl) : Type 0 where
+  pub coded : AreCoded links kept
+  pub within : AreWithin nodes kept

@@ -1,13 +1,12 @@
 -- State: the lists of attributes that begin at offsets of a section.
-use Rattle.std.specs.Prelude.{◌≡◌, ℕ, suc, ◌<◌, ◌≤◌, List, [], ◌∷◌, ◌++◌, length, drop, get_or, Some, Ok}
+use Rattle.std.specs.Prelude.{◌≡◌, ℕ, suc, ◌<◌, ◌≤◌, List, [], ◌++◌, length, drop, get_or, Some, Ok}
 use Rattle.dw_forms.specs.declared.decl.AttributeSpec.{AttributeSpec}
 use Rattle.dw_forms.specs.declared.attribute_lists.Node.{Node}
 use Rattle.dw_forms.specs.declared.list_reader.KeptLists.{KeptLists}
-use Rattle.dw_forms.specs.declared.list_reader.Pair.{Pair}
-use Rattle.dw_forms.specs.declared.list_reader.ReadList.{ReadList}
+use Rattle.dw_forms.specs.declared.offsets.Placed.{Placed}
 use Rattle.dw_forms.specs.AbbrevReading.{pair_at, attributes_of}
 use Rattle.dw_forms.specs.AttributeLists.{list_in}
-use Rattle.dw_forms.specs.Offsets.{NothingAt, AreApart}
+use Rattle.dw_forms.specs.Offsets.{AreAlong, AreApart}
 
 -- the list of this number begins at an offset of the section, and ends before another
 pub record IsListAt (section : List ℕ) (nodes : List Node) (offset number end : ℕ) : Type 0 where
@@ -28,22 +27,18 @@ abbrev pub NoListAt : List ℕ → ℕ → Type 0
 NoListAt section offset = (specs : List AttributeSpec) (rest : List ℕ)
     → attributes_of (drop offset section) ≡ Ok (specs, rest) → ⊥
 
--- attributes one after another, from an offset of the section up to the end of the last one
-abbrev pub AreAfter : List ℕ → List Pair → ℕ → ℕ → Type 0
-AreAfter section [] offset end = offset ≡ end
-AreAfter section (p ∷ pairs) offset end =
-    (p.at ≡ offset) × (next : ℕ) × (pair_at [] (drop offset section) ≡ Ok (Some p.spec, drop next section))
-    × AreAfter section pairs next end
+-- the attribute is between two offsets of the section
+pub record IsPairAt (section : List ℕ) (offset : ℕ) (spec : AttributeSpec) (next : ℕ) : Type 0 where
+  pub is : pair_at [] (drop offset section) ≡ Ok (Some spec, drop next section)
+  pub rises : offset < next
+  pub fits : next ≤ length section
 
--- no list that is kept begins with one of the attributes
-abbrev pub AreNew : List ℕ → List Pair → Type 0
-AreNew starts [] = Unit {0}
-AreNew starts (p ∷ pairs) = NothingAt starts p.at × AreNew starts pairs
-
--- the attributes go on as a list that is kept
-abbrev pub Leads : List ℕ → List Node → List Pair → ℕ → ReadList → Type 0
-Leads section nodes pairs offset rest =
-    (next : ℕ) × AreAfter section pairs offset next × IsListAt section nodes next rest.first rest.end
+-- the attributes go on as the list of this number, which ends at an offset
+pub record Leads (section : List ℕ) (nodes : List Node) (pairs : List (Placed AttributeSpec)) (offset first end : ℕ)
+    : Type 0 where
+  pub next : ℕ
+  pub along : AreAlong (IsPairAt section) pairs offset next
+  pub list : IsListAt section nodes next first end
 
 -- the old nodes stay, and others come after them
 abbrev pub StayNodes : List Node → List Node → Type 0
@@ -52,3 +47,8 @@ StayNodes old new = (more : List Node) × (new ≡ old ++ more)
 -- the lists that are kept are those of this section
 abbrev pub AreListsOf : List ℕ → KeptLists → Type 0
 AreListsOf section t = ArePlaced section t.lists.nodes.items t.starts.starts.items t.ends.items
+
+-- the lists that are kept are those of this section, and the old ones are among them
+pub record MoreLists (section : List ℕ) (old new : KeptLists) : Type 0 where
+  pub lists : AreListsOf section new
+  pub stay : StayNodes old.lists.nodes.items new.lists.nodes.items

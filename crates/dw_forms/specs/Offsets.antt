@@ -1,6 +1,7 @@
 -- State: what begins at which offset of a section. What begins there is numbered from 1.
-use Rattle.std.specs.Prelude.{◌≡◌, ℕ, ◌<◌, ◌≤◌, ◌-◌, true, nat_eq, List, length, get_or, slice_get, Some, All}
+use Rattle.std.specs.Prelude.{◌≡◌, ℕ, ◌<◌, ◌≤◌, ◌-◌, true, nat_eq, List, [], ◌∷◌, length, get_or, slice_get, Some, All}
 use Rattle.std.specs.List.{IsDistinct, list_any}
+use Rattle.dw_forms.specs.declared.offsets.Placed.{Placed}
 
 -- what has this number begins at this offset
 abbrev pub BeginsAt : List ℕ → ℕ → ℕ → Type 0
@@ -32,3 +33,13 @@ NothingAt starts offset = (k : ℕ) → k < length starts → get_or starts k 0 
 pub record AreApart (end : ℕ) (starts : List ℕ) : Type 0 where
   pub distinct : IsDistinct nat_eq starts
   pub before : (offset : ℕ) → list_any (nat_eq offset) starts ≡ true → offset < end
+
+-- things one after another, from an offset up to the end of the last one. Is says what is between two offsets
+abbrev pub AreAlong : {T : Type 0} → (ℕ → T → ℕ → Type 0) → List (Placed T) → ℕ → ℕ → Type 0
+AreAlong Is [] offset end = offset ≡ end
+AreAlong Is (x ∷ xs) offset end = (x.at ≡ offset) × (next : ℕ) × Is offset x.item next × AreAlong Is xs next end
+
+-- nothing that is kept begins where one of these does
+abbrev pub AreNew : {T : Type 0} → List ℕ → List (Placed T) → Type 0
+AreNew starts [] = Unit {0}
+AreNew starts (x ∷ xs) = NothingAt starts x.at × AreNew starts xs

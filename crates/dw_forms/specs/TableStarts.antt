@@ -1,15 +1,16 @@
 -- State: the tables that begin at offsets of a section.
-use Rattle.std.specs.Prelude.{◌≡◌, ℕ, suc, ◌<◌, List, [], ◌∷◌, ◌++◌, length, get_or, drop}
+use Rattle.std.specs.Prelude.{◌≡◌, ℕ, suc, ◌<◌, ◌≤◌, List, [], ◌∷◌, ◌++◌, length, get_or, drop}
 use Rattle.std.specs.Prelude.{Option, Some, None, Ok, Err, false, true, ◌⊎◌}
 use Rattle.dw_forms.specs.declared.fault.DeclFault.{DeclFault}
 use Rattle.dw_forms.specs.declared.attribute_lists.Node.{Node}
-use Rattle.dw_forms.specs.declared.abbrev_tables.Started.{Started}
+use Rattle.dw_forms.specs.declared.decl.KeptDecl.{KeptDecl}
+use Rattle.dw_forms.specs.declared.offsets.Placed.{Placed}
 use Rattle.dw_forms.specs.Abbrev.{Declaration}
 use Rattle.dw_forms.specs.AbbrevReading.{has_code, decl_at, table_at}
 use Rattle.dw_forms.specs.Chains.{chain_in}
 use Rattle.dw_forms.specs.AttributeLists.{HasList}
 use Rattle.dw_forms.specs.KeptDecls.{Tables, kept_view, table_in}
-use Rattle.dw_forms.specs.Offsets.{BeginsAt, NothingAt, AreApart}
+use Rattle.dw_forms.specs.Offsets.{BeginsAt, AreApart, AreAlong, AreNew}
 
 -- the table that begins at this offset of the section is the one of this number
 pub record IsTableIn (section : List ℕ) (tables : Tables) (offset number : ℕ) : Type 0 where
@@ -30,24 +31,30 @@ Stay old new = (more : Tables) × (new ≡ old ++ more)
 abbrev pub NoTable : List ℕ → ℕ → Type 0
 NoTable section offset = (ds : List Declaration) → table_at section offset ≡ Ok ds → ⊥
 
--- declarations one after another, from an offset of the section up to the end of the last one, with lists of attributes
--- that are kept
-abbrev pub AreBehind : List Node → List ℕ → List Started → ℕ → ℕ → Type 0
-AreBehind nodes section [] offset end = offset ≡ end
-AreBehind nodes section (s ∷ rest) offset end =
-    (s.start ≡ offset) × HasList nodes s.decl.first s.decl.step × (next : ℕ)
-    × (decl_at [] (drop offset section) ≡ Ok (Some (kept_view nodes s.decl), drop next section))
-    × AreBehind nodes section rest next end
+-- the declaration is between two offsets of the section, with a list of attributes that is kept
+pub record IsDeclAt (section : List ℕ) (nodes : List Node) (offset : ℕ) (d : KeptDecl) (next : ℕ) : Type 0 where
+  pub is : decl_at [] (drop offset section) ≡ Ok (Some (kept_view nodes d), drop next section)
+  pub kept : HasList nodes d.first d.step
+  pub rises : offset < next
+  pub fits : next ≤ length section
 
--- no table that is kept begins with one of the declarations
-abbrev pub AreNew : List ℕ → List Started → Type 0
-AreNew starts [] = Unit {0}
-AreNew starts (s ∷ rest) = NothingAt starts s.start × AreNew starts rest
+-- the declaration is at an offset of the section, before another; or the code 0 is there
+abbrev pub IsNextAt : List ℕ → List Node → ℕ → Option KeptDecl → ℕ → Type 0
+IsNextAt section nodes offset (Some d) next = IsDeclAt section nodes offset d next
+IsNextAt section nodes offset None next = decl_at [] (drop offset section) ≡ Ok (None, drop next section)
 
 -- the table that begins at this offset was kept, or it has no declarations
 abbrev pub GoesOn : List ℕ → List ℕ → ℕ → ℕ → Type 0
 GoesOn section starts offset rest = ((0 < rest) × BeginsAt starts rest offset)
     ⊎ ((rest ≡ 0) × (table_at section offset ≡ Ok []))
+
+-- declarations from an offset of the section on, with which no table begins that is kept, and the table after them
+pub record IsFront (section : List ℕ) (nodes : List Node) (starts : List ℕ) (decls : List (Placed KeptDecl))
+    (offset rest : ℕ) : Type 0 where
+  pub end : ℕ
+  pub along : AreAlong (IsDeclAt section nodes) decls offset end
+  pub new : AreNew starts decls
+  pub goes_on : GoesOn section starts end rest
 
 -- the declaration and the table of this number are a new table, unless the code is in that table
 abbrev pub Added : Declaration → ℕ → Tables → Tables → Option ℕ → Type 0

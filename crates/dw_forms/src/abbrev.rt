@@ -1,8 +1,7 @@
 //! Abbreviation tables (DWARF 5, 7.5.3).
 
 ghost use Rattle.std.specs.Prelude.{◌≡◌, ◌==◌, ◌<◌, [], ◌∷◌, ◌++◌, length, false, find, option_map, option_copied};
-ghost use Rattle.std.specs.Prelude.{IfErr};
-ghost use Rattle.std.specs.Prelude.{option_and_then, slice_get, IfSome, IfNone, OnOk, All, ◌≢◌, ◌+◌, Some};
+ghost use Rattle.std.specs.Prelude.{option_and_then, slice_get, IfErr, IfSome, IfNone, OnOk, All, ◌≢◌, ◌+◌, Some};
 ghost use Rattle.std.specs.Ordering.{nat_cmp};
 ghost use Rattle.std.specs.BTreeMap.{get};
 ghost use Rattle.dw_forms.specs.Abbrev.{view};

@@ -1,15 +1,13 @@
 //! Reading abbreviation tables (DWARF 5, 7.5.3).
 
-ghost use Rattle.std.specs.Prelude.{◌≡◌, ◌<◌, ◌≤◌, ℕ, [], ◌∷◌, ◌++◌, length, drop, false, option_map, IfOk, IfSome};
-ghost use Rattle.std.specs.Prelude.{IfErr};
-ghost use Rattle.std.specs.Prelude.{OnOk};
+ghost use Rattle.std.specs.Prelude.{◌≡◌, ◌<◌, ◌≤◌, ℕ, [], ◌∷◌, ◌++◌, length, drop, false, option_map};
+ghost use Rattle.std.specs.Prelude.{IfOk, IfErr, IfSome, OnOk};
 ghost use Rattle.dw_forms.specs.Front.{BeginsWith, BeginsWithNone};
 ghost use Rattle.dw_forms.specs.Abbrev.{view, Decls, IsCode16, TableFails};
 ghost use Rattle.dw_forms.specs.Marks.{AreMarks};
 ghost use Rattle.dw_forms.specs.AbbrevReading.{has_attribute, has_code, unsigned_at, signed_at};
-ghost use Rattle.dw_forms.specs.AbbrevReading.{form_at, begun_at, pair_at, tagged_at, attributes_of};
-ghost use Rattle.dw_forms.specs.AbbrevReading.{children_at, decl_at};
-ghost use Rattle.dw_forms.specs.AbbrevReading.{placed, table_at};
+ghost use Rattle.dw_forms.specs.AbbrevReading.{form_at, begun_at, pair_at, tagged_at, attributes_of, children_at};
+ghost use Rattle.dw_forms.specs.AbbrevReading.{decl_at, placed, table_at};
 ghost use Rattle.dw_forms.specs.Stops.{IfFault, GivesOrMemory};
 
 use crate::abbrev::{AbbrevTable, TableDecl};

@@ -1,14 +1,13 @@
 //! The abbreviation tables of a section (DWARF 5, 7.5.3).
 
-ghost use Rattle.std.specs.Prelude.{◌≡◌, ◌<◌, ◌≤◌, [], length, drop, option_map, IfOk, IfErr, IfSome, OnOk, Ok, ◌==◌};
-ghost use Rattle.std.specs.Prelude.{ℕ, List, find};
-ghost use Rattle.dw_forms.specs.AbbrevReading.{decl_at, table_at};
+ghost use Rattle.std.specs.Prelude.{◌≡◌, ◌<◌, ◌≤◌, ◌==◌, ℕ, List, [], length, find, option_map};
+ghost use Rattle.std.specs.Prelude.{IfOk, IfErr, IfSome, OnOk};
+ghost use Rattle.dw_forms.specs.AbbrevReading.{table_at};
 ghost use Rattle.dw_forms.specs.AttributeLists.{HasList};
-ghost use Rattle.dw_forms.specs.KeptDecls.{kept_view, view, table_in, tables_of, number_in, AreCoded, AreWithin};
-ghost use Rattle.dw_forms.specs.ListOffsets.{AreListsOf, StayNodes};
+ghost use Rattle.dw_forms.specs.KeptDecls.{kept_view, view, table_in, tables_of, number_in, AreReadable};
+ghost use Rattle.dw_forms.specs.ListOffsets.{AreListsOf, MoreLists};
 ghost use Rattle.dw_forms.specs.Offsets.{AreKnownFrom};
-ghost use Rattle.dw_forms.specs.TableStarts.{NoTable, AreBehind, AreNew, GoesOn, IfNoDecl, IsTableIn};
-ghost use Rattle.dw_forms.specs.TableStarts.{AreStarts, Stay, Added, IsWhole};
+ghost use Rattle.dw_forms.specs.TableStarts.{NoTable, IfNoDecl, IsNextAt, IsFront, IsTableIn, Stay, Added, IsWhole};
 ghost use Rattle.dw_forms.specs.Abbrev.{AreDeclarations, TableFails};
 ghost use Rattle.dw_forms.specs.AbbrevTables.{tables_in, AreSearchable, AreTablesOf};
 ghost use Rattle.dw_forms.specs.Chains.{chain_in};
@@ -20,42 +19,20 @@ use crate::chains::Chains;
 use crate::decl::{Decl, Decls, KeptDecl};
 use crate::fault::{AbbrevFault, DeclFault, Stop};
 use crate::list_reader::KeptLists;
-use crate::offsets::Offsets;
+use crate::offsets::{Offsets, Placed};
 use std::alloc::Global;
 
-/// A declaration, and the offset of its first byte. No table comes after it yet.
-#[derive(Clone, Copy, Debug)]
-pub struct Started {
-    pub start: usize,
-    pub decl: KeptDecl,
-}
-
-/// Declarations one after another, the offset after them, and the number of the table that begins there.
-#[derive(Debug, Drop)]
-pub struct Front {
-    pub decls: Vec<Started>,
-    pub end: usize,
-    pub rest: u32,
-}
-
-/// The declaration that begins at an offset, and the offset after it; or none at the code 0. A code may be
-/// there twice.
+/// The declaration at an offset, and the offset after it; or none at the code 0. A code may be there twice.
 fn next_at(
     lists: &mut KeptLists,
     section: &[u8],
     offset: usize,
-) -> Result<(Option<Started>, usize), Stop<DeclFault>>
+) -> Result<(Option<KeptDecl>, usize), Stop<DeclFault>>
     requires offset { offset ≤ length section.now }
     requires fits { length section.now < 0xffffffff }
     requires lists { AreListsOf section.now lists.old }
-    ensures lists { OnOk result (AreListsOf section.now lists.new) }
-    ensures stay { OnOk result (StayNodes lists.old.lists.nodes.items lists.new.lists.nodes.items) }
-    ensures exact { IfOk result (λ x. decl_at [] (drop offset section.now)
-        ≡ Ok (option_map (λ s. kept_view lists.new.lists.nodes.items s.decl) x.0, drop x.1 section.now)) }
-    ensures kept { IfOk result (λ x. IfSome x.0 (λ s. HasList lists.new.lists.nodes.items s.decl.first s.decl.step)) }
-    ensures start { IfOk result (λ x. IfSome x.0 (λ s. s.start ≡ offset)) }
-    ensures behind { IfOk result (λ x. offset < x.1) }
-    ensures within { IfOk result (λ x. x.1 ≤ length section.now) }
+    ensures more { OnOk result (MoreLists section.now lists.old lists.new) }
+    ensures next { IfOk result (λ x. IsNextAt section.now lists.new.lists.nodes.items offset x.0 x.1) }
     ensures fault { IfErr result (IfFault (λ _. IfNoDecl section.now offset)) }
 {
     let (code, rest) = code_of(&section[offset..])?;
@@ -66,47 +43,38 @@ fn next_at(
         Ok(found) => found,
         Err(error) => return Err(error),
     };
-    let list = match lists.read(section, section.len() - rest.len()) {
+    let (first, end) = match lists.read(section, section.len() - rest.len()) {
         Ok(list) => list,
         Err(error) => return Err(error),
     };
-    let step = lists.lists.step(list.first);
     let decl = KeptDecl {
         code,
         tag,
         has_children,
         is_type: tag.is_type(),
-        step,
-        first: list.first,
+        step: lists.lists.step(first),
+        first,
         rest: 0,
     };
-    Ok((
-        Some(Started {
-            start: offset,
-            decl,
-        }),
-        list.end,
-    ))
+    Ok((Some(decl), end))
 }
 
-/// The declarations from an offset on, up to the end of the table or to a declaration that is kept.
+/// Reads the declarations from an offset on, up to the end of the table or to a declaration that is kept, and returns
+/// them and the table after them. They are in no table yet.
 fn read_front(
     alloc: Global,
     starts: &Offsets,
     lists: &mut KeptLists,
     section: &[u8],
     offset: usize,
-) -> Result<Front, Stop<DeclFault>>
+) -> Result<(Vec<Placed<KeptDecl>>, u32), Stop<DeclFault>>
     requires offset { offset ≤ length section.now }
     requires fits { length section.now < 0xffffffff }
     requires lists { AreListsOf section.now lists.old }
     requires known { AreKnownFrom offset starts.now.starts.items starts.now.numbers.items }
-    ensures lists { OnOk result (AreListsOf section.now lists.new) }
-    ensures stay { OnOk result (StayNodes lists.old.lists.nodes.items lists.new.lists.nodes.items) }
-    ensures new { IfOk result (λ f. AreNew starts.now.starts.items f.decls.items) }
-    ensures front { IfOk result
-        (λ f. AreBehind lists.new.lists.nodes.items section.now f.decls.items offset f.end) }
-    ensures goes_on { IfOk result (λ f. GoesOn section.now starts.now.starts.items f.end f.rest) }
+    ensures more { OnOk result (MoreLists section.now lists.old lists.new) }
+    ensures front { IfOk result (λ x.
+        IsFront section.now lists.new.lists.nodes.items starts.now.starts.items x.0.items offset x.1) }
     ensures fault { IfErr result (IfFault (λ _. NoTable section.now offset)) }
 {
     let mut decls = Vec::new(alloc);
@@ -114,16 +82,19 @@ fn read_front(
     loop {
         let rest = starts.find(end);
         if rest != 0 {
-            return Ok(Front { decls, end, rest });
+            return Ok((decls, rest));
         }
         let (next, after) = match next_at(lists, section, end) {
             Ok(found) => found,
             Err(error) => return Err(error),
         };
-        let Some(started) = next else {
-            return Ok(Front { decls, end, rest });
+        let Some(decl) = next else {
+            return Ok((decls, 0));
         };
-        decls.push(started)?;
+        decls.push(Placed {
+            at: end,
+            item: decl,
+        })?;
         end = after;
     }
 }
@@ -152,11 +123,9 @@ fn push(
 ) -> Result<Option<u32>, Stop<AbbrevFault>>
     requires rest { rest ≤ length kept.old.items }
     requires few { length kept.old.items < 0xffffffff }
-    requires coded { AreCoded codes.old.links.items kept.old.items }
-    requires within { AreWithin lists.now.nodes.items kept.old.items }
+    requires kept { AreReadable codes.old.links.items lists.now.nodes.items kept.old.items }
     requires list { HasList lists.now.nodes.items decl.first decl.step }
-    ensures coded { OnOk result (AreCoded codes.new.links.items kept.new.items) }
-    ensures within { OnOk result (AreWithin lists.now.nodes.items kept.new.items) }
+    ensures kept { OnOk result (AreReadable codes.new.links.items lists.now.nodes.items kept.new.items) }
     ensures added { IfOk result (Added (kept_view lists.now.nodes.items decl) rest
         (tables_of lists.now.nodes.items kept.old.items) (tables_of lists.now.nodes.items kept.new.items)) }
     ensures err { IfErr result (IfFault (λ _. ⊥)) }
@@ -176,46 +145,6 @@ fn push(
         rest,
     });
     Ok(Some(number))
-}
-
-/// Keeps the declarations before a table, the last one first, and returns the number of the table that begins with the
-/// first. None if a code would be in a table twice. The lists, the section and the offset are what the clauses are
-/// about. Each declaration begins at an offset of its own, so that four bytes can say how many there are.
-fn keep(
-    kept: &mut Vec<KeptDecl>,
-    codes: &mut Chains,
-    lists: &AttributeLists,
-    starts: &mut Offsets,
-    section: &[u8],
-    offset: usize,
-    front: Front,
-) -> Result<Option<u32>, Stop<AbbrevFault>>
-    requires coded { AreCoded codes.old.links.items kept.old.items }
-    requires within { AreWithin lists.now.nodes.items kept.old.items }
-    requires starts { AreStarts section.now (tables_of lists.now.nodes.items kept.old.items) starts.old.starts.items }
-    requires fits { length section.now < 0xffffffff }
-    requires front { AreBehind lists.now.nodes.items section.now front.decls.items offset front.end }
-    requires new { AreNew starts.old.starts.items front.decls.items }
-    requires goes_on { GoesOn section.now starts.old.starts.items front.end front.rest }
-    ensures coded { OnOk result (AreCoded codes.new.links.items kept.new.items) }
-    ensures within { OnOk result (AreWithin lists.now.nodes.items kept.new.items) }
-    ensures starts { OnOk result
-        (AreStarts section.now (tables_of lists.now.nodes.items kept.new.items) starts.new.starts.items) }
-    ensures stay { OnOk result (Stay (tables_of lists.now.nodes.items kept.old.items)
-        (tables_of lists.now.nodes.items kept.new.items)) }
-    ensures whole { IfOk result (IsWhole section.now (tables_of lists.now.nodes.items kept.new.items) offset) }
-    ensures err { IfErr result (IfFault (λ _. ⊥)) }
-{
-    let mut table = front.rest;
-    let mut decls = front.decls;
-    while let Some(Started { start, decl }) = decls.pop() {
-        let Some(longer) = push(kept, codes, lists, table, decl)? else {
-            return Ok(None);
-        };
-        starts.push(start as u32)?;
-        table = longer;
-    }
-    Ok(Some(table))
 }
 
 /// The fault of a table that can't be read.
@@ -246,6 +175,43 @@ impl AbbrevTables {
         }
     }
 
+    /// Keeps the declarations before a table, the last one first, and returns the number of the table that begins with
+    /// the first. None if a code would be in a table twice. The section and the offset are what the clauses are about.
+    /// Each declaration begins at an offset of its own, so that four bytes can say how many there are.
+    fn keep(
+        &mut self,
+        section: &[u8],
+        offset: usize,
+        mut decls: Vec<Placed<KeptDecl>>,
+        rest: u32,
+    ) -> Result<Option<u32>, Stop<AbbrevFault>>
+        requires fits { length section.now < 0xffffffff }
+        requires tables { AreTablesOf section.now self.old }
+        requires front { IsFront section.now self.old.lists.lists.nodes.items self.old.starts.starts.items decls.items
+            offset rest }
+        ensures tables { OnOk result (AreTablesOf section.now self.new) }
+        ensures stay { OnOk result (Stay (tables_in self.old) (tables_in self.new)) }
+        ensures whole { IfOk result (IsWhole section.now (tables_in self.new) offset) }
+        ensures err { IfErr result (IfFault (λ _. ⊥)) }
+    {
+        let mut table = rest;
+        while let Some(Placed { at, item: decl }) = decls.pop() {
+            let kept = push(
+                &mut self.kept,
+                &mut self.codes,
+                &self.lists.lists,
+                table,
+                decl,
+            )?;
+            let Some(longer) = kept else {
+                return Ok(None);
+            };
+            self.starts.push(at as u32)?;
+            table = longer;
+        }
+        Ok(Some(table))
+    }
+
     /// Reads the table that begins at an offset of .debug_abbrev, and returns its number. What is kept is not read
     /// again.
     pub fn read(
@@ -267,20 +233,18 @@ impl AbbrevTables {
         ensures exact { IfErr result (λ e. FailsOrMemory e (table_at section.now offset)) }
     {
         self.starts.enter_from(offset)?;
-        let front = match read_front(alloc, &self.starts, &mut self.lists, section, offset) {
+        let (decls, rest) = match read_front(
+            alloc,
+            &self.starts,
+            &mut self.lists,
+            section,
+            offset,
+        ) {
             Ok(front) => front,
             Err(Stop::Memory) => return Err(Stop::Memory),
             Err(Stop::Fault(_)) => return Err(fault_of_table(alloc, section, offset)),
         };
-        match keep(
-            &mut self.kept,
-            &mut self.codes,
-            &self.lists.lists,
-            &mut self.starts,
-            section,
-            offset,
-            front,
-        )? {
+        match self.keep(section, offset, decls, rest)? {
             Some(table) => Ok(table),
             None => Err(fault_of_table(alloc, section, offset)),
         }

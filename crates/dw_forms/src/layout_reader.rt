@@ -1,8 +1,7 @@
 //! Reading a value by its layout (DWARF 5, 7.5.6): first what its bytes hold, then the value, one function a layout.
 
 ghost use Rattle.std.specs.Prelude.{◌≡◌, ◌+◌, ◌≤◌, ◌⊎◌, length, drop, IfOk};
-ghost use Rattle.dw_forms.specs.Value.{counted as counted_layout, leb_counted as leb_counted_layout};
-ghost use Rattle.dw_forms.specs.Value.{block as block_datum};
+ghost use Rattle.dw_forms.specs.Value.{counted as counted_layout, leb_counted as leb_layout, block as block_datum};
 ghost use Rattle.dw_forms.specs.ValueReading.{Gives, GivesIn, fixed_at, block_at, counted_at, leb_counted_at, ended_at};
 
 use crate::leb::read_uleb;
@@ -114,7 +113,7 @@ pub(crate) fn counted_block(bytes: &[u8], size: usize) -> Result<(Value<'_>, usi
 #[tactic(auto, unfolding(crate::specs::ValueReading::layout_at))]
 pub(crate) fn leb_block(bytes: &[u8]) -> Result<(Value<'_>, usize), ValueFault>
     ensures within { IfOk result (λ x. x.1 ≤ length bytes.now) }
-    ensures exact { GivesIn (leb_counted_layout block_datum) bytes.now result }
+    ensures exact { GivesIn (leb_layout block_datum) bytes.now result }
 {
     let (content, len) = leb_counted(bytes)?;
     Ok((Value::Block(content), len))

@@ -2,8 +2,8 @@
 
 ghost use Rattle.std.specs.Prelude.{◌≡◌, ◌<◌, ◌≤◌, ℕ, List, [], length, drop, IfOk, IfErr, OnOk};
 ghost use Rattle.dw_forms.specs.AbbrevReading.{pair_at};
-ghost use Rattle.dw_forms.specs.ListOffsets.{IsListAt, ArePlaced, AreListsOf, AreNew, NoListAt, Leads, StayNodes};
-ghost use Rattle.dw_forms.specs.Offsets.{AreKnownFrom};
+ghost use Rattle.dw_forms.specs.ListOffsets.{IsListAt, ArePlaced, AreListsOf, MoreLists, NoListAt, Leads, StayNodes};
+ghost use Rattle.dw_forms.specs.Offsets.{AreKnownFrom, AreNew};
 ghost use Rattle.dw_forms.specs.Stops.{IfFault, GivesOrMemory};
 
 use crate::abbrev_reader::{fault, form_with_number, pair_of};
@@ -11,22 +11,8 @@ use crate::attribute_lists::AttributeLists;
 use crate::constants::Attribute;
 use crate::decl::AttributeSpec;
 use crate::fault::{AbbrevRule, DeclFault, Stop};
-use crate::offsets::Offsets;
+use crate::offsets::{Offsets, Placed};
 use std::alloc::Global;
-
-/// An attribute, and the offset of its first byte.
-#[derive(Clone, Copy, Debug)]
-pub struct Pair {
-    pub at: usize,
-    pub spec: AttributeSpec,
-}
-
-/// A list of attributes, and the offset after it.
-#[derive(Clone, Copy, Debug)]
-pub struct ReadList {
-    pub first: u32,
-    pub end: usize,
-}
 
 /// The lists of attributes that are kept, and where they are in the section.
 #[derive(Debug, Drop)]
@@ -37,7 +23,7 @@ pub struct KeptLists {
     /// The offset after each list.
     pub(crate) ends: Vec<u32>,
     /// The attributes of the list that is read.
-    pairs: Vec<Pair>,
+    pairs: Vec<Placed<AttributeSpec>>,
 }
 
 /// The attribute at an offset, and the offset after it; or none at the pair 0, 0. An attribute may be there twice.
@@ -70,21 +56,21 @@ fn twice(spec: &AttributeSpec) -> Stop<DeclFault>
     fault(AbbrevRule::AttributeTwice, spec.attribute.0)
 }
 
-/// Reads the attributes from an offset on, and returns the list after them: none at the pair 0, 0, or one that is kept.
-/// The lists are what the clauses are about.
+/// Reads the attributes from an offset on, and returns the list after them and its end: none at the pair 0, 0, or one
+/// that is kept. The lists are what the clauses are about.
 fn read_pairs(
-    pairs: &mut Vec<Pair>,
+    pairs: &mut Vec<Placed<AttributeSpec>>,
     lists: &AttributeLists,
     starts: &Offsets,
     ends: &[u32],
     section: &[u8],
     offset: usize,
-) -> Result<ReadList, Stop<DeclFault>>
+) -> Result<(u32, usize), Stop<DeclFault>>
     requires none { pairs.old.items ≡ [] }
     requires offset { offset ≤ length section.now }
     requires placed { ArePlaced section.now lists.now.nodes.items starts.now.starts.items ends.now }
     requires known { AreKnownFrom offset starts.now.starts.items starts.now.numbers.items }
-    ensures leads { IfOk result (Leads section.now lists.now.nodes.items pairs.new.items offset) }
+    ensures leads { IfOk result (λ x. Leads section.now lists.now.nodes.items pairs.new.items offset x.0 x.1) }
     ensures new { OnOk result (AreNew starts.now.starts.items pairs.new.items) }
     ensures fault { IfErr result (IfFault (λ _. NoListAt section.now offset)) }
 {
@@ -93,58 +79,18 @@ fn read_pairs(
         let first = starts.find(at);
         if first != 0 {
             let end = ends[(first - 1) as usize] as usize;
-            return Ok(ReadList { first, end });
+            return Ok((first, end));
         }
         let (next, after) = match next_pair(section, at) {
             Ok(found) => found,
             Err(error) => return Err(error),
         };
         let Some(spec) = next else {
-            return Ok(ReadList {
-                first: 0,
-                end: after,
-            });
+            return Ok((0, after));
         };
-        pairs.push(Pair { at, spec })?;
+        pairs.push(Placed { at, item: spec })?;
         at = after;
     }
-}
-
-/// Keeps the attributes before a list, the last one first, and returns the list that begins with the first. The section
-/// and the offset are what the clauses are about. Each list begins at an offset of its own, so that four bytes can say
-/// how many there are.
-fn keep_pairs(
-    lists: &mut AttributeLists,
-    starts: &mut Offsets,
-    ends: &mut Vec<u32>,
-    pairs: &mut Vec<Pair>,
-    section: &[u8],
-    offset: usize,
-    rest: ReadList,
-) -> Result<ReadList, Stop<DeclFault>>
-    requires leads { Leads section.now lists.old.nodes.items pairs.old.items offset rest }
-    requires placed { ArePlaced section.now lists.old.nodes.items starts.old.starts.items ends.old.items }
-    requires new { AreNew starts.old.starts.items pairs.old.items }
-    requires fits { length section.now < 0xffffffff }
-    ensures list { IfOk result (λ list. IsListAt section.now lists.new.nodes.items offset list.first list.end) }
-    ensures placed { OnOk result
-        (ArePlaced section.now lists.new.nodes.items starts.new.starts.items ends.new.items) }
-    ensures stay { OnOk result (StayNodes lists.old.nodes.items lists.new.nodes.items) }
-    ensures fault { IfErr result (IfFault (λ _. NoListAt section.now offset)) }
-{
-    let mut first = rest.first;
-    while let Some(Pair { at, spec }) = pairs.pop() {
-        let Some(longer) = lists.push(spec, first)? else {
-            return Err(twice(&spec));
-        };
-        starts.push(at as u32)?;
-        ends.push(rest.end as u32)?;
-        first = longer;
-    }
-    Ok(ReadList {
-        first,
-        end: rest.end,
-    })
 }
 
 impl KeptLists {
@@ -168,24 +114,53 @@ impl KeptLists {
         self.lists
     }
 
-    /// Reads the list of attributes that begins at an offset. Attributes that are kept are not read again.
+    /// Keeps the attributes that were read before a list, the last one first, and returns the list that begins with the
+    /// first. The section and the offset are what the clauses are about. Each list begins at an offset of its own, so
+    /// that four bytes can say how many there are.
+    fn keep_pairs(
+        &mut self,
+        section: &[u8],
+        offset: usize,
+        rest: u32,
+        end: usize,
+    ) -> Result<u32, Stop<DeclFault>>
+        requires fits { length section.now < 0xffffffff }
+        requires lists { AreListsOf section.now self.old }
+        requires leads { Leads section.now self.old.lists.nodes.items self.old.pairs.items offset rest end }
+        requires new { AreNew self.old.starts.starts.items self.old.pairs.items }
+        ensures list { IfOk result (λ first. IsListAt section.now self.new.lists.nodes.items offset first end) }
+        ensures more { OnOk result (MoreLists section.now self.old self.new) }
+        ensures fault { IfErr result (IfFault (λ _. NoListAt section.now offset)) }
+    {
+        let mut first = rest;
+        while let Some(Placed { at, item: spec }) = self.pairs.pop() {
+            let Some(longer) = self.lists.push(spec, first)? else {
+                return Err(twice(&spec));
+            };
+            self.starts.push(at as u32)?;
+            self.ends.push(end as u32)?;
+            first = longer;
+        }
+        Ok(first)
+    }
+
+    /// Reads the list of attributes that begins at an offset, and returns it and the offset after it. Attributes that
+    /// are kept are not read again.
     pub(crate) fn read(
         &mut self,
         section: &[u8],
         offset: usize,
-    ) -> Result<ReadList, Stop<DeclFault>>
+    ) -> Result<(u32, usize), Stop<DeclFault>>
         requires offset { offset ≤ length section.now }
         requires fits { length section.now < 0xffffffff }
         requires lists { AreListsOf section.now self.old }
-        ensures list { IfOk result
-            (λ list. IsListAt section.now self.new.lists.nodes.items offset list.first list.end) }
-        ensures lists { OnOk result (AreListsOf section.now self.new) }
-        ensures stay { OnOk result (StayNodes self.old.lists.nodes.items self.new.lists.nodes.items) }
+        ensures list { IfOk result (λ x. IsListAt section.now self.new.lists.nodes.items offset x.0 x.1) }
+        ensures more { OnOk result (MoreLists section.now self.old self.new) }
         ensures fault { IfErr result (IfFault (λ _. NoListAt section.now offset)) }
     {
         self.starts.enter_from(offset)?;
         self.pairs.clear();
-        let rest = match read_pairs(
+        let (rest, end) = match read_pairs(
             &mut self.pairs,
             &self.lists,
             &self.starts,
@@ -193,17 +168,10 @@ impl KeptLists {
             section,
             offset,
         ) {
-            Ok(rest) => rest,
+            Ok(found) => found,
             Err(error) => return Err(error),
         };
-        keep_pairs(
-            &mut self.lists,
-            &mut self.starts,
-            &mut self.ends,
-            &mut self.pairs,
-            section,
-            offset,
-            rest,
-        )
+        let first = self.keep_pairs(section, offset, rest, end)?;
+        Ok((first, end))
     }
 }

@@ -5,6 +5,13 @@ ghost use Rattle.dw_forms.specs.Offsets.{AreEntered, AreBefore, BeginsAt, HaveNu
 
 use std::alloc::{AllocError, Global};
 
+/// Something that was read, and the offset of its first byte.
+#[derive(Clone, Copy, Debug)]
+pub struct Placed<T> {
+    pub at: usize,
+    pub item: T,
+}
+
 /// The offsets at which something of one kind begins, such as tables. What begins there is numbered from 1.
 #[derive(Debug, Drop)]
 pub struct Offsets {

@@ -17,21 +17,17 @@ use crate::value::{Value, ValueFault};
 
 /// The value of a form that names no other form, and how many bytes it has.
 #[inline(never)]
-#[tactic(
-    auto,
-    unfolding(
-        crate::specs::ValueReading::layout_at,
-        crate::specs::ValueReading::uleb_then,
-        crate::specs::ValueReading::sleb_then
-    )
-)]
+#[tactic(auto, unfolding(crate::specs::ValueReading::layout_at, crate::specs::ValueReading::uleb_then, crate::specs::ValueReading::sleb_then))]
 fn plain(form: Form, address_size: u8, bytes: &[u8]) -> Result<(Value<'_>, usize), ValueFault>
     requires { (address_size ≡ 4) ⊎ (address_size ≡ 8) }
     ensures within { IfOk result (λ x. x.1 ≤ length bytes.now) }
     ensures exact { GivesIn (layout_of address_size form) bytes.now result }
 {
     match form {
-        Form::Addr => Ok((Value::Addr(address(bytes, address_size)?), usize::from(address_size))),
+        Form::Addr => Ok((
+            Value::Addr(address(bytes, address_size)?),
+            usize::from(address_size),
+        )),
         Form::Block2 => counted_block(bytes, 2),
         Form::Block4 => counted_block(bytes, 4),
         Form::Data2 => Ok((Value::Unsigned(fixed(bytes, 2)?), 2)),

@@ -1,5 +1,5 @@
-use Rattle.std.proofs.Common.{rules}
-use Rattle.std.proofs.Common.{List, ℕ, sym, ap, subst, ◌∙◌}
+use Rattle.std.proofs.Common.{List, ℕ, sym, ap, subst, ◌∙◌, rules, arith}
+use Rattle.std.proofs.lemmas.Grind.{common_steps}
 use Rattle.std.proofs.lemmas.Result.{err_from_is_err_and}
 use Rattle.dw_forms.specs.AbbrevReading.{unsigned_at}
 use Rattle.dw_forms.specs.Stops.{FailsOrMemory}
@@ -13,8 +13,8 @@ returns-in_err-code-clause-fault c =
     let fails = subst (λ (bytes : List ℕ). FailsOrMemory c.in_err-code.field-0.0 (unsigned_at bytes)) (bytes_from c.args.section.now c.args.offset) c.in_err-code.ensures.exact in
     rw (p.1, p.2) (code_breaks c.args.section.now c.args.offset c.in_err-code.field-0.0 fails)
 
-pub returns-then-code-eq0-clause-exact : goal.returns-then-code-eq0-clause-exact
-returns-then-code-eq0-clause-exact c = search (rules, bytes_from, next_none)
+pub returns-then-code-eq0-clause-next : goal.returns-then-code-eq0-clause-next
+returns-then-code-eq0-clause-next c = search (rules, bytes_from, next_none)
 
 pub returns-in-Err-clause-fault : goal.returns-in-Err-clause-fault
 returns-in-Err-clause-fault c =
@@ -26,8 +26,13 @@ returns-in-Err-read-clause-fault c =
     let code = sym (ap unsigned_at (bytes_from c.args.section.now c.args.offset)) ∙ c.in_ok-code.ensures.exact in
     list_breaks c.args.section.now c.args.offset c.in_ok-code.code c.in_ok-code.rest.now code c.if-code-eq0.false c.in-Ok.found.0 c.in-Ok.found.1 c.in-Ok.found.2.now c.in-Ok.ensures.exact c.in-Err-read.error c.in-Err-read.ensures.fault
 
-pub returns-clause-exact : goal.returns-clause-exact
-returns-clause-exact c =
+pub returns-clause-next : goal.returns-clause-next
+returns-clause-next c =
     let code = sym (ap unsigned_at (bytes_from c.args.section.now c.args.offset)) ∙ c.in_ok-code.ensures.exact in
-    next_some c.args.section.now c.args.offset c.in_ok-code.code c.in_ok-code.rest.now code c.if-code-eq0.false c.in-Ok.found.0 c.in-Ok.found.1 c.in-Ok.found.2.now c.in-Ok.ensures.exact
-    c.read.new.self.lists.nodes.items c.in-Ok-read.list.first c.in-Ok-read.list.end c.in-Ok-read.ensures.list
+    record {
+      is = next_some c.args.section.now c.args.offset c.in_ok-code.code c.in_ok-code.rest.now code c.if-code-eq0.false c.in-Ok.found.0 c.in-Ok.found.1 c.in-Ok.found.2.now c.in-Ok.ensures.exact
+          c.read.new.self.lists.nodes.items c.in-Ok-read.list.0 c.in-Ok-read.list.1 c.in-Ok-read.ensures.list;
+      kept = search rules;
+      rises = grind (arith, common_steps);
+      fits = c.in-Ok-read.ensures.list.fits;
+    }

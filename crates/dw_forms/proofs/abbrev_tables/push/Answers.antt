@@ -1,5 +1,4 @@
-use Rattle.std.proofs.Common.{rules}
-use Rattle.std.proofs.Common.{◌≡◌, suc, length, sym, ap, ◌∙◌, arith}
+use Rattle.std.proofs.Common.{◌≡◌, suc, length, sym, ap, ◌∙◌, rules, arith}
 use Rattle.std.proofs.lemmas.List.Elements.{All-push}
 use Rattle.dw_forms.specs.declared.decl.KeptDecl.{KeptDecl}
 use Rattle.dw_forms.specs.AttributeLists.{HasList}
@@ -15,19 +14,16 @@ returns-clause-added c =
     let nodes = c.args.lists.now.nodes.items in
     let kept = c.args.kept.now.items in
     let added = c.in_ok-number.ensures.added in
-    let same = code_is c.args.codes.now.links.items nodes kept c.args.rest c.args.decl.code c.requires.coded in
+    let same = code_is c.args.codes.now.links.items nodes kept c.args.rest c.args.decl.code c.requires.kept.coded in
     let none = c.if-find-ne0.false in
-    let number : c.in_ok-number.number ≡ length (tables_of nodes kept) = added.0 ∙ ap suc (links_long c.args.codes.now.links.items kept c.requires.coded) ∙ sym (tables_long nodes kept) in (
+    let number : c.in_ok-number.number ≡ length (tables_of nodes kept) = added.0 ∙ ap suc (links_long c.args.codes.now.links.items kept c.requires.kept.coded) ∙ sym (tables_long nodes kept) in (
       none_code nodes kept c.args.rest c.args.decl.code (omega (arith, none, c.find.ensures, same)),
       number,
       rw (c.push_reserved.ensures.items, c.reserve.ensures.items, number) (tables_more nodes kept _),
     )
 
-pub returns-clause-coded : goal.returns-clause-coded
-returns-clause-coded c =
-    rw (c.push_reserved.ensures.items, c.reserve.ensures.items) (coded_more c.args.codes.now.links.items c.push.new.self.links.items c.args.kept.now.items _ c.requires.coded c.in_ok-number.ensures.added.1)
-
-pub returns-clause-within : goal.returns-clause-within
-returns-clause-within c =
-    rw (c.push_reserved.ensures.items, c.reserve.ensures.items)
-    (All-push (λ (k : KeptDecl). HasList c.args.lists.now.nodes.items k.first k.step) c.args.kept.now.items _ c.requires.within c.requires.list)
+pub returns-clause-kept : goal.returns-clause-kept
+returns-clause-kept c = rw (c.push_reserved.ensures.items, c.reserve.ensures.items) (record {
+  coded = coded_more c.args.codes.now.links.items c.push.new.self.links.items c.args.kept.now.items _ c.requires.kept.coded c.in_ok-number.ensures.added.1;
+  within = All-push (λ (k : KeptDecl). HasList c.args.lists.now.nodes.items k.first k.step) c.args.kept.now.items _ c.requires.kept.within c.requires.list;
+})

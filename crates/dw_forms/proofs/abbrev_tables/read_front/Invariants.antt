@@ -1,15 +1,15 @@
 use Rattle.std.proofs.Common.{◌≤◌, ◌-◌, length}
-use Rattle.dw_forms.specs.ListOffsets.{AreListsOf, StayNodes}
-use Rattle.dw_forms.specs.TableStarts.{AreBehind, AreNew}
+use Rattle.dw_forms.specs.ListOffsets.{MoreLists}
+use Rattle.dw_forms.specs.Offsets.{AreAlong, AreNew}
+use Rattle.dw_forms.specs.TableStarts.{IsDeclAt}
 use Rattle.dw_forms.proofs.abbrev_tables.read_front.Given as goal
 
 abbrev pub invariant-loop-decls : goal.invariant-loop-decls
 invariant-loop-decls l = record {
   from : l.offset ≤ l.end;
   within : l.end ≤ length l.section;
-  lists : AreListsOf l.section l.lists;
-  stay : StayNodes l.fn.lists.lists.nodes.items l.lists.lists.nodes.items;
-  behind : AreBehind l.lists.lists.nodes.items l.section l.decls.items l.offset l.end;
+  more : MoreLists l.section l.fn.lists l.lists;
+  along : AreAlong (IsDeclAt l.section l.lists.lists.nodes.items) l.decls.items l.offset l.end;
   new : AreNew l.starts.starts.items l.decls.items;
 }
 

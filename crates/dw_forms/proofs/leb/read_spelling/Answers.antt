@@ -1,5 +1,4 @@
-use Rattle.std.proofs.Common.{rules}
-use Rattle.std.proofs.Common.{get_or, sym, ◌∙◌, arith}
+use Rattle.std.proofs.Common.{rules, get_or, sym, ◌∙◌, arith}
 use Rattle.dw_forms.proofs.SpellingSteps.{shifted, next_small, bits_70, step_end, step_on, step_bad, step_cut}
 use Rattle.dw_forms.proofs.leb.read_spelling.Goals as goal
 

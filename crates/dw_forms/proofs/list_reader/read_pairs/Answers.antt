@@ -1,22 +1,24 @@
-use Rattle.std.proofs.Common.{rules}
-use Rattle.std.proofs.Common.{refl, arith}
-use Rattle.dw_forms.proofs.ListStarts.{after_push, end_list, kept_list, new_pair, pairs_break}
+use Rattle.std.proofs.Common.{rules, refl, arith}
+use Rattle.dw_forms.specs.ListOffsets.{IsPairAt}
+use Rattle.dw_forms.proofs.ListStarts.{end_list, kept_list, pairs_break}
+use Rattle.dw_forms.proofs.OffsetLaws.{along_push, new_push}
 use Rattle.dw_forms.proofs.list_reader.read_pairs.Goals as goal
 
 pub loop-end-init : goal.loop-end-init
-loop-end-init c = record { from = omega arith; within = c.requires.offset; after = rw c.requires.none refl; new = rw c.requires.none tt }
+loop-end-init c = record { from = omega arith; within = c.requires.offset; along = rw c.requires.none refl; new = rw c.requires.none tt }
 
 pub returns-then-first-ne0-clause-leads : goal.returns-then-first-ne0-clause-leads
 returns-then-first-ne0-clause-leads c =
     let some = c.if-first-ne0.true in
-    let begins = c.find-first.ensures.begins (omega (arith, some)) in (
-      c.loop-end.at,
-      c.loop-end.invariant.after,
-      kept_list c.args.section.now c.args.lists.now.nodes.items c.args.starts.now.starts.items c.args.ends.now c.loop-end.at c.find-first.result _ c.requires.placed begins (omega (arith, some)) refl,
-    )
+    let begins = c.find-first.ensures.begins (omega (arith, some)) in
+    record {
+      next = c.loop-end.at;
+      along = c.loop-end.invariant.along;
+      list = kept_list c.args.section.now c.args.lists.now.nodes.items c.args.starts.now.starts.items c.args.ends.now c.loop-end.at c.find-first.result _ c.requires.placed begins (omega (arith, some)) refl;
+    }
 
 pub returns-in-Err-clause-fault : goal.returns-in-Err-clause-fault
-returns-in-Err-clause-fault c = pairs_break c.args.section.now c.loop-end.pairs.items c.args.offset c.loop-end.at c.loop-end.invariant.after c.in-Err.error c.in-Err.ensures.exact
+returns-in-Err-clause-fault c = pairs_break c.args.section.now c.loop-end.pairs.items c.args.offset c.loop-end.at c.loop-end.invariant.along c.in-Err.error c.in-Err.ensures.exact
 
 pub returns-in_default-clause-leads : goal.returns-in_default-clause-leads
 returns-in_default-clause-leads c = search (rules, end_list)
@@ -28,7 +30,7 @@ loop-end-preserved c =
     let from = c.loop-end.invariant.from in
     record {
       from = omega (arith, from, c.in-Ok.ensures.rises);
-      new = rw c.in_ok-push.ensures.items (new_pair c.args.starts.now.starts.items c.loop-end.pairs.items _ c.loop-end.invariant.new nothing);
+      new = rw c.in_ok-push.ensures.items (new_push c.args.starts.now.starts.items c.loop-end.pairs.items _ c.loop-end.invariant.new nothing);
       within = c.in-Ok.ensures.within;
-      after = rw c.in_ok-push.ensures.items (after_push c.args.section.now c.loop-end.pairs.items c.args.offset c.loop-end.at c.in-Ok.found.1 _ c.loop-end.invariant.after refl (rw c.in-Some.is at c.in-Ok.ensures.exact));
+      along = rw c.in_ok-push.ensures.items (along_push (IsPairAt c.args.section.now) c.loop-end.pairs.items c.args.offset c.loop-end.at c.in-Ok.found.1 _ c.loop-end.invariant.along (record { is = rw c.in-Some.is at c.in-Ok.ensures.exact; rises = c.in-Ok.ensures.rises; fits = c.in-Ok.ensures.within }));
     }

@@ -1,12 +1,13 @@
 use Rattle.std.proofs.Common.{◌≤◌, ◌-◌, length}
-use Rattle.dw_forms.specs.ListOffsets.{AreAfter, AreNew}
+use Rattle.dw_forms.specs.ListOffsets.{IsPairAt}
+use Rattle.dw_forms.specs.Offsets.{AreAlong, AreNew}
 use Rattle.dw_forms.proofs.list_reader.read_pairs.Given as goal
 
 abbrev pub invariant-loop-end : goal.invariant-loop-end
 invariant-loop-end l = record {
   from : l.offset ≤ l.at;
   within : l.at ≤ length l.section;
-  after : AreAfter l.section l.pairs.items l.offset l.at;
+  along : AreAlong (IsPairAt l.section) l.pairs.items l.offset l.at;
   new : AreNew l.starts.starts.items l.pairs.items;
 }
 

@@ -1,0 +1,40 @@
+use Rattle.std.proofs.Common.{rules, arith}
+use Rattle.dw_forms.proofs.ListStarts.{nodes_stay, nodes_on, pair_less, code_before, no_list, next_leads, next_new, next_placed, next_stay}
+use Rattle.dw_forms.proofs.OffsetLaws.{apart_few}
+use Rattle.dw_forms.proofs.list_reader.KeptLists.keep_pairs.Goals as goal
+
+pub loop-at-init : goal.loop-at-init
+loop-at-init c = record { leads = c.requires.leads; placed = c.requires.lists; new = c.requires.new; stay = nodes_stay _ }
+
+pub push-requires-clause-rest : goal.push-requires-clause-rest
+push-requires-clause-rest c = c.loop-at.invariant.leads.list.within
+
+pub push-requires-clause-few : goal.push-requires-clause-few
+push-requires-clause-few c = search (rules, apart_few)
+
+pub push-requires-clause-code : goal.push-requires-clause-code
+push-requires-clause-code c = code_before c.pop.new.self.items c.in-Some.field-0 c.in-Some.ensures.items c.loop-at.invariant.leads
+
+pub returns-in_default-2-clause-fault : goal.returns-in_default-2-clause-fault
+returns-in_default-2-clause-fault c = rw c.twice.ensures (no_list c.pop.new.self.items c.in-Some.field-0 c.in-Some.ensures.items c.loop-at.invariant.leads c.push.new.self.nodes.items (search rules))
+
+pub loop-at-preserved : goal.loop-at-preserved
+loop-at-preserved c =
+    let left = c.pop.new.self.items in
+    let p = c.in-Some.field-0 in
+    let parts = c.in-Some.ensures.items in
+    let i = c.loop-at.invariant in
+    let new = c.push.new.self.nodes.items in
+    let on = next_new left p parts i.leads c.loop-at.self.starts.starts.items i.new in
+    let added = rw c.in-Some-2.is at c.in_ok-longer.ensures.added in
+    record {
+      leads = next_leads left p parts i.leads new c.in-Some-2.longer added;
+      placed = rw (c.in_ok-push.ensures, c.in_ok-push-2.ensures.items) (next_placed left p parts i.leads new c.in-Some-2.longer added c.loop-at.self.starts.starts.items c.loop-at.self.ends.items i.placed on.0);
+      new = rw c.in_ok-push.ensures on.1;
+      stay = nodes_on _ _ _ i.stay (next_stay left p parts i.leads new c.in-Some-2.longer added);
+    }
+
+pub overflow_cast-at : goal.overflow_cast-at
+overflow_cast-at c =
+    let less = pair_less c.pop.new.self.items c.in-Some.field-0 c.in-Some.ensures.items c.loop-at.invariant.leads in
+    omega (arith, less, c.requires.fits)
