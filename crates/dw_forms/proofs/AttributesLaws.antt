@@ -9,7 +9,7 @@ use Rattle.dw_forms.specs.declared.decl.AttributeSpec.{AttributeSpec}
 use Rattle.dw_forms.specs.declared.fault.DeclFault.{DeclFault}
 use Rattle.dw_forms.specs.Front.{Takes}
 use Rattle.dw_forms.specs.Leb.{Uleb, IsEnded}
-use Rattle.dw_forms.specs.Abbrev.{SpellsAttribute, SpellsAttributes, SpellsFront, IsCode16, AreAttributes, PairFails, AttributesFail}
+use Rattle.dw_forms.specs.Abbrev.{SpellsPair, SpellsEach, SpellsAttribute, SpellsAttributes, SpellsFront, IsCode16, AreAttributes, PairFails, AttributesFail}
 use Rattle.dw_forms.specs.AbbrevReading.{on_option, pair_at, attributes_from, attributes_of}
 use Rattle.dw_forms.specs.Says.{bind_says}
 use Rattle.dw_forms.specs.Readers.{IsReader}
@@ -26,6 +26,15 @@ uleb_some text n u = ended_some text u.ended
 
 pub spec_some : (text : List ℕ) (s : AttributeSpec) → SpellsAttribute text s → 0 < length text
 spec_some text s p = search (rules, uleb_some, length-append)
+
+-- no more things are spelled than there are bytes, where each has some
+pub each_fits : {X : Type 0} (Spells : List ℕ → X → Type 0) (End : List ℕ → Type 0) → ((text : List ℕ) (x : X) → Spells text x → 0 < length text) → (xs : List X) (text : List ℕ) → SpellsEach Spells End xs text
+    → length xs ≤ length text
+each_fits Spells End some [] text s = omega arith
+each_fits Spells End some (x ∷ xs) text p =
+    let n = some p.0 x p.3 in
+    let m = each_fits Spells End some xs p.1 p.4 in
+    omega (arith, ap length p.2, length-append p.0 p.1)
 
 pub none_allowed : AreAttributes []
 none_allowed = record { each = All-nil (λ s. IsCode16 s.attribute); distinct = λ i j d lt long. absurd (omega arith) }
@@ -152,16 +161,9 @@ from_again (s ∷ specs) earlier (suc bound) text rest p a lt =
     let regrouped : (earlier ++ s ∷ []) ++ specs ≡ earlier ++ s ∷ specs = append_assoc earlier (s ∷ []) specs in
     rw first (from_again specs (earlier ++ s ∷ []) bound p.1 rest p.4 (subst AreAttributes (sym regrouped) a) (omega arith) ∙ ap (λ (e : List AttributeSpec). Ok (e, rest)) regrouped)
 
-specs_fit : (specs : List AttributeSpec) (text : List ℕ) → SpellsAttributes specs text → length specs ≤ length text
-specs_fit [] text s = omega arith
-specs_fit (s ∷ specs) text p =
-    let n = spec_some p.0 s p.3 in
-    let m = specs_fit specs p.1 p.4 in
-    omega (arith, ap length p.2, length-append p.0 p.1)
-
 pub attributes_again : (text rest : List ℕ) (specs : List AttributeSpec) → SpellsAll text specs → attributes_of (text ++ rest) ≡ Ok (specs, rest)
 attributes_again text rest specs s =
-    let n = specs_fit specs text s.spelled in
+    let n = each_fits SpellsAttribute (λ text. SpellsPair text (0, 0)) spec_some specs text s.spelled in
     from_again specs [] (suc (length (text ++ rest))) text rest s.spelled s.allowed (omega (arith, length-append text rest))
 
 pub attributes_reader : IsReader attributes_of SpellsAll AttributesFail

@@ -13,7 +13,7 @@ use Rattle.dw_forms.specs.KeptDecls.{kept_view, decls_of, tables_of, table_in, d
 use Rattle.dw_forms.specs.AttributeLists.{HasList}
 use Rattle.dw_forms.specs.ListOffsets.{StayNodes}
 use Rattle.dw_forms.proofs.ChainLaws.{chain_map, where_map, chains_long, chain_none, chains_more, are_numbered, item_read, none_has, some_has}
-use Rattle.dw_forms.proofs.CodeLaws.{codes_long}
+use Rattle.dw_forms.proofs.CodeLaws.{codes_long, number_within}
 use Rattle.dw_forms.proofs.ListStarts.{lists_stay}
 
 abbrev pub part : List Node → KeptDecl → Declaration × ℕ
@@ -94,6 +94,15 @@ none_code nodes kept table code none = none_has (λ (d : Declaration). d.code ==
 
 pub some_code : (nodes : List Node) (kept : List KeptDecl) (table code : ℕ) → 0 < number_in (chain_in (tables_of nodes kept) table) code → has_code code (table_in (tables_of nodes kept) table) ≡ true
 some_code nodes kept table code some = some_has (λ (d : Declaration). d.code == code) (chain_in (tables_of nodes kept) table) (λ none. omega (arith, some, none))
+
+-- the declaration that is found by its code
+pub found_by : (links : List Link) (nodes : List Node) (kept : List KeptDecl) (table code : ℕ) → AreCoded links kept
+    → decl_of nodes kept (code_number (codes_in links table) code) ≡ find (λ d. d.code == code) (table_in (tables_of nodes kept) table)
+found_by links nodes kept table code are =
+    ap (decl_of nodes kept) (code_is links nodes kept table code are) ∙ numbers_find nodes kept (chain_in (tables_of nodes kept) table) code (own_numbers nodes kept table)
+
+pub found_within : (links : List Link) (kept : List KeptDecl) (table code : ℕ) → AreCoded links kept → code_number (codes_in links table) code ≤ length kept
+found_within links kept table code are = omega (arith, number_within links table code, links_long links kept are)
 
 -- the declaration that is read at the place before a number
 pub decl_read : (nodes : List Node) (kept : List KeptDecl) (number : ℕ) (x : KeptDecl) → 0 < number → number ≤ length kept → x ≡ get_or kept (number - 1) x → decl_of nodes kept number ≡ Some (kept_view nodes x)

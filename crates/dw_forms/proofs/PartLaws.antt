@@ -12,25 +12,8 @@ use Rattle.dw_forms.proofs.NodeSteps.{node_read}
 
 -- ---- some list
 
--- two ways to part a list
-pub Parted : {X : Type 0} → (xs ys us bs : List X) → Type 0
-Parted {X} xs ys us bs = ((c : List X) × (xs ≡ us ++ c) × (bs ≡ c ++ ys)) ⊎ ((c : List X) × (us ≡ xs ++ c) × (ys ≡ c ++ bs))
-
 first_is : {X : Type 0} → (x y : X) (xs ys : List X) → (x ∷ xs) ≡ (y ∷ ys) → (x ≡ y) × (xs ≡ ys)
 first_is x y xs ys e = (cc, cc)
-
-later : {X : Type 0} → (x : X) (xs ys us bs : List X) → Parted xs ys us bs → Parted (x ∷ xs) ys (x ∷ us) bs
-unfolding Parted
-later x xs ys us bs (inl (c, e, f)) = inl (c, ap (λ zs. x ∷ zs) e, f)
-later x xs ys us bs (inr (c, e, f)) = inr (c, ap (λ zs. x ∷ zs) e, f)
-
-pub parted : {X : Type 0} → (xs ys us bs : List X) → xs ++ ys ≡ us ++ bs → Parted xs ys us bs
-unfolding Parted
-parted [] ys us bs e = inr (us, refl, e)
-parted (x ∷ xs) ys [] bs e = inl (x ∷ xs, refl, sym e)
-parted {X} (x ∷ xs) ys (a ∷ us) bs e =
-    let same = first_is x a (xs ++ ys) (us ++ bs) e in
-    subst (λ (z : X). Parted (x ∷ xs) ys (z ∷ us) bs) same.0 (later x xs ys us bs (parted xs ys us bs same.1))
 
 -- ---- numbers fall along a list
 
@@ -158,11 +141,13 @@ pub record IsPart (z : Numbered AttributeSpec) (zs front before list : List (Num
   pub parts : before ≡ front ++ z ∷ others
   pub goes : zs ≡ others ++ list
 
-part_by : (to : ℕ) (z : Numbered AttributeSpec) (zs front before list : List (Numbered AttributeSpec)) → Falls to list → StartsAt to list → to < z.number → Parted before list front (z ∷ zs) → IsPart z zs front before list
-unfolding Parted
-part_by to z zs front before list falls starts less (inl ([], e, f)) = absurd (let same : z.number ≡ to = subst (StartsAt to) (sym f) starts in omega (arith, same, less))
-part_by to z zs front before list falls starts less (inl (y ∷ others, e, f)) = search (rules, first_is)
-part_by to z zs front before list falls starts less (inr (c, e, f)) = absurd (let le = member_below to c z zs (subst (Falls to) f falls) in omega (arith, le, less))
-
 pub part_at : (to : ℕ) (z : Numbered AttributeSpec) (zs front before list : List (Numbered AttributeSpec)) → Falls to list → StartsAt to list → to < z.number → before ++ list ≡ front ++ z ∷ zs → IsPart z zs front before list
-part_at to z zs front before list falls starts less e = part_by to z zs front before list falls starts less (parted before list front (z ∷ zs) e)
+part_at to z zs [] [] list falls starts less e = absurd (let same : z.number ≡ to = subst (StartsAt to) e starts in omega (arith, same, less))
+part_at to z zs (x ∷ front) [] list falls starts less e = absurd (let le = member_below to (x ∷ front) z zs (subst (Falls to) e falls) in omega (arith, le, less))
+part_at to z zs [] (y ∷ before) list falls starts less e =
+    let same = first_is y z (before ++ list) zs e in
+    record { others = before; parts = ap (λ (n : Numbered AttributeSpec). n ∷ before) same.0; goes = sym same.1 }
+part_at to z zs (x ∷ front) (y ∷ before) list falls starts less e =
+    let same = first_is y x (before ++ list) (front ++ z ∷ zs) e in
+    let p = part_at to z zs front before list falls starts less same.1 in
+    record { others = p.others; parts = ap (λ (n : Numbered AttributeSpec). n ∷ before) same.0 ∙ ap (λ (ns : List (Numbered AttributeSpec)). x ∷ ns) p.parts; goes = p.goes }

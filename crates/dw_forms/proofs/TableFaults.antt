@@ -15,14 +15,14 @@ use Rattle.dw_forms.specs.Front.{BeginsWithNone, Takes}
 use Rattle.dw_forms.specs.AbbrevFaults.{fault_at}
 use Rattle.dw_forms.specs.FormCodes.{code_of, form_of}
 use Rattle.dw_forms.specs.Leb.{Uleb}
-use Rattle.dw_forms.specs.Abbrev.{Declaration, SpellsPair, SpellsFront, SpellsDecls, IsCode16, IsNewCode, AreAttributes, AreDeclarations, broken, NumberFails, ConstantFails, IsBadPair, PairFails, attribute_number, form_number, bad_pair, unknown_form, attribute_twice, constant_number, AttributesFail, Decls, DeclFails, code_number, code_twice, tag_number, bad_tag, children_cut, bad_children, attributes_fail, TableFails}
+use Rattle.dw_forms.specs.Abbrev.{Declaration, SpellsPair, SpellsAttribute, SpellsDecl, SpellsFront, SpellsDecls, IsCode16, IsNewCode, AreAttributes, AreDeclarations, broken, NumberFails, ConstantFails, IsBadPair, PairFails, attribute_number, form_number, bad_pair, unknown_form, attribute_twice, constant_number, AttributesFail, Decls, DeclFails, code_number, code_twice, tag_number, bad_tag, children_cut, bad_children, attributes_fail, TableFails}
 use Rattle.dw_forms.specs.AbbrevReading.{unsigned_at, signed_at, children_at, new_form_of, pair_at, attributes_from, attributes_of, has_code, decl_at, decls_from, decls_of, table_at}
 use Rattle.dw_forms.specs.TableGrammar.{IsTableAt, IsReadByGrammar}
 use Rattle.dw_forms.proofs.Keys.{lacks_test, apart_lacks}
 use Rattle.dw_forms.specs.FormLaws.{FormIs, form_of_says, form_of-code_of, code_some}
 use Rattle.dw_forms.proofs.NumberFaults.{uleb_refuses, sleb_refuses, reads_on, fault_is}
 use Rattle.dw_forms.proofs.AttributeLaws.{attribute_of, number_reader, after_numbers, numbers_again, not_bad, new_form_again, next_again as attribute_again}
-use Rattle.dw_forms.proofs.AttributesLaws.{spec_some, one_of as one_attribute}
+use Rattle.dw_forms.proofs.AttributesLaws.{spec_some, each_fits, one_of as one_attribute}
 use Rattle.dw_forms.proofs.DeclLaws.{code_of_decl, after_tag, tag_is, children_again, next_again as decl_again}
 use Rattle.dw_forms.proofs.TableLaws.{decl_some, one_of as one_decl, decls_again, table_found, table_none, table_fails}
 
@@ -96,16 +96,9 @@ front_refuses (s ∷ specs) earlier (suc bound) text rest fault p a lt h =
     let regrouped : (earlier ++ s ∷ []) ++ specs ≡ earlier ++ s ∷ specs = append_assoc earlier (s ∷ []) specs in
     rw first (front_refuses specs (earlier ++ s ∷ []) bound p.1 rest fault p.4 (subst AreAttributes (sym regrouped) a) (omega arith) (subst (λ (e : List AttributeSpec). PairFails e rest fault) (sym regrouped) h))
 
-front_fits : (specs : List AttributeSpec) (text : List ℕ) → SpellsFront specs text → length specs ≤ length text
-front_fits [] text s = omega arith
-front_fits (s ∷ specs) text p =
-    let n = spec_some p.0 s p.3 in
-    let m = front_fits specs p.1 p.4 in
-    omega (arith, ap length p.2, length-append p.0 p.1)
-
 attributes_refuse : (bytes : List ℕ) (fault : DeclFault) → AttributesFail bytes fault → attributes_of bytes ≡ Err fault
 attributes_refuse bytes fault f =
-    let n = front_fits f.specs f.text f.spelled in
+    let n = each_fits SpellsAttribute (λ text. text ≡ []) spec_some f.specs f.text f.spelled in
     ap attributes_of f.parts ∙ front_refuses f.specs [] (suc (length (f.text ++ f.rest))) f.text f.rest fault f.spelled f.allowed (omega (arith, length-append f.text f.rest)) f.fails
 
 -- ---- a declaration
@@ -165,16 +158,9 @@ decls_refuse (d ∷ ds) earlier (suc bound) len text rest reason p a lt h =
     let regrouped : (earlier ++ d ∷ []) ++ ds ≡ earlier ++ d ∷ ds = append_assoc earlier (d ∷ []) ds in
     rw first (decls_refuse ds (earlier ++ d ∷ []) bound len p.1 rest reason p.4 (subst AreDeclarations (sym regrouped) a) (omega arith) (subst (λ (e : List Declaration). DeclFails e rest reason) (sym regrouped) h))
 
-decls_fit : (ds : List Declaration) (text : List ℕ) → SpellsDecls ds text → length ds ≤ length text
-decls_fit [] text s = omega arith
-decls_fit (d ∷ ds) text p =
-    let n = decl_some p.0 d p.3 in
-    let m = decls_fit ds p.1 p.4 in
-    omega (arith, ap length p.2, length-append p.0 p.1)
-
 pub table_refuses : (section : List ℕ) (offset : ℕ) (fault : AbbrevFault) → offset ≤ length section → TableFails section offset fault → table_at section offset ≡ Err fault
 table_refuses section offset fault within f =
-    let n = decls_fit f.ds f.text f.spelled in
+    let n = each_fits SpellsDecl (λ text. text ≡ []) decl_some f.ds f.text f.spelled in
     let place : length section - length f.rest ≡ offset + length f.text = omega (arith, length-drop offset section, ap length f.parts, length-append f.text f.rest) in
     let read : decls_of (length section) (drop offset section) ≡ Err (fault_at (length section - length f.rest) f.reason) =
     ap (decls_of (length section)) f.parts ∙ decls_refuse f.ds [] (suc (length (f.text ++ f.rest))) (length section) f.text f.rest f.reason f.spelled f.allowed (omega (arith, length-append f.text f.rest)) f.fails in

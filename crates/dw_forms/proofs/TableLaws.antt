@@ -11,13 +11,14 @@ use Rattle.dw_forms.specs.declared.fault.Stop.TheVariants as stops
 use Rattle.dw_forms.specs.AbbrevFaults.{fault_at}
 use Rattle.dw_forms.specs.Steps.{◌>>=◌}
 use Rattle.dw_forms.specs.Front.{BeginsWith, BeginsWithNone, Takes}
+use Rattle.dw_forms.specs.Leb.{Uleb}
 use Rattle.dw_forms.specs.Abbrev.{Declaration, SpellsDecl, SpellsDecls, SpellsTable, IsDeclaration, AreDeclarations, DeclFails, Decls, TableFails}
 use Rattle.dw_forms.specs.AbbrevReading.{on_option, decl_at, placed, decls_from, decls_of, table_at}
 use Rattle.dw_forms.specs.Says.{bind_says}
 use Rattle.dw_forms.specs.Readers.{IsReader, read_is, not_both, reader_begins, reader_none, reader_fails}
 use Rattle.dw_forms.specs.Stops.{IfFault, GivesOrMemory}
 use Rattle.dw_forms.proofs.Keys.{apart_push, apart_lacks}
-use Rattle.dw_forms.proofs.AttributesLaws.{uleb_some}
+use Rattle.dw_forms.proofs.AttributesLaws.{uleb_some, each_fits}
 use Rattle.dw_forms.proofs.DeclLaws.{code_of_decl, NextDecl, decl_says, end_again, next_again}
 
 pub decl_some : (text : List ℕ) (d : Declaration) → SpellsDecl text d → 0 < length text
@@ -164,16 +165,9 @@ from_again (d ∷ ds) earlier (suc bound) len text rest p a lt =
     let regrouped : (earlier ++ d ∷ []) ++ ds ≡ earlier ++ d ∷ ds = append_assoc earlier (d ∷ []) ds in
     rw first (from_again ds (earlier ++ d ∷ []) bound len p.1 rest p.4 (subst AreDeclarations (sym regrouped) a) (omega arith) ∙ ap (λ (e : List Declaration). Ok (e, rest)) regrouped)
 
-ds_fit : (ds : List Declaration) (text : List ℕ) → SpellsTable ds text → length ds ≤ length text
-ds_fit [] text s = omega arith
-ds_fit (d ∷ ds) text p =
-    let n = decl_some p.0 d p.3 in
-    let m = ds_fit ds p.1 p.4 in
-    omega (arith, ap length p.2, length-append p.0 p.1)
-
 pub decls_again : (len : ℕ) (text rest : List ℕ) (ds : List Declaration) → Decls text ds → decls_of len (text ++ rest) ≡ Ok (ds, rest)
 decls_again len text rest ds s =
-    let n = ds_fit ds text s.spelled in
+    let n = each_fits SpellsDecl (λ text. Uleb text 0) decl_some ds text s.spelled in
     from_again ds [] (suc (length (text ++ rest))) len text rest s.spelled s.allowed (omega (arith, length-append text rest))
 
 decls_reader : (len : ℕ) → IsReader (decls_of len) Decls (FailsBehind len [])

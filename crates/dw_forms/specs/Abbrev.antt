@@ -33,6 +33,13 @@ views ds = map view ds
 
 -- ---- the spelling
 
+-- one spelling for each thing, and then the end
+abbrev pub SpellsEach : {X : Type 0} → (List ℕ → X → Type 0) → (List ℕ → Type 0) → List X → List ℕ → Type 0
+SpellsEach Spells End [] bytes = End bytes
+SpellsEach Spells End (x ∷ xs) bytes =
+    (first : List ℕ) × (others : List ℕ) × (bytes ≡ first ++ others) × Spells first x
+    × SpellsEach Spells End xs others
+
 -- two numbers, one after another
 pub record SpellsPair (bytes : List ℕ) (pair : ℕ × ℕ) : Type 0 where
   pub first : List ℕ
@@ -56,10 +63,7 @@ pub record SpellsAttribute (bytes : List ℕ) (spec : AttributeSpec) : Type 0 wh
 
 -- one spelling for each attribute, and the pair 0, 0
 abbrev pub SpellsAttributes : List AttributeSpec → List ℕ → Type 0
-SpellsAttributes [] bytes = SpellsPair bytes (0, 0)
-SpellsAttributes (spec ∷ specs) bytes =
-    (first : List ℕ) × (others : List ℕ) × (bytes ≡ first ++ others) × SpellsAttribute first spec
-    × SpellsAttributes specs others
+SpellsAttributes = SpellsEach SpellsAttribute (λ bytes. SpellsPair bytes (0, 0))
 
 -- the byte that says whether there are children
 abbrev pub children_byte : Bool → ℕ
@@ -76,9 +80,7 @@ pub record SpellsDecl (bytes : List ℕ) (d : Declaration) : Type 0 where
 
 -- one spelling for each declaration, and the code 0
 abbrev pub SpellsTable : List Declaration → List ℕ → Type 0
-SpellsTable [] bytes = Uleb bytes 0
-SpellsTable (d ∷ ds) bytes = (first : List ℕ) × (others : List ℕ) × (bytes ≡ first ++ others) × SpellsDecl first d
-    × SpellsTable ds others
+SpellsTable = SpellsEach SpellsDecl (λ bytes. Uleb bytes 0)
 
 -- ---- what may be declared
 
@@ -146,9 +148,7 @@ pub data PairFails (earlier : List AttributeSpec) (bytes : List ℕ) (fault : De
 
 -- these attributes are spelled, with no pair 0, 0 after them
 abbrev pub SpellsFront : List AttributeSpec → List ℕ → Type 0
-SpellsFront [] bytes = bytes ≡ []
-SpellsFront (spec ∷ specs) bytes = (first : List ℕ) × (others : List ℕ) × (bytes ≡ first ++ others)
-    × SpellsAttribute first spec × SpellsFront specs others
+SpellsFront = SpellsEach SpellsAttribute (λ bytes. bytes ≡ [])
 
 -- some attributes are spelled, and after them no next one and no end
 pub record AttributesFail (bytes : List ℕ) (fault : DeclFault) : Type 0 where
@@ -186,9 +186,7 @@ pub data DeclFails (earlier : List Declaration) (bytes : List ℕ) (fault : Decl
 
 -- these declarations are spelled, with no code 0 after them
 abbrev pub SpellsDecls : List Declaration → List ℕ → Type 0
-SpellsDecls [] bytes = bytes ≡ []
-SpellsDecls (d ∷ ds) bytes = (first : List ℕ) × (others : List ℕ) × (bytes ≡ first ++ others) × SpellsDecl first d
-    × SpellsDecls ds others
+SpellsDecls = SpellsEach SpellsDecl (λ bytes. bytes ≡ [])
 
 -- a beginning of the table spells some declarations, and nothing after it spells a next one or the end.
 -- The place is where that next one begins

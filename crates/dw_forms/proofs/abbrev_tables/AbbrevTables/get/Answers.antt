@@ -3,8 +3,7 @@ use Rattle.dw_forms.specs.declared.decl.KeptDecl.{KeptDecl}
 use Rattle.dw_forms.specs.AttributeLists.{HasList}
 use Rattle.dw_forms.specs.declared.attribute_lists.AttributeLists.{AttributeLists}
 use Rattle.dw_forms.specs.KeptDecls.{kept_view, decl_of}
-use Rattle.dw_forms.proofs.CodeLaws.{number_within}
-use Rattle.dw_forms.proofs.KeptLaws.{code_is, links_long, own_numbers, numbers_find, decl_read, tables_long}
+use Rattle.dw_forms.proofs.KeptLaws.{code_is, links_long, found_by, found_within, decl_read, tables_long}
 use Rattle.dw_forms.proofs.abbrev_tables.AbbrevTables.get.Goals as goal
 
 pub find-number-requires : goal.find-number-requires
@@ -13,33 +12,28 @@ find-number-requires c = search (rules, tables_long, links_long)
 pub returns-then-number-eq0-clause-decl : goal.returns-then-number-eq0-clause-decl
 returns-then-number-eq0-clause-decl c =
     let a = c.args.self.now in
-    let nodes = a.lists.lists.nodes.items in
-    let same = code_is a.codes.links.items nodes a.kept.items c.args.table c.args.code c.requires.searchable.coded in
-    ap (decl_of nodes a.kept.items) (sym c.if-number-eq0.true ∙ c.find-number.ensures ∙ same) ∙ numbers_find nodes a.kept.items _ c.args.code (own_numbers nodes a.kept.items c.args.table)
+    ap (decl_of a.lists.lists.nodes.items a.kept.items) (sym c.if-number-eq0.true ∙ c.find-number.ensures) ∙ found_by a.codes.links.items a.lists.lists.nodes.items a.kept.items c.args.table c.args.code c.requires.searchable.coded
 
 pub index-kept-requires : goal.index-kept-requires
-index-kept-requires c = search (rules, number_within, links_long)
+index-kept-requires c = search (rules, found_within)
 
 pub returns-clause-decl : goal.returns-clause-decl
 returns-clause-decl c =
     let a = c.args.self.now in
     let nodes = a.lists.lists.nodes.items in
-    let same = code_is a.codes.links.items nodes a.kept.items c.args.table c.args.code c.requires.searchable.coded in
-    let within = number_within a.codes.links.items c.args.table c.args.code in
-    let long = links_long a.codes.links.items a.kept.items c.requires.searchable.coded in
+    let within = found_within a.codes.links.items a.kept.items c.args.table c.args.code c.requires.searchable.coded in
     let some = c.if-number-eq0.false in
     ap (λ (lists : AttributeLists). Some (kept_view lists.nodes.items c.new.result.kept.now)) c.new.ensures.lists ∙ ap (λ (k : KeptDecl). Some (kept_view nodes k)) c.new.ensures.kept
-    ∙ sym (decl_read nodes a.kept.items c.find-number.result c.index-kept.result.now (omega (arith, some)) (omega (arith, c.find-number.ensures, within, long)) c.index-kept.ensures)
-    ∙ ap (decl_of nodes a.kept.items) (c.find-number.ensures ∙ same) ∙ numbers_find nodes a.kept.items _ c.args.code (own_numbers nodes a.kept.items c.args.table)
+    ∙ sym (decl_read nodes a.kept.items c.find-number.result c.index-kept.result.now (omega (arith, some)) (omega (arith, c.find-number.ensures, within)) c.index-kept.ensures)
+    ∙ ap (decl_of nodes a.kept.items) c.find-number.ensures ∙ found_by a.codes.links.items nodes a.kept.items c.args.table c.args.code c.requires.searchable.coded
 
 pub new-requires : goal.new-requires
 new-requires c =
     let a = c.args.self.now in
-    let nodes = a.lists.lists.nodes.items in
-    let within = number_within a.codes.links.items c.args.table c.args.code in
+    let within = found_within a.codes.links.items a.kept.items c.args.table c.args.code c.requires.searchable.coded in
     let some = c.if-number-eq0.false in
-    let less : c.find-number.result - 1 < length a.kept.items = omega (arith, c.find-number.ensures, within, some, links_long a.codes.links.items a.kept.items c.requires.searchable.coded) in
-    subst (λ (k : KeptDecl). HasList nodes k.first k.step) (sym c.index-kept.ensures) (c.requires.searchable.within (c.find-number.result - 1) c.index-kept.result.now less)
+    let less : c.find-number.result - 1 < length a.kept.items = omega (arith, c.find-number.ensures, within, some) in
+    subst (λ (k : KeptDecl). HasList a.lists.lists.nodes.items k.first k.step) (sym c.index-kept.ensures) (c.requires.searchable.within (c.find-number.result - 1) c.index-kept.result.now less)
 
 pub returns-clause-number : goal.returns-clause-number
 returns-clause-number c = search (rules, code_is)
