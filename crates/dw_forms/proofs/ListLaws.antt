@@ -11,7 +11,7 @@ use Rattle.dw_forms.specs.Front.{Takes}
 use Rattle.dw_forms.specs.Readers.{read_is, not_both, takes}
 use Rattle.dw_forms.proofs.AttributeLaws.{attribute_of, NextAttribute, pair_says, end_again, next_again}
 use Rattle.dw_forms.proofs.AttributesLaws.{SpellsAll, attributes_reader, attributes_again, spec_some, one_of}
-use Rattle.dw_forms.proofs.Keys.{Lacks, lacks_test}
+use Rattle.dw_forms.proofs.Keys.{Lacks, lacks_test, apart_first, apart_rest}
 use Rattle.dw_forms.proofs.NodeLaws.{attributes_more}
 
 -- bytes at the end of those from an offset on are an end of the section
@@ -73,23 +73,14 @@ record IsLess (s : AttributeSpec) (after rest : List ℕ) (all : List AttributeS
   pub none : has_attribute s.attribute specs ≡ false
   pub list : attributes_of after ≡ Ok (specs, rest)
 
-pair_is : {x y : Option AttributeSpec} {a b : List ℕ} → ◌≡◌ {A = Result (Option AttributeSpec × List ℕ) DeclFault} (Ok (x, a)) (Ok (y, b)) → (x ≡ y) × (a ≡ b)
-pair_is e = let same = read_is e in (ap (λ (p : Option AttributeSpec × List ℕ). p.0) same, ap (λ (p : Option AttributeSpec × List ℕ). p.1) same)
+pub pair_is : {X E : Type 0} {x y : X} {a b : List ℕ} → ◌≡◌ {A = Result (X × List ℕ) E} (Ok (x, a)) (Ok (y, b)) → (x ≡ y) × (a ≡ b)
+pair_is {X} e = let same = read_is e in (ap (λ (p : X × List ℕ). p.0) same, ap (λ (p : X × List ℕ). p.1) same)
 
-some_is : {x y : AttributeSpec} → ◌≡◌ {A = Option AttributeSpec} (Some x) (Some y) → x ≡ y
+pub some_is : {X : Type 0} {x y : X} → ◌≡◌ {A = Option X} (Some x) (Some y) → x ≡ y
 some_is e = cc
 
-never_none : {x : AttributeSpec} → ◌≡◌ {A = Option AttributeSpec} None (Some x) → ⊥
+pub never_none : {X : Type 0} {x : X} → ◌≡◌ {A = Option X} None (Some x) → ⊥
 never_none e = cc
-
-rest_allowed : (s : AttributeSpec) (specs : List AttributeSpec) → AreAttributes (s ∷ specs) → AreAttributes specs
-rest_allowed s specs a = record {
-  each = λ k e lt. a.each (suc k) e (omega arith);
-  distinct = λ i j e less long. a.distinct (suc i) (suc j) e (omega arith) (omega arith);
-}
-
-first_lacks : (s : AttributeSpec) (specs : List AttributeSpec) → AreAttributes (s ∷ specs) → Lacks attribute_of s.attribute specs
-first_lacks s specs a = λ k e lt same. a.distinct 0 (suc k) e (omega arith) (omega arith) (sym same)
 
 less_by : (bytes after rest : List ℕ) (s : AttributeSpec) (all : List AttributeSpec) (text : List ℕ) → pair_at [] bytes ≡ Ok (Some s, after) → bytes ≡ text ++ rest → SpellsAll text all → IsLess s after rest all
 less_by bytes after rest s [] text e parts u = absurd (never_none (pair_is (sym (end_again [] rest text u.spelled) ∙ sym (ap (pair_at []) parts) ∙ e)).0)
@@ -102,8 +93,8 @@ less_by bytes after rest s (c ∷ specs) text e parts u =
     record {
       specs = specs;
       parts = ap (λ (x : AttributeSpec). x ∷ specs) c_is;
-      none = lacks_test attribute_of s.attribute specs (subst (λ (x : AttributeSpec). Lacks attribute_of x.attribute specs) c_is (first_lacks c specs u.allowed));
-      list = ap attributes_of (sym same.1) ∙ attributes_again p.1 rest specs (record { spelled = p.4; allowed = rest_allowed c specs u.allowed });
+      none = lacks_test attribute_of s.attribute specs (subst (λ (x : AttributeSpec). Lacks attribute_of x.attribute specs) c_is (apart_first attribute_of c specs u.allowed.distinct));
+      list = ap attributes_of (sym same.1) ∙ attributes_again p.1 rest specs (record { spelled = p.4; allowed = record { each = λ k x lt. u.allowed.each (suc k) x (omega arith); distinct = apart_rest attribute_of c specs u.allowed.distinct } });
     }
 
 list_less : (bytes after rest : List ℕ) (s : AttributeSpec) (all : List AttributeSpec) → pair_at [] bytes ≡ Ok (Some s, after) → attributes_of bytes ≡ Ok (all, rest) → IsLess s after rest all

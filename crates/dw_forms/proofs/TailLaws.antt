@@ -21,7 +21,8 @@ use Rattle.dw_forms.specs.TableStarts.{NoTable, IsDeclAt, IfNoDecl}
 use Rattle.dw_forms.specs.Offsets.{AreAlong}
 use Rattle.dw_forms.specs.Stops.{IfFault, FailsOrMemory}
 use Rattle.dw_forms.proofs.KeptLaws.{view_stays, has_stays}
-use Rattle.dw_forms.proofs.Keys.{Lacks, apart_cons}
+use Rattle.dw_forms.proofs.Keys.{Lacks, apart_cons, apart_first, apart_rest}
+use Rattle.dw_forms.proofs.ListLaws.{pair_is, some_is, never_none}
 use Rattle.dw_forms.proofs.OffsetLaws.{along_back, along_same}
 use Rattle.dw_forms.proofs.AttributesLaws.{uleb_some}
 use Rattle.dw_forms.proofs.DeclLaws.{code_of_decl, NextDecl, decl_says, end_again, next_again}
@@ -72,30 +73,12 @@ module _ (section : List ℕ) where
 
   -- ---- one declaration less
 
-  rest_allowed : (d : Declaration) (ds : List Declaration) → AreDeclarations (d ∷ ds) → AreDeclarations ds
-  rest_allowed d ds a = record {
-    each = λ k e lt. a.each (suc k) e (omega arith);
-    distinct = λ i j e less long. a.distinct (suc i) (suc j) e (omega arith) (omega arith);
-  }
-
-  first_lacks : (d : Declaration) (ds : List Declaration) → AreDeclarations (d ∷ ds) → Lacks code_of_decl d.code ds
-  first_lacks d ds a = λ k e lt same. a.distinct 0 (suc k) e (omega arith) (omega arith) (sym same)
-
   -- the table of a declaration is the declaration with the table after it
   record IsSplit (next : ℕ) (d : Declaration) (all : List Declaration) : Type 0 where
     pub ds : List Declaration
     pub parts : all ≡ d ∷ ds
     pub lacks : Lacks code_of_decl d.code ds
     pub table : table_at section next ≡ Ok ds
-
-  pair_is : {x y : Option Declaration} {a b : List ℕ} → ◌≡◌ {A = Result (Option Declaration × List ℕ) DeclFault} (Ok (x, a)) (Ok (y, b)) → (x ≡ y) × (a ≡ b)
-  pair_is e = let same = read_is e in (ap (λ (p : Option Declaration × List ℕ). p.0) same, ap (λ (p : Option Declaration × List ℕ). p.1) same)
-
-  some_is : {x y : Declaration} → ◌≡◌ {A = Option Declaration} (Some x) (Some y) → x ≡ y
-  some_is e = cc
-
-  never_none : {x : Declaration} → ◌≡◌ {A = Option Declaration} None (Some x) → ⊥
-  never_none e = cc
 
   split : (offset next : ℕ) (d : Declaration) (all : List Declaration) (text rest : List ℕ) → decl_at [] (drop offset section) ≡ Ok (Some d, drop next section)
       → drop offset section ≡ text ++ rest → Decls text all → IsSplit next d all
@@ -109,8 +92,8 @@ module _ (section : List ℕ) where
       record {
         ds = ds;
         parts = ap (λ (x : Declaration). x ∷ ds) c_is;
-        lacks = subst (λ (x : Declaration). Lacks code_of_decl x.code ds) c_is (first_lacks c ds s.allowed);
-        table = table_spelled next p.1 rest ds (sym same.1) (record { spelled = p.4; allowed = rest_allowed c ds s.allowed });
+        lacks = subst (λ (x : Declaration). Lacks code_of_decl x.code ds) c_is (apart_first code_of_decl c ds s.allowed.distinct);
+        table = table_spelled next p.1 rest ds (sym same.1) (record { spelled = p.4; allowed = record { each = λ k x lt. s.allowed.each (suc k) x (omega arith); distinct = apart_rest code_of_decl c ds s.allowed.distinct } });
       }
 
   table_less : (offset next : ℕ) (d : Declaration) (all : List Declaration) → decl_at [] (drop offset section) ≡ Ok (Some d, drop next section) → table_at section offset ≡ Ok all → IsSplit next d all
