@@ -112,8 +112,7 @@ after_says : (bound : ℕ) (earlier : List AttributeSpec) (bytes : List ℕ) (o 
     → ((s : AttributeSpec) → Takes (NextAttribute earlier) bytes (Some s) after → MatchResult (attributes_from bound (earlier ++ s ∷ []) after) (Found (earlier ++ s ∷ []) after) (FailsBehind (earlier ++ s ∷ []) after))
     → MatchResult (on_option o (Ok (earlier, after)) (λ spec. attributes_from bound (earlier ++ spec ∷ []) after)) (Found earlier bytes) (FailsBehind earlier bytes)
 after_says bound earlier bytes None after allowed t others = found_end earlier bytes after allowed t
-after_says bound earlier bytes (Some s) after allowed t others =
-    MatchResult-weaker (attributes_from bound (earlier ++ s ∷ []) after) (others s t) (λ x f. found_more earlier bytes s after t x f) (λ fault f. fails_more earlier bytes s after t fault f)
+after_says bound earlier bytes (Some s) after allowed t others = search (rules, found_more, fails_more)
 
 from_says : (bound : ℕ) (earlier : List AttributeSpec) (bytes : List ℕ) → length bytes < bound → AreAttributes earlier
     → MatchResult (attributes_from bound earlier bytes) (Found earlier bytes) (FailsBehind earlier bytes)

@@ -81,8 +81,7 @@ other_bits a b c la lb lc apart = search (rules, cases_eq, eq_true, differ)
 -- codes that differ from the first one in the bit agree in one bit more with one that differs too
 pub parts_turn : (code bit first other : ℕ) → agrees code bit first ≡ true → (bit_at first bit ≡ bit_at code bit → ⊥) → agrees code (suc bit) other ≡ parts first bit other
 unfolding agrees
-parts_turn code bit first other e apart =
-    rw (agrees_as code bit first other e, other_bits (bit_at first bit) (bit_at code bit) (bit_at other bit) (bit_at-lt first bit) (bit_at-lt code bit) (bit_at-lt other bit) apart) refl
+parts_turn code bit first other e apart = search (rules, agrees_as, other_bits, bit_at-lt)
 
 -- no code differs from itself
 pub parts_self : (code bit : ℕ) → parts code bit code ≡ false

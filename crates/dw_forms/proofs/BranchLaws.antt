@@ -57,7 +57,7 @@ module _ (old branches : List ℕ) (links : List Link) (rest code bit number nex
   pub one_more : (then : ℕ) → next ≡ number_where (parts code bit) (codes_in links rest) → next < suc (length links)
       → then ≡ number_where (agrees code (suc bit)) (codes_in links rest) → then ≤ length links → AreAppended old (branches ++ next ∷ []) links rest code (bit + 1) then
   one_more then is small turn within =
-      grind (arith, common_steps, found_stay, length-append, more_each, is, more_below, small)
+      search (rules, common_steps, found_stay, length-append, more_each, is, more_below, small)
 
 -- at the first link whose code agrees in the lower bits
 module _ (old branches : List ℕ) (links : List Link) (rest code bit number : ℕ) (x : Link) (next : ℕ) (are : AreAppended old branches links rest code bit number) (some : 0 < number) (read : x ≡ get_or links (number - 1) x)

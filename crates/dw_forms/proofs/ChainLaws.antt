@@ -218,8 +218,7 @@ none_here number more has false some rest e = rest e
 pub none_has : {X : Type 0} → (test : X → Bool) (items : List (X × ℕ)) (chain : List (Numbered X)) → AreNumbered items chain → number_where test chain ≡ 0 → list_any test (items_of chain) ≡ false
 unfolding number_where
 none_has test items [] are none = refl
-none_has test items (n ∷ chain) are none =
-    none_here n.number (number_where test chain) (list_any test (items_of chain)) (test n.item) (λ e. let some = item_some items n.number n.item are.0 in omega (arith, e, some)) (none_has test items chain are.1) none
+none_has test items (n ∷ chain) are none = search (rules, none_here, item_some, (none_has test items chain are.1))
 
 some_here : (number more : ℕ) (has b : Bool) → ((more ≡ 0 → ⊥) → has ≡ true) → (cond b number more ≡ 0 → ⊥) → (b || has) ≡ true
 some_here number more has true rest some = refl

@@ -61,8 +61,7 @@ pub branches_stay : (branches : List ℕ) (more from count code : ℕ) (chain : 
 branches_stay branches more from count code chain are = search (rules, length-append, get_or_append_left)
 
 below_stay : (branches : List ℕ) (more from count number : ℕ) → from + count ≤ length branches → AreBelow branches from count number → AreBelow (branches ++ more ∷ []) from count number
-below_stay branches more from count number within are = λ bit less.
-    let b = are bit less in rw (get_or_append_left branches (more ∷ []) 0 (from + bit) (omega (arith, within, less))) b
+below_stay branches more from count number within are = search (rules, get_or_append_left)
 
 pub found_stay : (branches : List ℕ) (more : ℕ) (links : List Link) → AreFound branches links → AreFound (branches ++ more ∷ []) links
 found_stay branches more links are = grind (arith, common_steps, below_stay, branches_stay)
@@ -112,7 +111,7 @@ first_number : (links : List Link) (chain : List (Numbered ℕ)) (code : ℕ) �
 unfolding number_where
 first_number links [] code are = omega arith
 first_number links (n ∷ chain) code are =
-    first_within n.number (number_in chain code) (length links) (n.item == code) (let w = item_within (codes_of links) n.number n.item are.0 in omega (arith, w, codes_long links)) (first_number links chain code are.1)
+    search (rules, first_within, item_within, codes_long, (first_number links chain code are.1))
 
 pub number_within : (links : List Link) (chain code : ℕ) → number_in (codes_in links chain) code ≤ length links
 number_within links chain code = first_number links (codes_in links chain) code (are_numbered (codes_of links) chain)

@@ -83,8 +83,7 @@ pub numbers_find : (nodes : List Node) (kept : List KeptDecl) (table : List (Num
     → decl_of nodes kept (number_in table code) ≡ find (λ d. d.code == code) (items_of table)
 unfolding number_where
 numbers_find nodes kept [] code are = refl
-numbers_find nodes kept (n ∷ table) code are =
-    found_first nodes kept n (number_in table code) (find (λ d. d.code == code) (items_of table)) (n.item.code == code) are.0 (numbers_find nodes kept table code are.1)
+numbers_find nodes kept (n ∷ table) code are = search (rules, found_first, (numbers_find nodes kept table code are.1))
 
 pub own_numbers : (nodes : List Node) (kept : List KeptDecl) (table : ℕ) → AreNumbered (decls_of nodes kept) (chain_in (tables_of nodes kept) table)
 own_numbers nodes kept table = are_numbered (decls_of nodes kept) table

@@ -80,9 +80,7 @@ module _ {section : List ℕ} {old : List Node} {offset first end : ℕ} {all : 
   no_list new added = none_along section left offset p.at popped.0 (none_twice (drop p.at section) (drop leads.next section) (drop end section) p.item (list_in old first) popped.1.is leads.list.list added.0)
 
   pub next_new : (starts : List ℕ) → AreNew starts all → NothingAt starts p.at × AreNew (starts ++ p.at ∷ []) left
-  next_new starts are =
-      let r = new_pop starts left p (subst (AreNew starts) parts are) in
-      (r.1, new_stay (IsPairAt section) (λ offset next spec e. e.rises) starts left offset p.at popped.0 r.0)
+  next_new starts are = search (rules, new_pop, new_stay, popped)
 
   module _ (new : List Node) (number : ℕ) (added : AddedSpec p.item first old new (Some number)) where
     last : IsLast p.item first old new

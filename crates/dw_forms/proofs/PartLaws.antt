@@ -144,9 +144,7 @@ pub record IsPart (z : Numbered AttributeSpec) (zs front before list : List (Num
 pub part_at : (to : ℕ) (z : Numbered AttributeSpec) (zs front before list : List (Numbered AttributeSpec)) → Falls to list → StartsAt to list → to < z.number → before ++ list ≡ front ++ z ∷ zs → IsPart z zs front before list
 part_at to z zs [] [] list falls starts less e = absurd (let same : z.number ≡ to = subst (StartsAt to) e starts in omega (arith, same, less))
 part_at to z zs (x ∷ front) [] list falls starts less e = absurd (let le = member_below to (x ∷ front) z zs (subst (Falls to) e falls) in omega (arith, le, less))
-part_at to z zs [] (y ∷ before) list falls starts less e =
-    let same = first_is y z (before ++ list) zs e in
-    record { others = before; parts = ap (λ (n : Numbered AttributeSpec). n ∷ before) same.0; goes = sym same.1 }
+part_at to z zs [] (y ∷ before) list falls starts less e = search (rules, first_is)
 part_at to z zs (x ∷ front) (y ∷ before) list falls starts less e =
     let same = first_is y x (before ++ list) (front ++ z ∷ zs) e in
     let p = part_at to z zs front before list falls starts less same.1 in

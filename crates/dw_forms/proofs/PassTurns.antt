@@ -49,14 +49,7 @@ pub record Passes (all to : Attributes) (version size : ℕ) (bytes : List ℕ) 
 
 -- there is one such list of attributes
 pub passes_first : {all to : Attributes} {version size : ℕ} {bytes : List ℕ} (before : List (Numbered AttributeSpec)) → Ends all to before → (size ≡ 4) ⊎ (size ≡ 8) → Passes all to version size bytes all.first bytes
-passes_first {all} {to} {version} {size} {bytes} before ends sized = record {
-  nodes = ends.nodes;
-  sized = sized;
-  left = before;
-  goes = ends.parts;
-  within = all.within;
-  same = λ other more. ap (λ (list : List (Numbered AttributeSpec)). values_end version size (items_of list) bytes) (append_cancel_right before other (numbered_in (nodes_of all) to.first) (sym ends.parts ∙ more.parts));
-}
+passes_first {all} {to} {version} {size} {bytes} before ends sized = search (rules, append_cancel_right)
 
 module _ {all to : Attributes} {version size : ℕ} {bytes : List ℕ} {at : ℕ} {rest : List ℕ} (p : Passes all to version size bytes at rest) where
   falling : Falls at (numbered_in (nodes_of all) at)

@@ -41,14 +41,12 @@ step_end bytes place sum lt low = grind (arith, common_steps, lt-ltb, at_drop_mo
 pub step_on : (bytes : List ℕ) (place sum : ℕ) → place < length bytes → 128 ≤ get_or bytes place 0 → place < 9
     → spelling_from place sum (drop place bytes) ≡ spelling_from (place + 1) (sum + (get_or bytes place 0 % 128) * 128 ^ place) (drop (place + 1) bytes)
 unfolding spelling_from
-step_on bytes place sum lt high le =
-    at_drop_more (spelling_from place sum) bytes place 0 lt ∙ rw (le-ltb (get_or bytes place 0) 128 high, lt-ltb place 9 le) refl
+step_on bytes place sum lt high le = grind (arith, common_steps, at_drop_more, le-ltb, lt-ltb)
 
 pub step_bad : (bytes : List ℕ) (place sum : ℕ) → place < length bytes → 128 ≤ get_or bytes place 0 → 9 ≤ place
     → spelling_from place sum (drop place bytes) ≡ Err BadNumber
 unfolding spelling_from
-step_bad bytes place sum lt high le =
-    at_drop_more (spelling_from place sum) bytes place 0 lt ∙ rw (le-ltb (get_or bytes place 0) 128 high, le-ltb place 9 le) refl
+step_bad bytes place sum lt high le = grind (arith, common_steps, at_drop_more, le-ltb)
 
 pub step_cut : (bytes : List ℕ) (place sum : ℕ) → length bytes ≤ place → spelling_from place sum (drop place bytes) ≡ Err Cut
 unfolding spelling_from

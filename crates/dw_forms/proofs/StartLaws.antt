@@ -63,9 +63,7 @@ module _ {section : List ℕ} {nodes : List Node} {old : Tables} {offset rest : 
       (none_twice section s.at leads.next (kept_view nodes s.item) (table_in old rest) popped.1.is leads.table.table (code_twice s.item.code (table_in old rest) added.0))
 
   pub turn_new : (starts : List ℕ) → AreNew starts all → NothingAt starts s.at × AreNew (starts ++ s.at ∷ []) left
-  turn_new starts are =
-      let r = new_pop starts left s (subst (AreNew starts) parts are) in
-      (r.1, new_stay (IsDeclAt section nodes) (λ at next d e. e.rises) starts left offset s.at popped.0 r.0)
+  turn_new starts are = search (rules, new_pop, new_stay, popped)
 
   module _ (new : Tables) (number : ℕ) (added : Added (kept_view nodes s.item) rest old new (Some number)) where
     pub turn_stay : Stay old new

@@ -112,7 +112,7 @@ module _ (all : Attributes) (code : ℕ) where
 -- the first one with the code comes after some that have another
 stands_first : (code : ℕ) (front : List AttributeSpec) (spec : AttributeSpec) (back : List AttributeSpec) → list_any (has_this code) front ≡ false → has_this code spec ≡ true → StandsFirst (front ++ spec ∷ back) code (length front)
 stands_first code front spec back none is =
-    grind (arith, common_steps, length-append, attribute_of, get_or_at, eqb-true, lacks_from, get_or_append_left)
+    search (rules, common_steps, length-append, attribute_of, get_or_at, eqb-true, lacks_from, get_or_append_left)
 
 take_front : (xs ys : List AttributeSpec) → take (length xs) (xs ++ ys) ≡ xs
 take_front [] ys = refl

@@ -1,4 +1,5 @@
 -- A whole table is read as it is spelled, and no other way.
+use Rattle.std.proofs.lemmas.Grind.{common_steps}
 use Rattle.std.proofs.Common.{rules, ◌≡◌, ℕ, zero, suc, ◌+◌, ◌-◌, ◌<◌, ◌≤◌, List, [], ◌∷◌, ◌++◌, length, drop, Option, Some, None, Result, Ok, Err, refl, sym, ap, subst, ◌∙◌, append_assoc, arith}
 use Rattle.std.specs.Prelude.{MatchResult, IfOk, IfErr}
 use Rattle.std.proofs.lemmas.List.{append-nil, length-append, length-drop, get_or_at}
@@ -28,10 +29,7 @@ none_allowed : AreDeclarations []
 none_allowed = record { each = All-nil IsDeclaration; distinct = λ i j d lt long. absurd (omega arith) }
 
 push_allowed : (earlier : List Declaration) (text : List ℕ) (d : Declaration) → AreDeclarations earlier → NextDecl earlier text (Some d) → AreDeclarations (earlier ++ d ∷ [])
-push_allowed earlier text d a n = record {
-  each = All-push IsDeclaration earlier d a.each n.1;
-  distinct = apart_push code_of_decl earlier d a.distinct n.2;
-}
+push_allowed earlier text d a n = grind (arith, common_steps, apart_push, code_of_decl)
 
 -- ---- what is read is spelled
 

@@ -1,10 +1,10 @@
+use Rattle.std.proofs.Common.{rules}
 use Rattle.std.proofs.Common.{arith, refl}
 use Rattle.dw_forms.proofs.AbbrevSteps.{attributes_done, attributes_more, attributes_fail}
 use Rattle.dw_forms.proofs.abbrev_reader.read_attributes.Goals as goal
 
 pub returns-in-Err-clause-exact : goal.returns-in-Err-clause-exact
-returns-in-Err-clause-exact c =
-    attributes_fail c.in-Err.error _ _ _ c.loop-found.invariant.goes_on (rw c.deref.ensures.value at c.in-Err.ensures.exact)
+returns-in-Err-clause-exact c = search (rules, attributes_fail)
 
 pub returns-in_default-clause-exact : goal.returns-in_default-clause-exact
 returns-in_default-clause-exact c =

@@ -27,12 +27,4 @@ returns-in-Err-read-clause-fault c =
     list_breaks c.args.section.now c.args.offset c.in_ok-code.code c.in_ok-code.rest.now code c.if-code-eq0.false c.in-Ok.found.0 c.in-Ok.found.1 c.in-Ok.found.2.now c.in-Ok.ensures.exact c.in-Err-read.error c.in-Err-read.ensures.fault
 
 pub returns-clause-next : goal.returns-clause-next
-returns-clause-next c =
-    let code = sym (ap unsigned_at (bytes_from c.args.section.now c.args.offset)) ∙ c.in_ok-code.ensures.exact in
-    record {
-      is = next_some c.args.section.now c.args.offset c.in_ok-code.code c.in_ok-code.rest.now code c.if-code-eq0.false c.in-Ok.found.0 c.in-Ok.found.1 c.in-Ok.found.2.now c.in-Ok.ensures.exact
-          c.read.new.self.lists.nodes.items c.in-Ok-read.list.0 c.in-Ok-read.list.1 c.in-Ok-read.ensures.list;
-      kept = search rules;
-      rises = grind (arith, common_steps);
-      fits = c.in-Ok-read.ensures.list.fits;
-    }
+returns-clause-next c = search (rules, bytes_from, next_some, common_steps)

@@ -10,17 +10,7 @@ pub returns-then-find-ne0-clause-added : goal.returns-then-find-ne0-clause-added
 returns-then-find-ne0-clause-added c = search (rules, code_is, some_code)
 
 pub returns-clause-added : goal.returns-clause-added
-returns-clause-added c =
-    let nodes = c.args.lists.now.nodes.items in
-    let kept = c.args.kept.now.items in
-    let added = c.in_ok-number.ensures.added in
-    let same = code_is c.args.codes.now.links.items nodes kept c.args.rest c.args.decl.code c.requires.kept.coded in
-    let none = c.if-find-ne0.false in
-    let number : c.in_ok-number.number ≡ length (tables_of nodes kept) = added.0 ∙ ap suc (links_long c.args.codes.now.links.items kept c.requires.kept.coded) ∙ sym (tables_long nodes kept) in (
-      none_code nodes kept c.args.rest c.args.decl.code (omega (arith, none, c.find.ensures, same)),
-      number,
-      rw (c.push_reserved.ensures.items, c.reserve.ensures.items, number) (tables_more nodes kept _),
-    )
+returns-clause-added c = search (rules, code_is, links_long, tables_long, none_code, tables_more)
 
 pub returns-clause-kept : goal.returns-clause-kept
 returns-clause-kept c = rw (c.push_reserved.ensures.items, c.reserve.ensures.items) (record {

@@ -16,20 +16,13 @@ returns-in-Err-clause-fault c =
     front_fails c.args.section.now c.loop-decls.lists.lists.nodes.items c.in-Err.error c.loop-decls.decls.items c.args.offset c.loop-decls.end c.loop-decls.invariant.along c.in-Err.ensures.fault
 
 pub returns-in_default-clause-front : goal.returns-in_default-clause-front
-returns-in_default-clause-front c = record {
-  end = c.loop-decls.end;
-  along = decls_stay c.args.section.now _ _ c.in-Ok.ensures.more.stay c.loop-decls.decls.items c.args.offset c.loop-decls.end c.loop-decls.invariant.along;
-  new = c.loop-decls.invariant.new;
-  goes_on = search (rules, table_end);
-}
+returns-in_default-clause-front c = search (rules, decls_stay, table_end)
 
 pub returns-in_default-clause-more : goal.returns-in_default-clause-more
 returns-in_default-clause-more c = record { lists = c.in-Ok.ensures.more.lists; stay = nodes_on _ _ _ c.loop-decls.invariant.more.stay c.in-Ok.ensures.more.stay }
 
 pub loop-decls-smaller : goal.loop-decls-smaller
-loop-decls-smaller c =
-    let next = rw c.in-Some.is at c.in-Ok.ensures.next in
-    omega (arith, next.rises, next.fits)
+loop-decls-smaller c = search (rules)
 
 pub loop-decls-preserved : goal.loop-decls-preserved
 loop-decls-preserved c =

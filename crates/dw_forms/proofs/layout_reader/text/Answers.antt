@@ -1,3 +1,4 @@
+use Rattle.std.proofs.Common.{rules}
 use Rattle.std.proofs.Common.{arith, eq-eqb}
 use Rattle.std.proofs.lemmas.Bool.{eqb-true}
 use Rattle.dw_forms.proofs.Texts.{text_none, text_taken}
@@ -7,6 +8,4 @@ pub returns-in_default-clause-exact : goal.returns-in_default-clause-exact
 returns-in_default-clause-exact c = text_none c.args.bytes.now (λ j lt zero_there. c.in_default.ensures j (omega arith) lt (eq-eqb _ _ zero_there))
 
 pub returns-clause-exact : goal.returns-clause-exact
-returns-clause-exact c =
-    let h = c.in-Some.ensures in
-    text_taken c.args.bytes.now c.in-Some.end h.0.high (λ j lt zero_there. h.0.before j (omega arith) lt (eq-eqb _ _ zero_there)) (eqb-true _ _ h.1)
+returns-clause-exact c = search (rules, text_taken, eq-eqb, eqb-true)

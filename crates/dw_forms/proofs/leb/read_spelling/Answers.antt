@@ -20,8 +20,7 @@ returns-then-byte-lt128-clause-bits c =
     (bits_70 c.loop-place.place _ c.loop-place.invariant.short (next_small byte c.loop-place.place c.loop-place.sum c.loop-place.invariant.small))
 
 pub returns-then-place-eq9-clause-exact : goal.returns-then-place-eq9-clause-exact
-returns-then-place-eq9-clause-exact c =
-    sym (step_bad c.args.bytes.now c.loop-place.place c.loop-place.sum c.loop-place-test.true (omega arith) (omega arith)) ∙ c.loop-place.invariant.same
+returns-then-place-eq9-clause-exact c = search (rules, step_bad)
 
 pub loop-place-preserved : goal.loop-place-preserved
 loop-place-preserved c = search (rules, shifted, next_small, step_on)

@@ -6,22 +6,10 @@ use Rattle.dw_forms.proofs.StartLaws.{popped, start_less, stay_same, stay_on, go
 use Rattle.dw_forms.proofs.abbrev_tables.AbbrevTables.keep.Goals as goal
 
 pub loop-at-init : goal.loop-at-init
-loop-at-init c =
-    let a = c.args.self.now in
-    let f = c.requires.front in
-    record {
-      tables = c.requires.tables;
-      stay = stay_same _;
-      new = f.new;
-      leads = record { next = f.end; along = f.along; table = goes_on a.lists.lists.nodes.items c.args.section.now a.kept.items a.starts.starts.items f.end c.args.rest c.requires.tables.starts f.goes_on };
-    }
+loop-at-init c = search (rules, stay_same, goes_on)
 
 pub push-requires-clause-few : goal.push-requires-clause-few
-push-requires-clause-few c =
-    let are = c.loop-at.invariant.tables.starts in
-    let few = apart_few (length c.args.section.now) c.loop-at.self.starts.starts.items are.apart in
-    let long = tables_long c.loop-at.self.lists.lists.nodes.items c.loop-at.self.kept.items in
-    omega (arith, are.long, few, long, c.requires.fits)
+push-requires-clause-few c = search (rules, apart_few, tables_long)
 
 pub push-requires-clause-rest : goal.push-requires-clause-rest
 push-requires-clause-rest c = search (rules, tables_long)

@@ -1,3 +1,4 @@
+use Rattle.std.proofs.Common.{rules}
 use Rattle.std.proofs.Common.{[], ◌∷◌, ap, sym, subst, arith}
 use Rattle.dw_forms.specs.declared.decl.AttributeSpec.{AttributeSpec}
 use Rattle.dw_forms.specs.Chains.{items_of}
@@ -12,10 +13,7 @@ new-requires c =
     omega (arith, less, within)
 
 pub returns-in-Some : goal.returns-in-Some
-returns-in-Some c =
-    let a = c.args.self.now in
-    let rest = c.new.result in
-    subst (λ (spec : AttributeSpec). Ends a rest (record { number = a.first; item = spec } ∷ [])) (sym c.spec.ensures) (first_ends a rest c.in-Some.node.now c.in-Some.ensures.known c.new.ensures.lists c.new.ensures.first)
+returns-in-Some c = search (rules, first_ends)
 
 pub returns-in-None : goal.returns-in-None
 returns-in-None c = ap items_of c.in-None.ensures.none

@@ -1,3 +1,4 @@
+use Rattle.std.proofs.Common.{rules}
 use Rattle.std.proofs.Common.{◌∙◌, ◌-◌, ap, sym, Some, subst, arith}
 use Rattle.dw_forms.specs.declared.decl.KeptDecl.{KeptDecl}
 use Rattle.dw_forms.specs.Abbrev.{Declaration}
@@ -7,10 +8,7 @@ use Rattle.dw_forms.proofs.KeptLaws.{decl_read}
 use Rattle.dw_forms.proofs.decl.Decls.decl.Goals as goal
 
 pub index-requires : goal.index-requires
-index-requires c =
-    let some = c.requires.some in
-    let within = c.requires.within in
-    omega (arith, some, within)
+index-requires c = search (rules)
 
 pub new-requires : goal.new-requires
 new-requires c =
