@@ -1,7 +1,7 @@
 -- Codes are found in chains of links, also with one link more.
 use Rattle.std.proofs.lemmas.Grind.{common_steps}
 use Rattle.std.proofs.Common.{rules, ◌≡◌, ℕ, zero, suc, ◌+◌, ◌-◌, ◌<◌, ◌≤◌, Bool, true, false, cond, List, [], ◌∷◌, ◌++◌, length, Some, refl, sym, ap, ◌∙◌, inl, inr, arith}
-use Rattle.std.specs.Prelude.{◌==◌, get_or}
+use Rattle.std.specs.Prelude.{get_or}
 use Rattle.std.proofs.lemmas.Bool.{cases_eq}
 use Rattle.std.proofs.lemmas.List.{length-append, length-map, map-append, get_or-map, get_or_append_left, get_or_at}
 use Rattle.dw_forms.specs.declared.chains.Link.{Link}

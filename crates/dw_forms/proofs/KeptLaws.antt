@@ -11,7 +11,7 @@ use Rattle.dw_forms.specs.AbbrevReading.{has_code}
 use Rattle.dw_forms.specs.Chains.{Numbered, items_of, chain_in, chains_of, number_where, AreNumbered, codes_of, codes_in, number_in as code_number}
 use Rattle.dw_forms.specs.KeptDecls.{kept_view, decls_of, tables_of, table_in, decl_of, number_in, AreWithin, AreCoded}
 use Rattle.dw_forms.specs.AttributeLists.{HasList}
-use Rattle.dw_forms.specs.ListOffsets.{StayNodes}
+use Rattle.dw_forms.specs.Offsets.{Stay}
 use Rattle.dw_forms.proofs.ChainLaws.{chain_map, where_map, chains_long, chain_none, chains_more, are_numbered, item_read, none_has, some_has}
 use Rattle.dw_forms.proofs.CodeLaws.{codes_long, number_within}
 use Rattle.dw_forms.proofs.ListStarts.{lists_stay}
@@ -35,7 +35,7 @@ pub tables_more : (nodes : List Node) (kept : List KeptDecl) (k : KeptDecl)
 tables_more nodes kept k = ap chains_of (map-append (part nodes) kept (k ∷ [])) ∙ chains_more (decls_of nodes kept) (part nodes k)
 
 -- more attributes change no table
-pub view_stays : (old new : List Node) (k : KeptDecl) → StayNodes old new → k.first ≤ length old → kept_view new k ≡ kept_view old k
+pub view_stays : (old new : List Node) (k : KeptDecl) → Stay old new → k.first ≤ length old → kept_view new k ≡ kept_view old k
 view_stays old new k stay within = search (rules, lists_stay)
 
 views_same : (nodes more : List Node) (kept : List KeptDecl) → AreWithin nodes kept → decls_of (nodes ++ more) kept ≡ decls_of nodes kept
@@ -45,13 +45,13 @@ views_same nodes more (k ∷ kept) within =
     ap (λ (d : Declaration). (d, k.rest) ∷ decls_of (nodes ++ more) kept) same
     ∙ ap (λ (ds : List (Declaration × ℕ)). part nodes k ∷ ds) (views_same nodes more kept (λ i x less. within (suc i) x (omega (arith, less))))
 
-pub tables_same : (old new : List Node) (kept : List KeptDecl) → StayNodes old new → AreWithin old kept → tables_of new kept ≡ tables_of old kept
+pub tables_same : (old new : List Node) (kept : List KeptDecl) → Stay old new → AreWithin old kept → tables_of new kept ≡ tables_of old kept
 tables_same old new kept stay within = ap (λ (nodes : List Node). tables_of nodes kept) stay.1 ∙ ap chains_of (views_same old stay.0 kept within)
 
-pub has_stays : (old new : List Node) (first : ℕ) (step : Step) → StayNodes old new → HasList old first step → HasList new first step
+pub has_stays : (old new : List Node) (first : ℕ) (step : Step) → Stay old new → HasList old first step → HasList new first step
 has_stays old new first step stay has = search (rules, lists_stay, length-append)
 
-pub within_stays : (old new : List Node) (kept : List KeptDecl) → StayNodes old new → AreWithin old kept → AreWithin new kept
+pub within_stays : (old new : List Node) (kept : List KeptDecl) → Stay old new → AreWithin old kept → AreWithin new kept
 within_stays old new kept stay within k d less = has_stays old new _ _ stay (within k d less)
 
 -- ---- how codes are found

@@ -5,7 +5,7 @@ use Rattle.std.proofs.lemmas.List.{length-append, length-drop, take-append-drop,
 use Rattle.std.proofs.lemmas.Result.{MatchResult-at_ok}
 use Rattle.dw_forms.specs.declared.decl.AttributeSpec.{AttributeSpec}
 use Rattle.dw_forms.specs.declared.fault.DeclFault.{DeclFault}
-use Rattle.dw_forms.specs.Abbrev.{IsCode16, AreAttributes, AttributesFail, PairFails}
+use Rattle.dw_forms.specs.Abbrev.{IsCode16, AttributesFail, PairFails}
 use Rattle.dw_forms.specs.AbbrevReading.{has_attribute, pair_at, attributes_from, attributes_of}
 use Rattle.dw_forms.specs.Front.{Takes}
 use Rattle.dw_forms.specs.Readers.{read_is, not_both, takes}

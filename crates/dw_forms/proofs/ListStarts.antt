@@ -13,8 +13,8 @@ use Rattle.dw_forms.specs.declared.fault.Stop.TheVariants as stops
 use Rattle.dw_forms.specs.AbbrevReading.{pair_at}
 use Rattle.dw_forms.specs.Chains.{Numbered, items_of}
 use Rattle.dw_forms.specs.AttributeLists.{numbered_in, list_in, IsLast, AddedSpec}
-use Rattle.dw_forms.specs.Offsets.{BeginsAt, NothingAt, AreAlong, AreNew}
-use Rattle.dw_forms.specs.ListOffsets.{IsListAt, ArePlaced, NoListAt, IsPairAt, Leads, StayNodes}
+use Rattle.dw_forms.specs.Offsets.{BeginsAt, NothingAt, AreAlong, AreNew, Stay}
+use Rattle.dw_forms.specs.ListOffsets.{IsListAt, ArePlaced, NoListAt, IsPairAt, Leads}
 use Rattle.dw_forms.specs.Stops.{IfFault, FailsOrMemory}
 use Rattle.dw_forms.proofs.ChainLaws.{chain_none}
 use Rattle.dw_forms.proofs.ListLaws.{rest_of, taken, pair_code, list_more, list_end, none_before, none_twice, none_broken}
@@ -29,14 +29,8 @@ lists_stay (n ∷ more) nodes number within =
     ap (λ (all : List Node). numbered_in all number) (sym (append_assoc nodes (n ∷ []) more))
     ∙ lists_stay more (nodes ++ n ∷ []) number (omega (arith, within, length-append nodes (n ∷ []))) ∙ old_list nodes n number within
 
-pub list_stays : (section : List ℕ) (old new : List Node) (offset number end : ℕ) → StayNodes old new → IsListAt section old offset number end → IsListAt section new offset number end
+pub list_stays : (section : List ℕ) (old new : List Node) (offset number end : ℕ) → Stay old new → IsListAt section old offset number end → IsListAt section new offset number end
 list_stays section old new offset number end stay is = search (rules, length-append, lists_stay)
-
-pub nodes_stay : (nodes : List Node) → StayNodes nodes nodes
-nodes_stay nodes = ([], sym (append-nil nodes))
-
-pub nodes_on : (old middle new : List Node) → StayNodes old middle → StayNodes middle new → StayNodes old new
-nodes_on old middle new first second = (first.0 ++ second.0, second.1 ∙ ap (λ (ns : List Node). ns ++ second.0) first.1 ∙ append_assoc old first.0 second.0)
 
 -- ---- one attribute more
 
@@ -113,7 +107,7 @@ module _ {section : List ℕ} {old : List Node} {offset first end : ℕ} {all : 
     next_placed starts ends placed nothing =
         subst (λ (ns : List Node). ArePlaced section ns (starts ++ p.at ∷ []) (ends ++ end ∷ [])) (sym last.nodes) (placed_more section old last.node starts ends p.at end placed nothing pair_less here)
 
-    pub next_stay : StayNodes old new
+    pub next_stay : Stay old new
     next_stay = (last.node ∷ [], last.nodes)
 
 -- ---- what is read at an offset

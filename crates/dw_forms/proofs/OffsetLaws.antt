@@ -1,5 +1,5 @@
 -- What begins at an offset of a section.
-use Rattle.std.proofs.Common.{◌≡◌, ℕ, ◌-◌, ◌<◌, ◌≤◌, Bool, true, false, ◌||◌, ◌⊎◌, List, [], ◌∷◌, ◌++◌, length, refl, sym, ◌∙◌, inl, inr, subst, rules, arith}
+use Rattle.std.proofs.Common.{◌≡◌, ℕ, ◌-◌, ◌<◌, ◌≤◌, Bool, true, false, ◌||◌, ◌⊎◌, List, [], ◌∷◌, ◌++◌, length, refl, sym, ◌∙◌, inl, inr, subst, rules, arith, ap, append_assoc, append-nil}
 use Rattle.std.specs.Prelude.{get_or, nat_eq}
 use Rattle.std.specs.List.{list_any}
 use Rattle.std.proofs.lemmas.Bool.{cases_eq, eqb-true}
@@ -10,7 +10,7 @@ use Rattle.std.proofs.lemmas.Map.Keys.{IsDistinct-push, IsDistinct-from_apart}
 use Rattle.std.proofs.lemmas.Map.Steps.{length-le_from_distinct_below}
 use Rattle.std.proofs.lemmas.Option.{slice_get_within, get_or_from_slice_get}
 use Rattle.dw_forms.specs.declared.offsets.Placed.{Placed}
-use Rattle.dw_forms.specs.Offsets.{BeginsAt, NothingAt, AreApart, AreAlong, AreNew}
+use Rattle.dw_forms.specs.Offsets.{BeginsAt, NothingAt, AreApart, AreAlong, AreNew, Stay}
 use Rattle.dw_forms.proofs.BitLaws.{differ}
 
 -- what begins at an offset is one of those that are kept
@@ -93,3 +93,11 @@ new_push starts (y ∷ xs) x new nothing = (new.0, new_push starts xs x new.1 no
 pub new_pop : {T : Type 0} (starts : List ℕ) (xs : List (Placed T)) (x : Placed T) → AreNew starts (xs ++ x ∷ []) → AreNew starts xs × NothingAt starts x.at
 new_pop starts [] x new = (tt, new.0)
 new_pop starts (y ∷ xs) x new = let r = new_pop starts xs x new.1 in ((new.0, r.0), r.1)
+
+-- ---- what stays
+
+pub stay_same : {X : Type 0} (xs : List X) → Stay xs xs
+stay_same xs = ([], sym (append-nil xs))
+
+pub stay_on : {X : Type 0} (old middle new : List X) → Stay old middle → Stay middle new → Stay old new
+stay_on {X} old middle new first second = (first.0 ++ second.0, second.1 ∙ ap (λ (xs : List X). xs ++ second.0) first.1 ∙ append_assoc old first.0 second.0)

@@ -1,5 +1,5 @@
 -- Tables that begin at offsets of a section, as more declarations are kept.
-use Rattle.std.proofs.Common.{◌≡◌, ℕ, suc, ◌<◌, true, List, [], ◌∷◌, ◌++◌, length, Some, None, Ok, sym, ap, subst, ◌∙◌, inl, inr, append_assoc, append-nil, rules, arith}
+use Rattle.std.proofs.Common.{◌≡◌, ℕ, suc, ◌<◌, true, List, [], ◌∷◌, ◌++◌, length, Some, None, Ok, sym, ap, subst, ◌∙◌, inl, inr, rules, arith}
 use Rattle.std.specs.Prelude.{get_or}
 use Rattle.std.proofs.lemmas.Bool.{cases_eq}
 use Rattle.std.proofs.lemmas.List.{length-append, get_or_append_left, get_or_at}
@@ -19,12 +19,6 @@ use Rattle.dw_forms.proofs.OffsetLaws.{begins_within, apart_push, along_pop, new
 use Rattle.dw_forms.proofs.TailLaws.{table_more, none_twice, none_along, table_allowed, table_fewer}
 
 -- ---- what stays
-
-pub stay_same : (tables : Tables) → Stay tables tables
-stay_same tables = ([], sym (append-nil tables))
-
-pub stay_on : (old middle new : Tables) → Stay old middle → Stay middle new → Stay old new
-stay_on old middle new first second = (first.0 ++ second.0, second.1 ∙ ap (λ (ts : Tables). ts ++ second.0) first.1 ∙ append_assoc old first.0 second.0)
 
 pub table_stays : (old new : Tables) (number : ℕ) → Stay old new → number < length old → chain_in new number ≡ chain_in old number
 table_stays old new number stay within = ap (λ (ts : Tables). chain_in ts number) stay.1 ∙ get_or_append_left old stay.0 [] number within

@@ -9,10 +9,10 @@ use Rattle.dw_forms.specs.declared.decl.AttributeSpec.{AttributeSpec}
 use Rattle.dw_forms.specs.declared.attribute_lists.Node.{Node}
 use Rattle.dw_forms.specs.declared.attributes.Attributes.{Attributes}
 use Rattle.dw_forms.specs.declared.value.ValueFault.{ValueFault}
-use Rattle.dw_forms.specs.AttributeLists.{IsKnown, spec_of, numbered_in, list_in, specs_of, has_this}
+use Rattle.dw_forms.specs.AttributeLists.{IsKnown, spec_of, numbered_in, specs_of, has_this}
 use Rattle.dw_forms.specs.Chains.{Numbered, items_of, number_where, number_in, codes_in}
 use Rattle.dw_forms.specs.FirstPlaces.{StandsFirst, ReadsFirst, value_behind}
-use Rattle.dw_forms.specs.Plans.{known_sum, values_end}
+use Rattle.dw_forms.specs.Plans.{values_end}
 use Rattle.dw_forms.specs.Steps.{◌>>=◌}
 use Rattle.dw_forms.specs.Suffixes.{nodes_of, numbered, specs_in, Ends, IsFrom}
 use Rattle.dw_forms.specs.Value.{Datum}
@@ -51,13 +51,6 @@ first_specs all rest spec ends = specs_ends all rest (record { number = all.firs
 -- a list ends with what its end ends with
 pub ends_on : (a b c : Attributes) (xs ys : List (Numbered AttributeSpec)) → Ends a b xs → Ends b c ys → Ends a c (xs ++ ys)
 ends_on a b c xs ys e f = search (rules, numbered_ends, append_assoc)
-
--- the sum of the sizes of a list, by the nodes of another that ends with it
-pub sum_there : (size sum : ℕ) (a b : Attributes) (before : List (Numbered AttributeSpec)) → Ends a b before → sum ≡ known_sum size (specs_in b) → sum ≡ known_sum size (list_in (nodes_of a) b.first)
-sum_there size sum a b before e is = is ∙ ap (λ (nodes : List Node). known_sum size (list_in nodes b.first)) e.nodes
-
-pub within_there : (a b : Attributes) (before : List (Numbered AttributeSpec)) → Ends a b before → b.first ≤ length (nodes_of a)
-within_there a b before e = subst (λ (nodes : List Node). b.first ≤ length nodes) e.nodes b.within
 
 -- ---- those from the next one of a kind on
 

@@ -1,5 +1,5 @@
 -- A declaration and the table after it: they are a table where no code occurs twice, and no other table begins there.
-use Rattle.std.proofs.Common.{◌≡◌, ◌≤◌, ℕ, suc, ◌-◌, ◌<◌, List, [], ◌∷◌, ◌++◌, length, take, drop, Option, Some, None, Result, Ok, Err, refl, sym, ap, subst, ◌∙◌, append_assoc, rules, arith}
+use Rattle.std.proofs.Common.{◌≡◌, ◌≤◌, ℕ, suc, ◌-◌, ◌<◌, List, [], ◌∷◌, ◌++◌, length, take, drop, Option, Some, None, Ok, Err, refl, sym, ap, subst, ◌∙◌, append_assoc, rules, arith}
 use Rattle.std.proofs.lemmas.List.{length-append, length-take, length-drop, take-append-drop}
 use Rattle.std.proofs.lemmas.List.Elements.{All-cons}
 use Rattle.std.proofs.lemmas.Result.{MatchResult-at_ok}
@@ -16,9 +16,8 @@ use Rattle.dw_forms.specs.AbbrevReading.{decl_at, decls_from, table_at}
 use Rattle.dw_forms.specs.Readers.{read_is, not_both}
 use Rattle.dw_forms.specs.declared.attribute_lists.Node.{Node}
 use Rattle.dw_forms.specs.KeptDecls.{kept_view}
-use Rattle.dw_forms.specs.ListOffsets.{StayNodes}
 use Rattle.dw_forms.specs.TableStarts.{NoTable, IsDeclAt, IfNoDecl}
-use Rattle.dw_forms.specs.Offsets.{AreAlong}
+use Rattle.dw_forms.specs.Offsets.{AreAlong, Stay}
 use Rattle.dw_forms.specs.Stops.{IfFault, FailsOrMemory}
 use Rattle.dw_forms.proofs.KeptLaws.{view_stays, has_stays}
 use Rattle.dw_forms.proofs.Keys.{Lacks, apart_cons, apart_first, apart_rest}
@@ -124,7 +123,7 @@ module _ (section : List ℕ) where
   front_fails nodes (stops.Fault fault) xs offset end along e = none_along nodes xs offset end along (table_broken end e.0 e.1)
 
   -- they stay as more attributes are kept
-  pub decls_stay : (old new : List Node) → StayNodes old new → (xs : List (Placed KeptDecl)) (offset end : ℕ) → AreAlong (IsDeclAt section old) xs offset end → AreAlong (IsDeclAt section new) xs offset end
+  pub decls_stay : (old new : List Node) → Stay old new → (xs : List (Placed KeptDecl)) (offset end : ℕ) → AreAlong (IsDeclAt section old) xs offset end → AreAlong (IsDeclAt section new) xs offset end
   decls_stay old new stay = along_same (IsDeclAt section new) (IsDeclAt section old) (λ offset next d e. record {
     is = e.is ∙ ap (λ (v : Declaration). Ok (Some v, drop next section)) (sym (view_stays old new d stay e.kept.within));
     kept = has_stays old new _ _ stay e.kept;

@@ -1,12 +1,12 @@
 -- State: the lists of attributes that begin at offsets of a section.
-use Rattle.std.specs.Prelude.{◌≡◌, ℕ, suc, ◌<◌, ◌≤◌, List, [], ◌++◌, length, drop, get_or, Some, Ok}
+use Rattle.std.specs.Prelude.{◌≡◌, ℕ, suc, ◌<◌, ◌≤◌, List, [], length, drop, get_or, Some, Ok}
 use Rattle.dw_forms.specs.declared.decl.AttributeSpec.{AttributeSpec}
 use Rattle.dw_forms.specs.declared.attribute_lists.Node.{Node}
 use Rattle.dw_forms.specs.declared.list_reader.KeptLists.{KeptLists}
 use Rattle.dw_forms.specs.declared.offsets.Placed.{Placed}
 use Rattle.dw_forms.specs.AbbrevReading.{pair_at, attributes_of}
 use Rattle.dw_forms.specs.AttributeLists.{list_in}
-use Rattle.dw_forms.specs.Offsets.{AreAlong, AreApart}
+use Rattle.dw_forms.specs.Offsets.{AreAlong, AreApart, Stay}
 
 -- the list of this number begins at an offset of the section, and ends before another
 pub record IsListAt (section : List ℕ) (nodes : List Node) (offset number end : ℕ) : Type 0 where
@@ -40,10 +40,6 @@ pub record Leads (section : List ℕ) (nodes : List Node) (pairs : List (Placed 
   pub along : AreAlong (IsPairAt section) pairs offset next
   pub list : IsListAt section nodes next first end
 
--- the old nodes stay, and others come after them
-abbrev pub StayNodes : List Node → List Node → Type 0
-StayNodes old new = (more : List Node) × (new ≡ old ++ more)
-
 -- the lists that are kept are those of this section
 abbrev pub AreListsOf : List ℕ → KeptLists → Type 0
 AreListsOf section t = ArePlaced section t.lists.nodes.items t.starts.starts.items t.ends.items
@@ -51,4 +47,4 @@ AreListsOf section t = ArePlaced section t.lists.nodes.items t.starts.starts.ite
 -- the lists that are kept are those of this section, and the old ones are among them
 pub record MoreLists (section : List ℕ) (old new : KeptLists) : Type 0 where
   pub lists : AreListsOf section new
-  pub stay : StayNodes old.lists.nodes.items new.lists.nodes.items
+  pub stay : Stay old.lists.nodes.items new.lists.nodes.items

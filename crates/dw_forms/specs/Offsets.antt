@@ -1,5 +1,5 @@
 -- State: what begins at which offset of a section. What begins there is numbered from 1.
-use Rattle.std.specs.Prelude.{◌≡◌, ℕ, ◌<◌, ◌≤◌, ◌-◌, true, nat_eq, List, [], ◌∷◌, length, get_or, slice_get, Some, All}
+use Rattle.std.specs.Prelude.{◌≡◌, ℕ, ◌<◌, ◌≤◌, ◌-◌, true, nat_eq, List, [], ◌∷◌, ◌++◌, length, get_or, slice_get, Some, All}
 use Rattle.std.specs.List.{IsDistinct, list_any}
 use Rattle.dw_forms.specs.declared.offsets.Placed.{Placed}
 
@@ -43,3 +43,7 @@ AreAlong Is (x ∷ xs) offset end = (x.at ≡ offset) × (next : ℕ) × Is offs
 abbrev pub AreNew : {T : Type 0} → List ℕ → List (Placed T) → Type 0
 AreNew starts [] = Unit {0}
 AreNew starts (x ∷ xs) = NothingAt starts x.at × AreNew starts xs
+
+-- the old ones stay, and others come after them
+abbrev pub Stay : {X : Type 0} → List X → List X → Type 0
+Stay {X} old new = (more : List X) × (new ≡ old ++ more)

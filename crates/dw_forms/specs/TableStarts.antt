@@ -10,6 +10,7 @@ use Rattle.dw_forms.specs.AbbrevReading.{has_code, decl_at, table_at}
 use Rattle.dw_forms.specs.Chains.{chain_in}
 use Rattle.dw_forms.specs.AttributeLists.{HasList}
 use Rattle.dw_forms.specs.KeptDecls.{Tables, kept_view, table_in}
+pub use Rattle.dw_forms.specs.Offsets.{Stay}
 use Rattle.dw_forms.specs.Offsets.{BeginsAt, AreApart, AreAlong, AreNew}
 
 -- the table that begins at this offset of the section is the one of this number
@@ -22,10 +23,6 @@ pub record AreStarts (section : List ℕ) (tables : Tables) (starts : List ℕ) 
   pub long : suc (length starts) ≡ length tables
   pub each : (k : ℕ) → k < length starts → IsTableIn section tables (get_or starts k 0) (suc k)
   pub apart : AreApart (length section) starts
-
--- the old tables keep their numbers
-abbrev pub Stay : Tables → Tables → Type 0
-Stay old new = (more : Tables) × (new ≡ old ++ more)
 
 -- no table begins at this offset of the section
 abbrev pub NoTable : List ℕ → ℕ → Type 0

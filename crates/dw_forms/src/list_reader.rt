@@ -2,7 +2,7 @@
 
 ghost use Rattle.std.specs.Prelude.{◌≡◌, ◌<◌, ◌≤◌, ℕ, List, [], length, drop, IfOk, IfErr, OnOk};
 ghost use Rattle.dw_forms.specs.AbbrevReading.{pair_at};
-ghost use Rattle.dw_forms.specs.ListOffsets.{IsListAt, ArePlaced, AreListsOf, MoreLists, NoListAt, Leads, StayNodes};
+ghost use Rattle.dw_forms.specs.ListOffsets.{IsListAt, ArePlaced, AreListsOf, MoreLists, NoListAt, Leads};
 ghost use Rattle.dw_forms.specs.Offsets.{AreKnownFrom, AreNew};
 ghost use Rattle.dw_forms.specs.Stops.{IfFault, GivesOrMemory};
 

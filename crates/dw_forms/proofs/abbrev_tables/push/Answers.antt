@@ -1,8 +1,7 @@
-use Rattle.std.proofs.Common.{◌≡◌, suc, length, sym, ap, ◌∙◌, rules, arith}
+use Rattle.std.proofs.Common.{rules}
 use Rattle.std.proofs.lemmas.List.Elements.{All-push}
 use Rattle.dw_forms.specs.declared.decl.KeptDecl.{KeptDecl}
 use Rattle.dw_forms.specs.AttributeLists.{HasList}
-use Rattle.dw_forms.specs.KeptDecls.{tables_of}
 use Rattle.dw_forms.proofs.KeptLaws.{code_is, links_long, none_code, some_code, coded_more, tables_long, tables_more}
 use Rattle.dw_forms.proofs.abbrev_tables.push.Goals as goal
 

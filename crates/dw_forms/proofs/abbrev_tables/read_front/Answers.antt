@@ -1,12 +1,11 @@
 use Rattle.std.proofs.Common.{refl, rules, arith}
 use Rattle.dw_forms.specs.TableStarts.{IsDeclAt}
-use Rattle.dw_forms.proofs.ListStarts.{nodes_stay, nodes_on}
-use Rattle.dw_forms.proofs.OffsetLaws.{along_push, new_push}
+use Rattle.dw_forms.proofs.OffsetLaws.{along_push, new_push, stay_same, stay_on}
 use Rattle.dw_forms.proofs.TailLaws.{table_end, decls_stay, front_fails}
 use Rattle.dw_forms.proofs.abbrev_tables.read_front.Goals as goal
 
 pub loop-decls-init : goal.loop-decls-init
-loop-decls-init c = record { from = omega arith; within = c.requires.offset; more = record { lists = c.requires.lists; stay = nodes_stay _ }; along = rw c.new-decls.ensures.items refl; new = rw c.new-decls.ensures.items tt }
+loop-decls-init c = record { from = omega arith; within = c.requires.offset; more = record { lists = c.requires.lists; stay = stay_same _ }; along = rw c.new-decls.ensures.items refl; new = rw c.new-decls.ensures.items tt }
 
 pub returns-then-rest-ne0-clause-front : goal.returns-then-rest-ne0-clause-front
 returns-then-rest-ne0-clause-front c = record { end = c.loop-decls.end; along = c.loop-decls.invariant.along; new = c.loop-decls.invariant.new; goes_on = search (rules) }
@@ -19,7 +18,7 @@ pub returns-in_default-clause-front : goal.returns-in_default-clause-front
 returns-in_default-clause-front c = search (rules, decls_stay, table_end)
 
 pub returns-in_default-clause-more : goal.returns-in_default-clause-more
-returns-in_default-clause-more c = record { lists = c.in-Ok.ensures.more.lists; stay = nodes_on _ _ _ c.loop-decls.invariant.more.stay c.in-Ok.ensures.more.stay }
+returns-in_default-clause-more c = record { lists = c.in-Ok.ensures.more.lists; stay = stay_on _ _ _ c.loop-decls.invariant.more.stay c.in-Ok.ensures.more.stay }
 
 pub loop-decls-smaller : goal.loop-decls-smaller
 loop-decls-smaller c = search (rules)
@@ -35,7 +34,7 @@ loop-decls-preserved c =
     record {
       from = omega (arith, from, next.rises);
       within = next.fits;
-      more = record { lists = c.in-Ok.ensures.more.lists; stay = nodes_on _ _ _ i.more.stay c.in-Ok.ensures.more.stay };
+      more = record { lists = c.in-Ok.ensures.more.lists; stay = stay_on _ _ _ i.more.stay c.in-Ok.ensures.more.stay };
       along = rw c.in_ok-push.ensures.items (along_push (IsDeclAt c.args.section.now _) c.loop-decls.decls.items c.args.offset c.loop-decls.end c.in-Ok.found.1 _ before next);
       new = rw c.in_ok-push.ensures.items (new_push c.args.starts.now.starts.items c.loop-decls.decls.items _ i.new nothing);
     }

@@ -1,8 +1,8 @@
-use Rattle.std.proofs.Common.{length, rules, arith}
+use Rattle.std.proofs.Common.{rules, arith}
 use Rattle.dw_forms.specs.KeptDecls.{tables_of}
 use Rattle.dw_forms.proofs.KeptLaws.{tables_long}
-use Rattle.dw_forms.proofs.OffsetLaws.{apart_few}
-use Rattle.dw_forms.proofs.StartLaws.{popped, start_less, stay_same, stay_on, goes_on, turn_none, turn_new, turn_stay, turn_starts, turn_leads}
+use Rattle.dw_forms.proofs.OffsetLaws.{apart_few, stay_same, stay_on}
+use Rattle.dw_forms.proofs.StartLaws.{popped, start_less, goes_on, turn_none, turn_new, turn_stay, turn_starts, turn_leads}
 use Rattle.dw_forms.proofs.abbrev_tables.AbbrevTables.keep.Goals as goal
 
 pub loop-at-init : goal.loop-at-init

@@ -1,8 +1,6 @@
 use Rattle.std.proofs.Common.{rules}
-use Rattle.std.proofs.Common.{[], ◌∷◌, ap, sym, subst, arith}
-use Rattle.dw_forms.specs.declared.decl.AttributeSpec.{AttributeSpec}
+use Rattle.std.proofs.Common.{ap, arith}
 use Rattle.dw_forms.specs.Chains.{items_of}
-use Rattle.dw_forms.specs.Suffixes.{Ends}
 use Rattle.dw_forms.proofs.SuffixLaws.{first_ends}
 use Rattle.dw_forms.proofs.attributes.Attributes.split_first.Goals as goal
 

@@ -1,10 +1,10 @@
 use Rattle.std.proofs.Common.{rules, arith}
-use Rattle.dw_forms.proofs.ListStarts.{nodes_stay, nodes_on, pair_less, code_before, no_list, next_leads, next_new, next_placed, next_stay}
-use Rattle.dw_forms.proofs.OffsetLaws.{apart_few}
+use Rattle.dw_forms.proofs.ListStarts.{pair_less, code_before, no_list, next_leads, next_new, next_placed, next_stay}
+use Rattle.dw_forms.proofs.OffsetLaws.{apart_few, stay_same, stay_on}
 use Rattle.dw_forms.proofs.list_reader.KeptLists.keep_pairs.Goals as goal
 
 pub loop-at-init : goal.loop-at-init
-loop-at-init c = record { leads = c.requires.leads; placed = c.requires.lists; new = c.requires.new; stay = nodes_stay _ }
+loop-at-init c = record { leads = c.requires.leads; placed = c.requires.lists; new = c.requires.new; stay = stay_same _ }
 
 pub push-requires-clause-rest : goal.push-requires-clause-rest
 push-requires-clause-rest c = c.loop-at.invariant.leads.list.within
@@ -31,7 +31,7 @@ loop-at-preserved c =
       leads = next_leads left p parts i.leads new c.in-Some-2.longer added;
       placed = rw (c.in_ok-push.ensures, c.in_ok-push-2.ensures.items) (next_placed left p parts i.leads new c.in-Some-2.longer added c.loop-at.self.starts.starts.items c.loop-at.self.ends.items i.placed on.0);
       new = rw c.in_ok-push.ensures on.1;
-      stay = nodes_on _ _ _ i.stay (next_stay left p parts i.leads new c.in-Some-2.longer added);
+      stay = stay_on _ _ _ i.stay (next_stay left p parts i.leads new c.in-Some-2.longer added);
     }
 
 pub overflow_cast-at : goal.overflow_cast-at
