@@ -10,7 +10,7 @@ use Rattle.dw_forms.specs.AbbrevReading.{has_attribute, pair_at, attributes_from
 use Rattle.dw_forms.specs.Front.{Takes}
 use Rattle.dw_forms.specs.Readers.{read_is, not_both, takes}
 use Rattle.dw_forms.proofs.AttributeLaws.{attribute_of, NextAttribute, pair_says, end_again, next_again}
-use Rattle.dw_forms.proofs.AttributesLaws.{SpellsAll, attributes_reader, attributes_again, spec_some, one_of}
+use Rattle.dw_forms.proofs.AttributesLaws.{SpellsAll, attributes_reader, attributes_again, one_of}
 use Rattle.dw_forms.proofs.Keys.{Lacks, lacks_test, apart_first, apart_rest}
 use Rattle.dw_forms.proofs.NodeLaws.{attributes_more}
 
@@ -30,13 +30,6 @@ taken bytes o rest e = MatchResult-at_ok (λ (x : Option AttributeSpec × List �
 
 list_taken : (bytes : List ℕ) (specs : List AttributeSpec) (rest : List ℕ) → attributes_of bytes ≡ Ok (specs, rest) → Takes SpellsAll bytes specs rest
 list_taken bytes specs rest e = takes attributes_of SpellsAll AttributesFail attributes_reader bytes specs rest e
-
--- an attribute takes bytes
-pub pair_takes : (bytes rest : List ℕ) (s : AttributeSpec) → pair_at [] bytes ≡ Ok (Some s, rest) → length rest < length bytes
-pair_takes bytes rest s e =
-    let t = taken bytes (Some s) rest e in
-    let n = spec_some t.text s t.spelled.0 in
-    omega (arith, n, ap length t.parts, length-append t.text rest)
 
 pub pair_code : (bytes rest : List ℕ) (s : AttributeSpec) → pair_at [] bytes ≡ Ok (Some s, rest) → IsCode16 s.attribute
 pair_code bytes rest s e = (taken bytes (Some s) rest e).spelled.1
