@@ -1,4 +1,5 @@
 -- How far the pass over a unit's body has come.
+use Rattle.std.proofs.Common.{rules}
 use Rattle.std.proofs.Common.{◌≡◌, ◌≢◌, ℕ, suc, ◌+◌, ◌-◌, ◌<◌, ◌≤◌, Bool, map, true, false, cond, List, [], ◌∷◌, ◌++◌, length, reverse, Some, None, Ok, Err, refl, sym, ap, ◌∙◌, append_assoc, append-nil, arith, length-append, eq-eqb, eqb-true, true≢false}
 use Rattle.std.specs.Prelude.{◌==◌}
 use Rattle.std.proofs.lemmas.List.{nil_from_length, length-reverse}
@@ -130,15 +131,11 @@ reverse_some : (ls : List Level) → ls ≢ [] → reverse ls ≢ []
 reverse_some ls more e = more (nil_from_length ls (omega (arith, ap length e, length-reverse ls)))
 
 pub first_turn : (t : Context) (numbers : ℕ → ℕ) (kind : HeaderKind) (at : ℕ) (body : List ℕ) (old records : List Record) (none levels : List Level) (d : ℕ × Declaration) (rest : List ℕ) → seen (numbered_decl numbers) (first_at t kind body) ≡ Ok (Some d, rest) → none ≡ [] → walk_of records levels ≡ enter at d old (reverse none) → Along t numbers kind at body old rest (walk_of records levels)
-first_turn t numbers kind at body old records none levels d rest read empty e =
-    let (h, was, is) = seen_entry numbers (first_at t kind body) d rest read in
-    let entered : enter at (numbers h.decl.code, h.decl) old [] ≡ walk_of records levels = ap (λ (x : ℕ × Declaration). enter at x old []) is ∙ ap (λ (ls : List Level). enter at d old (reverse ls)) (sym empty) ∙ sym e in
-    along_first t numbers kind at body old h rest (walk_of records levels) was entered
+first_turn t numbers kind at body old records none levels d rest read empty e = search (rules, seen_entry, along_first)
 
 pub next_turn : (t : Context) (numbers : ℕ → ℕ) (kind : HeaderKind) (at : ℕ) (body : List ℕ) (old : List Record) (rest : List ℕ) (records : List Record) (levels : List Level) (more : List Record) (above : List Level) (after : List ℕ) → Along t numbers kind at body old rest (walk_of records levels) → levels ≢ [] → seen (λ i. step numbers (at + (length body - length rest)) i (walk_of records levels)) (item_at t rest) ≡ Ok (walk_of more above, after) → Along t numbers kind at body old after (walk_of more above)
 next_turn t numbers kind at body old rest records levels more above after a some read =
-    let (i, was, is) = seen_ok (λ i. step numbers (at + (length body - length rest)) i (walk_of records levels)) (item_at t rest) (walk_of more above) after read in
-    along_next t numbers kind at body old rest (walk_of records levels) (walk_of more above) i after a (reverse_some levels some) was is
+    search (rules, seen_ok, along_next, reverse_some)
 
 pub turn_shorter : {B : Type 0} (f : Item → B) (t : Context) (rest : List ℕ) (y : B) (after : List ℕ) → seen f (item_at t rest) ≡ Ok (y, after) → length after < length rest
 turn_shorter f t rest y after read = let (i, was, is) = seen_ok f (item_at t rest) y after read in item_shorter t rest i after was
@@ -154,11 +151,7 @@ none_from xs n len e = nil_from_length xs (sym len ∙ eqb-true n 0 (sym e))
 
 step_records : (numbers : ℕ → ℕ) (at : ℕ) (i : Item) (w : Walk) → length (step numbers at i w).records ≤ suc (length w.records)
 step_records numbers at (null z) w = omega arith
-step_records numbers at (entry h) w = by_levels w.levels
-  where
-    by_levels : (ls : List Level) → length (enter at (numbers h.decl.code, h.decl) w.records ls).records ≤ suc (length w.records)
-    by_levels [] = omega (arith, length-append w.records (record { at = at; decl = numbers h.decl.code; parent = None; next = None } ∷ []))
-    by_levels (l ∷ ls) = omega (arith, length-append (link_last l.last (length w.records) w.records) (record { at = at; decl = numbers h.decl.code; parent = l.parent; next = None } ∷ []), length-link_last l.last (length w.records) w.records)
+step_records numbers at (entry h) w = search (rules, length-append, length-link_last)
 
 open_list_few : (b : Bool) (id : ℕ) (ls : List Level) → length (open_list b id ls) ≤ suc (length ls)
 open_list_few true id ls = omega arith
@@ -170,11 +163,7 @@ leave_few (l ∷ ls) = omega arith
 
 step_levels : (numbers : ℕ → ℕ) (at : ℕ) (i : Item) (w : Walk) → length (step numbers at i w).levels ≤ suc (length w.levels)
 step_levels numbers at (null z) w = let few = leave_few w.levels in omega (arith, few)
-step_levels numbers at (entry h) w = by_levels w.levels
-  where
-    by_levels : (ls : List Level) → length (enter at (numbers h.decl.code, h.decl) w.records ls).levels ≤ suc (length ls)
-    by_levels [] = open_list_few h.decl.has_children (length w.records) []
-    by_levels (l ∷ ls) = open_list_few h.decl.has_children (length w.records) (record { parent = l.parent; last = Some (length w.records) } ∷ ls)
+step_levels numbers at (entry h) w = search (rules, open_list_few)
 
 walk_records : (t : Context) (numbers : ℕ → ℕ) (at : ℕ) (is : List Item) (w : Walk) → AreItems t is → length (walk_along numbers at is w).records ≤ length w.records + length (items_bytes is)
 walk_records t numbers at [] w p = omega arith

@@ -1,4 +1,5 @@
 -- The attributes that are passed, up to the next one that is asked for.
+use Rattle.std.proofs.Common.{rules}
 use Rattle.std.proofs.Common.{◌≡◌, ℕ, zero, suc, List, [], ◌∷◌, ◌++◌, map, length, take, drop, Option, Some, None, sym, ap, ◌∙◌, subst, append-nil}
 use Rattle.std.specs.Prelude.{IfSome, IfNone, MatchOption}
 use Rattle.std.proofs.lemmas.List.{take-append-drop, length-map}
@@ -18,9 +19,7 @@ use Rattle.dw_entries.specs.ValuesLeft.{viewed}
 pub front_passed : (Passes : AttributeSpec → Type 0) (x : Context) (front back : List AttributeSpec) (bs : List Attribute) → AreAttributes x (front ++ back) bs → AreUnasked Passes front → ArePassed Passes (take (length front) (map value_of bs))
 front_passed Passes x [] back bs are unasked j item is = absurd cc
 front_passed Passes x (s ∷ front) back [] are unasked j item is = absurd are
-front_passed Passes x (s ∷ front) back (b ∷ bs) are unasked zero item is =
-    let e : Some (value_of b) ≡ Some item = is in
-    record { context = x; spec = s; not_asked = unasked.0; declared = b; is_attribute = are.0; is_item = cc }
+front_passed Passes x (s ∷ front) back (b ∷ bs) are unasked zero item is = search (rules)
 front_passed Passes x (s ∷ front) back (b ∷ bs) are unasked (suc j) item is = front_passed Passes x front back bs are.1 unasked.1 j item is
 
 -- where no specification is asked for, all are passed
@@ -28,18 +27,13 @@ pub all_passed : (Passes : AttributeSpec → Type 0) (x : Context) (specs : List
 all_passed Passes x [] [] are unasked j item is = absurd cc
 all_passed Passes x [] (b ∷ bs) are unasked j item is = absurd are
 all_passed Passes x (s ∷ specs) [] are unasked j item is = absurd are
-all_passed Passes x (s ∷ specs) (b ∷ bs) are unasked zero item is =
-    let e : Some (value_of b) ≡ Some item = is in
-    record { context = x; spec = s; not_asked = unasked.0; declared = b; is_attribute = are.0; is_item = cc }
+all_passed Passes x (s ∷ specs) (b ∷ bs) are unasked zero item is = search (rules)
 all_passed Passes x (s ∷ specs) (b ∷ bs) are unasked (suc j) item is = all_passed Passes x specs bs are.1 unasked.1 j item is
 
 -- those before the next one that is asked for
 pub before_passed : (Passes : AttributeSpec → Type 0) (x : Context) (all others : Attributes) (bs : List Attribute) (next : IsNextAsked Passes all others) → AreAttributes x (specs_in all) bs
     → ArePassed Passes (take (length next.before) (map value_of bs))
-before_passed Passes x all others bs next are =
-    let parts = specs_ends all others next.before next.ends in
-    subst (λ (n : ℕ). ArePassed Passes (take n (map value_of bs))) (length-map next.before (λ (n : Numbered AttributeSpec). n.item))
-    (front_passed Passes x (items_of next.before) (specs_in others) bs (subst (λ (specs : List AttributeSpec). AreAttributes x specs bs) parts are) next.unasked)
+before_passed Passes x all others bs next are = search (rules, specs_ends, length-map, front_passed)
 
 -- the next one that is given is after those that are passed
 pub next_found : (X : Type 0) (Passes : AttributeSpec → Type 0) (items left behind : List (ℕ × Datum)) (k : ℕ) (r : Option (ℕ × Value)) → MatchOption r X (λ y. left ≡ viewed y ∷ behind) → left ≡ drop k items → ArePassed Passes (take k items)

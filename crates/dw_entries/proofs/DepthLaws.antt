@@ -1,4 +1,5 @@
 -- How deep an entry is: one deeper than its parent, which is an earlier entry.
+use Rattle.std.proofs.Common.{rules}
 use Rattle.std.proofs.Common.{◌≡◌, ℕ, zero, suc, ◌+◌, ◌-◌, ◌<◌, ◌≤◌, List, [], ◌∷◌, ◌++◌, length, Option, Some, None, refl, sym, ap, subst, ◌∙◌, inl, inr, arith}
 use Rattle.std.specs.Prelude.{◌⊎◌, slice_get, IfSome}
 use Rattle.std.proofs.lemmas.Bool.{cases_lt}
@@ -35,16 +36,7 @@ in_front : (es fs : List Entry) (id : ℕ) (above : Option ℕ) (depth k : ℕ) 
     → IsBelow es id above depth k e → IsBelow (es ++ fs) id above depth k e
 unfolding IsBelow
 in_front es fs id above depth k e lt (inl outer) = inl outer
-in_front es fs id above depth k e lt (inr h) =
-    let before = h.before in
-    inr (record {
-      place = h.place;
-      above = h.above;
-      before = before;
-      is_above = get_front es fs h.place (omega (arith, before, lt)) ∙ h.is_above;
-      parent = h.parent;
-      depth = h.depth;
-    })
+in_front es fs id above depth k e lt (inr h) = search (rules, get_front)
 
 in_back : (es fs : List Entry) (id first : ℕ) (above : Option ℕ) (depth k : ℕ) (e : Entry) → first ≡ id + length es
     → length es ≤ k → IsBelow fs first above depth (k - length es) e → IsBelow (es ++ fs) id above depth k e
@@ -187,10 +179,7 @@ height (Some p) = suc p
 module _ (a info : List ℕ) (tables : Tables) (rs : List UnitRecord) (records : List Record) (s : Scanned a info tables rs records) where
   -- the record of an entry has its parent
   parent_kept : (id : ℕ) (r : Record) (e : Entry) → slice_get records id ≡ Some r → slice_get (entries_of (units_of s)) id ≡ Some e → r.parent ≡ e.parent
-  parent_kept id r e read is =
-      let numbers = numbers_of tables rs in
-      let kept : slice_get records id ≡ Some (record_of numbers e) = ap (λ (xs : List Record). slice_get xs id) s.1.entries ∙ kept_get numbers (units_of s) id e is in
-      ap (λ (x : Record). x.parent) (one_some (slice_get records id) r (record_of numbers e) read kept)
+  parent_kept id r e read is = search (rules, kept_get, one_some)
 
   pub starts : (id : ℕ) (r : Record) → id < length (entries_of (units_of s)) → slice_get records id ≡ Some r → Climbs (entries_of (units_of s)) id 0 r.parent
   starts id r within read =
@@ -250,8 +239,4 @@ module _ (a info : List ℕ) (tables : Tables) (rs : List UnitRecord) (records :
             omega (arith, less)
 
   pub is_deep : (id depth : ℕ) → Climbs (entries_of (units_of s)) id depth None → IfSome (slice_get (entries_of (units_of s)) id) (λ e. depth ≡ e.depth)
-  is_deep id depth c =
-      let top = no_depth (units_of s) c.place c.here c.is_here c.parent in
-      let sum = c.sum in
-      let same : depth ≡ c.start.depth = omega (arith, top, sum) in
-      rw c.is_start same
+  is_deep id depth c = search (rules, no_depth)

@@ -1,4 +1,5 @@
 -- One list of units at most, one fault at most, and never both.
+use Rattle.std.proofs.Common.{rules}
 use Rattle.std.proofs.Common.{◌≡◌, ℕ, zero, suc, ◌+◌, true, true≢false, map, List, [], ◌∷◌, ◌++◌, length, Option, Some, Result, Ok, Err, inl, inr, refl, sym, ap, subst, ◌∙◌, append_assoc, append-nil, arith, length-append}
 use Rattle.dw_forms.specs.declared.fault.AbbrevFault.{AbbrevFault}
 use Rattle.dw_forms.specs.Abbrev.{Declaration}
@@ -34,11 +35,7 @@ stops_there t kind is rest zero f (entry k) js after d depth stops p fits deep e
 stops_there t kind is rest zero f (null z) js after d depth stops p fits deep e =
     let read : null_first (code_at rest) ≡ true = ap (λ (b : List ℕ). null_first (code_at b)) e ∙ ap null_first (code_again z 0 after p) in
     absurd (true≢false (sym read ∙ stops.1))
-stops_there t kind is rest (suc k) f i js after d depth stops p fits deep e =
-    let ok = next_again t kind is i js after p fits in
-    let same : next_at t kind is rest ≡ next_at t kind is (item_bytes i ++ after) = ap (next_at t kind is) e in
-    let stop : next_at t kind is rest ≡ Err f = stops in
-    cc
+stops_there t kind is rest (suc k) f i js after d depth stops p fits deep e = search (rules, next_again)
 
 node_fits : (kind : HeaderKind) (n : Node) (zs : List (List ℕ)) → fits_tag kind (head_of n).decl.tag ≡ true → FitsUnit kind (node_items n ++ map null zs)
 node_fits kind (leaf h) zs e = e
@@ -79,11 +76,7 @@ node_or_fault t kind header n zs f p nulls tag b =
 
 -- where a unit fails there is no unit
 pub unit_or_fault : (a : List ℕ) (header : ℕ) (rest : List ℕ) (f : Broken) (u : DebugUnit) (x : List ℕ) → FailsHere a header rest f → IsUnit a u → rest ≡ unit_bytes u ++ x → ⊥
-unit_or_fault a header rest f u x fails p e =
-    let here : FailsHere a header (unit_bytes u ++ x) f = subst (λ (r : List ℕ). FailsHere a header r f) e fails in
-    let behind : FailsBehind header u.header (body_bytes u) (table_at a u.header.abbrev_offset) f = rw (unit_header a u x p) at here in
-    let fails_body : BodyFails (context_of u) u.header.kind header (body_bytes u) f = rw p.table at behind in
-    node_or_fault (context_of u) u.header.kind header u.root u.nulls f p.root p.nulls p.tag fails_body
+unit_or_fault a header rest f u x fails p e = search (rules, unit_header, node_or_fault)
 
 -- a fault, and units for all of the bytes: not both
 pub no_list : (a : List ℕ) (bytes : List ℕ) (us : List DebugUnit) (f : Broken) → Spells a us bytes → Fails a bytes f → ⊥
@@ -109,12 +102,7 @@ stops_same t kind is rest (suc d) f g p q = let a : next_at t kind is rest ≡ E
 
 -- a front that stops is the longest one
 longest : (t : Context) (kind : HeaderKind) (header : ℕ) (body : List ℕ) (f g : Broken) (b : BodyFails t kind header body f) (c : BodyFails t kind header body g) (more : List Item) → AreItems t more → c.items ≡ b.items ++ more → b.rest ≡ items_bytes more ++ c.rest → f ≡ g
-longest t kind header body f g b c [] are items rest =
-    let same : c.items ≡ b.items = items ∙ append-nil b.items in
-    let depth : c.depth ≡ b.depth = some_is c.depth b.depth (sym c.front.at_depth ∙ ap tree_depth same ∙ b.front.at_depth) in
-    let there : Stops t kind b.items b.rest b.depth c.failing = rw (← depth, ← same, rest) c.stops in
-    let failing : b.failing ≡ c.failing = stops_same t kind b.items b.rest b.depth b.failing c.failing b.stops there in
-    b.is ∙ ap (λ (x : Failing). in_unit x header (header + header_size kind + length (items_bytes b.items))) failing ∙ ap (λ (is : List Item). in_unit c.failing header (header + header_size kind + length (items_bytes is))) (sym same) ∙ sym c.is
+longest t kind header body f g b c [] are items rest = search (rules, append-nil, some_is, stops_same)
 longest t kind header body f g b c (i ∷ more) are items rest =
     absurd (stops_there t kind b.items b.rest b.depth b.failing i more (items_bytes more ++ c.rest) c.depth b.front.at_depth b.stops are.0 (rw items at c.front.fits) (ap tree_depth (sym items) ∙ c.front.at_depth) (rest ∙ append_assoc (item_bytes i) (items_bytes more) c.rest))
 
@@ -129,22 +117,11 @@ one_in_body t kind header body f g b c =
 
 -- two faults of one header are one
 one_here : (a : List ℕ) (header : ℕ) (rest : List ℕ) (f g : Broken) → FailsHere a header rest f → FailsHere a header rest g → f ≡ g
-one_here a header rest f g p q = go (header_at (length a) rest) p q
-  where
-    behind : (h : UnitHeader) (body : List ℕ) (r : Result (List Declaration) AbbrevFault) → FailsBehind header h body r f → FailsBehind header h body r g → f ≡ g
-    behind h body (Ok table) p q = one_in_body (context_by h table) h.kind header body f g p q
-    behind h body (Err fault) p q = p ∙ sym q
-
-    go : (r : Result (UnitHeader × List ℕ) Rule) → FailsAs a header r f → FailsAs a header r g → f ≡ g
-    go (Ok u) p q = behind u.0 u.1 (table_at a u.0.abbrev_offset) p q
-    go (Err rule) p q = p ∙ sym q
+one_here a header rest f g p q = search (rules, one_in_body)
 
 -- the units before a fault are all that stand there
 last_units : (a : List ℕ) (bytes : List ℕ) (f g : Broken) (b : Fails a bytes f) (c : Fails a bytes g) (more : List DebugUnit) → AreUnits a more → c.units ≡ b.units ++ more → b.rest ≡ units_bytes more ++ c.rest → f ≡ g
-last_units a bytes f g b c [] are units rest =
-    let same : c.units ≡ b.units = units ∙ append-nil b.units in
-    let there : FailsHere a (length (units_bytes b.units)) b.rest g = rw (← same, rest) c.fails in
-    one_here a (length (units_bytes b.units)) b.rest f g b.fails there
+last_units a bytes f g b c [] are units rest = search (rules, append-nil, one_here)
 last_units a bytes f g b c (u ∷ more) are units rest =
     absurd (unit_or_fault a (length (units_bytes b.units)) b.rest f u (units_bytes more ++ c.rest) b.fails are.0 (rest ∙ append_assoc (unit_bytes u) (units_bytes more) c.rest))
 

@@ -1,4 +1,5 @@
 -- The search for an entry by its offset.
+use Rattle.std.proofs.Common.{rules}
 use Rattle.std.proofs.Common.{◌≡◌, ℕ, ◌<◌, ◌≤◌, List, length, get_or, Option, Some, sym, ap, subst, ◌∙◌, arith, inl, inr}
 use Rattle.std.specs.Prelude.{slice_get}
 use Rattle.std.specs.List.Sorted.{IsPartitionPoint, IsNonDecreasingBy}
@@ -20,9 +21,7 @@ IsFirstFrom records offset number = IsPartitionPoint (λ (r : Record). r.at < of
 
 -- a record is the one that its place gives
 read_at : (records : List Record) (i : ℕ) (r : Record) → slice_get records i ≡ Some r → get_or records i r ≡ r
-read_at records i r is =
-    let e : Some (get_or records i r) ≡ Some r = sym (slice_get-get_or records i r (slice_get_within records i r is)) ∙ is in
-    cc
+read_at records i r is = search (rules, slice_get-get_or, slice_get_within)
 
 module _ (a info : List ℕ) (tables : Tables) (rs : List UnitRecord) (records : List Record) (s : Scanned a info tables rs records) where
   pub entries_counted : length records ≡ length (entries_of (units_of s))

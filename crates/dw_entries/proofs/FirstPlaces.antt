@@ -1,4 +1,5 @@
 -- The first failure at one place, and of groups that are asked at headers and at entries.
+use Rattle.std.proofs.Common.{rules}
 use Rattle.std.proofs.Common.{◌≡◌, ℕ, ◌<◌, ◌≤◌, ◌⊎◌, Some, None, refl, sym, ap, subst, ◌∙◌, arith, inl, inr}
 use Rattle.dw_entries.specs.declared.fault.Rule.{Rule}
 use Rattle.dw_entries.specs.declared.fault.Broken.{Broken}
@@ -15,40 +16,17 @@ not_before_itself (at_attribute o k) before = elim before [ inl less ↦ omega a
 -- at one place the rule with the least number is named
 pub first_at_place : (place : Place) (Fails : Rule → Type 0) (rule : Rule) (broken : Broken) → IsLeast Fails (Some rule)
     → Names broken (record { rule = rule; place = place; attribute = 0 }) → IsFirst (AtPlace place Fails) broken
-first_at_place place Fails rule broken least named = record {
-  failure = record { rule = rule; place = place; attribute = 0 };
-  fails = record { stands = refl; attribute = refl; fails = least.0 };
-  named = named;
-  first = λ g fails precedes. elim precedes [
-    | inl before ↦ not_before_itself place (let P : Place → Type 0 = λ p. IsBefore p place in subst P fails.stands before)
-    | inr same ↦ least.1 g.rule fails.fails same.1
-  ];
-}
+first_at_place place Fails rule broken least named = search (rules, not_before_itself)
 
 pub none_at_place : (place : Place) (Fails : Rule → Type 0) → IsLeast Fails None → HasNone (AtPlace place Fails)
 none_at_place place Fails none f fails = none f.rule fails.fails
 
 -- of two headers' failures the one that precedes does not come after
 pub header_precedes_le : (a b : ℕ) (f g : Failure) → f.place ≡ at_header a → g.place ≡ at_header b → Precedes f g → a ≤ b
-header_precedes_le a b f g f_at g_at precedes =
-    elim precedes [
-      | inl before ↦
-          let P : Place → Type 0 = λ x. IsBefore x g.place in
-          let Q : Place → Type 0 = λ x. IsBefore (at_header a) x in
-          let less : a < b = subst Q g_at (subst P f_at before) in omega arith
-      | inr same ↦ let e : a ≡ b = ap offset_of (sym f_at ∙ same.0 ∙ g_at) in omega arith
-    ]
+header_precedes_le a b f g f_at g_at precedes = search (rules)
 
 pub first_by_right : (P Q : Failure → Type 0) (broken : Broken) → HasNone P → IsFirst Q broken → IsFirst (λ f. P f ⊎ Q f) broken
-first_by_right P Q broken none first = record {
-  failure = first.failure;
-  fails = inr first.fails;
-  named = first.named;
-  first = λ g fails precedes. elim fails [
-    | inl p ↦ none g p
-    | inr q ↦ first.first g q precedes
-  ];
-}
+first_by_right P Q broken none first = search (rules)
 
 pub none_by_both : (P Q : Failure → Type 0) → HasNone P → HasNone Q → HasNone (λ f. P f ⊎ Q f)
 none_by_both P Q p q f fails = elim fails [ inl x ↦ p f x | inr y ↦ q f y ]

@@ -1,4 +1,5 @@
 -- The first failure of rules that are asked of entries one by one.
+use Rattle.std.proofs.Common.{rules}
 use Rattle.std.proofs.Common.{◌≡◌, ℕ, ◌+◌, ◌<◌, ◌≤◌, List, length, Option, Some, refl, sym, ap, ◌∙◌, arith, subst, eq-or-lt_of_le, inl, inr, ◌⊎◌}
 use Rattle.std.specs.Prelude.{slice_get}
 use Rattle.std.proofs.lemmas.Option.{slice_get_within}
@@ -38,11 +39,7 @@ same_place a b (at_attribute p j) (at_entry q) at_p at_q same = let e : p ≡ q 
 same_place a b (at_attribute p j) (at_attribute q k) at_p at_q same = let e : p ≡ q = ap offset_of same in omega arith
 
 precedes_le : (a b : ℕ) (f g : Failure) → IsAt a f.place → IsAt b g.place → Precedes f g → a ≤ b
-precedes_le a b f g at_f at_g precedes =
-    elim precedes [
-      | inl before ↦ before_le a b f.place g.place at_f at_g before
-      | inr same ↦ same_place a b f.place g.place at_f at_g same.0
-    ]
+precedes_le a b f g at_f at_g precedes = search (rules, before_le, same_place)
 
 pub same_some : {X : Type 0} (o : Option X) (x y : X) → o ≡ Some x → o ≡ Some y → x ≡ y
 same_some o x y p q = cc
@@ -86,16 +83,7 @@ pub more_of_list : {X : Type 0} (xs : List X) (Fails : ℕ → X → Failure →
     → ((j : ℕ) (y : X) → j < number → slice_get xs j ≡ Some y → HasNone (Fails j y))
     → HasNone (Fails number x)
     → (j : ℕ) (y : X) → j < number + 1 → slice_get xs j ≡ Some y → HasNone (Fails j y)
-more_of_list {X} xs Fails number x is_x passed here j y below is_y =
-    elim (eq-or-lt_of_le (let p : j ≤ number = omega arith in p)) [
-      | inl is ↦
-          let at_number : slice_get xs number ≡ Some y = let P : ℕ → Type 0 = λ i. slice_get xs i ≡ Some y in subst P is is_y in
-          let one = same_some (slice_get xs number) x y is_x at_number in
-          let P : X → Type 0 = λ z. HasNone (Fails number z) in
-          let Q : ℕ → Type 0 = λ i. HasNone (Fails i y) in
-          subst Q (sym is) (subst P one here)
-      | inr less ↦ passed j y less is_y
-    ]
+more_of_list {X} xs Fails number x is_x passed here j y below is_y = search (rules, eq-or-lt_of_le, same_some)
 
 -- the same for entries
 pub first_of_entries : (entries : List Entry) (Fails : Entry → Failure → Type 0) (id : ℕ) (entry : Entry) (broken : Broken)
@@ -105,9 +93,7 @@ pub first_of_entries : (entries : List Entry) (Fails : Entry → Failure → Typ
     → ((j : ℕ) (e : Entry) → j < id → slice_get entries j ≡ Some e → HasNone (Fails e))
     → IsFirst (Fails entry) broken
     → IsFirst (AtEntries entries Fails) broken
-first_of_entries entries Fails id entry broken rise stands =
-    first_of_list entries (λ e. e.at) (λ _. Fails) id entry broken rise
-    (λ i j a b f g f_fails g_fails. precedes_le a.at b.at f g (stands a f f_fails) (stands b g g_fails))
+first_of_entries entries Fails id entry broken rise stands = search (rules, first_of_list, precedes_le)
 
 pub none_of_entries : (entries : List Entry) (Fails : Entry → Failure → Type 0)
     → ((j : ℕ) (e : Entry) → j < length entries → slice_get entries j ≡ Some e → HasNone (Fails e))
@@ -133,14 +119,7 @@ place_in (at_entry at) = 0
 place_in (at_attribute at k) = k
 
 precedes_in : (o j k : ℕ) (f g : Failure) → f.place ≡ at_attribute o j → g.place ≡ at_attribute o k → Precedes f g → Among j k f g
-precedes_in o j k f g f_at g_at precedes =
-    elim precedes [
-      | inl before ↦
-          let P : Place → Type 0 = λ p. IsBefore p g.place in
-          let Q : Place → Type 0 = λ q. IsBefore (at_attribute o j) q in
-          inl (before_in o j k (subst Q g_at (subst P f_at before)))
-      | inr same ↦ inr (ap place_in (sym f_at ∙ same.0 ∙ g_at), same.1)
-    ]
+precedes_in o j k f g f_at g_at precedes = search (rules, before_in)
 
 -- the first attribute at which a rule fails, by the least rule that does
 pub first_of_attributes : (Fails : Entry → ℕ → Datum → Rule → Type 0) (entry : Entry) (k attribute : ℕ) (value : Datum) (rule : Rule) (broken : Broken)
@@ -149,20 +128,8 @@ pub first_of_attributes : (Fails : Entry → ℕ → Datum → Rule → Type 0) 
     → IsLeast (Fails entry attribute value) (Some rule)
     → Names broken (record { rule = rule; place = at_attribute entry.at k; attribute = attribute })
     → IsFirst (AtAttributes Fails entry) broken
-first_of_attributes Fails entry k attribute value rule broken has passed least named = record {
-  failure = record { rule = rule; place = at_attribute entry.at k; attribute = attribute };
-  fails = record { position = k; value = value; has = has; place = refl; fails = least.0 };
-  named = named;
-  first = λ g fails precedes.
-      elim (precedes_in entry.at fails.position k g (record { rule = rule; place = at_attribute entry.at k; attribute = attribute }) fails.place refl precedes) [
-        | inl less ↦ passed fails.position g.attribute fails.value less fails.has g.rule fails.fails
-        | inr same ↦
-            let here : HasAttribute entry k g.attribute fails.value = let P : ℕ → Type 0 = λ i. HasAttribute entry i g.attribute fails.value in subst P same.0 fails.has in
-            let one = same_some (slice_get (values_of entry.head) k) (g.attribute, fails.value) (attribute, value) here has in
-            let P : (ℕ × Datum) → Type 0 = λ q. Fails entry q.0 q.1 g.rule in
-            least.1 g.rule (subst P one fails.fails) same.1
-      ];
-}
+first_of_attributes Fails entry k attribute value rule broken has passed least named =
+    search (rules, precedes_in, same_some)
 
 pub none_of_attributes : (Fails : Entry → ℕ → Datum → Rule → Type 0) (entry : Entry)
     → ((j a : ℕ) (v : Datum) → j < length (values_of entry.head) → HasAttribute entry j a v → (r : Rule) → Fails entry a v r → ⊥)

@@ -1,4 +1,5 @@
 -- At each entry's offset is its head, in the context of its unit.
+use Rattle.std.proofs.Common.{rules}
 use Rattle.std.proofs.Common.{◌≡◌, ℕ, zero, suc, ◌+◌, ◌<◌, List, [], ◌∷◌, ◌++◌, length, drop, Option, Some, None, Ok, refl, sym, ap, ◌∙◌, arith, length-append, length-drop, subst, append_assoc, append-nil, drop_at, drop-drop}
 use Rattle.std.specs.Prelude.{slice_get}
 use Rattle.std.specs.List.{flat_map, AllByRecursion}
@@ -101,9 +102,7 @@ head_stands a info us id e s is =
     (units_stand us a info 0 0 0 us [] s.are (λ k v at_k. ap (slice_get us) (let e : 0 + k ≡ k = omega arith in e) ∙ at_k) (s.parts ∙ sym (append-nil (units_bytes us)))) is
 
 pub stands_code : (us : List DebugUnit) (info : List ℕ) (e : Entry) (s : Stands us info e) → seen (λ c. c.number) (code_at (drop e.at info)) ≡ Ok (e.head.decl.code, flat_map attribute_bytes e.head.attributes ++ s.after)
-stands_code us info e s =
-    let whole : drop e.at info ≡ e.head.code ++ (flat_map attribute_bytes e.head.attributes ++ s.after) = s.parts ∙ append_assoc e.head.code (flat_map attribute_bytes e.head.attributes) s.after in
-    rw (whole, code_again e.head.code e.head.decl.code (flat_map attribute_bytes e.head.attributes ++ s.after) s.is.code) refl
+stands_code us info e s = search (rules, append_assoc, code_again)
 
 pub stands_within : (us : List DebugUnit) (info : List ℕ) (e : Entry) → Stands us info e → e.at < length info
 stands_within us info e s = omega (arith, ap length s.parts, length-append (head_bytes e.head) s.after, item_some (context_of s.unit) (entry e.head) s.is, length-drop e.at info)

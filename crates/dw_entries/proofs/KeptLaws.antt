@@ -1,4 +1,5 @@
 -- What is kept of an entry and of its unit, and what is in .debug_info where they point.
+use Rattle.std.proofs.Common.{rules}
 use Rattle.std.proofs.Common.{◌≡◌, ℕ, zero, suc, ◌-◌, ◌<◌, ◌≤◌, List, [], ◌∷◌, ◌++◌, length, take, drop, get_or, Option, Some, None, Ok, Err, false, refl, sym, ap, subst, ◌∙◌, arith}
 use Rattle.std.specs.Prelude.{slice_get, IfSome, IsSomeAnd}
 use Rattle.std.specs.List.{AllZip, flat_map}
@@ -140,9 +141,7 @@ module _ {a info : List ℕ} {tables : Tables} {rs : List UnitRecord} {records :
   -- the header of a unit that has the number of the entry's
   pub header_is : (number : ℕ) (u : UnitRecord) → number ≡ k.entry.unit → slice_get rs number ≡ Some u
       → IfSome (slice_get (entries_of (units_of s)) id) (λ e. IfSome (slice_get (units_of s) e.unit) (λ v. u.header ≡ v.header))
-  header_is number u same is =
-      let unit_is : u ≡ k.unit_record = one_some (slice_get rs k.entry.unit) u k.unit_record (ap (slice_get rs) (sym same) ∙ is) k.is_unit_record in
-      of_entry (λ e. IfSome (slice_get (units_of s) e.unit) (λ v. u.header ≡ v.header)) (rw k.stands.is_unit (ap (λ (q : UnitRecord). q.header) unit_is ∙ k.header))
+  header_is number u same is = search (rules, one_some, of_entry)
 
 -- the declaration of an entry is the one of its number
 module _ (decls : Decls) {a info : List ℕ} {rs : List UnitRecord} {records : List Record} {s : Scanned a info (tables_among decls) rs records} {id : ℕ} (k : KeptEntry a info (tables_among decls) rs records s id) where
@@ -154,11 +153,7 @@ module _ (decls : Decls) {a info : List ℕ} {rs : List UnitRecord} {records : L
 
   entry_decl : decl_of nodes kept (numbers_of (tables_among decls) rs k.entry.unit k.entry.head.decl.code) ≡ Some k.entry.head.decl
   unfolding declared_in
-  entry_decl =
-      let table : table_of rs k.entry.unit ≡ k.unit_record.table = table_is rs k.entry.unit k.unit_record k.is_unit_record in
-      ap (λ (n : ℕ). decl_of nodes kept (number_in (chain_in (tables_among decls) n) k.entry.head.decl.code)) table
-      ∙ numbers_find nodes kept (chain_in (tables_among decls) k.unit_record.table) k.entry.head.decl.code (own_numbers nodes kept k.unit_record.table)
-      ∙ ap (λ (t : List Declaration). declared_in t k.entry.head.decl.code) k.table ∙ k.stands.is.decl
+  entry_decl = search (rules, table_is, numbers_find, own_numbers)
 
   module _ (r : Record) (read : slice_get records id ≡ Some r) where
     decl_stands : decl_of nodes kept r.decl ≡ Some k.entry.head.decl

@@ -1,4 +1,5 @@
 -- One step of a walk over the values that may lead elsewhere.
+use Rattle.std.proofs.Common.{rules}
 use Rattle.std.proofs.Common.{◌≡◌, ℕ, zero, suc, ◌-◌, ◌≤◌, ◌⊎◌, Bool, true, false, cond, ltb, List, [], ◌∷◌, ◌++◌, length, take, drop, map, Option, Some, None, Ok, Err, refl, sym, ap, subst, ◌∙◌, arith}
 use Rattle.std.specs.Prelude.{slice_get, option_map}
 use Rattle.std.specs.List.{list_any}
@@ -36,11 +37,7 @@ use Rattle.dw_entries.proofs.ValueSteps.{left_goes, never_fails, next_left, read
 
 -- what was cut off
 cut_is : (len : ℕ) (bytes rest : List ℕ) → cut_at len bytes ≡ Ok rest → (len ≤ length bytes) × (rest ≡ drop len bytes)
-cut_is len bytes rest e = by_length (ltb (length bytes) len) refl e
-  where
-    by_length : (b : Bool) → ltb (length bytes) len ≡ b → cond b (Err Cut) (Ok (drop len bytes)) ≡ Ok rest → (len ≤ length bytes) × (rest ≡ drop len bytes)
-    by_length true q e = absurd cc
-    by_length false q e = (ltb-false _ _ q, cc)
+cut_is len bytes rest e = search (rules, ltb-false)
 
 -- attributes that lead nowhere are not asked for
 lead_nowhere : (specs : List AttributeSpec) → list_any does_lead specs ≡ false → AreUnasked DoesNotLead specs
@@ -63,20 +60,14 @@ module _ (a : Attributes) (step : Step) (is : IsStep (numbered a) step) (there :
   none_there none = ap (λ (specs : List AttributeSpec). option_map (λ (s : AttributeSpec). s.form) (slice_get specs 0)) (specs_there ∙ none)
 
   pub form_is : (form : Form) (spec : AttributeSpec) (rest : Attributes) → form_there a step.to ≡ Some form → Ends there rest (record { number = there.first; item = spec } ∷ []) → spec.form ≡ form
-  form_is form spec rest asked ends =
-      let both : ◌≡◌ {A = Option Form} (Some spec.form) (Some form) = sym (some_there spec rest ends) ∙ asked in
-      cc
+  form_is form spec rest asked ends = search (rules, some_there)
 
   pub some_form : (form : Form) → form_there a step.to ≡ Some form → specs_in there ≡ [] → ⊥
-  some_form form asked none =
-      let both : ◌≡◌ {A = Option Form} None (Some form) = sym (none_there none) ∙ asked in
-      cc
+  some_form form asked none = search (rules, none_there)
 
   -- where it goes to none, no value leads elsewhere
   not_first : (n : Numbered AttributeSpec) (list : List (Numbered AttributeSpec)) (nodes : List Node) → numbered_in nodes step.to ≡ n ∷ list → nodes ≡ nodes_of a → specs_in there ≡ [] → ⊥
-  not_first n list nodes begins same none =
-      let some : ◌≡◌ {A = List AttributeSpec} (n.item ∷ items_of list) [] = ap items_of (sym begins) ∙ ap (λ (ns : List Node). list_in ns step.to) same ∙ specs_there ∙ none in
-      absurd cc
+  not_first n list nodes begins same none = search (rules, specs_there)
 
   step_zero : specs_in there ≡ [] → step.to ≡ 0
   step_zero none = by_number step.to refl

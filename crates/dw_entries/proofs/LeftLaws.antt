@@ -1,4 +1,5 @@
 -- The attributes of an entry that stand in .debug_info, and the value of one of them.
+use Rattle.std.proofs.Common.{rules}
 use Rattle.std.proofs.Common.{◌≡◌, ℕ, List, ◌++◌, map, Option, None, false, sym, ap, subst, ◌∙◌}
 use Rattle.std.specs.Prelude.{◌==◌, ◌≢◌, All, slice_get, slice_index_or, IfSome}
 use Rattle.std.specs.List.{flat_map}
@@ -34,22 +35,13 @@ module _ {a info : List ℕ} {tables : Tables} {rs : List UnitRecord} {records :
   header_same = rw k.stands.is_unit at (from_entry k (λ e. IfSome (slice_get (units_of s) e.unit) (λ v. header ≡ v.header)) of_unit)
 
   pub sized_here : IsSize header.address_size
-  sized_here =
-      let unit_is : IsUnit a k.stands.unit = all_get (IsUnit a) (units_of s) k.entry.unit k.stands.unit s.1.spells.are k.stands.is_unit in
-      subst (λ (h : UnitHeader). IsSize h.address_size) (sym header_same) unit_is.header.address_size
+  sized_here = search (rules, all_get, header_same)
 
   context_is : value_context version header.address_size ≡ value_context (version_of k.stands.unit.header.kind) k.stands.unit.header.address_size
-  context_is =
-      let v : version ≡ version_of k.stands.unit.header.kind = version_is ∙ ap (λ (h : UnitHeader). version_of h.kind) header_same in
-      λ i. value_context (v i) (header_same i).address_size
+  context_is = search (rules, header_same)
 
   pub are_here : AreAttributes (value_context version header.address_size) specs k.entry.head.attributes
-  are_here =
-      let declared : specs ≡ k.entry.head.decl.attributes = from_entry k (λ e. specs ≡ e.head.decl.attributes) of_specs in
-      let bare = without_table (context_of k.stands.unit) k.entry.head.decl.attributes k.entry.head.attributes k.stands.is.attributes in
-      let P : Context → Type 0 = λ x. AreAttributes x k.entry.head.decl.attributes k.entry.head.attributes in
-      let Q : List AttributeSpec → Type 0 = λ ss. AreAttributes (value_context version header.address_size) ss k.entry.head.attributes in
-      subst Q (sym declared) (subst P (sym context_is) bare)
+  are_here = search (rules, from_entry, without_table, context_is)
 
   pub left_here : Left (value_context version header.address_size) specs bytes
   left_here =

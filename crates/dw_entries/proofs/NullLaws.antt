@@ -1,4 +1,5 @@
 -- The nulls after a unit's tree.
+use Rattle.std.proofs.Common.{rules}
 use Rattle.std.proofs.Common.{◌≡◌, ℕ, ◌+◌, ◌-◌, ◌<◌, map, true, List, [], ◌∷◌, ◌++◌, length, Ok, refl, sym, ap, ◌∙◌, append_assoc, append-nil, arith, length-append}
 use Rattle.std.proofs.lemmas.List.Concat.{flat_map-append}
 use Rattle.dw_entries.specs.declared.walk.Record.{Record}
@@ -48,9 +49,7 @@ null_shorter rest after e =
 -- ---- the tree and the nulls
 
 together : (body tree rest : List ℕ) (zs ws : List (List ℕ)) (left : List ℕ) → body ≡ (tree ++ nulls_bytes zs) ++ rest → rest ≡ nulls_bytes ws ++ left → body ≡ (tree ++ nulls_bytes (zs ++ ws)) ++ left
-together body tree rest zs ws left p q =
-    p ∙ ap (λ (b : List ℕ). (tree ++ nulls_bytes zs) ++ b) q ∙ sym (append_assoc (tree ++ nulls_bytes zs) (nulls_bytes ws) left)
-    ∙ ap (λ (b : List ℕ). b ++ left) (append_assoc tree (nulls_bytes zs) (nulls_bytes ws) ∙ ap (λ (b : List ℕ). tree ++ b) (sym (nulls_bytes-append zs ws)))
+together body tree rest zs ws left p q = search (rules, append_assoc, nulls_bytes-append)
 
 pub tree_end : (t : Context) (numbers : ℕ → ℕ) (kind : HeaderKind) (body rest : List ℕ) (at : ℕ) (old new : List Record) → TreeOf t numbers kind body rest at old new → AreAllNulls rest → TreeOf t numbers kind body [] at old new
 tree_end t numbers kind body rest at old new tree (zs, are, parts) = record {

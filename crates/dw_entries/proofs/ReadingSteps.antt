@@ -1,4 +1,5 @@
 -- One turn of the loop that reads attributes.
+use Rattle.std.proofs.Common.{rules}
 use Rattle.std.proofs.Common.{◌≡◌, ℕ, true, List, [], ◌∷◌, Result, Ok, Err, refl, sym, ap, ◌∙◌}
 use Rattle.dw_forms.specs.declared.decl.AttributeSpec.{AttributeSpec}
 use Rattle.dw_forms.specs.Steps.{◌>>=◌}
@@ -60,12 +61,8 @@ after_value_err code bytes f (Err g) e = let same : ◌≡◌ {A = Result (List 
 -- one value is skipped
 pub attribute_skipped : (t : Context) (s : AttributeSpec) (version : ℕ) (bytes rest : List ℕ) → version ≡ t.version → true ≡ is_allowed version s.form → rest_at version s.form t.address_size bytes ≡ Ok rest → after (attribute_at t s bytes) ≡ Ok rest
 unfolding attribute_at rest_at
-attribute_skipped t s version bytes rest v allowed read =
-    let known : is_allowed t.version s.form ≡ true = ap (λ (n : ℕ). is_allowed n s.form) (sym v) ∙ sym allowed in
-    rw known (after_value s.attribute bytes rest (value_at t.version s.form t.address_size bytes) (ap (λ (n : ℕ). value_at n s.form t.address_size bytes >>= λ x. Ok x.1) (sym v) ∙ read))
+attribute_skipped t s version bytes rest v allowed read = search (rules, after_value)
 
 pub attribute_fails : (t : Context) (s : AttributeSpec) (version : ℕ) (bytes : List ℕ) (f : ValueFault) → version ≡ t.version → true ≡ is_allowed version s.form → rest_at version s.form t.address_size bytes ≡ Err f → after (attribute_at t s bytes) ≡ fails (value_rule f) s.attribute
 unfolding attribute_at rest_at
-attribute_fails t s version bytes f v allowed read =
-    let known : is_allowed t.version s.form ≡ true = ap (λ (n : ℕ). is_allowed n s.form) (sym v) ∙ sym allowed in
-    rw known (after_value_err s.attribute bytes f (value_at t.version s.form t.address_size bytes) (ap (λ (n : ℕ). value_at n s.form t.address_size bytes >>= λ x. Ok x.1) (sym v) ∙ read))
+attribute_fails t s version bytes f v allowed read = search (rules, after_value_err)

@@ -1,4 +1,5 @@
 -- The entries of one unit, by their offsets.
+use Rattle.std.proofs.Common.{rules}
 use Rattle.std.proofs.Common.{◌≡◌, ℕ, ◌+◌, ◌<◌, ◌≤◌, ◌^◌, List, length, get_or, Option, Some, refl, sym, ap, subst, ◌∙◌, arith, inl, inr}
 use Rattle.std.specs.Prelude.{slice_get}
 use Rattle.dw_forms.specs.KeptDecls.{Tables}
@@ -24,45 +25,23 @@ same_some o x y p q = cc
 
 -- one entry at most begins at an offset
 pub one_at : (entries : List Entry) (offset i j : ℕ) → OffsetsRise entries → IsEntryAt entries offset i → IsEntryAt entries offset j → i ≡ j
-one_at entries offset i j rise a b =
-    let at_a = a.begins in
-    let at_b = b.begins in
-    elim (three_ways i j) [
-      | inl (inl less) ↦ let r = rise i j a.entry b.entry less a.is_entry b.is_entry in absurd (omega (arith, r, at_a, at_b))
-      | inl (inr same) ↦ same
-      | inr more ↦ let r = rise j i b.entry a.entry more b.is_entry a.is_entry in absurd (omega (arith, r, at_a, at_b))
-    ]
+one_at entries offset i j rise a b = search (rules, three_ways)
 
 -- where an entry begins, so far from its unit's header
 pub reached_at : (entries : List Entry) (units : List PlacedUnit) (number offset at id : ℕ) (p : PlacedUnit) → slice_get units number ≡ Some p → at ≡ offset + p.at → ReachesInUnit entries units number offset id → IsEntryIn entries number at id
-reached_at entries units number offset at id p is sum reached =
-    let one = ap (λ (x : PlacedUnit). x.at) (same_some (slice_get units number) p reached.unit is reached.is_unit) in
-    record { entry = reached.target.entry; is_entry = reached.target.is_entry; begins = reached.target.begins ∙ (let e : reached.unit.at + offset ≡ at = omega (arith, one, sum) in e); in_unit = reached.target.in_unit }
+reached_at entries units number offset at id p is sum reached = search (rules, same_some)
 
 pub in_is_at : (entries : List Entry) (unit offset id : ℕ) → IsEntryIn entries unit offset id → IsEntryAt entries offset id
 in_is_at entries unit offset id found = record { entry = found.entry; is_entry = found.is_entry; begins = found.begins }
 
 pub reaches : (entries : List Entry) (units : List PlacedUnit) (number offset at id : ℕ) (p : PlacedUnit) (e : Entry) → slice_get units number ≡ Some p → at ≡ offset + p.at → IsEntryAt entries at id → slice_get entries id ≡ Some e → e.unit ≡ number
     → ReachesInUnit entries units number offset id
-reaches entries units number offset at id p e is sum found is_e same = record {
-  unit = p;
-  is_unit = is;
-  target = record {
-    entry = e;
-    is_entry = is_e;
-    begins = ap (λ (x : Entry). x.at) (same_some (slice_get entries id) e found.entry is_e found.is_entry) ∙ found.begins ∙ (let s : at ≡ p.at + offset = omega (arith, sum) in s);
-    in_unit = same;
-  };
-}
+reaches entries units number offset at id p e is sum found is_e same = search (rules, same_some)
 
 pub never_other : (entries : List Entry) (units : List PlacedUnit) (number offset at id : ℕ) (p : PlacedUnit) (e : Entry) → OffsetsRise entries → slice_get units number ≡ Some p → at ≡ offset + p.at → IsEntryAt entries at id → slice_get entries id ≡ Some e → (e.unit ≡ number → ⊥)
     → (j : ℕ) → ReachesInUnit entries units number offset j → ⊥
 never_other entries units number offset at id p e rise is sum found is_e other j reached =
-    let inside = reached_at entries units number offset at j p is sum reached in
-    let same = one_at entries at j id rise (in_is_at entries number at j inside) found in
-    let P : ℕ → Type 0 = λ i. slice_get entries i ≡ Some inside.entry in
-    let one = same_some (slice_get entries id) inside.entry e (subst P same inside.is_entry) is_e in
-    other (ap (λ (x : Entry). x.unit) (sym one) ∙ inside.in_unit)
+    search (rules, reached_at, one_at, in_is_at, same_some)
 
 -- where no entry begins at the offset, none of the unit does
 pub never_there : (a info : List ℕ) (tables : Tables) (rs : List UnitRecord) (records : List Record) (s : Scanned a info tables rs records) (number offset at : ℕ) (k : KeptUnit a info tables rs records s number) (u : UnitRecord)

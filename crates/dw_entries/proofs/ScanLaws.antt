@@ -1,4 +1,5 @@
 -- How far the scan of a section has come.
+use Rattle.std.proofs.Common.{rules}
 use Rattle.std.proofs.Common.{◌≡◌, ℕ, zero, suc, ◌+◌, ◌-◌, ◌<◌, ◌≤◌, List, [], ◌∷◌, ◌++◌, length, take, drop, None, refl, sym, ap, subst, ◌∙◌, append_assoc, append-nil, arith, length-append, length-drop, drop_at, drop-drop, drop_of_length-le, take_all, add-zero}
 use Rattle.std.proofs.lemmas.List.Concat.{flat_map-append}
 use Rattle.std.specs.List.{AllZip}
@@ -40,20 +41,9 @@ pub record Upto (a info : List ℕ) (header : ℕ) (kept : Kept) : Type 0 where
 records_from-push : (numbers : ℕ → ℕ → ℕ) (unit id at : ℕ) (us : List DebugUnit) (u : DebugUnit)
     → records_from numbers unit id at (us ++ u ∷ [])
     ≡ records_from numbers unit id at us ++ node_records (numbers (unit + length us)) None None (id + length (records_from numbers unit id at us)) ((at + length (units_bytes us)) + header_size u.header.kind) u.root
-records_from-push numbers unit id at [] u =
-    let front : node_records (numbers (unit + 0)) None None (id + 0) (at + 0 + header_size u.header.kind) u.root ≡ node_records (numbers unit) None None id (at + header_size u.header.kind) u.root = simp add-zero in
-    append-nil (node_records (numbers unit) None None id (at + header_size u.header.kind) u.root) ∙ sym front
+records_from-push numbers unit id at [] u = search (rules, add-zero, append-nil)
 records_from-push numbers unit id at (v ∷ us) u =
-    let first : List Record = node_records (numbers unit) None None id (at + header_size v.header.kind) v.root in
-    let others : List Record = records_from numbers (suc unit) (id + node_count v.root) (at + length (unit_bytes v)) us in
-    let n : suc unit + length us ≡ unit + length (v ∷ us) = omega arith in
-    let k : (id + node_count v.root) + length others ≡ id + length (first ++ others) = omega (arith, length-append first others, length-node_records (numbers unit) None None id (at + header_size v.header.kind) v.root) in
-    let o : (at + length (unit_bytes v)) + length (units_bytes us) ≡ at + length (units_bytes (v ∷ us)) = omega (arith, length-append (unit_bytes v) (units_bytes us)) in
-    ap (λ (r : List Record). first ++ r) (records_from-push numbers (suc unit) (id + node_count v.root) (at + length (unit_bytes v)) us u)
-    ∙ sym (append_assoc first others _)
-    ∙ ap (λ (r : List Record). (first ++ others) ++ r) (ap (λ (m : ℕ). node_records (numbers m) None None ((id + node_count v.root) + length others) (((at + length (unit_bytes v)) + length (units_bytes us)) + header_size u.header.kind) u.root) n
-    ∙ ap (λ (m : ℕ). node_records (numbers (unit + length (v ∷ us))) None None m (((at + length (unit_bytes v)) + length (units_bytes us)) + header_size u.header.kind) u.root) k
-    ∙ ap (λ (m : ℕ). node_records (numbers (unit + length (v ∷ us))) None None (id + length (first ++ others)) (m + header_size u.header.kind) u.root) o)
+    search (rules, length-append, length-node_records, append_assoc, (records_from-push numbers (suc unit) (id + node_count v.root) (at + length (unit_bytes v)) us u))
 
 -- the records of units depend on the numbers of these units alone
 records_same : (f g : ℕ → ℕ → ℕ) (unit id at : ℕ) (us : List DebugUnit) → ((n : ℕ) → n < unit + length us → f n ≡ g n) → records_from f unit id at us ≡ records_from g unit id at us
@@ -71,13 +61,7 @@ units_bytes-push : (us : List DebugUnit) (u : DebugUnit) → units_bytes (us ++ 
 units_bytes-push us u = flat_map-append unit_bytes us (u ∷ []) ∙ ap (λ (b : List ℕ). units_bytes us ++ b) (append-nil (unit_bytes u))
 
 IsKept-more : (old new : Tables) (r : UnitRecord) (p : PlacedUnit) → Stay old new → IsKept old r p → IsKept new r p
-IsKept-more old new r p stay k = record {
-  at = k.at;
-  header = k.header;
-  within = omega (arith, k.within, ap length stay.1, length-append old stay.0);
-  table = ap items_of (table_stays old new r.table stay k.within) ∙ k.table;
-  first = k.first;
-}
+IsKept-more old new r p stay k = search (rules, length-append, table_stays)
 
 AllKept-more : (old new : Tables) (rs : List UnitRecord) (ps : List PlacedUnit) → Stay old new → AllZip (IsKept old) rs ps → AllZip (IsKept new) rs ps
 AllKept-more old new [] [] stay k = tt
@@ -103,9 +87,7 @@ table_of-last (q ∷ rs) r = table_of-last rs r
 
 numbers_stay : (old new : Tables) (rs : List UnitRecord) (ps : List PlacedUnit) (r : UnitRecord) (n : ℕ) → Stay old new → AllZip (IsKept old) rs ps → n < length rs
     → numbers_of old rs n ≡ numbers_of new (rs ++ r ∷ []) n
-numbers_stay old new rs ps r n stay k less =
-    ap number_in (sym (table_stays old new (table_of rs n) stay (table_within old rs ps n k less)))
-    ∙ ap (λ (t : ℕ). number_in (chain_in new t)) (sym (table_of-push rs r n less))
+numbers_stay old new rs ps r n stay k less = search (rules, table_stays, table_within, table_of-push)
 
 numbers_last : (tables : Tables) (rs : List UnitRecord) (r : UnitRecord) (n : ℕ) → n ≡ length rs → number_in (chain_in tables r.table) ≡ numbers_of tables (rs ++ r ∷ []) n
 numbers_last tables rs r n e = ap (λ (t : ℕ). number_in (chain_in tables t)) (sym (ap (table_of (rs ++ r ∷ [])) e ∙ table_of-last rs r))
@@ -121,10 +103,7 @@ placed_at at first u = record { at = at; first = first; unit = u }
 
 placed_from-push : (numbers : ℕ → ℕ → ℕ) (unit at first : ℕ) (us : List DebugUnit) (u : DebugUnit)
     → placed_from at first (us ++ u ∷ []) ≡ placed_from at first us ++ record { at = at + length (units_bytes us); first = first + length (records_from numbers unit first at us); unit = u } ∷ []
-placed_from-push numbers unit at first [] u =
-    let o : at ≡ at + 0 = omega arith in
-    let k : first ≡ first + 0 = omega arith in
-    ap (λ (p : PlacedUnit). p ∷ []) (ap (λ (n : ℕ). placed_at n first u) o ∙ ap (λ (n : ℕ). placed_at (at + 0) n u) k)
+placed_from-push numbers unit at first [] u = search (rules)
 placed_from-push numbers unit at first (v ∷ us) u =
     let start : ℕ = at + header_size v.header.kind in
     let front : List Record = node_records (numbers unit) None None first start v.root in
@@ -137,16 +116,7 @@ placed_from-push numbers unit at first (v ∷ us) u =
     ∙ ap (λ (p : PlacedUnit). placed_from (at + length (unit_bytes v)) (first + node_count v.root) us ++ p ∷ []) last)
 
 pub upto_start : (a info : List ℕ) (kept : Kept) → AreTablesOf a kept.tables → kept.units.items ≡ [] → kept.records.items ≡ [] → Upto a info 0 kept
-upto_start a info kept tables us e = record {
-  units = [];
-  are = tt;
-  parts = refl;
-  at = refl;
-  count = ap length us;
-  unit_records = rw us tt;
-  places = e;
-  tables = tables;
-}
+upto_start a info kept tables us e = search (rules)
 
 pub upto_next : (a info : List ℕ) (header : ℕ) (old new : Kept) (len : ℕ) → Upto a info header old → UnitTaken a (drop header info) header old new len → Upto a info (header + len) new
 upto_next a info header old new len u t =

@@ -1,4 +1,5 @@
 -- What is asked for is found among the attributes at which a search stops.
+use Rattle.std.proofs.Common.{rules}
 use Rattle.std.proofs.Common.{◌≡◌, ◌<◌, false, List, [], ◌∷◌, ◌++◌, length, sym, ap, subst, ◌∙◌, append-nil, arith}
 use Rattle.std.specs.List.{list_any}
 use Rattle.std.proofs.lemmas.Bool.{or_parts}
@@ -47,7 +48,4 @@ module _ (Passes : AttributeSpec → Type 0) (others : OthersPass Passes) where
 
   -- where none is left, none is asked for
   pub none_asked : (all left : Attributes) → IsNextAsked Passes all left → specs_in left ≡ [] → AreUnasked Passes (specs_in all)
-  none_asked all left done none =
-      let parts : specs_in all ≡ items_of done.before =
-      specs_ends all left done.before done.ends ∙ ap (λ (specs : List AttributeSpec). items_of done.before ++ specs) none ∙ append-nil (items_of done.before) in
-      subst (AreUnasked Passes) (sym parts) done.unasked
+  none_asked all left done none = search (rules, specs_ends, append-nil, unasked)

@@ -1,4 +1,5 @@
 -- Where a text is that is in the value of an attribute.
+use Rattle.std.proofs.Common.{rules}
 use Rattle.std.proofs.Common.{◌≡◌, ◌≢◌, ℕ, suc, ◌+◌, ◌-◌, ◌<◌, ◌≤◌, List, [], ◌∷◌, ◌++◌, length, take, drop, map, All, true, false, Some, Result, Ok, refl, sym, ap, subst, ◌∙◌, append_assoc, length-append, length-drop, drop_at, drop-drop, take-append-drop, arith}
 use Rattle.std.specs.Prelude.{slice_get, IfSome}
 use Rattle.std.specs.List.{flat_map, list_any}
@@ -56,9 +57,7 @@ same_text : (a b : List ℕ) → text a ≡ text b → a ≡ b
 same_text a b is = cc
 
 plain_text : (size : ℕ) (f : Form) (code content bytes t : List ℕ) → SpellsPlain (layout_of size f) content (text t) → bytes ≡ code ++ content → EndWith bytes t
-plain_text size form.Text code content bytes t (v, ended, is) parts =
-    let same : v ≡ t = sym (same_text t v is) in
-    end_after code content bytes t parts (ended.parts ∙ ap (λ (b : List ℕ). b ++ 0 ∷ []) same) (subst (All (λ byte. 0 < byte)) same ended.none_before)
+plain_text size form.Text code content bytes t (v, ended, is) parts = search (rules, same_text, end_after)
 plain_text size form.Indirect code content bytes t p parts = absurd p
 plain_text size form.FlagPresent code content bytes t p parts = absurd (let other = p.1 in cc)
 plain_text size (form.ImplicitConst number) code content bytes t p parts = absurd (let other = p.1 in cc)
@@ -147,12 +146,7 @@ module _ (h : Head) (t rest after : List ℕ) (has : HasText h.attributes t rest
 
   counted : length entry ≡ length front + (length t + suc (length after))
   unfolding front
-  counted =
-      let whole = ap length entry_is ∙ length-append (head_bytes h) rest in
-      let head = ap length head_parts ∙ length-append front (t ++ 0 ∷ has.tail) in
-      let behind = length-append t (0 ∷ has.tail) in
-      let follows = ap length has.follows ∙ length-append has.tail rest in
-      omega (arith, whole, head, behind, follows)
+  counted = search (rules, length-append, head_parts, front)
 
   pub text_in_head : IsTextAt (head_bytes h) (length entry - length after - 1 - length t) t
   text_in_head = record {

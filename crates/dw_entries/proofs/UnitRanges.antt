@@ -1,4 +1,5 @@
 -- Which entries are of a unit: those from its first one up to the first one of the next unit.
+use Rattle.std.proofs.Common.{rules}
 use Rattle.std.proofs.Common.{◌≡◌, ℕ, zero, suc, ◌+◌, ◌-◌, ◌<◌, ◌≤◌, List, [], ◌∷◌, ◌++◌, length, get_or, Option, Some, None, refl, sym, ap, subst, ◌∙◌, inl, inr, arith, length-append}
 use Rattle.std.specs.Prelude.{slice_get, IfSome}
 use Rattle.std.specs.List.{AllByRecursion}
@@ -58,11 +59,7 @@ get_behind (x ∷ xs) ys (suc k) le =
 first_least : (at first : ℕ) (us : List DebugUnit) (k : ℕ) (p : PlacedUnit)
     → slice_get (placed_from at first us) k ≡ Some p → first ≤ p.first
 first_least at first [] k p is = absurd cc
-first_least at first (u ∷ us) zero p is =
-    let e : ◌≡◌ {A = Option PlacedUnit} (Some (record { at = at; first = first; unit = u })) (Some p) = is in
-    let same : ◌≡◌ {A = PlacedUnit} (record { at = at; first = first; unit = u }) p = cc in
-    let begins = ap (λ (q : PlacedUnit). q.first) same in
-    omega (arith, begins)
+first_least at first (u ∷ us) zero p is = search (rules)
 first_least at first (u ∷ us) (suc k) p is =
     let more = first_least (at + length (unit_bytes u)) (first + node_count u.root) us k p is in
     omega (arith, more)
@@ -103,13 +100,7 @@ next_from : (at first : ℕ) (us : List DebugUnit) (n : ℕ) (p q : PlacedUnit) 
     → slice_get (placed_from at first us) (suc n) ≡ Some q → q.first ≡ p.first + node_count p.unit.root
 next_from at first [] n p q is next = absurd cc
 next_from at first (u ∷ []) zero p q is next = absurd cc
-next_from at first (u ∷ v ∷ us) zero p q is next =
-    let some : ◌≡◌ {A = Option PlacedUnit} (Some (record { at = at; first = first; unit = u })) (Some p) = is in
-    let same : ◌≡◌ {A = PlacedUnit} (record { at = at; first = first; unit = u }) p = cc in
-    let some_q : ◌≡◌ {A = Option PlacedUnit} (Some (record { at = at + length (unit_bytes u); first = first + node_count u.root; unit = v })) (Some q) = next in
-    let same_q : ◌≡◌ {A = PlacedUnit} (record { at = at + length (unit_bytes u); first = first + node_count u.root; unit = v }) q = cc in
-    let P : PlacedUnit → Type 0 = λ r. q.first ≡ r.first + node_count r.unit.root in
-    subst P same (sym (ap (λ (r : PlacedUnit). r.first) same_q))
+next_from at first (u ∷ v ∷ us) zero p q is next = search (rules)
 next_from at first (u ∷ us) (suc n) p q is next =
     next_from (at + length (unit_bytes u)) (first + node_count u.root) us n p q is next
 
@@ -121,14 +112,7 @@ next_first us n p q is next = next_from 0 0 us n p q is next
 last_from : (unit id at : ℕ) (us : List DebugUnit) (n : ℕ) (p : PlacedUnit) → slice_get (placed_from at id us) n ≡ Some p
     → suc n ≡ length us → id + length (entries_from unit id at us) ≡ p.first + node_count p.unit.root
 last_from unit id at [] n p is last = absurd cc
-last_from unit id at (u ∷ []) zero p is last =
-    let es : List Entry = node_entries unit None 0 None id (at + header_size u.header.kind) u.root in
-    let some : ◌≡◌ {A = Option PlacedUnit} (Some (record { at = at; first = id; unit = u })) (Some p) = is in
-    let same : ◌≡◌ {A = PlacedUnit} (record { at = at; first = id; unit = u }) p = cc in
-    let count = length-node_entries unit None 0 None id (at + header_size u.header.kind) u.root in
-    let len = length-append es [] in
-    let P : PlacedUnit → Type 0 = λ r. id + length (es ++ []) ≡ r.first + node_count r.unit.root in
-    subst P same (omega (arith, count, len))
+last_from unit id at (u ∷ []) zero p is last = search (rules, length-node_entries, length-append)
 last_from unit id at (u ∷ v ∷ us) zero p is last = absurd (omega (arith, last))
 last_from unit id at (u ∷ us) (suc n) p is last =
     let es : List Entry = node_entries unit None 0 None id (at + header_size u.header.kind) u.root in
@@ -146,12 +130,7 @@ last_ends us n p is last = (let z : length (entries_of us) ≡ 0 + length (entri
 firsts_from : (at first : ℕ) (us : List DebugUnit) (i j : ℕ) (p q : PlacedUnit) → i ≤ j
     → slice_get (placed_from at first us) i ≡ Some p → slice_get (placed_from at first us) j ≡ Some q → p.first ≤ q.first
 firsts_from at first [] i j p q le is_p is_q = absurd cc
-firsts_from at first (u ∷ us) zero j p q le is_p is_q =
-    let some : ◌≡◌ {A = Option PlacedUnit} (Some (record { at = at; first = first; unit = u })) (Some p) = is_p in
-    let same : ◌≡◌ {A = PlacedUnit} (record { at = at; first = first; unit = u }) p = cc in
-    let begins = ap (λ (r : PlacedUnit). r.first) same in
-    let least = first_least at first (u ∷ us) j q is_q in
-    omega (arith, begins, least)
+firsts_from at first (u ∷ us) zero j p q le is_p is_q = search (rules, first_least)
 firsts_from at first (u ∷ us) (suc i) zero p q le is_p is_q = absurd (omega arith)
 firsts_from at first (u ∷ us) (suc i) (suc j) p q le is_p is_q =
     firsts_from (at + length (unit_bytes u)) (first + node_count u.root) us i j p q (omega arith) is_p is_q
@@ -171,22 +150,12 @@ module _ (a info : List ℕ) (tables : Tables) (rs : List UnitRecord) (records :
   pub its_entries : (n end : ℕ) (u : UnitRecord) → slice_get rs n ≡ Some u
       → IfSome (slice_get (placed (units_of s)) n) (λ p. end ≡ p.first + node_count p.unit.root)
       → (id : ℕ) (e : Entry) → slice_get (entries_of (units_of s)) id ≡ Some e → u.first ≤ id → id < end → n ≡ e.unit
-  its_entries n end u is ends id e is_e low high =
-      let (p, is_p, first) = kept_first n u is in
-      let at : end ≡ p.first + node_count p.unit.root = rw is_p at ends in
-      sym (unit_in_range (units_of s) n p id e is_p is_e (omega (arith, low, first)) (omega (arith, high, at)))
+  its_entries n end u is ends id e is_e low high = search (rules, kept_first, unit_in_range)
 
   -- a unit ends where the next one begins
   pub ends_with_next : (n : ℕ) (next : UnitRecord) → slice_get rs (n + 1) ≡ Some next
       → IfSome (slice_get (placed (units_of s)) n) (λ p. next.first ≡ p.first + node_count p.unit.root)
-  ends_with_next n next is = go (slice_get (placed (units_of s)) n) refl
-    where
-      go : (o : Option PlacedUnit) → slice_get (placed (units_of s)) n ≡ o → IfSome o (λ p. next.first ≡ p.first + node_count p.unit.root)
-      go None at = tt
-      go (Some p) at =
-          let P : ℕ → Type 0 = λ k. slice_get rs k ≡ Some next in
-          let (q, is_q, first) = kept_first (suc n) next (subst P (let e : n + 1 ≡ suc n = omega arith in e) is) in
-          first ∙ next_first (units_of s) n p q at is_q
+  ends_with_next n next is = search (rules, kept_first, next_first)
 
   -- the last one ends with the last entry
   pub ends_with_all : (n : ℕ) → n < length (units_of s) → length rs ≤ n + 1
@@ -201,13 +170,7 @@ module _ (a info : List ℕ) (tables : Tables) (rs : List UnitRecord) (records :
       go (Some p) at = entries_counted a info tables rs records s ∙ last_ends (units_of s) n p at last
 
   pub units_rise : IsNonDecreasingBy (λ (u : UnitRecord). u.first) rs
-  units_rise i j d le lt =
-      let u = get_or rs i d in
-      let v = get_or rs j d in
-      let (p, is_p, low) = kept_first i u (slice_get-get_or rs i d (omega arith)) in
-      let (q, is_q, high) = kept_first j v (slice_get-get_or rs j d lt) in
-      let rise = firsts_from 0 0 (units_of s) i j p q le is_p is_q in
-      omega (arith, low, high, rise)
+  units_rise i j d le lt = search (rules, kept_first, slice_get-get_or, firsts_from)
 
   pub few_records : length rs ≤ length info
   few_records = omega (arith, units_counted a info tables rs records s, few_units (units_of s), ap length s.1.spells.parts)

@@ -1,4 +1,5 @@
 -- One attribute of those that are left.
+use Rattle.std.proofs.Common.{rules}
 use Rattle.std.proofs.Common.{◌≡◌, ℕ, ◌≤◌, ◌<◌, subst, List, [], ◌∷◌, ◌++◌, ◌-◌, length, take, drop, map, None, Result, Ok, Err, refl, sym, ap, ◌∙◌, append_assoc, arith, Bool, true, false}
 use Rattle.std.specs.Prelude.{◌==◌}
 use Rattle.std.specs.List.{flat_map}
@@ -24,11 +25,7 @@ pub record Goes (x : Context) (s : AttributeSpec) (ss : List AttributeSpec) (byt
   pub spelled : bytes ≡ first.bytes ++ (flat_map attribute_bytes others ++ found.1)
 
 goes : (x : Context) (s : AttributeSpec) (ss : List AttributeSpec) (bytes : List ℕ) (found : List Attribute × List ℕ) → AreAttributes x (s ∷ ss) found.0 → bytes ≡ flat_map attribute_bytes found.0 ++ found.1 → Goes x s ss bytes found
-goes x s ss bytes found p spelled = by_parts found.0 refl p spelled
-  where
-    by_parts : (as_found : List Attribute) → found.0 ≡ as_found → AreAttributes x (s ∷ ss) as_found → bytes ≡ flat_map attribute_bytes as_found ++ found.1 → Goes x s ss bytes found
-    by_parts [] e p spelled = absurd p
-    by_parts (a ∷ more) e p spelled = record { first = a; others = more; parts = e; is = p.0; are = p.1; spelled = spelled ∙ append_assoc a.bytes (flat_map attribute_bytes more) found.1 }
+goes x s ss bytes found p spelled = search (rules, append_assoc)
 
 module _ (x : Context) (gs : List AttributeSpec) (s : AttributeSpec) (ss : List AttributeSpec) (bytes : List ℕ) (l : Left x gs bytes) (e : gs ≡ s ∷ ss) where
   pub left_goes : Goes x s ss bytes l.0
@@ -63,22 +60,11 @@ pub value_of_none : (x : Context) (specs : List AttributeSpec) (bs : List Attrib
 value_of_none x [] [] attribute p e = refl
 value_of_none x [] (a ∷ bs) attribute p e = absurd p
 value_of_none x (s ∷ specs) [] attribute p e = absurd p
-value_of_none x (s ∷ specs) (a ∷ bs) attribute p e = by_code (value_of_none x specs bs attribute p.1) (s.attribute == attribute) refl
-  where
-    by_code : (declares specs attribute ≡ false → None ≡ value_in (map value_of bs) attribute) → (b : Bool) → (s.attribute == attribute) ≡ b → None ≡ value_in (map value_of (a ∷ bs)) attribute
-    by_code others true q = absurd (let h : true ≡ false = rw q at e in cc)
-    by_code others false q =
-        let code : a.code ≡ s.attribute = p.0.code in
-        let more : declares specs attribute ≡ false = rw q at e in
-        rw (code, q) (others more)
+value_of_none x (s ∷ specs) (a ∷ bs) attribute p e = search (rules, (value_of_none x specs bs attribute p.1))
 
 -- where no attribute is left, no value is
 pub none_left : (x : Context) (specs : List AttributeSpec) (bytes : List ℕ) (l : Left x specs bytes) → specs ≡ [] → map value_of l.0.0 ≡ []
-none_left x specs bytes l none = none_by l.0.0 (subst (λ (ss : List AttributeSpec). AreAttributes x ss l.0.0) none l.1.are)
-  where
-    none_by : (bs : List Attribute) → AreAttributes x [] bs → map value_of bs ≡ []
-    none_by [] are = refl
-    none_by (b ∷ bs) are = absurd are
+none_left x specs bytes l none = search (rules)
 
 -- the bytes from a length on, as a slice has them
 pub read_on : (bytes : List ℕ) (len : ℕ) (r : Result (Datum × List ℕ) ValueFault) {v : Datum} → len ≤ length bytes → r ≡ Ok (v, drop len bytes) → r ≡ Ok (v, take (length bytes - len) (drop len bytes))

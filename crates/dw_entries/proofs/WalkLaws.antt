@@ -1,4 +1,5 @@
 -- The pass over a tree's items makes the tree's entries.
+use Rattle.std.proofs.Common.{rules}
 use Rattle.std.proofs.Common.{◌≡◌, ℕ, zero, suc, ◌+◌, true, false, List, [], ◌∷◌, ◌++◌, length, Option, Some, None, refl, sym, ap, ◌∙◌, append_assoc, append-nil, arith, length-append}
 use Rattle.dw_entries.specs.declared.walk.Record.{Record}
 use Rattle.dw_entries.specs.declared.walk.Level.{Level}
@@ -70,10 +71,7 @@ parent_end at h ns z = omega (arith, length-append (head_bytes h) (nodes_bytes n
 parent_records : (numbers : ℕ → ℕ) (h : Head) (at : ℕ) (rs : List Record) (p : ℕ) (last : Option ℕ) (ls : List Level) (ns : Nodes)
     → linked ns None (length (entered numbers h at rs p last ls)) (entered numbers h at rs p last ls) ++ nodes_records numbers (length rs) (length (entered numbers h at rs p last ls)) (at + length (head_bytes h)) ns
     ≡ link_last last (length rs) rs ++ record { at = at; decl = numbers h.decl.code; parent = Some p; next = None } ∷ nodes_records numbers (length rs) (suc (length rs)) (at + length (head_bytes h)) ns
-parent_records numbers h at rs p last ls ns =
-    let below : ℕ → List Record = λ k. nodes_records numbers (length rs) k (at + length (head_bytes h)) ns in
-    let new : List Record = entered numbers h at rs p last ls in
-    ap (λ (r : List Record). r ++ below (length new)) (linked-None ns (length new) new) ∙ ap (λ (k : ℕ). new ++ below k) (length-entered numbers h at rs p last ls) ∙ append_assoc (link_last last (length rs) rs) _ (below (suc (length rs)))
+parent_records numbers h at rs p last ls ns = search (rules, linked-None, length-entered, append_assoc)
 
 -- the pass from another offset, and with other records
 same_walk : (numbers : ℕ → ℕ) (is : List Item) (ls : List Level) (at to : ℕ) (rs qs : List Record) → at ≡ to → rs ≡ qs → walk_along numbers at is (walk rs ls) ≡ walk_along numbers to is (walk qs ls)

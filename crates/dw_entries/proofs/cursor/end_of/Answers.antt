@@ -1,3 +1,4 @@
+use Rattle.std.proofs.Common.{rules}
 use Rattle.std.proofs.Common.{◌≡◌, ◌+◌, ℕ, Some, sym, ap, subst, ◌∙◌, length, arith}
 use Rattle.std.specs.Prelude.{slice_get, IfSome}
 use Rattle.std.proofs.lemmas.Option.{slice_get-get_or}
@@ -10,9 +11,7 @@ use Rattle.dw_entries.proofs.UnitRanges.{few_records, ends_with_next, ends_with_
 use Rattle.dw_entries.proofs.cursor.end_of.Goals as goal
 
 pub overflow_add-next : goal.overflow_add-next
-overflow_add-next c =
-    let few = few_records _ _ _ _ _ c.args.entries.now.scanned in
-    omega (arith, few, c.args.entries.now.sections.info_fits, c.requires, units_counted _ _ _ _ _ c.args.entries.now.scanned)
+overflow_add-next c = search (rules, few_records, units_counted)
 
 pub overflow_cast-result : goal.overflow_cast-result
 overflow_cast-result c =

@@ -1,3 +1,4 @@
+use Rattle.std.proofs.Common.{rules}
 use Rattle.std.proofs.Common.{arith}
 use Rattle.dw_entries.proofs.ScanLaws.{upto_start, upto_next, upto_end, upto_few_entries, unit_within, rest_of}
 use Rattle.dw_entries.proofs.scanning.scan_units.Goals as goal
@@ -6,12 +7,7 @@ pub take_unit-requires-clause-few_entries : goal.take_unit-requires-clause-few_e
 take_unit-requires-clause-few_entries c = upto_few_entries c.args.section.now c.args.info.now c.loop-at.at c.loop-at.kept c.loop-at.invariant.upto
 
 pub loop-at-preserved : goal.loop-at-preserved
-loop-at-preserved c =
-    let t = rw (rest_of c.loop-at.at c.args.info.now c.loop-at.invariant.within) at c.in_ok-at.ensures.unit in
-    record {
-      upto = upto_next c.args.section.now c.args.info.now c.loop-at.at c.loop-at.kept c.take_unit.new.kept c.in_ok-at.field-0 c.loop-at.invariant.upto t;
-      within = unit_within c.args.section.now c.args.info.now c.loop-at.at c.loop-at.kept c.take_unit.new.kept c.in_ok-at.field-0 c.loop-at.invariant.within t;
-    }
+loop-at-preserved c = search (rules, rest_of, upto_next, unit_within)
 
 pub returns-clause-all : goal.returns-clause-all
 returns-clause-all c = upto_end c.args.section.now c.args.info.now c.loop-at.at c.loop-at.kept c.loop-at.invariant.upto (omega arith)

@@ -1,3 +1,4 @@
+use Rattle.std.proofs.Common.{rules}
 use Rattle.std.proofs.Common.{◌∙◌, arith}
 use Rattle.dw_entries.proofs.HeaderReads.{slice_bytes}
 use Rattle.dw_entries.proofs.UnitSteps.{read_size, read_offset, read_start, unit_taken}
@@ -16,6 +17,4 @@ returns-clause-unit c =
     (search c.size.ensures) (c.len.ensures ∙ c.args.kept.now.records.ok.0) c.in_ok-table.ensures.found c.in_ok-table.ensures.tables c.in_ok-table.ensures.stay c.in_ok-push.ensures.items (rw (c.new-context.ensures.context, c.new-context.ensures.numbers) at c.in_ok-walk_unit.ensures.tree)
 
 pub walk_unit-requires-clause-fits : goal.walk_unit-requires-clause-fits
-walk_unit-requires-clause-fits c =
-    let start = read_start c.args.section.now c.args.rest.now c.in-Ok.found.0 c.in-Ok.found.1.now (slice_bytes c.args.rest.now c.type_inv.rest) c.in-Ok.ensures in
-    omega (arith, start, c.requires.fits, c.size.ensures)
+walk_unit-requires-clause-fits c = search (rules, read_start, slice_bytes)

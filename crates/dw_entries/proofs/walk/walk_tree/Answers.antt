@@ -1,3 +1,4 @@
+use Rattle.std.proofs.Common.{rules}
 use Rattle.std.proofs.Common.{◌≡◌, ◌+◌, ◌-◌, length, [], ap, reverse, arith}
 use Rattle.dw_entries.specs.Units.{context_in, numbers_in}
 use Rattle.dw_entries.specs.Reading.{first_at}
@@ -30,11 +31,7 @@ returns-clause-tree c =
     along_end (context_in c.args.context) (numbers_in c.args.context) c.args.kind c.args.place.start c.args.body.now c.args.records.now.items c.loop-place.rest.now (walk_of c.loop-place.records.items c.loop-place.levels.items) c.loop-place.invariant (ap reverse empty)
 
 pub turn-requires-clause-few_entries : goal.turn-requires-clause-few_entries
-turn-requires-clause-few_entries c =
-    let few = along_few (context_in c.args.context) (numbers_in c.args.context) c.args.kind c.args.place.start c.args.body.now c.args.records.now.items c.loop-place.rest.now c.loop-place.records.items c.loop-place.levels.items c.loop-place.invariant in
-    omega (arith, few.0, c.requires.fits, c.requires.few_entries, c.requires.start)
+turn-requires-clause-few_entries c = search (rules, along_few)
 
 pub turn-requires-clause-few_levels : goal.turn-requires-clause-few_levels
-turn-requires-clause-few_levels c =
-    let few = along_few (context_in c.args.context) (numbers_in c.args.context) c.args.kind c.args.place.start c.args.body.now c.args.records.now.items c.loop-place.rest.now c.loop-place.records.items c.loop-place.levels.items c.loop-place.invariant in
-    omega (arith, few.1, c.requires.fits)
+turn-requires-clause-few_levels c = search (rules, along_few)

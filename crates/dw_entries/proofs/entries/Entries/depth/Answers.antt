@@ -1,3 +1,4 @@
+use Rattle.std.proofs.Common.{rules}
 use Rattle.std.proofs.Common.{◌≡◌, ◌+◌, ◌<◌, ℕ, suc, Option, Some, sym, ap, subst, ◌∙◌, arith}
 use Rattle.std.specs.Prelude.{slice_get}
 use Rattle.std.proofs.lemmas.Option.{slice_get-get_or}
@@ -15,10 +16,7 @@ loop-above-init c =
     subst P (sym c.get-above.ensures) (starts _ _ _ _ _ c.args.self.now.scanned c.args.id c.record.result c.requires c.record.ensures)
 
 pub overflow_add-depth : goal.overflow_add-depth
-overflow_add-depth c =
-    let P : Option ℕ → Type 0 = λ o. Climbs (entries_of (units_of c.args.self.now.scanned)) c.args.id c.loop-above.depth o in
-    let less = depth_less _ _ _ _ _ c.args.self.now.scanned c.args.id c.loop-above.depth c.in-Some.parent (subst P c.in-Some.is c.loop-above.invariant) in
-    omega (arith, less, c.requires, entries_counted _ _ _ _ _ c.args.self.now.scanned, scanned_few _ _ _ _ _ c.args.self.now.scanned, c.args.self.now.sections.info_fits)
+overflow_add-depth c = search (rules, depth_less, entries_counted, scanned_few)
 
 pub index-requires : goal.index-requires
 index-requires c =

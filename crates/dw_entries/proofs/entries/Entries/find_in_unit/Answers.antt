@@ -1,3 +1,4 @@
+use Rattle.std.proofs.Common.{rules}
 use Rattle.std.proofs.Common.{arith, sym, ◌∙◌, ◌≡◌}
 use Rattle.std.proofs.lemmas.Option.{slice_get_within}
 use Rattle.dw_entries.specs.Entries.{entries_of, placed}
@@ -21,9 +22,7 @@ returns-in_default-find_at-clause-none c =
     c.in-Some.ensures.1 c.in_default-find_at.ensures.none
 
 pub unit_of-requires : goal.unit_of-requires
-unit_of-requires c =
-    let found = c.in-Some-find_at.ensures.found in
-    slice_get_within (entries_of (units_of c.args.self.now.scanned)) c.in-Some-find_at.id found.entry found.is_entry
+unit_of-requires c = search (rules, slice_get_within)
 
 pub returns-then-unit_of-unit-clause-found : goal.returns-then-unit_of-unit-clause-found
 returns-then-unit_of-unit-clause-found c =

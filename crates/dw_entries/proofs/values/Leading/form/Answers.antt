@@ -1,17 +1,14 @@
+use Rattle.std.proofs.Common.{rules}
 use Rattle.std.proofs.Common.{sym}
 use Rattle.dw_entries.specs.Values.{value_context}
 use Rattle.dw_entries.proofs.LeadingSteps.{some_there, none_there, lead_none}
 use Rattle.dw_entries.proofs.values.Leading.form.Goals as goal
 
 pub returns-in-Some-clause-form : goal.returns-in-Some-clause-form
-returns-in-Some-clause-form c =
-    let it = c.args.self.now in
-    sym (some_there it.values.attributes it.step it.steps c.stepped.result c.stepped.ensures.nodes c.stepped.ensures.first c.in-Some.spec _ c.in-Some.ensures)
+returns-in-Some-clause-form c = search (rules, some_there)
 
 pub returns-in-None-clause-form : goal.returns-in-None-clause-form
-returns-in-None-clause-form c =
-    let it = c.args.self.now in
-    sym (none_there it.values.attributes it.step it.steps c.stepped.result c.stepped.ensures.nodes c.stepped.ensures.first c.in-None.ensures)
+returns-in-None-clause-form c = search (rules, none_there)
 
 pub returns-in-None-clause-none : goal.returns-in-None-clause-none
 returns-in-None-clause-none c =

@@ -1,3 +1,4 @@
+use Rattle.std.proofs.Common.{rules}
 use Rattle.std.proofs.Common.{length}
 use Rattle.dw_forms.specs.Suffixes.{specs_in}
 use Rattle.dw_entries.specs.Values.{value_context}
@@ -6,9 +7,7 @@ use Rattle.dw_entries.proofs.ChosenSteps.{before_passed, all_passed, next_found,
 use Rattle.dw_entries.proofs.values.Values.next_by.Goals as goal
 
 pub pass-requires : goal.pass-requires
-pass-requires g c =
-    let p = c.in-Some.ensures.found in
-    (p.before, p.ends)
+pass-requires g c = search (rules)
 
 pub returns-in-Some-clause-some : goal.returns-in-Some-clause-some
 returns-in-Some-clause-some g c =

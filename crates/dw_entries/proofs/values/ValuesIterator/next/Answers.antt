@@ -1,3 +1,4 @@
+use Rattle.std.proofs.Common.{rules}
 use Rattle.dw_forms.specs.Suffixes.{specs_in}
 use Rattle.dw_forms.specs.Value.{view}
 use Rattle.dw_forms.proofs.SuffixLaws.{first_specs}
@@ -6,10 +7,7 @@ use Rattle.dw_entries.proofs.ValueSteps.{next_left, steps, fewer, never_fails, n
 use Rattle.dw_entries.proofs.values.ValuesIterator.next.Goals as goal
 
 pub returns-in_default-clause-steps : goal.returns-in_default-clause-steps
-returns-in_default-clause-steps c =
-    let v = c.args.self.now in
-    let none = none_left (value_context v.version v.address_size) (specs_in v.attributes) v.bytes.now v.left c.in_default.ensures in
-    (none, none)
+returns-in_default-clause-steps c = search (rules, none_left)
 
 pub invariant_of-self : goal.invariant_of-self
 invariant_of-self c =
