@@ -16,7 +16,7 @@ use Rattle.dw_entries.specs.Items.{Item, entry, null, AreItems, numbered_decl, i
 use Rattle.dw_entries.specs.Reading.{seen, item_at, first_at}
 use Rattle.dw_entries.specs.Units.{nulls_bytes, head_of}
 use Rattle.dw_entries.specs.Faults.{Front, in_unit, BodyFails}
-use Rattle.dw_entries.specs.Walk.{Walk, walk_of, link_last, open_list, enter, leave, step, walk_along}
+use Rattle.dw_entries.specs.Walk.{Walk, walk_of, open_list, enter, leave, step, walk_along}
 use Rattle.dw_entries.specs.Stopped.{TreeOf}
 use Rattle.dw_entries.specs.Records.{node_records}
 use Rattle.dw_entries.specs.ReadingLaws.{item_some, item_takes, first_takes, seen_ok, seen_entry, item_shorter}

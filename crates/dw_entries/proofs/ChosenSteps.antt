@@ -6,7 +6,6 @@ use Rattle.std.proofs.lemmas.List.{take-append-drop, length-map}
 use Rattle.dw_forms.specs.declared.attributes.Attributes.{Attributes}
 use Rattle.dw_forms.specs.declared.decl.AttributeSpec.{AttributeSpec}
 use Rattle.dw_forms.specs.declared.value.Value.{Value}
-use Rattle.dw_forms.specs.Chains.{Numbered, items_of}
 use Rattle.dw_forms.specs.Suffixes.{specs_in}
 use Rattle.dw_forms.specs.Value.{Datum}
 use Rattle.dw_forms.proofs.SuffixLaws.{specs_ends}

@@ -12,7 +12,7 @@ use Rattle.dw_entries.specs.Header.{header_size}
 use Rattle.dw_entries.specs.Tree.{Node, Nodes, leaf, parent, none, ◌then◌, node_bytes}
 use Rattle.dw_entries.specs.Units.{DebugUnit, unit_bytes}
 use Rattle.dw_entries.specs.Entries.{Entry, node_count, first_id, node_entries, nodes_entries, entries_from, entries_of}
-use Rattle.dw_entries.specs.Scanned.{numbers_of, record_of, Scanned, units_of}
+use Rattle.dw_entries.specs.Scanned.{Scanned, units_of}
 use Rattle.dw_entries.proofs.EntryFacts.{length-node_entries, kept_get}
 use Rattle.dw_entries.proofs.FindLaws.{entries_counted}
 use Rattle.dw_entries.proofs.KeptLaws.{kept_entry, one_some}
@@ -157,6 +157,14 @@ one_deeper us k p e is under = go (units_below 0 0 0 us k e is)
         let place : h.place ≡ p = omega (arith, same) in
         let P : ℕ → Type 0 = λ n. slice_get (entries_of us) n ≡ Some h.above in
         (h.above, subst P place h.is_above, h.depth, omega (arith, before, place))
+
+-- the parent of an entry is an entry
+pub parent_within : (us : List DebugUnit) (k : ℕ) (e : Entry) → slice_get (entries_of us) k ≡ Some e → IfSome e.parent (λ p. p < length (entries_of us))
+parent_within us k e is = go e.parent refl
+  where
+    go : (o : Option ℕ) → e.parent ≡ o → IfSome o (λ p. p < length (entries_of us))
+    go None top = tt
+    go (Some p) under = let (above, at, deeper, less) = one_deeper us k p e is under in slice_get_within (entries_of us) p above at
 
 -- ---- steps up from an entry
 

@@ -1,7 +1,6 @@
 -- What holds of the entries and of the units of a list: order, numbers in range, and where each unit begins.
-use Rattle.std.proofs.Common.{◌≡◌, ℕ, zero, suc, ◌+◌, ◌<◌, ◌≤◌, List, [], ◌∷◌, ◌++◌, length, Option, Some, None, refl, sym, ap, subst, ◌∙◌, inl, inr, arith, length-append}
-use Rattle.std.specs.Prelude.{slice_get, IfSome}
-use Rattle.std.specs.List.{AllByRecursion}
+use Rattle.std.proofs.Common.{◌≡◌, ℕ, zero, suc, ◌+◌, ◌<◌, ◌≤◌, List, [], ◌∷◌, ◌++◌, length, Option, Some, None, refl, sym, ap, subst, ◌∙◌, arith, length-append}
+use Rattle.std.specs.Prelude.{slice_get}
 use Rattle.std.proofs.lemmas.Option.{slice_get-map}
 use Rattle.dw_entries.specs.declared.walk.Record.{Record}
 use Rattle.dw_entries.specs.Grammar.{head_bytes}
@@ -12,10 +11,7 @@ use Rattle.dw_entries.specs.Entries.{Entry, node_count, nodes_count, first_id, n
 use Rattle.dw_entries.specs.Records.{records_kept}
 use Rattle.dw_entries.specs.Scanned.{record_of, records_of}
 use Rattle.dw_entries.specs.Asked.{OffsetsRise}
-use Rattle.dw_entries.specs.Runs.{IsEntryAt}
-use Rattle.dw_entries.proofs.NumberOrder.{three_ways}
 use Rattle.dw_entries.proofs.OrderLaws.{Rises, units_rise}
-use Rattle.dw_entries.proofs.HeadLaws.{all-append, all_get}
 
 -- ---- the entries stand in rising offset
 
@@ -39,44 +35,6 @@ entries_rise a us are i j d e lt is_d is_e =
     rises_get 0 (0 + length (units_bytes us)) (records_of any us) i j (record_of any d) (record_of any e)
     (subst (Rises 0 (0 + length (units_bytes us))) (sym (records_kept any us)) (units_rise a any 0 0 0 us are)) lt (kept_get any us i d is_d) (kept_get any us j e is_e)
 
--- at most one entry is at an offset
-pub one_at : (entries : List Entry) → OffsetsRise entries → (offset id other : ℕ) → IsEntryAt entries offset id → IsEntryAt entries offset other → id ≡ other
-one_at entries rise offset id other a b =
-    elim (three_ways id other) [
-      | inl (inl less) ↦ let lt = rise id other a.entry b.entry less a.is_entry b.is_entry in absurd (omega (arith, lt, a.begins, b.begins))
-      | inl (inr same) ↦ same
-      | inr more ↦ let lt = rise other id b.entry a.entry more b.is_entry a.is_entry in absurd (omega (arith, lt, a.begins, b.begins))
-    ]
-
--- ---- parents and siblings are entries
-
--- the numbers of its parent and of its next sibling are below this
-pub record LinksBelow (high : ℕ) (e : Entry) : Type 0 where
-  pub parent : IfSome e.parent (λ id. id < high)
-  pub next : IfSome e.next (λ id. id < high)
-
-first_below : (high : ℕ) (ns : Nodes) (id : ℕ) → id + nodes_count ns ≤ high → IfSome (first_id ns id) (λ k. k < high)
-first_below high none id le = tt
-first_below high (n then ns) id le = omega (arith, some n)
-  where
-    some : (n : Node) → 0 < node_count n
-    some (leaf h) = omega arith
-    some (parent h ns z) = omega arith
-
-mutual
-  node_links : (high unit : ℕ) (above : Option ℕ) (depth : ℕ) (next : Option ℕ) (id at : ℕ) (n : Node) → IfSome above (λ k. k < high) → IfSome next (λ k. k < high) → id + node_count n ≤ high
-      → AllByRecursion (LinksBelow high) (node_entries unit above depth next id at n)
-  node_links high unit above depth next id at (leaf h) p q le = (record { parent = p; next = q }, tt)
-  node_links high unit above depth next id at (parent h ns z) p q le =
-      (record { parent = p; next = q }, nodes_links high unit id (suc depth) (suc id) (at + length (head_bytes h)) ns (omega arith) (omega arith))
-
-  nodes_links : (high unit above depth id at : ℕ) (ns : Nodes) → above < high → id + nodes_count ns ≤ high → AllByRecursion (LinksBelow high) (nodes_entries unit above depth id at ns)
-  nodes_links high unit above depth id at none p le = tt
-  nodes_links high unit above depth id at (n then ns) p le =
-      all-append (LinksBelow high) (node_entries unit (Some above) depth (first_id ns (id + node_count n)) id at n) (nodes_entries unit above depth (id + node_count n) (at + length (node_bytes n)) ns)
-      (node_links high unit (Some above) depth (first_id ns (id + node_count n)) id at n p (first_below high ns (id + node_count n) (omega arith)) (omega arith))
-      (nodes_links high unit above depth (id + node_count n) (at + length (node_bytes n)) ns p (omega arith))
-
 -- how many entries there are
 mutual
   pub length-node_entries : (unit : ℕ) (above : Option ℕ) (depth : ℕ) (next : Option ℕ) (id at : ℕ) (n : Node) → length (node_entries unit above depth next id at n) ≡ node_count n
@@ -92,20 +50,6 @@ mutual
         length-node_entries unit (Some above) depth (first_id ns (id + node_count n)) id at n,
         length-nodes_entries unit above depth (id + node_count n) (at + length (node_bytes n)) ns,
       )
-
-units_links : (high unit id at : ℕ) (us : List DebugUnit) → id + length (entries_from unit id at us) ≤ high → AllByRecursion (LinksBelow high) (entries_from unit id at us)
-units_links high unit id at [] le = tt
-units_links high unit id at (u ∷ us) le =
-    let first : List Entry = node_entries unit None 0 None id (at + header_size u.header.kind) u.root in
-    let more : List Entry = entries_from (suc unit) (id + node_count u.root) (at + length (unit_bytes u)) us in
-    let len = length-append first more in
-    let count = length-node_entries unit None 0 None id (at + header_size u.header.kind) u.root in
-    all-append (LinksBelow high) first more
-    (node_links high unit None 0 None id (at + header_size u.header.kind) u.root tt tt (omega (arith, le, len, count)))
-    (units_links high (suc unit) (id + node_count u.root) (at + length (unit_bytes u)) us (omega (arith, le, len, count)))
-
-pub links_below : (us : List DebugUnit) (id : ℕ) (e : Entry) → slice_get (entries_of us) id ≡ Some e → LinksBelow (length (entries_of us)) e
-links_below us id e is = all_get (LinksBelow (length (entries_of us))) (entries_of us) id e (units_links (length (entries_of us)) 0 0 0 us (omega arith)) is
 
 -- ---- the units, each at its offset
 

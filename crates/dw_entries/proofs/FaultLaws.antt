@@ -1,21 +1,16 @@
 -- One list of units at most, one fault at most, and never both.
 use Rattle.std.proofs.Common.{rules}
-use Rattle.std.proofs.Common.{◌≡◌, ℕ, zero, suc, ◌+◌, true, true≢false, map, List, [], ◌∷◌, ◌++◌, length, Option, Some, Result, Ok, Err, inl, inr, refl, sym, ap, subst, ◌∙◌, append_assoc, append-nil, arith, length-append}
-use Rattle.dw_forms.specs.declared.fault.AbbrevFault.{AbbrevFault}
-use Rattle.dw_forms.specs.Abbrev.{Declaration}
-use Rattle.dw_forms.specs.AbbrevReading.{table_at}
-use Rattle.dw_entries.specs.declared.fault.Rule.{Rule}
+use Rattle.std.proofs.Common.{◌≡◌, ℕ, zero, suc, true, true≢false, map, List, [], ◌∷◌, ◌++◌, length, Option, Some, Ok, Err, inl, inr, refl, sym, ap, ◌∙◌, append_assoc, append-nil, arith, length-append}
 use Rattle.dw_entries.specs.declared.fault.Failing.{Failing}
 use Rattle.dw_entries.specs.declared.fault.Broken.{Broken}
 use Rattle.dw_entries.specs.declared.header.HeaderKind.{HeaderKind}
-use Rattle.dw_entries.specs.declared.header.UnitHeader.{UnitHeader}
 use Rattle.dw_entries.specs.Grammar.{Context}
-use Rattle.dw_entries.specs.Header.{fits_tag, header_size, header_at}
+use Rattle.dw_entries.specs.Header.{fits_tag}
 use Rattle.dw_entries.specs.Tree.{Node, leaf, parent, IsNode, node_bytes}
 use Rattle.dw_entries.specs.Items.{Item, entry, null, item_bytes, IsItem, AreItems, items_bytes, node_items, tree_depth}
 use Rattle.dw_entries.specs.Reading.{code_at, next_at, null_first}
-use Rattle.dw_entries.specs.Units.{DebugUnit, context_by, context_of, head_of, nulls_bytes, AreNulls, body_bytes, unit_bytes, IsUnit, AreUnits, units_bytes, Spells}
-use Rattle.dw_entries.specs.Faults.{FitsUnit, in_unit, Stops, BodyFails, FailsBehind, FailsAs, FailsHere, Fails}
+use Rattle.dw_entries.specs.Units.{DebugUnit, head_of, nulls_bytes, AreNulls, unit_bytes, IsUnit, AreUnits, units_bytes, Spells}
+use Rattle.dw_entries.specs.Faults.{FitsUnit, Stops, BodyFails, FailsHere, Fails}
 use Rattle.dw_entries.specs.Joined.{begins, append-is-nil}
 use Rattle.dw_entries.specs.ReadingLaws.{code_again, item_some, item_again, item_unique, first_again}
 use Rattle.dw_entries.specs.UnitLaws.{unit_header, units_begin}

@@ -1,6 +1,6 @@
 -- The search for an entry by its offset.
 use Rattle.std.proofs.Common.{rules}
-use Rattle.std.proofs.Common.{◌≡◌, ℕ, ◌<◌, ◌≤◌, List, length, get_or, Option, Some, sym, ap, subst, ◌∙◌, arith, inl, inr}
+use Rattle.std.proofs.Common.{◌≡◌, ℕ, ◌<◌, ◌≤◌, List, length, get_or, Some, sym, ap, subst, ◌∙◌, arith, inl, inr}
 use Rattle.std.specs.Prelude.{slice_get}
 use Rattle.std.specs.List.Sorted.{IsPartitionPoint, IsNonDecreasingBy}
 use Rattle.std.proofs.lemmas.Option.{slice_get_within, slice_get-get_or}
@@ -13,7 +13,7 @@ use Rattle.dw_entries.specs.Scanned.{numbers_of, record_of, Scanned, units_of}
 use Rattle.dw_entries.specs.Runs.{IsEntryAt}
 use Rattle.dw_entries.proofs.NumberOrder.{three_ways}
 use Rattle.dw_entries.proofs.EntryFacts.{kept_get, entries_rise}
-use Rattle.dw_entries.proofs.KeptLaws.{KeptEntry, kept_entry, record_is}
+use Rattle.dw_entries.proofs.KeptLaws.{KeptEntry, kept_entry, one_some, record_is}
 
 -- the records before this one start below the offset, and it and those after it start there or after it
 abbrev pub IsFirstFrom : List Record → ℕ → ℕ → Type 0
@@ -93,6 +93,3 @@ module _ (a info : List ℕ) (tables : Tables) (rs : List UnitRecord) (records :
                 let rise = entries_rise a (units_of s) s.1.spells.are number id here.entry found.entry more here.is_entry found.is_entry in
                 omega (arith, at, at_is, low, rise)
           ]
-        where
-          one_some : {A : Type 0} (o : Option A) (x y : A) → o ≡ Some x → o ≡ Some y → x ≡ y
-          one_some o x y p q = cc

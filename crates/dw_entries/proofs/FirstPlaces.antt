@@ -1,9 +1,9 @@
 -- The first failure at one place, and of groups that are asked at headers and at entries.
 use Rattle.std.proofs.Common.{rules}
-use Rattle.std.proofs.Common.{◌≡◌, ℕ, ◌<◌, ◌≤◌, ◌⊎◌, Some, None, refl, sym, ap, subst, ◌∙◌, arith, inl, inr}
+use Rattle.std.proofs.Common.{◌≡◌, ℕ, ◌≤◌, ◌⊎◌, Some, None, arith, inl, inr}
 use Rattle.dw_entries.specs.declared.fault.Rule.{Rule}
 use Rattle.dw_entries.specs.declared.fault.Broken.{Broken}
-use Rattle.dw_entries.specs.Places.{Place, at_header, at_entry, at_attribute, IsBefore, offset_of}
+use Rattle.dw_entries.specs.Places.{Place, at_header, at_entry, at_attribute, IsBefore}
 use Rattle.dw_entries.specs.Failures.{Failure, Precedes, Names, HasNone, IsFirst, IsLeast}
 use Rattle.dw_entries.specs.Asked.{AtPlace}
 

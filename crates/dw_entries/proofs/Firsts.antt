@@ -113,11 +113,6 @@ Among j k f g = (j < k) ⊎ ((j ≡ k) × (number_of f.rule < number_of g.rule))
 before_in : (o j k : ℕ) → IsBefore (at_attribute o j) (at_attribute o k) → j < k
 before_in o j k before = elim before [ inl less ↦ absurd (omega arith) | inr same ↦ same.1 ]
 
-abbrev place_in : Place → ℕ
-place_in (at_header at) = 0
-place_in (at_entry at) = 0
-place_in (at_attribute at k) = k
-
 precedes_in : (o j k : ℕ) (f g : Failure) → f.place ≡ at_attribute o j → g.place ≡ at_attribute o k → Precedes f g → Among j k f g
 precedes_in o j k f g f_at g_at precedes = search (rules, before_in)
 

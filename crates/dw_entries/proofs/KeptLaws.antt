@@ -11,7 +11,7 @@ use Rattle.dw_forms.specs.declared.attribute_lists.Node.{Node}
 use Rattle.dw_forms.specs.declared.decl.KeptDecl.{KeptDecl}
 use Rattle.dw_forms.specs.Abbrev.{Declaration}
 use Rattle.dw_forms.specs.Chains.{chain_in, items_of}
-use Rattle.dw_forms.specs.KeptDecls.{Tables, kept_view, decls_of, number_in, decl_of}
+use Rattle.dw_forms.specs.KeptDecls.{Tables, kept_view, decls_of, decl_of}
 use Rattle.dw_forms.proofs.ChainLaws.{item_some, item_within}
 use Rattle.dw_forms.proofs.KeptLaws.{own_numbers, numbers_find}
 use Rattle.dw_forms.proofs.SpecLaws.{decl_specs}
@@ -139,9 +139,11 @@ module _ {a info : List ℕ} {tables : Tables} {rs : List UnitRecord} {records :
         rest_of r.at info (omega (arith, w)) ∙ ap (λ (n : ℕ). drop n info) e ∙ k.stands.parts
 
   -- the header of a unit that has the number of the entry's
-  pub header_is : (number : ℕ) (u : UnitRecord) → number ≡ k.entry.unit → slice_get rs number ≡ Some u
+  pub header_is : (number : ℕ) (u : UnitRecord) → number ≡ k.entry.unit → u ≡ get_or rs number u
       → IfSome (slice_get (entries_of (units_of s)) id) (λ e. IfSome (slice_get (units_of s) e.unit) (λ v. u.header ≡ v.header))
-  header_is number u same is = search (rules, one_some, of_entry)
+  header_is number u same read =
+      let unit_is : u ≡ k.unit_record = read_is rs number k.unit_record u (ap (slice_get rs) same ∙ k.is_unit_record) read in
+      of_entry (λ e. IfSome (slice_get (units_of s) e.unit) (λ v. u.header ≡ v.header)) (rw k.stands.is_unit (ap (λ (q : UnitRecord). q.header) unit_is ∙ k.header))
 
 -- the declaration of an entry is the one of its number
 module _ (decls : Decls) {a info : List ℕ} {rs : List UnitRecord} {records : List Record} {s : Scanned a info (tables_among decls) rs records} {id : ℕ} (k : KeptEntry a info (tables_among decls) rs records s id) where

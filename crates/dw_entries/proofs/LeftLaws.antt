@@ -1,6 +1,6 @@
 -- The attributes of an entry that stand in .debug_info, and the value of one of them.
 use Rattle.std.proofs.Common.{rules}
-use Rattle.std.proofs.Common.{◌≡◌, ℕ, List, ◌++◌, map, Option, None, false, sym, ap, subst, ◌∙◌}
+use Rattle.std.proofs.Common.{◌≡◌, ℕ, List, ◌++◌, map, None, false, sym, ap, ◌∙◌}
 use Rattle.std.specs.Prelude.{◌==◌, ◌≢◌, All, slice_get, slice_index_or, IfSome}
 use Rattle.std.specs.List.{flat_map}
 use Rattle.std.proofs.lemmas.Bool.{ne_eqb}
@@ -8,19 +8,18 @@ use Rattle.std.proofs.lemmas.List.Folds.{list_any_none}
 use Rattle.dw_forms.specs.declared.decl.AttributeSpec.{AttributeSpec}
 use Rattle.dw_forms.specs.Abbrev.{Declaration}
 use Rattle.dw_forms.specs.KeptDecls.{Tables}
-use Rattle.dw_forms.specs.Value.{Datum}
 use Rattle.dw_entries.specs.declared.header.UnitHeader.{UnitHeader}
 use Rattle.dw_entries.specs.declared.walk.Record.{Record}
 use Rattle.dw_entries.specs.declared.walk.UnitRecord.{UnitRecord}
-use Rattle.dw_entries.specs.Grammar.{Context, AreAttributes, attribute_bytes}
+use Rattle.dw_entries.specs.Grammar.{AreAttributes, attribute_bytes}
 use Rattle.dw_entries.specs.Header.{version_of, IsSize}
-use Rattle.dw_entries.specs.Units.{context_of, IsUnit}
+use Rattle.dw_entries.specs.Units.{context_of}
 use Rattle.dw_entries.specs.Entries.{entries_of}
 use Rattle.dw_entries.specs.Scanned.{Scanned, units_of}
 use Rattle.dw_entries.specs.Asked.{value_of, values_of}
 use Rattle.dw_entries.specs.Values.{value_context, Left}
 use Rattle.dw_entries.specs.ValueLaws.{left_unique, without_table}
-use Rattle.dw_entries.specs.Lookups.{declares, value_in, value_at_entry}
+use Rattle.dw_entries.specs.Lookups.{declares, value_at_entry}
 use Rattle.dw_entries.proofs.HeadLaws.{all_get}
 use Rattle.dw_entries.proofs.KeptLaws.{KeptEntry, of_entry, from_entry}
 use Rattle.dw_entries.proofs.ValueSteps.{value_of_none}
@@ -54,11 +53,6 @@ module _ {a info : List ℕ} {tables : Tables} {rs : List UnitRecord} {records :
   values_here m =
       let same : m.0.0 ≡ k.entry.head.attributes = ap (λ (z : Left (value_context version header.address_size) specs bytes). z.0.0) (left_unique (value_context version header.address_size) specs bytes m left_here) in
       of_entry k (λ e. map value_of m.0.0 ≡ values_of e.head) (ap (map value_of) same)
-
-  -- what is the value of an attribute there is that of the entry's
-  pub answer_here : (answer : Option Datum) (attribute : ℕ) → answer ≡ value_in (map value_of left_here.0.0) attribute → IfSome (slice_get (entries_of (units_of s)) id) (λ e. answer ≡ value_at_entry e attribute)
-  unfolding left_here
-  answer_here answer attribute is = of_entry k (λ e. answer ≡ value_at_entry e attribute) is
 
 -- the attributes of the declaration of an entry
 pub specs_here : {a info : List ℕ} {tables : Tables} {rs : List UnitRecord} {records : List Record} {s : Scanned a info tables rs records} {id : ℕ} (k : KeptEntry a info tables rs records s id) (d : Declaration) (specs : List AttributeSpec)

@@ -8,7 +8,6 @@ use Rattle.dw_entries.specs.Grammar.{Context}
 use Rattle.dw_forms.specs.declared.value.ValueFault.{ValueFault}
 use Rattle.dw_forms.specs.FormCodes.{is_allowed}
 use Rattle.dw_forms.specs.Value.{Datum}
-use Rattle.dw_forms.specs.ValueReading.{value_at}
 use Rattle.dw_forms.specs.Sizes.{rest_at}
 use Rattle.dw_entries.specs.Reading.{fails, value_rule, after, as_attribute, attribute_at, attributes_at}
 

@@ -1,6 +1,6 @@
 -- The entries of one unit, by their offsets.
 use Rattle.std.proofs.Common.{rules}
-use Rattle.std.proofs.Common.{◌≡◌, ℕ, ◌+◌, ◌<◌, ◌≤◌, ◌^◌, List, length, get_or, Option, Some, refl, sym, ap, subst, ◌∙◌, arith, inl, inr}
+use Rattle.std.proofs.Common.{◌≡◌, ℕ, ◌+◌, ◌<◌, ◌≤◌, ◌^◌, List, length, get_or, Some, refl, sym, subst, arith}
 use Rattle.std.specs.Prelude.{slice_get}
 use Rattle.dw_forms.specs.KeptDecls.{Tables}
 use Rattle.dw_entries.specs.declared.walk.Record.{Record}
@@ -11,7 +11,7 @@ use Rattle.dw_entries.specs.Runs.{IsEntryAt, IsEntryIn, ReachesInUnit}
 use Rattle.dw_entries.specs.Asked.{OffsetsRise}
 use Rattle.dw_entries.proofs.NumberOrder.{three_ways}
 use Rattle.dw_entries.proofs.HeadLaws.{head_stands, stands_within}
-use Rattle.dw_entries.proofs.KeptLaws.{KeptUnit, read_is}
+use Rattle.dw_entries.proofs.KeptLaws.{KeptUnit, one_some, read_is}
 
 -- the record of a unit that was read is the one that is kept of it
 pub record_kept : (a info : List ℕ) (tables : Tables) (rs : List UnitRecord) (records : List Record) (s : Scanned a info tables rs records) (number : ℕ) (k : KeptUnit a info tables rs records s number) (u : UnitRecord)
@@ -20,28 +20,25 @@ record_kept a info tables rs records s number k u read = let P : UnitRecord → 
 
 -- ---- the entry of a unit at an offset
 
-same_some : {X : Type 0} (o : Option X) (x y : X) → o ≡ Some x → o ≡ Some y → x ≡ y
-same_some o x y p q = cc
-
 -- one entry at most begins at an offset
 pub one_at : (entries : List Entry) (offset i j : ℕ) → OffsetsRise entries → IsEntryAt entries offset i → IsEntryAt entries offset j → i ≡ j
 one_at entries offset i j rise a b = search (rules, three_ways)
 
 -- where an entry begins, so far from its unit's header
 pub reached_at : (entries : List Entry) (units : List PlacedUnit) (number offset at id : ℕ) (p : PlacedUnit) → slice_get units number ≡ Some p → at ≡ offset + p.at → ReachesInUnit entries units number offset id → IsEntryIn entries number at id
-reached_at entries units number offset at id p is sum reached = search (rules, same_some)
+reached_at entries units number offset at id p is sum reached = search (rules, one_some)
 
 pub in_is_at : (entries : List Entry) (unit offset id : ℕ) → IsEntryIn entries unit offset id → IsEntryAt entries offset id
 in_is_at entries unit offset id found = record { entry = found.entry; is_entry = found.is_entry; begins = found.begins }
 
 pub reaches : (entries : List Entry) (units : List PlacedUnit) (number offset at id : ℕ) (p : PlacedUnit) (e : Entry) → slice_get units number ≡ Some p → at ≡ offset + p.at → IsEntryAt entries at id → slice_get entries id ≡ Some e → e.unit ≡ number
     → ReachesInUnit entries units number offset id
-reaches entries units number offset at id p e is sum found is_e same = search (rules, same_some)
+reaches entries units number offset at id p e is sum found is_e same = search (rules, one_some)
 
 pub never_other : (entries : List Entry) (units : List PlacedUnit) (number offset at id : ℕ) (p : PlacedUnit) (e : Entry) → OffsetsRise entries → slice_get units number ≡ Some p → at ≡ offset + p.at → IsEntryAt entries at id → slice_get entries id ≡ Some e → (e.unit ≡ number → ⊥)
     → (j : ℕ) → ReachesInUnit entries units number offset j → ⊥
 never_other entries units number offset at id p e rise is sum found is_e other j reached =
-    search (rules, reached_at, one_at, in_is_at, same_some)
+    search (rules, reached_at, one_at, in_is_at, one_some)
 
 -- where no entry begins at the offset, none of the unit does
 pub never_there : (a info : List ℕ) (tables : Tables) (rs : List UnitRecord) (records : List Record) (s : Scanned a info tables rs records) (number offset at : ℕ) (k : KeptUnit a info tables rs records s number) (u : UnitRecord)

@@ -7,7 +7,7 @@ use Rattle.dw_entries.specs.declared.walk.Record.{Record}
 use Rattle.dw_entries.specs.declared.walk.UnitRecord.{UnitRecord}
 use Rattle.dw_entries.specs.declared.walk.Kept.{Kept}
 use Rattle.dw_forms.specs.AbbrevTables.{tables_in, AreTablesOf}
-use Rattle.dw_forms.specs.Chains.{items_of, chain_in}
+use Rattle.dw_forms.specs.Chains.{chain_in}
 use Rattle.dw_forms.specs.KeptDecls.{Tables, number_in}
 use Rattle.dw_forms.specs.TableStarts.{Stay}
 use Rattle.dw_forms.proofs.StartLaws.{table_stays}
@@ -24,6 +24,7 @@ use Rattle.dw_entries.specs.Entries.{node_count, PlacedUnit, placed_from, placed
 use Rattle.dw_entries.specs.Records.{node_records, records_from, records_kept}
 use Rattle.dw_entries.specs.Scanned.{table_of, numbers_of, IsKept, Scanned}
 use Rattle.dw_entries.specs.Stopped.{UnitTaken}
+use Rattle.dw_entries.proofs.HeadLaws.{all-append}
 use Rattle.dw_entries.proofs.OrderLaws.{few_entries}
 use Rattle.dw_entries.proofs.WalkLaws.{length-node_records}
 
@@ -52,10 +53,6 @@ records_same f g unit id at (u ∷ us) same =
     let rest = records_same f g (suc unit) (id + node_count u.root) (at + length (unit_bytes u)) us (λ n less. same n (omega (arith, less))) in
     ap (λ (h : ℕ → ℕ). node_records h None None id (at + header_size u.header.kind) u.root ++ records_from f (suc unit) (id + node_count u.root) (at + length (unit_bytes u)) us) (same unit (omega arith))
     ∙ ap (λ (rs : List Record). node_records (g unit) None None id (at + header_size u.header.kind) u.root ++ rs) rest
-
-AreUnits-push : (a : List ℕ) (us : List DebugUnit) (u : DebugUnit) → AreUnits a us → IsUnit a u → AreUnits a (us ++ u ∷ [])
-AreUnits-push a [] u p q = (q, tt)
-AreUnits-push a (v ∷ us) u p q = (p.0, AreUnits-push a us u p.1 q)
 
 units_bytes-push : (us : List DebugUnit) (u : DebugUnit) → units_bytes (us ++ u ∷ []) ≡ units_bytes us ++ unit_bytes u
 units_bytes-push us u = flat_map-append unit_bytes us (u ∷ []) ∙ ap (λ (b : List ℕ). units_bytes us ++ b) (append-nil (unit_bytes u))
@@ -110,10 +107,8 @@ placed_from-push numbers unit at first (v ∷ us) u =
     let others : List Record = records_from numbers (suc unit) (first + node_count v.root) (at + length (unit_bytes v)) us in
     let o : (at + length (unit_bytes v)) + length (units_bytes us) ≡ at + length (units_bytes (v ∷ us)) = omega (arith, length-append (unit_bytes v) (units_bytes us)) in
     let k : (first + node_count v.root) + length others ≡ first + length (front ++ others) = omega (arith, length-append front others, length-node_records (numbers unit) None None first start v.root) in
-    let last : placed_at ((at + length (unit_bytes v)) + length (units_bytes us)) ((first + node_count v.root) + length others) u ≡ placed_at (at + length (units_bytes (v ∷ us))) (first + length (front ++ others)) u =
-    ap (λ (n : ℕ). placed_at n ((first + node_count v.root) + length others) u) o ∙ ap (λ (n : ℕ). placed_at (at + length (units_bytes (v ∷ us))) n u) k in
     ap (λ (ps : List PlacedUnit). placed_at at first v ∷ ps) (placed_from-push numbers (suc unit) (at + length (unit_bytes v)) (first + node_count v.root) us u
-    ∙ ap (λ (p : PlacedUnit). placed_from (at + length (unit_bytes v)) (first + node_count v.root) us ++ p ∷ []) last)
+    ∙ (λ i. placed_from (at + length (unit_bytes v)) (first + node_count v.root) us ++ placed_at (o i) (k i) u ∷ []))
 
 pub upto_start : (a info : List ℕ) (kept : Kept) → AreTablesOf a kept.tables → kept.units.items ≡ [] → kept.records.items ≡ [] → Upto a info 0 kept
 upto_start a info kept tables us e = search (rules)
@@ -135,7 +130,7 @@ upto_next a info header old new len u t =
     let at : header ≡ 0 + length (units_bytes u.units) = omega (arith, u.at) in
     record {
       units = u.units ++ v ∷ [];
-      are = AreUnits-push a u.units v u.are t.is;
+      are = all-append (IsUnit a) u.units (v ∷ []) u.are (t.is, tt);
       parts = u.parts ∙ ap (λ (x : List ℕ). units_bytes u.units ++ x) (t.parts ∙ ap (λ (x : List ℕ). unit_bytes v ++ x) (sym left)) ∙ sym (append_assoc (units_bytes u.units) (unit_bytes v) _) ∙ ap (λ (x : List ℕ). x ++ drop (header + len) info) (sym (units_bytes-push u.units v));
       at = omega (arith, u.at, t.len_is, ap length (units_bytes-push u.units v), length-append (units_bytes u.units) (unit_bytes v));
       count = omega (arith, ap length t.units, length-append old.units.items (t.record_is ∷ []), u.count, length-append u.units (v ∷ []));
@@ -144,10 +139,7 @@ upto_next a info header old new len u t =
       tables = t.tables;
       places = rw t.units (t.records
           ∙ ap (λ (f : ℕ → ℕ). records ++ node_records f None None (length records) (header + size) v.root) (numbers_last tables old.units.items t.record_is unit refl)
-          ∙ ap (λ (m : ℕ). records ++ node_records (numbers m) None None (length records) (header + size) v.root) n
-          ∙ ap (λ (k : ℕ). records ++ node_records (numbers (0 + length u.units)) None None k (header + size) v.root) id
-          ∙ ap (λ (o : ℕ). records ++ node_records (numbers (0 + length u.units)) None None (0 + length (records_from numbers 0 0 0 u.units)) (o + size) v.root) at
-          ∙ ap (λ (r : List Record). r ++ node_records (numbers (0 + length u.units)) None None (0 + length (records_from numbers 0 0 0 u.units)) ((0 + length (units_bytes u.units)) + size) v.root) same
+          ∙ (λ i. same i ++ node_records (numbers (n i)) None None (id i) (at i + size) v.root)
           ∙ sym (records_from-push numbers 0 0 0 u.units v));
     }
 

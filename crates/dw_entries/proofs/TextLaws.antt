@@ -21,16 +21,20 @@ use Rattle.dw_forms.specs.Suffixes.{specs_in, Ends, IsFrom}
 use Rattle.dw_forms.specs.Value.{Datum, SpellsPlain, Val, layout_of, text}
 use Rattle.dw_entries.specs.Asked.{value_of}
 use Rattle.dw_entries.specs.Grammar.{Context, Attribute, IsAttribute, AreAttributes, attribute_bytes, Head, head_bytes}
+use Rattle.dw_entries.specs.Header.{version_of}
 use Rattle.dw_entries.specs.Lookups.{IsTextAt, value_at_entry, value_in}
+use Rattle.dw_entries.specs.Reading.{seen, code_at}
+use Rattle.dw_entries.specs.declared.header.UnitHeader.{UnitHeader}
 use Rattle.dw_entries.specs.Values.{value_context}
 use Rattle.dw_entries.specs.declared.walk.Record.{Record}
 use Rattle.dw_entries.specs.declared.walk.UnitRecord.{UnitRecord}
 use Rattle.dw_entries.specs.Entries.{entries_of}
 use Rattle.dw_entries.specs.Scanned.{Scanned, units_of}
 use Rattle.dw_forms.specs.KeptDecls.{Tables}
-use Rattle.dw_entries.proofs.KeptLaws.{KeptEntry, kept_entry, from_entry, of_entry, entry_parts}
+use Rattle.dw_entries.proofs.KeptLaws.{KeptEntry, kept_entry, from_entry, of_entry, entry_parts, values_are, values_follow}
+use Rattle.dw_entries.proofs.LeftLaws.{are_here}
 use Rattle.dw_forms.proofs.PassSteps.{items_append}
-use Rattle.dw_forms.proofs.SuffixLaws.{specs_ends, follow}
+use Rattle.dw_forms.proofs.SuffixLaws.{specs_ends, ends_on, follow}
 use Rattle.dw_entries.proofs.PassLaws.{one_end}
 
 -- bytes that end with a text and a zero byte
@@ -148,10 +152,10 @@ module _ (h : Head) (t rest after : List ℕ) (has : HasText h.attributes t rest
   unfolding front
   counted = search (rules, length-append, head_parts, front)
 
-  pub text_in_head : IsTextAt (head_bytes h) (length entry - length after - 1 - length t) t
+  pub text_in_head : IsTextAt (head_bytes h) (length entry - (length after + 1 + length t)) t
   text_in_head = record {
     rest = has.tail;
-    parts = ap (drop (length entry - length after - 1 - length t)) head_parts ∙ drop_at front (t ++ 0 ∷ has.tail) (length entry - length after - 1 - length t) (omega (arith, counted));
+    parts = ap (drop (length entry - (length after + 1 + length t))) head_parts ∙ drop_at front (t ++ 0 ∷ has.tail) (length entry - (length after + 1 + length t)) (omega (arith, counted));
     none_before = has.none_before;
   }
 
@@ -160,29 +164,34 @@ module _ (h : Head) (t rest after : List ℕ) (has : HasText h.attributes t rest
 
 -- the text that is the value of an attribute of an entry, by the bytes after it
 module _ {a info : List ℕ} {tables : Tables} {rs : List UnitRecord} {records : List Record} {s : Scanned a info tables rs records} {id : ℕ} (k : KeptEntry a info tables rs records s id)
-    (r : Record) (read : slice_get records id ≡ Some r) (version size : ℕ) (all found others : Attributes) (spec : AttributeSpec) (values after t : List ℕ) (attribute : ℕ)
-    (are : AreAttributes (value_context version size) (specs_in all) k.entry.head.attributes)
-    (follows : values ≡ flat_map attribute_bytes k.entry.head.attributes ++ k.stands.after)
+    (r : Record) (read : slice_get records id ≡ Some r) (header : UnitHeader) (version number : ℕ) (all found others : Attributes) (spec : AttributeSpec) (values after t : List ℕ) (attribute : ℕ)
+    (of_unit : IfSome (slice_get (entries_of (units_of s)) id) (λ e. IfSome (slice_get (units_of s) e.unit) (λ u. header ≡ u.header)))
+    (of_specs : IfSome (slice_get (entries_of (units_of s)) id) (λ e. specs_in all ≡ e.head.decl.attributes))
+    (version_is : version ≡ version_of header.kind)
+    (got : seen (λ c. c.number) (code_at (take (length info - r.at) (drop r.at info))) ≡ Ok (number, values))
     (is : IsFrom (has_this attribute) all found)
     (first : Ends found others (record { number = found.first; item = spec } ∷ []))
-    (value : value_at_entry k.entry attribute ≡ Some (text t))
-    (ends : values_end version size (items_of ((follow (has_this attribute) all found is).before ++ record { number = found.first; item = spec } ∷ [])) values ≡ Ok after) where
+    (value : IfSome (slice_get (entries_of (units_of s)) id) (λ e. value_at_entry e attribute ≡ Some (text t)))
+    (ends : (before : List (Numbered AttributeSpec)) → Ends all others before → values_end version header.address_size (items_of before) values ≡ Ok after) where
   text_here : HasText k.entry.head.attributes t k.stands.after after
   text_here =
       let f = follow (has_this attribute) all found is in
       let n : Numbered AttributeSpec = record { number = found.first; item = spec } in
+      let x : Context = value_context version header.address_size in
+      let are = are_here k header (specs_in all) values version of_unit of_specs (values_follow k r read number values got) version_is in
       let parts : specs_in all ≡ items_of f.before ++ spec ∷ specs_in others =
       specs_ends all found f.before f.ends ∙ ap (λ (specs : List AttributeSpec). items_of f.before ++ specs) (specs_ends found others (n ∷ []) first) in
-      text_of_first (value_context version size) (items_of f.before) spec (specs_in others) k.entry.head.attributes k.stands.after values after attribute t
-      (subst (λ (specs : List AttributeSpec). AreAttributes (value_context version size) specs k.entry.head.attributes) parts are) follows f.none (f.passes spec others first) value
-      (ap (λ (specs : List AttributeSpec). values_end version size specs values) (sym (items_append f.before (n ∷ []))) ∙ ends)
+      text_of_first x (items_of f.before) spec (specs_in others) k.entry.head.attributes k.stands.after values after attribute t
+      (subst (λ (specs : List AttributeSpec). AreAttributes x specs k.entry.head.attributes) parts are) (values_are k r read number values got) f.none (f.passes spec others first)
+      (from_entry k (λ e. value_at_entry e attribute ≡ Some (text t)) value)
+      (ap (λ (specs : List AttributeSpec). values_end version header.address_size specs values) (sym (items_append f.before (n ∷ []))) ∙ ends (f.before ++ n ∷ []) (ends_on all found others f.before (n ∷ []) f.ends first))
 
   pub room_here : length t + suc (length after) ≤ length (take (length info - r.at) (drop r.at info))
   room_here = has_room k.entry.head t k.stands.after after text_here (take (length info - r.at) (drop r.at info)) (entry_parts k r read)
 
-  pub starts_here : IfSome (slice_get (entries_of (units_of s)) id) (λ e. IsTextAt (head_bytes e.head) (length (take (length info - r.at) (drop r.at info)) - length after - 1 - length t) t)
+  pub starts_here : IfSome (slice_get (entries_of (units_of s)) id) (λ e. IsTextAt (head_bytes e.head) (length (take (length info - r.at) (drop r.at info)) - (length after + 1 + length t)) t)
   starts_here =
-      of_entry k (λ e. IsTextAt (head_bytes e.head) (length (take (length info - r.at) (drop r.at info)) - length after - 1 - length t) t)
+      of_entry k (λ e. IsTextAt (head_bytes e.head) (length (take (length info - r.at) (drop r.at info)) - (length after + 1 + length t)) t)
       (text_in_head k.entry.head t k.stands.after after text_here (take (length info - r.at) (drop r.at info)) (entry_parts k r read))
 
 -- a text is before the end of the bytes

@@ -4,7 +4,7 @@ use Rattle.std.proofs.Common.{◌≡◌, ℕ, zero, suc, ◌+◌, ◌-◌, ◌<�
 use Rattle.std.specs.Prelude.{slice_get, IfSome}
 use Rattle.std.specs.List.{AllByRecursion}
 use Rattle.std.specs.List.Sorted.{IsPartitionPoint, IsNonDecreasingBy}
-use Rattle.std.proofs.lemmas.Option.{slice_get_within, slice_get-get_or, slice_get_cases, get_or_from_slice_get}
+use Rattle.std.proofs.lemmas.Option.{slice_get_within, slice_get-get_or, slice_get_cases}
 use Rattle.dw_forms.specs.KeptDecls.{Tables}
 use Rattle.dw_entries.specs.declared.walk.Record.{Record}
 use Rattle.dw_entries.specs.declared.walk.UnitRecord.{UnitRecord}
@@ -17,7 +17,7 @@ use Rattle.dw_entries.specs.Scanned.{Scanned, units_of}
 use Rattle.dw_entries.proofs.EntryFacts.{length-node_entries}
 use Rattle.dw_entries.proofs.FindLaws.{entries_counted}
 use Rattle.dw_entries.proofs.HeadLaws.{all-append, all_get}
-use Rattle.dw_entries.proofs.KeptLaws.{kept_entry, kept_unit, one_some, units_counted}
+use Rattle.dw_entries.proofs.KeptLaws.{kept_entry, kept_unit, of_entry, one_some, units_counted}
 use Rattle.dw_entries.proofs.NumberOrder.{three_ways}
 use Rattle.dw_entries.proofs.ScanLaws.{few_units}
 
@@ -212,33 +212,29 @@ module _ (a info : List ℕ) (tables : Tables) (rs : List UnitRecord) (records :
     point_within le = omega (arith, le, some_before)
 
     -- the last unit that begins with this entry or an earlier one has it
-    pub unit_found : (end : ℕ) (u : UnitRecord) → slice_get rs (n - 1) ≡ Some u
-        → IfSome (slice_get (placed (units_of s)) (n - 1)) (λ p. end ≡ p.first + node_count p.unit.root)
-        → (e : Entry) → slice_get (entries_of (units_of s)) id ≡ Some e → n - 1 ≡ e.unit
-    unit_found end u is ends e is_e =
-        let P : UnitRecord → Type 0 = λ v. v.first ≤ id in
-        let low : u.first ≤ id = subst P (get_or_from_slice_get rs (n - 1) u u is) (point.0 (n - 1) u (omega arith) (omega (arith, some_before))) in
-        its_entries (n - 1) end u is ends id e is_e low high
+    pub unit_found : n ≤ length rs → IfSome (slice_get (entries_of (units_of s)) id) (λ e. n - 1 ≡ e.unit)
+    unit_found le =
+        let k = kept_entry a info tables rs records s id within in
+        let u = get_or rs (n - 1) k.unit_record in
+        let (p, is_p, first) = kept_first (n - 1) u (slice_get-get_or rs (n - 1) k.unit_record (point_within le)) in
+        let low : u.first ≤ id = point.0 (n - 1) k.unit_record (omega arith) (omega (arith, some_before)) in
+        of_entry k (λ e. n - 1 ≡ e.unit) (sym (unit_in_range (units_of s) (n - 1) p id k.entry is_p k.is_entry (omega (arith, low, first)) (high p is_p)))
       where
-        behind : n ≡ (n - 1) + 1
+        behind : n ≡ suc (n - 1)
         behind = omega (arith, some_before)
 
-        high : id < end
-        high =
-            let (p, is_p, first) = kept_first (n - 1) u is in
-            let at : end ≡ p.first + node_count p.unit.root = rw is_p at ends in
+        high : (p : PlacedUnit) → slice_get (placed (units_of s)) (n - 1) ≡ Some p → id < p.first + node_count p.unit.root
+        high p is_p =
             elim (slice_get_cases rs n).1 [
               | inl it ↦
                   let Q : UnitRecord → Type 0 = λ v. id < v.first in
                   let above : id < it.0.first = subst Q it.3 (point.1 n it.0 (omega arith) it.1) in
-                  let R : ℕ → Type 0 = λ k. slice_get rs k ≡ Some it.0 in
-                  let S : Option PlacedUnit → Type 0 = λ o. IfSome o (λ q. it.0.first ≡ q.first + node_count q.unit.root) in
-                  let next : it.0.first ≡ p.first + node_count p.unit.root = subst S is_p (ends_with_next (n - 1) it.0 (subst R behind it.2)) in
-                  omega (arith, above, next, at)
+                  let (q, is_q, first) = kept_first n it.0 it.2 in
+                  let next = next_first (units_of s) (n - 1) p q is_p (rw (← behind) is_q) in
+                  omega (arith, above, next, first)
               | inr it ↦
                   let past = it.0 in
-                  let S : Option PlacedUnit → Type 0 = λ o. IfSome o (λ q. length records ≡ q.first + node_count q.unit.root) in
-                  let all : length records ≡ p.first + node_count p.unit.root =
-                  subst S is_p (ends_with_all (n - 1) (let w = slice_get_within rs (n - 1) u is in omega (arith, w, units_counted a info tables rs records s)) (omega (arith, past, behind))) in
-                  omega (arith, all, at, within, entries_counted a info tables rs records s)
+                  let counted = units_counted a info tables rs records s in
+                  let all = last_ends (units_of s) (n - 1) p is_p (omega (arith, past, le, behind, counted)) in
+                  omega (arith, all, within)
             ]

@@ -12,7 +12,6 @@ use Rattle.dw_forms.specs.KeptDecls.{number_in}
 use Rattle.dw_forms.specs.TableStarts.{Stay}
 use Rattle.dw_entries.specs.Scanned.{IsKept}
 use Rattle.dw_entries.specs.Failures.{IsPlainFault}
-use Rattle.dw_entries.specs.declared.fault.Failing.{Failing}
 use Rattle.dw_entries.specs.declared.fault.Broken.{Broken}
 use Rattle.dw_entries.specs.declared.header.HeaderKind.{HeaderKind}
 use Rattle.dw_entries.specs.Grammar.{Context}

@@ -2,9 +2,7 @@
 
 ghost use Rattle.std.specs.Prelude.{◌≡◌, ◌+◌, ◌<◌, ◌≤◌, length, slice_get, IfSome};
 ghost use Rattle.std.specs.List.Sorted.{IsNonDecreasingBy, IsPartitionPoint};
-ghost use Rattle.std.specs.Option.{ForSome};
-ghost use Rattle.std.specs.Bool.{OnFalse, OnTrue};
-ghost use Rattle.dw_entries.specs.Cursors.{HasEntries, IsIn, IsUnitAt};
+ghost use Rattle.dw_entries.specs.Cursors.{HasEntries};
 ghost use Rattle.dw_entries.specs.Entries.{node_count};
 ghost use Rattle.dw_entries.specs.Scanned.{all_entries, all_units, units_of};
 
@@ -13,25 +11,17 @@ use crate::entry_at::EntryAt;
 use crate::id::EntryId;
 use crate::walk::UnitRecord;
 
-/// A unit, its number, and which entries are of it: those from its first one on, and before `end`.
-#[derive(Clone, Copy, Debug)]
-pub struct UnitAt {
-    pub number: u32,
-    pub end: u32,
-    pub record: UnitRecord,
-}
-
 /// The number of the entry after the last one of a unit.
-fn end_of(entries: &Entries<'_>, number: usize) -> u32
+fn end_of(entries: &Entries<'_>, number: usize) -> usize
     requires { number < length (units_of entries.now.scanned) }
     ensures { IfSome (slice_get (all_units entries.now.scanned) number)
         (λ p. result ≡ p.first + node_count p.unit.root) }
 {
     let next = number + 1;
     if next < entries.units.len() {
-        entries.units[next].first
+        entries.units[next].first as usize
     } else {
-        entries.records.len() as u32
+        entries.records.len()
     }
 }
 
@@ -44,19 +34,13 @@ fn units_up_to(units: &[UnitRecord], id: EntryId) -> usize
     units.partition_point(|unit| unit.first as usize <= id.number())
 }
 
-/// The unit of an entry.
-pub fn unit_at(entries: &Entries<'_>, id: EntryId) -> UnitAt
+/// The number of an entry's unit.
+pub fn unit_number(entries: &Entries<'_>, id: EntryId) -> usize
     requires { id < length (all_entries entries.now.scanned) }
-    ensures unit { IsUnitAt entries.now.units.items result }
-    ensures its { HasEntries (all_entries entries.now.scanned) result }
-    ensures number { IfSome (slice_get (all_entries entries.now.scanned) id) (λ e. result.number ≡ e.unit) }
+    ensures within { result < length (units_of entries.now.scanned) }
+    ensures number { IfSome (slice_get (all_entries entries.now.scanned) id) (λ e. result ≡ e.unit) }
 {
-    let number = units_up_to(&entries.units, id) - 1;
-    UnitAt {
-        number: number as u32,
-        end: end_of(entries, number),
-        record: entries.units[number],
-    }
+    units_up_to(&entries.units, id) - 1
 }
 
 /// Looks up one entry after another. The unit of the last is kept at hand, so that the entries of one unit are found
@@ -65,9 +49,11 @@ pub fn unit_at(entries: &Entries<'_>, id: EntryId) -> UnitAt
 pub struct Cursor<'e, 'a> {
     /// The entries that are looked up.
     pub entries: &'e Entries<'a>,
-    unit: Option<UnitAt>,
-    ghost at_hand: { ForSome unit (IsUnitAt entries.now.units.items) },
-    ghost its: { ForSome unit (HasEntries (all_entries entries.now.scanned)) },
+    /// The number of the unit at hand, whose entries are those from the first one on, and before the end.
+    unit: usize,
+    first: usize,
+    end: usize,
+    ghost its: { HasEntries (all_entries entries.now.scanned) unit first end },
 }
 
 impl<'a> Entries<'a> {
@@ -77,20 +63,10 @@ impl<'a> Entries<'a> {
     {
         Cursor {
             entries: self,
-            unit: None,
+            unit: 0,
+            first: 0,
+            end: 0,
         }
-    }
-}
-
-/// Whether a unit is at hand and has this entry.
-#[inline(always)]
-fn has(unit: &Option<UnitAt>, id: EntryId) -> bool
-    ensures yes { OnTrue result (IsIn unit.now id) }
-    ensures no { OnFalse result (IsIn unit.now id → ⊥) }
-{
-    match unit {
-        Some(unit) => unit.record.first as usize <= id.number() && id.number() < unit.end as usize,
-        None => false,
     }
 }
 
@@ -101,12 +77,10 @@ impl<'e, 'a> Cursor<'e, 'a> {
         requires { id < length (all_entries self.now.entries.now.scanned) }
         ensures { IfSome result (λ entry. entry ≡ slice_get (all_entries self.now.entries.now.scanned) id) }
     {
-        if !has(&self.unit, id) {
-            return None;
-        }
-        match &self.unit {
-            Some(unit) => Some(EntryAt::new(self.entries, id, unit)),
-            None => None,
+        if self.first <= id.number() && id.number() < self.end {
+            Some(EntryAt::new(self.entries, id, self.unit))
+        } else {
+            None
         }
     }
 
@@ -117,12 +91,14 @@ impl<'e, 'a> Cursor<'e, 'a> {
         ensures same { self.new.entries.now ≡ self.old.entries.now }
         ensures found { result ≡ slice_get (all_entries self.old.entries.now.scanned) id }
     {
-        if !has(&self.unit, id) {
-            self.unit = Some(unit_at(self.entries, id));
+        let number = id.number();
+        if self.first <= number && number < self.end {
+            return EntryAt::new(self.entries, id, self.unit);
         }
-        match &self.unit {
-            Some(unit) => EntryAt::new(self.entries, id, unit),
-            None => unreachable!(),
-        }
+        let unit = unit_number(self.entries, id);
+        self.unit = unit;
+        self.first = self.entries.units[unit].first as usize;
+        self.end = end_of(self.entries, unit);
+        EntryAt::new(self.entries, id, unit)
     }
 }

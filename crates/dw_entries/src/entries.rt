@@ -9,7 +9,7 @@ ghost use Rattle.dw_entries.specs.Units.{DebugUnit, Spells};
 ghost use Rattle.dw_entries.specs.Faults.{Fails};
 ghost use Rattle.dw_entries.specs.Props.{scanned_unique};
 
-use crate::cursor::unit_at;
+use crate::cursor::unit_number;
 use crate::id::EntryId;
 use crate::walk::{Record, UnitRecord};
 use dw_elf::Sections;
@@ -106,7 +106,7 @@ impl Entries<'_> {
         requires { id < length (all_entries self.now.scanned) }
         ensures { IfSome (slice_get (all_entries self.now.scanned) id) (λ e. result ≡ e.unit) }
     {
-        unit_at(self, id).number as usize
+        unit_number(self, id)
     }
 
     /// How many entries are above an entry. Each of them is looked at.

@@ -7,7 +7,6 @@ ghost use Rattle.dw_forms.specs.KeptDecls.{view as decl_view};
 ghost use Rattle.dw_forms.specs.Suffixes.{specs_in, numbered};
 ghost use Rattle.dw_forms.specs.Codes.{is_type_tag};
 ghost use Rattle.dw_forms.specs.Value.{text, view};
-ghost use Rattle.dw_entries.specs.Cursors.{IsUnitAt};
 ghost use Rattle.dw_entries.specs.Grammar.{attribute_bytes, head_bytes};
 ghost use Rattle.dw_entries.specs.Entries.{Entry};
 ghost use Rattle.dw_entries.specs.Scanned.{all_entries, units_of};
@@ -16,7 +15,7 @@ ghost use Rattle.dw_entries.specs.ValuesLeft.{values_left};
 ghost use Rattle.dw_entries.specs.Leading.{leading_left};
 ghost use Rattle.dw_entries.specs.Lookups.{IsTextAt, entry_head, value_at_entry};
 
-use crate::cursor::{UnitAt, unit_at};
+use crate::cursor::unit_number;
 use crate::entries::Entries;
 use crate::header::UnitHeader;
 use crate::id::{EntryId, OptionalId};
@@ -45,7 +44,7 @@ pub struct EntryAt<'e, 'a> {
     kept: Record,
     decl: Decl<'e>,
     /// The number of its unit.
-    unit: u32,
+    unit: usize,
     header: UnitHeader,
 }
 
@@ -70,7 +69,7 @@ impl<'a> Entries<'a> {
         requires { id < length (all_entries self.now.scanned) }
         ensures { result ≡ slice_get (all_entries self.now.scanned) id }
     {
-        EntryAt::new(self, id, &unit_at(self, id))
+        EntryAt::new(self, id, unit_number(self, id))
     }
 
     /// The parent of an entry. None at the first entry of a unit. Its unit is not looked up.
@@ -93,12 +92,11 @@ impl<'a> Entries<'a> {
 }
 
 impl<'e, 'a> EntryAt<'e, 'a> {
-    /// An entry of a unit.
+    /// An entry of the unit with this number.
     #[inline(always)]
-    pub(crate) fn new(entries: &'e Entries<'a>, id: EntryId, unit: &UnitAt) -> EntryAt<'e, 'a>
+    pub(crate) fn new(entries: &'e Entries<'a>, id: EntryId, unit: usize) -> EntryAt<'e, 'a>
         requires id { id < length (all_entries entries.now.scanned) }
-        requires unit { IsUnitAt entries.now.units.items unit.now }
-        requires number { IfSome (slice_get (all_entries entries.now.scanned) id) (λ e. unit.now.number ≡ e.unit) }
+        requires unit { IfSome (slice_get (all_entries entries.now.scanned) id) (λ e. unit ≡ e.unit) }
         ensures { result ≡ slice_get (all_entries entries.now.scanned) id }
     {
         let kept = entries.record(id);
@@ -107,8 +105,8 @@ impl<'e, 'a> EntryAt<'e, 'a> {
             id,
             kept,
             decl: entries.decls.decl(kept.decl),
-            unit: unit.number,
-            header: unit.record.header,
+            unit,
+            header: entries.units[unit].header,
         }
     }
 
@@ -141,7 +139,7 @@ impl<'e, 'a> EntryAt<'e, 'a> {
     pub fn unit(&self) -> usize
         ensures { IfSome self.now (λ e. result ≡ e.unit) }
     {
-        self.unit as usize
+        self.unit
     }
 
     /// Its parent. None at the first entry of a unit.
@@ -168,7 +166,7 @@ impl<'e, 'a> EntryAt<'e, 'a> {
         EntryHead {
             offset: self.kept.at,
             tag: self.decl.tag(),
-            unit: self.unit as usize,
+            unit: self.unit,
             parent: id_of(self.kept.parent),
             next_sibling: id_of(self.kept.next),
         }
@@ -230,12 +228,7 @@ impl<'e, 'a> EntryAt<'e, 'a> {
         if attributes.lacks(attribute) {
             return None;
         }
-        let version = self.header.kind.version();
-        let bytes = self.value_bytes();
-        match attributes.value(version, self.header.address_size, attribute, bytes) {
-            Ok(value) => value,
-            Err(_) => unreachable!(),
-        }
+        self.values_in(attributes).value(attribute)
     }
 
     /// Where the text that is the value of its attribute starts, from the first byte of the entry. The text is in the
@@ -255,7 +248,7 @@ impl<'e, 'a> EntryAt<'e, 'a> {
         };
         let version = self.header.kind.version();
         match attributes.pass(version, self.header.address_size, rest, values) {
-            Ok(after) => entry.len() - after.len() - 1 - bytes.len(),
+            Ok(after) => entry.len() - (after.len() + 1 + bytes.len()),
             Err(_) => unreachable!(),
         }
     }

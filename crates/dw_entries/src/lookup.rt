@@ -98,20 +98,14 @@ impl<'a> Entries<'a> {
         requires { id < length (all_entries self.now.scanned) }
         ensures { IfSome (slice_get (all_entries self.now.scanned) id) (λ e. result ≡ full_head e) }
     {
-        let EntryHead {
-            offset,
-            tag,
-            unit,
-            parent,
-            next_sibling,
-        } = self.at(id).head();
+        let head = self.at(id).head();
         Head {
-            offset,
-            tag,
-            unit,
+            offset: head.offset,
+            tag: head.tag,
+            unit: head.unit,
             depth: self.depth(id),
-            parent,
-            next_sibling,
+            parent: head.parent,
+            next_sibling: head.next_sibling,
         }
     }
 

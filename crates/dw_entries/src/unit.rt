@@ -11,7 +11,7 @@ use crate::context::UnitContext;
 use crate::fault::{Broken, Rule, Section};
 use crate::header::read_header;
 use crate::scanning::unit_table;
-use crate::walk::{Kept, UnitPlace, UnitRecord, walk_unit};
+use crate::walk::{Kept, UnitRecord, walk_unit};
 use dw_forms::Stop;
 use std::alloc::Global;
 
@@ -54,12 +54,8 @@ pub fn take_unit(
         table,
         first: kept.records.len() as u32,
     };
-    let place = UnitPlace {
-        header: at,
-        start: at + header.kind.size() as u32,
-    };
     let context = UnitContext::new(&header, &kept.tables, table);
-    walk_unit(alloc, context, header.kind, place, body, &mut kept.records)?;
+    walk_unit(alloc, context, record, body, &mut kept.records)?;
     kept.units.push(record)?;
     Ok(4 + header.unit_length as usize)
 }

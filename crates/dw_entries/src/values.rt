@@ -97,9 +97,24 @@ fn next_asked<'e, C: Choice>(choice: &C, attributes: Attributes<'e>) -> Option<A
 }
 
 impl<'e, 'a> Values<'e, 'a> {
+    ghost use Rattle.std.specs.Prelude.{option_map};
+    ghost use Rattle.dw_forms.specs.Value.{view};
     ghost use Rattle.dw_entries.specs.ValuesLeft.{viewed, values_left};
     ghost use Rattle.dw_entries.specs.Leading.{DoesNotLead};
+    ghost use Rattle.dw_entries.specs.Lookups.{value_in};
     ghost use Rattle.dw_entries.specs.Chosen.{ArePassed, IsNextOf};
+
+    /// The value of the first attribute with this code, if one is left.
+    #[inline(always)]
+    pub(crate) fn value(&self, attribute: Attribute) -> Option<Value<'a>>
+        ensures { option_map view result ≡ value_in (values_left self.now) attribute }
+    {
+        let attributes = self.attributes;
+        match attributes.value(self.version, self.address_size, attribute, self.bytes) {
+            Ok(value) => value,
+            Err(_) => unreachable!(),
+        }
+    }
 
     /// Passes the attributes up to these.
     #[inline(always)]

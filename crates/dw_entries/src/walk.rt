@@ -14,7 +14,7 @@ ghost use Rattle.dw_entries.specs.Units.{context_in, numbers_in};
 
 use crate::context::UnitContext;
 use crate::fault::{Broken, Failing, Rule, Section};
-use crate::header::{HeaderKind, UnitHeader};
+use crate::header::UnitHeader;
 use crate::id::OptionalId;
 use crate::scanning::{Declared, read_code, read_first, read_item};
 use dw_forms::{AbbrevTables, Stop};
@@ -155,45 +155,36 @@ fn turn<'b>(
     }
 }
 
-/// Where a unit is: the offset of its header, and that of the bytes after the header.
-#[derive(Clone, Copy)]
-pub struct UnitPlace {
-    pub header: u32,
-    pub start: u32,
-}
-
-/// Takes the tree at the front of a unit's body, and returns the bytes after it.
+/// Takes the tree at the front of a unit's body, which is at `start`, and returns the bytes after it.
 fn walk_tree<'b>(
     alloc: Global,
     context: UnitContext<'_>,
-    kind: HeaderKind,
-    place: UnitPlace,
+    unit: UnitRecord,
+    start: u32,
     body: &'b [u8],
     records: &mut Vec<Record>,
 ) -> Result<&'b [u8], Stop<Broken>>
-    requires start { place.start ≡ place.header + header_size kind }
-    requires fits { place.start + length body.now ≤ SECTION_LIMIT }
-    requires few_entries { length records.old.items ≤ place.header }
+    requires start { start ≡ unit.at + header_size unit.header.kind }
+    requires fits { start + length body.now ≤ SECTION_LIMIT }
+    requires few_entries { length records.old.items ≤ unit.at }
     ensures tree { IfOk result
-        (λ rest. TreeOf (context_in context.entry) (numbers_in context.entry) kind body.now rest.now
-        place.start records.old.items records.new.items) }
-    ensures fault { IfErr result (IfFault (BodyFails (context_in context.entry) kind place.header body.now)) }
+        (λ rest. TreeOf (context_in context.entry) (numbers_in context.entry) unit.header.kind body.now rest.now
+        start records.old.items records.new.items) }
+    ensures fault { IfErr result (IfFault (BodyFails (context_in context.entry) unit.header.kind unit.at body.now)) }
 {
     let mut levels: Vec<Level> = Vec::new(alloc);
-    let (declared, mut rest) = match read_first(context, kind, body) {
+    let (declared, mut rest) = match read_first(context, unit.header.kind, body) {
         Ok(found) => found,
-        Err(failing) => {
-            return Err(Stop::Fault(broken_at(failing, place.header, place.start)));
-        }
+        Err(failing) => return Err(Stop::Fault(broken_at(failing, unit.at, start))),
     };
-    enter(records, &mut levels, place.start, declared)?;
+    enter(records, &mut levels, start, declared)?;
     while !levels.is_empty() {
-        let at = place.start + (body.len() - rest.len()) as u32;
+        let at = start + (body.len() - rest.len()) as u32;
         rest = match turn(context, rest, at, records, &mut levels) {
             Ok(after) => after,
             Err(Stop::Memory) => return Err(Stop::Memory),
             Err(Stop::Fault(failing)) => {
-                return Err(Stop::Fault(broken_at(failing, place.header, at)));
+                return Err(Stop::Fault(broken_at(failing, unit.at, at)));
             }
         };
     }
@@ -230,25 +221,24 @@ fn behind_nulls(bytes: &[u8]) -> Option<&[u8]>
 pub fn walk_unit(
     alloc: Global,
     context: UnitContext<'_>,
-    kind: HeaderKind,
-    place: UnitPlace,
+    unit: UnitRecord,
     body: &[u8],
     records: &mut Vec<Record>,
 ) -> Result<(), Stop<Broken>>
-    requires start { place.start ≡ place.header + header_size kind }
-    requires fits { place.start + length body.now ≤ SECTION_LIMIT }
-    requires few_entries { length records.old.items ≤ place.header }
-    ensures tree { OnOk result (TreeOf (context_in context.entry) (numbers_in context.entry) kind body.now []
-        place.start records.old.items records.new.items) }
-    ensures fault { IfErr result (IfFault (BodyFails (context_in context.entry) kind place.header body.now)) }
+    requires fits { unit.at + header_size unit.header.kind + length body.now ≤ SECTION_LIMIT }
+    requires few_entries { length records.old.items ≤ unit.at }
+    ensures tree { OnOk result (TreeOf (context_in context.entry) (numbers_in context.entry) unit.header.kind body.now
+        [] (unit.at + header_size unit.header.kind) records.old.items records.new.items) }
+    ensures fault { IfErr result (IfFault (BodyFails (context_in context.entry) unit.header.kind unit.at body.now)) }
 {
-    let rest = walk_tree(alloc, context, kind, place, body, records)?;
+    let start = unit.at + unit.header.kind.size() as u32;
+    let rest = walk_tree(alloc, context, unit, start, body, records)?;
     match behind_nulls(rest) {
         None => Ok(()),
         Some(left) => Err(Stop::Fault(Broken {
             rule: Rule::LeftOver,
             section: Section::Info,
-            at: place.start + (body.len() - left.len()) as u32,
+            at: start + (body.len() - left.len()) as u32,
             attribute: 0,
         })),
     }

@@ -3,7 +3,7 @@ use Rattle.std.proofs.Common.{◌&&◌, length, inl, inr, ◌≡◌, ℕ, ◌<�
 use Rattle.std.specs.Prelude.{slice_get}
 use Rattle.std.proofs.lemmas.Option.{slice_get_cases}
 use Rattle.dw_entries.specs.Entries.{Entry, entries_of}
-use Rattle.dw_entries.proofs.EntryFacts.{links_below}
+use Rattle.dw_entries.proofs.DepthLaws.{parent_within}
 use Rattle.dw_entries.specs.Units.{DebugUnit}
 use Rattle.dw_types.specs.declared.kind.Role.TheVariants.{Members, Dimensions, Other}
 use Rattle.dw_types.specs.Counts.{is_array_tag, is_dimension, is_subrange_tag}
@@ -35,5 +35,5 @@ parent-entry us id o parent there below is = elim (slice_get_cases (entries_of u
   | inr over ↦ absurd (omega (arith, over.0))
   | inl here ↦
       let same : parent ≡ here.0.parent = rw (there ∙ here.2) at is in
-      rw same (links_below us id here.0 here.2).parent
+      rw same (parent_within us id here.0 here.2)
 ]

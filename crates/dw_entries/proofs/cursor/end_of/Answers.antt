@@ -6,17 +6,11 @@ use Rattle.dw_entries.specs.declared.walk.UnitRecord.{UnitRecord}
 use Rattle.dw_entries.specs.Entries.{node_count, placed}
 use Rattle.dw_entries.specs.Scanned.{units_of}
 use Rattle.dw_entries.proofs.KeptLaws.{units_counted}
-use Rattle.dw_entries.proofs.OrderLaws.{scanned_few}
 use Rattle.dw_entries.proofs.UnitRanges.{few_records, ends_with_next, ends_with_all}
 use Rattle.dw_entries.proofs.cursor.end_of.Goals as goal
 
 pub overflow_add-next : goal.overflow_add-next
 overflow_add-next c = search (rules, few_records, units_counted)
-
-pub overflow_cast-result : goal.overflow_cast-result
-overflow_cast-result c =
-    let few = scanned_few _ _ _ _ _ c.args.entries.now.scanned in
-    omega (arith, few, c.args.entries.now.sections.info_fits, c.len-else-next-len.ensures)
 
 pub returns-then-next-len : goal.returns-then-next-len
 returns-then-next-len c =

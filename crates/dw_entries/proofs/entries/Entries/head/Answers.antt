@@ -24,4 +24,4 @@ head_told (Some e) head depth is_head is_depth = ap (λ (h : EntryHead). with_de
 pub returns : goal.returns
 returns c =
     let entries = all_entries c.args.self.now.scanned in
-    head_told (slice_get entries c.args.id) c.head-offset.result c.depth.result (rw c.at.ensures at c.head-offset.ensures) c.depth.ensures
+    head_told (slice_get entries c.args.id) c.head-head.result c.depth.result (rw c.at.ensures at c.head-head.ensures) c.depth.ensures

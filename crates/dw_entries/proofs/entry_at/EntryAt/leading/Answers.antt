@@ -1,7 +1,5 @@
 use Rattle.std.proofs.Common.{rules}
 use Rattle.std.proofs.Common.{◌∙◌, sym, subst}
-use Rattle.dw_forms.specs.KeptDecls.{view as decl_view}
-use Rattle.dw_forms.specs.Suffixes.{specs_in}
 use Rattle.dw_forms.specs.Walks.{IsStep}
 use Rattle.dw_entries.proofs.KeptLaws.{kept_entry}
 use Rattle.dw_entries.proofs.LeftLaws.{specs_here}

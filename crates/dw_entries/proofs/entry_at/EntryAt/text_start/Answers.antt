@@ -8,8 +8,8 @@ use Rattle.dw_forms.specs.Value.{text}
 use Rattle.dw_forms.proofs.SuffixLaws.{follow, ends_on, specs_ends, none_has_it}
 use Rattle.dw_entries.specs.Lookups.{value_at_entry}
 use Rattle.dw_entries.specs.Values.{value_context}
-use Rattle.dw_entries.proofs.KeptLaws.{kept_entry, at_within, never_unread, values_are, values_follow, from_entry}
-use Rattle.dw_entries.proofs.LeftLaws.{are_here, declares_none, left_here, sized_here, specs_here, undeclared}
+use Rattle.dw_entries.proofs.KeptLaws.{kept_entry, at_within, never_unread, values_follow, from_entry}
+use Rattle.dw_entries.proofs.LeftLaws.{declares_none, left_here, sized_here, specs_here, undeclared}
 use Rattle.dw_entries.proofs.PassLaws.{never_cut}
 use Rattle.dw_entries.proofs.TextLaws.{room_here, starts_here}
 use Rattle.dw_entries.proofs.entry_at.EntryAt.text_start.Goals as goal
@@ -64,46 +64,8 @@ pub overflow_sub-result : goal.overflow_sub-result
 overflow_sub-result c =
     let it = c.self.inside in
     let kept = kept_entry _ _ _ _ _ it.entries.now.scanned it.id c.self.invariant.0 in
-    let all = c.attributes-attributes.result in
-    let specs = specs_here kept (decl_view it.decl) (specs_in all) c.self.invariant.2 c.attributes-attributes.ensures.specs in
-    let behind = values_follow kept it.kept c.self.invariant.1 _ c.in-Ok.values.now c.in-Ok.ensures in
-    let f = follow (has_this c.args.attribute) all c.find.result c.find.ensures in
-    let n : Numbered AttributeSpec = record { number = c.find.result.first; item = c.in-Some.field-0-0 } in
-    let are = are_here kept it.header (specs_in all) c.in-Ok.values.now c.version-version.result c.self.invariant.3 specs behind c.version-version.ensures in
-    let follows = values_are kept it.kept c.self.invariant.1 _ c.in-Ok.values.now c.in-Ok.ensures in
-    let value = from_entry kept (λ e. value_at_entry e c.args.attribute ≡ Some (text c.args.bytes.now)) (rw (← c.self.view_is) at c.requires) in
-    let passed = c.in-Ok-pass.ensures (f.before ++ n ∷ []) (ends_on all c.find.result c.in-Some.rest f.before (n ∷ []) f.ends c.in-Some.ensures) in
-    omega (arith, room_here kept it.kept c.self.invariant.1 c.version-version.result it.header.address_size all c.find.result c.in-Some.rest c.in-Some.field-0-0 c.in-Ok.values.now c.in-Ok-pass.after.now c.args.bytes.now c.args.attribute are follows c.find.ensures c.in-Some.ensures value passed)
-
-pub overflow_sub-result-in-Ok-pass : goal.overflow_sub-result-in-Ok-pass
-overflow_sub-result-in-Ok-pass c =
-    let it = c.self.inside in
-    let kept = kept_entry _ _ _ _ _ it.entries.now.scanned it.id c.self.invariant.0 in
-    let all = c.attributes-attributes.result in
-    let specs = specs_here kept (decl_view it.decl) (specs_in all) c.self.invariant.2 c.attributes-attributes.ensures.specs in
-    let behind = values_follow kept it.kept c.self.invariant.1 _ c.in-Ok.values.now c.in-Ok.ensures in
-    let f = follow (has_this c.args.attribute) all c.find.result c.find.ensures in
-    let n : Numbered AttributeSpec = record { number = c.find.result.first; item = c.in-Some.field-0-0 } in
-    let are = are_here kept it.header (specs_in all) c.in-Ok.values.now c.version-version.result c.self.invariant.3 specs behind c.version-version.ensures in
-    let follows = values_are kept it.kept c.self.invariant.1 _ c.in-Ok.values.now c.in-Ok.ensures in
-    let value = from_entry kept (λ e. value_at_entry e c.args.attribute ≡ Some (text c.args.bytes.now)) (rw (← c.self.view_is) at c.requires) in
-    let passed = c.in-Ok-pass.ensures (f.before ++ n ∷ []) (ends_on all c.find.result c.in-Some.rest f.before (n ∷ []) f.ends c.in-Some.ensures) in
-    omega (arith, room_here kept it.kept c.self.invariant.1 c.version-version.result it.header.address_size all c.find.result c.in-Some.rest c.in-Some.field-0-0 c.in-Ok.values.now c.in-Ok-pass.after.now c.args.bytes.now c.args.attribute are follows c.find.ensures c.in-Some.ensures value passed)
-
-pub overflow_sub-result-in-Ok-pass-2 : goal.overflow_sub-result-in-Ok-pass-2
-overflow_sub-result-in-Ok-pass-2 c =
-    let it = c.self.inside in
-    let kept = kept_entry _ _ _ _ _ it.entries.now.scanned it.id c.self.invariant.0 in
-    let all = c.attributes-attributes.result in
-    let specs = specs_here kept (decl_view it.decl) (specs_in all) c.self.invariant.2 c.attributes-attributes.ensures.specs in
-    let behind = values_follow kept it.kept c.self.invariant.1 _ c.in-Ok.values.now c.in-Ok.ensures in
-    let f = follow (has_this c.args.attribute) all c.find.result c.find.ensures in
-    let n : Numbered AttributeSpec = record { number = c.find.result.first; item = c.in-Some.field-0-0 } in
-    let are = are_here kept it.header (specs_in all) c.in-Ok.values.now c.version-version.result c.self.invariant.3 specs behind c.version-version.ensures in
-    let follows = values_are kept it.kept c.self.invariant.1 _ c.in-Ok.values.now c.in-Ok.ensures in
-    let value = from_entry kept (λ e. value_at_entry e c.args.attribute ≡ Some (text c.args.bytes.now)) (rw (← c.self.view_is) at c.requires) in
-    let passed = c.in-Ok-pass.ensures (f.before ++ n ∷ []) (ends_on all c.find.result c.in-Some.rest f.before (n ∷ []) f.ends c.in-Some.ensures) in
-    omega (arith, room_here kept it.kept c.self.invariant.1 c.version-version.result it.header.address_size all c.find.result c.in-Some.rest c.in-Some.field-0-0 c.in-Ok.values.now c.in-Ok-pass.after.now c.args.bytes.now c.args.attribute are follows c.find.ensures c.in-Some.ensures value passed)
+    let specs = specs_here kept (decl_view it.decl) (specs_in c.attributes-attributes.result) c.self.invariant.2 c.attributes-attributes.ensures.specs in
+    omega (arith, room_here kept it.kept c.self.invariant.1 it.header c.version-version.result _ c.attributes-attributes.result c.find.result c.in-Some.rest c.in-Some.field-0-0 c.in-Ok.values.now c.in-Ok-pass.after.now c.args.bytes.now c.args.attribute c.self.invariant.3 specs c.version-version.ensures c.in-Ok.ensures c.find.ensures c.in-Some.ensures (rw (← c.self.view_is) at c.requires) c.in-Ok-pass.ensures)
 
 pub unreachable-requires-in-Err : goal.unreachable-requires-in-Err
 unreachable-requires-in-Err c =
@@ -122,13 +84,5 @@ pub returns : goal.returns
 returns c =
     let it = c.self.inside in
     let kept = kept_entry _ _ _ _ _ it.entries.now.scanned it.id c.self.invariant.0 in
-    let all = c.attributes-attributes.result in
-    let specs = specs_here kept (decl_view it.decl) (specs_in all) c.self.invariant.2 c.attributes-attributes.ensures.specs in
-    let behind = values_follow kept it.kept c.self.invariant.1 _ c.in-Ok.values.now c.in-Ok.ensures in
-    let f = follow (has_this c.args.attribute) all c.find.result c.find.ensures in
-    let n : Numbered AttributeSpec = record { number = c.find.result.first; item = c.in-Some.field-0-0 } in
-    let are = are_here kept it.header (specs_in all) c.in-Ok.values.now c.version-version.result c.self.invariant.3 specs behind c.version-version.ensures in
-    let follows = values_are kept it.kept c.self.invariant.1 _ c.in-Ok.values.now c.in-Ok.ensures in
-    let value = from_entry kept (λ e. value_at_entry e c.args.attribute ≡ Some (text c.args.bytes.now)) (rw (← c.self.view_is) at c.requires) in
-    let passed = c.in-Ok-pass.ensures (f.before ++ n ∷ []) (ends_on all c.find.result c.in-Some.rest f.before (n ∷ []) f.ends c.in-Some.ensures) in
-    rw (← c.self.view_is) (starts_here kept it.kept c.self.invariant.1 c.version-version.result it.header.address_size all c.find.result c.in-Some.rest c.in-Some.field-0-0 c.in-Ok.values.now c.in-Ok-pass.after.now c.args.bytes.now c.args.attribute are follows c.find.ensures c.in-Some.ensures value passed)
+    let specs = specs_here kept (decl_view it.decl) (specs_in c.attributes-attributes.result) c.self.invariant.2 c.attributes-attributes.ensures.specs in
+    rw (← c.self.view_is) (starts_here kept it.kept c.self.invariant.1 it.header c.version-version.result _ c.attributes-attributes.result c.find.result c.in-Some.rest c.in-Some.field-0-0 c.in-Ok.values.now c.in-Ok-pass.after.now c.args.bytes.now c.args.attribute c.self.invariant.3 specs c.version-version.ensures c.in-Ok.ensures c.find.ensures c.in-Some.ensures (rw (← c.self.view_is) at c.requires) c.in-Ok-pass.ensures)

@@ -1,5 +1,4 @@
 use Rattle.std.proofs.Common.{rules}
-use Rattle.std.proofs.Common.{sym}
 use Rattle.dw_entries.specs.Values.{value_context}
 use Rattle.dw_entries.proofs.LeadingSteps.{some_there, none_there, lead_none}
 use Rattle.dw_entries.proofs.values.Leading.form.Goals as goal
