@@ -98,8 +98,7 @@ stops_same t kind is rest (suc d) f g p q = let a : next_at t kind is rest ≡ E
 -- a front that stops is the longest one
 longest : (t : Context) (kind : HeaderKind) (header : ℕ) (body : List ℕ) (f g : Broken) (b : BodyFails t kind header body f) (c : BodyFails t kind header body g) (more : List Item) → AreItems t more → c.items ≡ b.items ++ more → b.rest ≡ items_bytes more ++ c.rest → f ≡ g
 longest t kind header body f g b c [] are items rest = search (rules, append-nil, some_is, stops_same)
-longest t kind header body f g b c (i ∷ more) are items rest =
-    absurd (stops_there t kind b.items b.rest b.depth b.failing i more (items_bytes more ++ c.rest) c.depth b.front.at_depth b.stops are.0 (rw items at c.front.fits) (ap tree_depth (sym items) ∙ c.front.at_depth) (rest ∙ append_assoc (item_bytes i) (items_bytes more) c.rest))
+longest t kind header body f g b c (i ∷ more) are items rest = search (rules, stops_there, append_assoc)
 
 -- two faults of one body are one
 one_in_body : (t : Context) (kind : HeaderKind) (header : ℕ) (body : List ℕ) (f g : Broken) → BodyFails t kind header body f → BodyFails t kind header body g → f ≡ g
@@ -117,8 +116,7 @@ one_here a header rest f g p q = search (rules, one_in_body)
 -- the units before a fault are all that stand there
 last_units : (a : List ℕ) (bytes : List ℕ) (f g : Broken) (b : Fails a bytes f) (c : Fails a bytes g) (more : List DebugUnit) → AreUnits a more → c.units ≡ b.units ++ more → b.rest ≡ units_bytes more ++ c.rest → f ≡ g
 last_units a bytes f g b c [] are units rest = search (rules, append-nil, one_here)
-last_units a bytes f g b c (u ∷ more) are units rest =
-    absurd (unit_or_fault a (length (units_bytes b.units)) b.rest f u (units_bytes more ++ c.rest) b.fails are.0 (rest ∙ append_assoc (unit_bytes u) (units_bytes more) c.rest))
+last_units a bytes f g b c (u ∷ more) are units rest = search (rules, unit_or_fault, append_assoc)
 
 -- there is one fault at most
 pub one_fault : (a : List ℕ) (bytes : List ℕ) (f g : Broken) → Fails a bytes f → Fails a bytes g → f ≡ g

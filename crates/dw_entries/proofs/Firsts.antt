@@ -26,8 +26,7 @@ before_le a b (at_entry p) (at_entry q) at_p at_q before = omega arith
 before_le a b (at_entry p) (at_attribute q k) at_p at_q before = omega arith
 before_le a b (at_attribute p j) (at_header q) at_p at_q before = absurd at_q
 before_le a b (at_attribute p j) (at_entry q) at_p at_q before = omega arith
-before_le a b (at_attribute p j) (at_attribute q k) at_p at_q before =
-    elim before [ inl less ↦ omega arith | inr same ↦ omega (arith, same.0) ]
+before_le a b (at_attribute p j) (at_attribute q k) at_p at_q before = search (rules)
 
 same_place : (a b : ℕ) (p q : Place) → IsAt a p → IsAt b q → p ≡ q → a ≤ b
 same_place a b (at_header p) q at_p at_q same = absurd at_p
@@ -76,8 +75,7 @@ first_of_list {X} xs offset Fails number x broken rise stands is_x passed first 
 pub none_of_list : {X : Type 0} (xs : List X) (Fails : ℕ → X → Failure → Type 0)
     → ((j : ℕ) (y : X) → j < length xs → slice_get xs j ≡ Some y → HasNone (Fails j y))
     → HasNone (InList xs Fails)
-none_of_list xs Fails passed f fails =
-    passed fails.number fails.item (slice_get_within xs fails.number fails.item fails.is_item) fails.is_item f fails.fails
+none_of_list xs Fails passed f fails = search (rules, slice_get_within)
 
 pub more_of_list : {X : Type 0} (xs : List X) (Fails : ℕ → X → Failure → Type 0) (number : ℕ) (x : X) → slice_get xs number ≡ Some x
     → ((j : ℕ) (y : X) → j < number → slice_get xs j ≡ Some y → HasNone (Fails j y))
@@ -129,8 +127,7 @@ first_of_attributes Fails entry k attribute value rule broken has passed least n
 pub none_of_attributes : (Fails : Entry → ℕ → Datum → Rule → Type 0) (entry : Entry)
     → ((j a : ℕ) (v : Datum) → j < length (values_of entry.head) → HasAttribute entry j a v → (r : Rule) → Fails entry a v r → ⊥)
     → HasNone (AtAttributes Fails entry)
-none_of_attributes Fails entry passed f fails =
-    passed fails.position f.attribute fails.value (slice_get_within (values_of entry.head) fails.position (f.attribute, fails.value) fails.has) fails.has f.rule fails.fails
+none_of_attributes Fails entry passed f fails = search (rules, slice_get_within)
 
 pub attributes_stand : (Fails : Entry → ℕ → Datum → Rule → Type 0) (e : Entry) (f : Failure) → AtAttributes Fails e f → IsAt e.at f.place
 attributes_stand Fails e f fails = let P : Place → Type 0 = λ p. IsAt e.at p in subst P (sym fails.place) refl

@@ -141,9 +141,7 @@ module _ {a info : List ℕ} {tables : Tables} {rs : List UnitRecord} {records :
   -- the header of a unit that has the number of the entry's
   pub header_is : (number : ℕ) (u : UnitRecord) → number ≡ k.entry.unit → u ≡ get_or rs number u
       → IfSome (slice_get (entries_of (units_of s)) id) (λ e. IfSome (slice_get (units_of s) e.unit) (λ v. u.header ≡ v.header))
-  header_is number u same read =
-      let unit_is : u ≡ k.unit_record = read_is rs number k.unit_record u (ap (slice_get rs) same ∙ k.is_unit_record) read in
-      of_entry (λ e. IfSome (slice_get (units_of s) e.unit) (λ v. u.header ≡ v.header)) (rw k.stands.is_unit (ap (λ (q : UnitRecord). q.header) unit_is ∙ k.header))
+  header_is number u same read = search (rules, read_is, of_entry)
 
 -- the declaration of an entry is the one of its number
 module _ (decls : Decls) {a info : List ℕ} {rs : List UnitRecord} {records : List Record} {s : Scanned a info (tables_among decls) rs records} {id : ℕ} (k : KeptEntry a info (tables_among decls) rs records s id) where

@@ -93,8 +93,7 @@ module _ (a : Attributes) (step : Step) (is : IsStep (numbered a) step) (there :
 
   -- the attributes up to it
   pub parts_there : (g : GoesTo (nodes_of a) a.first step.to) (spec : AttributeSpec) (rest : Attributes) → Ends there rest (record { number = there.first; item = spec } ∷ []) → specs_in a ≡ items_of g.before ++ (spec ∷ specs_in rest)
-  parts_there g spec rest ends =
-      ap items_of g.goes ∙ items_append g.before (numbered_in (nodes_of a) step.to) ∙ ap (λ (specs : List AttributeSpec). items_of g.before ++ specs) (specs_there ∙ first_specs there rest spec ends)
+  parts_there g spec rest ends = search (rules, items_append, specs_there, first_specs)
 
 -- what is read from a slice
 pub read_here : (version size len : ℕ) (f form : Form) (bytes slice : List ℕ) (v : Datum) → f ≡ form → slice ≡ bytes → len ≤ length slice → value_at version form size slice ≡ Ok (v, drop len slice)

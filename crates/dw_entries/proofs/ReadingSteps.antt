@@ -31,17 +31,14 @@ after_err (Err c) f d e = let same : c ≡ d = cc in ap (λ (x : Failing). Err x
 
 pub attributes_cons : (t : Context) (f : AttributeSpec) (fs : List AttributeSpec) (bytes rest : List ℕ) → after (attribute_at t f bytes) ≡ Ok rest → after (attributes_at t (f ∷ fs) bytes) ≡ after (attributes_at t fs rest)
 unfolding attributes_at
-attributes_cons t f fs bytes rest e =
-    after_ok (attribute_at t f bytes) (λ p. attributes_at t fs p.1 >>= λ ps. Ok (p.0 ∷ ps.0, ps.1)) (λ b. after (attributes_at t fs b)) rest e (λ p. after_bind (attributes_at t fs p.1) (λ ps. p.0 ∷ ps))
+attributes_cons t f fs bytes rest e = search (rules, after_ok, after_bind)
 
 pub attributes_step : (t : Context) (f : AttributeSpec) (left fs : List AttributeSpec) (bytes rest : List ℕ) (total : Result (List ℕ) Failing) → left ≡ f ∷ fs → after (attribute_at t f bytes) ≡ Ok rest → after (attributes_at t left bytes) ≡ total → after (attributes_at t fs rest) ≡ total
-attributes_step t f left fs bytes rest total parts ok so_far =
-    sym (ap (λ (gs : List AttributeSpec). after (attributes_at t gs bytes)) parts ∙ attributes_cons t f fs bytes rest ok) ∙ so_far
+attributes_step t f left fs bytes rest total parts ok so_far = search (rules, attributes_cons)
 
 pub attributes_err : (t : Context) (f : AttributeSpec) (left fs : List AttributeSpec) (bytes : List ℕ) (failing : Failing) (total : Result (List ℕ) Failing) → left ≡ f ∷ fs → after (attribute_at t f bytes) ≡ Err failing → after (attributes_at t left bytes) ≡ total → total ≡ Err failing
 unfolding attributes_at
-attributes_err t f left fs bytes failing total parts err so_far =
-    sym so_far ∙ ap (λ (gs : List AttributeSpec). after (attributes_at t gs bytes)) parts ∙ after_err (attribute_at t f bytes) (λ p. attributes_at t fs p.1 >>= λ ps. Ok (p.0 ∷ ps.0, ps.1)) failing err
+attributes_err t f left fs bytes failing total parts err so_far = search (rules, after_err)
 
 pub attributes_end : (t : Context) (left : List AttributeSpec) (bytes : List ℕ) → left ≡ [] → after (attributes_at t left bytes) ≡ Ok bytes
 unfolding attributes_at

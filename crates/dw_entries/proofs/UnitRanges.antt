@@ -92,8 +92,7 @@ range_from unit id at (u ∷ us) (suc n) p k e is is_e low high =
 
 pub unit_in_range : (us : List DebugUnit) (n : ℕ) (p : PlacedUnit) (k : ℕ) (e : Entry) → slice_get (placed us) n ≡ Some p
     → slice_get (entries_of us) k ≡ Some e → p.first ≤ k → k < p.first + node_count p.unit.root → e.unit ≡ n
-unit_in_range us n p k e is is_e low high =
-    range_from 0 0 0 us n p k e is is_e (omega (arith, low)) (omega (arith, high)) ∙ (let z : 0 + n ≡ n = omega arith in z)
+unit_in_range us n p k e is is_e low high = search (rules, range_from)
 
 -- the next unit begins where a unit ends
 next_from : (at first : ℕ) (us : List DebugUnit) (n : ℕ) (p q : PlacedUnit) → slice_get (placed_from at first us) n ≡ Some p

@@ -10,20 +10,16 @@ use Rattle.dw_entries.proofs.AlongLaws.{along_few, along_end, first_fault, first
 use Rattle.dw_entries.proofs.walk.walk_tree.Goals as goal
 
 pub returns-in-Err-clause-fault : goal.returns-in-Err-clause-fault
-returns-in-Err-clause-fault c =
-    first_fault (context_in c.args.context) c.args.unit.header.kind c.args.unit.at c.args.start c.args.body.now c.in-Err.failing c.broken_at.result c.requires.start (seen_err (numbered_decl (numbers_in c.args.context)) (first_at (context_in c.args.context) c.args.unit.header.kind c.args.body.now) c.in-Err.failing c.in-Err.ensures) c.broken_at.ensures
+returns-in-Err-clause-fault c = search (rules, first_fault, seen_err)
 
 pub loop-unit-init : goal.loop-unit-init
-loop-unit-init c =
-    first_turn (context_in c.args.context) (numbers_in c.args.context) c.args.unit.header.kind c.args.start c.args.body.now c.args.records.now.items c.enter.new.records.items c.new-levels.result.items c.enter.new.levels.items (declared_view c.in-Ok.found.0) c.in-Ok.found.1.now c.in-Ok.ensures c.new-levels.ensures.items c.in_ok-enter.ensures
+loop-unit-init c = search (rules, first_turn)
 
 pub loop-unit-smaller : goal.loop-unit-smaller
-loop-unit-smaller c =
-    turn_shorter (λ i. step (numbers_in c.args.context) (c.args.start + (length c.args.body.now - length c.loop-unit.rest.now)) i (walk_of c.loop-unit.records.items c.loop-unit.levels.items)) (context_in c.args.context) c.loop-unit.rest.now (walk_of c.turn.new.records.items c.turn.new.levels.items) c.in-Ok-turn.after.now c.in-Ok-turn.ensures
+loop-unit-smaller c = search (rules, turn_shorter)
 
 pub loop-unit-preserved : goal.loop-unit-preserved
-loop-unit-preserved c =
-    next_turn (context_in c.args.context) (numbers_in c.args.context) c.args.unit.header.kind c.args.start c.args.body.now c.args.records.now.items c.loop-unit.rest.now c.loop-unit.records.items c.loop-unit.levels.items c.turn.new.records.items c.turn.new.levels.items c.in-Ok-turn.after.now c.loop-unit.invariant (some_from c.loop-unit.levels.items _ c.loop-unit.levels.ok.0 c.loop-unit-test.ensures) c.in-Ok-turn.ensures
+loop-unit-preserved c = search (rules, next_turn, some_from)
 
 pub returns-clause-tree : goal.returns-clause-tree
 returns-clause-tree c =

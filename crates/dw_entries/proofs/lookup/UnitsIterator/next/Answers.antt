@@ -1,3 +1,4 @@
+use Rattle.std.proofs.Common.{rules}
 use Rattle.std.proofs.Common.{arith}
 use Rattle.dw_entries.specs.Scanned.{units_of}
 use Rattle.dw_entries.proofs.UnitTurns.{unit_turn, fewer_units, no_units}
@@ -14,5 +15,4 @@ returns-then-self-unit_count-clause-goes c = record {
 }
 
 pub returns-else-self-unit_count-clause-steps : goal.returns-else-self-unit_count-clause-steps
-returns-else-self-unit_count-clause-steps c =
-    let none = no_units (units_of c.args.self.now.entries.now.scanned) c.args.self.now.number (omega arith) in (none, none)
+returns-else-self-unit_count-clause-steps c = search (rules, no_units)
