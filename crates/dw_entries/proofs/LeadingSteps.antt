@@ -32,6 +32,7 @@ use Rattle.dw_entries.specs.declared.values.Values.{Values}
 use Rattle.dw_entries.specs.Values.{value_context, Left, form_there}
 use Rattle.dw_entries.proofs.ChosenSteps.{front_passed, all_passed}
 use Rattle.dw_entries.proofs.PassLaws.{Passed, those}
+use Rattle.dw_entries.proofs.ScanLaws.{rest_of}
 use Rattle.dw_entries.proofs.ValueSteps.{left_goes, never_fails, next_left, read_on, steps}
 
 -- what was cut off
@@ -95,73 +96,64 @@ module _ (a : Attributes) (step : Step) (is : IsStep (numbered a) step) (there :
   pub parts_there : (g : GoesTo (nodes_of a) a.first step.to) (spec : AttributeSpec) (rest : Attributes) → Ends there rest (record { number = there.first; item = spec } ∷ []) → specs_in a ≡ items_of g.before ++ (spec ∷ specs_in rest)
   parts_there g spec rest ends = search (rules, items_append, specs_there, first_specs)
 
--- what is read from a slice
-pub read_here : (version size len : ℕ) (f form : Form) (bytes slice : List ℕ) (v : Datum) → f ≡ form → slice ≡ bytes → len ≤ length slice → value_at version form size slice ≡ Ok (v, drop len slice)
-    → value_at version f size bytes ≡ Ok (v, take (length slice - len) (drop len slice))
-read_here version size len f form bytes slice v same is within read = (λ i. value_at version (same i) size (sym is i)) ∙ read_on slice len (value_at version form size slice) within read
+-- ---- its value, which is read as one of this form from what is left of the bytes
 
-pub fails_here : (version size : ℕ) (f form : Form) (bytes slice : List ℕ) (fault : ValueFault) → f ≡ form → slice ≡ bytes → value_at version form size slice ≡ Err fault → value_at version f size bytes ≡ Err fault
-fails_here version size f form bytes slice fault same is read = (λ i. value_at version (same i) size (sym is i)) ∙ read
-
--- ---- its value
-
--- the attributes before the one that a step goes to, and how many bytes their values take
-pub record Before (v : Values) (skip : ℕ) (spec : AttributeSpec) (rest : List AttributeSpec) : Type 0 where
-  pub front : List (Numbered AttributeSpec)
-  pub parts : specs_in v.attributes ≡ items_of front ++ (spec ∷ rest)
-  pub none_leads : list_any does_lead (items_of front) ≡ false
-  pub none_varies : list_any varies (items_of front) ≡ false
-  pub skips : skip ≡ known_sum v.address_size (items_of front)
-
-pub before_step : (v : Values) (step : Step) (skip : ℕ) (is : IsStep (numbered v.attributes) step) (there : Attributes) (nodes_are : nodes_of there ≡ nodes_of v.attributes) (first_is : there.first ≡ step.to)
-    → ((v.address_size ≡ 8) × (skip ≡ step.skip_with_8)) ⊎ ((v.address_size ≡ 8 → ⊥) × (skip ≡ step.skip_with_4))
-    → (spec : AttributeSpec) (rest : Attributes) → Ends there rest (record { number = there.first; item = spec } ∷ []) → Before v skip spec (specs_in rest)
-before_step v step skip is there nodes_are first_is chosen spec rest ends =
-    let a = v.attributes in
-    let g = goes_there a step is there nodes_are first_is spec rest ends in
-    record {
-      front = g.before;
-      parts = parts_there a step is there nodes_are first_is g spec rest ends;
-      none_leads = g.none_leads;
-      none_varies = g.none_varies;
-      skips = skip_is (nodes_of a) a.lists.now.known a.first a.within step is v.address_size v.sized skip chosen ∙ g.skips v.address_size;
-    }
-
-module _ (v : Values) (skip : ℕ) (spec : AttributeSpec) (rest : List AttributeSpec) (b : Before v skip spec rest) where
+module _ (v : Values) (step : Step) (skip : ℕ) (is : IsStep (numbered v.attributes) step) (there : Attributes) (nodes_are : nodes_of there ≡ nodes_of v.attributes) (first_is : there.first ≡ step.to)
+    (chosen : ((v.address_size ≡ 8) × (skip ≡ step.skip_with_8)) ⊎ ((v.address_size ≡ 8 → ⊥) × (skip ≡ step.skip_with_4)))
+    (spec : AttributeSpec) (rest : Attributes) (ends : Ends there rest (record { number = there.first; item = spec } ∷ [])) (form : Form) (asked : form_there v.attributes step.to ≡ Some form) where
   -- what the values are read by
   abbrev x : Context
   x = value_context v.version v.address_size
 
-  here : Passed x (items_of b.front) (spec ∷ rest) v.left.0.0 v.left.0.1 v.bytes.now
-  here = those x (specs_in v.attributes) (items_of b.front) (spec ∷ rest) b.parts v.bytes.now v.left
+  g : GoesTo (nodes_of v.attributes) v.attributes.first step.to
+  g = goes_there v.attributes step is there nodes_are first_is spec rest ends
+
+  here : Passed x (items_of g.before) (spec ∷ specs_in rest) v.left.0.0 v.left.0.1 v.bytes.now
+  here = those x (specs_in v.attributes) (items_of g.before) (spec ∷ specs_in rest) (parts_there v.attributes step is there nodes_are first_is g spec rest ends) v.bytes.now v.left
+
+  skips : skip ≡ known_sum v.address_size (items_of g.before)
+  skips = skip_is (nodes_of v.attributes) v.attributes.lists.now.known v.attributes.first v.attributes.within step is v.address_size v.sized skip chosen ∙ g.skips v.address_size
 
   cut : (skip ≤ length v.bytes.now) × (here.behind ≡ drop skip v.bytes.now)
-  cut = cut_is skip v.bytes.now here.behind (ap (λ (n : ℕ). cut_at n v.bytes.now) b.skips ∙ sym (run v.version v.address_size b.front v.bytes.now b.none_varies) ∙ here.ends)
+  cut = cut_is skip v.bytes.now here.behind (ap (λ (n : ℕ). cut_at n v.bytes.now) skips ∙ sym (run v.version v.address_size g.before v.bytes.now g.none_varies) ∙ here.ends)
 
   pub skip_within : skip ≤ length v.bytes.now
   skip_within = cut.0
 
-  left : Left x (spec ∷ rest) (drop skip v.bytes.now)
-  left = ((here.others, v.left.0.1), record { are = here.are; spelled = sym cut.1 ∙ here.spelled })
+  abbrev slice : List ℕ
+  slice = take (length v.bytes.now - skip) (drop skip v.bytes.now)
 
-  pub allowed : is_allowed v.version spec.form ≡ true
-  allowed = (left_goes x (spec ∷ rest) spec rest (drop skip v.bytes.now) left refl).is.allowed
+  left : Left x (spec ∷ specs_in rest) slice
+  left = ((here.others, v.left.0.1), record { are = here.are; spelled = rest_of skip v.bytes.now cut.0 ∙ sym cut.1 ∙ here.spelled })
 
-  pub never : (f : ValueFault) → value_at v.version spec.form v.address_size (drop skip v.bytes.now) ≡ Err f → ⊥
-  never f read = never_fails x (spec ∷ rest) spec rest (drop skip v.bytes.now) left refl f read
+  same : spec.form ≡ form
+  same = form_is v.attributes step is there nodes_are first_is form spec rest asked ends
 
-  module _ (d : Datum) (after : List ℕ) (read : value_at v.version spec.form v.address_size (drop skip v.bytes.now) ≡ Ok (d, after)) where
-    pub left_behind : Left x rest after
-    left_behind = next_left x (spec ∷ rest) spec rest (drop skip v.bytes.now) left refl d after read
+  pub allowed : is_allowed v.version form ≡ true
+  allowed = rw same at (left_goes x (spec ∷ specs_in rest) spec (specs_in rest) slice left refl).is.allowed
 
-    pub found : (m : Left x rest after) → IsNextOf DoesNotLead (map value_of v.left.0.0) (spec.attribute, d) (map value_of m.0.0)
+  pub never : (f : ValueFault) → value_at v.version form v.address_size slice ≡ Err f → ⊥
+  never f read = never_fails x (spec ∷ specs_in rest) spec (specs_in rest) slice left refl f ((λ i. value_at v.version (same i) v.address_size slice) ∙ read)
+
+  module _ (d : Datum) (len : ℕ) (within : len ≤ length slice) (read : value_at v.version form v.address_size slice ≡ Ok (d, drop len slice)) where
+    abbrev after : List ℕ
+    after = take (length slice - len) (drop len slice)
+
+    found_there : value_at v.version spec.form v.address_size slice ≡ Ok (d, after)
+    found_there = (λ i. value_at v.version (same i) v.address_size slice) ∙ read_on slice len (value_at v.version form v.address_size slice) within read
+
+    pub left_behind : Left x (specs_in rest) after
+    left_behind = next_left x (spec ∷ specs_in rest) spec (specs_in rest) slice left refl d after found_there
+
+    pub found : (m : Left x (specs_in rest) after) → IsNextOf DoesNotLead (map value_of v.left.0.0) (spec.attribute, d) (map value_of m.0.0)
     unfolding here left
     found m =
         let values = map value_of v.left.0.0 in
-        let k = length (items_of b.front) in
-        let next = steps x (spec ∷ rest) spec rest (drop skip v.bytes.now) left refl d after read m in
+        let k = length (items_of g.before) in
+        let next = steps x (spec ∷ specs_in rest) spec (specs_in rest) slice left refl d after found_there m in
+        let parts = parts_there v.attributes step is there nodes_are first_is g spec rest ends in
         record {
           passed = take k values;
           parts = sym (take-append-drop k values) ∙ ap (λ (xs : List (ℕ × Datum)). take k values ++ xs) (sym here.values ∙ next);
-          are_passed = front_passed DoesNotLead x (items_of b.front) (spec ∷ rest) v.left.0.0 (subst (λ (ss : List AttributeSpec). AreAttributes x ss v.left.0.0) b.parts v.left.1.are) (lead_nowhere (items_of b.front) b.none_leads);
+          are_passed = front_passed DoesNotLead x (items_of g.before) (spec ∷ specs_in rest) v.left.0.0 (subst (λ (ss : List AttributeSpec). AreAttributes x ss v.left.0.0) parts v.left.1.are) (lead_nowhere (items_of g.before) g.none_leads);
         }
