@@ -1,9 +1,9 @@
 -- How deep an entry is: one deeper than its parent, which is an earlier entry.
 use Rattle.std.proofs.Common.{rules}
-use Rattle.std.proofs.Common.{◌≡◌, ℕ, zero, suc, ◌+◌, ◌-◌, ◌<◌, ◌≤◌, List, [], ◌∷◌, ◌++◌, length, Option, Some, None, refl, sym, ap, subst, ◌∙◌, inl, inr, arith}
+use Rattle.std.proofs.Common.{◌≡◌, ℕ, zero, suc, ◌+◌, ◌-◌, ◌<◌, ◌≤◌, List, [], ◌∷◌, ◌++◌, length, get_or, Option, Some, None, refl, sym, ap, subst, ◌∙◌, inl, inr, arith}
 use Rattle.std.specs.Prelude.{◌⊎◌, slice_get, IfSome}
 use Rattle.std.proofs.lemmas.Bool.{cases_lt}
-use Rattle.std.proofs.lemmas.Option.{slice_get_within}
+use Rattle.std.proofs.lemmas.Option.{slice_get_within, slice_get-get_or}
 use Rattle.dw_forms.specs.KeptDecls.{Tables}
 use Rattle.dw_entries.specs.declared.walk.Record.{Record}
 use Rattle.dw_entries.specs.declared.walk.UnitRecord.{UnitRecord}
@@ -215,36 +215,35 @@ module _ (a info : List ℕ) (tables : Tables) (rs : List UnitRecord) (records :
         let fewer = c.fewer in
         omega (arith, less, fewer)
 
-    pub climbs : (r : Record) → slice_get records p ≡ Some r → Climbs (entries_of (units_of s)) id (depth + 1) r.parent
-    climbs r read =
-        let (above, is, deeper, less) = one_deeper (units_of s) c.place p c.here c.is_here c.parent in
-        let sum = c.sum in
-        let fewer = c.fewer in
-        record {
-          start = c.start;
-          is_start = c.is_start;
-          place = p;
-          here = above;
-          is_here = is;
-          parent = sym (parent_kept p r above read is);
-          sum = omega (arith, sum, deeper);
-          fewer = omega (arith, fewer, less);
-        }
+    module _ (r : Record) (read : r ≡ get_or records p r) where
+      stands : slice_get records p ≡ Some r
+      stands = slice_get-get_or records p r above_within ∙ ap (λ (x : Record). Some x) (sym read)
 
-    pub lower : (r : Record) → slice_get records p ≡ Some r → height r.parent < suc p
-    lower r read =
-        let (above, is, deeper, less) = one_deeper (units_of s) c.place p c.here c.is_here c.parent in
-        go r.parent (sym (parent_kept p r above read is))
-      where
-        up : (q : ℕ) (above : Entry) → slice_get (entries_of (units_of s)) p ≡ Some above → above.parent ≡ Some q → q < p
-        up q above is under = let (more, at, deeper, less) = one_deeper (units_of s) p q above is under in less
+      pub climbs : Climbs (entries_of (units_of s)) id (depth + 1) r.parent
+      climbs =
+          let (above, is, deeper, less) = one_deeper (units_of s) c.place p c.here c.is_here c.parent in
+          let sum = c.sum in
+          let fewer = c.fewer in
+          record {
+            start = c.start;
+            is_start = c.is_start;
+            place = p;
+            here = above;
+            is_here = is;
+            parent = sym (parent_kept p r above stands is);
+            sum = omega (arith, sum, deeper);
+            fewer = omega (arith, fewer, less);
+          }
 
-        go : (o : Option ℕ) → (let d = one_deeper (units_of s) c.place p c.here c.is_here c.parent in d.0.parent ≡ o) → height o < suc p
-        go None at = omega arith
-        go (Some q) at =
-            let d = one_deeper (units_of s) c.place p c.here c.is_here c.parent in
-            let less = up q d.0 d.1 at in
-            omega (arith, less)
+      pub lower : height r.parent < suc p
+      lower = go r.parent refl
+        where
+          go : (o : Option ℕ) → r.parent ≡ o → height o < suc p
+          go None at = omega arith
+          go (Some q) at =
+              let (above, is, deeper, less) = one_deeper (units_of s) c.place p c.here c.is_here c.parent in
+              let (more, there, far, before) = one_deeper (units_of s) p q above is (sym (parent_kept p r above stands is) ∙ at) in
+              omega (arith, before)
 
   pub is_deep : (id depth : ℕ) → Climbs (entries_of (units_of s)) id depth None → IfSome (slice_get (entries_of (units_of s)) id) (λ e. depth ≡ e.depth)
   is_deep id depth c = search (rules, no_depth)

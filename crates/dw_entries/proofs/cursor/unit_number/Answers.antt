@@ -1,14 +1,10 @@
-use Rattle.std.proofs.Common.{List, sym, subst, arith}
-use Rattle.std.specs.List.Sorted.{IsNonDecreasingBy}
-use Rattle.dw_entries.specs.declared.walk.UnitRecord.{UnitRecord}
+use Rattle.std.proofs.Common.{arith}
 use Rattle.dw_entries.proofs.KeptLaws.{units_counted}
 use Rattle.dw_entries.proofs.UnitRanges.{units_rise, some_before, point_within, unit_found}
 use Rattle.dw_entries.proofs.cursor.unit_number.Goals as goal
 
 pub units_up_to-requires : goal.units_up_to-requires
-units_up_to-requires c =
-    let P : List UnitRecord → Type 0 = λ rs. IsNonDecreasingBy (λ (u : UnitRecord). u.first) rs in
-    subst P (sym c.deref.ensures.value) (units_rise _ _ _ _ _ c.args.entries.now.scanned)
+units_up_to-requires c = rw c.deref.ensures.value (units_rise _ _ _ _ _ c.args.entries.now.scanned)
 
 pub overflow_sub-result : goal.overflow_sub-result
 overflow_sub-result c =

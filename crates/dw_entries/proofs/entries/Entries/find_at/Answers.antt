@@ -1,23 +1,15 @@
-use Rattle.std.proofs.Common.{ℕ, List, sym, subst, ◌∙◌, arith}
-use Rattle.std.specs.List.Sorted.{IsNonDecreasingBy}
-use Rattle.dw_entries.specs.declared.walk.Record.{Record}
-use Rattle.dw_entries.specs.Entries.{entries_of}
-use Rattle.dw_entries.specs.Scanned.{units_of}
-use Rattle.dw_entries.specs.Runs.{IsEntryAt}
-use Rattle.dw_entries.proofs.FindLaws.{IsFirstFrom, records_rise, none_from_end, found_first, none_from}
+use Rattle.std.proofs.Common.{sym, ◌∙◌, arith}
+use Rattle.dw_entries.proofs.FindLaws.{records_rise, none_from_end, found_first, none_from}
 use Rattle.dw_entries.proofs.OrderLaws.{scanned_few}
 use Rattle.dw_entries.proofs.entries.Entries.find_at.Goals as goal
 
 pub first_from-number-requires : goal.first_from-number-requires
-first_from-number-requires c =
-    let P : List Record → Type 0 = λ rs. IsNonDecreasingBy (λ (r : Record). r.at) rs in
-    subst P (sym c.deref.ensures.value) (records_rise _ _ _ _ _ c.args.self.now.scanned)
+first_from-number-requires c = rw c.deref.ensures.value (records_rise _ _ _ _ _ c.args.self.now.scanned)
 
 pub returns-then-number-len-clause-none : goal.returns-then-number-len-clause-none
 returns-then-number-len-clause-none c =
-    let P : List Record → Type 0 = λ rs. IsFirstFrom rs c.args.offset c.first_from-number.result in
     none_from_end _ _ _ _ _ c.args.self.now.scanned c.first_from-number.result c.args.offset
-    (subst P c.deref.ensures.value c.first_from-number.ensures.first) (omega (arith, c.if-number-len.true, c.len.ensures))
+    (rw c.deref.ensures.value at c.first_from-number.ensures.first) (omega (arith, c.if-number-len.true, c.len.ensures))
 
 pub overflow_cast-number : goal.overflow_cast-number
 overflow_cast-number c =
@@ -26,16 +18,13 @@ overflow_cast-number c =
 
 pub returns-then-from-offset-clause-found : goal.returns-then-from-offset-clause-found
 returns-then-from-offset-clause-found c =
-    let P : List Record → Type 0 = λ rs. IsFirstFrom rs c.args.offset c.first_from-number.result in
-    let Q : ℕ → Type 0 = λ n. IsEntryAt (entries_of (units_of c.args.self.now.scanned)) c.args.offset n in
-    subst Q (sym c.new.ensures)
+    rw c.new.ensures
     (found_first _ _ _ _ _ c.args.self.now.scanned c.first_from-number.result c.args.offset
-    (subst P c.deref.ensures.value c.first_from-number.ensures.first) c.index.result.now
+    (rw c.deref.ensures.value at c.first_from-number.ensures.first) c.index.result.now
     (omega (arith, c.if-number-len.false, c.len.ensures)) c.index.ensures (sym c.from.ensures ∙ c.if-from-offset.true))
 
 pub returns-else-from-offset-clause-none : goal.returns-else-from-offset-clause-none
 returns-else-from-offset-clause-none c =
-    let P : List Record → Type 0 = λ rs. IsFirstFrom rs c.args.offset c.first_from-number.result in
     none_from _ _ _ _ _ c.args.self.now.scanned c.first_from-number.result c.args.offset
-    (subst P c.deref.ensures.value c.first_from-number.ensures.first) c.index.result.now
+    (rw c.deref.ensures.value at c.first_from-number.ensures.first) c.index.result.now
     (omega (arith, c.if-number-len.false, c.len.ensures)) c.index.ensures (λ same. c.if-from-offset.false (c.from.ensures ∙ same))
