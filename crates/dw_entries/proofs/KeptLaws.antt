@@ -1,10 +1,10 @@
 -- What is kept of an entry and of its unit, and what is in .debug_info where they point.
 use Rattle.std.proofs.Common.{rules}
-use Rattle.std.proofs.Common.{◌≡◌, ℕ, zero, suc, ◌-◌, ◌<◌, ◌≤◌, List, [], ◌∷◌, ◌++◌, length, take, drop, get_or, Option, Some, None, Ok, Err, false, refl, sym, ap, subst, ◌∙◌, arith}
+use Rattle.std.proofs.Common.{◌≡◌, ℕ, zero, suc, ◌-◌, ◌<◌, ◌≤◌, List, [], ◌∷◌, ◌++◌, length, take, drop, get_or, Option, Some, None, Ok, Err, false, refl, sym, ap, subst, ◌∙◌, inl, inr, arith}
 use Rattle.std.specs.Prelude.{slice_get, IfSome, IsSomeAnd}
 use Rattle.std.specs.List.{AllZip, flat_map}
 use Rattle.std.proofs.lemmas.List.{length-map}
-use Rattle.std.proofs.lemmas.Option.{slice_get_within, slice_get-get_or, get_or_from_slice_get}
+use Rattle.std.proofs.lemmas.Option.{slice_get_within, slice_get_cases, get_or_from_slice_get}
 use Rattle.std.proofs.lemmas.Slice.Zip.{AllZip-right, AllZip-long}
 use Rattle.dw_forms.specs.declared.decl.Decls.{Decls}
 use Rattle.dw_forms.specs.declared.attribute_lists.Node.{Node}
@@ -16,7 +16,6 @@ use Rattle.dw_forms.proofs.ChainLaws.{item_some, item_within}
 use Rattle.dw_forms.proofs.KeptLaws.{own_numbers, numbers_find}
 use Rattle.dw_forms.proofs.SpecLaws.{decl_specs}
 use Rattle.dw_entries.specs.declared.fault.Failing.{Failing}
-use Rattle.dw_entries.specs.declared.header.HeaderKind.TheVariants.{Version4}
 use Rattle.dw_entries.specs.declared.header.UnitHeader.{UnitHeader}
 use Rattle.dw_entries.specs.declared.header.UnitType.{UnitType}
 use Rattle.dw_entries.specs.declared.lookup.UnitHead.{UnitHead}
@@ -24,7 +23,6 @@ use Rattle.dw_entries.specs.declared.walk.Record.{Record}
 use Rattle.dw_entries.specs.declared.walk.UnitRecord.{UnitRecord}
 use Rattle.dw_entries.specs.Grammar.{declared_in, attribute_bytes, Head, head_bytes}
 use Rattle.dw_entries.specs.Header.{type_of}
-use Rattle.dw_entries.specs.Tree.{leaf}
 use Rattle.dw_entries.specs.Reading.{seen, code_at}
 use Rattle.dw_entries.specs.ReadingLaws.{ok_pair}
 use Rattle.dw_entries.specs.Units.{DebugUnit, head_of}
@@ -69,29 +67,24 @@ pub record KeptEntry (a info : List ℕ) (tables : Tables) (rs : List UnitRecord
 
 pub kept_entry : (a info : List ℕ) (tables : Tables) (rs : List UnitRecord) (records : List Record) (s : Scanned a info tables rs records) (id : ℕ)
     → id < length (entries_of (units_of s)) → KeptEntry a info tables rs records s id
-kept_entry a info tables rs records s id within = by_cases (slice_get (entries_of (units_of s)) id) refl
-  where
-    by_entry : (e : Entry) → slice_get (entries_of (units_of s)) id ≡ Some e → KeptEntry a info tables rs records s id
-    by_entry e is =
-        let stands = head_stands a info (units_of s) id e s.1.spells is in
-        let (p, is_p, same) = placed_get 0 0 (units_of s) e.unit stands.unit stands.is_unit in
-        let (r, is_r, kept) = unit_kept tables rs (placed (units_of s)) s.1.kept e.unit p is_p in
-        record {
-          entry = e;
-          is_entry = is;
-          is_record = ap (λ (xs : List Record). slice_get xs id) s.1.entries ∙ kept_get (numbers_of tables rs) (units_of s) id e is;
-          stands = stands;
-          unit_record = r;
-          is_unit_record = is_r;
-          header = kept.header ∙ ap (λ (u : DebugUnit). u.header) same;
-          table = kept.table ∙ ap (λ (u : DebugUnit). u.table) same;
-        }
-
-    by_cases : (o : Option Entry) → slice_get (entries_of (units_of s)) id ≡ o → KeptEntry a info tables rs records s id
-    by_cases (Some e) is = by_entry e is
-    by_cases None is =
-        let some = slice_get-get_or (entries_of (units_of s)) id (record { at = 0; unit = 0; parent = None; depth = 0; next = None; head = record { decl = record { code = 0; tag = 0; has_children = false; attributes = [] }; code = []; attributes = [] } }) within in
-        absurd cc
+kept_entry a info tables rs records s id within = elim (slice_get_cases (entries_of (units_of s)) id).1 [
+  | inr past ↦ absurd (omega (arith, past.0, within))
+  | inl it ↦
+      let e : Entry = it.0 in
+      let stands = head_stands a info (units_of s) id e s.1.spells it.2 in
+      let (p, is_p, same) = placed_get 0 0 (units_of s) e.unit stands.unit stands.is_unit in
+      let (r, is_r, kept) = unit_kept tables rs (placed (units_of s)) s.1.kept e.unit p is_p in
+      record {
+        entry = e;
+        is_entry = it.2;
+        is_record = ap (λ (xs : List Record). slice_get xs id) s.1.entries ∙ kept_get (numbers_of tables rs) (units_of s) id e it.2;
+        stands = stands;
+        unit_record = r;
+        is_unit_record = is_r;
+        header = kept.header ∙ ap (λ (u : DebugUnit). u.header) same;
+        table = kept.table ∙ ap (λ (u : DebugUnit). u.table) same;
+      }
+]
 
 -- an element that was read is the one that is there
 pub read_is : {A : Type 0} (xs : List A) (k : ℕ) (x y : A) → slice_get xs k ≡ Some x → y ≡ get_or xs k y → y ≡ x
@@ -197,18 +190,12 @@ pub record KeptUnit (a info : List ℕ) (tables : Tables) (rs : List UnitRecord)
   pub first : HasFirst (entries_of (units_of s)) place.first number place
 
 pub kept_unit : (a info : List ℕ) (tables : Tables) (rs : List UnitRecord) (records : List Record) (s : Scanned a info tables rs records) (number : ℕ) → number < length (units_of s) → KeptUnit a info tables rs records s number
-kept_unit a info tables rs records s number within = by_cases (slice_get (placed (units_of s)) number) refl
-  where
-    any : PlacedUnit
-    any = record { at = 0; first = 0; unit = record { header = record { unit_length = 0; kind = Version4; address_size = 0; abbrev_offset = 0 }; table = []; root = leaf (record { decl = record { code = 0; tag = 0; has_children = false; attributes = [] }; code = []; attributes = [] }); nulls = [] } }
-
-    by_cases : (o : Option PlacedUnit) → slice_get (placed (units_of s)) number ≡ o → KeptUnit a info tables rs records s number
-    by_cases (Some p) is =
-        let (r, is_r, kept) = unit_kept tables rs (placed (units_of s)) s.1.kept number p is in
-        record { place = p; is_place = is; unit_record = r; is_unit_record = is_r; kept = kept; first = first_entry (units_of s) number p is }
-    by_cases None is =
-        let some = slice_get-get_or (placed (units_of s)) number any (omega (arith, within, length-placed_from 0 0 (units_of s))) in
-        absurd cc
+kept_unit a info tables rs records s number within = elim (slice_get_cases (placed (units_of s)) number).1 [
+  | inr past ↦ absurd (omega (arith, past.0, within, length-placed_from 0 0 (units_of s)))
+  | inl it ↦
+      let (r, is_r, kept) = unit_kept tables rs (placed (units_of s)) s.1.kept number it.0 it.2 in
+      record { place = it.0; is_place = it.2; unit_record = r; is_unit_record = is_r; kept = kept; first = first_entry (units_of s) number it.0 it.2 }
+]
 
 abbrev told : ℕ → UnitHeader → UnitType → ℕ → UnitHead
 told offset header unit_type first = record { offset = offset; header = header; unit_type = unit_type; first = first }
@@ -218,7 +205,7 @@ module _ {a info : List ℕ} {tables : Tables} {rs : List UnitRecord} {records :
   number_within = slice_get_within rs number k.unit_record k.is_unit_record
 
   module _ (u : UnitRecord) (read : u ≡ get_or rs number u) where
-    kept_is : IsKept tables u k.place
+    pub kept_is : IsKept tables u k.place
     kept_is = let P : UnitRecord → Type 0 = λ q. IsKept tables q k.place in subst P (sym (read_is rs number k.unit_record u k.is_unit_record read)) k.kept
 
     first_is : slice_get (entries_of (units_of s)) u.first ≡ Some k.first.entry

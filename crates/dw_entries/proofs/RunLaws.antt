@@ -11,12 +11,7 @@ use Rattle.dw_entries.specs.Runs.{IsEntryAt, IsEntryIn, ReachesInUnit}
 use Rattle.dw_entries.specs.Asked.{OffsetsRise}
 use Rattle.dw_entries.proofs.NumberOrder.{three_ways}
 use Rattle.dw_entries.proofs.HeadLaws.{head_stands, stands_within}
-use Rattle.dw_entries.proofs.KeptLaws.{KeptUnit, one_some, read_is}
-
--- the record of a unit that was read is the one that is kept of it
-pub record_kept : (a info : List ℕ) (tables : Tables) (rs : List UnitRecord) (records : List Record) (s : Scanned a info tables rs records) (number : ℕ) (k : KeptUnit a info tables rs records s number) (u : UnitRecord)
-    → u ≡ get_or rs number u → IsKept tables u k.place
-record_kept a info tables rs records s number k u read = let P : UnitRecord → Type 0 = λ q. IsKept tables q k.place in subst P (sym (read_is rs number k.unit_record u k.is_unit_record read)) k.kept
+use Rattle.dw_entries.proofs.KeptLaws.{KeptUnit, kept_is, one_some}
 
 -- ---- the entry of a unit at an offset
 
@@ -45,13 +40,13 @@ pub never_there : (a info : List ℕ) (tables : Tables) (rs : List UnitRecord) (
     → u ≡ get_or rs number u → at ≡ offset + u.at → ((id : ℕ) → IsEntryAt (entries_of (units_of s)) at id → ⊥)
     → (j : ℕ) → ReachesInUnit (entries_of (units_of s)) (placed (units_of s)) number offset j → ⊥
 never_there a info tables rs records s number offset at k u read sum nowhere j reached =
-    let place = (record_kept a info tables rs records s number k u read).at in
+    let place = (kept_is k u read).at in
     nowhere j (in_is_at (entries_of (units_of s)) number at j (reached_at (entries_of (units_of s)) (placed (units_of s)) number offset at j k.place k.is_place (omega (arith, sum, place)) reached))
 
 pub never_far : (a info : List ℕ) (tables : Tables) (rs : List UnitRecord) (records : List Record) (s : Scanned a info tables rs records) (number offset : ℕ) (k : KeptUnit a info tables rs records s number) (u : UnitRecord)
     → u ≡ get_or rs number u → length info < 2 ^ 64 → 2 ^ 64 ≤ offset + u.at → (j : ℕ) → ReachesInUnit (entries_of (units_of s)) (placed (units_of s)) number offset j → ⊥
 never_far a info tables rs records s number offset k u read few far j reached =
-    let place = (record_kept a info tables rs records s number k u read).at in
+    let place = (kept_is k u read).at in
     let inside = reached_at (entries_of (units_of s)) (placed (units_of s)) number offset (offset + k.place.at) j k.place k.is_place refl reached in
     let at = inside.begins in
     let stands = stands_within (units_of s) info inside.entry (head_stands a info (units_of s) j inside.entry s.1.spells inside.is_entry) in

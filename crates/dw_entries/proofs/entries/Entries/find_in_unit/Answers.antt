@@ -3,9 +3,9 @@ use Rattle.std.proofs.Common.{arith, sym, ◌∙◌, ◌≡◌}
 use Rattle.std.proofs.lemmas.Option.{slice_get_within}
 use Rattle.dw_entries.specs.Entries.{entries_of, placed}
 use Rattle.dw_entries.specs.Scanned.{units_of}
-use Rattle.dw_entries.proofs.KeptLaws.{kept_unit, units_counted}
+use Rattle.dw_entries.proofs.KeptLaws.{kept_is, kept_unit, units_counted}
 use Rattle.dw_entries.proofs.EntryFacts.{entries_rise}
-use Rattle.dw_entries.proofs.RunLaws.{record_kept, reaches, never_other, never_there, never_far}
+use Rattle.dw_entries.proofs.RunLaws.{reaches, never_other, never_there, never_far}
 use Rattle.dw_entries.proofs.entries.Entries.find_in_unit.Goals as goal
 
 pub index-requires : goal.index-requires
@@ -28,7 +28,7 @@ pub returns-then-unit_of-unit-clause-found : goal.returns-then-unit_of-unit-clau
 returns-then-unit_of-unit-clause-found c =
     let found = c.in-Some-find_at.ensures.found in
     let kept = kept_unit _ _ _ _ _ c.args.self.now.scanned c.args.unit c.requires in
-    let place = (record_kept _ _ _ _ _ c.args.self.now.scanned c.args.unit kept c.index.result.now c.index.ensures).at in
+    let place = (kept_is kept c.index.result.now c.index.ensures).at in
     let same : c.unit_of.result ≡ found.entry.unit = rw found.is_entry at c.unit_of.ensures in
     reaches (entries_of (units_of c.args.self.now.scanned)) (placed (units_of c.args.self.now.scanned)) c.args.unit c.args.offset c.in-Some.at c.in-Some-find_at.id kept.place found.entry kept.is_place
     (omega (arith, place, c.in-Some.ensures.1)) found found.is_entry (sym same ∙ c.if-unit_of-unit.true)
@@ -37,7 +37,7 @@ pub returns-else-unit_of-unit-clause-none : goal.returns-else-unit_of-unit-claus
 returns-else-unit_of-unit-clause-none c =
     let found = c.in-Some-find_at.ensures.found in
     let kept = kept_unit _ _ _ _ _ c.args.self.now.scanned c.args.unit c.requires in
-    let place = (record_kept _ _ _ _ _ c.args.self.now.scanned c.args.unit kept c.index.result.now c.index.ensures).at in
+    let place = (kept_is kept c.index.result.now c.index.ensures).at in
     let same : c.unit_of.result ≡ found.entry.unit = rw found.is_entry at c.unit_of.ensures in
     never_other (entries_of (units_of c.args.self.now.scanned)) (placed (units_of c.args.self.now.scanned)) c.args.unit c.args.offset c.in-Some.at c.in-Some-find_at.id kept.place found.entry
     (entries_rise _ (units_of c.args.self.now.scanned) c.args.self.now.scanned.1.spells.are) kept.is_place (omega (arith, place, c.in-Some.ensures.1)) found found.is_entry
