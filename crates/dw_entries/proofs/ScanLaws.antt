@@ -51,20 +51,13 @@ records_same : (f g : ℕ → ℕ → ℕ) (unit id at : ℕ) (us : List DebugUn
 records_same f g unit id at [] same = refl
 records_same f g unit id at (u ∷ us) same =
     let rest = records_same f g (suc unit) (id + node_count u.root) (at + length (unit_bytes u)) us (λ n less. same n (omega (arith, less))) in
-    ap (λ (h : ℕ → ℕ). node_records h None None id (at + header_size u.header.kind) u.root ++ records_from f (suc unit) (id + node_count u.root) (at + length (unit_bytes u)) us) (same unit (omega arith))
-    ∙ ap (λ (rs : List Record). node_records (g unit) None None id (at + header_size u.header.kind) u.root ++ rs) rest
+    λ i. node_records (same unit (omega arith) i) None None id (at + header_size u.header.kind) u.root ++ rest i
 
 units_bytes-push : (us : List DebugUnit) (u : DebugUnit) → units_bytes (us ++ u ∷ []) ≡ units_bytes us ++ unit_bytes u
 units_bytes-push us u = flat_map-append unit_bytes us (u ∷ []) ∙ ap (λ (b : List ℕ). units_bytes us ++ b) (append-nil (unit_bytes u))
 
 IsKept-more : (old new : Tables) (r : UnitRecord) (p : PlacedUnit) → Stay old new → IsKept old r p → IsKept new r p
 IsKept-more old new r p stay k = search (rules, length-append, table_stays)
-
-AllKept-more : (old new : Tables) (rs : List UnitRecord) (ps : List PlacedUnit) → Stay old new → AllZip (IsKept old) rs ps → AllZip (IsKept new) rs ps
-AllKept-more old new [] [] stay k = tt
-AllKept-more old new [] (p ∷ ps) stay k = k
-AllKept-more old new (r ∷ rs) [] stay k = k
-AllKept-more old new (r ∷ rs) (p ∷ ps) stay k = (IsKept-more old new r p stay k.0, AllKept-more old new rs ps stay k.1)
 
 -- the numbers of the units so far stay, and the next unit has those of its table
 table_within : (tables : Tables) (rs : List UnitRecord) (ps : List PlacedUnit) (n : ℕ) → AllZip (IsKept tables) rs ps → n < length rs → table_of rs n < length tables
@@ -89,11 +82,12 @@ numbers_stay old new rs ps r n stay k less = search (rules, table_stays, table_w
 numbers_last : (tables : Tables) (rs : List UnitRecord) (r : UnitRecord) (n : ℕ) → n ≡ length rs → number_in (chain_in tables r.table) ≡ numbers_of tables (rs ++ r ∷ []) n
 numbers_last tables rs r n e = ap (λ (t : ℕ). number_in (chain_in tables t)) (sym (ap (table_of (rs ++ r ∷ [])) e ∙ table_of-last rs r))
 
-AllKept-push : (tables : Tables) (rs : List UnitRecord) (ps : List PlacedUnit) (r : UnitRecord) (p : PlacedUnit) → AllZip (IsKept tables) rs ps → IsKept tables r p → AllZip (IsKept tables) (rs ++ r ∷ []) (ps ++ p ∷ [])
-AllKept-push tables [] [] r p k one = (one, tt)
-AllKept-push tables [] (q ∷ ps) r p k one = absurd k
-AllKept-push tables (s ∷ rs) [] r p k one = absurd k
-AllKept-push tables (s ∷ rs) (q ∷ ps) r p k one = (k.0, AllKept-push tables rs ps r p k.1 one)
+AllKept-push : (old new : Tables) (rs : List UnitRecord) (ps : List PlacedUnit) (r : UnitRecord) (p : PlacedUnit) → Stay old new → AllZip (IsKept old) rs ps → IsKept new r p
+    → AllZip (IsKept new) (rs ++ r ∷ []) (ps ++ p ∷ [])
+AllKept-push old new [] [] r p stay k one = (one, tt)
+AllKept-push old new [] (q ∷ ps) r p stay k one = absurd k
+AllKept-push old new (s ∷ rs) [] r p stay k one = absurd k
+AllKept-push old new (s ∷ rs) (q ∷ ps) r p stay k one = (IsKept-more old new s q stay k.0, AllKept-push old new rs ps r p stay k.1 one)
 
 abbrev placed_at : ℕ → ℕ → DebugUnit → PlacedUnit
 placed_at at first u = record { at = at; first = first; unit = u }
@@ -135,7 +129,7 @@ upto_next a info header old new len u t =
       at = omega (arith, u.at, t.len_is, ap length (units_bytes-push u.units v), length-append (units_bytes u.units) (unit_bytes v));
       count = omega (arith, ap length t.units, length-append old.units.items (t.record_is ∷ []), u.count, length-append u.units (v ∷ []));
       unit_records = rw (t.units, placed_from-push numbers 0 0 0 u.units v, ← at, ← id)
-          (AllKept-push tables old.units.items (placed u.units) t.record_is (placed_at header (length records) v) (AllKept-more (tables_in old.tables) tables old.units.items (placed u.units) t.stay u.unit_records) t.kept);
+          (AllKept-push (tables_in old.tables) tables old.units.items (placed u.units) t.record_is (placed_at header (length records) v) t.stay u.unit_records t.kept);
       tables = t.tables;
       places = rw t.units (t.records
           ∙ ap (λ (f : ℕ → ℕ). records ++ node_records f None None (length records) (header + size) v.root) (numbers_last tables old.units.items t.record_is unit refl)
