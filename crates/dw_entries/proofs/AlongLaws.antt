@@ -51,11 +51,11 @@ step_depth numbers at i rs [] more = absurd (more refl)
 step_depth numbers at (null z) rs (l ∷ ls) more = refl
 step_depth numbers at (entry h) rs (l ∷ ls) more = ap (λ (d : ℕ). Some d) (sym (length-open_list h.decl.has_children (length rs) (record { parent = l.parent; last = Some (length rs) } ∷ ls)))
 
-walk_along-push : (numbers : ℕ → ℕ) (at : ℕ) (is : List Item) (i : Item) (w : Walk) → walk_along numbers at (is ++ i ∷ []) w ≡ step numbers (at + length (items_bytes is)) i (walk_along numbers at is w)
-walk_along-push numbers at [] i w = let e : at ≡ at + 0 = omega arith in ap (λ (o : ℕ). step numbers o i w) e
-walk_along-push numbers at (j ∷ is) i w =
-    let e : (at + length (item_bytes j)) + length (items_bytes is) ≡ at + length (items_bytes (j ∷ is)) = omega (arith, length-append (item_bytes j) (items_bytes is)) in
-    walk_along-push numbers (at + length (item_bytes j)) is i (step numbers at j w) ∙ ap (λ (o : ℕ). step numbers o i (walk_along numbers (at + length (item_bytes j)) is (step numbers at j w))) e
+walk_along-append : (numbers : ℕ → ℕ) (at : ℕ) (is js : List Item) (w : Walk) → walk_along numbers at (is ++ js) w ≡ walk_along numbers (at + length (items_bytes is)) js (walk_along numbers at is w)
+walk_along-append numbers at [] js w = let e : at ≡ at + 0 = omega arith in ap (λ (o : ℕ). walk_along numbers o js w) e
+walk_along-append numbers at (i ∷ is) js w =
+    let e : (at + length (item_bytes i)) + length (items_bytes is) ≡ at + length (items_bytes (i ∷ is)) = omega (arith, length-append (item_bytes i) (items_bytes is)) in
+    walk_along-append numbers (at + length (item_bytes i)) is js (step numbers at i w) ∙ ap (λ (o : ℕ). walk_along numbers o js (walk_along numbers (at + length (item_bytes i)) is (step numbers at i w))) e
 
 -- how many bytes the items so far took
 pub taken : (t : Context) (numbers : ℕ → ℕ) (kind : HeaderKind) (at : ℕ) (body : List ℕ) (old : List Record) (rest : List ℕ) (w : Walk) (a : Along t numbers kind at body old rest w) → length (items_bytes (entry a.first ∷ a.others)) ≡ length body - length rest
@@ -75,7 +75,7 @@ along_next t numbers kind at body old rest w v i after a more read e =
       first = a.first;
       others = a.others ++ i ∷ [];
       front = record { are = AreItems-append t is (i ∷ []) a.front.are (took.1, tt); fits = a.front.fits; at_depth = deep; parts = spelled };
-      walked = walk_along-push numbers at is i (record { records = old; levels = [] }) ∙ ap (λ (k : ℕ). step numbers k i (walk_along numbers at is (record { records = old; levels = [] }))) o ∙ ap (step numbers (at + (length body - length rest)) i) a.walked ∙ e;
+      walked = walk_along-append numbers at is (i ∷ []) (record { records = old; levels = [] }) ∙ ap (λ (k : ℕ). step numbers k i (walk_along numbers at is (record { records = old; levels = [] }))) o ∙ ap (step numbers (at + (length body - length rest)) i) a.walked ∙ e;
     }
 
 head_is : (n : Node) (zs : List (List ℕ)) (h : Head) (is : List Item) → node_items n ++ map null zs ≡ entry h ∷ is → head_of n ≡ h
@@ -84,12 +84,6 @@ head_is (parent k ns z) zs h is e = let same : entry k ≡ entry h = cc in cc
 
 abbrev walk : List Record → List Level → Walk
 walk rs ls = record { records = rs; levels = ls }
-
-walk_along-append : (numbers : ℕ → ℕ) (at : ℕ) (is js : List Item) (w : Walk) → walk_along numbers at (is ++ js) w ≡ walk_along numbers (at + length (items_bytes is)) js (walk_along numbers at is w)
-walk_along-append numbers at [] js w = let e : at ≡ at + 0 = omega arith in ap (λ (o : ℕ). walk_along numbers o js w) e
-walk_along-append numbers at (i ∷ is) js w =
-    let e : (at + length (item_bytes i)) + length (items_bytes is) ≡ at + length (items_bytes (i ∷ is)) = omega (arith, length-append (item_bytes i) (items_bytes is)) in
-    walk_along-append numbers (at + length (item_bytes i)) is js (step numbers at i w) ∙ ap (λ (o : ℕ). walk_along numbers o js (walk_along numbers (at + length (item_bytes i)) is (step numbers at i w))) e
 
 along_nulls : (numbers : ℕ → ℕ) (at : ℕ) (zs : List (List ℕ)) (rs : List Record) → walk_along numbers at (map null zs) (record { records = rs; levels = [] }) ≡ record { records = rs; levels = [] }
 along_nulls numbers at [] rs = refl
@@ -165,23 +159,19 @@ step_levels : (numbers : ℕ → ℕ) (at : ℕ) (i : Item) (w : Walk) → lengt
 step_levels numbers at (null z) w = let few = leave_few w.levels in omega (arith, few)
 step_levels numbers at (entry h) w = search (rules, open_list_few)
 
-walk_records : (t : Context) (numbers : ℕ → ℕ) (at : ℕ) (is : List Item) (w : Walk) → AreItems t is → length (walk_along numbers at is w).records ≤ length w.records + length (items_bytes is)
-walk_records t numbers at [] w p = omega arith
-walk_records t numbers at (i ∷ is) w p =
-    let more = walk_records t numbers (at + length (item_bytes i)) is (step numbers at i w) p.1 in
-    omega (arith, more, step_records numbers at i w, item_some t i p.0, length-append (item_bytes i) (items_bytes is))
-
-walk_levels : (t : Context) (numbers : ℕ → ℕ) (at : ℕ) (is : List Item) (w : Walk) → AreItems t is → length (walk_along numbers at is w).levels ≤ length w.levels + length (items_bytes is)
-walk_levels t numbers at [] w p = omega arith
-walk_levels t numbers at (i ∷ is) w p =
-    let more = walk_levels t numbers (at + length (item_bytes i)) is (step numbers at i w) p.1 in
-    omega (arith, more, step_levels numbers at i w, item_some t i p.0, length-append (item_bytes i) (items_bytes is))
+walk_few : (t : Context) (numbers : ℕ → ℕ) (at : ℕ) (is : List Item) (w : Walk) → AreItems t is
+    → (length (walk_along numbers at is w).records ≤ length w.records + length (items_bytes is)) × (length (walk_along numbers at is w).levels ≤ length w.levels + length (items_bytes is))
+walk_few t numbers at [] w p = (omega arith, omega arith)
+walk_few t numbers at (i ∷ is) w p =
+    let (rs, ls) = walk_few t numbers (at + length (item_bytes i)) is (step numbers at i w) p.1 in
+    let some = item_some t i p.0 in
+    let bytes = length-append (item_bytes i) (items_bytes is) in
+    (omega (arith, rs, step_records numbers at i w, some, bytes), omega (arith, ls, step_levels numbers at i w, some, bytes))
 
 pub along_few : (t : Context) (numbers : ℕ → ℕ) (kind : HeaderKind) (at : ℕ) (body : List ℕ) (old : List Record) (rest : List ℕ) (records : List Record) (levels : List Level) → Along t numbers kind at body old rest (walk_of records levels)
     → (length records ≤ length old + (length body - length rest)) × (length levels ≤ length body - length rest)
 along_few t numbers kind at body old rest records levels a =
     let is : List Item = entry a.first ∷ a.others in
     let bytes = taken t numbers kind at body old rest (walk_of records levels) a in
-    let r = walk_records t numbers at is (walk old []) a.front.are in
-    let l = walk_levels t numbers at is (walk old []) a.front.are in
+    let (r, l) = walk_few t numbers at is (walk old []) a.front.are in
     (omega (arith, bytes, r, ap (λ (w : Walk). length w.records) a.walked), omega (arith, bytes, l, ap (λ (w : Walk). length w.levels) a.walked, length-reverse levels))
