@@ -88,9 +88,7 @@ impl Entries<'_> {
         note_all(&mut blocks, &self.records);
         Ok(Hints { blocks })
     }
-}
 
-impl Entries<'_> {
     /// The entry with this number.
     #[inline(always)]
     pub fn id(&self, number: usize) -> EntryId

@@ -150,14 +150,6 @@ impl<'e, 'a> EntryAt<'e, 'a> {
         id_of(self.kept.parent)
     }
 
-    /// Its declaration.
-    #[inline(always)]
-    pub(crate) fn decl(&self) -> Decl<'e>
-        ensures { IfSome self.now (λ e. decl_view result ≡ e.head.decl) }
-    {
-        self.decl
-    }
-
     /// What is told of the entry besides its attributes and its depth.
     #[inline(always)]
     pub fn head(&self) -> EntryHead

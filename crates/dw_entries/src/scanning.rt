@@ -1,6 +1,6 @@
 //! The scan of .debug_info, unit by unit.
 
-ghost use Rattle.std.specs.Prelude.{◌≡◌, ◌≤◌, length, OnOk, IfOk, IfErr, Some, option_map, IfSome, List};
+ghost use Rattle.std.specs.Prelude.{◌≡◌, ◌≤◌, length, OnOk, IfOk, IfErr, None, Some, option_map, List};
 ghost use Rattle.dw_elf.specs.declared.TheConstants.{SECTION_LIMIT};
 ghost use Rattle.dw_forms.specs.AbbrevReading.{table_at};
 ghost use Rattle.dw_forms.specs.AbbrevTables.{tables_in, AreTablesOf, AreSearchable};
@@ -9,6 +9,7 @@ ghost use Rattle.dw_forms.specs.KeptDecls.{view};
 ghost use Rattle.dw_forms.specs.Suffixes.{specs_in};
 ghost use Rattle.dw_forms.specs.ValueReading.{Gives};
 ghost use Rattle.dw_entries.specs.Faults.{rule_of, Fails};
+ghost use Rattle.dw_entries.specs.declared.fault.Rule.TheVariants.{UndeclaredCode};
 ghost use Rattle.dw_forms.specs.Stops.{IfFault};
 ghost use Rattle.dw_entries.specs.Stopped.{BreaksBy, IfPlainFault};
 ghost use Rattle.dw_entries.specs.Grammar.{declared_in};
@@ -195,13 +196,18 @@ fn skip_attributes<'b>(
 /// The declaration with this code.
 #[inline(always)]
 #[tactic(auto, unfolding(crate::specs::Grammar::declared_in))]
-fn find_decl(context: UnitContext<'_>, code: u64) -> Option<Declared<'_>>
-    ensures decl { option_map (λ d. view d.decl) result ≡ declared_in (context_in context.entry).table code }
-    ensures number { IfSome result (λ d. d.number ≡ numbers_in context.entry (view d.decl).code) }
+fn find_decl(context: UnitContext<'_>, code: u64) -> Result<Declared<'_>, Failing>
+    ensures found { IfOk result (λ d. Some (view d.decl) ≡ declared_in (context_in context.entry).table code) }
+    ensures number { IfOk result (λ d. d.number ≡ numbers_in context.entry (view d.decl).code) }
+    ensures none { IfErr result (λ f. None ≡ declared_in (context_in context.entry).table code) }
+    ensures rule { IfErr result (λ f. f ≡ record { rule = UndeclaredCode; attribute = 0 }) }
 {
     match context.tables.get(context.table, code) {
-        None => None,
-        Some((number, decl)) => Some(Declared { number, decl }),
+        Some((number, decl)) => Ok(Declared { number, decl }),
+        None => Err(Failing {
+            rule: Rule::UndeclaredCode,
+            attribute: 0,
+        }),
     }
 }
 
@@ -219,16 +225,9 @@ pub fn read_item<'a, 'b>(
     if code == 0 {
         return Ok((None, rest));
     }
-    match find_decl(context, code) {
-        None => Err(Failing {
-            rule: Rule::UndeclaredCode,
-            attribute: 0,
-        }),
-        Some(declared) => {
-            let rest = skip_attributes(context, declared.decl, rest)?;
-            Ok((Some(declared), rest))
-        }
-    }
+    let declared = find_decl(context, code)?;
+    let rest = skip_attributes(context, declared.decl, rest)?;
+    Ok((Some(declared), rest))
 }
 
 /// The first entry of a unit, and the bytes after it.
@@ -252,22 +251,15 @@ pub fn read_first<'a, 'b>(
     if code == 0 {
         return Err(missing);
     }
-    match find_decl(context, code) {
-        None => Err(Failing {
-            rule: Rule::UndeclaredCode,
+    let declared = find_decl(context, code)?;
+    if !kind.fits(declared.decl.tag()) {
+        return Err(Failing {
+            rule: Rule::WrongUnitTag,
             attribute: 0,
-        }),
-        Some(declared) => {
-            if !kind.fits(declared.decl.tag()) {
-                return Err(Failing {
-                    rule: Rule::WrongUnitTag,
-                    attribute: 0,
-                });
-            }
-            let rest = skip_attributes(context, declared.decl, rest)?;
-            Ok((declared, rest))
-        }
+        });
     }
+    let rest = skip_attributes(context, declared.decl, rest)?;
+    Ok((declared, rest))
 }
 
 /// What is kept of the units that .debug_info is.

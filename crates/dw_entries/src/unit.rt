@@ -1,31 +1,19 @@
 //! One unit: its header, its table, its tree and nulls.
 
-ghost use Rattle.std.specs.Prelude.{◌≡◌, ◌+◌, ◌≤◌, length, IfOk, IfErr};
+ghost use Rattle.std.specs.Prelude.{◌+◌, ◌≤◌, length, IfOk, IfErr};
 ghost use Rattle.dw_elf.specs.declared.TheConstants.{SECTION_LIMIT};
 ghost use Rattle.dw_forms.specs.AbbrevTables.{AreTablesOf};
-ghost use Rattle.dw_entries.specs.Faults.{in_header, FailsHere};
+ghost use Rattle.dw_entries.specs.Faults.{FailsHere};
 ghost use Rattle.dw_forms.specs.Stops.{IfFault};
 ghost use Rattle.dw_entries.specs.Stopped.{UnitTaken};
 
 use crate::context::UnitContext;
-use crate::fault::{Broken, Rule, Section};
+use crate::fault::{Broken, Section};
 use crate::header::read_header;
 use crate::scanning::unit_table;
 use crate::walk::{Kept, UnitRecord, walk_unit};
 use dw_forms::Stop;
 use std::alloc::Global;
-
-/// The fault of a header at this offset.
-fn in_header(rule: Rule, at: u32) -> Broken
-    ensures { result ≡ in_header rule at }
-{
-    Broken {
-        rule,
-        section: Section::Info,
-        at,
-        attribute: 0,
-    }
-}
 
 /// Takes the unit at the front of the rest of .debug_info, which is at `at`, and says how long it is.
 pub fn take_unit(
@@ -45,7 +33,14 @@ pub fn take_unit(
     let at = at as u32;
     let (header, body) = match read_header(section.len(), rest) {
         Ok(found) => found,
-        Err(rule) => return Err(Stop::Fault(in_header(rule, at))),
+        Err(rule) => {
+            return Err(Stop::Fault(Broken {
+                rule,
+                section: Section::Info,
+                at,
+                attribute: 0,
+            }));
+        }
     };
     let table = unit_table(alloc, &mut kept.tables, section, header.abbrev_offset)?;
     let record = UnitRecord {
@@ -54,7 +49,12 @@ pub fn take_unit(
         table,
         first: kept.records.len() as u32,
     };
-    let context = UnitContext::new(&header, &kept.tables, table);
+    let context = UnitContext {
+        tables: &kept.tables,
+        table,
+        address_size: header.address_size,
+        version: header.kind.version(),
+    };
     walk_unit(alloc, context, record, body, &mut kept.records)?;
     kept.units.push(record)?;
     Ok(4 + header.unit_length as usize)
