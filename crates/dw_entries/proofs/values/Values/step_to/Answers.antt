@@ -10,14 +10,20 @@ unreachable-requires c =
     some_form c.args.self.now.attributes c.args.step c.requires.step there.result there.ensures.nodes there.ensures.first c.args.form c.requires.form c.in_default.ensures
 
 pub slice_bounds-bytes-count : goal.slice_bounds-bytes-count
-slice_bounds-bytes-count c = omega (arith, skip_within c.args.self.now c.args.step c.if-self-eq8.skip c.requires.step c.stepped-there.result c.stepped-there.ensures.nodes c.stepped-there.ensures.first
-    (elim c.if-self-eq8.branch [ then-self-eq8 w ↦ inl (w.if-self-eq8.true, w.skip-is) | else-self-eq8 w ↦ inr (w.if-self-eq8.false, w.skip-is) ])
-    c.in-Some.spec c.in-Some.rest c.in-Some.ensures.0 c.args.form c.requires.form)
+slice_bounds-bytes-count c = omega (
+  arith,
+  skip_within c.args.self.now c.args.step c.if-self-eq8.skip c.requires.step c.stepped-there.result c.stepped-there.ensures.nodes c.stepped-there.ensures.first
+      (elim c.if-self-eq8.branch [ then-self-eq8 w ↦ inl (w.if-self-eq8.true, w.skip-is) | else-self-eq8 w ↦ inr (w.if-self-eq8.false, w.skip-is) ])
+      c.in-Some.spec c.in-Some.rest c.in-Some.ensures.0 c.args.form c.requires.form,
+)
 
 pub slice_bounds-bytes-start : goal.slice_bounds-bytes-start
-slice_bounds-bytes-start c = omega (arith, skip_within c.args.self.now c.args.step c.if-self-eq8.skip c.requires.step c.stepped-there.result c.stepped-there.ensures.nodes c.stepped-there.ensures.first
-    (elim c.if-self-eq8.branch [ then-self-eq8 w ↦ inl (w.if-self-eq8.true, w.skip-is) | else-self-eq8 w ↦ inr (w.if-self-eq8.false, w.skip-is) ])
-    c.in-Some.spec c.in-Some.rest c.in-Some.ensures.0 c.args.form c.requires.form)
+slice_bounds-bytes-start c = omega (
+  arith,
+  skip_within c.args.self.now c.args.step c.if-self-eq8.skip c.requires.step c.stepped-there.result c.stepped-there.ensures.nodes c.stepped-there.ensures.first
+      (elim c.if-self-eq8.branch [ then-self-eq8 w ↦ inl (w.if-self-eq8.true, w.skip-is) | else-self-eq8 w ↦ inr (w.if-self-eq8.false, w.skip-is) ])
+      c.in-Some.spec c.in-Some.rest c.in-Some.ensures.0 c.args.form c.requires.form,
+)
 
 pub read_value-requires-clause-allowed : goal.read_value-requires-clause-allowed
 read_value-requires-clause-allowed c = search (allowed c.args.self.now c.args.step c.if-self-eq8.skip c.requires.step c.stepped-there.result c.stepped-there.ensures.nodes c.stepped-there.ensures.first
