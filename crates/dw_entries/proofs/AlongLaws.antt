@@ -12,7 +12,7 @@ use Rattle.dw_entries.specs.Header.{fits_tag, header_size}
 use Rattle.dw_entries.specs.declared.fault.Failing.{Failing}
 use Rattle.dw_entries.specs.Grammar.{Context, Head, head_bytes}
 use Rattle.dw_entries.specs.Tree.{Node, node_bytes, leaf, parent}
-use Rattle.dw_entries.specs.Items.{Item, entry, null, AreItems, numbered_decl, item_bytes, items_bytes, node_items, depth_along, root_depth, tree_depth}
+use Rattle.dw_entries.specs.Items.{IsItem, Item, entry, null, AreItems, numbered_decl, item_bytes, items_bytes, node_items, depth_along, root_depth, tree_depth}
 use Rattle.dw_entries.specs.Reading.{seen, item_at, first_at}
 use Rattle.dw_entries.specs.Units.{nulls_bytes, head_of}
 use Rattle.dw_entries.specs.Faults.{Front, in_unit, BodyFails}
@@ -20,7 +20,8 @@ use Rattle.dw_entries.specs.Walk.{Walk, walk_of, open_list, enter, leave, step, 
 use Rattle.dw_entries.specs.Stopped.{TreeOf}
 use Rattle.dw_entries.specs.Records.{node_records}
 use Rattle.dw_entries.specs.ReadingLaws.{item_some, item_takes, first_takes, seen_ok, seen_entry, item_shorter}
-use Rattle.dw_entries.proofs.ItemLaws.{items_bytes-append, AreItems-append, node_of, node_spelled, nulls_spelled, depth_along-append}
+use Rattle.dw_entries.proofs.HeadLaws.{all-append}
+use Rattle.dw_entries.proofs.ItemLaws.{items_bytes-append, node_of, node_spelled, nulls_spelled, depth_along-append}
 use Rattle.dw_entries.proofs.WalkLaws.{length-link_last, along_root}
 
 -- some items of a tree were taken, and this is what is left and what was made of them
@@ -74,7 +75,7 @@ along_next t numbers kind at body old rest w v i after a more read e =
     record {
       first = a.first;
       others = a.others ++ i ∷ [];
-      front = record { are = AreItems-append t is (i ∷ []) a.front.are (took.1, tt); fits = a.front.fits; at_depth = deep; parts = spelled };
+      front = record { are = all-append (IsItem t) is (i ∷ []) a.front.are (took.1, tt); fits = a.front.fits; at_depth = deep; parts = spelled };
       walked = walk_along-append numbers at is (i ∷ []) (record { records = old; levels = [] }) ∙ ap (λ (k : ℕ). step numbers k i (walk_along numbers at is (record { records = old; levels = [] }))) o ∙ ap (step numbers (at + (length body - length rest)) i) a.walked ∙ e;
     }
 

@@ -6,7 +6,7 @@ use Rattle.dw_entries.specs.declared.fault.Broken.{Broken}
 use Rattle.dw_entries.specs.declared.header.HeaderKind.{HeaderKind}
 use Rattle.dw_entries.specs.Grammar.{Context}
 use Rattle.dw_entries.specs.Header.{fits_tag}
-use Rattle.dw_entries.specs.Tree.{Node, leaf, parent, IsNode, node_bytes}
+use Rattle.dw_entries.specs.Tree.{Node, IsNode, node_bytes}
 use Rattle.dw_entries.specs.Items.{Item, entry, null, item_bytes, IsItem, AreItems, items_bytes, node_items, tree_depth}
 use Rattle.dw_entries.specs.Reading.{code_at, next_at, null_first}
 use Rattle.dw_entries.specs.Units.{DebugUnit, head_of, nulls_bytes, AreNulls, unit_bytes, IsUnit, AreUnits, units_bytes, Spells}
@@ -14,7 +14,9 @@ use Rattle.dw_entries.specs.Faults.{FitsUnit, Stops, BodyFails, FailsHere, Fails
 use Rattle.dw_entries.specs.Joined.{begins, append-is-nil}
 use Rattle.dw_entries.specs.ReadingLaws.{code_again, item_some, item_again, item_unique, first_again}
 use Rattle.dw_entries.specs.UnitLaws.{unit_header, units_begin}
-use Rattle.dw_entries.proofs.ItemLaws.{items_bytes-append, AreItems-append, node_spelled, node_are_items, nulls_are_items, nulls_spelled, whole_depth, nothing_after}
+use Rattle.dw_entries.proofs.HeadLaws.{all-append}
+use Rattle.dw_entries.proofs.NullLaws.{fits_node}
+use Rattle.dw_entries.proofs.ItemLaws.{items_bytes-append, node_spelled, node_are_items, nulls_are_items, nulls_spelled, whole_depth, nothing_after}
 
 -- ---- the row of items in a body
 
@@ -32,10 +34,6 @@ stops_there t kind is rest zero f (null z) js after d depth stops p fits deep e 
     absurd (true≢false (sym read ∙ stops.1))
 stops_there t kind is rest (suc k) f i js after d depth stops p fits deep e = search (rules, next_again)
 
-node_fits : (kind : HeaderKind) (n : Node) (zs : List (List ℕ)) → fits_tag kind (head_of n).decl.tag ≡ true → FitsUnit kind (node_items n ++ map null zs)
-node_fits kind (leaf h) zs e = e
-node_fits kind (parent h ns z) zs e = e
-
 no_items : (t : Context) (is : List Item) (rest : List ℕ) → AreItems t is → [] ≡ items_bytes is ++ rest → is ≡ []
 no_items t [] rest p e = refl
 no_items t (i ∷ is) rest p e = absurd (omega (arith, ap length e, item_some t i p.0, length-append (item_bytes i ++ items_bytes is) rest, length-append (item_bytes i) (items_bytes is)))
@@ -43,7 +41,7 @@ no_items t (i ∷ is) rest p e = absurd (omega (arith, ap length e, item_some t 
 -- a body that spells a node and nulls has no fault
 pub node_or_fault : (t : Context) (kind : HeaderKind) (header : ℕ) (n : Node) (zs : List (List ℕ)) (f : Broken) → IsNode t n → AreNulls zs → fits_tag kind (head_of n).decl.tag ≡ true → BodyFails t kind header (node_bytes n ++ nulls_bytes zs) f → ⊥
 node_or_fault t kind header n zs f p nulls tag b =
-    elim (begins item_bytes (IsItem t) (item_unique t) b.items whole b.rest [] b.front.are (AreItems-append t (node_items n) (map null zs) (node_are_items t n p) (nulls_are_items t zs nulls)) (sym b.front.parts ∙ sym (append-nil (items_bytes whole) ∙ spelled))) [
+    elim (begins item_bytes (IsItem t) (item_unique t) b.items whole b.rest [] b.front.are (all-append (IsItem t) (node_items n) (map null zs) (node_are_items t n p) (nulls_are_items t zs nulls)) (sym b.front.parts ∙ sym (append-nil (items_bytes whole) ∙ spelled))) [
       | inl g ↦ inside g.more g.are g.items g.rest
       | inr g ↦ inside [] tt (sym (g.items ∙ ap (λ (js : List Item). whole ++ js) (none_more g.more g.are g.rest) ∙ append-nil whole) ∙ sym (append-nil b.items)) (sym (g.rest ∙ ap (λ (js : List Item). items_bytes js ++ b.rest) (none_more g.more g.are g.rest)))
     ]
@@ -55,7 +53,7 @@ node_or_fault t kind header n zs f p nulls tag b =
     spelled = items_bytes-append (node_items n) (map null zs) ∙ ap (λ (x : List ℕ). x ++ items_bytes (map null zs)) (node_spelled n) ∙ ap (λ (x : List ℕ). node_bytes n ++ x) (nulls_spelled zs)
 
     fits : FitsUnit kind (node_items n ++ map null zs)
-    fits = node_fits kind n zs tag
+    fits = fits_node kind n (map null zs) tag
 
     none_more : (more : List Item) → AreItems t more → [] ≡ items_bytes more ++ b.rest → more ≡ []
     none_more more are e = no_items t more b.rest are e

@@ -28,14 +28,13 @@ before_le a b (at_attribute p j) (at_header q) at_p at_q before = absurd at_q
 before_le a b (at_attribute p j) (at_entry q) at_p at_q before = omega arith
 before_le a b (at_attribute p j) (at_attribute q k) at_p at_q before = search (rules)
 
+at_offset : (a : ℕ) (p : Place) → IsAt a p → offset_of p ≡ a
+at_offset a (at_header p) at = absurd at
+at_offset a (at_entry p) at = at
+at_offset a (at_attribute p k) at = at
+
 same_place : (a b : ℕ) (p q : Place) → IsAt a p → IsAt b q → p ≡ q → a ≤ b
-same_place a b (at_header p) q at_p at_q same = absurd at_p
-same_place a b (at_entry p) (at_header q) at_p at_q same = absurd at_q
-same_place a b (at_entry p) (at_entry q) at_p at_q same = let e : p ≡ q = ap offset_of same in omega arith
-same_place a b (at_entry p) (at_attribute q k) at_p at_q same = let e : p ≡ q = ap offset_of same in omega arith
-same_place a b (at_attribute p j) (at_header q) at_p at_q same = absurd at_q
-same_place a b (at_attribute p j) (at_entry q) at_p at_q same = let e : p ≡ q = ap offset_of same in omega arith
-same_place a b (at_attribute p j) (at_attribute q k) at_p at_q same = let e : p ≡ q = ap offset_of same in omega arith
+same_place a b p q at_p at_q same = omega (arith, sym (at_offset a p at_p) ∙ ap offset_of same ∙ at_offset b q at_q)
 
 precedes_le : (a b : ℕ) (f g : Failure) → IsAt a f.place → IsAt b g.place → Precedes f g → a ≤ b
 precedes_le a b f g at_f at_g precedes = search (rules, before_le, same_place)

@@ -6,16 +6,17 @@ use Rattle.dw_entries.specs.declared.walk.Record.{Record}
 use Rattle.dw_entries.specs.declared.header.HeaderKind.{HeaderKind}
 use Rattle.dw_entries.specs.declared.fault.Rule.TheVariants.{LeftOver}
 use Rattle.dw_entries.specs.declared.fault.Failing.{Failing}
-use Rattle.dw_entries.specs.Grammar.{Context}
+use Rattle.dw_entries.specs.Grammar.{Context, IsNull}
 use Rattle.dw_entries.specs.Header.{fits_tag, header_size}
 use Rattle.dw_entries.specs.Tree.{Node, leaf, parent, node_bytes}
-use Rattle.dw_entries.specs.Items.{Item, null, items_bytes, node_items}
+use Rattle.dw_entries.specs.Items.{IsItem, Item, null, items_bytes, node_items}
 use Rattle.dw_entries.specs.Reading.{Code, seen, code_at}
 use Rattle.dw_entries.specs.Units.{AreNulls, nulls_bytes, head_of}
 use Rattle.dw_entries.specs.Faults.{FitsUnit, in_unit, BodyFails}
 use Rattle.dw_entries.specs.Stopped.{TreeOf, AreAllNulls, NullsThen}
 use Rattle.dw_entries.specs.ReadingLaws.{code_takes, code_some, seen_ok}
-use Rattle.dw_entries.proofs.ItemLaws.{items_bytes-append, AreItems-append, node_are_items, node_spelled, nulls_are_items, nulls_spelled, whole_depth}
+use Rattle.dw_entries.proofs.HeadLaws.{all-append}
+use Rattle.dw_entries.proofs.ItemLaws.{items_bytes-append, node_are_items, node_spelled, nulls_are_items, nulls_spelled, whole_depth}
 
 -- some nulls were taken, and this is what is left
 pub record NullsTo (bytes rest : List ℕ) : Type 0 where
@@ -23,21 +24,14 @@ pub record NullsTo (bytes rest : List ℕ) : Type 0 where
   pub are : AreNulls nulls
   pub parts : bytes ≡ nulls_bytes nulls ++ rest
 
-nulls_bytes-append : (zs ws : List (List ℕ)) → nulls_bytes (zs ++ ws) ≡ nulls_bytes zs ++ nulls_bytes ws
-nulls_bytes-append zs ws = flat_map-append (λ (z : List ℕ). z) zs ws
-
-AreNulls-append : (zs ws : List (List ℕ)) → AreNulls zs → AreNulls ws → AreNulls (zs ++ ws)
-AreNulls-append [] ws p q = q
-AreNulls-append (z ∷ zs) ws p q = (p.0, AreNulls-append zs ws p.1 q)
-
 pub nulls_next : (bytes rest after : List ℕ) → NullsTo bytes rest → seen (λ c. c.number) (code_at rest) ≡ Ok (0, after) → NullsTo bytes after
 nulls_next bytes rest after n e =
     let (c, was, zero_code) = seen_ok (λ (c : Code). c.number) (code_at rest) 0 after e in
     let took = code_takes rest c after was in
     record {
       nulls = n.nulls ++ c.bytes ∷ [];
-      are = AreNulls-append n.nulls (c.bytes ∷ []) n.are (rw zero_code at took.1, tt);
-      parts = n.parts ∙ ap (λ (b : List ℕ). nulls_bytes n.nulls ++ b) (took.0 ∙ ap (λ (b : List ℕ). b ++ after) (sym (append-nil c.bytes))) ∙ sym (append_assoc (nulls_bytes n.nulls) (c.bytes ++ []) after) ∙ ap (λ (b : List ℕ). b ++ after) (sym (nulls_bytes-append n.nulls (c.bytes ∷ [])));
+      are = all-append IsNull n.nulls (c.bytes ∷ []) n.are (rw zero_code at took.1, tt);
+      parts = n.parts ∙ ap (λ (b : List ℕ). nulls_bytes n.nulls ++ b) (took.0 ∙ ap (λ (b : List ℕ). b ++ after) (sym (append-nil c.bytes))) ∙ sym (append_assoc (nulls_bytes n.nulls) (c.bytes ++ []) after) ∙ ap (λ (b : List ℕ). b ++ after) (sym (flat_map-append (λ (z : List ℕ). z) n.nulls (c.bytes ∷ [])));
     }
 
 pub null_shorter : (rest after : List ℕ) → seen (λ c. c.number) (code_at rest) ≡ Ok (0, after) → length after < length rest
@@ -49,7 +43,7 @@ null_shorter rest after e =
 -- ---- the tree and the nulls
 
 together : (body tree rest : List ℕ) (zs ws : List (List ℕ)) (left : List ℕ) → body ≡ (tree ++ nulls_bytes zs) ++ rest → rest ≡ nulls_bytes ws ++ left → body ≡ (tree ++ nulls_bytes (zs ++ ws)) ++ left
-together body tree rest zs ws left p q = search (rules, append_assoc, nulls_bytes-append)
+together body tree rest zs ws left p q = search (rules, append_assoc, flat_map-append)
 
 pub tree_end : (t : Context) (numbers : ℕ → ℕ) (kind : HeaderKind) (body rest : List ℕ) (at : ℕ) (old new : List Record) → TreeOf t numbers kind body rest at old new → AreAllNulls rest → TreeOf t numbers kind body [] at old new
 tree_end t numbers kind body rest at old new tree (zs, are, parts) = record {
@@ -57,12 +51,12 @@ tree_end t numbers kind body rest at old new tree (zs, are, parts) = record {
   is = tree.is;
   tag = tree.tag;
   nulls = tree.nulls ++ zs;
-  are_nulls = AreNulls-append tree.nulls zs tree.are_nulls are;
+  are_nulls = all-append IsNull tree.nulls zs tree.are_nulls are;
   parts = together body (node_bytes tree.root) rest tree.nulls zs [] tree.parts (parts ∙ sym (append-nil (nulls_bytes zs)));
   records = tree.records;
 }
 
-fits_node : (kind : HeaderKind) (n : Node) (is : List Item) → fits_tag kind (head_of n).decl.tag ≡ true → FitsUnit kind (node_items n ++ is)
+pub fits_node : (kind : HeaderKind) (n : Node) (is : List Item) → fits_tag kind (head_of n).decl.tag ≡ true → FitsUnit kind (node_items n ++ is)
 fits_node kind (leaf h) is e = e
 fits_node kind (parent h ns z) is e = e
 
@@ -82,7 +76,7 @@ left_over t numbers kind header start body rest left old new s tree then =
       depth = 0;
       failing = f;
       front = record {
-        are = AreItems-append t (node_items tree.root) (map null zs) (node_are_items t tree.root tree.is) (nulls_are_items t zs (AreNulls-append tree.nulls then.nulls tree.are_nulls then.are));
+        are = all-append (IsItem t) (node_items tree.root) (map null zs) (node_are_items t tree.root tree.is) (nulls_are_items t zs (all-append IsNull tree.nulls then.nulls tree.are_nulls then.are));
         fits = fits_node kind tree.root (map null zs) tree.tag;
         at_depth = whole_depth t tree.root zs tree.is;
         parts = parts;

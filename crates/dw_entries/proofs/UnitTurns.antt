@@ -1,22 +1,18 @@
 -- One unit of those that are left.
-use Rattle.std.proofs.Common.{◌≡◌, ℕ, zero, suc, ◌+◌, ◌<◌, ◌≤◌, List, [], ◌∷◌, length, map, drop, Option, Some, None, inl, inr, refl, sym, ap, ◌∙◌, arith, length-drop, add-one, drop-cons}
+use Rattle.std.proofs.Common.{rules}
+use Rattle.std.proofs.Common.{◌≡◌, ℕ, ◌+◌, ◌<◌, ◌≤◌, List, [], ◌∷◌, length, map, drop, ap, arith, length-drop, add-one, drop-cons}
 use Rattle.std.specs.Prelude.{slice_get, IfSome}
 use Rattle.std.proofs.lemmas.List.{nil_from_length}
 use Rattle.std.proofs.lemmas.Option.{slice_get_cases}
 use Rattle.dw_entries.specs.declared.lookup.UnitHead.{UnitHead}
 use Rattle.dw_entries.specs.Units.{DebugUnit}
-use Rattle.dw_entries.specs.Entries.{PlacedUnit, placed}
+use Rattle.dw_entries.specs.Entries.{placed}
 use Rattle.dw_entries.specs.Lookups.{unit_head}
 use Rattle.dw_entries.proofs.EntryFacts.{length-placed_from}
 
 pub unit_turn : (us : List DebugUnit) (n : ℕ) (h : UnitHead) → n < length us → IfSome (slice_get (placed us) n) (λ p. h ≡ unit_head p)
     → map unit_head (drop n (placed us)) ≡ h ∷ map unit_head (drop (n + 1) (placed us))
-unit_turn us n h within told = elim (slice_get_cases (placed us) n).1 [
-  | inr past ↦ absurd (omega (arith, past.0, within, length-placed_from 0 0 us))
-  | inl it ↦
-      let same = rw it.2 at told in
-      rw (add-one, same) (ap (map unit_head) (drop-cons (placed us) n it.0 it.1 ∙ ap (λ z. z ∷ drop (suc n) (placed us)) it.3))
-]
+unit_turn us n h within told = search (rules, slice_get_cases, length-placed_from, add-one, drop-cons)
 
 pub fewer_units : (us : List DebugUnit) (n : ℕ) (h : UnitHead) → n < length us → IfSome (slice_get (placed us) n) (λ p. h ≡ unit_head p)
     → length (map unit_head (drop (n + 1) (placed us))) < length (map unit_head (drop n (placed us)))

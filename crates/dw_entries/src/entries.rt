@@ -65,18 +65,6 @@ impl Hints {
     }
 }
 
-/// Notes where records start.
-fn note_all(blocks: &mut Vec<Hint>, records: &[Record])
-    requires { length records.now < 2 ^ 32 }
-{
-    for number in 0..records.len() {
-        let at = records[number].at as usize;
-        if at / BLOCK < blocks.len() {
-            blocks[at / BLOCK].note(at, number as u32);
-        }
-    }
-}
-
 impl Entries<'_> {
     /// Hints at where entries start.
     pub fn hints(&self, alloc: Global) -> Result<Hints, AllocError> {
@@ -85,7 +73,12 @@ impl Entries<'_> {
             first: 0,
             starts: 0
         }; count]?;
-        note_all(&mut blocks, &self.records);
+        for number in 0..self.records.len() {
+            let at = self.records[number].at as usize;
+            if at / BLOCK < blocks.len() {
+                blocks[at / BLOCK].note(at, number as u32);
+            }
+        }
         Ok(Hints { blocks })
     }
 

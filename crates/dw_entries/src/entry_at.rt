@@ -220,7 +220,7 @@ impl<'e, 'a> EntryAt<'e, 'a> {
         if attributes.lacks(attribute) {
             return None;
         }
-        self.values_in(attributes).value(attribute)
+        self.values().value(attribute)
     }
 
     /// Where the text that is the value of its attribute starts, from the first byte of the entry. The text is in the

@@ -1,10 +1,7 @@
 use Rattle.std.proofs.Common.{rules}
-use Rattle.std.proofs.Common.{◌≡◌, ◌+◌, ◌-◌, length, [], ap, reverse}
+use Rattle.std.proofs.Common.{◌≡◌, [], ap, reverse}
 use Rattle.dw_entries.specs.Units.{context_in, numbers_in}
-use Rattle.dw_entries.specs.Reading.{first_at}
-use Rattle.dw_entries.specs.NamedDecls.{declared_view}
-use Rattle.dw_entries.specs.Walk.{step, walk_of}
-use Rattle.dw_entries.specs.Items.{numbered_decl}
+use Rattle.dw_entries.specs.Walk.{walk_of}
 use Rattle.dw_entries.specs.ReadingLaws.{seen_err}
 use Rattle.dw_entries.proofs.AlongLaws.{along_few, along_end, first_fault, first_turn, next_turn, turn_shorter, some_from, none_from}
 use Rattle.dw_entries.proofs.walk.walk_tree.Goals as goal

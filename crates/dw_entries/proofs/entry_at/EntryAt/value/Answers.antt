@@ -18,15 +18,9 @@ returns-then-lacks c =
     let specs = specs_here kept (decl_view it.decl) (specs_in all.result) c.self.invariant.2 all.ensures.specs in
     rw (← c.self.view_is) (undeclared kept (specs_in all.result) c.args.attribute specs (declares_none (specs_in all.result) c.args.attribute (rw c.if-lacks.true at c.lacks.ensures)))
 
-pub values_in-requires : goal.values_in-requires
-values_in-requires c =
-    let it = c.self.inside in
-    let all = c.attributes-attributes in
-    rw (← c.self.view_is) (specs_here (kept_entry _ _ _ _ _ it.entries.now.scanned it.id c.self.invariant.0) (decl_view it.decl) (specs_in all.result) c.self.invariant.2 all.ensures.specs)
-
 pub returns : goal.returns
 returns c =
     let it = c.self.inside in
     let kept = kept_entry _ _ _ _ _ it.entries.now.scanned it.id c.self.invariant.0 in
-    let left = from_entry kept (λ e. values_left c.values_in.result ≡ values_of e.head) (rw (← c.self.view_is) at c.values_in.ensures.left) in
+    let left = from_entry kept (λ e. values_left c.values.result ≡ values_of e.head) (rw (← c.self.view_is) at c.values.ensures) in
     rw (← c.self.view_is) (of_entry kept (λ e. option_map view c.value.result ≡ value_at_entry e c.args.attribute) (c.value.ensures ∙ ap (λ vs. value_in vs c.args.attribute) left))

@@ -1,6 +1,4 @@
 use Rattle.std.proofs.Common.{rules}
-use Rattle.dw_forms.specs.KeptDecls.{view as decl_view}
-use Rattle.dw_forms.specs.Suffixes.{specs_in}
 use Rattle.dw_entries.proofs.KeptLaws.{kept_entry}
 use Rattle.dw_entries.proofs.LeftLaws.{specs_here}
 use Rattle.dw_entries.proofs.entry_at.EntryAt.values.Goals as goal
