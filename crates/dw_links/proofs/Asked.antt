@@ -1,4 +1,5 @@
 -- Which rule on strings, addresses and references has the least number of those that fail.
+use Rattle.std.proofs.Common.{rules}
 use Rattle.std.proofs.Common.{◌≡◌, ℕ, false, Option, Some, None, refl, ◌<◌, true, List, sym, ap, ◌∙◌, arith, subst, inl, inr}
 use Rattle.std.specs.Prelude.{is_some, slice_get, IsSome}
 use Rattle.dw_forms.specs.Value.{Datum, ref_sig}
@@ -34,22 +35,11 @@ not_unsigned entries units unit (ref_sig s) id reaches none = let found = at_typ
 not_unsigned entries units unit _ id reaches none = none
 
 pub not_wrong : (entries : List Entry) (head : EntryHead) (a : ℕ) (v : Datum) (id : ℕ) (target : Entry) → slice_get entries id ≡ Some target → permits_form head a v ≡ true → permits head a target ≡ true → IsWrongKind entries head a v (Some id) → ⊥
-not_wrong entries head a v id target is form right wrong =
-    elim wrong [
-      | inl w ↦ let both : true ≡ false = sym form ∙ w in cc
-      | inr w ↦
-          let same : id ≡ w.id = same_some (Some id) id w.id refl w.reaches in
-          let P : ℕ → Type 0 = λ i. slice_get entries i ≡ Some w.target in
-          let one = same_some (slice_get entries id) w.target target (subst P (sym same) w.is_target) is in
-          let Q : Entry → Type 0 = λ e. permits head a e ≡ false in
-          let both : true ≡ false = sym right ∙ subst Q one w.wrong in cc
-    ]
+not_wrong entries head a v id target is form right wrong = search (rules, same_some)
 
 -- R3
 pub right_sibling : (next reached : Option ℕ) (id : ℕ) → reached ≡ Some id → next ≡ Some id → IsOtherThan next reached → ⊥
-right_sibling next reached id reaches is other =
-    let o = subst (λ (x : Option ℕ). IsOtherThan x reached) is other in
-    o.2 (same_some reached o.0 id o.1 reaches)
+right_sibling next reached id reaches is other = search (rules, same_some)
 
 pub other_sibling : (next reached : Option ℕ) (id : ℕ) → reached ≡ Some id → (next ≡ Some id → ⊥) → IsOtherThan next reached
 other_sibling None reached id reaches other = tt
@@ -73,9 +63,7 @@ by_rule entries units entry a v P p q s t _ fails = absurd fails.1
 
 pub least_other : (entries : List Entry) (units : List PlacedUnit) (head : EntryHead) (a : ℕ) (v : Datum) (id : ℕ) → reach_of entries units head.unit v ≡ Some id → (IsWrongKind entries head a v (Some id) → ⊥)
     → (r : Rule) → ReferenceFails entries units head a v r → number_of r < 3 → ⊥
-least_other entries units head a v id reaches right =
-    by_rule entries units head a v (λ r. number_of r < 3 → ⊥) (λ fails less. no_entry_not entries units head.unit v id reaches fails.1) (λ fails less. right (subst (IsWrongKind entries head a v) reaches fails.1)) (λ fails less. omega (arith, less))
-    (λ fails less. omega (arith, less))
+least_other entries units head a v id reaches right = search (rules, by_rule, no_entry_not)
 
 pub least_none : (entries : List Entry) (units : List PlacedUnit) (head : EntryHead) (a : ℕ) (v : Datum) (id : ℕ) → reach_of entries units head.unit v ≡ Some id → (IsWrongKind entries head a v (Some id) → ⊥)
     → ((a ≡ 1) × IsOtherThan head.next_sibling (reach_of entries units head.unit v) → ⊥)
@@ -85,7 +73,4 @@ least_none entries units head a v id reaches right next =
     (λ fails. not_unsigned entries units head.unit v id reaches fails.1)
 
 pub wrong_first : (entries : List Entry) (units : List PlacedUnit) (head : EntryHead) (a : ℕ) (v : Datum) (id : ℕ) → is_reference_value v ≡ true → reach_of entries units head.unit v ≡ Some id → IsWrongKind entries head a v (Some id) → IsLeast (ReferenceFails entries units head a v) (Some rule.WrongKind)
-wrong_first entries units head a v id reference reaches wrong = (
-  (reference, subst (IsWrongKind entries head a v) (sym reaches) wrong),
-  by_rule entries units head a v (λ r. number_of r < 2 → ⊥) (λ fails less. no_entry_not entries units head.unit v id reaches fails.1) (λ fails less. omega (arith, less)) (λ fails less. omega (arith, less)) (λ fails less. omega (arith, less)),
-)
+wrong_first entries units head a v id reference reaches wrong = search (rules, by_rule, no_entry_not)

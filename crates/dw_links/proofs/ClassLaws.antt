@@ -1,4 +1,5 @@
 -- The rule on classes, by declarations and by values, and what the form of a value says of it.
+use Rattle.std.proofs.Common.{rules}
 use Rattle.std.proofs.Common.{◌≡◌, ℕ, ◌||◌, Bool, true, false, List, Some, refl, ap, sym, ◌∙◌, ◌⊎◌, inl, inr, subst, ◌<◌, [], ◌∷◌, length, arith, if◌then◌else◌, nat_eq}
 use Rattle.std.specs.Prelude.{◌==◌, slice_get, IfSome, ◌&&◌}
 use Rattle.std.proofs.lemmas.Bool.{eq-eqb, ne_eqb}
@@ -87,9 +88,7 @@ no_text texts head a rule version size form.Addrx2 bytes v none no_base p fails 
 no_text texts head a rule version size form.Addrx3 bytes v none no_base p fails = let both : true ≡ false = none in cc
 no_text texts head a rule version size form.Addrx4 bytes v none no_base p fails = let both : true ≡ false = none in cc
 no_text texts head a rule version size form.Indirect bytes v none no_base p fails = let both : true ≡ false = none in cc
-no_text texts head a rule version size form.SecOffset bytes v none no_base p fails =
-    let P : Datum → Type 0 = λ d. FailsByTexts texts head a d rule in
-    elim (subst P p.2 fails).2 [ inl str ↦ no_base (inl str.0) | inr addr ↦ no_base (inr addr.0) ]
+no_text texts head a rule version size form.SecOffset bytes v none no_base p fails = search (rules)
 no_text texts head a rule version size form.FlagPresent bytes v none no_base p fails = let P : Datum → Type 0 = λ d. FailsByTexts texts head a d rule in subst P p.1 fails
 no_text texts head a rule version size (form.ImplicitConst number) bytes v none no_base p fails = let P : Datum → Type 0 = λ d. FailsByTexts texts head a d rule in subst P p.1 fails
 no_text texts head a rule version size _ bytes v none no_base p fails = let P : Datum → Type 0 = λ d. FailsByTexts texts head a d rule in subst P p.2 fails
@@ -157,25 +156,10 @@ either true x y first is = first
 either false x y first is = is
 
 allows_flag : (a : ℕ) → is_one_of not_flags a ≡ false → allows a Flag ≡ true
-allows_flag a none =
-    or_else _ _ _ (no_one not_flags (DW_AT_sibling ∷ DW_AT_import ∷ DW_AT_abstract_origin ∷ DW_AT_specification ∷ DW_AT_type ∷ DW_AT_signature ∷ []) a none refl)
-    (or_else _ _ _ (no_one not_flags (DW_AT_name ∷ []) a none refl)
-    (or_else _ _ _ (no_one not_flags (DW_AT_byte_size ∷ DW_AT_bit_size ∷ DW_AT_count ∷ DW_AT_byte_stride ∷ DW_AT_data_bit_offset ∷ []) a none refl)
-    (or_else _ _ _ (no_one not_flags (DW_AT_lower_bound ∷ DW_AT_upper_bound ∷ DW_AT_bit_stride ∷ []) a none refl)
-    (or_else _ _ _ (no_one not_flags (DW_AT_data_member_location ∷ []) a none refl)
-    (or_else _ _ _ (no_one not_flags (DW_AT_encoding ∷ []) a none refl)
-    (either _ _ _ refl (or_else _ _ _ (no_one not_flags (DW_AT_str_offsets_base ∷ DW_AT_addr_base ∷ []) a none refl) refl)))))))
+allows_flag a none = search (rules, or_else, no_one, either)
 
 allows_constant : (a : ℕ) → is_one_of not_constants a ≡ false → allows a Constant ≡ true
-allows_constant a none =
-    or_else _ _ _ (no_one not_constants (DW_AT_sibling ∷ DW_AT_import ∷ DW_AT_abstract_origin ∷ DW_AT_specification ∷ DW_AT_type ∷ DW_AT_signature ∷ []) a none refl)
-    (or_else _ _ _ (no_one not_constants (DW_AT_name ∷ []) a none refl)
-    (either (is_one_of (DW_AT_byte_size ∷ DW_AT_bit_size ∷ DW_AT_count ∷ DW_AT_byte_stride ∷ DW_AT_data_bit_offset ∷ []) a) _ _ refl
-    (either (is_one_of (DW_AT_lower_bound ∷ DW_AT_upper_bound ∷ DW_AT_bit_stride ∷ []) a) _ _ refl
-    (either (is_one_of (DW_AT_data_member_location ∷ []) a) _ _ refl
-    (either (is_one_of (DW_AT_encoding ∷ []) a) _ _ refl
-    (or_else _ (is_flag Constant) _ (no_one not_constants (DW_AT_prototyped ∷ DW_AT_declaration ∷ []) a none refl)
-    (or_else _ (is_section_offset Constant) _ (no_one not_constants (DW_AT_str_offsets_base ∷ DW_AT_addr_base ∷ []) a none refl) refl)))))))
+allows_constant a none = search (rules, or_else, no_one, either)
 
 byteless_class : (f : Form) (a : ℕ) → stops_in f a ≡ false → (c : Class) × (form_class f ≡ Some c) × (allows a c ≡ true)
 byteless_class form.FlagPresent a is = (Flag, refl, allows_flag a is)
@@ -190,10 +174,7 @@ others_pass spec is units =
 -- a value of another class
 pub class_least : (units : List PlacedUnit) (head : EntryHead) (a : ℕ) (v : Datum) (p : PlacedUnit) → slice_get units head.unit ≡ Some p → allows_in (version_of p.unit.header.kind) a (class_of v) ≡ false
     → IsLeast (ClassFails units head a v) (Some WrongClass)
-class_least units head a v p is not_allowed = (
-  record { unit = p; in_unit = is; class = not_allowed; only = refl },
-  λ rule fails less. let same = ap number_of fails.only in omega (arith, same, less),
-)
+class_least units head a v p is not_allowed = search (rules)
 
 -- the unit with this number, as it was told
 pub unit_there : (us : List DebugUnit) (number : ℕ) (told : UnitHead) → number < length us → IfSome (slice_get (placed us) number) (λ p. told ≡ unit_head p)

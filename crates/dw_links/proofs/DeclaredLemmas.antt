@@ -1,4 +1,5 @@
 -- What is kept of the entries that are declared and not defined.
+use Rattle.std.proofs.Common.{rules}
 use Rattle.std.proofs.Common.{◌≡◌, ℕ, ◌<◌, Bool, true, false, List, [], ◌∷◌, Some, zero, suc, arith, refl, sym, ap, ◌∙◌, length, get_or, set, eqb-true, eq-eqb, ◌==◌}
 use Rattle.std.specs.Prelude.{slice_get}
 use Rattle.std.proofs.lemmas.List.{length-set}
@@ -10,9 +11,7 @@ use Rattle.dw_links.specs.DeclaredEntries.{known_as, IsKnownOf, KeepsDeclared}
 
 -- what is kept of an entry is true of it
 pub kept_at : (entries : List Entry) (kept : List Known) (id number : ℕ) (e : Entry) (known : Known) → KeepsDeclared entries kept → slice_get entries id ≡ Some e → number ≡ id → known ≡ get_or kept number known → IsKnownOf e known
-kept_at entries kept id number e known keeps is same found =
-    let within : id < length kept = omega (arith, keeps.all, slice_get_within entries id e is) in
-    keeps.right id e known is (slice_get-get_or kept id known within ∙ ap Some (sym (found ∙ ap (λ (n : ℕ). get_or kept n known) same)))
+kept_at entries kept id number e known keeps is same found = search (rules, slice_get_within, slice_get-get_or)
 
 -- what was read of an entry is true of it
 read_known : (e : Entry) (declared : Bool) → declared ≡ is_declared e → IsKnownOf e (known_as declared)
@@ -34,15 +33,5 @@ set_other (k ∷ kept) (suc id) (suc place) known apart = set_other kept id plac
 -- one entry more is known
 pub one_more_known : (entries : List Entry) (kept : List Known) (id number : ℕ) (e : Entry) (declared : Bool) → KeepsDeclared entries kept → slice_get entries id ≡ Some e → number ≡ id → declared ≡ is_declared e
     → KeepsDeclared entries (set kept number (known_as declared))
-one_more_known entries kept id number e declared keeps is same read = record { all = length-set kept number (known_as declared) ∙ keeps.all; right = right }
-  where
-    right : (place : ℕ) (at : Entry) (known : Known) → slice_get entries place ≡ Some at → slice_get (set kept number (known_as declared)) place ≡ Some known → IsKnownOf at known
-    right place at known is_at found = by (place == number) refl
-      where
-        by : (b : Bool) → (place == number) ≡ b → IsKnownOf at known
-        by true here =
-            let place_is : place ≡ number = eqb-true place number here in
-            let entry : e ≡ at = let both : Some e ≡ Some at = sym is ∙ ap (slice_get entries) (sym same ∙ sym place_is) ∙ is_at in cc in
-            let known_is : known_as declared ≡ known = set_same kept number (known_as declared) known (ap (slice_get (set kept number (known_as declared))) (sym place_is) ∙ found) in
-            rw (← entry, ← known_is) (read_known e declared read)
-        by false elsewhere = keeps.right place at known is_at (sym (set_other kept number place (known_as declared) (λ place_is. let both : true ≡ false = sym (eq-eqb place number place_is) ∙ elsewhere in cc)) ∙ found)
+one_more_known entries kept id number e declared keeps is same read =
+    search (rules, length-set, eqb-true, set_same, read_known, set_other, eq-eqb)

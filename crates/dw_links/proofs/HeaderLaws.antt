@@ -1,4 +1,5 @@
 -- The rules at the headers of type units, and the type of each signature.
+use Rattle.std.proofs.Common.{rules}
 use Rattle.std.proofs.Common.{◌≡◌, ℕ, ◌+◌, ◌≤◌, Bool, true, false, cond, List, Option, Some, None, refl, sym, ap, ◌∙◌, arith, subst, eq-or-lt_of_le, inl, inr, ◌⊎◌, zero, suc, [], ◌∷◌, length, length-append, ◌<◌}
 use Rattle.std.proofs.lemmas.Bool.Decides.{nat_tests}
 use Rattle.std.specs.Prelude.{slice_get, is_some}
@@ -30,26 +31,17 @@ use Rattle.dw_links.specs.Targets.{type_of_unit}
 
 -- a unit more changes nothing where it hasn't the signature
 kept : (entries : List Entry) (units : List PlacedUnit) (s n : ℕ) (o : Option ℕ) → IsSignedType entries units s n o → (HasSignature units s n → ⊥) → IsSignedType entries units s (n + 1) o
-kept entries units s n None none other = λ j below has.
-    elim (eq-or-lt_of_le (let p : j ≤ n = omega arith in p)) [
-      | inl same ↦ let P : ℕ → Type 0 = λ i. HasSignature units s i in other (subst P same has)
-      | inr less ↦ none j less has
-    ]
+kept entries units s n None none other = search (rules, eq-or-lt_of_le)
 kept entries units s n (Some id) found other = let first = found.1 in (found.0, (let p = first.0 in omega arith, first.1, first.2), found.2)
 
 begun : (entries : List Entry) (units : List PlacedUnit) (s n id : ℕ) → IsSignedType entries units s n None → HasSignature units s n → type_of_unit entries units n ≡ Some id → IsSignedType entries units s (n + 1) (Some id)
 begun entries units s n id none has type = (n, (omega arith, has, none), type)
 
 signed_so : (units : List PlacedUnit) (s n k t : ℕ) (u : PlacedUnit) → slice_get units n ≡ Some u → type_in u.unit.header.kind ≡ Some (k, t) → HasSignature units s n → k ≡ s
-signed_so units s n k t u is kind has =
-    let same : type_in u.unit.header.kind ≡ Some (s, has.type_offset) = ap (λ (x : PlacedUnit). type_in x.unit.header.kind) (same_some (slice_get units n) u has.unit is has.is_unit) ∙ has.signed in
-    let both : ◌≡◌ {A = ℕ × ℕ} (k, t) (s, has.type_offset) = same_some (type_in u.unit.header.kind) (k, t) (s, has.type_offset) kind same in
-    ap (λ (x : ℕ × ℕ). x.0) both
+signed_so units s n k t u is kind has = search (rules, same_some)
 
 untyped_so : (units : List PlacedUnit) (s n : ℕ) (u : PlacedUnit) → slice_get units n ≡ Some u → type_in u.unit.header.kind ≡ None → HasSignature units s n → ⊥
-untyped_so units s n u is kind has =
-    let same : type_in u.unit.header.kind ≡ Some (s, has.type_offset) = ap (λ (x : PlacedUnit). type_in x.unit.header.kind) (same_some (slice_get units n) u has.unit is has.is_unit) ∙ has.signed in
-    let both : ◌≡◌ {A = Option (ℕ × ℕ)} None (Some (s, has.type_offset)) = sym kind ∙ same in cc
+untyped_so units s n u is kind has = search (rules, same_some)
 
 pub other_unit : (entries : List Entry) (units : List PlacedUnit) (n : ℕ) (u : PlacedUnit) (table : BTreeMap ℕ ℕ) → slice_get units n ≡ Some u → type_in u.unit.header.kind ≡ None → AreSignedBelow entries units n table
     → AreSignedBelow entries units (n + 1) table
@@ -76,9 +68,7 @@ own_key k = grind (arith, nat_tests)
 
 new_at : (entries : List Entry) (units : List PlacedUnit) (s k n id : ℕ) (b : Bool) (o p : Option ℕ) → b ≡ is_eq (nat_cmp k s) → p ≡ cond b (Some id) o → IsSignedType entries units s n o → (b ≡ true → o ≡ None) → (b ≡ true → HasSignature units s n)
     → (b ≡ false → HasSignature units s n → ⊥) → type_of_unit entries units n ≡ Some id → IsSignedType entries units s (n + 1) p
-new_at entries units s k n id true o p test is before none has other type =
-    let P : Option ℕ → Type 0 = λ x. IsSignedType entries units s n x in
-    rw is (begun entries units s n id (subst P (none refl) before) (has refl) type)
+new_at entries units s k n id true o p test is before none has other type = search (rules, begun)
 new_at entries units s k n id false o p test is before none has other type =
     rw is (kept entries units s n o before (other refl))
 
@@ -86,15 +76,7 @@ pub new_signature : (entries : List Entry) (units : List PlacedUnit) (n k t id :
     → ((q : ℕ) → get nat_cmp new q ≡ cond (is_at (nat_cmp k) q) (Some id) (get nat_cmp old q)) → type_of_unit entries units n ≡ Some id
     → AreSignedBelow entries units n old → AreSignedBelow entries units (n + 1) new
 new_signature entries units n k t id u old new is kind unknown after type before s =
-    new_at entries units s k n id (is_eq (nat_cmp k s)) (get nat_cmp old s) (get nat_cmp new s) refl (after s) (before s)
-    (λ here. let P : ℕ → Type 0 = λ x. get nat_cmp old x ≡ None in subst P (at_key k s here) (none_known entries units k n (get nat_cmp old k) (before k) unknown))
-    (λ here. record { unit = u; is_unit = is; type_offset = t; signed = let P : ℕ → Type 0 = λ x. type_in u.unit.header.kind ≡ Some (x, t) in subst P (at_key k s here) kind })
-    (λ not_here has.
-    let same = signed_so units s n k t u is kind has in
-    let P : ℕ → Type 0 = λ x. is_eq (nat_cmp k x) ≡ true in
-    let yes_here = subst P same (own_key k) in
-    let no : true ≡ false = sym yes_here ∙ not_here in cc)
-    type
+    search (rules, new_at, at_key, none_known, signed_so, own_key)
 
 pub typed : (entries : List Entry) (number offset id : ℕ) (read : Entry) → IsEntryIn entries number offset id → slice_get entries id ≡ Some read → is_type_tag read.head.decl.tag ≡ true → HasType entries number offset
 typed entries number offset id read found is tag = record {
@@ -151,9 +133,7 @@ pub header_fails : (entries : List Entry) (units : List PlacedUnit) (number at s
     → IsLeast (TypeUnitFails entries units number at signature t) (Some rule)
     → Names broken (record { rule = rule; place = at_header at; attribute = 0 })
     → IsFirst (AtPlace (at_header at) (HeaderFails entries units number at o)) broken
-header_fails entries units number at signature t o rule broken is least named =
-    let P : Option (ℕ × ℕ) → Type 0 = λ x. IsFirst (AtPlace (at_header at) (HeaderFails entries units number at x)) broken in
-    subst P (sym is) (first_at_place (at_header at) (HeaderFails entries units number at (Some (signature, t))) rule broken least named)
+header_fails entries units number at signature t o rule broken is least named = search (rules, first_at_place)
 
 pub header_passes : (entries : List Entry) (units : List PlacedUnit) (number at signature t : ℕ) (o : Option (ℕ × ℕ)) → o ≡ Some (signature, t)
     → IsLeast (TypeUnitFails entries units number at signature t) None
@@ -210,49 +190,19 @@ headers_none entries units = none_of_list units (AtHeader entries units)
 -- no type begins there, and no earlier unit has the signature
 pub least_type_offset : (entries : List Entry) (units : List PlacedUnit) (number at signature t : ℕ) → (IsSignedBefore units number signature → ⊥) → (HasType entries number (at + t) → ⊥)
     → IsLeast (TypeUnitFails entries units number at signature t) (Some BadTypeOffset)
-least_type_offset entries units number at signature t first untyped = (
-  inr (refl, untyped),
-  λ rule fails less. elim fails [
-    | inl p ↦ first p.1
-    | inr p ↦ let same = ap number_of p.0 in omega (arith, same, less)
-  ],
-)
+least_type_offset entries units number at signature t first untyped = search (rules)
 
 -- an earlier unit has the signature
 pub least_twice : (entries : List Entry) (units : List PlacedUnit) (number at signature t : ℕ) → IsSignedBefore units number signature → IsLeast (TypeUnitFails entries units number at signature t) (Some SignatureTwice)
-least_twice entries units number at signature t before = (
-  inl (refl, before),
-  λ rule fails less. elim fails [
-    | inl p ↦ let same = ap number_of p.0 in omega (arith, same, less)
-    | inr p ↦ let same = ap number_of p.0 in omega (arith, same, less)
-  ],
-)
+least_twice entries units number at signature t before = search (rules)
 
 -- a type begins there, and no earlier unit has the signature
 pub none_at_header : (entries : List Entry) (units : List PlacedUnit) (number at signature t : ℕ) → (IsSignedBefore units number signature → ⊥) → HasType entries number (at + t) → IsLeast (TypeUnitFails entries units number at signature t) None
-none_at_header entries units number at signature t first typed = λ rule fails. elim fails [
-  | inl p ↦ first p.1
-  | inr p ↦ p.1 typed
-]
+none_at_header entries units number at signature t first typed = search (rules, typed)
 
 -- headers come before entries
 header_before : (a at position : ℕ) (f g : Failure) → f.place ≡ at_header a → g.place ≡ at_attribute at position → Precedes g f → ⊥
-header_before a at position f g f_at g_at precedes =
-    elim precedes [
-      | inl before ↦
-          let P : Place → Type 0 = λ x. IsBefore x f.place in
-          let Q : Place → Type 0 = λ x. IsBefore (at_attribute at position) x in
-          subst Q f_at (subst P g_at before)
-      | inr same ↦ let both : at_attribute at position ≡ at_header a = sym g_at ∙ same.0 ∙ f_at in cc
-    ]
+header_before a at position f g f_at g_at precedes = search (rules)
 
 pub first_by_header : (entries : List Entry) (units : List PlacedUnit) (broken : Broken) → IsFirst (HeaderFailures entries units) broken → IsFirst (λ f. HeaderFailures entries units f ⊎ AttributeFailures entries units f) broken
-first_by_header entries units broken first = record {
-  failure = first.failure;
-  fails = inl first.fails;
-  named = first.named;
-  first = λ g fails precedes. elim fails [
-    | inl p ↦ first.first g p precedes
-    | inr q ↦ header_before first.fails.item.at q.item.at q.fails.position first.failure g first.fails.fails.stands q.fails.place precedes
-  ];
-}
+first_by_header entries units broken first = search (rules, header_before)

@@ -1,5 +1,6 @@
 -- The values of an entry that may lead elsewhere, one after the other: at which no rule fails, and the entry that the
 -- entry's type reaches.
+use Rattle.std.proofs.Common.{rules}
 use Rattle.std.proofs.Common.{◌≡◌, ℕ, suc, Bool, true, false, List, [], ◌∷◌, ◌++◌, Option, Some, None, refl, sym, ap, ◌∙◌, append_assoc}
 use Rattle.std.specs.Prelude.{◌==◌, option_map}
 use Rattle.std.specs.Option.{option_flatten, option_and_then}
@@ -24,19 +25,11 @@ use Rattle.dw_links.proofs.RuleSteps.{Checked, none_checked, checked_more, check
 
 front_value : (xs ys : List (ℕ × Datum)) (attribute : ℕ) (v : Datum) → value_in xs attribute ≡ Some v → value_in (xs ++ ys) attribute ≡ Some v
 front_value [] ys attribute v is = absurd cc
-front_value (x ∷ xs) ys attribute v is = by_code (front_value xs ys attribute v) (x.0 == attribute) refl
-  where
-    by_code : (value_in xs attribute ≡ Some v → value_in (xs ++ ys) attribute ≡ Some v) → (b : Bool) → (x.0 == attribute) ≡ b → value_in (x ∷ xs ++ ys) attribute ≡ Some v
-    by_code more true q = rw q (rw q at is)
-    by_code more false q = rw q (more (rw q at is))
+front_value (x ∷ xs) ys attribute v is = search (rules, (front_value xs ys attribute v))
 
 back_value : (xs ys : List (ℕ × Datum)) (attribute : ℕ) → value_in xs attribute ≡ None → value_in (xs ++ ys) attribute ≡ value_in ys attribute
 back_value [] ys attribute is = refl
-back_value (x ∷ xs) ys attribute is = by_code (back_value xs ys attribute) (x.0 == attribute) refl
-  where
-    by_code : (value_in xs attribute ≡ None → value_in (xs ++ ys) attribute ≡ value_in ys attribute) → (b : Bool) → (x.0 == attribute) ≡ b → value_in (x ∷ xs ++ ys) attribute ≡ value_in ys attribute
-    by_code more true q = absurd (let none : Some x.1 ≡ None = rw q at is in cc)
-    by_code more false q = rw q (more (rw q at is))
+back_value (x ∷ xs) ys attribute is = search (rules, (back_value xs ys attribute))
 
 passed_value : (items : List (ℕ × Datum)) → ArePassed DoesNotLead items → value_in items DW_AT_type ≡ None
 passed_value [] passed = refl
@@ -86,11 +79,7 @@ pub record SoFar (it : References) (e : Entry) (left : List (ℕ × Datum)) (kep
 
 module _ (it : References) (e : Entry) (left : List (ℕ × Datum)) where
   pub none_so_far : left ≡ values_of e.head → SoFar it e left None
-  none_so_far same = record {
-    strings = none_checked (FailsByTexts it.texts) (entry_head e) (values_of e.head) left same;
-    references = none_checked (FailsByTarget it) (entry_head e) (values_of e.head) left same;
-    keeps = record { done = []; parts = sym same; is_kept = refl };
-  }
+  none_so_far same = search (rules, none_checked)
 
   -- one attribute more
   pub more_so_far : (behind : List (ℕ × Datum)) (kept : Option (Option ℕ)) (linked : ℕ × Option ℕ) → SoFar it e left kept → LinksNext it (entry_head e) left behind linked → SoFar it e behind (kept_after kept linked.0 linked.1)

@@ -1,4 +1,5 @@
 -- Entries by their offsets, from the start of .debug_info and from headers.
+use Rattle.std.proofs.Common.{rules}
 use Rattle.std.proofs.Common.{◌≡◌, ℕ, ◌<◌, List, Option, Some, None, ap, ◌∙◌, length, ◌+◌, Bool, true, false, cond, ltb, refl, arith}
 use Rattle.std.specs.Prelude.{slice_get, IfSome, All, ◌≢◌, IfNone}
 use Rattle.std.proofs.lemmas.Option.{slice_get_within, get_or_from_slice_get}
@@ -16,9 +17,7 @@ found_entry entries offset id found within =
     record { entry = e; is_entry = is; begins = rw is at found }
 
 pub no_entry : (entries : List Entry) (offset : ℕ) → All (λ e. e.at ≢ offset) entries → (id : ℕ) → IsEntryAt entries offset id → ⊥
-no_entry entries offset nowhere id found =
-    nowhere id found.entry (slice_get_within entries id found.entry found.is_entry)
-    (ap (λ (e : Entry). e.at) (get_or_from_slice_get entries id found.entry found.entry found.is_entry) ∙ found.begins)
+no_entry entries offset nowhere id found = search (rules, slice_get_within, get_or_from_slice_get)
 
 pub found_some : (entries : List Entry) (offset : ℕ) (o : Option ℕ) → IfSome o (λ id. IfSome (slice_get entries id) (λ e. e.at ≡ offset)) → IfSome o (λ id. id < length entries) → IfSome o (IsEntryAt entries offset)
 found_some entries offset None found within = tt
@@ -32,9 +31,7 @@ pub in_unit : (entries : List Entry) (units : List PlacedUnit) (n offset at id :
 in_unit entries units n offset at id u is same found = record { unit = u; is_unit = is; target = at_offset entries n at (u.at + offset) id (omega arith) found }
 
 pub in_unit_back : (entries : List Entry) (units : List PlacedUnit) (n offset at id : ℕ) (u : PlacedUnit) → slice_get units n ≡ Some u → at ≡ offset + u.at → ReachesInUnit entries units n offset id → IsEntryIn entries n at id
-in_unit_back entries units n offset at id u is same reached =
-    let one = ap (λ (x : PlacedUnit). x.at) (same_some (slice_get units n) u reached.unit is reached.is_unit) in
-    at_offset entries n (reached.unit.at + offset) at id (omega arith) reached.target
+in_unit_back entries units n offset at id u is same reached = search (rules, same_some, at_offset)
 
 pub none_map : (o : Option ℕ) (A B : Type 0) → (A → B) → IfNone o A → IfNone o B
 none_map None A B over h = over h
@@ -45,8 +42,4 @@ in_place entries units n t p id is reached = in_unit_back entries units n t (p.a
 
 -- the entry with a number is one of the entries
 pub nth_within : (entries : List Entry) (k id : ℕ) → nth_of entries k ≡ Some id → id < length entries
-nth_within entries k id is = by_test (ltb k (length entries)) refl is
-  where
-    by_test : (b : Bool) → ltb k (length entries) ≡ b → cond b (Some k) None ≡ Some id → id < length entries
-    by_test true q e = let same : k ≡ id = cc in omega (arith, ltb-true _ _ q, same)
-    by_test false q e = absurd cc
+nth_within entries k id is = search (rules, ltb-true)

@@ -1,4 +1,5 @@
 -- No rule fails at an entry whose declaration has nothing that the rules are asked of.
+use Rattle.std.proofs.Common.{rules}
 use Rattle.std.proofs.Common.{◌≡◌, ℕ, zero, suc, ◌+◌, ◌<◌, ◌≤◌, List, [], ◌∷◌, length, Some, refl, sym, ap, ◌∙◌, arith, subst, map, eq-or-lt_of_le, inl, inr}
 use Rattle.std.specs.Prelude.{Option, None, slice_get, slice_index_or, All, Contains, IfSome, IsSome}
 use Rattle.std.proofs.lemmas.Option.{slice_get_within, slice_get-get_or, get_or_from_slice_get}
@@ -30,11 +31,7 @@ there (x ∷ xs) (suc k) below = there xs k (omega arith)
 -- one item more of a list
 pub one_more : {X : Type 0} (xs : List X) (P : X → Type 0) (k : ℕ) (x : X) → slice_get xs k ≡ Some x → ((j : ℕ) (y : X) → j < k → slice_get xs j ≡ Some y → P y) → P x
     → (j : ℕ) (y : X) → j < k + 1 → slice_get xs j ≡ Some y → P y
-one_more {X} xs P k x is passed here j y below is_y =
-    elim (eq-or-lt_of_le (let p : j ≤ k = omega arith in p)) [
-      | inl same ↦ let Q : ℕ → Type 0 = λ i. slice_get xs i ≡ Some y in subst P (same_some (slice_get xs k) x y is (subst Q same is_y)) here
-      | inr less ↦ passed j y less is_y
-    ]
+one_more {X} xs P k x is passed here j y below is_y = search (rules, eq-or-lt_of_le, same_some)
 
 -- an attribute of an entry, with what declares it
 pub record IsDeclared (x : Context) (specs : List AttributeSpec) (k : ℕ) (item : ℕ × Datum) : Type 0 where

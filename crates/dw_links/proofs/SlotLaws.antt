@@ -1,4 +1,5 @@
 -- Where no rule on strings and addresses fails, texts and addresses lie within their sections.
+use Rattle.std.proofs.Common.{rules}
 use Rattle.std.proofs.Common.{◌≡◌, ◌≢◌, ℕ, suc, ◌+◌, ◌*◌, ◌<◌, ◌≤◌, ◌==◌, ◌⊎◌, Bool, true, false, cond, List, [], ◌∷◌, length, find, Option, Some, None, IfSome, option_map, option_and_then, refl, sym, ap, ◌∙◌, subst, arith, inl, inr}
 use Rattle.std.specs.Prelude.{slice_get}
 use Rattle.std.proofs.lemmas.Option.{option_and_then_some}
@@ -94,19 +95,7 @@ offset_said (loc_index n) base is = absurd cc
 offset_said (rng_index n) base is = absurd cc
 
 base_said : (es : List Entry) (p : PlacedUnit) (attribute base : ℕ) → base_in es p attribute ≡ Some base → SaysBase es p attribute base
-base_said es p attribute base is = go (version_of p.unit.header.kind == 4) refl is
-  where
-    go : (b : Bool) → (version_of p.unit.header.kind == 4) ≡ b → cond b None (option_and_then (λ first. section_offset_of first attribute) (slice_get es p.first)) ≡ Some base → SaysBase es p attribute base
-    go true four e = absurd cc
-    go false other e =
-        option_and_then_some (λ first. section_offset_of first attribute) (slice_get es p.first) base e
-        (λ first is_first says. option_and_then_some section_offset_in (value_at_entry first attribute) base says
-        (λ v value offset. record {
-          version = λ four. let both : false ≡ true = sym other ∙ ap (λ (n : ℕ). n == 4) four in cc;
-          first = first;
-          is_first = is_first;
-          value = value ∙ ap Some (offset_said v base offset);
-        }))
+base_said es p attribute base is = search (rules, option_and_then_some, offset_said)
 
 -- so its contribution is never broken
 sound_strings : (sections : Sections) (us : List DebugUnit) (k : ℕ) (p : PlacedUnit) (base : ℕ) → HasNone (StringFailures sections us) → slice_get (placed us) k ≡ Some p → base_in (entries_of us) p DW_AT_str_offsets_base ≡ Some base
@@ -136,13 +125,7 @@ below_or_not k n = grind arith
 
 -- a slot below the count lies within the section
 slot_within : (section : List ℕ) (slot mark base index : ℕ) → IsSize slot → IsContribution section slot mark base → index < slot_count section slot base → base + slot * index + slot ≤ length section
-slot_within section slot mark base index size is below =
-    elim size [
-      | inl four ↦ let P : ℕ → Type 0 = λ n. index < slot_count section n base → base + n * index + n ≤ length section in
-          subst P (sym four) (λ under. let header = is.header in let ends = is.ends in let long = is.long in omega (arith, under, header, ends, long)) below
-      | inr eight ↦ let P : ℕ → Type 0 = λ n. index < slot_count section n base → base + n * index + n ≤ length section in
-          subst P (sym eight) (λ under. let header = is.header in let ends = is.ends in let long = is.long in omega (arith, under, header, ends, long)) below
-    ]
+slot_within section slot mark base index size is below = search (rules)
 
 -- what follows from a contribution that is never broken, where the contrary is known otherwise
 at_most : (a b : ℕ) → ((b < a) → ⊥) → a ≤ b
@@ -240,17 +223,13 @@ address_lies sections us id e p attribute (rng_index n) none is is_unit size val
 pub text_told : (sections : Sections) (entries : List Entry) (units : List PlacedUnit) (e : Entry) (p : PlacedUnit) (attribute : ℕ) (v : Datum) (bases : UnitBases) (answer : Option (List ℕ)) → bases ≡ bases_in entries p
     → slice_get units e.unit ≡ Some p → Some v ≡ value_at_entry e attribute → answer ≡ text_of sections bases.strings v → answer ≡ text_at sections entries units e attribute
 unfolding text_at
-text_told sections entries units e p attribute v bases answer of_unit is_unit value is =
-    let told : answer ≡ text_of sections (base_in entries p DW_AT_str_offsets_base) v = is ∙ ap (λ (b : UnitBases). text_of sections b.strings v) of_unit in
-    rw (is_unit, ← value) told
+text_told sections entries units e p attribute v bases answer of_unit is_unit value is = search (rules)
 
 pub address_told : (given sections : Sections) (entries : List Entry) (units : List PlacedUnit) (e : Entry) (p : PlacedUnit) (attribute : ℕ) (v : Datum) (header : UnitHeader) (bases : UnitBases) (answer : Option ℕ) → given ≡ sections → header ≡ p.unit.header
     → bases ≡ bases_in entries p → slice_get units e.unit ≡ Some p → Some v ≡ value_at_entry e attribute → answer ≡ address_of given header bases.addresses v → answer ≡ address_at sections entries units e attribute
 unfolding address_at
 address_told given sections entries units e p attribute v header bases answer same of_header of_unit is_unit value is =
-    let told : answer ≡ address_of sections p.unit.header (base_in entries p DW_AT_addr_base) v =
-    is ∙ ap (λ (s : Sections). address_of s header bases.addresses v) same ∙ ap (λ (h : UnitHeader). address_of sections h bases.addresses v) of_header ∙ ap (λ (b : UnitBases). address_of sections p.unit.header b.addresses v) of_unit in
-    rw (is_unit, ← value) told
+    search (rules)
 
 pub no_text : (sections : Sections) (entries : List Entry) (units : List PlacedUnit) (e : Entry) (p : PlacedUnit) (attribute : ℕ) → slice_get units e.unit ≡ Some p → None ≡ value_at_entry e attribute → None ≡ text_at sections entries units e attribute
 unfolding text_at

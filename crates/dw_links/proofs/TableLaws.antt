@@ -1,4 +1,5 @@
 -- What is read of units, one after the other, and the targets of types, which are kept of each entry.
+use Rattle.std.proofs.Common.{rules}
 use Rattle.std.proofs.Common.{◌≡◌, ℕ, ◌<◌, List, length, map, get_or, Option, Some, option_map, ap, ◌∙◌, ◌+◌, ◌≤◌, [], ◌∷◌, ◌++◌, take, None, IfSome, refl, arith, ◌==◌, false, sym, subst, inl, inr}
 use Rattle.std.specs.Prelude.{slice_get}
 use Rattle.std.proofs.lemmas.Option.{slice_get_within, slice_get-map, get_or_from_slice_get, option_and_then_some}
@@ -28,11 +29,7 @@ use Rattle.dw_links.specs.Bases.{section_offset_in, base_in}
 -- a target is an entry
 pub target_within : (entries : List Entry) (units : List PlacedUnit) (e : Entry) (attribute t : ℕ) → target_of entries units e attribute ≡ Some t → t < length entries
 unfolding target_of
-target_within entries units e attribute t is =
-    option_and_then_some (reach_of entries units e.unit) (value_at_entry e attribute) t is
-    (λ v value gives.
-    let (target, stands) = reached_entry entries units e.unit v t gives in
-    slice_get_within entries t target stands)
+target_within entries units e attribute t is = search (rules, option_and_then_some, reached_entry, slice_get_within)
 
 -- what is at the entry's number
 pub type_found : (entries : List Entry) (units : List PlacedUnit) (items : List (Option ℕ)) (id : ℕ) (e : Entry) (found : Option ℕ) → items ≡ map (type_target entries units) entries → slice_get entries id ≡ Some e

@@ -1,4 +1,5 @@
 -- The first item of a list that passes a test, and the entry that a value reaches.
+use Rattle.std.proofs.Common.{rules}
 use Rattle.std.proofs.Common.{◌≡◌, ℕ, zero, suc, ◌+◌, ◌<◌, Bool, true, false, cond, List, [], ◌∷◌, Option, Some, None, IfSome, IfNone, refl, sym, ap, ◌∙◌, arith, ◌==◌, ◌&&◌, length, IsSome, option_and_then, subst, eq-eqb, ne_eqb}
 use Rattle.std.specs.Prelude.{slice_get}
 use Rattle.std.specs.List.{position_from}
@@ -28,9 +29,7 @@ pub record IsFirstAt {X : Type 0} (test : X → Bool) (xs : List X) (i : ℕ) : 
 
 position_at : {X : Type 0} (test : X → Bool) (xs : List X) (from i : ℕ) (x : X) → slice_get xs i ≡ Some x → test x ≡ true → NoneBefore test xs i → position_from test from xs ≡ Some (from + i)
 position_at test [] from i x is passes before = absurd cc
-position_at test (y ∷ xs) from zero x is passes before =
-    let here : test y ≡ true = ap test (same_some (Some y) y x refl is) ∙ passes in
-    rw here (ap Some (let z : from ≡ from + 0 = omega arith in z))
+position_at test (y ∷ xs) from zero x is passes before = search (rules, same_some)
 position_at test (y ∷ xs) from (suc i) x is passes before =
     let not_here : test y ≡ false = before 0 y (omega arith) refl in
     rw not_here (position_at test xs (from + 1) i x is passes (λ j z lt at. before (suc j) z (omega (arith, lt)) at) ∙ ap Some (let z : from + 1 + i ≡ from + suc i = omega arith in z))
@@ -41,11 +40,7 @@ position_is test xs i first = position_at test xs 0 i first.item first.is_item f
 
 -- after an item that fails the test
 behind : {X : Type 0} (test : X → Bool) (x : X) (xs : List X) (i : ℕ) → test x ≡ false → IsFirstAt test xs i → IsFirstAt test (x ∷ xs) (suc i)
-behind {X} test x xs i fails first = record { item = first.item; is_item = first.is_item; passes = first.passes; before = before }
-  where
-    before : (j : ℕ) (y : X) → j < suc i → slice_get (x ∷ xs) j ≡ Some y → test y ≡ false
-    before zero y lt is = ap test (same_some (Some y) y x refl (sym is)) ∙ fails
-    before (suc j) y lt is = first.before j y (omega arith) is
+behind {X} test x xs i fails first = search (rules, same_some)
 
 place_from : {X : Type 0} (test : X → Bool) (xs : List X) (from k : ℕ) → position_from test from xs ≡ Some k → (i : ℕ) × (k ≡ from + i) × IsFirstAt test xs i
 place_from test [] from k is = absurd cc
@@ -62,10 +57,7 @@ place_from {X} test (x ∷ xs) from k is = go (test x) refl is (place_from test 
 
 -- at the position is such an item
 pub place_is : {X : Type 0} (test : X → Bool) (xs : List X) (k : ℕ) → position_from test 0 xs ≡ Some k → IsFirstAt test xs k
-place_is test xs k is =
-    let (i, at, first) = place_from test xs 0 k is in
-    let same : i ≡ k = omega (arith, at) in
-    rw (← same) first
+place_is test xs k is = search (rules, place_from)
 
 fails_first : (b : Bool) (from : ℕ) (o : Option ℕ) → cond b (Some from) o ≡ None → (b ≡ false) × (o ≡ None)
 fails_first true from o none = absurd cc
@@ -148,9 +140,7 @@ pub reach_in_unit_is : (entries : List Entry) (units : List PlacedUnit) (unit of
 reach_in_unit_is entries units unit offset id rise reached = rw reached.is_unit (entry_in_is entries unit (reached.unit.at + offset) id rise reached.target)
 
 pub at_reach_in_unit : (entries : List Entry) (units : List PlacedUnit) (unit offset id : ℕ) → reach_in_unit entries units unit offset ≡ Some id → ReachesInUnit entries units unit offset id
-at_reach_in_unit entries units unit offset id is =
-    option_and_then_some (λ (u : PlacedUnit). entry_in entries unit (u.at + offset)) (slice_get units unit) id is
-    (λ u is_unit found. record { unit = u; is_unit = is_unit; target = at_entry_in entries unit (u.at + offset) id found })
+at_reach_in_unit entries units unit offset id is = search (rules, option_and_then_some, at_entry_in)
 
 pub reach_in_unit_answer : (entries : List Entry) (units : List PlacedUnit) (unit offset : ℕ) (answer : Option ℕ) → OffsetsRise entries → IfSome answer (ReachesInUnit entries units unit offset)
     → IfNone answer ((id : ℕ) → ReachesInUnit entries units unit offset id → ⊥) → answer ≡ reach_in_unit entries units unit offset
@@ -170,9 +160,7 @@ abbrev signs : ℕ → PlacedUnit → Bool
 signs signature u = is_signature_of signature (type_in u.unit.header.kind)
 
 signature_here : (units : List PlacedUnit) (signature number : ℕ) (u : PlacedUnit) → slice_get units number ≡ Some u → signs signature u ≡ true → HasSignature units signature number
-signature_here units signature number u is passes =
-    let (type_offset, kind) = signed_with signature (type_in u.unit.header.kind) passes in
-    record { unit = u; is_unit = is; type_offset = type_offset; signed = kind }
+signature_here units signature number u is passes = search (rules, signed_with)
 
 -- the first unit that is found has the signature, and none before it
 pub at_first_signed : (units : List PlacedUnit) (signature number : ℕ) → first_signed units signature ≡ Some number → IsFirstSigned units signature (length units) (Some number)
@@ -192,13 +180,7 @@ false_unless false never = refl
 pub first_signed_is : (units : List PlacedUnit) (signature below number : ℕ) → IsFirstSigned units signature below (Some number) → first_signed units signature ≡ Some number
 unfolding first_signed
 first_signed_is units signature below number (within, has, none) =
-    position_is (signs signature) units number
-    (record {
-      item = has.unit;
-      is_item = has.is_unit;
-      passes = is_signed signature has.type_offset (type_in has.unit.unit.header.kind) has.signed;
-      before = λ j u less at. false_unless (signs signature u) (λ passes. none j less (signature_here units signature j u at passes));
-    })
+    search (rules, position_is, is_signed, false_unless, signature_here)
 
 -- the first unit of those that have a signature, of all units
 first_signed_answer : (units : List PlacedUnit) (signature below : ℕ) (answer : Option ℕ) → below ≡ length units → IsFirstSigned units signature below answer → answer ≡ first_signed units signature
@@ -221,9 +203,7 @@ none_signed units signature none number has =
 
 pub type_of_unit_is : (entries : List Entry) (units : List PlacedUnit) (unit signature type_offset : ℕ) (u : PlacedUnit) (target : Option ℕ) → slice_get units unit ≡ Some u → type_in u.unit.header.kind ≡ Some (signature, type_offset)
     → reach_in_unit entries units unit type_offset ≡ target → type_of_unit entries units unit ≡ target
-type_of_unit_is entries units unit signature type_offset u target is kind reached =
-    let P : Option PlacedUnit → Type 0 = λ o. option_and_then (λ (p : PlacedUnit). option_and_then (λ (type : ℕ × ℕ). reach_in_unit entries units unit type.1) (type_in p.unit.header.kind)) o ≡ target in
-    subst P (sym is) (rw kind reached)
+type_of_unit_is entries units unit signature type_offset u target is kind reached = search (rules)
 
 -- at the type offset of the first type unit that has the signature
 pub at_type : (entries : List Entry) (units : List PlacedUnit) (signature id : ℕ) → option_and_then (type_of_unit entries units) (first_signed units signature) ≡ Some id → ReachesBySignature entries units signature id
@@ -282,15 +262,9 @@ target_of_value entries units e attribute v answer value is = is ∙ ap (option_
 
 pub target_is : (entries : List Entry) (units : List PlacedUnit) (id attribute : ℕ) (v : Option Datum) (answer : Option ℕ) → IfSome (slice_get entries id) (λ e. v ≡ value_at_entry e attribute)
     → IfSome (slice_get entries id) (λ e. answer ≡ option_and_then (reach_of entries units e.unit) v) → IfSome (slice_get entries id) (λ e. answer ≡ target_of entries units e attribute)
-target_is entries units id attribute v answer value is = go (slice_get entries id) value is
-  where
-    go : (o : Option Entry) → IfSome o (λ e. v ≡ value_at_entry e attribute) → IfSome o (λ e. answer ≡ option_and_then (reach_of entries units e.unit) v) → IfSome o (λ e. answer ≡ target_of entries units e attribute)
-    go None value is = tt
-    go (Some e) value is = target_of_value entries units e attribute v answer value is
+target_is entries units id attribute v answer value is = search (rules, target_of_value)
 
 -- and its number is below their count
 pub reach_within : (entries : List Entry) (units : List PlacedUnit) (unit : ℕ) (v : Datum) (answer : Option ℕ) → answer ≡ reach_of entries units unit v → IfSome answer (λ t. t < length entries)
 reach_within entries units unit v None is = tt
-reach_within entries units unit v (Some t) is =
-    let (e, is_e) = reached_entry entries units unit v t (sym is) in
-    slice_get_within entries t e is_e
+reach_within entries units unit v (Some t) is = search (rules, reached_entry, slice_get_within)

@@ -1,5 +1,6 @@
 -- Rules that fail in the same cases have the same first failure; what holds of a fault, unless memory ran out; and one
 -- entry after the other, by what was read of its unit.
+use Rattle.std.proofs.Common.{rules}
 use Rattle.std.proofs.Common.{◌≡◌, ℕ, List, Some, sym, ap, ◌∙◌, subst, ◌<◌, Option}
 use Rattle.std.specs.Prelude.{slice_get}
 use Rattle.std.specs.BTreeMap.{BTreeMap}
@@ -49,12 +50,7 @@ pub first_carried : (P Q : Rules) (entry : Entry) (broken : Broken)
     → ((a : ℕ) (v : Datum) (r : Rule) → P (entry_head entry) a v r → Q (entry_head entry) a v r)
     → ((a : ℕ) (v : Datum) (r : Rule) → Q (entry_head entry) a v r → P (entry_head entry) a v r)
     → IsFirst (AtHead P entry) broken → IsFirst (AtHead Q entry) broken
-first_carried P Q entry broken over back first = record {
-  failure = first.failure;
-  fails = carried P Q entry first.failure over first.fails;
-  named = first.named;
-  first = λ g fails. first.first g (carried Q P entry g back fails);
-}
+first_carried P Q entry broken over back first = search (rules, carried)
 
 pub none_carried : (P Q : Rules) (entry : Entry)
     → ((a : ℕ) (v : Datum) (r : Rule) → Q (entry_head entry) a v r → P (entry_head entry) a v r)
@@ -65,20 +61,12 @@ none_carried P Q entry back none f fails = none f (carried Q P entry f back fail
 pub texts_over : (sections : Sections) (entries : List Entry) (units : List PlacedUnit) (texts : UnitTexts) (head : EntryHead)
     → AreTexts sections entries units texts → head.unit ≡ texts.unit
     → (a : ℕ) (v : Datum) (r : Rule) → FailsByTexts texts head a v r → StringFails sections entries units head a v r
-texts_over sections entries units texts head read same a v r fails = record {
-  unit = read.place;
-  in_unit = ap (λ (n : ℕ). slice_get units n) same ∙ read.in_unit;
-  fails = rw (← read.strings, ← read.addresses, ← read.same_sections, ← read.header) fails;
-}
+texts_over sections entries units texts head read same a v r fails = search (rules)
 
 pub texts_back : (sections : Sections) (entries : List Entry) (units : List PlacedUnit) (texts : UnitTexts) (head : EntryHead)
     → AreTexts sections entries units texts → head.unit ≡ texts.unit
     → (a : ℕ) (v : Datum) (r : Rule) → StringFails sections entries units head a v r → FailsByTexts texts head a v r
-texts_back sections entries units texts head read same a v r fails =
-    let here : slice_get units texts.unit ≡ Some fails.unit = ap (λ (n : ℕ). slice_get units n) (sym same) ∙ fails.in_unit in
-    let one = same_some (slice_get units texts.unit) fails.unit read.place here read.in_unit in
-    let P : PlacedUnit → Type 0 = λ u. StringFailsIn sections u.unit.header (base_in entries u 114) (base_in entries u 115) head a v r in
-    rw (read.same_sections, read.header, read.strings, read.addresses) (subst P one fails.fails)
+texts_back sections entries units texts head read same a v r fails = search (rules, same_some)
 
 -- what is known of all entries is known of those of the unit at hand
 pub linkable : (it : References) (entries : Entries) (signatures : BTreeMap ℕ ℕ) → it.cursor.entries.now ≡ entries → it.signatures.now ≡ signatures → HasSignedTypes (all_entries entries.scanned) (all_units entries.scanned) signatures
@@ -97,9 +85,7 @@ NoneBelow entries Fails number = (j : ℕ) (e : Entry) → j < number → slice_
 module _ (it : References) (entries : Entries) (e : Entry) (same : it.cursor.entries.now ≡ entries) (texts : AreTexts (sections_of entries) (all_entries entries.scanned) (all_units entries.scanned) it.texts) (here : e.unit ≡ it.texts.unit) where
   -- no rule fails at an entry
   pub strings_none : (target : Option ℕ) → IsLinked it e target → HasNone (AtHead (StringFails (sections_of entries) (all_entries entries.scanned) (all_units entries.scanned)) e)
-  strings_none target linked =
-      none_carried (FailsByTexts it.texts) (StringFails (sections_of entries) (all_entries entries.scanned) (all_units entries.scanned)) e
-      (texts_back (sections_of entries) (all_entries entries.scanned) (all_units entries.scanned) it.texts (entry_head e) texts here) linked.strings
+  strings_none target linked = search (rules, none_carried, texts_back)
 
   pub references_none : (target : Option ℕ) → IsLinked it e target → HasNone (AtHead (ReferenceFails (all_entries entries.scanned) (all_units entries.scanned)) e)
   references_none target linked = let P : Entries → Type 0 = λ x. HasNone (AtHead (ReferenceFails (all_entries x.scanned) (all_units x.scanned)) e) in subst P same linked.references
@@ -113,11 +99,7 @@ module _ (it : References) (entries : Entries) (e : Entry) (same : it.cursor.ent
       → NoneBelow (all_entries entries.scanned) (ReferenceFails (all_entries entries.scanned) (all_units entries.scanned)) number
       → HasNone (HeaderFailures (all_entries entries.scanned) (all_units entries.scanned)) → HasFailed it e failed → IsFirstOfGroup (sections_of entries) (units_of entries.scanned) failed
   failed_first number (String broken) is strings references headers failed =
-      let es = all_entries entries.scanned in
-      let us = all_units entries.scanned in
-      let Fails = StringFails (sections_of entries) es us in
-      first_of_entries es (AtHead Fails) number e broken (entries_rise _ (units_of entries.scanned) entries.scanned.1.spells.are) (attributes_stand (λ x. Fails (entry_head x))) is strings
-      (first_carried (FailsByTexts it.texts) Fails e broken (texts_over (sections_of entries) es us it.texts (entry_head e) texts here) (texts_back (sections_of entries) es us it.texts (entry_head e) texts here) failed)
+      search (rules, first_of_entries, entries_rise, attributes_stand, first_carried, texts_over, texts_back)
   failed_first number (Reference broken) is strings references headers failed =
       let es = all_entries entries.scanned in
       let us = all_units entries.scanned in

@@ -1,3 +1,4 @@
+use Rattle.std.proofs.Common.{rules}
 use Rattle.std.proofs.Common.{◌≡◌, List, Some, None, ap, ◌∙◌, subst}
 use Rattle.dw_forms.specs.declared.decl.AttributeSpec.{AttributeSpec}
 use Rattle.dw_forms.specs.Value.{view}
@@ -23,10 +24,7 @@ pub loop-item-init : goal.loop-item-init
 loop-item-init c = λ e is. none_checked (ClassFails (placed (units_of c.args.entries.now.scanned))) (entry_head e) (values_of e.head) (values_left c.values-values.result) (rw is at c.values-values.ensures)
 
 pub ask_class-requires : goal.ask_class-requires
-ask_class-requires c =
-    let (e, is) = found c.args.entry.now c.requires.found in
-    let head : c.head-head.result ≡ entry_head e = rw is at c.head-head.ensures in
-    rw head (c.requires.in_unit e is)
+ask_class-requires c = search (rules, found)
 
 pub returns-in-Some-ask_class-clause-err : goal.returns-in-Some-ask_class-clause-err
 returns-in-Some-ask_class-clause-err c = λ e is.

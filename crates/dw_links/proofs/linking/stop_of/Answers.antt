@@ -1,3 +1,4 @@
+use Rattle.std.proofs.Common.{rules}
 use Rattle.std.proofs.Common.{inl, sym, subst}
 use Rattle.dw_entries.specs.Failures.{IsFirst}
 use Rattle.dw_entries.specs.Scanned.{units_of}
@@ -7,10 +8,7 @@ use Rattle.dw_links.specs.Strings.{StringFailures}
 use Rattle.dw_links.proofs.linking.stop_of.Goals as goal
 
 pub returns-in-String : goal.returns-in-String
-returns-in-String c = record {
-  holds = inl (subst (IsFirst (StringFailures (sections_of c.args.entries.now) (units_of c.args.entries.now.scanned))) (sym c.into_fault.ensures.holds) (rw c.in-String.is at c.requires));
-  cycle = c.into_fault.ensures.cycle;
-}
+returns-in-String c = search (rules)
 
 pub strings_first-requires : goal.strings_first-requires
 strings_first-requires c = record {

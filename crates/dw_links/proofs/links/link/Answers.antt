@@ -1,3 +1,4 @@
+use Rattle.std.proofs.Common.{rules}
 use Rattle.std.proofs.Common.{inl, inr}
 use Rattle.std.proofs.lemmas.Result.{err_from_is_err_and}
 use Rattle.dw_entries.specs.Entries.{entries_of, placed}
@@ -7,9 +8,7 @@ use Rattle.dw_links.proofs.Transfers.{if_fault}
 use Rattle.dw_links.proofs.links.link.Goals as goal
 
 pub returns-in_err-check_classes-clause-fault : goal.returns-in_err-check_classes-clause-fault
-returns-in_err-check_classes-clause-fault c =
-    let p = err_from_is_err_and c.from_residual.result c.from_residual.ensures.1 in
-    rw (p.1, p.2) (record { holds = inl c.in_err-check_classes.ensures.fault.holds; cycle = c.in_err-check_classes.ensures.fault.cycle })
+returns-in_err-check_classes-clause-fault c = search (rules, err_from_is_err_and)
 
 pub strings_first-requires : goal.strings_first-requires
 strings_first-requires c =
@@ -25,13 +24,4 @@ returns-in_err-types-clause-fault c =
     rw (p.1, p.2) (if_fault (λ broken first. inr (c.in_ok-check_classes.ensures.ok, first)) c.in_err-types.field-0.0 c.in_err-types.ensures.fault)
 
 pub invariant_of-result : goal.invariant_of-result
-invariant_of-result c = record {
-  tables_are = record {
-    signatures = c.in-Ok.ensures.types;
-    bases = c.in_ok-bases.ensures;
-    types = c.in_ok-types.ensures.types;
-  };
-  classes = c.in_ok-check_classes.ensures.ok;
-  strings = c.in_ok-types.ensures.strings;
-  references = c.in_ok-types.ensures.references;
-}
+invariant_of-result c = search (rules)

@@ -1,3 +1,4 @@
+use Rattle.std.proofs.Common.{rules}
 use Rattle.std.proofs.Common.{◌≡◌, ◌+◌, ◌∙◌, ap, sym, arith}
 use Rattle.std.proofs.lemmas.Option.{slice_get_within}
 use Rattle.dw_entries.specs.Entries.{entries_of, placed}
@@ -15,9 +16,7 @@ returns-in_default-clause-none c = λ p is has.
     (in_unit (entries_of us) (placed us) c.args.number c.args.type_offset (p.at + c.args.type_offset) has.id p is (let e : p.at + c.args.type_offset ≡ c.args.type_offset + p.at = omega arith in e) has.is_type)
 
 pub tag-requires : goal.tag-requires
-tag-requires c =
-    let reached = c.in-Some.ensures.found in
-    slice_get_within (entries_of (units_of c.args.entries.now.scanned)) c.in-Some.id reached.target.entry reached.target.is_entry
+tag-requires c = search (rules, slice_get_within)
 
 pub returns-then-is_type-clause-some : goal.returns-then-is_type-clause-some
 returns-then-is_type-clause-some c = λ p is.

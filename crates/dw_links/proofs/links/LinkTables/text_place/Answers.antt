@@ -1,3 +1,4 @@
+use Rattle.std.proofs.Common.{rules}
 use Rattle.std.proofs.Common.{◌≡◌, Some, sym, subst, option_map}
 use Rattle.dw_forms.specs.Value.{view}
 use Rattle.dw_entries.specs.Entries.{entries_of, placed}
@@ -14,11 +15,7 @@ use Rattle.dw_links.proofs.SlotLaws.{text_lies, text_told, no_text}
 use Rattle.dw_links.proofs.links.LinkTables.text_place.Goals as goal
 
 pub place_of_value-requires-clause-value : goal.place_of_value-requires-clause-value
-place_of_value-requires-clause-value c =
-    let us = units_of c.args.entries.now.scanned in
-    let (e, is) = there (entries_of us) c.args.id c.requires.id in
-    let value : Some (view c.in-Some.value) ≡ value_at_entry e c.args.attribute = rw is at c.in-Some.ensures in
-    rw is (sym value)
+place_of_value-requires-clause-value c = search (rules, there)
 
 pub place_of_value-requires-clause-lies : goal.place_of_value-requires-clause-lies
 place_of_value-requires-clause-lies c =

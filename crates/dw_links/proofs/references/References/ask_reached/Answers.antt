@@ -10,23 +10,13 @@ use Rattle.dw_links.proofs.TargetLaws.{reached_entry}
 use Rattle.dw_links.proofs.references.References.ask_reached.Goals as goal
 
 pub returns-then-not-is_permitted_form-clause-rule : goal.returns-then-not-is_permitted_form-clause-rule
-returns-then-not-is_permitted_form-clause-rule c =
-    let us = units_of c.args.self.now.cursor.entries.now.scanned in
-    let reaches : reach_of (entries_of us) (placed us) c.args.head.now.unit (view c.args.value.now) ≡ Some c.args.id = ap (λ (n : ℕ). reach_of (entries_of us) (placed us) n (view c.args.value.now)) c.requires.may.in_unit ∙ c.requires.reaches in
-    wrong_first (entries_of us) (placed us) c.args.head.now c.args.attribute (view c.args.value.now) c.args.id c.requires.reference reaches (inl (sym c.if-not-is_permitted_form.ensures))
+returns-then-not-is_permitted_form-clause-rule c = search (rules, wrong_first)
 
 pub is_permitted-requires-clause-id : goal.is_permitted-requires-clause-id
-is_permitted-requires-clause-id c =
-    let us = units_of c.args.self.now.cursor.entries.now.scanned in
-    let (e, is) = reached_entry (entries_of us) (placed us) c.args.self.now.texts.unit (view c.args.value.now) c.args.id c.requires.reaches in
-    slice_get_within (entries_of us) c.args.id e is
+is_permitted-requires-clause-id c = search (rules, reached_entry, slice_get_within)
 
 pub returns-then-not-is_permitted-clause-rule : goal.returns-then-not-is_permitted-clause-rule
-returns-then-not-is_permitted-clause-rule c =
-    let us = units_of c.args.self.now.cursor.entries.now.scanned in
-    let reaches : reach_of (entries_of us) (placed us) c.args.head.now.unit (view c.args.value.now) ≡ Some c.args.id = ap (λ (n : ℕ). reach_of (entries_of us) (placed us) n (view c.args.value.now)) c.requires.may.in_unit ∙ c.requires.reaches in
-    let (e, is) = reached_entry (entries_of us) (placed us) c.args.self.now.texts.unit (view c.args.value.now) c.args.id c.requires.reaches in
-    wrong_first (entries_of us) (placed us) c.args.head.now c.args.attribute (view c.args.value.now) c.args.id c.requires.reference reaches (inr (record { id = c.args.id; reaches = refl; target = e; is_target = is; wrong = sym (c.if-not-is_permitted.ensures.exact e is) }))
+returns-then-not-is_permitted-clause-rule c = search (rules, reached_entry, wrong_first)
 
 pub returns-then-ne-clause-rule : goal.returns-then-ne-clause-rule
 returns-then-ne-clause-rule c =
@@ -47,12 +37,4 @@ returns-then-is_next-clause-rule c =
     (λ p. right_sibling c.args.head.now.next_sibling (reach_of (entries_of us) (placed us) c.args.head.now.unit (view c.args.value.now)) c.args.id reaches c.if-is_next.ensures.yes p.1)
 
 pub returns-clause-rule : goal.returns-clause-rule
-returns-clause-rule c =
-    let us = units_of c.args.self.now.cursor.entries.now.scanned in
-    let reaches : reach_of (entries_of us) (placed us) c.args.head.now.unit (view c.args.value.now) ≡ Some c.args.id = ap (λ (n : ℕ). reach_of (entries_of us) (placed us) n (view c.args.value.now)) c.requires.may.in_unit ∙ c.requires.reaches in
-    let (e, is) = reached_entry (entries_of us) (placed us) c.args.self.now.texts.unit (view c.args.value.now) c.args.id c.requires.reaches in
-    let right = not_wrong (entries_of us) c.args.head.now c.args.attribute (view c.args.value.now) c.args.id e is (sym c.if-not-is_permitted_form.ensures) (sym (c.if-not-is_permitted.ensures.exact e is)) in
-    let sibling : c.args.attribute ≡ DW_AT_sibling = let h = c.if-ne.ensures in search rules in (
-      (c.requires.reference, (sibling, other_sibling c.args.head.now.next_sibling (reach_of (entries_of us) (placed us) c.args.head.now.unit (view c.args.value.now)) c.args.id reaches c.if-is_next.ensures.otherwise)),
-      least_other (entries_of us) (placed us) c.args.head.now c.args.attribute (view c.args.value.now) c.args.id reaches right,
-    )
+returns-clause-rule c = search (rules, reached_entry, not_wrong, other_sibling, least_other)

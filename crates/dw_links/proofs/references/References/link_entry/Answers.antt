@@ -1,3 +1,4 @@
+use Rattle.std.proofs.Common.{rules}
 use Rattle.std.proofs.Common.{◌≡◌, sym, ap, ◌∙◌, subst}
 use Rattle.std.specs.Option.{option_flatten}
 use Rattle.std.proofs.lemmas.Result.{err_from_is_err_and}
@@ -12,24 +13,13 @@ use Rattle.dw_links.proofs.Skips.{found}
 use Rattle.dw_links.proofs.references.References.link_entry.Goals as goal
 
 pub loop-form-init : goal.loop-form-init
-loop-form-init c = record {
-  so_far = λ e is. none_so_far c.args.self.now e (leading_left c.leading-leading.result) (rw is at c.leading-leading.ensures);
-  kept = c.requires.kept;
-}
+loop-form-init c = search (rules, none_so_far)
 
 pub link_next-requires-clause-may : goal.link_next-requires-clause-may
-link_next-requires-clause-may c =
-    let (e, is) = found c.args.entry.now c.requires.found in
-    let head : c.head-head.result ≡ entry_head e = rw is at c.head-head.ensures in
-    subst (MayAsk c.args.self.now) (sym head) (c.requires.may e is)
+link_next-requires-clause-may c = search (rules, found)
 
 pub returns-in_err-attribute-clause-err : goal.returns-in_err-attribute-clause-err
-returns-in_err-attribute-clause-err c =
-    let p = err_from_is_err_and c.from_residual.result c.from_residual.ensures.1 in
-    rw (p.1, p.2) (λ e is.
-    let head : c.head-head.result ≡ entry_head e = rw is at c.head-head.ensures in
-    let P : EntryHead → Type 0 = λ h. HasFailedNext c.args.self.now h (leading_left c.loop-form.leading) c.in_err-attribute.field-0.0 in
-    fails_so_far c.args.self.now e (leading_left c.loop-form.leading) c.loop-form.kept c.in_err-attribute.field-0.0 (c.loop-form.invariant.so_far e is) (subst P head c.in_err-attribute.ensures.err))
+returns-in_err-attribute-clause-err c = search (rules, err_from_is_err_and, fails_so_far)
 
 pub loop-form-preserved : goal.loop-form-preserved
 loop-form-preserved c = record {
