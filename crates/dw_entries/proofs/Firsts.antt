@@ -97,12 +97,6 @@ pub none_of_entries : (entries : List Entry) (Fails : Entry → Failure → Type
     → HasNone (AtEntries entries Fails)
 none_of_entries entries Fails = none_of_list entries (λ _. Fails)
 
-pub more_entries : (entries : List Entry) (Fails : Entry → Failure → Type 0) (id : ℕ) (entry : Entry) → slice_get entries id ≡ Some entry
-    → ((j : ℕ) (e : Entry) → j < id → slice_get entries j ≡ Some e → HasNone (Fails e))
-    → HasNone (Fails entry)
-    → (j : ℕ) (e : Entry) → j < id + 1 → slice_get entries j ≡ Some e → HasNone (Fails e)
-more_entries entries Fails id entry = more_of_list entries (λ _. Fails) id entry
-
 -- where an entry's attribute does not precede another of it
 abbrev pub Among : ℕ → ℕ → Failure → Failure → Type 0
 Among j k f g = (j < k) ⊎ ((j ≡ k) × (number_of f.rule < number_of g.rule))

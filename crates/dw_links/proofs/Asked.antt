@@ -1,6 +1,6 @@
 -- Which rule on strings, addresses and references has the least number of those that fail.
 use Rattle.std.proofs.Common.{rules}
-use Rattle.std.proofs.Common.{◌≡◌, ℕ, false, Option, Some, None, refl, ◌<◌, true, List, sym, ap, ◌∙◌, arith, subst, inl, inr}
+use Rattle.std.proofs.Common.{◌≡◌, ℕ, false, Option, Some, None, refl, ◌<◌, true, List, sym, ap, ◌∙◌, subst, inl, inr}
 use Rattle.std.specs.Prelude.{is_some, slice_get, IsSome}
 use Rattle.dw_forms.specs.Value.{Datum, ref_sig}
 use Rattle.dw_entries.specs.declared.fault.Rule.{Rule}
@@ -8,6 +8,8 @@ use Rattle.dw_entries.specs.Failures.{IsLeast}
 use Rattle.dw_entries.specs.declared.fault.Rule.TheVariants as rule
 use Rattle.dw_entries.specs.declared.lookup.EntryHead.{EntryHead}
 use Rattle.dw_entries.specs.Entries.{Entry, PlacedUnit}
+use Rattle.dw_entries.specs.declared.entries.Entries.{Entries}
+use Rattle.dw_entries.specs.Scanned.{all_entries, all_units}
 use Rattle.dw_entries.specs.Rules.{number_of}
 use Rattle.dw_entries.proofs.Firsts.{same_some}
 use Rattle.dw_links.specs.References.{permits, permits_form, is_signature, is_reference_value, NoEntryThere, IsWrongKind, IsOtherThan, NoSignatureThere, ReferenceFails}
@@ -25,19 +27,27 @@ none_of None is = refl
 none_of (Some n) is = absurd cc
 
 -- a signature that reaches no entry is no unit's
-pub no_signature : (entries : List Entry) (units : List PlacedUnit) (unit : ℕ) (v : Datum) → AreTyped entries units → is_signature v ≡ true → reach_of entries units unit v ≡ None → NoSignatureThere units v
-no_signature entries units unit (ref_sig s) typed is nowhere = λ number has. let some : IsSome {T = ℕ} None = subst (λ (o : Option ℕ). IsSome o) nowhere (typed s number has) in cc
-no_signature entries units unit _ typed is nowhere = absurd cc
+pub no_signature : (entries : Entries) (unit : ℕ) (v : Datum) → AreTyped entries → is_signature v ≡ true → reach_of (all_entries entries.scanned) (all_units entries.scanned) unit v ≡ None → NoSignatureThere (all_units entries.scanned) v
+no_signature entries unit (ref_sig s) typed is nowhere = λ number has. let some : IsSome {T = ℕ} None = subst (λ (o : Option ℕ). IsSome o) nowhere (typed s number has) in cc
+no_signature entries unit _ typed is nowhere = absurd cc
 
 -- a reference that reaches an entry has its signature
 not_unsigned : (entries : List Entry) (units : List PlacedUnit) (unit : ℕ) (v : Datum) (id : ℕ) → reach_of entries units unit v ≡ Some id → NoSignatureThere units v → ⊥
 not_unsigned entries units unit (ref_sig s) id reaches none = let found = at_type entries units s id reaches in none found.number found.has
 not_unsigned entries units unit _ id reaches none = none
 
-pub not_wrong : (entries : List Entry) (head : EntryHead) (a : ℕ) (v : Datum) (id : ℕ) (target : Entry) → slice_get entries id ≡ Some target → permits_form head a v ≡ true → permits head a target ≡ true → IsWrongKind entries head a v (Some id) → ⊥
-not_wrong entries head a v id target is form right wrong = search (rules, same_some)
+-- the kinds of its form and of its target are permitted
+not_wrong : (entries : List Entry) (head : EntryHead) (a : ℕ) (v : Datum) (id : ℕ) → true ≡ permits_form head a v → ((target : Entry) → slice_get entries id ≡ Some target → true ≡ permits head a target) → IsWrongKind entries head a v (Some id) → ⊥
+not_wrong entries head a v id form kind wrong =
+    elim wrong [
+      | inl w ↦ let both : true ≡ false = form ∙ w in cc
+      | inr w ↦
+          let P : ℕ → Type 0 = λ i. slice_get entries i ≡ Some w.target in
+          let here = subst P (same_some (Some id) w.id id w.reaches refl) w.is_target in
+          let both : true ≡ false = kind w.target here ∙ w.wrong in cc
+    ]
 
--- R3
+-- a sibling attribute reaches the next sibling
 pub right_sibling : (next reached : Option ℕ) (id : ℕ) → reached ≡ Some id → next ≡ Some id → IsOtherThan next reached → ⊥
 right_sibling next reached id reaches is other = search (rules, same_some)
 
@@ -61,15 +71,15 @@ by_rule entries units entry a v P p q s t rule.NotNextSibling fails = s fails
 by_rule entries units entry a v P p q s t rule.NoSignature fails = t fails
 by_rule entries units entry a v P p q s t _ fails = absurd fails.1
 
-pub least_other : (entries : List Entry) (units : List PlacedUnit) (head : EntryHead) (a : ℕ) (v : Datum) (id : ℕ) → reach_of entries units head.unit v ≡ Some id → (IsWrongKind entries head a v (Some id) → ⊥)
-    → (r : Rule) → ReferenceFails entries units head a v r → number_of r < 3 → ⊥
-least_other entries units head a v id reaches right = search (rules, by_rule, no_entry_not)
+pub least_other : (entries : List Entry) (units : List PlacedUnit) (head : EntryHead) (a : ℕ) (v : Datum) (id : ℕ) → reach_of entries units head.unit v ≡ Some id → true ≡ permits_form head a v
+    → ((target : Entry) → slice_get entries id ≡ Some target → true ≡ permits head a target) → (r : Rule) → ReferenceFails entries units head a v r → number_of r < 3 → ⊥
+least_other entries units head a v id reaches form kind = let right = not_wrong entries head a v id form kind in search (rules, by_rule, no_entry_not)
 
-pub least_none : (entries : List Entry) (units : List PlacedUnit) (head : EntryHead) (a : ℕ) (v : Datum) (id : ℕ) → reach_of entries units head.unit v ≡ Some id → (IsWrongKind entries head a v (Some id) → ⊥)
-    → ((a ≡ 1) × IsOtherThan head.next_sibling (reach_of entries units head.unit v) → ⊥)
+pub least_none : (entries : List Entry) (units : List PlacedUnit) (head : EntryHead) (a : ℕ) (v : Datum) (id : ℕ) → reach_of entries units head.unit v ≡ Some id → true ≡ permits_form head a v
+    → ((target : Entry) → slice_get entries id ≡ Some target → true ≡ permits head a target) → ((a ≡ 1) × IsOtherThan head.next_sibling (reach_of entries units head.unit v) → ⊥)
     → (r : Rule) → ReferenceFails entries units head a v r → ⊥
-least_none entries units head a v id reaches right next =
-    by_rule entries units head a v (λ r. ⊥) (λ fails. no_entry_not entries units head.unit v id reaches fails.1) (λ fails. right (subst (IsWrongKind entries head a v) reaches fails.1)) (λ fails. next fails.1)
+least_none entries units head a v id reaches form kind next =
+    by_rule entries units head a v (λ r. ⊥) (λ fails. no_entry_not entries units head.unit v id reaches fails.1) (λ fails. not_wrong entries head a v id form kind (subst (IsWrongKind entries head a v) reaches fails.1)) (λ fails. next fails.1)
     (λ fails. not_unsigned entries units head.unit v id reaches fails.1)
 
 pub wrong_first : (entries : List Entry) (units : List PlacedUnit) (head : EntryHead) (a : ℕ) (v : Datum) (id : ℕ) → is_reference_value v ≡ true → reach_of entries units head.unit v ≡ Some id → IsWrongKind entries head a v (Some id) → IsLeast (ReferenceFails entries units head a v) (Some rule.WrongKind)

@@ -1,12 +1,11 @@
 -- The rule on classes, by declarations and by values, and what the form of a value says of it.
-use Rattle.std.proofs.Common.{rules}
-use Rattle.std.proofs.Common.{◌≡◌, ℕ, ◌||◌, Bool, true, false, List, Some, refl, ap, sym, ◌∙◌, ◌⊎◌, inl, inr, subst, ◌<◌, [], ◌∷◌, length, arith, if◌then◌else◌, nat_eq}
+use Rattle.std.proofs.Common.{rules, ◌≡◌, ℕ, ◌||◌, Bool, true, false, List, Option, Some, refl, ap, sym, ◌∙◌, ◌⊎◌, inl, inr, subst, ◌<◌, [], ◌∷◌, length, arith, if◌then◌else◌, nat_eq}
 use Rattle.std.specs.Prelude.{◌==◌, slice_get, IfSome, ◌&&◌}
 use Rattle.std.proofs.lemmas.Bool.{eq-eqb, ne_eqb}
 use Rattle.std.specs.List.{list_all}
 use Rattle.std.proofs.lemmas.Option.{slice_get_within}
 use mathlib.Core.Logic.{∥∥₁_elim}
-use Rattle.dw_forms.specs.Codes.{DW_AT_type, DW_AT_str_offsets_base, DW_AT_addr_base, DW_AT_sibling, DW_AT_name, DW_AT_byte_size, DW_AT_bit_size, DW_AT_import, DW_AT_lower_bound, DW_AT_prototyped, DW_AT_bit_stride, DW_AT_upper_bound, DW_AT_abstract_origin, DW_AT_count, DW_AT_data_member_location, DW_AT_declaration, DW_AT_encoding, DW_AT_specification, DW_AT_byte_stride, DW_AT_signature, DW_AT_data_bit_offset}
+use Rattle.dw_forms.specs.Codes.{DW_AT_type, DW_AT_str_offsets_base, DW_AT_addr_base}
 use Rattle.dw_forms.specs.declared.decl.AttributeSpec.{AttributeSpec}
 use Rattle.dw_forms.specs.declared.form.Form.{Form}
 use Rattle.dw_forms.specs.declared.form.Form.TheVariants as form
@@ -23,18 +22,23 @@ use Rattle.dw_entries.specs.declared.lookup.UnitHead.{UnitHead}
 use Rattle.dw_entries.specs.Header.{version_of}
 use Rattle.dw_entries.specs.Units.{DebugUnit, Spells}
 use Rattle.dw_entries.specs.Lookups.{unit_head}
-use Rattle.dw_entries.specs.Rules.{number_of}
 use Rattle.dw_entries.specs.Failures.{IsLeast}
 use Rattle.dw_entries.specs.Chosen.{OthersPass}
 use Rattle.dw_entries.proofs.HeadLaws.{head_stands}
 use Rattle.dw_entries.proofs.EntryFacts.{length-placed_from}
 use Rattle.dw_links.specs.declared.class.Class.{Class}
 use Rattle.dw_links.specs.declared.class.Class.TheVariants.{Constant, Flag}
-use Rattle.dw_links.specs.declared.strings.UnitTexts.{UnitTexts}
-use Rattle.dw_links.specs.Classes.{class_of, form_class, is_one_of, is_flag, is_section_offset, allows, allows_in, ClassFails}
+use Rattle.dw_elf.specs.declared.sections.Sections.{Sections}
+use Rattle.dw_entries.specs.declared.entries.Entries.{Entries}
+use Rattle.dw_entries.specs.declared.header.UnitHeader.{UnitHeader}
+use Rattle.dw_entries.specs.Scanned.{all_entries}
+use Rattle.dw_entries.specs.Views.{sections_of}
+use Rattle.dw_links.specs.Bases.{base_in}
+use Rattle.dw_links.specs.Linkable.{FailsByText, FailsByTarget}
+use Rattle.dw_links.specs.Strings.{StringFailsIn}
+use Rattle.dw_links.specs.Classes.{class_of, form_class, is_one_of, allows, allows_in, ClassFails}
 use Rattle.dw_links.specs.Concerns.{Passes}
-use Rattle.dw_links.specs.Ready.{FailsByTexts}
-use Rattle.dw_links.specs.References.{is_reference_value, ReferenceFails}
+use Rattle.dw_links.specs.References.{is_reference_value}
 use Rattle.dw_links.proofs.Skips.{there}
 
 -- ---- its class
@@ -74,48 +78,46 @@ other_code : (a b : ℕ) → (a == b) ≡ false → a ≡ b → ⊥
 other_code a b not same = let both : (a == b) ≡ true = ap (λ (n : ℕ). n == b) same ∙ eq-eqb b b refl in let no : true ≡ false = sym both ∙ not in cc
 
 -- it is no string, no address and no base
-no_text : (texts : UnitTexts) (head : EntryHead) (a : ℕ) (rule : Rule) (version size : ℕ) (f : Form) (bytes : List ℕ) (v : Datum) → may_lead_out f ≡ false → ((a ≡ DW_AT_str_offsets_base) ⊎ (a ≡ DW_AT_addr_base) → ⊥) → Val version f size bytes v → FailsByTexts texts head a v rule → ⊥
-no_text texts head a rule version size form.Strp bytes v none no_base p fails = let both : true ≡ false = none in cc
-no_text texts head a rule version size form.LineStrp bytes v none no_base p fails = let both : true ≡ false = none in cc
-no_text texts head a rule version size form.Strx bytes v none no_base p fails = let both : true ≡ false = none in cc
-no_text texts head a rule version size form.Strx1 bytes v none no_base p fails = let both : true ≡ false = none in cc
-no_text texts head a rule version size form.Strx2 bytes v none no_base p fails = let both : true ≡ false = none in cc
-no_text texts head a rule version size form.Strx3 bytes v none no_base p fails = let both : true ≡ false = none in cc
-no_text texts head a rule version size form.Strx4 bytes v none no_base p fails = let both : true ≡ false = none in cc
-no_text texts head a rule version size form.Addrx bytes v none no_base p fails = let both : true ≡ false = none in cc
-no_text texts head a rule version size form.Addrx1 bytes v none no_base p fails = let both : true ≡ false = none in cc
-no_text texts head a rule version size form.Addrx2 bytes v none no_base p fails = let both : true ≡ false = none in cc
-no_text texts head a rule version size form.Addrx3 bytes v none no_base p fails = let both : true ≡ false = none in cc
-no_text texts head a rule version size form.Addrx4 bytes v none no_base p fails = let both : true ≡ false = none in cc
-no_text texts head a rule version size form.Indirect bytes v none no_base p fails = let both : true ≡ false = none in cc
-no_text texts head a rule version size form.SecOffset bytes v none no_base p fails = search (rules)
-no_text texts head a rule version size form.FlagPresent bytes v none no_base p fails = let P : Datum → Type 0 = λ d. FailsByTexts texts head a d rule in subst P p.1 fails
-no_text texts head a rule version size (form.ImplicitConst number) bytes v none no_base p fails = let P : Datum → Type 0 = λ d. FailsByTexts texts head a d rule in subst P p.1 fails
-no_text texts head a rule version size _ bytes v none no_base p fails = let P : Datum → Type 0 = λ d. FailsByTexts texts head a d rule in subst P p.2 fails
+module _ (sections : Sections) (header : UnitHeader) (strings addresses : Option ℕ) (head : EntryHead) (a : ℕ) (rule : Rule) where
+  abbrev Fails : Datum → Type 0
+  Fails v = StringFailsIn sections header strings addresses head a v rule
 
-pub passes_texts : (texts : UnitTexts) (spec : AttributeSpec) → DoesNotLead spec → Passes (FailsByTexts texts) spec
-passes_texts texts spec not x a is head rule fails =
+  no_text : (version size : ℕ) (f : Form) (bytes : List ℕ) (v : Datum) → may_lead_out f ≡ false → ((a ≡ DW_AT_str_offsets_base) ⊎ (a ≡ DW_AT_addr_base) → ⊥) → Val version f size bytes v → Fails v → ⊥
+  no_text version size form.Strp bytes v none no_base p fails = let both : true ≡ false = none in cc
+  no_text version size form.LineStrp bytes v none no_base p fails = let both : true ≡ false = none in cc
+  no_text version size form.Strx bytes v none no_base p fails = let both : true ≡ false = none in cc
+  no_text version size form.Strx1 bytes v none no_base p fails = let both : true ≡ false = none in cc
+  no_text version size form.Strx2 bytes v none no_base p fails = let both : true ≡ false = none in cc
+  no_text version size form.Strx3 bytes v none no_base p fails = let both : true ≡ false = none in cc
+  no_text version size form.Strx4 bytes v none no_base p fails = let both : true ≡ false = none in cc
+  no_text version size form.Addrx bytes v none no_base p fails = let both : true ≡ false = none in cc
+  no_text version size form.Addrx1 bytes v none no_base p fails = let both : true ≡ false = none in cc
+  no_text version size form.Addrx2 bytes v none no_base p fails = let both : true ≡ false = none in cc
+  no_text version size form.Addrx3 bytes v none no_base p fails = let both : true ≡ false = none in cc
+  no_text version size form.Addrx4 bytes v none no_base p fails = let both : true ≡ false = none in cc
+  no_text version size form.Indirect bytes v none no_base p fails = let both : true ≡ false = none in cc
+  no_text version size form.SecOffset bytes v none no_base p fails = elim (subst Fails p.2 fails).2 [ inl str ↦ no_base (inl str.0) | inr addr ↦ no_base (inr addr.0) ]
+  no_text version size form.FlagPresent bytes v none no_base p fails = subst Fails p.1 fails
+  no_text version size (form.ImplicitConst number) bytes v none no_base p fails = subst Fails p.1 fails
+  no_text version size _ bytes v none no_base p fails = subst Fails p.2 fails
+
+pub passes_texts : (entries : Entries) (spec : AttributeSpec) → DoesNotLead spec → Passes (FailsByText entries) spec
+passes_texts entries spec not x a is head rule fails =
     let l = leads spec not in
+    let unit = fails.unit in
     ∥∥₁_elim is.value (λ p q. absurd p)
-    (λ v. no_text texts head a.code rule x.version x.address_size spec.form a.bytes a.value l.no_way_out
-    (λ base. elim base [ inl str ↦ other_code _ _ l.no_str_base (sym is.code ∙ str) | inr addr ↦ other_code _ _ l.no_addr_base (sym is.code ∙ addr) ]) v fails)
+    (λ v. no_text (sections_of entries) unit.unit.header (base_in (all_entries entries.scanned) unit DW_AT_str_offsets_base) (base_in (all_entries entries.scanned) unit DW_AT_addr_base) head a.code rule x.version x.address_size spec.form a.bytes a.value l.no_way_out
+    (λ base. elim base [ inl str ↦ other_code _ _ l.no_str_base (sym is.code ∙ str) | inr addr ↦ other_code _ _ l.no_addr_base (sym is.code ∙ addr) ]) v fails.fails)
 
 -- it is no reference
 no_reference : (version size : ℕ) (f : Form) (bytes : List ℕ) (v : Datum) → may_refer f ≡ false → Val version f size bytes v → is_reference_value v ≡ false
-no_reference version size form.RefAddr bytes v none p = absurd (let both : true ≡ false = none in cc)
-no_reference version size form.Ref1 bytes v none p = absurd (let both : true ≡ false = none in cc)
-no_reference version size form.Ref2 bytes v none p = absurd (let both : true ≡ false = none in cc)
-no_reference version size form.Ref4 bytes v none p = absurd (let both : true ≡ false = none in cc)
-no_reference version size form.Ref8 bytes v none p = absurd (let both : true ≡ false = none in cc)
-no_reference version size form.RefUdata bytes v none p = absurd (let both : true ≡ false = none in cc)
-no_reference version size form.RefSig8 bytes v none p = absurd (let both : true ≡ false = none in cc)
 no_reference version size form.Indirect bytes v none p = absurd (let both : true ≡ false = none in cc)
 no_reference version size form.FlagPresent bytes v none p = ap is_reference_value p.1
 no_reference version size (form.ImplicitConst number) bytes v none p = ap is_reference_value p.1
-no_reference version size _ bytes v none p = ap is_reference_value p.2
+no_reference version size _ bytes v none p = ap is_reference_value p.2 ∙ none
 
-pub passes_targets : (entries : List Entry) (units : List PlacedUnit) (spec : AttributeSpec) → DoesNotLead spec → Passes (ReferenceFails entries units) spec
-passes_targets entries units spec not x a is head rule fails =
+pub passes_targets : (entries : Entries) (spec : AttributeSpec) → DoesNotLead spec → Passes (FailsByTarget entries) spec
+passes_targets entries spec not x a is head rule fails =
     ∥∥₁_elim is.value (λ p q. absurd p)
     (λ v. let both : true ≡ false = sym fails.0 ∙ no_reference x.version x.address_size spec.form a.bytes a.value (leads spec not).no_reference v in cc)
 

@@ -1,37 +1,60 @@
 -- What is kept of the entries that are declared and not defined.
-use Rattle.std.proofs.Common.{rules}
-use Rattle.std.proofs.Common.{◌≡◌, ℕ, ◌<◌, Bool, true, false, List, [], ◌∷◌, Some, zero, suc, arith, refl, sym, ap, ◌∙◌, length, get_or, set, eqb-true, eq-eqb, ◌==◌}
-use Rattle.std.specs.Prelude.{slice_get}
-use Rattle.std.proofs.lemmas.List.{length-set}
-use Rattle.std.proofs.lemmas.Option.{slice_get_within, slice_get-get_or}
-use Rattle.dw_entries.specs.Entries.{Entry}
-use Rattle.dw_links.specs.declared.targets.Known.{Known}
+use Rattle.std.proofs.Common.{arith, ◌<◌, get_or, ◌≡◌, ℕ, zero, suc, Bool, List, [], ◌∷◌, Option, None, Some, refl, sym, ap, ◌∙◌, length, set, replicate, inl, inr, ◌⊎◌}
+use Rattle.std.specs.Prelude.{slice_get, IfSome}
+use Rattle.std.proofs.lemmas.List.{length-set, length-replicate}
+use Rattle.std.proofs.lemmas.Option.{slice_get_read}
+use Rattle.dw_entries.specs.declared.entries.Entries.{Entries}
+use Rattle.dw_entries.specs.Scanned.{all_entries}
+use Rattle.dw_links.proofs.Skips.{there}
+use Rattle.dw_links.specs.declared.targets.DeclaredEntries.{DeclaredEntries}
 use Rattle.dw_links.specs.References.{is_declared}
-use Rattle.dw_links.specs.DeclaredEntries.{known_as, IsKnownOf, KeepsDeclared}
+use Rattle.dw_links.specs.DeclaredEntries.{KeepsDeclared}
 
--- what is kept of an entry is true of it
-pub kept_at : (entries : List Entry) (kept : List Known) (id number : ℕ) (e : Entry) (known : Known) → KeepsDeclared entries kept → slice_get entries id ≡ Some e → number ≡ id → known ≡ get_or kept number known → IsKnownOf e known
-kept_at entries kept id number e known keeps is same found = search (rules, slice_get_within, slice_get-get_or)
-
--- what was read of an entry is true of it
-read_known : (e : Entry) (declared : Bool) → declared ≡ is_declared e → IsKnownOf e (known_as declared)
-read_known e true is = sym is
-read_known e false is = sym is
-
-set_same : (kept : List Known) (id : ℕ) (known other : Known) → slice_get (set kept id known) id ≡ Some other → known ≡ other
-set_same [] id known other is = absurd (cc)
-set_same (k ∷ kept) zero known other is = cc
-set_same (k ∷ kept) (suc id) known other is = set_same kept id known other is
-
-set_other : (kept : List Known) (id place : ℕ) (known : Known) → (place ≡ id → ⊥) → slice_get (set kept id known) place ≡ slice_get kept place
-set_other [] id place known apart = refl
-set_other (k ∷ kept) zero zero known apart = absurd (apart refl)
-set_other (k ∷ kept) zero (suc place) known apart = refl
-set_other (k ∷ kept) (suc id) zero known apart = refl
-set_other (k ∷ kept) (suc id) (suc place) known apart = set_other kept id place known (λ same. apart (ap suc same))
+-- an item of a list of which one was set is the new one, or was there
+set_get : {X : Type 0} (xs : List X) (i j : ℕ) (x y : X) → slice_get (set xs i x) j ≡ Some y → ((i ≡ j) × (x ≡ y)) ⊎ (slice_get xs j ≡ Some y)
+set_get [] i j x y is = inr is
+set_get (z ∷ xs) zero zero x y is = inl (refl, cc)
+set_get (z ∷ xs) zero (suc j) x y is = inr is
+set_get (z ∷ xs) (suc i) zero x y is = inr is
+set_get (z ∷ xs) (suc i) (suc j) x y is = elim (set_get xs i j x y is) [ inl here ↦ inl (ap suc here.0, here.1) | inr there ↦ inr there ]
 
 -- one entry more is known
-pub one_more_known : (entries : List Entry) (kept : List Known) (id number : ℕ) (e : Entry) (declared : Bool) → KeepsDeclared entries kept → slice_get entries id ≡ Some e → number ≡ id → declared ≡ is_declared e
-    → KeepsDeclared entries (set kept number (known_as declared))
-one_more_known entries kept id number e declared keeps is same read =
-    search (rules, length-set, eqb-true, set_same, read_known, set_other, eq-eqb)
+pub one_more_known : (entries : Entries) (kept new : DeclaredEntries) (id number : ℕ) (declared : Bool) → KeepsDeclared entries kept → id < length (all_entries entries.scanned) → number ≡ id
+    → IfSome (slice_get (all_entries entries.scanned) id) (λ e. declared ≡ is_declared e) → new.known.items ≡ set kept.known.items number (Some declared) → KeepsDeclared entries new
+one_more_known entries kept new id number declared keeps below is read same = record {
+  all = ap length same ∙ length-set kept.known.items number (Some declared) ∙ keeps.all;
+  right = λ j at known is_at found.
+      elim (set_get kept.known.items number j (Some declared) (Some known) (ap (λ (xs : List (Option Bool)). slice_get xs j) (sym same) ∙ found)) [
+        | inl here ↦
+            let place : id ≡ j = sym is ∙ here.0 in
+            let value : declared ≡ known = cc (here.1) in
+            let told : declared ≡ is_declared at = rw (place, is_at) at read in
+            sym value ∙ told
+        | inr there ↦ keeps.right j at known is_at there
+      ];
+}
+
+-- what is known of an entry is true of it
+pub known_right : (entries : Entries) (kept : DeclaredEntries) (id number : ℕ) (declared : Bool) (o : Option Bool) → KeepsDeclared entries kept → id < length (all_entries entries.scanned) → number ≡ id
+    → o ≡ get_or kept.known.items number o → o ≡ Some declared → IfSome (slice_get (all_entries entries.scanned) id) (λ e. declared ≡ is_declared e)
+known_right entries kept id number declared o keeps below is read some =
+    let (e, at_id) = there (all_entries entries.scanned) id below in
+    let kept_at : slice_get kept.known.items number ≡ Some o = slice_get_read kept.known.items (length kept.known.items) number o refl (omega (arith, is, below, keeps.all)) read in
+    rw at_id (keeps.right id e declared at_id (ap (slice_get kept.known.items) (sym is) ∙ kept_at ∙ ap Some some))
+
+-- none is known of any entry
+none_known : (n j : ℕ) (known : Bool) → slice_get (replicate n None) j ≡ Some (Some known) → ⊥
+none_known zero j known is = absurd cc
+none_known (suc n) zero known is = absurd cc
+none_known (suc n) (suc j) known is = none_known n j known is
+
+pub keeps_none : (entries : Entries) (kept : DeclaredEntries) (n : ℕ) → n ≡ length (all_entries entries.scanned) → kept.known.items ≡ replicate n None → KeepsDeclared entries kept
+keeps_none entries kept n all same = record {
+  all = ap length same ∙ length-replicate n None ∙ all;
+  right = λ id e declared is found. absurd (none_known n id declared (ap (λ (xs : List (Option Bool)). slice_get xs id) (sym same) ∙ found));
+}
+
+-- a fact that holds of no Some holds of None alone
+pub only_none : (P : Option Bool → Type 0) → ((known : Bool) → P (Some known) → ⊥) → (o : Option Bool) → P o → o ≡ None
+only_none P never None p = refl
+only_none P never (Some known) p = absurd (never known p)

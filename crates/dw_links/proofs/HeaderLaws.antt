@@ -16,8 +16,7 @@ use Rattle.dw_entries.specs.declared.header.HeaderKind.TheVariants.{Version4, Co
 use Rattle.dw_entries.specs.Header.{header_size, header_bytes}
 use Rattle.dw_entries.specs.HeaderLaws.{length-header}
 use Rattle.dw_entries.specs.Units.{DebugUnit, unit_bytes, body_bytes}
-use Rattle.dw_entries.specs.Rules.{number_of}
-use Rattle.dw_entries.specs.Places.{Place, IsBefore, at_header, at_attribute}
+use Rattle.dw_entries.specs.Places.{at_header, at_attribute}
 use Rattle.dw_entries.specs.Failures.{Failure, Precedes, Names, HasNone, IsFirst, IsLeast}
 use Rattle.dw_entries.specs.Asked.{OffsetsRise, AtPlace}
 use Rattle.dw_entries.proofs.FirstPlaces.{header_precedes_le, first_at_place, none_at_place}

@@ -3,21 +3,21 @@
 use Rattle.std.proofs.Common.{rules}
 use Rattle.std.proofs.Common.{◌≡◌, ℕ, suc, Bool, true, false, List, [], ◌∷◌, ◌++◌, Option, Some, None, refl, sym, ap, ◌∙◌, append_assoc}
 use Rattle.std.specs.Prelude.{◌==◌, option_map}
-use Rattle.std.specs.Option.{option_flatten, option_and_then}
+use Rattle.std.specs.Option.{unwrap_or, option_and_then}
 use Rattle.dw_forms.specs.Codes.{DW_AT_type}
 use Rattle.dw_forms.specs.Value.{Datum}
 use Rattle.dw_entries.specs.Asked.{values_of}
 use Rattle.dw_entries.specs.Chosen.{ArePassed, IsNextOf}
 use Rattle.dw_entries.specs.Entries.{Entry}
+use Rattle.dw_entries.specs.declared.entries.Entries.{Entries}
+use Rattle.dw_entries.specs.declared.lookup.EntryHead.{EntryHead}
 use Rattle.dw_entries.specs.Leading.{DoesNotLead}
 use Rattle.dw_entries.specs.Lookups.{entry_head, value_in}
 use Rattle.dw_links.specs.declared.linking.Failed.{Failed}
 use Rattle.dw_links.specs.declared.linking.Failed.TheVariants.{String, Reference}
-use Rattle.dw_links.specs.declared.references.References.{References}
 use Rattle.dw_links.specs.Linking.{kept_after, LinksNext, HasFailedNext, IsLinked, HasFailed}
-use Rattle.dw_links.specs.Linkable.{entries_in, units_in, reached_by, FailsByTarget}
-use Rattle.dw_links.specs.Ready.{FailsByTexts}
-use Rattle.dw_links.specs.Targets.{reach_of, target_of}
+use Rattle.dw_links.specs.Linkable.{FailsByText, FailsByTarget, target_by}
+use Rattle.dw_links.specs.Targets.{target_of}
 use Rattle.dw_links.proofs.ClassLaws.{leads, passes_texts, passes_targets}
 use Rattle.dw_links.proofs.RuleSteps.{Checked, none_checked, checked_more, checked_fails, checked_all}
 
@@ -62,43 +62,50 @@ keeps_more reach items left behind kept a v k n = record {
     by_value None is = by_code (a == DW_AT_type) refl ∙ ap (option_map reach) (sym (back_value k.done (n.passed ++ (a, v) ∷ []) DW_AT_type is ∙ back_value n.passed ((a, v) ∷ []) DW_AT_type (passed_value n.passed n.are_passed)))
 
 -- at the end it is that of the entry's type
-keeps_all : (reach : Datum → Option ℕ) (items left : List (ℕ × Datum)) (kept : Option (Option ℕ)) → Keeps reach items left kept → ArePassed DoesNotLead left → option_flatten kept ≡ option_and_then reach (value_in items DW_AT_type)
-keeps_all reach items left kept k passed = ap option_flatten k.is_kept ∙ by_value (value_in k.done DW_AT_type) refl ∙ ap (λ (xs : List (ℕ × Datum)). option_and_then reach (value_in xs DW_AT_type)) (sym k.parts)
+keeps_all : (reach : Datum → Option ℕ) (items left : List (ℕ × Datum)) (kept : Option (Option ℕ)) → Keeps reach items left kept → ArePassed DoesNotLead left → unwrap_or kept None ≡ option_and_then reach (value_in items DW_AT_type)
+keeps_all reach items left kept k passed = ap (λ (o : Option (Option ℕ)). unwrap_or o None) k.is_kept ∙ by_value (value_in k.done DW_AT_type) refl ∙ ap (λ (xs : List (ℕ × Datum)). option_and_then reach (value_in xs DW_AT_type)) (sym k.parts)
   where
-    by_value : (o : Option Datum) → value_in k.done DW_AT_type ≡ o → option_flatten (option_map reach o) ≡ option_and_then reach (value_in (k.done ++ left) DW_AT_type)
+    by_value : (o : Option Datum) → value_in k.done DW_AT_type ≡ o → unwrap_or (option_map reach o) None ≡ option_and_then reach (value_in (k.done ++ left) DW_AT_type)
     by_value (Some d) is = ap (option_and_then reach) (sym (front_value k.done left DW_AT_type d is))
     by_value None is = ap (option_and_then reach) (sym (back_value k.done left DW_AT_type is ∙ passed_value left passed))
 
 -- ---- the loop
 
 -- no rule fails so far, and this is kept of the first type
-pub record SoFar (it : References) (e : Entry) (left : List (ℕ × Datum)) (kept : Option (Option ℕ)) : Type 0 where
-  pub strings : Checked (FailsByTexts it.texts) (entry_head e) (values_of e.head) left
-  pub references : Checked (FailsByTarget it) (entry_head e) (values_of e.head) left
-  pub keeps : Keeps (reached_by it) (values_of e.head) left kept
+pub record SoFar (entries : Entries) (e : Entry) (left : List (ℕ × Datum)) (kept : Option (Option ℕ)) : Type 0 where
+  pub strings : Checked (FailsByText entries) (entry_head e) (values_of e.head) left
+  pub references : Checked (FailsByTarget entries) (entry_head e) (values_of e.head) left
+  pub keeps : Keeps (target_by entries (entry_head e)) (values_of e.head) left kept
 
-module _ (it : References) (e : Entry) (left : List (ℕ × Datum)) where
-  pub none_so_far : left ≡ values_of e.head → SoFar it e left None
-  none_so_far same = search (rules, none_checked)
-
-  -- one attribute more
-  pub more_so_far : (behind : List (ℕ × Datum)) (kept : Option (Option ℕ)) (linked : ℕ × Option ℕ) → SoFar it e left kept → LinksNext it (entry_head e) left behind linked → SoFar it e behind (kept_after kept linked.0 linked.1)
-  more_so_far behind kept linked s n = record {
-    strings = checked_more (FailsByTexts it.texts) DoesNotLead (passes_texts it.texts) e left behind linked.0 n.value s.strings n.next n.strings;
-    references = checked_more (FailsByTarget it) DoesNotLead (passes_targets (entries_in it) (units_in it)) e left behind linked.0 n.value s.references n.next n.references;
-    keeps = rw n.is_reached (keeps_more (reached_by it) (values_of e.head) left behind kept linked.0 n.value s.keeps n.next);
+module _ (entries : Entries) (e : Entry) (left : List (ℕ × Datum)) where
+  pub none_so_far : left ≡ values_of e.head → SoFar entries e left None
+  none_so_far same = record {
+    strings = none_checked (FailsByText entries) (entry_head e) (values_of e.head) left same;
+    references = none_checked (FailsByTarget entries) (entry_head e) (values_of e.head) left same;
+    keeps = record { done = []; parts = sym same; is_kept = refl };
   }
-
-  -- where a rule fails, that is the first failure of its group
-  pub fails_so_far : (kept : Option (Option ℕ)) (failed : Failed) → SoFar it e left kept → HasFailedNext it (entry_head e) left failed → HasFailed it e failed
-  fails_so_far kept (String broken) s n = checked_fails (FailsByTexts it.texts) DoesNotLead (passes_texts it.texts) e left n.behind n.attribute n.value s.strings n.next n.rule broken n.least n.named
-  fails_so_far kept (Reference broken) s n = checked_fails (FailsByTarget it) DoesNotLead (passes_targets (entries_in it) (units_in it)) e left n.behind n.attribute n.value s.references n.next n.rule broken n.least n.named
 
   -- at the end
-  pub linked_at_end : (kept : Option (Option ℕ)) (target : Option ℕ) → target ≡ option_flatten kept → e.unit ≡ it.texts.unit → SoFar it e left kept → ArePassed DoesNotLead left → IsLinked it e target
+  pub linked_at_end : (kept : Option (Option ℕ)) (target : Option ℕ) → target ≡ unwrap_or kept None → SoFar entries e left kept → ArePassed DoesNotLead left → IsLinked entries e target
   unfolding target_of
-  linked_at_end kept target is same s passed = record {
-    strings = checked_all (FailsByTexts it.texts) DoesNotLead (passes_texts it.texts) e left s.strings passed;
-    references = checked_all (FailsByTarget it) DoesNotLead (passes_targets (entries_in it) (units_in it)) e left s.references passed;
-    is_target = is ∙ keeps_all (reached_by it) (values_of e.head) left kept s.keeps passed ∙ ap (λ (u : ℕ). option_and_then (reach_of (entries_in it) (units_in it) u) (value_in (values_of e.head) DW_AT_type)) (sym same);
+  linked_at_end kept target is s passed = record {
+    strings = checked_all (FailsByText entries) DoesNotLead (passes_texts entries) e left s.strings passed;
+    references = checked_all (FailsByTarget entries) DoesNotLead (passes_targets entries) e left s.references passed;
+    is_target = is ∙ keeps_all (target_by entries (entry_head e)) (values_of e.head) left kept s.keeps passed;
   }
+
+  module _ (kept : Option (Option ℕ)) (s : SoFar entries e left kept) (head : EntryHead) (same : head ≡ entry_head e) where
+    -- one attribute more
+    pub more_so_far : (behind : List (ℕ × Datum)) (linked : ℕ × Option ℕ) → LinksNext entries head left behind linked → SoFar entries e behind (kept_after kept linked.0 linked.1)
+    more_so_far behind linked n = record {
+      strings = checked_more (FailsByText entries) DoesNotLead (passes_texts entries) e left behind linked.0 n.value s.strings n.next head same n.strings;
+      references = checked_more (FailsByTarget entries) DoesNotLead (passes_targets entries) e left behind linked.0 n.value s.references n.next head same n.references;
+      keeps =
+          let reached : linked.1 ≡ target_by entries (entry_head e) n.value = n.is_reached ∙ ap (λ (h : EntryHead). target_by entries h n.value) same in
+          rw reached (keeps_more (target_by entries (entry_head e)) (values_of e.head) left behind kept linked.0 n.value s.keeps n.next);
+    }
+
+    -- where a rule fails, that is the first failure of its group
+    pub fails_so_far : (failed : Failed) → HasFailedNext entries head left failed → HasFailed entries e failed
+    fails_so_far (String broken) n = checked_fails (FailsByText entries) DoesNotLead (passes_texts entries) e left n.behind n.attribute n.value s.strings n.next head same n.rule broken n.least n.named
+    fails_so_far (Reference broken) n = checked_fails (FailsByTarget entries) DoesNotLead (passes_targets entries) e left n.behind n.attribute n.value s.references n.next head same n.rule broken n.least n.named

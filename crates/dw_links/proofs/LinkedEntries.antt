@@ -4,7 +4,7 @@ use Rattle.std.specs.Prelude.{slice_get}
 use Rattle.std.proofs.lemmas.Bool.{eqb-true}
 use Rattle.dw_elf.specs.declared.sections.Sections.{Sections}
 use Rattle.dw_forms.specs.Codes.{DW_AT_str_offsets_base, DW_AT_addr_base, is_type_tag}
-use Rattle.dw_forms.specs.Value.{Datum, address, block, unsigned, signed, wide, text, flag, str, line_str, str_index, ref_info, ref_unit, ref_sig, sec_offset, expr, addr_index, loc_index, rng_index}
+use Rattle.dw_forms.specs.Value.{Datum, address, text, str, line_str, str_index, ref_info, ref_unit, ref_sig, addr_index}
 use Rattle.dw_entries.specs.declared.fault.Rule.TheVariants.{BadStrBase, BadAddrBase, NoEntry, WrongKind, NotNextSibling, NoSignature, BadTypeOffset}
 use Rattle.dw_entries.specs.Units.{DebugUnit, Spells}
 use Rattle.dw_entries.specs.Entries.{Entry, PlacedUnit, entries_of, placed}
@@ -55,42 +55,14 @@ has_text sections us id e p attribute (str offset) none is is_unit value class =
 has_text sections us id e p attribute (line_str offset) none is is_unit value class = refl
 has_text sections us id e p attribute (str_index index) none is is_unit value class =
     let (base, said) = string_base sections us id e p attribute index none is is_unit value in rw said refl
-has_text sections us id e p attribute (address n) none is is_unit value class = absurd cc
-has_text sections us id e p attribute (block n) none is is_unit value class = absurd cc
-has_text sections us id e p attribute (unsigned n) none is is_unit value class = absurd cc
-has_text sections us id e p attribute (signed n) none is is_unit value class = absurd cc
-has_text sections us id e p attribute (wide n) none is is_unit value class = absurd cc
-has_text sections us id e p attribute (flag n) none is is_unit value class = absurd cc
-has_text sections us id e p attribute (ref_info n) none is is_unit value class = absurd cc
-has_text sections us id e p attribute (ref_unit n) none is is_unit value class = absurd cc
-has_text sections us id e p attribute (ref_sig n) none is is_unit value class = absurd cc
-has_text sections us id e p attribute (sec_offset n) none is is_unit value class = absurd cc
-has_text sections us id e p attribute (expr n) none is is_unit value class = absurd cc
-has_text sections us id e p attribute (addr_index n) none is is_unit value class = absurd cc
-has_text sections us id e p attribute (loc_index n) none is is_unit value class = absurd cc
-has_text sections us id e p attribute (rng_index n) none is is_unit value class = absurd cc
+has_text sections us id e p attribute _ none is is_unit value class = absurd cc
 
 has_address : (sections : Sections) (us : List DebugUnit) (id : ℕ) (e : Entry) (p : PlacedUnit) (attribute : ℕ) (v : Datum) → HasNone (StringFailures sections us) → slice_get (entries_of us) id ≡ Some e → slice_get (placed us) e.unit ≡ Some p
     → value_at_entry e attribute ≡ Some v → class_of v ≡ Address → IsSome (address_of sections p.unit.header (base_in (entries_of us) p DW_AT_addr_base) v)
 has_address sections us id e p attribute (address n) none is is_unit value class = refl
 has_address sections us id e p attribute (addr_index index) none is is_unit value class =
     let (base, said) = address_base sections us id e p attribute index none is is_unit value in rw said refl
-has_address sections us id e p attribute (block n) none is is_unit value class = absurd cc
-has_address sections us id e p attribute (unsigned n) none is is_unit value class = absurd cc
-has_address sections us id e p attribute (signed n) none is is_unit value class = absurd cc
-has_address sections us id e p attribute (wide n) none is is_unit value class = absurd cc
-has_address sections us id e p attribute (text n) none is is_unit value class = absurd cc
-has_address sections us id e p attribute (flag n) none is is_unit value class = absurd cc
-has_address sections us id e p attribute (str n) none is is_unit value class = absurd cc
-has_address sections us id e p attribute (line_str n) none is is_unit value class = absurd cc
-has_address sections us id e p attribute (str_index n) none is is_unit value class = absurd cc
-has_address sections us id e p attribute (ref_info n) none is is_unit value class = absurd cc
-has_address sections us id e p attribute (ref_unit n) none is is_unit value class = absurd cc
-has_address sections us id e p attribute (ref_sig n) none is is_unit value class = absurd cc
-has_address sections us id e p attribute (sec_offset n) none is is_unit value class = absurd cc
-has_address sections us id e p attribute (expr n) none is is_unit value class = absurd cc
-has_address sections us id e p attribute (loc_index n) none is is_unit value class = absurd cc
-has_address sections us id e p attribute (rng_index n) none is is_unit value class = absurd cc
+has_address sections us id e p attribute _ none is is_unit value class = absurd cc
 
 pub have_texts : (sections : Sections) (us : List DebugUnit) → Spells sections.«abbrev».now us sections.info.now → HasNone (StringFailures sections us) → HaveTexts sections us
 unfolding text_at
@@ -108,21 +80,7 @@ reference_value : (v : Datum) → class_of v ≡ Reference → is_reference_valu
 reference_value (ref_info n) is = refl
 reference_value (ref_unit n) is = refl
 reference_value (ref_sig n) is = refl
-reference_value (address n) is = absurd cc
-reference_value (block n) is = absurd cc
-reference_value (unsigned n) is = absurd cc
-reference_value (signed n) is = absurd cc
-reference_value (wide n) is = absurd cc
-reference_value (text n) is = absurd cc
-reference_value (flag n) is = absurd cc
-reference_value (str n) is = absurd cc
-reference_value (line_str n) is = absurd cc
-reference_value (str_index n) is = absurd cc
-reference_value (sec_offset n) is = absurd cc
-reference_value (expr n) is = absurd cc
-reference_value (addr_index n) is = absurd cc
-reference_value (loc_index n) is = absurd cc
-reference_value (rng_index n) is = absurd cc
+reference_value _ is = absurd cc
 
 -- ---- what no failure says
 
@@ -202,21 +160,7 @@ reached us id e attribute (ref_unit offset) rise none is value class =
     by_offset us e (ref_unit offset) (reach_in_unit (entries_of us) (placed us) e.unit offset) refl (λ nowhere. passes_reference us id e attribute (ref_unit offset) none is value refl NoEntry (refl, nowhere))
 reached us id e attribute (ref_sig signature) rise none is value class =
     by_signature us e signature (first_signed (placed us) signature) refl rise none (λ unsigned. passes_reference us id e attribute (ref_sig signature) none is value refl NoSignature unsigned)
-reached us id e attribute (address n) rise none is value class = absurd cc
-reached us id e attribute (block n) rise none is value class = absurd cc
-reached us id e attribute (unsigned n) rise none is value class = absurd cc
-reached us id e attribute (signed n) rise none is value class = absurd cc
-reached us id e attribute (wide n) rise none is value class = absurd cc
-reached us id e attribute (text n) rise none is value class = absurd cc
-reached us id e attribute (flag n) rise none is value class = absurd cc
-reached us id e attribute (str n) rise none is value class = absurd cc
-reached us id e attribute (line_str n) rise none is value class = absurd cc
-reached us id e attribute (str_index n) rise none is value class = absurd cc
-reached us id e attribute (sec_offset n) rise none is value class = absurd cc
-reached us id e attribute (expr n) rise none is value class = absurd cc
-reached us id e attribute (addr_index n) rise none is value class = absurd cc
-reached us id e attribute (loc_index n) rise none is value class = absurd cc
-reached us id e attribute (rng_index n) rise none is value class = absurd cc
+reached us id e attribute _ rise none is value class = absurd cc
 
 true_unless : (b : Bool) → (b ≡ false → ⊥) → b ≡ true
 true_unless true never = refl

@@ -1,5 +1,5 @@
 -- The attributes of an entry that rules are asked of, one after the other.
-use Rattle.std.proofs.Common.{◌≡◌, ℕ, zero, suc, ◌<◌, List, [], ◌∷◌, ◌++◌, length, Some, refl, sym, ap, ◌∙◌, subst, arith, append_assoc, length-append}
+use Rattle.std.proofs.Common.{◌≡◌, ℕ, zero, suc, ◌<◌, List, [], ◌∷◌, ◌++◌, length, None, Some, refl, sym, ap, ◌∙◌, subst, arith, append_assoc, length-append}
 use Rattle.std.specs.Prelude.{slice_get}
 use Rattle.dw_forms.specs.declared.decl.AttributeSpec.{AttributeSpec}
 use Rattle.dw_forms.specs.Value.{Datum}
@@ -71,7 +71,7 @@ module _ (Fails : Rules) (Pass : AttributeSpec → Type 0) (over : (spec : Attri
       none_of_attributes (λ x. Fails (entry_head x)) e
       (λ j a v below has r fails. none_both Fails (entry_head e) l.done left l.none (passed_none (entry_head e) left passed) j (a, v) (ap (λ (xs : List (ℕ × Datum)). slice_get xs j) (sym l.parts) ∙ has) r fails)
 
-  module _ (e : Entry) (left behind : List (ℕ × Datum)) (a : ℕ) (v : Datum) (l : Checked Fails (entry_head e) (values_of e.head) left) (n : IsNextOf Pass left (a, v) behind) where
+  module _ (e : Entry) (left behind : List (ℕ × Datum)) (a : ℕ) (v : Datum) (l : Checked Fails (entry_head e) (values_of e.head) left) (n : IsNextOf Pass left (a, v) behind) (head : EntryHead) (same : head ≡ entry_head e) where
     joined : values_of e.head ≡ (l.done ++ n.passed) ++ (a, v) ∷ behind
     joined = l.parts ∙ ap (λ (xs : List (ℕ × Datum)). l.done ++ xs) n.parts ∙ sym (append_assoc l.done n.passed ((a, v) ∷ behind))
 
@@ -79,17 +79,18 @@ module _ (Fails : Rules) (Pass : AttributeSpec → Type 0) (over : (spec : Attri
     before_none = none_both Fails (entry_head e) l.done n.passed l.none (passed_none (entry_head e) n.passed n.are_passed)
 
     -- where a rule fails, that is the first failure
-    pub checked_fails : (rule : Rule) (broken : Broken) → IsLeast (Fails (entry_head e) a v) (Some rule) → broken ≡ record { rule = rule; section = Info; at = e.at; attribute = a } → IsFirst (AtHead Fails e) broken
+    pub checked_fails : (rule : Rule) (broken : Broken) → IsLeast (Fails head a v) (Some rule) → broken ≡ record { rule = rule; section = Info; at = head.offset; attribute = a } → IsFirst (AtHead Fails e) broken
     checked_fails rule broken least is =
         let stands : slice_get (values_of e.head) (length (l.done ++ n.passed)) ≡ Some (a, v) = ap (λ (xs : List (ℕ × Datum)). slice_get xs (length (l.done ++ n.passed))) joined ∙ between_get (l.done ++ n.passed) behind (a, v) in
+        let P : EntryHead → Type 0 = λ h. IsLeast (Fails h a v) (Some rule) in
         first_of_attributes (λ x. Fails (entry_head x)) e (length (l.done ++ n.passed)) a v rule broken stands
-        (λ j b w lt has. before_none j (b, w) (front_get (l.done ++ n.passed) ((a, v) ∷ behind) j (b, w) lt (ap (λ (xs : List (ℕ × Datum)). slice_get xs j) (sym joined) ∙ has))) least
-        (record { rule = ap (λ (b : Broken). b.rule) is; section = ap (λ (b : Broken). b.section) is; at = ap (λ (b : Broken). b.at) is; attribute = ap (λ (b : Broken). b.attribute) is })
+        (λ j b w lt has. before_none j (b, w) (front_get (l.done ++ n.passed) ((a, v) ∷ behind) j (b, w) lt (ap (λ (xs : List (ℕ × Datum)). slice_get xs j) (sym joined) ∙ has))) (subst P same least)
+        (record { rule = ap (λ (b : Broken). b.rule) is; section = ap (λ (b : Broken). b.section) is; at = ap (λ (b : Broken). b.at) is ∙ ap (λ (h : EntryHead). h.offset) same; attribute = ap (λ (b : Broken). b.attribute) is })
 
     -- one attribute more, where no rule fails
-    pub checked_more : ((r : Rule) → Fails (entry_head e) a v r → ⊥) → Checked Fails (entry_head e) (values_of e.head) behind
+    pub checked_more : IsLeast (Fails head a v) None → Checked Fails (entry_head e) (values_of e.head) behind
     checked_more none = record {
       done = (l.done ++ n.passed) ++ (a, v) ∷ [];
       parts = joined ∙ sym (append_assoc (l.done ++ n.passed) ((a, v) ∷ []) behind);
-      none = none_both Fails (entry_head e) (l.done ++ n.passed) ((a, v) ∷ []) before_none (none_one Fails (entry_head e) (a, v) none);
+      none = let P : EntryHead → Type 0 = λ h. (r : Rule) → Fails h a v r → ⊥ in none_both Fails (entry_head e) (l.done ++ n.passed) ((a, v) ∷ []) before_none (none_one Fails (entry_head e) (a, v) (subst P same none));
     }

@@ -1,6 +1,6 @@
 -- No rule fails at an entry whose declaration has nothing that the rules are asked of.
 use Rattle.std.proofs.Common.{rules}
-use Rattle.std.proofs.Common.{◌≡◌, ℕ, zero, suc, ◌+◌, ◌<◌, ◌≤◌, List, [], ◌∷◌, length, Some, refl, sym, ap, ◌∙◌, arith, subst, map, eq-or-lt_of_le, inl, inr}
+use Rattle.std.proofs.Common.{◌≡◌, ℕ, zero, suc, ◌+◌, ◌<◌, List, [], ◌∷◌, length, Some, refl, sym, ap, ◌∙◌, arith, subst, map, eq-or-lt_of_le}
 use Rattle.std.specs.Prelude.{Option, None, slice_get, slice_index_or, All, Contains, IfSome, IsSome}
 use Rattle.std.proofs.lemmas.Option.{slice_get_within, slice_get-get_or, get_or_from_slice_get}
 use Rattle.dw_forms.specs.Value.{Datum}

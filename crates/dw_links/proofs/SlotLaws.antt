@@ -1,12 +1,12 @@
 -- Where no rule on strings and addresses fails, texts and addresses lie within their sections.
 use Rattle.std.proofs.Common.{rules}
-use Rattle.std.proofs.Common.{◌≡◌, ◌≢◌, ℕ, suc, ◌+◌, ◌*◌, ◌<◌, ◌≤◌, ◌==◌, ◌⊎◌, Bool, true, false, cond, List, [], ◌∷◌, length, find, Option, Some, None, IfSome, option_map, option_and_then, refl, sym, ap, ◌∙◌, subst, arith, inl, inr}
+use Rattle.std.proofs.Common.{◌≡◌, ◌≢◌, ℕ, suc, ◌+◌, ◌*◌, ◌<◌, ◌≤◌, ◌==◌, ◌⊎◌, Bool, true, false, cond, List, [], ◌∷◌, length, find, Option, Some, None, IfSome, option_map, refl, sym, ap, ◌∙◌, subst, arith, inl, inr}
 use Rattle.std.specs.Prelude.{slice_get}
 use Rattle.std.proofs.lemmas.Option.{option_and_then_some}
 use Rattle.std.proofs.lemmas.Bool.{eqb-true}
 use Rattle.dw_elf.specs.declared.sections.Sections.{Sections}
 use Rattle.dw_forms.specs.Codes.{DW_AT_str_offsets_base, DW_AT_addr_base}
-use Rattle.dw_forms.specs.Value.{Datum, address, block, unsigned, signed, wide, text, flag, str, line_str, str_index, ref_info, ref_unit, ref_sig, sec_offset, expr, addr_index, loc_index, rng_index}
+use Rattle.dw_forms.specs.Value.{Datum, str, line_str, str_index, sec_offset, addr_index}
 use Rattle.dw_entries.specs.declared.fault.Rule.{Rule}
 use Rattle.dw_entries.specs.declared.fault.Rule.TheVariants.{BadStrBase, StrIndex, StringEnd, BadAddrBase, AddrIndex}
 use Rattle.dw_entries.specs.declared.header.UnitHeader.{UnitHeader}
@@ -20,10 +20,10 @@ use Rattle.dw_entries.specs.Lookups.{entry_head, value_in, value_at_entry}
 use Rattle.dw_entries.proofs.EntryFacts.{first_entry}
 use Rattle.dw_entries.proofs.Firsts.{same_some}
 use Rattle.dw_links.specs.Contributions.{IsContribution, slot_count, slot_at}
-use Rattle.dw_links.specs.Bases.{section_offset_in, section_offset_of, base_in}
+use Rattle.dw_links.specs.Bases.{section_offset_in, base_in}
 use Rattle.dw_links.specs.Strings.{IsStringContribution, IsAddressContribution, StringIndexFails, AddressIndexFails, StringFailsIn, StringFailures}
-use Rattle.dw_links.specs.declared.links.UnitBases.{UnitBases}
-use Rattle.dw_links.specs.Tables.{bases_in}
+use Rattle.dw_links.specs.declared.contribution.UnitBases.{UnitBases}
+use Rattle.dw_links.specs.Bases.{bases_in}
 use Rattle.dw_links.specs.ValueTexts.{text_of, address_of}
 use Rattle.dw_links.specs.AttributeTexts.{text_at, address_at}
 use Rattle.dw_links.specs.Slots.{IsTextSlot, TextLies, IsAddressSlot, AddressLies}
@@ -76,23 +76,7 @@ pub record SaysBase (es : List Entry) (p : PlacedUnit) (attribute base : ℕ) : 
 
 offset_said : (v : Datum) (base : ℕ) → section_offset_in v ≡ Some base → v ≡ sec_offset base
 offset_said (sec_offset n) base is = ap sec_offset (same_some (Some n) n base refl is)
-offset_said (address n) base is = absurd cc
-offset_said (block n) base is = absurd cc
-offset_said (unsigned n) base is = absurd cc
-offset_said (signed n) base is = absurd cc
-offset_said (wide n) base is = absurd cc
-offset_said (text n) base is = absurd cc
-offset_said (flag n) base is = absurd cc
-offset_said (str n) base is = absurd cc
-offset_said (line_str n) base is = absurd cc
-offset_said (str_index n) base is = absurd cc
-offset_said (ref_info n) base is = absurd cc
-offset_said (ref_unit n) base is = absurd cc
-offset_said (ref_sig n) base is = absurd cc
-offset_said (expr n) base is = absurd cc
-offset_said (addr_index n) base is = absurd cc
-offset_said (loc_index n) base is = absurd cc
-offset_said (rng_index n) base is = absurd cc
+offset_said _ base is = absurd cc
 
 base_said : (es : List Entry) (p : PlacedUnit) (attribute base : ℕ) → base_in es p attribute ≡ Some base → SaysBase es p attribute base
 base_said es p attribute base is = search (rules, option_and_then_some, offset_said)
@@ -180,43 +164,13 @@ text_lies sections us id e p attribute (line_str offset) none is is_unit value =
     (λ ends. let last = ends.behind in let within = ends.within in omega (arith, last, within, more)))
 text_lies sections us id e p attribute (str_index index) none is is_unit value =
     if_each (base_in (entries_of us) p DW_AT_str_offsets_base) (IsTextSlot sections index) (λ base said. text_slot sections us id e p attribute index base none is is_unit value said)
-text_lies sections us id e p attribute (address n) none is is_unit value = tt
-text_lies sections us id e p attribute (block n) none is is_unit value = tt
-text_lies sections us id e p attribute (unsigned n) none is is_unit value = tt
-text_lies sections us id e p attribute (signed n) none is is_unit value = tt
-text_lies sections us id e p attribute (wide n) none is is_unit value = tt
-text_lies sections us id e p attribute (text n) none is is_unit value = tt
-text_lies sections us id e p attribute (flag n) none is is_unit value = tt
-text_lies sections us id e p attribute (ref_info n) none is is_unit value = tt
-text_lies sections us id e p attribute (ref_unit n) none is is_unit value = tt
-text_lies sections us id e p attribute (ref_sig n) none is is_unit value = tt
-text_lies sections us id e p attribute (sec_offset n) none is is_unit value = tt
-text_lies sections us id e p attribute (expr n) none is is_unit value = tt
-text_lies sections us id e p attribute (addr_index n) none is is_unit value = tt
-text_lies sections us id e p attribute (loc_index n) none is is_unit value = tt
-text_lies sections us id e p attribute (rng_index n) none is is_unit value = tt
+text_lies sections us id e p attribute _ none is is_unit value = tt
 
 pub address_lies : (sections : Sections) (us : List DebugUnit) (id : ℕ) (e : Entry) (p : PlacedUnit) (attribute : ℕ) (v : Datum) → HasNone (StringFailures sections us) → slice_get (entries_of us) id ≡ Some e → slice_get (placed us) e.unit ≡ Some p
     → IsSize p.unit.header.address_size → value_at_entry e attribute ≡ Some v → AddressLies sections p.unit.header (base_in (entries_of us) p DW_AT_addr_base) v
 address_lies sections us id e p attribute (addr_index index) none is is_unit size value =
     if_each (base_in (entries_of us) p DW_AT_addr_base) (IsAddressSlot sections p.unit.header index) (λ base said. address_slot sections us id e p attribute index base none is is_unit size value said)
-address_lies sections us id e p attribute (address n) none is is_unit size value = tt
-address_lies sections us id e p attribute (block n) none is is_unit size value = tt
-address_lies sections us id e p attribute (unsigned n) none is is_unit size value = tt
-address_lies sections us id e p attribute (signed n) none is is_unit size value = tt
-address_lies sections us id e p attribute (wide n) none is is_unit size value = tt
-address_lies sections us id e p attribute (text n) none is is_unit size value = tt
-address_lies sections us id e p attribute (flag n) none is is_unit size value = tt
-address_lies sections us id e p attribute (str n) none is is_unit size value = tt
-address_lies sections us id e p attribute (line_str n) none is is_unit size value = tt
-address_lies sections us id e p attribute (str_index n) none is is_unit size value = tt
-address_lies sections us id e p attribute (ref_info n) none is is_unit size value = tt
-address_lies sections us id e p attribute (ref_unit n) none is is_unit size value = tt
-address_lies sections us id e p attribute (ref_sig n) none is is_unit size value = tt
-address_lies sections us id e p attribute (sec_offset n) none is is_unit size value = tt
-address_lies sections us id e p attribute (expr n) none is is_unit size value = tt
-address_lies sections us id e p attribute (loc_index n) none is is_unit size value = tt
-address_lies sections us id e p attribute (rng_index n) none is is_unit size value = tt
+address_lies sections us id e p attribute _ none is is_unit size value = tt
 
 -- ---- what is told of a value is told of the attribute
 

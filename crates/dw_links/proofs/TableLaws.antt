@@ -16,10 +16,11 @@ use Rattle.dw_entries.specs.declared.lookup.UnitHead.{UnitHead}
 use Rattle.dw_entries.specs.Header.{IsSize, version_of}
 use Rattle.dw_entries.proofs.Firsts.{same_some}
 use Rattle.dw_entries.proofs.HeadLaws.{all_get}
-use Rattle.dw_links.specs.Tables.{type_target, bases_in}
-use Rattle.dw_links.specs.Targets.{reach_of, target_of}
+use Rattle.dw_links.specs.Bases.{bases_in}
+use Rattle.dw_links.specs.Tables.{type_target}
+use Rattle.dw_links.specs.Targets.{target_of}
 use Rattle.dw_links.proofs.TargetLaws.{reached_entry}
-use Rattle.dw_links.specs.declared.links.UnitBases.{UnitBases}
+use Rattle.dw_links.specs.declared.contribution.UnitBases.{UnitBases}
 use Rattle.dw_links.proofs.Skips.{there}
 use Rattle.dw_links.proofs.ClassLaws.{in_units, unit_there}
 use Rattle.dw_links.specs.Bases.{section_offset_in, base_in}

@@ -1,5 +1,5 @@
 -- Texts: the bytes before the first zero byte, and those in the value of an attribute.
-use Rattle.std.proofs.Common.{◌≡◌, ℕ, ◌==◌, List, length, take, get_or, sym, ap, arith, rules, zero, suc, ◌+◌, ◌<◌, false, [], ◌∷◌, ◌++◌, All, refl, ◌∙◌}
+use Rattle.std.proofs.Common.{◌≡◌, ℕ, ◌==◌, List, length, take, get_or, ap, arith, rules, zero, suc, ◌+◌, ◌<◌, false, [], ◌∷◌, ◌++◌, All, refl, ◌∙◌}
 use Rattle.std.specs.List.{before_first, position_or_len}
 use Rattle.std.proofs.lemmas.List.Sums.{position_or_len_is}
 use Rattle.std.proofs.lemmas.Bool.{cases_Bool, ne_eqb}

@@ -1,109 +1,115 @@
--- Rules that fail in the same cases have the same first failure; what holds of a fault, unless memory ran out; and one
--- entry after the other, by what was read of its unit.
-use Rattle.std.proofs.Common.{rules}
-use Rattle.std.proofs.Common.{◌≡◌, ℕ, List, Some, sym, ap, ◌∙◌, subst, ◌<◌, Option}
-use Rattle.std.specs.Prelude.{slice_get}
-use Rattle.std.specs.BTreeMap.{BTreeMap}
-use Rattle.dw_elf.specs.declared.sections.Sections.{Sections}
+-- Rules by what was read of a unit are the rules among all entries; what holds of a fault, unless memory ran out; and one
+-- entry after the other.
+use Rattle.std.proofs.Common.{◌≡◌, ℕ, ◌+◌, ◌<◌, ◌≤◌, length, Option, None, Some, sym, ap, ◌∙◌, subst, arith, below_more}
+use Rattle.std.specs.Prelude.{slice_get, IfSome}
+use Rattle.dw_forms.specs.Codes.{DW_AT_str_offsets_base, DW_AT_addr_base}
 use Rattle.dw_forms.specs.Value.{Datum}
 use Rattle.dw_entries.specs.declared.fault.Broken.{Broken}
 use Rattle.dw_entries.specs.declared.fault.Fault.{Fault as FaultOf}
+use Rattle.dw_entries.specs.declared.fault.Rule.{Rule}
+use Rattle.dw_entries.specs.declared.entries.Entries.{Entries}
+use Rattle.dw_entries.specs.declared.lookup.EntryHead.{EntryHead}
+use Rattle.dw_entries.specs.declared.lookup.UnitHead.{UnitHead}
 use Rattle.dw_forms.specs.declared.fault.Stop.{Stop}
 use Rattle.dw_forms.specs.declared.fault.Stop.TheVariants.{Memory, Fault}
-use Rattle.dw_entries.specs.Failures.{broken_of, Failure, HasNone, IsFirst}
-use Rattle.dw_entries.specs.Stopped.{IfPlainFault}
-use Rattle.dw_entries.specs.declared.fault.Rule.{Rule}
-use Rattle.dw_entries.specs.declared.lookup.EntryHead.{EntryHead}
+use Rattle.dw_entries.specs.Asked.{AtEntries}
 use Rattle.dw_entries.specs.Entries.{Entry, PlacedUnit}
+use Rattle.dw_entries.specs.Failures.{broken_of, HasNone, IsFirst, IsLeast}
 use Rattle.dw_entries.specs.Lookups.{entry_head}
-use Rattle.dw_entries.proofs.Firsts.{same_some, first_of_entries, attributes_stand}
-use Rattle.dw_entries.specs.declared.entries.Entries.{Entries}
 use Rattle.dw_entries.specs.Scanned.{all_entries, all_units, units_of}
+use Rattle.dw_entries.specs.Stopped.{IfPlainFault}
 use Rattle.dw_entries.specs.Views.{sections_of}
 use Rattle.dw_entries.proofs.EntryFacts.{entries_rise}
 use Rattle.dw_entries.proofs.FirstPlaces.{first_by_right}
+use Rattle.dw_entries.proofs.Firsts.{same_some, first_of_entries, none_of_entries, attributes_stand}
+use Rattle.dw_links.specs.declared.contribution.UnitBases.{UnitBases}
 use Rattle.dw_links.specs.declared.strings.UnitTexts.{UnitTexts}
-use Rattle.dw_links.specs.Concerns.{Rules, AtHead}
 use Rattle.dw_links.specs.Bases.{base_in}
-use Rattle.dw_links.specs.Strings.{StringFails, StringFailsIn}
-use Rattle.dw_links.specs.Ready.{AreTexts, FailsByTexts}
+use Rattle.dw_links.specs.Concerns.{Rules, AtHead, PassesAt, FailsAt}
 use Rattle.dw_links.specs.declared.linking.Failed.{Failed}
 use Rattle.dw_links.specs.declared.linking.Failed.TheVariants.{String, Reference}
-use Rattle.dw_links.specs.declared.references.References.{References}
-use Rattle.dw_links.specs.Linkable.{IsLinkable}
-use Rattle.dw_links.specs.Linking.{IsLinked, HasFailed, IsFirstOfGroup}
-use Rattle.dw_links.specs.References.{ReferenceFails, HeaderFailures, AttributeFailures}
-use Rattle.dw_links.specs.SignedTypes.{HasSignedTypes, AreTyped}
-use Rattle.dw_links.specs.Tables.{type_target}
+use Rattle.dw_links.specs.Linkable.{FailsByText, FailsByTarget}
+use Rattle.dw_links.specs.Linking.{HasFailed, IsFirstOfGroup}
+use Rattle.dw_links.specs.References.{HeaderFailures, AttributeFailures}
+use Rattle.dw_links.specs.Ready.{AreTexts, FailsByTexts}
+use Rattle.dw_links.specs.Strings.{StringFailsIn}
+use Rattle.dw_links.proofs.ClassLaws.{in_units}
+use Rattle.dw_links.proofs.Skips.{there}
 
 -- what follows from it holds too
 pub if_fault : {P Q : Broken → Type 0} → ((b : Broken) → P b → Q b) → (stop : Stop FaultOf) → IfPlainFault P stop → IfPlainFault Q stop
 if_fault so Memory p = tt
 if_fault so (Fault fault) p = record { holds = so (broken_of fault) p.holds; cycle = p.cycle }
 
-carried : (P Q : Rules) (entry : Entry) (f : Failure)
-    → ((a : ℕ) (v : Datum) (r : Rule) → P (entry_head entry) a v r → Q (entry_head entry) a v r)
-    → AtHead P entry f → AtHead Q entry f
-carried P Q entry f over fails = record { position = fails.position; value = fails.value; has = fails.has; place = fails.place; fails = over f.attribute fails.value f.rule fails.fails }
+-- the rules by what was read of a unit are the rules on strings and addresses, at the unit's entries
+module _ (entries : Entries) (texts : UnitTexts) (head : EntryHead) (read : AreTexts entries texts) (same : head.unit ≡ texts.unit) (a : ℕ) (v : Datum) where
+  header : texts.head.header ≡ read.place.unit.header
+  header = ap (λ (h : UnitHead). h.header) read.head
 
-pub first_carried : (P Q : Rules) (entry : Entry) (broken : Broken)
-    → ((a : ℕ) (v : Datum) (r : Rule) → P (entry_head entry) a v r → Q (entry_head entry) a v r)
-    → ((a : ℕ) (v : Datum) (r : Rule) → Q (entry_head entry) a v r → P (entry_head entry) a v r)
-    → IsFirst (AtHead P entry) broken → IsFirst (AtHead Q entry) broken
-first_carried P Q entry broken over back first = search (rules, carried)
+  strings : texts.bases.strings ≡ base_in (all_entries entries.scanned) read.place DW_AT_str_offsets_base
+  strings = ap (λ (b : UnitBases). b.strings) read.bases
 
-pub none_carried : (P Q : Rules) (entry : Entry)
-    → ((a : ℕ) (v : Datum) (r : Rule) → Q (entry_head entry) a v r → P (entry_head entry) a v r)
-    → HasNone (AtHead P entry) → HasNone (AtHead Q entry)
-none_carried P Q entry back none f fails = none f (carried Q P entry f back fails)
+  addresses : texts.bases.addresses ≡ base_in (all_entries entries.scanned) read.place DW_AT_addr_base
+  addresses = ap (λ (b : UnitBases). b.addresses) read.bases
 
--- the rules on a unit's texts are the rules on strings, at the unit's entries
-pub texts_over : (sections : Sections) (entries : List Entry) (units : List PlacedUnit) (texts : UnitTexts) (head : EntryHead)
-    → AreTexts sections entries units texts → head.unit ≡ texts.unit
-    → (a : ℕ) (v : Datum) (r : Rule) → FailsByTexts texts head a v r → StringFails sections entries units head a v r
-texts_over sections entries units texts head read same a v r fails = search (rules)
+  over : (r : Rule) → FailsByTexts texts head a v r → FailsByText entries head a v r
+  over r fails = record {
+    unit = read.place;
+    in_unit = ap (slice_get (all_units entries.scanned)) same ∙ read.in_unit;
+    fails = rw (← strings, ← addresses, ← read.same_sections, ← header) fails;
+  }
 
-pub texts_back : (sections : Sections) (entries : List Entry) (units : List PlacedUnit) (texts : UnitTexts) (head : EntryHead)
-    → AreTexts sections entries units texts → head.unit ≡ texts.unit
-    → (a : ℕ) (v : Datum) (r : Rule) → StringFails sections entries units head a v r → FailsByTexts texts head a v r
-texts_back sections entries units texts head read same a v r fails = search (rules, same_some)
+  back : (r : Rule) → FailsByText entries head a v r → FailsByTexts texts head a v r
+  back r fails =
+      let here : slice_get (all_units entries.scanned) texts.unit ≡ Some fails.unit = ap (slice_get (all_units entries.scanned)) (sym same) ∙ fails.in_unit in
+      let one = same_some (slice_get (all_units entries.scanned) texts.unit) fails.unit read.place here read.in_unit in
+      let P : PlacedUnit → Type 0 = λ u. StringFailsIn (sections_of entries) u.unit.header (base_in (all_entries entries.scanned) u DW_AT_str_offsets_base) (base_in (all_entries entries.scanned) u DW_AT_addr_base) head a v r in
+      rw (read.same_sections, header, strings, addresses) (subst P one fails.fails)
 
--- what is known of all entries is known of those of the unit at hand
-pub linkable : (it : References) (entries : Entries) (signatures : BTreeMap ℕ ℕ) → it.cursor.entries.now ≡ entries → it.signatures.now ≡ signatures → HasSignedTypes (all_entries entries.scanned) (all_units entries.scanned) signatures
-    → AreTyped (all_entries entries.scanned) (all_units entries.scanned) → AreTexts (sections_of entries) (all_entries entries.scanned) (all_units entries.scanned) it.texts → IsLinkable it
-linkable it entries signatures same table types typed texts =
-    let P : Entries → Type 0 = λ x. HasSignedTypes (all_entries x.scanned) (all_units x.scanned) it.signatures.now in
-    let S : BTreeMap ℕ ℕ → Type 0 = λ t. HasSignedTypes (all_entries entries.scanned) (all_units entries.scanned) t in
-    let T : Entries → Type 0 = λ x. AreTyped (all_entries x.scanned) (all_units x.scanned) in
-    let X : Entries → Type 0 = λ x. AreTexts (sections_of x) (all_entries x.scanned) (all_units x.scanned) it.texts in
-    record { types = subst P (sym same) (subst S (sym table) types); typed = subst T (sym same) typed; texts = subst X (sym same) texts }
+  pub least_by_texts : (o : Option Rule) → IsLeast (FailsByTexts texts head a v) o → IsLeast (FailsByText entries head a v) o
+  least_by_texts None least = λ r fails. least r (back r fails)
+  least_by_texts (Some rule) least = (over rule least.0, λ r fails. least.1 r (back r fails))
+
+-- an entry's unit is one of the units
+pub unit_below : (entries : Entries) (id unit : ℕ) (o : Option Entry) → id < length (all_entries entries.scanned) → o ≡ slice_get (all_entries entries.scanned) id → IfSome o (λ e. unit ≡ e.unit) → unit < length (units_of entries.scanned)
+unit_below entries id unit o below at told =
+    let (e, is) = there (all_entries entries.scanned) id below in
+    let same : unit ≡ e.unit = rw (at ∙ is) at told in
+    omega (arith, same, in_units _ _ (units_of entries.scanned) id e entries.scanned.1.spells is)
 
 -- no rule fails at the entries below a number
-abbrev pub NoneBelow : List Entry → Rules → ℕ → Type 0
-NoneBelow entries Fails number = (j : ℕ) (e : Entry) → j < number → slice_get entries j ≡ Some e → HasNone (AtHead Fails e)
+abbrev pub NoneBelow : Entries → Rules → ℕ → Type 0
+NoneBelow entries Fails number = (j : ℕ) → j < number → PassesAt (slice_get (all_entries entries.scanned) j) (AtHead Fails)
 
-module _ (it : References) (entries : Entries) (e : Entry) (same : it.cursor.entries.now ≡ entries) (texts : AreTexts (sections_of entries) (all_entries entries.scanned) (all_units entries.scanned) it.texts) (here : e.unit ≡ it.texts.unit) where
-  -- no rule fails at an entry
-  pub strings_none : (target : Option ℕ) → IsLinked it e target → HasNone (AtHead (StringFails (sections_of entries) (all_entries entries.scanned) (all_units entries.scanned)) e)
-  strings_none target linked = search (rules, none_carried, texts_back)
+module _ (entries : Entries) (Fails : Rules) (number id : ℕ) (same : id ≡ number) (passed : NoneBelow entries Fails number) where
+  -- nor at this one
+  pub more_below : PassesAt (slice_get (all_entries entries.scanned) id) (AtHead Fails) → NoneBelow entries Fails (number + 1)
+  more_below here =
+      let P : ℕ → Type 0 = λ j. PassesAt (slice_get (all_entries entries.scanned) j) (AtHead Fails) in
+      below_more P number passed (subst P same here)
 
-  pub references_none : (target : Option ℕ) → IsLinked it e target → HasNone (AtHead (ReferenceFails (all_entries entries.scanned) (all_units entries.scanned)) e)
-  references_none target linked = let P : Entries → Type 0 = λ x. HasNone (AtHead (ReferenceFails (all_entries x.scanned) (all_units x.scanned)) e) in subst P same linked.references
+  -- the first failure at this one is the first of all
+  pub first_failure : (broken : Broken) → number < length (all_entries entries.scanned) → FailsAt (slice_get (all_entries entries.scanned) id) (AtHead Fails) broken → IsFirst (AtEntries (all_entries entries.scanned) (AtHead Fails)) broken
+  first_failure broken below first =
+      let (e, is) = there (all_entries entries.scanned) number below in
+      first_of_entries (all_entries entries.scanned) (AtHead Fails) number e broken (entries_rise _ (units_of entries.scanned) entries.scanned.1.spells.are) (attributes_stand (λ x. Fails (entry_head x))) is
+      (λ j d lt at. passed j lt d at) (first e (ap (slice_get (all_entries entries.scanned)) same ∙ is))
 
-  pub is_target : (target : Option ℕ) → IsLinked it e target → target ≡ type_target (all_entries entries.scanned) (all_units entries.scanned) e
-  is_target target linked = let P : Entries → Type 0 = λ x. target ≡ type_target (all_entries x.scanned) (all_units x.scanned) e in subst P same linked.is_target
+-- nor at any
+pub none_fails : (entries : Entries) (Fails : Rules) (number : ℕ) → length (all_entries entries.scanned) ≤ number → NoneBelow entries Fails number → HasNone (AtEntries (all_entries entries.scanned) (AtHead Fails))
+none_fails entries Fails number all passed =
+    none_of_entries (all_entries entries.scanned) (AtHead Fails) (λ j e below. passed j (omega (arith, below, all)) e)
 
-  -- a failure that is the first at the entry is the first of all, if no rule fails before
-  pub failed_first : (number : ℕ) (failed : Failed) → slice_get (all_entries entries.scanned) number ≡ Some e
-      → NoneBelow (all_entries entries.scanned) (StringFails (sections_of entries) (all_entries entries.scanned) (all_units entries.scanned)) number
-      → NoneBelow (all_entries entries.scanned) (ReferenceFails (all_entries entries.scanned) (all_units entries.scanned)) number
-      → HasNone (HeaderFailures (all_entries entries.scanned) (all_units entries.scanned)) → HasFailed it e failed → IsFirstOfGroup (sections_of entries) (units_of entries.scanned) failed
-  failed_first number (String broken) is strings references headers failed =
-      search (rules, first_of_entries, entries_rise, attributes_stand, first_carried, texts_over, texts_back)
-  failed_first number (Reference broken) is strings references headers failed =
-      let es = all_entries entries.scanned in
-      let us = all_units entries.scanned in
-      let Fails = ReferenceFails es us in
-      let P : Entries → Type 0 = λ x. IsFirst (AtHead (ReferenceFails (all_entries x.scanned) (all_units x.scanned)) e) broken in
-      first_by_right (HeaderFailures es us) (AttributeFailures es us) broken headers
-      (first_of_entries es (AtHead Fails) number e broken (entries_rise _ (units_of entries.scanned) entries.scanned.1.spells.are) (attributes_stand (λ x. Fails (entry_head x))) is references (subst P same failed))
+-- a unit that was told with an entry
+pub head_unit : (o : Option Entry) (head : EntryHead) → IfSome o (λ e. head ≡ entry_head e) → IfSome o (λ e. head.unit ≡ e.unit)
+head_unit None head told = tt
+head_unit (Some e) head told = ap (λ (h : EntryHead). h.unit) told
+
+-- the first failure of its group at this entry is the first of all
+pub failed_first : (entries : Entries) (number id : ℕ) → id ≡ number → (failed : Failed) → NoneBelow entries (FailsByText entries) number → NoneBelow entries (FailsByTarget entries) number
+    → HasNone (HeaderFailures (all_entries entries.scanned) (all_units entries.scanned)) → number < length (all_entries entries.scanned)
+    → ((e : Entry) → slice_get (all_entries entries.scanned) id ≡ Some e → HasFailed entries e failed) → IsFirstOfGroup (sections_of entries) (units_of entries.scanned) failed
+failed_first entries number id same (String broken) strings references headers below first = first_failure entries (FailsByText entries) number id same strings broken below first
+failed_first entries number id same (Reference broken) strings references headers below first =
+    first_by_right (HeaderFailures (all_entries entries.scanned) (all_units entries.scanned)) (AttributeFailures (all_entries entries.scanned) (all_units entries.scanned)) broken headers
+    (first_failure entries (FailsByTarget entries) number id same references broken below first)

@@ -3,8 +3,6 @@ use Rattle.std.specs.Prelude.{◌≡◌, ℕ, ◌+◌, ◌-◌, ◌*◌, ◌/◌
 use Rattle.std.specs.Prelude.{Some, ◌==◌}
 use Rattle.std.specs.List.{before_first}
 use Rattle.dw_elf.specs.Elf.{number_at}
-use Rattle.dw_links.specs.declared.contribution.Contribution.{Contribution}
-use Rattle.dw_links.specs.declared.contribution.Contribution.TheVariants.{Absent, Broken, Sound}
 
 -- the length in the header before a base, which counts all bytes after itself
 abbrev pub length_before : List ℕ → ℕ → ℕ
@@ -31,17 +29,10 @@ slot_count section slot base = (length_before section base - 4) / slot
 abbrev pub slot_at : List ℕ → ℕ → ℕ → ℕ → ℕ
 slot_at section slot base index = number_at slot section (base + slot * index)
 
--- the base that a contribution is named by
-abbrev pub base_of : Contribution → Option ℕ
-base_of Absent = None
-base_of (Broken base) = Some base
-base_of (Sound base count) = Some base
-
--- what was read of the contribution that is named by a base
-abbrev pub IsRead : List ℕ → ℕ → ℕ → Contribution → Type 0
-IsRead section slot mark Absent = Unit {0}
-IsRead section slot mark (Broken base) = IsContribution section slot mark base → ⊥
-IsRead section slot mark (Sound base count) = IsContribution section slot mark base
+-- how many slots the contribution at a base has; None where its header is malformed
+abbrev pub IsCount : List ℕ → (slot mark base : ℕ) → Option ℕ → Type 0
+IsCount section slot mark base None = IsContribution section slot mark base → ⊥
+IsCount section slot mark base (Some count) = IsContribution section slot mark base
     × (count ≡ slot_count section slot base)
 
 -- a string begins at the offset: a zero byte is there or after it

@@ -1,8 +1,8 @@
--- State: the unit at hand while the values of its entries are followed, and what must be known of it.
-use Rattle.std.specs.Prelude.{◌≡◌, ℕ, List, Option}
+-- State: the rules among all entries, and what must be known of the unit at hand while values are followed.
+use Rattle.std.specs.Prelude.{◌≡◌, ℕ, Option}
 use Rattle.dw_forms.specs.Value.{Datum}
+use Rattle.dw_entries.specs.declared.entries.Entries.{Entries}
 use Rattle.dw_entries.specs.declared.lookup.EntryHead.{EntryHead}
-use Rattle.dw_entries.specs.Entries.{Entry, PlacedUnit}
 use Rattle.dw_entries.specs.Scanned.{all_entries, all_units}
 use Rattle.dw_entries.specs.Views.{sections_of}
 use Rattle.dw_links.specs.declared.references.References.{References}
@@ -10,34 +10,36 @@ use Rattle.dw_links.specs.Concerns.{Rules}
 use Rattle.dw_links.specs.Ready.{AreTexts}
 use Rattle.dw_links.specs.References.{ReferenceFails}
 use Rattle.dw_links.specs.SignedTypes.{HasSignedTypes, AreTyped}
+use Rattle.dw_links.specs.Strings.{StringFails}
 use Rattle.dw_links.specs.Targets.{reach_in_unit, reach_of}
 
--- all entries
-abbrev pub entries_in : References → List Entry
-entries_in it = all_entries it.cursor.entries.now.scanned
+-- the rules on strings and addresses
+abbrev pub FailsByText : Entries → Rules
+FailsByText entries = StringFails (sections_of entries) (all_entries entries.scanned) (all_units entries.scanned)
 
--- all units
-abbrev pub units_in : References → List PlacedUnit
-units_in it = all_units it.cursor.entries.now.scanned
+-- the rules on references
+abbrev pub FailsByTarget : Entries → Rules
+FailsByTarget entries = ReferenceFails (all_entries entries.scanned) (all_units entries.scanned)
+
+-- the target of a value of an entry
+abbrev pub target_by : Entries → EntryHead → Datum → Option ℕ
+target_by entries head v = reach_of (all_entries entries.scanned) (all_units entries.scanned) head.unit v
+
+-- the entries whose values are followed
+abbrev pub entries_in : References → Entries
+entries_in it = it.cursor.entries.now
 
 -- the entry of the unit at hand that starts so many bytes after the unit's header
-abbrev pub reached_in : References → (offset : ℕ) → Option ℕ
-reached_in it offset = reach_in_unit (entries_in it) (units_in it) it.texts.unit offset
-
--- the entry that a value of the unit at hand reaches
-abbrev pub reached_by : References → Datum → Option ℕ
-reached_by it v = reach_of (entries_in it) (units_in it) it.texts.unit v
-
--- the rules on references, among these entries
-abbrev pub FailsByTarget : References → Rules
-FailsByTarget it = ReferenceFails (entries_in it) (units_in it)
+abbrev pub entry_after : References → (offset : ℕ) → Option ℕ
+entry_after it offset =
+    reach_in_unit (all_entries (entries_in it).scanned) (all_units (entries_in it).scanned) it.texts.unit offset
 
 -- the table has the type of each signature, each signature of a type unit has one, and what was read of the unit at
 -- hand is right
 pub record IsLinkable (it : References) : Type 0 where
-  pub types : HasSignedTypes (entries_in it) (units_in it) it.signatures.now
-  pub typed : AreTyped (entries_in it) (units_in it)
-  pub texts : AreTexts (sections_of it.cursor.entries.now) (entries_in it) (units_in it) it.texts
+  pub types : HasSignedTypes (entries_in it) it.signatures.now
+  pub typed : AreTyped (entries_in it)
+  pub texts : AreTexts (entries_in it) it.texts
 
 -- the same, and the entry is in the unit at hand
 pub record MayAsk (it : References) (head : EntryHead) : Type 0 where

@@ -1,22 +1,13 @@
 -- State: what is read once of all units, to follow the values of attributes.
 use Rattle.std.specs.Prelude.{◌≡◌, ℕ, List, map, Option}
-use Rattle.dw_forms.specs.Codes.{DW_AT_str_offsets_base, DW_AT_addr_base, DW_AT_type}
+use Rattle.dw_forms.specs.Codes.{DW_AT_type}
 use Rattle.dw_entries.specs.declared.entries.Entries.{Entries}
 use Rattle.dw_entries.specs.Entries.{Entry, PlacedUnit}
 use Rattle.dw_entries.specs.Scanned.{all_entries, all_units}
-use Rattle.dw_links.specs.declared.links.UnitBases.{UnitBases}
 use Rattle.dw_links.specs.declared.links.LinkTables.{LinkTables}
-use Rattle.dw_links.specs.Bases.{base_in}
+use Rattle.dw_links.specs.Bases.{bases_in}
 use Rattle.dw_links.specs.SignedTypes.{HasSignedTypes}
 use Rattle.dw_links.specs.Targets.{target_of}
-
--- the bases that a unit's first entry gives
-abbrev pub bases_in : List Entry → PlacedUnit → UnitBases
-bases_in entries unit = record {
-  strings = base_in entries unit DW_AT_str_offsets_base;
-  addresses =
-      base_in entries unit DW_AT_addr_base;
-}
 
 -- the entry that an entry's type reaches
 abbrev pub type_target : List Entry → List PlacedUnit → Entry → Option ℕ
@@ -24,7 +15,7 @@ type_target entries units e = target_of entries units e DW_AT_type
 
 -- the tables of these entries: the type of each signature, the bases of each unit, and the target of each entry's type
 pub record AreTables (entries : Entries) (tables : LinkTables) : Type 0 where
-  pub signatures : HasSignedTypes (all_entries entries.scanned) (all_units entries.scanned) tables.signatures
+  pub signatures : HasSignedTypes entries tables.signatures
   pub bases : tables.bases.items ≡ map (bases_in (all_entries entries.scanned)) (all_units entries.scanned)
   pub types : tables.types.items ≡ map (type_target (all_entries entries.scanned) (all_units entries.scanned))
       (all_entries entries.scanned)

@@ -1,18 +1,18 @@
 //! The classes of values (DWARF 5, section 7.5.5), which attribute may have which, and the rule on them: by
 //! declarations, and where one of these leaves a class open, by values.
 
-ghost use Rattle.std.specs.Prelude.{◌≡◌, ◌<◌, List, Some, length, IsSome, OnOk, IfErr};
+ghost use Rattle.std.specs.Prelude.{◌≡◌, ◌<◌, List, length, slice_get, OnOk, IfErr};
 ghost use Rattle.std.specs.Bool.{OnFalse};
 ghost use Rattle.dw_forms.specs.Value.{view};
 ghost use Rattle.dw_entries.specs.declared.fault.Section.TheVariants.{Info};
-ghost use Rattle.dw_entries.specs.Entries.{Entry, PlacedUnit};
-ghost use Rattle.dw_entries.specs.Scanned.{all_units, units_of};
+ghost use Rattle.dw_entries.specs.Entries.{PlacedUnit};
+ghost use Rattle.dw_entries.specs.Scanned.{all_entries, all_units, units_of};
 ghost use Rattle.dw_entries.specs.Failures.{HasNone, IsFirst, IsLeast, IsPlainFault};
 ghost use Rattle.dw_links.specs.Classes.{class_of, form_class, allows, allows_in, ClassFails, ClassFailures};
 ghost use Rattle.dw_links.specs.Concerns.{AtHead, Passes, PassesAt, FailsAt};
 
 use dw_entries::constants::*;
-use dw_entries::{Broken, Choice, Entries, EntryAt, EntryHead, Fault, Rule, Section};
+use dw_entries::{Broken, Choice, Entries, EntryHead, EntryId, Fault, Rule, Section};
 use dw_forms::{Attribute, AttributeSpec, Form, Value};
 use std::alloc::Global;
 
@@ -212,12 +212,14 @@ impl Choice for Open {
 }
 
 /// The first attribute of an entry whose value has none of its classes. Only those that are open are decoded.
-fn check_entry(entries: &Entries<'_>, entry: &EntryAt<'_, '_>) -> Result<(), Broken>
-    requires found { IsSome entry.now }
-    requires in_unit { (e : Entry) → entry.now ≡ Some e → e.unit < length (units_of entries.now.scanned) }
-    ensures ok { OnOk result (PassesAt entry.now (AtHead (ClassFails (all_units entries.now.scanned)))) }
-    ensures err { IfErr result (FailsAt entry.now (AtHead (ClassFails (all_units entries.now.scanned)))) }
+fn check_entry(entries: &Entries<'_>, id: EntryId) -> Result<(), Broken>
+    requires { id < length (all_entries entries.now.scanned) }
+    ensures ok { OnOk result (PassesAt (slice_get (all_entries entries.now.scanned) id)
+        (AtHead (ClassFails (all_units entries.now.scanned)))) }
+    ensures err { IfErr result (FailsAt (slice_get (all_entries entries.now.scanned) id)
+        (AtHead (ClassFails (all_units entries.now.scanned)))) }
 {
+    let entry = entries.at(id);
     let head = entry.head();
     let mut values = entry.values();
     while let Some(item) = values.next_by(&Open) {
@@ -238,8 +240,7 @@ pub fn check_classes(alloc: Global, entries: &Entries<'_>) -> Result<(), Fault>
         return Ok(());
     }
     for number in 0..entries.count() {
-        let entry = entries.at(entries.id(number));
-        if let Err(broken) = check_entry(entries, &entry) {
+        if let Err(broken) = check_entry(entries, entries.id(number)) {
             return Err(broken.into_fault(alloc));
         }
     }

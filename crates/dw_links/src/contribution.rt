@@ -1,21 +1,53 @@
 //! The contributions of units to .debug_str_offsets and .debug_addr (DWARF 5, sections 7.26 and 7.27).
 
-ghost use Rattle.std.specs.Prelude.{◌≡◌, ◌+◌, ◌<◌, ◌≤◌, length, Some, IfSome, IfNone};
+ghost use Rattle.std.specs.Prelude.{◌≡◌, ◌+◌, ◌<◌, ◌≤◌, length, Some, slice_get, IfSome};
 ghost use Rattle.dw_elf.specs.Elf.{number_at};
-ghost use Rattle.dw_links.specs.Contributions.{slot_count, IsContribution, base_of, IsRead, IsEndOfStrings};
+ghost use Rattle.dw_entries.specs.Entries.{PlacedUnit};
+ghost use Rattle.dw_entries.specs.Scanned.{all_entries, all_units, units_of};
+ghost use Rattle.dw_links.specs.Bases.{base_in, bases_in};
+ghost use Rattle.dw_links.specs.Contributions.{IsCount, IsEndOfStrings};
 
 use byteorder::{ByteOrder, LittleEndian};
+use dw_entries::Entries;
+use dw_entries::constants::*;
+use dw_forms::{Attribute, Value};
 use memchr::memrchr;
 
-/// What a unit's base leads to.
-#[derive(Clone, Copy, Debug)]
-pub enum Contribution {
-    /// The unit names none.
-    Absent,
-    /// The header before the base does not hold.
-    Broken(u32),
-    /// The first slot is at the base, and there are so many.
-    Sound { base: u32, count: u64 },
+/// Where the first slots of a unit's contributions are, if its first entry says so.
+#[derive(Clone, Copy, Debug, PartialEq, Eq)]
+pub struct UnitBases {
+    /// The offset in .debug_str_offsets.
+    pub strings: Option<u32>,
+    /// The offset in .debug_addr.
+    pub addresses: Option<u32>,
+}
+
+/// The base that a unit's first entry gives to a contribution.
+fn base_in_unit(entries: &Entries<'_>, number: usize, attribute: Attribute) -> Option<u32>
+    requires { number < length (units_of entries.now.scanned) }
+    ensures { (p : PlacedUnit) → slice_get (all_units entries.now.scanned) number ≡ Some p
+        → result ≡ base_in (all_entries entries.now.scanned) p attribute }
+{
+    let unit = entries.unit(number);
+    if unit.header.kind.version() == 4 {
+        return None;
+    }
+    match entries.value(unit.first, attribute) {
+        Some(Value::SecOffset(base)) => Some(base),
+        _ => None,
+    }
+}
+
+/// The bases of the unit with this number.
+pub fn unit_bases(entries: &Entries<'_>, number: usize) -> UnitBases
+    requires { number < length (units_of entries.now.scanned) }
+    ensures { IfSome (slice_get (all_units entries.now.scanned) number)
+        (λ p. result ≡ bases_in (all_entries entries.now.scanned) p) }
+{
+    UnitBases {
+        strings: base_in_unit(entries, number, DW_AT_str_offsets_base),
+        addresses: base_in_unit(entries, number, DW_AT_addr_base),
+    }
 }
 
 /// The number in so many bytes from a place on, lowest first.
@@ -30,13 +62,12 @@ pub fn number(section: &[u8], at: usize, size: usize) -> u64
     LittleEndian::read_uint(rest, size)
 }
 
-/// How many slots the contribution at a base has; None where its header does not hold.
-fn count_slots(section: &[u8], slot: u8, mark: u8, base: usize) -> Option<u64>
+/// How many slots the contribution at a base has. None if its header is malformed.
+pub fn count_slots(section: &[u8], slot: u8, mark: u8, base: u32) -> Option<u64>
     requires { 0 < slot }
-    ensures sound { IfSome result (λ _. IsContribution section.now slot mark base) }
-    ensures count { IfSome result (λ count. count ≡ slot_count section.now slot base) }
-    ensures broken { IfNone result (IsContribution section.now slot mark base → ⊥) }
+    ensures { IsCount section.now slot mark base result }
 {
+    let base = base as usize;
     if base < 8 || base > section.len() {
         return None;
     }
@@ -57,28 +88,12 @@ fn count_slots(section: &[u8], slot: u8, mark: u8, base: usize) -> Option<u64>
     Some(size / slot as u64)
 }
 
-/// Reads the contribution that a base names.
-pub fn read_contribution(section: &[u8], slot: u8, mark: u8, base: u32) -> Contribution
+/// How many slots the contribution at a unit's base has, if the unit gives one.
+pub fn count_named(section: &[u8], slot: u8, mark: u8, base: Option<u32>) -> Option<u64>
     requires { 0 < slot }
-    ensures read { IsRead section.now slot mark result }
-    ensures base { base_of result ≡ Some base }
+    ensures { IfSome base (λ base. IsCount section.now slot mark base result) }
 {
-    match count_slots(section, slot, mark, base as usize) {
-        Some(count) => Contribution::Sound { base, count },
-        None => Contribution::Broken(base),
-    }
-}
-
-/// Reads the contribution that a base names, if there is one.
-pub fn named_contribution(section: &[u8], slot: u8, mark: u8, base: Option<u32>) -> Contribution
-    requires { 0 < slot }
-    ensures read { IsRead section.now slot mark result }
-    ensures base { base_of result ≡ base }
-{
-    match base {
-        Some(base) => read_contribution(section, slot, mark, base),
-        None => Contribution::Absent,
-    }
+    count_slots(section, slot, mark, base?)
 }
 
 /// The offset after the section's last zero byte, below which all strings begin.

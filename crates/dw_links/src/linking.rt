@@ -12,7 +12,7 @@ ghost use Rattle.dw_entries.specs.Failures.{HasNone, IsFirst, IsLeast};
 ghost use Rattle.dw_entries.specs.Stopped.{IfPlainFault};
 ghost use Rattle.dw_links.specs.DeclaredEntries.{KeepsDeclared};
 ghost use Rattle.dw_links.specs.Linking.{kept_after, LinksNext, HasFailedNext, IsLinked, HasFailed, IsFirstOfGroup};
-ghost use Rattle.dw_links.specs.Linkable.{entries_in, FailsByTarget, reached_by, MayAsk};
+ghost use Rattle.dw_links.specs.Linkable.{entries_in, FailsByTarget, target_by, MayAsk};
 ghost use Rattle.dw_links.specs.LinkFaults.{IsFirstOfTargets};
 ghost use Rattle.dw_links.specs.References.{HeaderFailures, ReferenceFailures};
 ghost use Rattle.dw_links.specs.SignedTypes.{HasSignedTypes, AreTyped};
@@ -20,8 +20,9 @@ ghost use Rattle.dw_links.specs.Strings.{StringFailures};
 ghost use Rattle.dw_links.specs.Tables.{type_target};
 
 use crate::class::broken_at;
+use crate::contribution::end_of_strings;
 use crate::references::References;
-use crate::strings::{check_strings, keep_texts, read_texts, string_ends};
+use crate::strings::{check_strings, keep_texts, read_texts};
 use crate::targets::DeclaredEntries;
 use dw_entries::constants::*;
 use dw_entries::{
@@ -77,12 +78,12 @@ impl References<'_, '_, '_> {
         requires may { MayAsk self.now head.now }
         requires kept { KeepsDeclared (entries_in self.now) declared.old }
         ensures kept { KeepsDeclared (entries_in self.now) declared.new }
-        ensures ok { OnOk result (IsLeast (FailsByTarget self.now head.now attribute (view value.now)) None) }
-        ensures reached { IfOk result (λ target. target ≡ reached_by self.now (view value.now)) }
+        ensures ok { OnOk result (IsLeast (FailsByTarget (entries_in self.now) head.now attribute (view value.now)) None) }
+        ensures reached { IfOk result (λ target. target ≡ target_by (entries_in self.now) head.now (view value.now)) }
         ensures err { IfErr result
-            (λ rule. IsLeast (FailsByTarget self.now head.now attribute (view value.now)) (Some rule)) }
+            (λ rule. IsLeast (FailsByTarget (entries_in self.now) head.now attribute (view value.now)) (Some rule)) }
     {
-        let reached = self.reach(value);
+        let reached = self.reach(head, value);
         let target = number_of(self.cursor.entries, &reached);
         match self.ask(declared, head, attribute, value, reached) {
             None => Ok(target),
@@ -103,8 +104,8 @@ impl References<'_, '_, '_> {
         requires kept { KeepsDeclared (entries_in self.now) declared.old }
         requires form { next_form leading.old ≡ Some form }
         ensures kept { KeepsDeclared (entries_in self.now) declared.new }
-        ensures ok { IfOk result (LinksNext self.now head.now (leading_left leading.old) (leading_left leading.new)) }
-        ensures err { IfErr result (HasFailedNext self.now head.now (leading_left leading.old)) }
+        ensures ok { IfOk result (LinksNext (entries_in self.now) head.now (leading_left leading.old) (leading_left leading.new)) }
+        ensures err { IfErr result (HasFailedNext (entries_in self.now) head.now (leading_left leading.old)) }
     {
         let (attribute, value) = leading.next_in(form);
         if let Some(rule) = self.texts.ask(head, attribute, &value) {
@@ -129,8 +130,8 @@ impl References<'_, '_, '_> {
         requires kept { KeepsDeclared (entries_in self.now) declared.old }
         requires form { next_form leading.old ≡ Some form }
         ensures kept { KeepsDeclared (entries_in self.now) declared.new }
-        ensures ok { IfOk result (LinksNext self.now head.now (leading_left leading.old) (leading_left leading.new)) }
-        ensures err { IfErr result (HasFailedNext self.now head.now (leading_left leading.old)) }
+        ensures ok { IfOk result (LinksNext (entries_in self.now) head.now (leading_left leading.old) (leading_left leading.new)) }
+        ensures err { IfErr result (HasFailedNext (entries_in self.now) head.now (leading_left leading.old)) }
     {
         match form {
             Form::Strp => self.link_in(declared, head, leading, Form::Strp),
@@ -150,8 +151,8 @@ impl References<'_, '_, '_> {
         requires may { (e : Entry) → entry.now ≡ Some e → MayAsk self.now (entry_head e) }
         requires kept { KeepsDeclared (entries_in self.now) declared.old }
         ensures kept { KeepsDeclared (entries_in self.now) declared.new }
-        ensures ok { IfOk result (λ target. (e : Entry) → entry.now ≡ Some e → IsLinked self.now e target) }
-        ensures err { IfErr result (λ failed. (e : Entry) → entry.now ≡ Some e → HasFailed self.now e failed) }
+        ensures ok { IfOk result (λ target. (e : Entry) → entry.now ≡ Some e → IsLinked (entries_in self.now) e target) }
+        ensures err { IfErr result (λ failed. (e : Entry) → entry.now ≡ Some e → HasFailed (entries_in self.now) e failed) }
     {
         let head = entry.head();
         let mut leading = entry.leading();
@@ -160,10 +161,7 @@ impl References<'_, '_, '_> {
             let (attribute, reached) = self.link_next(declared, &head, &mut leading, form)?;
             kept = keep(kept, attribute, reached);
         }
-        match kept {
-            Some(target) => Ok(target),
-            None => Ok(OptionalId::none()),
-        }
+        Ok(kept.unwrap_or(OptionalId::none()))
     }
 }
 
@@ -204,8 +202,8 @@ pub(crate) fn link_entries<'t>(
     signatures: &'t BTreeMap<u64, EntryId>,
     hints: &'t Hints,
 ) -> Result<Vec<OptionalId>, Stop<Fault>>
-    requires types { HasSignedTypes (all_entries entries.now.scanned) (all_units entries.now.scanned) signatures.now }
-    requires typed { AreTyped (all_entries entries.now.scanned) (all_units entries.now.scanned) }
+    requires types { HasSignedTypes entries.now signatures.now }
+    requires typed { AreTyped entries.now }
     requires headers { HasNone (HeaderFailures (all_entries entries.now.scanned) (all_units entries.now.scanned)) }
     ensures strings { OnOk result (HasNone (StringFailures (sections_of entries.now) (units_of entries.now.scanned))) }
     ensures references { OnOk result (HasNone (ReferenceFailures (units_of entries.now.scanned))) }
@@ -219,17 +217,19 @@ pub(crate) fn link_entries<'t>(
     if entries.unit_count() == 0 {
         return Ok(types);
     }
-    let ends = string_ends(entries.sections());
+    let sections = entries.sections();
+    let str_end = end_of_strings(sections.str);
+    let line_str_end = end_of_strings(sections.line_str);
     let mut declared = DeclaredEntries::new(alloc, entries)?;
     let mut references = References {
         cursor: entries.cursor(),
-        texts: read_texts(entries, ends, 0),
+        texts: read_texts(entries, str_end, line_str_end, 0),
         signatures,
         hints,
     };
     for number in 0..entries.count() {
         let entry = references.cursor.at(entries.id(number));
-        keep_texts(&mut references.texts, entries, ends, entry.unit());
+        keep_texts(&mut references.texts, entries, entry.unit());
         match references.link_entry(&mut declared, &entry) {
             Ok(target) => types.push(target)?,
             Err(failed) => return Err(stop_of(alloc, entries, failed)),

@@ -7,7 +7,8 @@ ghost use Rattle.dw_entries.specs.Views.{sections_of};
 ghost use Rattle.dw_entries.specs.Stopped.{IfPlainFault};
 ghost use Rattle.dw_entries.specs.Failures.{HasNone};
 ghost use Rattle.dw_links.specs.Targets.{target_of};
-ghost use Rattle.dw_links.specs.Tables.{bases_in, type_target, AreTables};
+ghost use Rattle.dw_links.specs.Bases.{bases_in};
+ghost use Rattle.dw_links.specs.Tables.{type_target, AreTables};
 ghost use Rattle.dw_links.specs.Classes.{ClassFailures};
 ghost use Rattle.dw_links.specs.LinkFaults.{IsFirstOfLinks};
 ghost use Rattle.dw_links.specs.Strings.{StringFailures};
@@ -15,24 +16,15 @@ ghost use Rattle.dw_links.specs.References.{ReferenceFailures};
 ghost use Rattle.dw_links.specs.AttributeTexts.{text_at, address_at};
 
 use crate::class::check_classes;
+use crate::contribution::{UnitBases, unit_bases};
 use crate::linking::{link_entries, strings_first};
 use crate::references::read_signatures;
-use crate::strings::base_in_unit;
 use crate::targets::find_target;
 use dw_entries::constants::*;
 use dw_entries::{Entries, EntryId, Fault, OptionalId, Stop};
 use dw_forms::Attribute;
 use std::alloc::{AllocError, Global};
 use std::collections::BTreeMap;
-
-/// Where the first slots of a unit's contributions are, if its first entry says so.
-#[derive(Clone, Copy, Debug, PartialEq, Eq)]
-pub(crate) struct UnitBases {
-    /// The offset in .debug_str_offsets.
-    pub(crate) strings: Option<u32>,
-    /// The offset in .debug_addr.
-    pub(crate) addresses: Option<u32>,
-}
 
 /// What is read once, so that values can be followed: the type of each signature, the bases of each unit, and
 /// the entry that the type of each entry reaches.
@@ -41,18 +33,6 @@ pub struct LinkTables {
     pub(crate) signatures: BTreeMap<u64, EntryId>,
     pub(crate) bases: Vec<UnitBases>,
     pub(crate) types: Vec<OptionalId>,
-}
-
-/// The bases of the unit with this number.
-fn unit_bases(entries: &Entries<'_>, number: usize) -> UnitBases
-    requires { number < length (units_of entries.now.scanned) }
-    ensures { IfSome (slice_get (all_units entries.now.scanned) number)
-        (λ p. result ≡ bases_in (all_entries entries.now.scanned) p) }
-{
-    UnitBases {
-        strings: base_in_unit(entries, number, DW_AT_str_offsets_base),
-        addresses: base_in_unit(entries, number, DW_AT_addr_base),
-    }
 }
 
 /// The bases of all units, in their order.

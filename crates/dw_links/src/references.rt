@@ -6,7 +6,7 @@ ghost use Rattle.std.specs.Bool.{OnTrue, OnFalse};
 ghost use Rattle.dw_forms.specs.Value.{view};
 ghost use Rattle.dw_entries.specs.Failures.{IsLeast, HasNone, IsFirst};
 ghost use Rattle.dw_links.specs.DeclaredEntries.{KeepsDeclared};
-ghost use Rattle.dw_links.specs.Linkable.{entries_in, FailsByTarget, reached_in, reached_by, IsLinkable, MayAsk};
+ghost use Rattle.dw_links.specs.Linkable.{entries_in, entry_after, FailsByTarget, target_by, IsLinkable, MayAsk};
 ghost use Rattle.dw_links.specs.References.{is_reference_value, HasType, TypeUnitFails, AtHeader, HeaderFailures};
 ghost use Rattle.dw_entries.specs.Entries.{PlacedUnit};
 ghost use Rattle.dw_entries.specs.Scanned.{all_entries, all_units, units_of};
@@ -134,8 +134,8 @@ pub fn read_signatures(
     alloc: Global,
     entries: &Entries<'_>,
 ) -> Result<BTreeMap<u64, EntryId>, Stop<Fault>>
-    ensures types { IfOk result (HasSignedTypes (all_entries entries.now.scanned) (all_units entries.now.scanned)) }
-    ensures typed { OnOk result (AreTyped (all_entries entries.now.scanned) (all_units entries.now.scanned)) }
+    ensures types { IfOk result (HasSignedTypes entries.now) }
+    ensures typed { OnOk result (AreTyped entries.now) }
     ensures ok { OnOk result
         (HasNone (HeaderFailures (all_entries entries.now.scanned) (all_units entries.now.scanned))) }
     ensures fault { IfErr result
@@ -178,9 +178,9 @@ impl References<'_, '_, '_> {
     #[inline(always)]
     fn guess_in_unit(&self, offset: u64) -> Option<EntryId>
         requires { IsLinkable self.now }
-        ensures { IfSome result (λ id. reached_in self.now offset ≡ Some id) }
+        ensures { IfSome result (λ id. entry_after self.now offset ≡ Some id) }
     {
-        let at = offset.checked_add(u64::from(self.texts.at))?;
+        let at = offset.checked_add(u64::from(self.texts.head.offset))?;
         let id = self.cursor.entries.nth(self.hints.guess(at)?)?;
         let entry = self.cursor.beside(id)?;
         if u64::from(entry.offset()) != at || entry.unit() != self.texts.unit {
@@ -193,7 +193,7 @@ impl References<'_, '_, '_> {
     #[inline(always)]
     fn find_in_unit(&self, offset: u64) -> Option<EntryId>
         requires { IsLinkable self.now }
-        ensures { result ≡ reached_in self.now offset }
+        ensures { result ≡ entry_after self.now offset }
     {
         match self.guess_in_unit(offset) {
             Some(id) => Some(id),
@@ -201,15 +201,15 @@ impl References<'_, '_, '_> {
         }
     }
 
-    /// The entry that a value of the unit at hand reaches.
+    /// The target of a value of an entry.
     #[inline(always)]
-    pub fn reach(&self, value: &Value<'_>) -> Option<EntryId>
-        requires { IsLinkable self.now }
-        ensures { result ≡ reached_by self.now (view value.now) }
+    pub fn reach(&self, head: &EntryHead, value: &Value<'_>) -> Option<EntryId>
+        requires { MayAsk self.now head.now }
+        ensures { result ≡ target_by (entries_in self.now) head.now (view value.now) }
     {
         match *value {
             Value::RefUnit(offset) => self.find_in_unit(offset),
-            _ => reach(self.cursor.entries, self.signatures, self.texts.unit, value),
+            _ => reach(self.cursor.entries, self.signatures, head.unit, value),
         }
     }
 
@@ -223,8 +223,8 @@ impl References<'_, '_, '_> {
     ) -> Option<Rule>
         requires may { MayAsk self.now head.now }
         requires reference { is_reference_value (view value.now) ≡ true }
-        requires none { reached_by self.now (view value.now) ≡ None }
-        ensures { IsLeast (FailsByTarget self.now head.now attribute (view value.now)) result }
+        requires none { target_by (entries_in self.now) head.now (view value.now) ≡ None }
+        ensures { IsLeast (FailsByTarget (entries_in self.now) head.now attribute (view value.now)) result }
     {
         if !is_sig8(value) {
             return Some(Rule::NoEntry);
@@ -247,10 +247,10 @@ impl References<'_, '_, '_> {
     ) -> Option<Rule>
         requires may { MayAsk self.now head.now }
         requires reference { is_reference_value (view value.now) ≡ true }
-        requires reaches { reached_by self.now (view value.now) ≡ Some id }
+        requires reaches { target_by (entries_in self.now) head.now (view value.now) ≡ Some id }
         requires kept { KeepsDeclared (entries_in self.now) declared.old }
         ensures kept { KeepsDeclared (entries_in self.now) declared.new }
-        ensures rule { IsLeast (FailsByTarget self.now head.now attribute (view value.now)) result }
+        ensures rule { IsLeast (FailsByTarget (entries_in self.now) head.now attribute (view value.now)) result }
     {
         if !is_permitted_form(head, attribute, value) {
             return Some(Rule::WrongKind);
@@ -278,10 +278,10 @@ impl References<'_, '_, '_> {
         reached: Option<EntryId>,
     ) -> Option<Rule>
         requires may { MayAsk self.now head.now }
-        requires reached { reached ≡ reached_by self.now (view value.now) }
+        requires reached { reached ≡ target_by (entries_in self.now) head.now (view value.now) }
         requires kept { KeepsDeclared (entries_in self.now) declared.old }
         ensures kept { KeepsDeclared (entries_in self.now) declared.new }
-        ensures rule { IsLeast (FailsByTarget self.now head.now attribute (view value.now)) result }
+        ensures rule { IsLeast (FailsByTarget (entries_in self.now) head.now attribute (view value.now)) result }
     {
         if !is_reference(value) {
             return None;

@@ -1,46 +1,27 @@
 //! The rules on strings and addresses (DWARF 5, sections 7.26 and 7.27), by what is read once of a unit, and the search
 //! for the first failure, unit by unit.
 
-ghost use Rattle.std.specs.Prelude.{◌≡◌, ◌<◌, length, Some, slice_get, IsSome, OnOk, IfErr};
+ghost use Rattle.std.specs.Prelude.{◌≡◌, ◌<◌, length, OnOk, IfErr};
 ghost use Rattle.dw_forms.specs.Value.{view};
 ghost use Rattle.dw_entries.specs.Failures.{HasNone, IsFirst, IsLeast, IsPlainFault};
-ghost use Rattle.dw_entries.specs.Entries.{PlacedUnit};
-ghost use Rattle.dw_entries.specs.Scanned.{all_entries, all_units, units_of};
+ghost use Rattle.dw_entries.specs.Scanned.{units_of};
 ghost use Rattle.dw_entries.specs.Views.{sections_of};
-ghost use Rattle.dw_links.specs.Contributions.{IsEndOfStrings, base_of};
+ghost use Rattle.dw_entries.specs.declared.entries.Entries.{Entries};
+ghost use Rattle.dw_links.specs.Contributions.{IsEndOfStrings};
 ghost use Rattle.dw_links.specs.Strings.{OffsetFails, BaseFails, StringIndexFails, AddressIndexFails, StringFailures};
-ghost use Rattle.dw_links.specs.Ready.{AreEnds, AreTexts, IsReady, FailsByTexts};
-ghost use Rattle.dw_links.specs.Bases.{base_in};
+ghost use Rattle.dw_links.specs.Linkable.{FailsByText};
+ghost use Rattle.dw_links.specs.Ready.{AreTexts, AreTextsAt, IsReady, FailsByTexts};
 ghost use Rattle.dw_links.specs.Concerns.{AtHead, PassesAt, FailsAt};
 
 use crate::class::broken_at;
 use crate::contribution::{
-    Contribution, end_of_strings, named_contribution, number, read_contribution,
+    UnitBases, count_named, count_slots, end_of_strings, number, unit_bases,
 };
 use dw_elf::Sections;
 use dw_entries::constants::*;
-use dw_entries::{Broken, Entries, EntryAt, EntryHead, Fault, Rule, UnitHeader};
+use dw_entries::{Broken, Entries, EntryAt, EntryHead, Fault, Rule, UnitHead};
 use dw_forms::{Attribute, Value};
 use std::alloc::Global;
-
-/// Where the strings of the two sections end.
-#[derive(Clone, Copy)]
-pub struct StringEnds {
-    /// The offset in .debug_str after its last zero byte.
-    pub str: usize,
-    /// The same in .debug_line_str.
-    pub line_str: usize,
-}
-
-/// Finds where the strings of the two sections end.
-pub fn string_ends(sections: &Sections<'_>) -> StringEnds
-    ensures { AreEnds sections.now result }
-{
-    StringEnds {
-        str: end_of_strings(sections.str),
-        line_str: end_of_strings(sections.line_str),
-    }
-}
 
 /// The rule on an offset into a section whose strings begin below `end`.
 fn ask_offset(section: &[u8], end: usize, offset: u32) -> Option<Rule>
@@ -54,18 +35,22 @@ fn ask_offset(section: &[u8], end: usize, offset: u32) -> Option<Rule>
     }
 }
 
-/// What is needed again and again of one unit's strings and addresses.
+/// What is read once of a unit to check the rules on its strings and addresses.
 #[derive(Clone, Copy)]
 pub struct UnitTexts<'a> {
     /// The number of the unit.
     pub unit: usize,
-    /// Where its header starts in .debug_info.
-    pub at: u32,
+    pub head: UnitHead,
+    pub bases: UnitBases,
+    /// How many slots its contribution to .debug_str_offsets has, if it has one whose header is well-formed.
+    pub strings: Option<u64>,
+    /// The same in .debug_addr.
+    pub addresses: Option<u64>,
     pub sections: Sections<'a>,
-    pub header: UnitHeader,
-    pub strings: Contribution,
-    pub addresses: Contribution,
-    pub ends: StringEnds,
+    /// The offset in .debug_str after its last zero byte.
+    pub str_end: usize,
+    /// The same in .debug_line_str.
+    pub line_str_end: usize,
 }
 
 impl UnitTexts<'_> {
@@ -73,23 +58,23 @@ impl UnitTexts<'_> {
     #[inline(never)]
     fn ask_base(&self, attribute: Attribute, base: u32) -> Option<Rule>
         requires { IsReady self.now }
-        ensures { IsLeast (BaseFails self.now.sections self.now.header attribute base) result }
+        ensures { IsLeast (BaseFails self.now.sections self.now.head.header attribute base) result }
     {
-        let size = self.header.address_size;
-        let (read, rule) = match attribute {
+        let size = self.head.header.address_size;
+        let (count, rule) = match attribute {
             DW_AT_str_offsets_base => (
-                read_contribution(self.sections.str_offsets, 4, 0, base),
+                count_slots(self.sections.str_offsets, 4, 0, base),
                 Rule::BadStrBase,
             ),
             DW_AT_addr_base => (
-                read_contribution(self.sections.addr, size, size, base),
+                count_slots(self.sections.addr, size, size, base),
                 Rule::BadAddrBase,
             ),
             _ => return None,
         };
-        match read {
-            Contribution::Broken(_) => Some(rule),
-            _ => None,
+        match count {
+            Some(_) => None,
+            None => Some(rule),
         }
     }
 
@@ -97,18 +82,18 @@ impl UnitTexts<'_> {
     #[inline(never)]
     fn ask_string(&self, index: u64) -> Option<Rule>
         requires { IsReady self.now }
-        ensures { IsLeast (StringIndexFails self.now.sections (base_of self.now.strings) index) result }
+        ensures { IsLeast (StringIndexFails self.now.sections self.now.bases.strings index) result }
     {
-        match self.strings {
-            Contribution::Absent => Some(Rule::BadStrBase),
-            Contribution::Broken(_) => None,
-            Contribution::Sound { base, count } => {
+        match (self.bases.strings, self.strings) {
+            (None, _) => Some(Rule::BadStrBase),
+            (Some(_), None) => None,
+            (Some(base), Some(count)) => {
                 if index >= count {
                     return Some(Rule::StrIndex);
                 }
                 let at = base as usize + 4 * index as usize;
                 let offset = number(self.sections.str_offsets, at, 4);
-                if offset < self.ends.str as u64 {
+                if offset < self.str_end as u64 {
                     None
                 } else {
                     Some(Rule::StringEnd)
@@ -121,19 +106,13 @@ impl UnitTexts<'_> {
     #[inline(never)]
     fn ask_address(&self, index: u64) -> Option<Rule>
         requires { IsReady self.now }
-        ensures { IsLeast (AddressIndexFails self.now.sections self.now.header (base_of self.now.addresses) index)
+        ensures { IsLeast (AddressIndexFails self.now.sections self.now.head.header self.now.bases.addresses index)
             result }
     {
-        match self.addresses {
-            Contribution::Absent => Some(Rule::BadAddrBase),
-            Contribution::Broken(_) => None,
-            Contribution::Sound { count, .. } => {
-                if index < count {
-                    None
-                } else {
-                    Some(Rule::AddrIndex)
-                }
-            }
+        match (self.bases.addresses, self.addresses) {
+            (None, _) => Some(Rule::BadAddrBase),
+            (Some(_), Some(count)) if index >= count => Some(Rule::AddrIndex),
+            _ => None,
         }
     }
 
@@ -144,15 +123,12 @@ impl UnitTexts<'_> {
         ensures { IsLeast (FailsByTexts self.now head.now attribute (view value.now)) result }
     {
         match *value {
-            Value::Str(offset) => ask_offset(self.sections.str, self.ends.str, offset),
-            Value::LineStr(offset) => ask_offset(
-                self.sections.line_str,
-                self.ends.line_str,
-                offset,
-            ),
+            Value::Str(offset) => ask_offset(self.sections.str, self.str_end, offset),
+            Value::LineStr(offset) => ask_offset(self.sections.line_str, self.line_str_end, offset),
             Value::StrIndex(index) => self.ask_string(index),
             Value::AddrIndex(index) => self.ask_address(index),
-            Value::SecOffset(base) if head.parent.is_none() && self.header.kind.version() != 4 => {
+            Value::SecOffset(base)
+                if head.parent.is_none() && self.head.header.kind.version() != 4 => {
                 self.ask_base(attribute, base)
             }
             _ => None,
@@ -160,77 +136,54 @@ impl UnitTexts<'_> {
     }
 }
 
-/// The base that a unit's first entry gives to a contribution.
-pub(crate) fn base_in_unit(
-    entries: &Entries<'_>,
+/// Reads what is needed of a unit, if the strings of the two sections end at these offsets.
+pub fn read_texts<'a>(
+    entries: &Entries<'a>,
+    str_end: usize,
+    line_str_end: usize,
     number: usize,
-    attribute: Attribute,
-) -> Option<u32>
-    requires { number < length (units_of entries.now.scanned) }
-    ensures { (p : PlacedUnit) → slice_get (all_units entries.now.scanned) number ≡ Some p
-        → result ≡ base_in (all_entries entries.now.scanned) p attribute }
-{
-    let unit = entries.unit(number);
-    if unit.header.kind.version() == 4 {
-        return None;
-    }
-    match entries.value(unit.first, attribute) {
-        Some(Value::SecOffset(base)) => Some(base),
-        _ => None,
-    }
-}
-
-/// Reads what is needed again and again of a unit's strings and addresses.
-pub fn read_texts<'a>(entries: &Entries<'a>, ends: StringEnds, number: usize) -> UnitTexts<'a>
-    requires ends { AreEnds (sections_of entries.now) ends }
+) -> UnitTexts<'a>
+    requires str_end { IsEndOfStrings (sections_of entries.now).str.now str_end }
+    requires line_str_end { IsEndOfStrings (sections_of entries.now).line_str.now line_str_end }
     requires number { number < length (units_of entries.now.scanned) }
-    ensures texts { AreTexts (sections_of entries.now) (all_entries entries.now.scanned) (all_units entries.now.scanned)
-        result }
+    ensures texts { AreTexts entries.now result }
     ensures unit { result.unit ≡ number }
 {
     let sections = *entries.sections();
-    let unit = entries.unit(number);
-    let header = unit.header;
-    let strings = base_in_unit(entries, number, DW_AT_str_offsets_base);
-    let addresses = base_in_unit(entries, number, DW_AT_addr_base);
-    let size = header.address_size;
+    let head = entries.unit(number);
+    let bases = unit_bases(entries, number);
+    let size = head.header.address_size;
     UnitTexts {
         unit: number,
-        at: unit.offset,
+        head,
+        bases,
+        strings: count_named(sections.str_offsets, 4, 0, bases.strings),
+        addresses: count_named(sections.addr, size, size, bases.addresses),
         sections,
-        header,
-        strings: named_contribution(sections.str_offsets, 4, 0, strings),
-        addresses: named_contribution(sections.addr, size, size, addresses),
-        ends,
+        str_end,
+        line_str_end,
     }
 }
 
 /// Keeps what was read of a unit, or reads it of another where that is the next.
-pub fn keep_texts<'a>(
-    texts: &mut UnitTexts<'a>,
-    entries: &Entries<'a>,
-    ends: StringEnds,
-    next: usize,
-)
-    requires ends { AreEnds (sections_of entries.now) ends }
+pub fn keep_texts<'a>(texts: &mut UnitTexts<'a>, entries: &Entries<'a>, next: usize)
     requires next { next < length (units_of entries.now.scanned) }
-    requires texts { AreTexts (sections_of entries.now) (all_entries entries.now.scanned)
-        (all_units entries.now.scanned) texts.old }
-    ensures texts { AreTexts (sections_of entries.now) (all_entries entries.now.scanned) (all_units entries.now.scanned)
-        texts.new }
+    requires texts { AreTexts entries.now texts.old }
+    ensures texts { AreTexts entries.now texts.new }
     ensures unit { texts.new.unit ≡ next }
 {
     if next != texts.unit {
-        *texts = read_texts(entries, ends, next);
+        *texts = read_texts(entries, texts.str_end, texts.line_str_end, next);
     }
 }
 
 /// The first failure of the rules on strings and addresses at an entry.
 fn check_entry(texts: &UnitTexts<'_>, entry: &EntryAt<'_, '_>) -> Result<(), Broken>
-    requires found { IsSome entry.now }
-    requires ready { IsReady texts.now }
-    ensures ok { OnOk result (PassesAt entry.now (AtHead (FailsByTexts texts.now))) }
-    ensures err { IfErr result (FailsAt entry.now (AtHead (FailsByTexts texts.now))) }
+    requires { IsReady texts.now }
+    ensures ok { OnOk result ((entries : Entries) → AreTextsAt entries texts.now entry.now
+        → PassesAt entry.now (AtHead (FailsByText entries))) }
+    ensures err { IfErr result (λ broken. (entries : Entries) → AreTextsAt entries texts.now entry.now
+        → FailsAt entry.now (AtHead (FailsByText entries)) broken) }
 {
     let head = entry.head();
     let mut leading = entry.leading();
@@ -254,11 +207,13 @@ pub fn check_strings(alloc: Global, entries: &Entries<'_>) -> Result<(), Fault>
     if entries.unit_count() == 0 {
         return Ok(());
     }
-    let ends = string_ends(entries.sections());
-    let mut texts = read_texts(entries, ends, 0);
+    let sections = entries.sections();
+    let str_end = end_of_strings(sections.str);
+    let line_str_end = end_of_strings(sections.line_str);
+    let mut texts = read_texts(entries, str_end, line_str_end, 0);
     for number in 0..entries.count() {
         let entry = entries.at(entries.id(number));
-        keep_texts(&mut texts, entries, ends, entry.unit());
+        keep_texts(&mut texts, entries, entry.unit());
         if let Err(broken) = check_entry(&texts, &entry) {
             return Err(broken.into_fault(alloc));
         }

@@ -7,7 +7,7 @@ ghost use Rattle.dw_entries.specs.Scanned.{all_entries, all_units, units_of};
 ghost use Rattle.dw_entries.specs.Entries.{Entry};
 ghost use Rattle.dw_links.specs.References.{is_declared, is_signed, is_signature, is_reference_value, permits};
 ghost use Rattle.dw_links.specs.References.{permits_form};
-ghost use Rattle.dw_links.specs.DeclaredEntries.{known_as, KeepsDeclared};
+ghost use Rattle.dw_links.specs.DeclaredEntries.{KeepsDeclared};
 ghost use Rattle.dw_links.specs.SignedTypes.{HasSignedTypes};
 ghost use Rattle.dw_links.specs.Targets.{entry_at, reach_in_unit, signed_type, reach_of, target_of};
 
@@ -16,7 +16,6 @@ use dw_entries::{Cursor, Entries, EntryAt, EntryHead, EntryId};
 use dw_forms::{Attribute, Value};
 use std::alloc::{AllocError, Global};
 use std::collections::BTreeMap;
-use std::marker::Model;
 
 /// The entry that begins at an offset of .debug_info.
 #[inline(always)]
@@ -41,7 +40,7 @@ fn type_by_signature(
     signatures: &BTreeMap<u64, EntryId>,
     signature: u64,
 ) -> Option<EntryId>
-    requires { HasSignedTypes (all_entries entries.now.scanned) (all_units entries.now.scanned) signatures.now }
+    requires { HasSignedTypes entries.now signatures.now }
     ensures { result ≡ signed_type (all_entries entries.now.scanned) (all_units entries.now.scanned) signature }
 {
     match signatures.get(&signature) {
@@ -59,8 +58,7 @@ pub fn reach(
     value: &Value<'_>,
 ) -> Option<EntryId>
     requires unit { unit < length (units_of entries.now.scanned) }
-    requires signatures { HasSignedTypes (all_entries entries.now.scanned) (all_units entries.now.scanned)
-        signatures.now }
+    requires signatures { HasSignedTypes entries.now signatures.now }
     ensures { result ≡ reach_of (all_entries entries.now.scanned) (all_units entries.now.scanned) unit
         (view value.now) }
 {
@@ -80,8 +78,7 @@ pub(crate) fn find_target(
     attribute: Attribute,
 ) -> Option<EntryId>
     requires id { id < length (all_entries entries.now.scanned) }
-    requires signatures { HasSignedTypes (all_entries entries.now.scanned) (all_units entries.now.scanned)
-        signatures.now }
+    requires signatures { HasSignedTypes entries.now signatures.now }
     ensures exact { IfSome (slice_get (all_entries entries.now.scanned) id)
         (λ e. result ≡ target_of (all_entries entries.now.scanned) (all_units entries.now.scanned) e attribute) }
     ensures within { IfSome result (λ t. t < length (all_entries entries.now.scanned)) }
@@ -92,28 +89,11 @@ pub(crate) fn find_target(
     }
 }
 
-/// What is known of an entry.
-#[derive(Clone, Copy, Debug, PartialEq, Eq)]
-enum Known {
-    /// It was not read yet.
-    Unread,
-    Declared,
-    NotDeclared,
-}
-
 /// Which entries are declared and not defined. An entry is read when this is first needed, and the result is kept.
 #[derive(Drop)]
 pub struct DeclaredEntries {
-    known: Vec<Known>,
-}
-
-impl Model for DeclaredEntries {
-    ghost use Rattle.std.specs.Prelude.{List};
-    ghost use Rattle.dw_links.specs.declared.targets.Known.{Known as KnownOf};
-
-    ghost Value = { List KnownOf };
-
-    ghost view = { λ it. it.known.items };
+    /// Of each entry, whether it is declared and not defined; None if it was not read yet.
+    pub known: Vec<Option<bool>>,
 }
 
 /// Whether DW_AT_declaration of an entry is true.
@@ -127,40 +107,28 @@ fn read_declared(entries: &Entries<'_>, id: EntryId) -> bool
     )
 }
 
-/// What is known of an entry that was read.
-fn known_as(declared: bool) -> Known
-    ensures { result ≡ known_as declared }
-{
-    if declared {
-        Known::Declared
-    } else {
-        Known::NotDeclared
-    }
-}
-
 impl DeclaredEntries {
     /// Nothing is known of any entry.
     pub fn new(alloc: Global, entries: &Entries<'_>) -> Result<Self, AllocError>
-        ensures { IfOk result (KeepsDeclared (all_entries entries.now.scanned)) }
+        ensures { IfOk result (KeepsDeclared entries.now) }
     {
         Ok(DeclaredEntries {
-            known: vec![in alloc; Known::Unread; entries.count()]?,
+            known: vec![in alloc; None; entries.count()]?,
         })
     }
 
     /// Whether an entry is declared and not defined.
     pub fn has(&mut self, entries: &Entries<'_>, id: EntryId) -> bool
         requires id { id < length (all_entries entries.now.scanned) }
-        requires kept { KeepsDeclared (all_entries entries.now.scanned) self.old }
+        requires kept { KeepsDeclared entries.now self.old }
         ensures exact { IfSome (slice_get (all_entries entries.now.scanned) id) (λ e. result ≡ is_declared e) }
-        ensures kept { KeepsDeclared (all_entries entries.now.scanned) self.new }
+        ensures kept { KeepsDeclared entries.now self.new }
     {
         match self.known[id.number()] {
-            Known::Declared => true,
-            Known::NotDeclared => false,
-            Known::Unread => {
+            Some(declared) => declared,
+            None => {
                 let declared = read_declared(entries, id);
-                self.known[id.number()] = known_as(declared);
+                self.known[id.number()] = Some(declared);
                 declared
             }
         }
@@ -229,8 +197,8 @@ pub fn is_permitted(
     id: EntryId,
 ) -> bool
     requires id { id < length (all_entries cursor.now.entries.now.scanned) }
-    requires kept { KeepsDeclared (all_entries cursor.now.entries.now.scanned) declared.old }
-    ensures kept { KeepsDeclared (all_entries cursor.now.entries.now.scanned) declared.new }
+    requires kept { KeepsDeclared cursor.now.entries.now declared.old }
+    ensures kept { KeepsDeclared cursor.now.entries.now declared.new }
     ensures exact { (target : Entry) → slice_get (all_entries cursor.now.entries.now.scanned) id ≡ Some target
         → result ≡ permits head.now attribute target }
 {

@@ -11,11 +11,12 @@ ghost use Rattle.dw_links.specs.Contributions.{string_at, slot_at};
 ghost use Rattle.dw_links.specs.Slots.{IsAddressSlot, IsPlace, IsTextSlot, AddressLies, TextLies};
 ghost use Rattle.dw_links.specs.ValueTexts.{text_there, indexed_text, indexed_address, text_of, address_of};
 ghost use Rattle.dw_links.specs.Strings.{StringFailures};
-ghost use Rattle.dw_links.specs.Tables.{bases_in, AreTables};
+ghost use Rattle.dw_links.specs.Bases.{bases_in};
+ghost use Rattle.dw_links.specs.Tables.{AreTables};
 ghost use Rattle.dw_links.specs.AttributeTexts.{text_at, address_at};
 
-use crate::contribution::number;
-use crate::links::{LinkTables, UnitBases};
+use crate::contribution::{UnitBases, number};
+use crate::links::LinkTables;
 use dw_elf::Sections;
 use dw_entries::{Entries, EntryId, UnitHeader};
 use dw_forms::{Attribute, Value};

@@ -1,10 +1,8 @@
 use Rattle.std.proofs.Common.{rules}
-use Rattle.std.proofs.Common.{inl, sym, subst}
+use Rattle.std.proofs.Common.{sym, subst}
 use Rattle.dw_entries.specs.Failures.{IsFirst}
 use Rattle.dw_entries.specs.Scanned.{units_of}
-use Rattle.dw_entries.specs.Views.{sections_of}
 use Rattle.dw_links.specs.References.{ReferenceFailures}
-use Rattle.dw_links.specs.Strings.{StringFailures}
 use Rattle.dw_links.proofs.linking.stop_of.Goals as goal
 
 pub returns-in-String : goal.returns-in-String

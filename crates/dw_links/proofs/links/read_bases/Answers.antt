@@ -2,7 +2,7 @@ use Rattle.std.proofs.Common.{◌≡◌, arith}
 use Rattle.dw_entries.specs.Entries.{entries_of, placed}
 use Rattle.dw_entries.specs.Scanned.{units_of}
 use Rattle.dw_entries.proofs.EntryFacts.{length-placed_from}
-use Rattle.dw_links.specs.Tables.{bases_in}
+use Rattle.dw_links.specs.Bases.{bases_in}
 use Rattle.dw_links.proofs.Skips.{there}
 use Rattle.dw_links.proofs.TableLaws.{map_one_more, map_all}
 use Rattle.dw_links.proofs.links.read_bases.Goals as goal

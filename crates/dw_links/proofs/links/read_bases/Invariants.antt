@@ -1,7 +1,7 @@
 use Rattle.std.proofs.Common.{◌≡◌, map, take}
 use Rattle.dw_entries.specs.Entries.{entries_of, placed}
 use Rattle.dw_entries.specs.Scanned.{units_of}
-use Rattle.dw_links.specs.Tables.{bases_in}
+use Rattle.dw_links.specs.Bases.{bases_in}
 use Rattle.dw_links.proofs.links.read_bases.Given as goal
 
 abbrev pub invariant-loop-number : goal.invariant-loop-number

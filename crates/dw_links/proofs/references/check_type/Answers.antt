@@ -1,7 +1,4 @@
 use Rattle.std.proofs.Common.{rules}
-use Rattle.std.proofs.Common.{sym}
-use Rattle.dw_entries.specs.Entries.{entries_of, placed}
-use Rattle.dw_entries.specs.Scanned.{units_of}
 use Rattle.dw_links.proofs.HeaderLaws.{least_type_offset, least_twice, none_at_header, signed_before, not_before}
 use Rattle.dw_links.proofs.references.check_type.Goals as goal
 

@@ -7,9 +7,9 @@ use Rattle.dw_entries.specs.Entries.{entries_of, placed}
 use Rattle.dw_entries.specs.Scanned.{units_of}
 use Rattle.dw_entries.specs.Views.{sections_of}
 use Rattle.dw_entries.specs.Lookups.{unit_head, value_at_entry}
-use Rattle.dw_links.specs.declared.links.UnitBases.{UnitBases}
+use Rattle.dw_links.specs.declared.contribution.UnitBases.{UnitBases}
 use Rattle.dw_links.specs.Slots.{AddressLies}
-use Rattle.dw_links.specs.Tables.{bases_in}
+use Rattle.dw_links.specs.Bases.{bases_in}
 use Rattle.dw_links.proofs.ClassLaws.{in_units}
 use Rattle.dw_links.proofs.TableLaws.{sized, unit_of_entry}
 use Rattle.dw_links.proofs.Skips.{there}

@@ -3,7 +3,7 @@ use Rattle.std.proofs.lemmas.List.{length-map}
 use Rattle.dw_entries.specs.Entries.{entries_of, placed}
 use Rattle.dw_entries.specs.Scanned.{units_of}
 use Rattle.dw_entries.proofs.EntryFacts.{length-placed_from}
-use Rattle.dw_links.specs.Tables.{bases_in}
+use Rattle.dw_links.specs.Bases.{bases_in}
 use Rattle.dw_links.proofs.ClassLaws.{in_units}
 use Rattle.dw_links.proofs.Skips.{there}
 use Rattle.dw_links.proofs.TableLaws.{bases_found}

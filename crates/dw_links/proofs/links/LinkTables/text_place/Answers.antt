@@ -5,9 +5,9 @@ use Rattle.dw_entries.specs.Entries.{entries_of, placed}
 use Rattle.dw_entries.specs.Scanned.{units_of}
 use Rattle.dw_entries.specs.Views.{sections_of}
 use Rattle.dw_entries.specs.Lookups.{value_at_entry}
-use Rattle.dw_links.specs.declared.links.UnitBases.{UnitBases}
+use Rattle.dw_links.specs.declared.contribution.UnitBases.{UnitBases}
 use Rattle.dw_links.specs.Slots.{TextLies}
-use Rattle.dw_links.specs.Tables.{bases_in}
+use Rattle.dw_links.specs.Bases.{bases_in}
 use Rattle.dw_links.specs.ValueTexts.{text_there}
 use Rattle.dw_links.proofs.Skips.{there}
 use Rattle.dw_links.proofs.TableLaws.{unit_of_entry}

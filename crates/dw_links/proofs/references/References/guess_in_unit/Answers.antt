@@ -1,6 +1,7 @@
-use Rattle.std.proofs.Common.{◌≡◌, ◌+◌, Some, sym, ◌∙◌, arith}
+use Rattle.std.proofs.Common.{◌≡◌, ◌+◌, Some, ap, sym, ◌∙◌, arith}
 use Rattle.dw_entries.specs.Entries.{entries_of, placed}
 use Rattle.dw_entries.specs.Scanned.{units_of}
+use Rattle.dw_entries.specs.declared.lookup.UnitHead.{UnitHead}
 use Rattle.dw_entries.proofs.EntryFacts.{entries_rise}
 use Rattle.dw_links.proofs.Reached.{in_unit, nth_within}
 use Rattle.dw_links.proofs.Skips.{there}
@@ -19,7 +20,7 @@ returns c =
     let unit = c.args.self.now.texts.unit in
     let (e, is) = there es c.in_ok-id.id (nth_within es c.in_ok-guess.field-0 c.in_ok-id.id (sym c.nth.ensures ∙ c.in_ok-id.was)) in
     let found : c.in_ok-entry.entry ≡ Some e = c.in_ok-entry.ensures ∙ is in
-    let at : c.in_ok-at.at ≡ c.args.offset + texts.place.at = omega (arith, c.in_ok-at.ensures, c.from.ensures, texts.at) in
+    let at : c.in_ok-at.at ≡ c.args.offset + texts.place.at = omega (arith, c.in_ok-at.ensures, c.from.ensures, ap (λ (h : UnitHead). h.offset) texts.head) in
     let begins : c.offset.result ≡ e.at = rw found at c.offset.ensures in
     let number : c.unit.result ≡ e.unit = rw found at c.unit.ensures in
     reach_in_unit_is es (placed us) unit c.args.offset c.in_ok-id.id (entries_rise _ us entries.scanned.1.spells.are)

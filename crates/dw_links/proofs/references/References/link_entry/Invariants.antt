@@ -8,7 +8,7 @@ use Rattle.dw_links.proofs.references.References.link_entry.Given as goal
 
 abbrev pub invariant-loop-form : goal.invariant-loop-form
 invariant-loop-form l = record {
-  so_far : (e : Entry) → l.entry ≡ Some e → SoFar l.self e (leading_left l.leading) l.kept;
+  so_far : (e : Entry) → l.entry ≡ Some e → SoFar (entries_in l.self) e (leading_left l.leading) l.kept;
   kept : KeepsDeclared (entries_in l.self) l.declared;
 }
 

@@ -6,7 +6,7 @@ use Rattle.dw_forms.specs.Value.{view}
 use Rattle.dw_entries.specs.Scanned.{units_of}
 use Rattle.dw_links.specs.Bases.{section_offset_in}
 use Rattle.dw_links.proofs.TableLaws.{first_within, base_read}
-use Rattle.dw_links.proofs.strings.base_in_unit.Goals as goal
+use Rattle.dw_links.proofs.contribution.base_in_unit.Goals as goal
 
 pub value-requires : goal.value-requires
 value-requires c = first_within (units_of c.args.entries.now.scanned) c.args.number c.unit-unit.result c.requires c.unit-unit.ensures
