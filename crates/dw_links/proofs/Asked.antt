@@ -38,14 +38,7 @@ not_unsigned entries units unit _ id reaches none = none
 
 -- the kinds of its form and of its target are permitted
 not_wrong : (entries : List Entry) (head : EntryHead) (a : ℕ) (v : Datum) (id : ℕ) → true ≡ permits_form head a v → ((target : Entry) → slice_get entries id ≡ Some target → true ≡ permits head a target) → IsWrongKind entries head a v (Some id) → ⊥
-not_wrong entries head a v id form kind wrong =
-    elim wrong [
-      | inl w ↦ let both : true ≡ false = form ∙ w in cc
-      | inr w ↦
-          let P : ℕ → Type 0 = λ i. slice_get entries i ≡ Some w.target in
-          let here = subst P (same_some (Some id) w.id id w.reaches refl) w.is_target in
-          let both : true ≡ false = kind w.target here ∙ w.wrong in cc
-    ]
+not_wrong entries head a v id form kind wrong = search (rules, same_some)
 
 -- a sibling attribute reaches the next sibling
 pub right_sibling : (next reached : Option ℕ) (id : ℕ) → reached ≡ Some id → next ≡ Some id → IsOtherThan next reached → ⊥
@@ -79,8 +72,7 @@ pub least_none : (entries : List Entry) (units : List PlacedUnit) (head : EntryH
     → ((target : Entry) → slice_get entries id ≡ Some target → true ≡ permits head a target) → ((a ≡ 1) × IsOtherThan head.next_sibling (reach_of entries units head.unit v) → ⊥)
     → (r : Rule) → ReferenceFails entries units head a v r → ⊥
 least_none entries units head a v id reaches form kind next =
-    by_rule entries units head a v (λ r. ⊥) (λ fails. no_entry_not entries units head.unit v id reaches fails.1) (λ fails. not_wrong entries head a v id form kind (subst (IsWrongKind entries head a v) reaches fails.1)) (λ fails. next fails.1)
-    (λ fails. not_unsigned entries units head.unit v id reaches fails.1)
+    search (rules, by_rule, no_entry_not, not_wrong, not_unsigned)
 
 pub wrong_first : (entries : List Entry) (units : List PlacedUnit) (head : EntryHead) (a : ℕ) (v : Datum) (id : ℕ) → is_reference_value v ≡ true → reach_of entries units head.unit v ≡ Some id → IsWrongKind entries head a v (Some id) → IsLeast (ReferenceFails entries units head a v) (Some rule.WrongKind)
 wrong_first entries units head a v id reference reaches wrong = search (rules, by_rule, no_entry_not)

@@ -1,4 +1,5 @@
 -- What is kept of the entries that are declared and not defined.
+use Rattle.std.proofs.Common.{rules}
 use Rattle.std.proofs.Common.{arith, ◌<◌, get_or, ◌≡◌, ℕ, zero, suc, Bool, List, [], ◌∷◌, Option, None, Some, refl, sym, ap, ◌∙◌, length, set, replicate, inl, inr, ◌⊎◌}
 use Rattle.std.specs.Prelude.{slice_get, IfSome}
 use Rattle.std.proofs.lemmas.List.{length-set, length-replicate}
@@ -21,26 +22,12 @@ set_get (z ∷ xs) (suc i) (suc j) x y is = elim (set_get xs i j x y is) [ inl h
 -- one entry more is known
 pub one_more_known : (entries : Entries) (kept new : DeclaredEntries) (id number : ℕ) (declared : Bool) → KeepsDeclared entries kept → id < length (all_entries entries.scanned) → number ≡ id
     → IfSome (slice_get (all_entries entries.scanned) id) (λ e. declared ≡ is_declared e) → new.known.items ≡ set kept.known.items number (Some declared) → KeepsDeclared entries new
-one_more_known entries kept new id number declared keeps below is read same = record {
-  all = ap length same ∙ length-set kept.known.items number (Some declared) ∙ keeps.all;
-  right = λ j at known is_at found.
-      elim (set_get kept.known.items number j (Some declared) (Some known) (ap (λ (xs : List (Option Bool)). slice_get xs j) (sym same) ∙ found)) [
-        | inl here ↦
-            let place : id ≡ j = sym is ∙ here.0 in
-            let value : declared ≡ known = cc (here.1) in
-            let told : declared ≡ is_declared at = rw (place, is_at) at read in
-            sym value ∙ told
-        | inr there ↦ keeps.right j at known is_at there
-      ];
-}
+one_more_known entries kept new id number declared keeps below is read same = search (rules, length-set, set_get, there)
 
 -- what is known of an entry is true of it
 pub known_right : (entries : Entries) (kept : DeclaredEntries) (id number : ℕ) (declared : Bool) (o : Option Bool) → KeepsDeclared entries kept → id < length (all_entries entries.scanned) → number ≡ id
     → o ≡ get_or kept.known.items number o → o ≡ Some declared → IfSome (slice_get (all_entries entries.scanned) id) (λ e. declared ≡ is_declared e)
-known_right entries kept id number declared o keeps below is read some =
-    let (e, at_id) = there (all_entries entries.scanned) id below in
-    let kept_at : slice_get kept.known.items number ≡ Some o = slice_get_read kept.known.items (length kept.known.items) number o refl (omega (arith, is, below, keeps.all)) read in
-    rw at_id (keeps.right id e declared at_id (ap (slice_get kept.known.items) (sym is) ∙ kept_at ∙ ap Some some))
+known_right entries kept id number declared o keeps below is read some = search (rules, there, slice_get_read)
 
 -- none is known of any entry
 none_known : (n j : ℕ) (known : Bool) → slice_get (replicate n None) j ≡ Some (Some known) → ⊥
@@ -49,10 +36,7 @@ none_known (suc n) zero known is = absurd cc
 none_known (suc n) (suc j) known is = none_known n j known is
 
 pub keeps_none : (entries : Entries) (kept : DeclaredEntries) (n : ℕ) → n ≡ length (all_entries entries.scanned) → kept.known.items ≡ replicate n None → KeepsDeclared entries kept
-keeps_none entries kept n all same = record {
-  all = ap length same ∙ length-replicate n None ∙ all;
-  right = λ id e declared is found. absurd (none_known n id declared (ap (λ (xs : List (Option Bool)). slice_get xs id) (sym same) ∙ found));
-}
+keeps_none entries kept n all same = search (rules, length-replicate, none_known)
 
 -- a fact that holds of no Some holds of None alone
 pub only_none : (P : Option Bool → Type 0) → ((known : Bool) → P (Some known) → ⊥) → (o : Option Bool) → P o → o ≡ None

@@ -68,8 +68,7 @@ own_key k = grind (arith, nat_tests)
 new_at : (entries : List Entry) (units : List PlacedUnit) (s k n id : ℕ) (b : Bool) (o p : Option ℕ) → b ≡ is_eq (nat_cmp k s) → p ≡ cond b (Some id) o → IsSignedType entries units s n o → (b ≡ true → o ≡ None) → (b ≡ true → HasSignature units s n)
     → (b ≡ false → HasSignature units s n → ⊥) → type_of_unit entries units n ≡ Some id → IsSignedType entries units s (n + 1) p
 new_at entries units s k n id true o p test is before none has other type = search (rules, begun)
-new_at entries units s k n id false o p test is before none has other type =
-    rw is (kept entries units s n o before (other refl))
+new_at entries units s k n id false o p test is before none has other type = search (rules, kept)
 
 pub new_signature : (entries : List Entry) (units : List PlacedUnit) (n k t id : ℕ) (u : PlacedUnit) (old new : BTreeMap ℕ ℕ) → slice_get units n ≡ Some u → type_in u.unit.header.kind ≡ Some (k, t) → (IsSignedBefore units n k → ⊥)
     → ((q : ℕ) → get nat_cmp new q ≡ cond (is_at (nat_cmp k) q) (Some id) (get nat_cmp old q)) → type_of_unit entries units n ≡ Some id

@@ -79,11 +79,7 @@ pub record SoFar (entries : Entries) (e : Entry) (left : List (ℕ × Datum)) (k
 
 module _ (entries : Entries) (e : Entry) (left : List (ℕ × Datum)) where
   pub none_so_far : left ≡ values_of e.head → SoFar entries e left None
-  none_so_far same = record {
-    strings = none_checked (FailsByText entries) (entry_head e) (values_of e.head) left same;
-    references = none_checked (FailsByTarget entries) (entry_head e) (values_of e.head) left same;
-    keeps = record { done = []; parts = sym same; is_kept = refl };
-  }
+  none_so_far same = search (rules, none_checked)
 
   -- at the end
   pub linked_at_end : (kept : Option (Option ℕ)) (target : Option ℕ) → target ≡ unwrap_or kept None → SoFar entries e left kept → ArePassed DoesNotLead left → IsLinked entries e target

@@ -1,4 +1,5 @@
 -- Where no rule on strings, addresses and references fails, values lead somewhere.
+use Rattle.std.proofs.Common.{rules}
 use Rattle.std.proofs.Common.{◌≡◌, ℕ, List, Option, Some, None, IsSome, refl, sym, subst, ◌+◌, ◌==◌, Bool, true, false, ap, ◌∙◌, inl, inr, eq-eqb}
 use Rattle.std.specs.Prelude.{slice_get}
 use Rattle.std.proofs.lemmas.Bool.{eqb-true}
@@ -145,8 +146,7 @@ by_offset us e v None is never = absurd (never is)
 
 by_signature : (us : List DebugUnit) (e : Entry) (signature : ℕ) (o : Option ℕ) → first_signed (placed us) signature ≡ o → OffsetsRise (entries_of us) → HasNone (ReferenceFailures us)
     → (((number : ℕ) → HasSignature (placed us) signature number → ⊥) → ⊥) → Reached us e (ref_sig signature)
-by_signature us e signature None is rise none never =
-    absurd (never (λ number has. none_signed (placed us) signature is number has))
+by_signature us e signature None is rise none never = search (rules, none_signed)
 by_signature us e signature (Some number) is rise none never =
     let has = (at_first_signed (placed us) signature number is).1 in
     let (id, reached) = type_reached us number signature has.type_offset has.unit rise none has.is_unit has.signed in

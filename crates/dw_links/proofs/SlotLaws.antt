@@ -162,14 +162,13 @@ text_lies sections us id e p attribute (str offset) none is is_unit value =
 text_lies sections us id e p attribute (line_str offset) none is is_unit value =
     at_most offset (length sections.line_str.now) (λ more. passes_string sections us id e p attribute (line_str offset) none is is_unit value StringEnd
     (λ ends. let last = ends.behind in let within = ends.within in omega (arith, last, within, more)))
-text_lies sections us id e p attribute (str_index index) none is is_unit value =
-    if_each (base_in (entries_of us) p DW_AT_str_offsets_base) (IsTextSlot sections index) (λ base said. text_slot sections us id e p attribute index base none is is_unit value said)
+text_lies sections us id e p attribute (str_index index) none is is_unit value = search (rules, if_each, text_slot)
 text_lies sections us id e p attribute _ none is is_unit value = tt
 
 pub address_lies : (sections : Sections) (us : List DebugUnit) (id : ℕ) (e : Entry) (p : PlacedUnit) (attribute : ℕ) (v : Datum) → HasNone (StringFailures sections us) → slice_get (entries_of us) id ≡ Some e → slice_get (placed us) e.unit ≡ Some p
     → IsSize p.unit.header.address_size → value_at_entry e attribute ≡ Some v → AddressLies sections p.unit.header (base_in (entries_of us) p DW_AT_addr_base) v
 address_lies sections us id e p attribute (addr_index index) none is is_unit size value =
-    if_each (base_in (entries_of us) p DW_AT_addr_base) (IsAddressSlot sections p.unit.header index) (λ base said. address_slot sections us id e p attribute index base none is is_unit size value said)
+    search (rules, if_each, address_slot)
 address_lies sections us id e p attribute _ none is is_unit size value = tt
 
 -- ---- what is told of a value is told of the attribute

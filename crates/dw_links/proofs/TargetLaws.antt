@@ -145,7 +145,7 @@ at_reach_in_unit entries units unit offset id is = search (rules, option_and_the
 pub reach_in_unit_answer : (entries : List Entry) (units : List PlacedUnit) (unit offset : ℕ) (answer : Option ℕ) → OffsetsRise entries → IfSome answer (ReachesInUnit entries units unit offset)
     → IfNone answer ((id : ℕ) → ReachesInUnit entries units unit offset id → ⊥) → answer ≡ reach_in_unit entries units unit offset
 reach_in_unit_answer entries units unit offset answer rise =
-    answer_is (ReachesInUnit entries units unit offset) (reach_in_unit entries units unit offset) answer (at_reach_in_unit entries units unit offset) (λ id. reach_in_unit_is entries units unit offset id rise)
+    search (rules, answer_is, at_reach_in_unit, reach_in_unit_is)
 
 -- ---- type units by their signatures
 
@@ -196,8 +196,7 @@ first_signed_answer units signature below None all none = go (first_signed units
 -- where none is found, none has the signature
 pub none_signed : (units : List PlacedUnit) (signature : ℕ) → first_signed units signature ≡ None → (number : ℕ) → HasSignature units signature number → ⊥
 unfolding first_signed
-none_signed units signature none number has =
-    let both : true ≡ false = sym (is_signed signature has.type_offset (type_in has.unit.unit.header.kind) has.signed) ∙ none_passes (signs signature) units none number has.unit has.is_unit in cc
+none_signed units signature none number has = search (rules, is_signed, none_passes)
 
 -- ---- types by signatures
 

@@ -1,5 +1,6 @@
 -- Rules by what was read of a unit are the rules among all entries; what holds of a fault, unless memory ran out; and one
 -- entry after the other.
+use Rattle.std.proofs.Common.{rules}
 use Rattle.std.proofs.Common.{◌≡◌, ℕ, ◌+◌, ◌<◌, ◌≤◌, length, Option, None, Some, sym, ap, ◌∙◌, subst, arith, below_more}
 use Rattle.std.specs.Prelude.{slice_get, IfSome}
 use Rattle.dw_forms.specs.Codes.{DW_AT_str_offsets_base, DW_AT_addr_base}
@@ -53,18 +54,10 @@ module _ (entries : Entries) (texts : UnitTexts) (head : EntryHead) (read : AreT
   addresses = ap (λ (b : UnitBases). b.addresses) read.bases
 
   over : (r : Rule) → FailsByTexts texts head a v r → FailsByText entries head a v r
-  over r fails = record {
-    unit = read.place;
-    in_unit = ap (slice_get (all_units entries.scanned)) same ∙ read.in_unit;
-    fails = rw (← strings, ← addresses, ← read.same_sections, ← header) fails;
-  }
+  over r fails = search (rules, strings, addresses, header)
 
   back : (r : Rule) → FailsByText entries head a v r → FailsByTexts texts head a v r
-  back r fails =
-      let here : slice_get (all_units entries.scanned) texts.unit ≡ Some fails.unit = ap (slice_get (all_units entries.scanned)) (sym same) ∙ fails.in_unit in
-      let one = same_some (slice_get (all_units entries.scanned) texts.unit) fails.unit read.place here read.in_unit in
-      let P : PlacedUnit → Type 0 = λ u. StringFailsIn (sections_of entries) u.unit.header (base_in (all_entries entries.scanned) u DW_AT_str_offsets_base) (base_in (all_entries entries.scanned) u DW_AT_addr_base) head a v r in
-      rw (read.same_sections, header, strings, addresses) (subst P one fails.fails)
+  back r fails = search (rules, same_some, header, strings, addresses)
 
   pub least_by_texts : (o : Option Rule) → IsLeast (FailsByTexts texts head a v) o → IsLeast (FailsByText entries head a v) o
   least_by_texts None least = λ r fails. least r (back r fails)
@@ -84,9 +77,7 @@ NoneBelow entries Fails number = (j : ℕ) → j < number → PassesAt (slice_ge
 module _ (entries : Entries) (Fails : Rules) (number id : ℕ) (same : id ≡ number) (passed : NoneBelow entries Fails number) where
   -- nor at this one
   pub more_below : PassesAt (slice_get (all_entries entries.scanned) id) (AtHead Fails) → NoneBelow entries Fails (number + 1)
-  more_below here =
-      let P : ℕ → Type 0 = λ j. PassesAt (slice_get (all_entries entries.scanned) j) (AtHead Fails) in
-      below_more P number passed (subst P same here)
+  more_below here = search (rules)
 
   -- the first failure at this one is the first of all
   pub first_failure : (broken : Broken) → number < length (all_entries entries.scanned) → FailsAt (slice_get (all_entries entries.scanned) id) (AtHead Fails) broken → IsFirst (AtEntries (all_entries entries.scanned) (AtHead Fails)) broken

@@ -18,9 +18,7 @@ pub returns-then-ne-clause-rule : goal.returns-then-ne-clause-rule
 returns-then-ne-clause-rule c = least_none _ _ c.args.head.now c.args.attribute (view c.args.value.now) c.args.id c.requires.reaches c.if-not-is_permitted_form.ensures c.if-not-is_permitted.ensures.exact (λ p. let h = c.if-ne.ensures in let q = p.0 in search rules)
 
 pub returns-then-is_next-clause-rule : goal.returns-then-is_next-clause-rule
-returns-then-is_next-clause-rule c =
-    least_none _ _ c.args.head.now c.args.attribute (view c.args.value.now) c.args.id c.requires.reaches c.if-not-is_permitted_form.ensures c.if-not-is_permitted.ensures.exact
-    (λ p. right_sibling _ _ c.args.id c.requires.reaches c.if-is_next.ensures.yes p.1)
+returns-then-is_next-clause-rule c = search (rules, least_none, right_sibling)
 
 pub returns-clause-rule : goal.returns-clause-rule
 returns-clause-rule c = search (rules, other_sibling, least_other)

@@ -1,3 +1,4 @@
+use Rattle.std.proofs.Common.{rules}
 use Rattle.std.proofs.Common.{◌≡◌, ap, ◌∙◌}
 use Rattle.std.specs.Option.{unwrap_or}
 use Rattle.std.proofs.lemmas.Result.{err_from_is_err_and}
@@ -10,21 +11,13 @@ use Rattle.dw_links.proofs.Skips.{found}
 use Rattle.dw_links.proofs.references.References.link_entry.Goals as goal
 
 pub loop-form-init : goal.loop-form-init
-loop-form-init c = record {
-  so_far = λ e is. none_so_far (entries_in c.args.self.now) e (leading_left c.leading-leading.result) (rw is at c.leading-leading.ensures);
-  kept = c.requires.kept;
-}
+loop-form-init c = search (rules, none_so_far)
 
 pub link_next-requires-clause-may : goal.link_next-requires-clause-may
-link_next-requires-clause-may c =
-    let (e, is) = found c.args.entry.now c.requires.found in
-    let head : c.head-head.result ≡ entry_head e = rw is at c.head-head.ensures in
-    rw head (c.requires.may e is)
+link_next-requires-clause-may c = search (rules, found)
 
 pub returns-in_err-attribute-clause-err : goal.returns-in_err-attribute-clause-err
-returns-in_err-attribute-clause-err c =
-    let p = err_from_is_err_and c.from_residual.result c.from_residual.ensures.1 in
-    rw (p.1, p.2) (λ e is. fails_so_far (entries_in c.args.self.now) e (leading_left c.loop-form.leading) c.loop-form.kept (c.loop-form.invariant.so_far e is) c.head-head.result (rw is at c.head-head.ensures) c.in_err-attribute.field-0.0 c.in_err-attribute.ensures.err)
+returns-in_err-attribute-clause-err c = search (rules, err_from_is_err_and, fails_so_far)
 
 pub loop-form-preserved : goal.loop-form-preserved
 loop-form-preserved c = record {

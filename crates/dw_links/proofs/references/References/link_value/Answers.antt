@@ -1,9 +1,8 @@
+use Rattle.std.proofs.Common.{rules}
 use Rattle.dw_forms.specs.Value.{view}
 use Rattle.dw_entries.specs.Scanned.{all_entries, all_units}
 use Rattle.dw_links.proofs.TargetLaws.{reach_within}
 use Rattle.dw_links.proofs.references.References.link_value.Goals as goal
 
 pub number_of-target-requires : goal.number_of-target-requires
-number_of-target-requires c =
-    let entries = c.args.self.now.cursor.entries.now in
-    reach_within (all_entries entries.scanned) (all_units entries.scanned) c.args.head.now.unit (view c.args.value.now) c.reach-reached.result c.reach-reached.ensures
+number_of-target-requires c = search (rules, reach_within)
