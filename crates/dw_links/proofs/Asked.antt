@@ -1,6 +1,5 @@
 -- Which rule on strings, addresses and references has the least number of those that fail.
-use Rattle.std.proofs.Common.{rules}
-use Rattle.std.proofs.Common.{◌≡◌, ℕ, false, Option, Some, None, refl, ◌<◌, true, List, sym, ap, ◌∙◌, subst, inl, inr}
+use Rattle.std.proofs.Common.{rules, ◌≡◌, ℕ, false, Option, Some, None, refl, ◌<◌, true, List, sym, ap, ◌∙◌, subst}
 use Rattle.std.specs.Prelude.{is_some, slice_get, IsSome}
 use Rattle.dw_forms.specs.Value.{Datum, ref_sig}
 use Rattle.dw_entries.specs.declared.fault.Rule.{Rule}

@@ -1,6 +1,5 @@
 -- What is kept of the entries that are declared and not defined.
-use Rattle.std.proofs.Common.{rules}
-use Rattle.std.proofs.Common.{arith, ◌<◌, get_or, ◌≡◌, ℕ, zero, suc, Bool, List, [], ◌∷◌, Option, None, Some, refl, sym, ap, ◌∙◌, length, set, replicate, inl, inr, ◌⊎◌}
+use Rattle.std.proofs.Common.{rules, ◌<◌, get_or, ◌≡◌, ℕ, zero, suc, Bool, List, [], ◌∷◌, Option, None, Some, refl, ap, length, set, replicate, inl, inr, ◌⊎◌}
 use Rattle.std.specs.Prelude.{slice_get, IfSome}
 use Rattle.std.proofs.lemmas.List.{length-set, length-replicate}
 use Rattle.std.proofs.lemmas.Option.{slice_get_read}

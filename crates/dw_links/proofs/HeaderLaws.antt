@@ -1,13 +1,12 @@
 -- The rules at the headers of type units, and the type of each signature.
-use Rattle.std.proofs.Common.{rules}
-use Rattle.std.proofs.Common.{◌≡◌, ℕ, ◌+◌, ◌≤◌, Bool, true, false, cond, List, Option, Some, None, refl, sym, ap, ◌∙◌, arith, subst, eq-or-lt_of_le, inl, inr, ◌⊎◌, zero, suc, [], ◌∷◌, length, length-append, ◌<◌}
+use Rattle.std.proofs.Common.{rules, ◌≡◌, ℕ, ◌+◌, ◌≤◌, Bool, true, false, cond, List, Option, Some, None, refl, sym, ap, ◌∙◌, arith, subst, eq-or-lt_of_le, inl, inr, ◌⊎◌, zero, suc, [], ◌∷◌, length, length-append, ◌<◌}
 use Rattle.std.proofs.lemmas.Bool.Decides.{nat_tests}
 use Rattle.std.specs.Prelude.{slice_get, is_some}
 use Rattle.std.specs.Ordering.{nat_cmp, is_eq}
 use Rattle.std.specs.BTreeMap.{BTreeMap, get, is_at}
 use Rattle.dw_forms.specs.Codes.{is_type_tag}
 use Rattle.dw_entries.specs.Entries.{Entry, PlacedUnit, node_count, placed_from, placed}
-use Rattle.dw_entries.proofs.Firsts.{same_some, first_of_list, more_of_list, none_of_list}
+use Rattle.dw_entries.proofs.Firsts.{same_some, first_of_list}
 use Rattle.dw_entries.specs.declared.fault.Rule.{Rule}
 use Rattle.dw_entries.specs.declared.fault.Rule.TheVariants.{SignatureTwice, BadTypeOffset}
 use Rattle.dw_entries.specs.declared.fault.Broken.{Broken}
@@ -41,6 +40,11 @@ signed_so units s n k t u is kind has = search (rules, same_some)
 
 untyped_so : (units : List PlacedUnit) (s n : ℕ) (u : PlacedUnit) → slice_get units n ≡ Some u → type_in u.unit.header.kind ≡ None → HasSignature units s n → ⊥
 untyped_so units s n u is kind has = search (rules, same_some)
+
+-- a unit of another kind has no type
+pub no_type : (kind : HeaderKind) → ((signature type_offset : ℕ) → kind ≡ TypeUnit signature type_offset → ⊥) → type_in kind ≡ None
+no_type (TypeUnit signature type_offset) never = absurd (never signature type_offset refl)
+no_type _ never = refl
 
 pub other_unit : (entries : List Entry) (units : List PlacedUnit) (n : ℕ) (u : PlacedUnit) (table : BTreeMap ℕ ℕ) → slice_get units n ≡ Some u → type_in u.unit.header.kind ≡ None → AreSignedBelow entries units n table
     → AreSignedBelow entries units (n + 1) table
@@ -174,16 +178,6 @@ placed_from_rise at first (u ∷ us) (suc i) (suc j) a b lt is_a is_b =
 
 pub placed_rise : (us : List DebugUnit) → UnitsRise (placed us)
 placed_rise us i j a b lt is_a is_b = (placed_from_rise 0 0 us i j a b lt is_a is_b).1
-
--- one unit more
-pub more_headers : (entries : List Entry) (units : List PlacedUnit) (number : ℕ) (p : PlacedUnit) → slice_get units number ≡ Some p
-    → ((j : ℕ) (u : PlacedUnit) → j < number → slice_get units j ≡ Some u → HasNone (AtHeader entries units j u))
-    → HasNone (AtHeader entries units number p)
-    → (j : ℕ) (u : PlacedUnit) → j < number + 1 → slice_get units j ≡ Some u → HasNone (AtHeader entries units j u)
-more_headers entries units number p is = more_of_list units (AtHeader entries units) number p is
-
-pub headers_none : (entries : List Entry) (units : List PlacedUnit) → ((j : ℕ) (u : PlacedUnit) → j < length units → slice_get units j ≡ Some u → HasNone (AtHeader entries units j u)) → HasNone (HeaderFailures entries units)
-headers_none entries units = none_of_list units (AtHeader entries units)
 
 -- no type begins there, and no earlier unit has the signature
 pub least_type_offset : (entries : List Entry) (units : List PlacedUnit) (number at signature t : ℕ) → (IsSignedBefore units number signature → ⊥) → (HasType entries number (at + t) → ⊥)

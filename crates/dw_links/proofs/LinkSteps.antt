@@ -1,7 +1,6 @@
 -- The values of an entry that may lead elsewhere, one after the other: at which no rule fails, and the entry that the
 -- entry's type reaches.
-use Rattle.std.proofs.Common.{rules}
-use Rattle.std.proofs.Common.{◌≡◌, ℕ, suc, Bool, true, false, List, [], ◌∷◌, ◌++◌, Option, Some, None, refl, sym, ap, ◌∙◌, append_assoc}
+use Rattle.std.proofs.Common.{rules, ◌≡◌, ℕ, suc, Bool, true, false, List, [], ◌∷◌, ◌++◌, Option, Some, None, refl, sym, ap, ◌∙◌, append_assoc}
 use Rattle.std.specs.Prelude.{◌==◌, option_map}
 use Rattle.std.specs.Option.{unwrap_or, option_and_then}
 use Rattle.dw_forms.specs.Codes.{DW_AT_type}

@@ -1,12 +1,12 @@
 -- Where no rule on strings, addresses and references fails, values lead somewhere.
-use Rattle.std.proofs.Common.{rules}
-use Rattle.std.proofs.Common.{◌≡◌, ℕ, List, Option, Some, None, IsSome, refl, sym, subst, ◌+◌, ◌==◌, Bool, true, false, ap, ◌∙◌, inl, inr, eq-eqb}
+use Rattle.std.proofs.Common.{rules, ◌≡◌, ℕ, List, Option, Some, None, IsSome, refl, sym, subst, ◌+◌, ◌==◌, Bool, true, false, ap, ◌∙◌, inl, inr, eq-eqb}
 use Rattle.std.specs.Prelude.{slice_get}
 use Rattle.std.proofs.lemmas.Bool.{eqb-true}
 use Rattle.dw_elf.specs.declared.sections.Sections.{Sections}
 use Rattle.dw_forms.specs.Codes.{DW_AT_str_offsets_base, DW_AT_addr_base, is_type_tag}
 use Rattle.dw_forms.specs.Value.{Datum, address, text, str, line_str, str_index, ref_info, ref_unit, ref_sig, addr_index}
 use Rattle.dw_entries.specs.declared.fault.Rule.TheVariants.{BadStrBase, BadAddrBase, NoEntry, WrongKind, NotNextSibling, NoSignature, BadTypeOffset}
+use Rattle.dw_entries.specs.declared.header.UnitHeader.{UnitHeader}
 use Rattle.dw_entries.specs.Units.{DebugUnit, Spells}
 use Rattle.dw_entries.specs.Entries.{Entry, PlacedUnit, entries_of, placed}
 use Rattle.dw_entries.specs.Failures.{HasNone}
@@ -20,7 +20,7 @@ use Rattle.dw_links.specs.declared.class.Class.TheVariants.{Address, String, Ref
 use Rattle.dw_links.specs.Classes.{class_of}
 use Rattle.dw_links.specs.Bases.{base_in}
 use Rattle.dw_links.specs.Strings.{StringIndexFails, AddressIndexFails, StringFailures}
-use Rattle.dw_links.specs.ValueTexts.{text_of, address_of}
+use Rattle.dw_links.specs.ValueTexts.{text_of, address_of, indexed_text, indexed_address}
 use Rattle.dw_links.specs.AttributeTexts.{text_at, address_at}
 use Rattle.dw_links.specs.LinkLaws.{HaveTexts, HaveAddresses, HaveTargets, HaveTypes}
 use Rattle.dw_links.proofs.TableLaws.{unit_of_entry}
@@ -36,18 +36,14 @@ is_told : (o : Option ℕ) → (o ≡ None → ⊥) → (n : ℕ) × (o ≡ Some
 is_told None never = absurd (never refl)
 is_told (Some n) never = (n, refl)
 
--- an indexed string is in a unit that says a base
-string_base : (sections : Sections) (us : List DebugUnit) (id : ℕ) (e : Entry) (p : PlacedUnit) (attribute index : ℕ) → HasNone (StringFailures sections us) → slice_get (entries_of us) id ≡ Some e → slice_get (placed us) e.unit ≡ Some p
-    → value_at_entry e attribute ≡ Some (str_index index) → (base : ℕ) × (base_in (entries_of us) p DW_AT_str_offsets_base ≡ Some base)
-string_base sections us id e p attribute index none is is_unit value =
-    let P : Option ℕ → Type 0 = λ o. StringIndexFails sections o index BadStrBase in
-    is_told (base_in (entries_of us) p DW_AT_str_offsets_base) (λ absent. passes_string sections us id e p attribute (str_index index) none is is_unit value BadStrBase (subst P (sym absent) tt))
+-- an indexed string is in a unit that has a base, and so is an indexed address
+told_text : (sections : Sections) (base : Option ℕ) (index : ℕ) → (StringIndexFails sections base index BadStrBase → ⊥) → IsSome (indexed_text sections base index)
+told_text sections None index never = absurd (never tt)
+told_text sections (Some base) index never = refl
 
-address_base : (sections : Sections) (us : List DebugUnit) (id : ℕ) (e : Entry) (p : PlacedUnit) (attribute index : ℕ) → HasNone (StringFailures sections us) → slice_get (entries_of us) id ≡ Some e → slice_get (placed us) e.unit ≡ Some p
-    → value_at_entry e attribute ≡ Some (addr_index index) → (base : ℕ) × (base_in (entries_of us) p DW_AT_addr_base ≡ Some base)
-address_base sections us id e p attribute index none is is_unit value =
-    let P : Option ℕ → Type 0 = λ o. AddressIndexFails sections p.unit.header o index BadAddrBase in
-    is_told (base_in (entries_of us) p DW_AT_addr_base) (λ absent. passes_string sections us id e p attribute (addr_index index) none is is_unit value BadAddrBase (subst P (sym absent) tt))
+told_address : (sections : Sections) (header : UnitHeader) (base : Option ℕ) (index : ℕ) → (AddressIndexFails sections header base index BadAddrBase → ⊥) → IsSome (indexed_address sections header base index)
+told_address sections header None index never = absurd (never tt)
+told_address sections header (Some base) index never = refl
 
 has_text : (sections : Sections) (us : List DebugUnit) (id : ℕ) (e : Entry) (p : PlacedUnit) (attribute : ℕ) (v : Datum) → HasNone (StringFailures sections us) → slice_get (entries_of us) id ≡ Some e → slice_get (placed us) e.unit ≡ Some p
     → value_at_entry e attribute ≡ Some v → class_of v ≡ String → IsSome (text_of sections (base_in (entries_of us) p DW_AT_str_offsets_base) v)
@@ -55,14 +51,14 @@ has_text sections us id e p attribute (text bytes) none is is_unit value class =
 has_text sections us id e p attribute (str offset) none is is_unit value class = refl
 has_text sections us id e p attribute (line_str offset) none is is_unit value class = refl
 has_text sections us id e p attribute (str_index index) none is is_unit value class =
-    let (base, said) = string_base sections us id e p attribute index none is is_unit value in rw said refl
+    told_text sections (base_in (entries_of us) p DW_AT_str_offsets_base) index (passes_string sections us id e p attribute (str_index index) none is is_unit value BadStrBase)
 has_text sections us id e p attribute _ none is is_unit value class = absurd cc
 
 has_address : (sections : Sections) (us : List DebugUnit) (id : ℕ) (e : Entry) (p : PlacedUnit) (attribute : ℕ) (v : Datum) → HasNone (StringFailures sections us) → slice_get (entries_of us) id ≡ Some e → slice_get (placed us) e.unit ≡ Some p
     → value_at_entry e attribute ≡ Some v → class_of v ≡ Address → IsSome (address_of sections p.unit.header (base_in (entries_of us) p DW_AT_addr_base) v)
 has_address sections us id e p attribute (address n) none is is_unit value class = refl
 has_address sections us id e p attribute (addr_index index) none is is_unit value class =
-    let (base, said) = address_base sections us id e p attribute index none is is_unit value in rw said refl
+    told_address sections p.unit.header (base_in (entries_of us) p DW_AT_addr_base) index (passes_string sections us id e p attribute (addr_index index) none is is_unit value BadAddrBase)
 has_address sections us id e p attribute _ none is is_unit value class = absurd cc
 
 pub have_texts : (sections : Sections) (us : List DebugUnit) → Spells sections.«abbrev».now us sections.info.now → HasNone (StringFailures sections us) → HaveTexts sections us
@@ -123,26 +119,17 @@ in_the_unit es us number type_offset p id is found = record { unit = p; is_unit 
 -- the type of a type unit
 type_reached : (us : List DebugUnit) (number signature type_offset : ℕ) (p : PlacedUnit) → OffsetsRise (entries_of us) → HasNone (ReferenceFailures us) → slice_get (placed us) number ≡ Some p → type_in p.unit.header.kind ≡ Some (signature, type_offset)
     → (id : ℕ) × (reach_in_unit (entries_of us) (placed us) number type_offset ≡ Some id)
-type_reached us number signature type_offset p rise none is kind = go (reach_in_unit (entries_of us) (placed us) number type_offset) refl
-  where
-    go : (o : Option ℕ) → reach_in_unit (entries_of us) (placed us) number type_offset ≡ o → (id : ℕ) × (reach_in_unit (entries_of us) (placed us) number type_offset ≡ Some id)
-    go (Some id) reached = (id, reached)
-    go None nowhere =
-        absurd (passes_header us number signature type_offset p none is kind BadTypeOffset (inr (
-          refl,
-          λ has.
-              no_answer (reach_in_unit (entries_of us) (placed us) number type_offset) has.id nowhere (reach_in_unit_is (entries_of us) (placed us) number type_offset has.id rise (in_the_unit (entries_of us) (placed us) number type_offset p has.id is has.is_type)),
-        )))
+type_reached us number signature type_offset p rise none is kind =
+    is_told (reach_in_unit (entries_of us) (placed us) number type_offset) (λ nowhere. passes_header us number signature type_offset p none is kind BadTypeOffset (inr (
+      refl,
+      λ has. no_answer (reach_in_unit (entries_of us) (placed us) number type_offset) has.id nowhere (reach_in_unit_is (entries_of us) (placed us) number type_offset has.id rise (in_the_unit (entries_of us) (placed us) number type_offset p has.id is has.is_type)),
+    )))
 
 -- ---- each reference reaches an entry
 
 -- what reaches an entry
 abbrev Reached : List DebugUnit → Entry → Datum → Type 0
 Reached us e v = (id : ℕ) × (reach_of (entries_of us) (placed us) e.unit v ≡ Some id)
-
-by_offset : (us : List DebugUnit) (e : Entry) (v : Datum) (o : Option ℕ) → reach_of (entries_of us) (placed us) e.unit v ≡ o → (reach_of (entries_of us) (placed us) e.unit v ≡ None → ⊥) → Reached us e v
-by_offset us e v (Some id) is never = (id, is)
-by_offset us e v None is never = absurd (never is)
 
 by_signature : (us : List DebugUnit) (e : Entry) (signature : ℕ) (o : Option ℕ) → first_signed (placed us) signature ≡ o → OffsetsRise (entries_of us) → HasNone (ReferenceFailures us)
     → (((number : ℕ) → HasSignature (placed us) signature number → ⊥) → ⊥) → Reached us e (ref_sig signature)
@@ -155,9 +142,9 @@ by_signature us e signature (Some number) is rise none never =
 reached : (us : List DebugUnit) (id : ℕ) (e : Entry) (attribute : ℕ) (v : Datum) → OffsetsRise (entries_of us) → HasNone (ReferenceFailures us) → slice_get (entries_of us) id ≡ Some e → value_at_entry e attribute ≡ Some v → class_of v ≡ Reference
     → Reached us e v
 reached us id e attribute (ref_info offset) rise none is value class =
-    by_offset us e (ref_info offset) (entry_at (entries_of us) offset) refl (λ nowhere. passes_reference us id e attribute (ref_info offset) none is value refl NoEntry (refl, nowhere))
+    is_told (entry_at (entries_of us) offset) (λ nowhere. passes_reference us id e attribute (ref_info offset) none is value refl NoEntry (refl, nowhere))
 reached us id e attribute (ref_unit offset) rise none is value class =
-    by_offset us e (ref_unit offset) (reach_in_unit (entries_of us) (placed us) e.unit offset) refl (λ nowhere. passes_reference us id e attribute (ref_unit offset) none is value refl NoEntry (refl, nowhere))
+    is_told (reach_in_unit (entries_of us) (placed us) e.unit offset) (λ nowhere. passes_reference us id e attribute (ref_unit offset) none is value refl NoEntry (refl, nowhere))
 reached us id e attribute (ref_sig signature) rise none is value class =
     by_signature us e signature (first_signed (placed us) signature) refl rise none (λ unsigned. passes_reference us id e attribute (ref_sig signature) none is value refl NoSignature unsigned)
 reached us id e attribute _ rise none is value class = absurd cc

@@ -1,6 +1,5 @@
 -- Entries by their offsets, from the start of .debug_info and from headers.
-use Rattle.std.proofs.Common.{rules}
-use Rattle.std.proofs.Common.{◌≡◌, ℕ, ◌<◌, List, Option, Some, None, ◌∙◌, length, ◌+◌, arith}
+use Rattle.std.proofs.Common.{rules, ◌≡◌, ℕ, ◌<◌, List, Option, Some, None, ◌∙◌, length, ◌+◌, arith}
 use Rattle.std.specs.Prelude.{slice_get, IfSome, All, ◌≢◌, IfNone}
 use Rattle.std.proofs.lemmas.Option.{slice_get_within, get_or_from_slice_get}
 use Rattle.std.proofs.lemmas.Bool.{ltb-true}

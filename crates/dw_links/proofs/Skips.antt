@@ -1,6 +1,5 @@
 -- No rule fails at an entry whose declaration has nothing that the rules are asked of.
-use Rattle.std.proofs.Common.{rules}
-use Rattle.std.proofs.Common.{◌≡◌, ℕ, zero, suc, ◌+◌, ◌<◌, List, [], ◌∷◌, length, Some, refl, sym, ap, ◌∙◌, arith, subst, map, eq-or-lt_of_le}
+use Rattle.std.proofs.Common.{rules, ◌≡◌, ℕ, zero, suc, ◌+◌, ◌<◌, List, [], ◌∷◌, length, Some, refl, sym, ap, ◌∙◌, arith, subst, map, eq-or-lt_of_le}
 use Rattle.std.specs.Prelude.{Option, None, slice_get, slice_index_or, All, Contains, IfSome, IsSome}
 use Rattle.std.proofs.lemmas.Option.{slice_get_within, slice_get-get_or, get_or_from_slice_get}
 use Rattle.dw_forms.specs.Value.{Datum}
@@ -9,10 +8,9 @@ use Rattle.dw_forms.specs.declared.decl.AttributeSpec.{AttributeSpec}
 use Rattle.dw_entries.specs.Grammar.{Context, Attribute, IsAttribute, AreAttributes}
 use Rattle.dw_entries.specs.Units.{DebugUnit, context_of, Spells}
 use Rattle.dw_entries.specs.Entries.{Entry, entries_of}
-use Rattle.dw_entries.specs.Asked.{value_of}
+use Rattle.dw_entries.specs.Asked.{value_of, AtEntries}
 use Rattle.dw_entries.specs.Lookups.{entry_head}
 use Rattle.dw_entries.specs.Failures.{HasNone}
-use Rattle.dw_entries.specs.Asked.{AtEntries}
 use Rattle.dw_entries.proofs.Firsts.{same_some, none_of_entries}
 use Rattle.dw_entries.proofs.HeadLaws.{head_stands}
 use Rattle.dw_links.specs.Concerns.{Rules, AtHead, Passes, AllPass, PassesAt}

@@ -1,6 +1,5 @@
 -- Where no rule on strings and addresses fails, texts and addresses lie within their sections.
-use Rattle.std.proofs.Common.{rules}
-use Rattle.std.proofs.Common.{◌≡◌, ◌≢◌, ℕ, suc, ◌+◌, ◌*◌, ◌<◌, ◌≤◌, ◌==◌, ◌⊎◌, Bool, true, false, cond, List, [], ◌∷◌, length, find, Option, Some, None, IfSome, option_map, refl, sym, ap, ◌∙◌, subst, arith, inl, inr}
+use Rattle.std.proofs.Common.{rules, ◌≡◌, ◌≢◌, ℕ, suc, ◌+◌, ◌*◌, ◌<◌, ◌≤◌, ◌==◌, ◌⊎◌, Bool, true, false, cond, List, [], ◌∷◌, length, find, Option, Some, None, IfSome, option_map, refl, sym, ap, ◌∙◌, subst, arith, inl, inr}
 use Rattle.std.specs.Prelude.{slice_get}
 use Rattle.std.proofs.lemmas.Option.{option_and_then_some}
 use Rattle.std.proofs.lemmas.Bool.{eqb-true}
@@ -20,10 +19,9 @@ use Rattle.dw_entries.specs.Lookups.{entry_head, value_in, value_at_entry}
 use Rattle.dw_entries.proofs.EntryFacts.{first_entry}
 use Rattle.dw_entries.proofs.Firsts.{same_some}
 use Rattle.dw_links.specs.Contributions.{IsContribution, slot_count, slot_at}
-use Rattle.dw_links.specs.Bases.{section_offset_in, base_in}
-use Rattle.dw_links.specs.Strings.{IsStringContribution, IsAddressContribution, StringIndexFails, AddressIndexFails, StringFailsIn, StringFailures}
+use Rattle.dw_links.specs.Bases.{section_offset_in, base_in, bases_in}
+use Rattle.dw_links.specs.Strings.{IsStringContribution, IsAddressContribution, BaseFails, StringIndexFails, AddressIndexFails, StringFailsIn, StringFailures}
 use Rattle.dw_links.specs.declared.contribution.UnitBases.{UnitBases}
-use Rattle.dw_links.specs.Bases.{bases_in}
 use Rattle.dw_links.specs.ValueTexts.{text_of, address_of}
 use Rattle.dw_links.specs.AttributeTexts.{text_at, address_at}
 use Rattle.dw_links.specs.Slots.{IsTextSlot, TextLies, IsAddressSlot, AddressLies}
@@ -81,26 +79,16 @@ offset_said _ base is = absurd cc
 base_said : (es : List Entry) (p : PlacedUnit) (attribute base : ℕ) → base_in es p attribute ≡ Some base → SaysBase es p attribute base
 base_said es p attribute base is = search (rules, option_and_then_some, offset_said)
 
--- so its contribution is never broken
-sound_strings : (sections : Sections) (us : List DebugUnit) (k : ℕ) (p : PlacedUnit) (base : ℕ) → HasNone (StringFailures sections us) → slice_get (placed us) k ≡ Some p → base_in (entries_of us) p DW_AT_str_offsets_base ≡ Some base
-    → (IsStringContribution sections base → ⊥) → ⊥
-sound_strings sections us k p base none is said broken =
-    let says = base_said (entries_of us) p DW_AT_str_offsets_base base said in
+-- so no rule on bases fails at it
+sound : (sections : Sections) (us : List DebugUnit) (k : ℕ) (p : PlacedUnit) (attribute base : ℕ) (rule : Rule) → HasNone (StringFailures sections us) → slice_get (placed us) k ≡ Some p → base_in (entries_of us) p attribute ≡ Some base
+    → BaseFails sections p.unit.header attribute base rule → ⊥
+sound sections us k p attribute base rule none is said fails =
+    let says = base_said (entries_of us) p attribute base said in
     let has = first_entry us k p is in
     let same = same_some (slice_get (entries_of us) p.first) has.entry says.first has.is_entry says.is_first in
     let unit = sym (ap (λ (e : Entry). e.unit) same) ∙ has.is_first.unit in
-    passes_string sections us p.first says.first p DW_AT_str_offsets_base (sec_offset base) none says.is_first (ap (slice_get (placed us)) unit ∙ is) says.value BadStrBase
-    (sym (ap (λ (e : Entry). e.parent) same) ∙ has.is_first.parent, says.version, inl (refl, refl, broken))
-
-sound_addresses : (sections : Sections) (us : List DebugUnit) (k : ℕ) (p : PlacedUnit) (base : ℕ) → HasNone (StringFailures sections us) → slice_get (placed us) k ≡ Some p → base_in (entries_of us) p DW_AT_addr_base ≡ Some base
-    → (IsAddressContribution sections p.unit.header base → ⊥) → ⊥
-sound_addresses sections us k p base none is said broken =
-    let says = base_said (entries_of us) p DW_AT_addr_base base said in
-    let has = first_entry us k p is in
-    let same = same_some (slice_get (entries_of us) p.first) has.entry says.first has.is_entry says.is_first in
-    let unit = sym (ap (λ (e : Entry). e.unit) same) ∙ has.is_first.unit in
-    passes_string sections us p.first says.first p DW_AT_addr_base (sec_offset base) none says.is_first (ap (slice_get (placed us)) unit ∙ is) says.value BadAddrBase
-    (sym (ap (λ (e : Entry). e.parent) same) ∙ has.is_first.parent, says.version, inr (refl, refl, broken))
+    passes_string sections us p.first says.first p attribute (sec_offset base) none says.is_first (ap (slice_get (placed us)) unit ∙ is) says.value rule
+    (sym (ap (λ (e : Entry). e.parent) same) ∙ has.is_first.parent, says.version, fails)
 
 -- ---- slots
 
@@ -115,38 +103,26 @@ slot_within section slot mark base index size is below = search (rules)
 at_most : (a b : ℕ) → ((b < a) → ⊥) → a ≤ b
 at_most a b never = elim (below_or_not b a) [ inl more ↦ absurd (never more) | inr le ↦ le ]
 
-text_slot : (sections : Sections) (us : List DebugUnit) (id : ℕ) (e : Entry) (p : PlacedUnit) (attribute index base : ℕ) → HasNone (StringFailures sections us) → slice_get (entries_of us) id ≡ Some e → slice_get (placed us) e.unit ≡ Some p
-    → value_at_entry e attribute ≡ Some (str_index index) → base_in (entries_of us) p DW_AT_str_offsets_base ≡ Some base → IsTextSlot sections index base
-text_slot sections us id e p attribute index base none is is_unit value said = record {
-  within = at_most (base + 4 * index + 4) (length sections.str_offsets.now) (λ more. sound_strings sections us e.unit p base none is_unit said
+text_slot : (sections : Sections) (index base : ℕ) → ((rule : Rule) → StringIndexFails sections (Some base) index rule → ⊥) → ((IsStringContribution sections base → ⊥) → ⊥) → IsTextSlot sections index base
+text_slot sections index base never is_sound = record {
+  within = at_most (base + 4 * index + 4) (length sections.str_offsets.now) (λ more. is_sound
       (λ c. let lies = slot_within sections.str_offsets.now 4 0 base index (inl refl) c (in_count c) in omega (arith, lies, more)));
-  leads = at_most (slot_at sections.str_offsets.now 4 base index) (length sections.str.now) (λ more. sound_strings sections us e.unit p base none is_unit said
+  leads = at_most (slot_at sections.str_offsets.now 4 base index) (length sections.str.now) (λ more. is_sound
       (λ c. never StringEnd (c, in_count c, λ ends. let last = ends.behind in let within = ends.within in omega (arith, last, within, more))));
 }
   where
-    never : (rule : Rule) → StringIndexFails sections (Some base) index rule → ⊥
-    never rule fails =
-        let P : Option ℕ → Type 0 = λ o. StringIndexFails sections o index rule in
-        passes_string sections us id e p attribute (str_index index) none is is_unit value rule (subst P (sym said) fails)
-
     in_count : IsStringContribution sections base → index < slot_count sections.str_offsets.now 4 base
     in_count c = elim (below_or_not index (slot_count sections.str_offsets.now 4 base)) [ inl under ↦ under | inr over ↦ absurd (never StrIndex (c, over)) ]
 
-address_slot : (sections : Sections) (us : List DebugUnit) (id : ℕ) (e : Entry) (p : PlacedUnit) (attribute index base : ℕ) → HasNone (StringFailures sections us) → slice_get (entries_of us) id ≡ Some e → slice_get (placed us) e.unit ≡ Some p
-    → IsSize p.unit.header.address_size → value_at_entry e attribute ≡ Some (addr_index index) → base_in (entries_of us) p DW_AT_addr_base ≡ Some base → IsAddressSlot sections p.unit.header index base
-address_slot sections us id e p attribute index base none is is_unit size value said = record {
+address_slot : (sections : Sections) (header : UnitHeader) (index base : ℕ) → IsSize header.address_size → (AddressIndexFails sections header (Some base) index AddrIndex → ⊥) → ((IsAddressContribution sections header base → ⊥) → ⊥) → IsAddressSlot sections header index base
+address_slot sections header index base size never is_sound = record {
   size = size;
-  within = at_most (base + p.unit.header.address_size * index + p.unit.header.address_size) (length sections.addr.now) (λ more. sound_addresses sections us e.unit p base none is_unit said
-      (λ c. let lies = slot_within sections.addr.now p.unit.header.address_size p.unit.header.address_size base index size c (in_count c) in omega (arith, lies, more)));
+  within = at_most (base + header.address_size * index + header.address_size) (length sections.addr.now) (λ more. is_sound (λ c.
+      elim (below_or_not index (slot_count sections.addr.now header.address_size base)) [
+        | inl under ↦ let lies = slot_within sections.addr.now header.address_size header.address_size base index size c under in omega (arith, lies, more)
+        | inr over ↦ never (c, over)
+      ]));
 }
-  where
-    never : (rule : Rule) → AddressIndexFails sections p.unit.header (Some base) index rule → ⊥
-    never rule fails =
-        let P : Option ℕ → Type 0 = λ o. AddressIndexFails sections p.unit.header o index rule in
-        passes_string sections us id e p attribute (addr_index index) none is is_unit value rule (subst P (sym said) fails)
-
-    in_count : IsAddressContribution sections p.unit.header base → index < slot_count sections.addr.now p.unit.header.address_size base
-    in_count c = elim (below_or_not index (slot_count sections.addr.now p.unit.header.address_size base)) [ inl under ↦ under | inr over ↦ absurd (never AddrIndex (c, over)) ]
 
 if_each : (o : Option ℕ) (P : ℕ → Type 0) → ((n : ℕ) → o ≡ Some n → P n) → IfSome o P
 if_each None P each = tt
@@ -162,13 +138,18 @@ text_lies sections us id e p attribute (str offset) none is is_unit value =
 text_lies sections us id e p attribute (line_str offset) none is is_unit value =
     at_most offset (length sections.line_str.now) (λ more. passes_string sections us id e p attribute (line_str offset) none is is_unit value StringEnd
     (λ ends. let last = ends.behind in let within = ends.within in omega (arith, last, within, more)))
-text_lies sections us id e p attribute (str_index index) none is is_unit value = search (rules, if_each, text_slot)
+text_lies sections us id e p attribute (str_index index) none is is_unit value =
+    if_each (base_in (entries_of us) p DW_AT_str_offsets_base) (IsTextSlot sections index) (λ base said. text_slot sections index base
+    (λ rule fails. passes_string sections us id e p attribute (str_index index) none is is_unit value rule (subst (λ (o : Option ℕ). StringIndexFails sections o index rule) (sym said) fails))
+    (λ broken. sound sections us e.unit p DW_AT_str_offsets_base base BadStrBase none is_unit said (inl (refl, refl, broken))))
 text_lies sections us id e p attribute _ none is is_unit value = tt
 
 pub address_lies : (sections : Sections) (us : List DebugUnit) (id : ℕ) (e : Entry) (p : PlacedUnit) (attribute : ℕ) (v : Datum) → HasNone (StringFailures sections us) → slice_get (entries_of us) id ≡ Some e → slice_get (placed us) e.unit ≡ Some p
     → IsSize p.unit.header.address_size → value_at_entry e attribute ≡ Some v → AddressLies sections p.unit.header (base_in (entries_of us) p DW_AT_addr_base) v
 address_lies sections us id e p attribute (addr_index index) none is is_unit size value =
-    search (rules, if_each, address_slot)
+    if_each (base_in (entries_of us) p DW_AT_addr_base) (IsAddressSlot sections p.unit.header index) (λ base said. address_slot sections p.unit.header index base size
+    (λ fails. passes_string sections us id e p attribute (addr_index index) none is is_unit value AddrIndex (subst (λ (o : Option ℕ). AddressIndexFails sections p.unit.header o index AddrIndex) (sym said) fails))
+    (λ broken. sound sections us e.unit p DW_AT_addr_base base BadAddrBase none is_unit said (inr (refl, refl, broken))))
 address_lies sections us id e p attribute _ none is is_unit size value = tt
 
 -- ---- what is told of a value is told of the attribute

@@ -1,6 +1,5 @@
 -- What is read of units, one after the other, and the targets of types, which are kept of each entry.
-use Rattle.std.proofs.Common.{rules}
-use Rattle.std.proofs.Common.{◌≡◌, ℕ, ◌<◌, List, length, map, get_or, Option, Some, option_map, ap, ◌∙◌, ◌+◌, ◌≤◌, [], ◌∷◌, ◌++◌, take, None, IfSome, refl, arith, ◌==◌, false, sym, subst, inl, inr}
+use Rattle.std.proofs.Common.{rules, ◌≡◌, ℕ, ◌<◌, List, length, map, get_or, Option, Some, option_map, ap, ◌∙◌, ◌+◌, ◌≤◌, [], ◌∷◌, ◌++◌, take, IfSome, refl, arith, ◌==◌, false, sym, subst, inl, inr}
 use Rattle.std.specs.Prelude.{slice_get}
 use Rattle.std.proofs.lemmas.Option.{slice_get_within, slice_get-map, get_or_from_slice_get, option_and_then_some}
 use Rattle.std.proofs.lemmas.List.{map_more, take_all}
@@ -8,7 +7,9 @@ use Rattle.std.specs.Option.{option_and_then}
 use Rattle.std.proofs.lemmas.Bool.Decides.{nat_tests}
 use Rattle.dw_forms.specs.declared.value.Value.{Value}
 use Rattle.dw_forms.specs.Value.{view}
+use Rattle.dw_entries.specs.declared.entries.Entries.{Entries}
 use Rattle.dw_entries.specs.Entries.{Entry, PlacedUnit, entries_of, placed}
+use Rattle.dw_entries.specs.Scanned.{all_entries, all_units, units_of}
 use Rattle.dw_entries.specs.Lookups.{value_at_entry, unit_head}
 use Rattle.dw_entries.specs.Units.{DebugUnit, Spells}
 use Rattle.dw_entries.proofs.EntryFacts.{length-placed_from, placed_get, first_entry}
@@ -16,14 +17,13 @@ use Rattle.dw_entries.specs.declared.lookup.UnitHead.{UnitHead}
 use Rattle.dw_entries.specs.Header.{IsSize, version_of}
 use Rattle.dw_entries.proofs.Firsts.{same_some}
 use Rattle.dw_entries.proofs.HeadLaws.{all_get}
-use Rattle.dw_links.specs.Bases.{bases_in}
-use Rattle.dw_links.specs.Tables.{type_target}
+use Rattle.dw_links.specs.Bases.{section_offset_in, base_in}
+use Rattle.dw_links.specs.Tables.{type_target, AreTables}
 use Rattle.dw_links.specs.Targets.{target_of}
 use Rattle.dw_links.proofs.TargetLaws.{reached_entry}
-use Rattle.dw_links.specs.declared.contribution.UnitBases.{UnitBases}
+use Rattle.dw_links.specs.declared.links.LinkTables.{LinkTables}
 use Rattle.dw_links.proofs.Skips.{there}
 use Rattle.dw_links.proofs.ClassLaws.{in_units, unit_there}
-use Rattle.dw_links.specs.Bases.{section_offset_in, base_in}
 
 -- ---- what is kept of an entry
 
@@ -32,12 +32,18 @@ pub target_within : (entries : List Entry) (units : List PlacedUnit) (e : Entry)
 unfolding target_of
 target_within entries units e attribute t is = search (rules, option_and_then_some, reached_entry, slice_get_within)
 
--- what is at the entry's number
-pub type_found : (entries : List Entry) (units : List PlacedUnit) (items : List (Option ℕ)) (id : ℕ) (e : Entry) (found : Option ℕ) → items ≡ map (type_target entries units) entries → slice_get entries id ≡ Some e
-    → found ≡ get_or items id found → found ≡ type_target entries units e
-type_found entries units items id e found all is read =
-    let stands : slice_get items id ≡ Some (type_target entries units e) = ap (λ (xs : List (Option ℕ)). slice_get xs id) all ∙ slice_get-map (type_target entries units) entries id ∙ ap (option_map (type_target entries units)) is in
-    read ∙ get_or_from_slice_get items id (type_target entries units e) found stands
+-- what was read of a list that is the map of another
+pub mapped : {X Y : Type 0} (f : X → Y) (xs : List X) (items : List Y) (i : ℕ) (x : X) (found : Y) → items ≡ map f xs → slice_get xs i ≡ Some x → found ≡ get_or items i found → found ≡ f x
+mapped {X} {Y} f xs items i x found all is read =
+    let kept : slice_get items i ≡ Some (f x) = ap (λ (ys : List Y). slice_get ys i) all ∙ slice_get-map f xs i ∙ ap (option_map f) is in
+    read ∙ get_or_from_slice_get items i (f x) found kept
+
+-- the target that is kept of an entry's type
+pub kept_target : (entries : Entries) (tables : LinkTables) (id number : ℕ) (found : Option ℕ) → AreTables entries tables → id < length (all_entries entries.scanned) → number ≡ id → found ≡ get_or tables.types.items number found
+    → (e : Entry) × (slice_get (all_entries entries.scanned) id ≡ Some e) × (found ≡ type_target (all_entries entries.scanned) (all_units entries.scanned) e)
+kept_target entries tables id number found are below same read =
+    let (e, is) = there (all_entries entries.scanned) id below in
+    (e, is, mapped (type_target (all_entries entries.scanned) (all_units entries.scanned)) (all_entries entries.scanned) tables.types.items id e found are.types is (read ∙ ap (λ (n : ℕ). get_or tables.types.items n found) same))
 
 -- one item more
 pub map_one_more : {X Y : Type 0} (f : X → Y) (xs : List X) (ys : List Y) (i : ℕ) (x : X) (y : Y) → slice_get xs i ≡ Some x → ys ≡ map f (take i xs) → y ≡ f x → ys ++ y ∷ [] ≡ map f (take (i + 1) xs)
@@ -56,23 +62,13 @@ map_all f xs ys i all before = before ∙ ap (map f) (take_all i xs all)
 pub unit_of_entry : («abbrev» info : List ℕ) (us : List DebugUnit) (id : ℕ) (e : Entry) → Spells «abbrev» us info → slice_get (entries_of us) id ≡ Some e → (p : PlacedUnit) × (slice_get (placed us) e.unit ≡ Some p)
 unit_of_entry «abbrev» info us id e spells is = there (placed us) e.unit (omega (arith, in_units «abbrev» info us id e spells is, length-placed_from 0 0 us))
 
--- the bases that stand at the number of its unit
-pub bases_found : (entries : List Entry) (units : List PlacedUnit) (items : List UnitBases) (id number : ℕ) (found : UnitBases) → items ≡ map (bases_in entries) units → IfSome (slice_get entries id) (λ e. number ≡ e.unit)
-    → found ≡ get_or items number found → IfSome (slice_get entries id) (λ e. IfSome (slice_get units e.unit) (λ p. found ≡ bases_in entries p))
-bases_found entries units items id number found all unit read = at_entry (slice_get entries id) unit
-  where
-    here : (p : PlacedUnit) → slice_get units number ≡ Some p → found ≡ bases_in entries p
-    here p is =
-        let stands : slice_get items number ≡ Some (bases_in entries p) = ap (λ (ys : List UnitBases). slice_get ys number) all ∙ slice_get-map (bases_in entries) units number ∙ ap (option_map (bases_in entries)) is in
-        read ∙ get_or_from_slice_get items number (bases_in entries p) found stands
-
-    at_unit : (o : Option PlacedUnit) → slice_get units number ≡ o → IfSome o (λ p. found ≡ bases_in entries p)
-    at_unit None is = tt
-    at_unit (Some p) is = here p is
-
-    at_entry : (o : Option Entry) → IfSome o (λ e. number ≡ e.unit) → IfSome o (λ e. IfSome (slice_get units e.unit) (λ p. found ≡ bases_in entries p))
-    at_entry None same = tt
-    at_entry (Some e) same = at_unit (slice_get units e.unit) (ap (slice_get units) same)
+-- an entry and its unit
+pub entry_unit : (entries : Entries) (id : ℕ) → id < length (all_entries entries.scanned)
+    → (e : Entry) × (p : PlacedUnit) × (slice_get (all_entries entries.scanned) id ≡ Some e) × (slice_get (all_units entries.scanned) e.unit ≡ Some p)
+entry_unit entries id below =
+    let (e, is) = there (all_entries entries.scanned) id below in
+    let (p, is_p) = unit_of_entry _ _ (units_of entries.scanned) id e entries.scanned.1.spells is in
+    (e, p, is, is_p)
 
 -- the size of an address in a unit
 pub sized : («abbrev» info : List ℕ) (us : List DebugUnit) (number : ℕ) (p : PlacedUnit) → Spells «abbrev» us info → number < length us → slice_get (placed us) number ≡ Some p → IsSize p.unit.header.address_size

@@ -1,16 +1,18 @@
 -- The first item of a list that passes a test, and the entry that a value reaches.
-use Rattle.std.proofs.Common.{rules}
-use Rattle.std.proofs.Common.{◌≡◌, ℕ, zero, suc, ◌+◌, ◌<◌, Bool, true, false, cond, List, [], ◌∷◌, Option, Some, None, IfSome, IfNone, refl, sym, ap, ◌∙◌, arith, ◌==◌, ◌&&◌, length, IsSome, option_and_then, subst, eq-eqb, ne_eqb}
+use Rattle.std.proofs.Common.{rules, ltb, get_or, ◌≤◌, ◌≡◌, ℕ, ◌+◌, ◌<◌, Bool, true, false, cond, List, Option, Some, None, IfSome, IfNone, refl, sym, ap, ◌∙◌, arith, ◌==◌, ◌&&◌, length, IsSome, option_and_then, subst, eq-eqb, ne_eqb}
 use Rattle.std.specs.Prelude.{slice_get}
-use Rattle.std.specs.List.{position_from}
-use Rattle.std.proofs.lemmas.Option.{slice_get_within, option_and_then_some}
-use Rattle.std.proofs.lemmas.Bool.{eqb-true}
+use Rattle.std.specs.List.{position_from, position_or_len}
+use Rattle.std.proofs.lemmas.Option.{slice_get_within, slice_get-get_or, get_or_from_slice_get, option_and_then_some}
+use Rattle.std.proofs.lemmas.Bool.{eqb-true, ltb-true, ltb-false, lt-ltb}
+use Rattle.std.proofs.lemmas.Iterator.Adapters.{position_from-zero}
+use Rattle.std.proofs.lemmas.List.Sums.{position_or_len_is, passes_at_first, fails_before_first}
 use Rattle.dw_forms.specs.Value.{Datum, ref_info, ref_unit, ref_sig}
 use Rattle.dw_entries.proofs.Firsts.{same_some}
 use Rattle.dw_entries.specs.Lookups.{value_at_entry}
 use Rattle.dw_entries.specs.Asked.{OffsetsRise}
 use Rattle.dw_entries.specs.Entries.{Entry, PlacedUnit}
 use Rattle.dw_entries.specs.Runs.{IsEntryAt, IsEntryIn, ReachesInUnit}
+use Rattle.dw_links.proofs.Skips.{there}
 use Rattle.dw_links.specs.LinkLaws.{ReachesBySignature}
 use Rattle.dw_links.specs.Signatures.{type_in, HasSignature, is_signature_of, first_signed, AreDistinct}
 use Rattle.dw_links.specs.SignedTypes.{IsFirstSigned, IsSignedType}
@@ -27,50 +29,40 @@ pub record IsFirstAt {X : Type 0} (test : X → Bool) (xs : List X) (i : ℕ) : 
   pub passes : test item ≡ true
   pub before : NoneBefore test xs i
 
-position_at : {X : Type 0} (test : X → Bool) (xs : List X) (from i : ℕ) (x : X) → slice_get xs i ≡ Some x → test x ≡ true → NoneBefore test xs i → position_from test from xs ≡ Some (from + i)
-position_at test [] from i x is passes before = absurd cc
-position_at test (y ∷ xs) from zero x is passes before = search (rules, same_some)
-position_at test (y ∷ xs) from (suc i) x is passes before =
-    let not_here : test y ≡ false = before 0 y (omega arith) refl in
-    rw not_here (position_at test xs (from + 1) i x is passes (λ j z lt at. before (suc j) z (omega (arith, lt)) at) ∙ ap Some (let z : from + 1 + i ≡ from + suc i = omega arith in z))
+below : (b : Bool) (p n k : ℕ) → ltb p n ≡ b → cond b (Some p) None ≡ Some k → (p ≡ k) × (p < n)
+below true p n k q e = (cc, ltb-true p n q)
+below false p n k q e = absurd cc
 
--- its place is the position
+past : (b : Bool) (p n : ℕ) → ltb p n ≡ b → cond b (Some p) None ≡ None → n ≤ p
+past true p n q e = absurd cc
+past false p n q e = ltb-false p n q
+
+-- the place of the first such item is the position
 pub position_is : {X : Type 0} (test : X → Bool) (xs : List X) (i : ℕ) → IsFirstAt test xs i → position_from test 0 xs ≡ Some i
-position_is test xs i first = position_at test xs 0 i first.item first.is_item first.passes first.before ∙ ap Some (let z : 0 + i ≡ i = omega arith in z)
-
--- after an item that fails the test
-behind : {X : Type 0} (test : X → Bool) (x : X) (xs : List X) (i : ℕ) → test x ≡ false → IsFirstAt test xs i → IsFirstAt test (x ∷ xs) (suc i)
-behind {X} test x xs i fails first = search (rules, same_some)
-
-place_from : {X : Type 0} (test : X → Bool) (xs : List X) (from k : ℕ) → position_from test from xs ≡ Some k → (i : ℕ) × (k ≡ from + i) × IsFirstAt test xs i
-place_from test [] from k is = absurd cc
-place_from {X} test (x ∷ xs) from k is = go (test x) refl is (place_from test xs (from + 1) k)
-  where
-    go : (b : Bool) → test x ≡ b → cond b (Some from) (position_from test (from + 1) xs) ≡ Some k → (position_from test (from + 1) xs ≡ Some k → (i : ℕ) × (k ≡ from + 1 + i) × IsFirstAt test xs i)
-        → (i : ℕ) × (k ≡ from + i) × IsFirstAt test (x ∷ xs) i
-    go true passes e more =
-        let same : from ≡ k = same_some (Some from) from k refl e in
-        (0, omega (arith, same), record { item = x; is_item = refl; passes = passes; before = λ j y lt at. absurd (omega (arith, lt)) })
-    go false fails e more =
-        let (i, at, first) = more e in
-        (suc i, omega (arith, at), behind test x xs i fails first)
+position_is test xs i first =
+    let within = slice_get_within xs i first.item first.is_item in
+    let is_i : position_or_len test xs ≡ i = position_or_len_is test xs i first.item (omega (arith, within))
+    (λ k lt. first.before k (get_or xs k first.item) lt (slice_get-get_or xs k first.item (omega (arith, within, lt))))
+    (λ _. ap test (get_or_from_slice_get xs i first.item first.item first.is_item) ∙ first.passes) in
+    sym (position_from-zero test xs) ∙ rw (is_i, lt-ltb i (length xs) within) refl
 
 -- at the position is such an item
 pub place_is : {X : Type 0} (test : X → Bool) (xs : List X) (k : ℕ) → position_from test 0 xs ≡ Some k → IsFirstAt test xs k
-place_is test xs k is = search (rules, place_from)
-
-fails_first : (b : Bool) (from : ℕ) (o : Option ℕ) → cond b (Some from) o ≡ None → (b ≡ false) × (o ≡ None)
-fails_first true from o none = absurd cc
-fails_first false from o none = (refl, none)
+place_is test xs k is =
+    let (same, within) = below (ltb (position_or_len test xs) (length xs)) (position_or_len test xs) (length xs) k refl (position_from-zero test xs ∙ is) in
+    let (x, is_x) = there xs k (omega (arith, same, within)) in
+    record {
+      item = x;
+      is_item = is_x;
+      passes = ap test (sym (get_or_from_slice_get xs k x x is_x) ∙ ap (λ (n : ℕ). get_or xs n x) (sym same)) ∙ passes_at_first test xs x within;
+      before = λ j y lt at. ap test (sym (get_or_from_slice_get xs j y y at)) ∙ fails_before_first test xs j y (omega (arith, lt, same));
+    }
 
 -- where there is no position, no item passes
-fails_all : {X : Type 0} (test : X → Bool) (xs : List X) (from : ℕ) → position_from test from xs ≡ None → (j : ℕ) (y : X) → slice_get xs j ≡ Some y → test y ≡ false
-fails_all test [] from none j y at = absurd cc
-fails_all test (x ∷ xs) from none zero y at = ap test (same_some (Some y) y x refl (sym at)) ∙ (fails_first (test x) from (position_from test (from + 1) xs) none).0
-fails_all test (x ∷ xs) from none (suc j) y at = fails_all test xs (from + 1) (fails_first (test x) from (position_from test (from + 1) xs) none).1 j y at
-
 pub none_passes : {X : Type 0} (test : X → Bool) (xs : List X) → position_from test 0 xs ≡ None → (j : ℕ) (y : X) → slice_get xs j ≡ Some y → test y ≡ false
-none_passes test xs none = fails_all test xs 0 none
+none_passes test xs none j y at =
+    let all = past (ltb (position_or_len test xs) (length xs)) (position_or_len test xs) (length xs) refl (position_from-zero test xs ∙ none) in
+    ap test (sym (get_or_from_slice_get xs j y y at)) ∙ fails_before_first test xs j y (omega (arith, all, slice_get_within xs j y at))
 
 -- an answer that is exact both ways is the one that a function gives
 pub answer_is : (Is : ℕ → Type 0) (given answer : Option ℕ) → ((i : ℕ) → given ≡ Some i → Is i) → ((i : ℕ) → Is i → given ≡ Some i) → IfSome answer Is → IfNone answer ((i : ℕ) → Is i → ⊥) → answer ≡ given

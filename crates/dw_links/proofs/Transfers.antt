@@ -1,7 +1,6 @@
 -- Rules by what was read of a unit are the rules among all entries; what holds of a fault, unless memory ran out; and one
 -- entry after the other.
-use Rattle.std.proofs.Common.{rules}
-use Rattle.std.proofs.Common.{◌≡◌, ℕ, ◌+◌, ◌<◌, ◌≤◌, length, Option, None, Some, sym, ap, ◌∙◌, subst, arith, below_more}
+use Rattle.std.proofs.Common.{rules, ◌≡◌, ℕ, ◌+◌, ◌<◌, ◌≤◌, length, Option, None, Some, ap, ◌∙◌, arith}
 use Rattle.std.specs.Prelude.{slice_get, IfSome}
 use Rattle.dw_forms.specs.Codes.{DW_AT_str_offsets_base, DW_AT_addr_base}
 use Rattle.dw_forms.specs.Value.{Datum}
@@ -14,7 +13,7 @@ use Rattle.dw_entries.specs.declared.lookup.UnitHead.{UnitHead}
 use Rattle.dw_forms.specs.declared.fault.Stop.{Stop}
 use Rattle.dw_forms.specs.declared.fault.Stop.TheVariants.{Memory, Fault}
 use Rattle.dw_entries.specs.Asked.{AtEntries}
-use Rattle.dw_entries.specs.Entries.{Entry, PlacedUnit}
+use Rattle.dw_entries.specs.Entries.{Entry}
 use Rattle.dw_entries.specs.Failures.{broken_of, HasNone, IsFirst, IsLeast}
 use Rattle.dw_entries.specs.Lookups.{entry_head}
 use Rattle.dw_entries.specs.Scanned.{all_entries, all_units, units_of}
@@ -33,7 +32,6 @@ use Rattle.dw_links.specs.Linkable.{FailsByText, FailsByTarget}
 use Rattle.dw_links.specs.Linking.{HasFailed, IsFirstOfGroup}
 use Rattle.dw_links.specs.References.{HeaderFailures, AttributeFailures}
 use Rattle.dw_links.specs.Ready.{AreTexts, FailsByTexts}
-use Rattle.dw_links.specs.Strings.{StringFailsIn}
 use Rattle.dw_links.proofs.ClassLaws.{in_units}
 use Rattle.dw_links.proofs.Skips.{there}
 

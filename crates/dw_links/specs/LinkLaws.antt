@@ -23,14 +23,14 @@ EachValue class P entries =
     EachEntry (λ e. (attribute : ℕ) (v : Datum) → value_at_entry e attribute ≡ Some v → class_of v ≡ class
     → P e attribute v) entries
 
--- a signature reaches the entry at the type offset of a unit that has it
+-- a signature refers to the entry at the type offset of a unit that has it
 pub record ReachesBySignature (entries : List Entry) (units : List PlacedUnit) (signature id : ℕ) : Type 0 where
   pub number : ℕ
   pub has : HasSignature units signature number
   pub target : IsEntryIn entries number (has.unit.at + has.type_offset) id
 
--- the value reaches an entry, which is the attribute's target; the attribute may have this form and reach this entry,
--- and a sibling attribute reaches the next sibling
+-- the value refers to an entry, which is the attribute's target; the attribute may have this form and this target, and
+-- the target of a sibling attribute is the next sibling
 pub record HasTarget (entries : List Entry) (units : List PlacedUnit) (e : Entry) (attribute : ℕ)
     (v : Datum) : Type 0 where
   pub id : ℕ

@@ -22,12 +22,12 @@ use Rattle.dw_links.specs.References.{ReferenceFailures}
 use Rattle.dw_links.specs.Strings.{StringFailures}
 use Rattle.dw_links.specs.Tables.{type_target}
 
--- what the first type reaches, after one attribute more
+-- the target of the first type, after one attribute more
 abbrev pub kept_after : Option (Option ℕ) → (attribute : ℕ) → (reached : Option ℕ) → Option (Option ℕ)
 kept_after (Some target) attribute reached = Some target
 kept_after None attribute reached = if attribute == DW_AT_type then Some reached else None
 
--- no rule fails at the next attribute, which reaches this entry, if any; those after it are left
+-- no rule fails at the next attribute, which has this target, if any; those after it are left
 pub record LinksNext (entries : Entries) (head : EntryHead) (left behind : List (ℕ × Datum)) (linked : ℕ × Option ℕ)
     : Type 0 where
   pub value : Datum
@@ -51,7 +51,7 @@ abbrev pub HasFailedNext : Entries → EntryHead → (left : List (ℕ × Datum)
 HasFailedNext entries head left (String broken) = FailsNext (FailsByText entries) head left broken
 HasFailedNext entries head left (Reference broken) = FailsNext (FailsByTarget entries) head left broken
 
--- no rule fails at an entry, and its type reaches this target
+-- no rule fails at an entry, and its type has this target
 pub record IsLinked (entries : Entries) (e : Entry) (target : Option ℕ) : Type 0 where
   pub strings : HasNone (AtHead (FailsByText entries) e)
   pub references : HasNone (AtHead (FailsByTarget entries) e)

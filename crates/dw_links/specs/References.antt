@@ -37,7 +37,7 @@ is_signed head attribute =
     attribute == DW_AT_signature
     && is_one_of (DW_TAG_structure_type ∷ DW_TAG_union_type ∷ DW_TAG_enumeration_type ∷ []) head.tag
 
--- an attribute of the entry may reach the target
+-- an attribute of the entry may have the target
 abbrev pub permits : EntryHead → ℕ → Entry → Bool
 permits head attribute target =
     if attribute == DW_AT_type then is_type_tag target.head.decl.tag
@@ -61,7 +61,7 @@ permits_form head attribute v = if is_signed head attribute then is_signature v 
 abbrev pub NoEntryThere : Datum → (reached : Option ℕ) → Type 0
 NoEntryThere v reached = (is_signature v ≡ false) × (reached ≡ None)
 
--- it reaches an entry that is not permitted
+-- its target is not permitted
 pub record ReachesWrong (entries : List Entry) (head : EntryHead) (attribute : ℕ) (reached : Option ℕ) : Type 0 where
   pub id : ℕ
   pub reaches : reached ≡ Some id
@@ -74,7 +74,7 @@ abbrev pub IsWrongKind : List Entry → EntryHead → ℕ → Datum → (reached
 IsWrongKind entries head attribute v reached = (permits_form head attribute v ≡ false)
     ⊎ ReachesWrong entries head attribute reached
 
--- NotNextSibling: there is no next sibling, or it reaches another entry
+-- NotNextSibling: there is no next sibling, or its target is another entry
 abbrev pub IsOtherThan : (next reached : Option ℕ) → Type 0
 IsOtherThan None reached = Unit {0}
 IsOtherThan (Some next) reached = (id : ℕ) × (reached ≡ Some id) × (id ≢ next)

@@ -8,7 +8,7 @@ use Rattle.dw_links.specs.declared.texts.TextPlace.{TextPlace}
 use Rattle.dw_links.specs.declared.texts.TextPlace.TheVariants.{Info, Str, LineStr}
 use Rattle.dw_links.specs.Contributions.{slot_at}
 
--- the slot of an index lies within .debug_str_offsets, and the string that it leads to within .debug_str
+-- the slot of an index is within .debug_str_offsets, and the string whose offset is there within .debug_str
 pub record IsTextSlot (sections : Sections) (index base : ℕ) : Type 0 where
   pub within : base + 4 * index + 4 ≤ length sections.str_offsets.now
   pub leads : slot_at sections.str_offsets.now 4 base index ≤ length sections.str.now

@@ -9,7 +9,7 @@ use Rattle.dw_links.specs.Bases.{bases_in}
 use Rattle.dw_links.specs.SignedTypes.{HasSignedTypes}
 use Rattle.dw_links.specs.Targets.{target_of}
 
--- the entry that an entry's type reaches
+-- the target of an entry's type
 abbrev pub type_target : List Entry → List PlacedUnit → Entry → Option ℕ
 type_target entries units e = target_of entries units e DW_AT_type
 

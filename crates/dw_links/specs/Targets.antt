@@ -1,4 +1,4 @@
--- Chapter: the entry that a reference reaches, and the target of an attribute (DWARF 5, 2.3 and 7.5.5).
+-- Chapter: the target of a reference and of an attribute (DWARF 5, 2.3 and 7.5.5).
 use Rattle.std.specs.Prelude.{ℕ, ◌+◌, ◌&&◌, ◌==◌, List, Option, None, slice_get, option_and_then}
 use Rattle.std.specs.List.{position_from}
 use Rattle.dw_forms.specs.Value.{Datum, ref_info, ref_unit, ref_sig}
@@ -29,14 +29,14 @@ type_of_unit entries units unit =
 abbrev pub signed_type : List Entry → List PlacedUnit → (signature : ℕ) → Option ℕ
 signed_type entries units signature = option_and_then (type_of_unit entries units) (first_signed units signature)
 
--- the number of the entry that a value in a unit reaches; None if it is no reference or no entry is there
+-- the number of the entry that a value in a unit refers to; None if it is no reference or no entry is there
 abbrev pub reach_of : List Entry → List PlacedUnit → (unit : ℕ) → Datum → Option ℕ
 reach_of entries units unit (ref_info offset) = entry_at entries offset
 reach_of entries units unit (ref_unit offset) = reach_in_unit entries units unit offset
 reach_of entries units unit (ref_sig signature) = signed_type entries units signature
 reach_of entries units unit _ = None
 
--- the number of the entry that an attribute of an entry reaches; None where the attribute is absent or no reference
+-- the number of the entry that an attribute of an entry refers to; None if the attribute is absent or no reference
 unfoldable pub target_of : List Entry → List PlacedUnit → Entry → (attribute : ℕ) → Option ℕ
 target_of entries units e attribute =
     option_and_then (reach_of entries units e.unit) (value_at_entry e attribute)

@@ -7,7 +7,7 @@ use Rattle.dw_links.specs.declared.texts.TextPlace.{TextPlace}
 use Rattle.dw_links.specs.declared.texts.TextPlace.TheVariants.{Info, Str, LineStr}
 use Rattle.dw_links.specs.Contributions.{slot_at, string_at}
 
--- the text of an indexed string: the one that its slot leads to
+-- the text of an indexed string: the one whose offset is in its slot
 abbrev pub indexed_text : Sections → (base : Option ℕ) → ℕ → Option (List ℕ)
 indexed_text sections None index = None
 indexed_text sections (Some base) index =

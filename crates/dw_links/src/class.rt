@@ -16,7 +16,7 @@ use dw_entries::{Broken, Choice, Entries, EntryHead, EntryId, Fault, Rule, Secti
 use dw_forms::{Attribute, AttributeSpec, Form, Value};
 use std::alloc::Global;
 
-/// A class of values (DWARF 5, section 7.5.5). Values that lead into other sections are told apart by their forms
+/// A class of values (DWARF 5, section 7.5.5). Values that refer to other sections are distinguished by their forms
 /// alone.
 #[derive(Clone, Copy, Debug, PartialEq, Eq)]
 pub enum Class {

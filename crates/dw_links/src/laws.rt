@@ -1,4 +1,4 @@
-//! What holds of the values of entries where no rule fails.
+//! What is true of the values of entries if no rule fails.
 
 ghost use Rattle.std.specs.Prelude.{ℕ, ◌≡◌, ◌↔◌, List, Some};
 ghost use Rattle.dw_elf.specs.declared.sections.Sections.{Sections};
@@ -13,7 +13,7 @@ ghost use Rattle.dw_links.specs.Strings.{StringFailures};
 ghost use Rattle.dw_links.specs.Targets.{reach_of};
 ghost use Rattle.dw_links.specs.LinkLaws.{ReachesBySignature, HaveTargets, HaveTypes, HaveTexts, HaveAddresses};
 
-/// The entry that a reference reaches, by its form: the one entry that begins at an offset of .debug_info; that begins
+/// The target of a reference, by its form: the one entry that begins at an offset of .debug_info; that begins
 /// at an offset from the header of the value's unit; or at the type offset of the one type unit with a signature.
 pub fn one_entry_is_reached()
     ensures info { («abbrev» info : List ℕ) (units : List DebugUnit) → Spells «abbrev» units info
@@ -28,7 +28,7 @@ pub fn one_entry_is_reached()
         ↔ ReachesBySignature (entries_of units) (placed units) signature id }
 {}
 
-/// Where no rule on references fails, each reference has a target, and each type unit a type and a signature of its
+/// If no rule on references fails, each reference has a target, and each type unit a type and a signature of its
 /// own.
 pub fn references_have_targets()
     ensures targets { («abbrev» info : List ℕ) (units : List DebugUnit) → Spells «abbrev» units info
@@ -37,7 +37,7 @@ pub fn references_have_targets()
         → HasNone (ReferenceFailures units) → HaveTypes units }
 {}
 
-/// Where no rule on strings and addresses fails, each string has a text, and each address is one.
+/// If no rule on strings and addresses fails, each string has a text, and each address is one.
 pub fn strings_have_texts()
     ensures texts { (s : Sections) (units : List DebugUnit) → Spells s.«abbrev».now units s.info.now
         → HasNone (StringFailures s units) → HaveTexts s units }

@@ -1,4 +1,4 @@
-//! What the values of attributes lead to: strings, addresses and other entries.
+//! What the values of attributes refer to: strings, addresses and other entries.
 #![tactic(auto)]
 
 mod class;

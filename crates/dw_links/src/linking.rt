@@ -1,5 +1,5 @@
-//! The rules on strings, addresses and references, checked in one pass over the values of all entries, and the entries
-//! that their types reach.
+//! The rules on strings, addresses and references, checked in one pass over the values of all entries, and the targets
+//! of their types.
 
 ghost use Rattle.std.specs.Prelude.{ℕ, ◌≡◌, ◌<◌, length, map, None, Some, IfSome, IsSome, OnOk, IfOk, IfErr};
 ghost use Rattle.dw_forms.specs.Value.{view};
@@ -53,7 +53,7 @@ fn number_of(entries: &Entries<'_>, id: &Option<EntryId>) -> OptionalId
     }
 }
 
-/// What is kept of an entry's type after one attribute more: what the first type reaches.
+/// What is kept of an entry's type after one attribute more: the target of the first type.
 #[inline(always)]
 fn keep(kept: Option<OptionalId>, attribute: Attribute, reached: OptionalId) -> Option<OptionalId>
     ensures { result ≡ kept_after kept attribute reached }
@@ -66,7 +66,7 @@ fn keep(kept: Option<OptionalId>, attribute: Attribute, reached: OptionalId) -> 
 }
 
 impl References<'_, '_, '_> {
-    /// The entry that a value reaches, or the rule on references that fails there.
+    /// The target of a value, or the rule on references that fails there.
     #[inline(always)]
     fn link_value(
         &self,
@@ -78,7 +78,8 @@ impl References<'_, '_, '_> {
         requires may { MayAsk self.now head.now }
         requires kept { KeepsDeclared (entries_in self.now) declared.old }
         ensures kept { KeepsDeclared (entries_in self.now) declared.new }
-        ensures ok { OnOk result (IsLeast (FailsByTarget (entries_in self.now) head.now attribute (view value.now)) None) }
+        ensures ok { OnOk result
+            (IsLeast (FailsByTarget (entries_in self.now) head.now attribute (view value.now)) None) }
         ensures reached { IfOk result (λ target. target ≡ target_by (entries_in self.now) head.now (view value.now)) }
         ensures err { IfErr result
             (λ rule. IsLeast (FailsByTarget (entries_in self.now) head.now attribute (view value.now)) (Some rule)) }
@@ -91,7 +92,7 @@ impl References<'_, '_, '_> {
         }
     }
 
-    /// The next attribute, whose form is this one, and the entry that it reaches, or the rule that fails there.
+    /// The next attribute, whose form is this one, and its target, or the rule that fails there.
     #[inline(always)]
     fn link_in(
         &self,
@@ -104,7 +105,8 @@ impl References<'_, '_, '_> {
         requires kept { KeepsDeclared (entries_in self.now) declared.old }
         requires form { next_form leading.old ≡ Some form }
         ensures kept { KeepsDeclared (entries_in self.now) declared.new }
-        ensures ok { IfOk result (LinksNext (entries_in self.now) head.now (leading_left leading.old) (leading_left leading.new)) }
+        ensures ok { IfOk result
+            (LinksNext (entries_in self.now) head.now (leading_left leading.old) (leading_left leading.new)) }
         ensures err { IfErr result (HasFailedNext (entries_in self.now) head.now (leading_left leading.old)) }
     {
         let (attribute, value) = leading.next_in(form);
@@ -130,7 +132,8 @@ impl References<'_, '_, '_> {
         requires kept { KeepsDeclared (entries_in self.now) declared.old }
         requires form { next_form leading.old ≡ Some form }
         ensures kept { KeepsDeclared (entries_in self.now) declared.new }
-        ensures ok { IfOk result (LinksNext (entries_in self.now) head.now (leading_left leading.old) (leading_left leading.new)) }
+        ensures ok { IfOk result
+            (LinksNext (entries_in self.now) head.now (leading_left leading.old) (leading_left leading.new)) }
         ensures err { IfErr result (HasFailedNext (entries_in self.now) head.now (leading_left leading.old)) }
     {
         match form {
@@ -140,7 +143,7 @@ impl References<'_, '_, '_> {
         }
     }
 
-    /// The entry that an entry's type reaches, or the first failure at the entry. Each value is decoded once.
+    /// The target of an entry's type, or the first failure at the entry. Each value is decoded once.
     #[inline(always)]
     fn link_entry(
         &self,
@@ -151,8 +154,10 @@ impl References<'_, '_, '_> {
         requires may { (e : Entry) → entry.now ≡ Some e → MayAsk self.now (entry_head e) }
         requires kept { KeepsDeclared (entries_in self.now) declared.old }
         ensures kept { KeepsDeclared (entries_in self.now) declared.new }
-        ensures ok { IfOk result (λ target. (e : Entry) → entry.now ≡ Some e → IsLinked (entries_in self.now) e target) }
-        ensures err { IfErr result (λ failed. (e : Entry) → entry.now ≡ Some e → HasFailed (entries_in self.now) e failed) }
+        ensures ok { IfOk result
+            (λ target. (e : Entry) → entry.now ≡ Some e → IsLinked (entries_in self.now) e target) }
+        ensures err { IfErr result
+            (λ failed. (e : Entry) → entry.now ≡ Some e → HasFailed (entries_in self.now) e failed) }
     {
         let head = entry.head();
         let mut leading = entry.leading();
@@ -194,8 +199,8 @@ fn stop_of(alloc: Global, entries: &Entries<'_>, failed: Failed) -> Stop<Fault>
     }
 }
 
-/// The entries that the types of all entries reach, in their order, or the first failure at a string or an address, or
-/// if there is none, at a reference.
+/// The targets of the types of all entries, in their order, or the first failure at a string or an address, or if there
+/// is none, at a reference.
 pub(crate) fn link_entries<'t>(
     alloc: Global,
     entries: &Entries<'_>,

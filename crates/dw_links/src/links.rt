@@ -1,5 +1,5 @@
-//! Entries whose references all reach an entry, what is read once of all units to follow them, and what the attributes
-//! of entries lead to.
+//! Entries whose references all have a target, what is read once of all units to find it, and what the attributes of
+//! entries refer to.
 
 ghost use Rattle.std.specs.Prelude.{◌≡◌, ◌<◌, length, map, slice_get, IfSome, IfOk, option_copied, OnOk, IfErr};
 ghost use Rattle.dw_entries.specs.Scanned.{all_entries, all_units, units_of};
@@ -27,7 +27,7 @@ use std::alloc::{AllocError, Global};
 use std::collections::BTreeMap;
 
 /// What is read once, so that values can be followed: the type of each signature, the bases of each unit, and
-/// the entry that the type of each entry reaches.
+/// the target of each entry's type.
 #[derive(Drop)]
 pub struct LinkTables {
     pub(crate) signatures: BTreeMap<u64, EntryId>,
@@ -49,7 +49,7 @@ pub(crate) fn read_bases(alloc: Global, entries: &Entries<'_>) -> Result<Vec<Uni
 }
 
 impl LinkTables {
-    /// The entry that an entry's type reaches.
+    /// The target of an entry's type.
     fn type_of(&self, entries: &Entries<'_>, id: EntryId) -> Option<EntryId>
         requires id { id < length (all_entries entries.now.scanned) }
         requires tables { AreTables entries.now self.now }
@@ -63,7 +63,7 @@ impl LinkTables {
         }
     }
 
-    /// The entry that an entry's attribute reaches. None where the attribute is absent or no reference.
+    /// The target of an entry's attribute. None if the attribute is absent or no reference.
     pub fn target(
         &self,
         entries: &Entries<'_>,
@@ -83,7 +83,7 @@ impl LinkTables {
     }
 }
 
-/// Entries whose values all lead somewhere. Only `link` makes one.
+/// Entries at whose values no rule fails. Only `link` makes one.
 #[derive(Drop)]
 pub struct Links<'r, 'a> {
     pub entries: &'r Entries<'a>,
@@ -94,7 +94,7 @@ pub struct Links<'r, 'a> {
     pub ghost references: { HasNone (ReferenceFailures (units_of entries.now.scanned)) },
 }
 
-/// Links entries, or finds the first value whose class is wrong; else the first string or address that leads nowhere;
+/// Links entries, or finds the first value whose class is wrong; else the first string or address that is not there;
 /// else the first header of a type unit whose signature or type offset is wrong, or if there is none, the first
 /// reference (DWARF 5, sections 2.3, 7.5.5, 7.26 and 7.27). Runs out of memory if a table cannot grow.
 pub fn link<'r, 'a>(alloc: Global, entries: &'r Entries<'a>) -> Result<Links<'r, 'a>, Stop<Fault>>
@@ -120,7 +120,7 @@ pub fn link<'r, 'a>(alloc: Global, entries: &'r Entries<'a>) -> Result<Links<'r,
 }
 
 impl<'a> Links<'_, 'a> {
-    /// The entry that an entry's attribute reaches. None where the attribute is absent or no reference.
+    /// The target of an entry's attribute. None if the attribute is absent or no reference.
     pub fn target(&self, id: EntryId, attribute: Attribute) -> Option<EntryId>
         requires { id < length (all_entries self.now.entries.now.scanned) }
         ensures exact { IfSome (slice_get (all_entries self.now.entries.now.scanned) id)
@@ -131,7 +131,7 @@ impl<'a> Links<'_, 'a> {
         self.tables.target(self.entries, id, attribute)
     }
 
-    /// The text of an entry's attribute. None where the attribute is absent or no string.
+    /// The text of an entry's attribute. None if the attribute is absent or no string.
     pub fn text(&self, id: EntryId, attribute: Attribute) -> Option<&'a [u8]>
         requires { id < length (all_entries self.now.entries.now.scanned) }
         ensures { IfSome (slice_get (all_entries self.now.entries.now.scanned) id)
@@ -142,7 +142,7 @@ impl<'a> Links<'_, 'a> {
         self.tables.text(self.entries, id, attribute)
     }
 
-    /// The address of an entry's attribute. None where the attribute is absent or no address.
+    /// The address of an entry's attribute. None if the attribute is absent or no address.
     pub fn address(&self, id: EntryId, attribute: Attribute) -> Option<u64>
         requires { id < length (all_entries self.now.entries.now.scanned) }
         ensures { IfSome (slice_get (all_entries self.now.entries.now.scanned) id)

@@ -12,7 +12,7 @@ ghost use Rattle.dw_entries.specs.Entries.{PlacedUnit};
 ghost use Rattle.dw_entries.specs.Scanned.{all_entries, all_units, units_of};
 ghost use Rattle.dw_entries.specs.Runs.{ReachesInUnit};
 ghost use Rattle.dw_entries.specs.Stopped.{IfPlainFault};
-ghost use Rattle.dw_links.specs.Signatures.{type_in, HasSignature};
+ghost use Rattle.dw_links.specs.Signatures.{HasSignature};
 ghost use Rattle.dw_links.specs.SignedTypes.{AreSignedBelow, HasSignedTypes, AreTyped};
 
 use crate::strings::UnitTexts;
@@ -27,19 +27,6 @@ use dw_entries::{
 use dw_forms::{Attribute, Value};
 use std::alloc::Global;
 use std::collections::BTreeMap;
-
-/// The signature and the type offset in the header of a type unit.
-fn type_in_header(kind: HeaderKind) -> Option<(u64, u32)>
-    ensures { result ≡ type_in kind }
-{
-    match kind {
-        HeaderKind::TypeUnit {
-            signature,
-            type_offset,
-        } => Some((signature, type_offset)),
-        _ => None,
-    }
-}
 
 /// The type that begins so far after the first byte of a unit's header.
 fn find_type(entries: &Entries<'_>, number: usize, type_offset: u32) -> Option<EntryId>
@@ -109,7 +96,11 @@ fn add_type(
         → IsFirst (AtHeader (all_entries entries.now.scanned) (all_units entries.now.scanned) number p) broken)) }
 {
     let unit = entries.unit(number);
-    let Some((signature, type_offset)) = type_in_header(unit.header.kind) else {
+    let HeaderKind::TypeUnit {
+        signature,
+        type_offset,
+    } = unit.header.kind
+    else {
         return Ok(());
     };
     match check_type(entries, signatures, number, signature, type_offset) {
@@ -213,7 +204,7 @@ impl References<'_, '_, '_> {
         }
     }
 
-    /// The rule at a reference that reaches no entry.
+    /// The rule at a reference that has no target.
     #[tactic(auto, using(crate::proofs::Asked::no_signature))]
     fn ask_unreached(
         &self,
@@ -235,7 +226,7 @@ impl References<'_, '_, '_> {
         Some(Rule::NoSignature)
     }
 
-    /// The rule at a reference that reaches an entry.
+    /// The rule at a reference that has a target.
     #[inline(always)]
     fn ask_reached(
         &self,
@@ -267,7 +258,7 @@ impl References<'_, '_, '_> {
         Some(Rule::NotNextSibling)
     }
 
-    /// The rule at an attribute whose value reaches this entry, or none.
+    /// The rule at an attribute, if this is the target of its value.
     #[inline(always)]
     pub fn ask(
         &self,

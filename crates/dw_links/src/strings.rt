@@ -165,7 +165,7 @@ pub fn read_texts<'a>(
     }
 }
 
-/// Keeps what was read of a unit, or reads it of another where that is the next.
+/// Keeps what was read of a unit, or reads it of the next, if that is another.
 pub fn keep_texts<'a>(texts: &mut UnitTexts<'a>, entries: &Entries<'a>, next: usize)
     requires next { next < length (units_of entries.now.scanned) }
     requires texts { AreTexts entries.now texts.old }
@@ -196,9 +196,9 @@ fn check_entry(texts: &UnitTexts<'_>, entry: &EntryAt<'_, '_>) -> Result<(), Bro
     Ok(())
 }
 
-/// Finds the first base, index or offset of a string or address that leads nowhere: one of the faults `BadStrBase`,
-/// `StrIndex`, `StringEnd`, `BadAddrBase` and `AddrIndex` at the entry's offset. It allocates nothing, so it
-/// does not run out of memory.
+/// Finds the first base, index or offset at which there is no contribution, string or address: one of the faults
+/// `BadStrBase`, `StrIndex`, `StringEnd`, `BadAddrBase` and `AddrIndex` at the entry's offset. It allocates nothing, so
+/// it does not run out of memory.
 pub fn check_strings(alloc: Global, entries: &Entries<'_>) -> Result<(), Fault>
     ensures ok { OnOk result (HasNone (StringFailures (sections_of entries.now) (units_of entries.now.scanned))) }
     ensures fault { IfErr result

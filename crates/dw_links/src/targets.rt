@@ -1,5 +1,5 @@
-//! The targets of references (DWARF 5, sections 2.3 and 7.5.5): the entry that a value reaches, and which entries an
-//! attribute may reach.
+//! The targets of references (DWARF 5, sections 2.3 and 7.5.5): the entry that a value refers to, and which entries an
+//! attribute may refer to.
 
 ghost use Rattle.std.specs.Prelude.{◌≡◌, ◌<◌, length, replicate, slice_get, IfSome, IfOk, Some};
 ghost use Rattle.dw_forms.specs.Value.{view};
@@ -9,21 +9,13 @@ ghost use Rattle.dw_links.specs.References.{is_declared, is_signed, is_signature
 ghost use Rattle.dw_links.specs.References.{permits_form};
 ghost use Rattle.dw_links.specs.DeclaredEntries.{KeepsDeclared};
 ghost use Rattle.dw_links.specs.SignedTypes.{HasSignedTypes};
-ghost use Rattle.dw_links.specs.Targets.{entry_at, reach_in_unit, signed_type, reach_of, target_of};
+ghost use Rattle.dw_links.specs.Targets.{reach_in_unit, signed_type, reach_of, target_of};
 
 use dw_entries::constants::*;
 use dw_entries::{Cursor, Entries, EntryAt, EntryHead, EntryId};
 use dw_forms::{Attribute, Value};
 use std::alloc::{AllocError, Global};
 use std::collections::BTreeMap;
-
-/// The entry that begins at an offset of .debug_info.
-#[inline(always)]
-fn entry_from_start(entries: &Entries<'_>, offset: u32) -> Option<EntryId>
-    ensures { result ≡ entry_at (all_entries entries.now.scanned) offset }
-{
-    entries.find(offset)
-}
 
 /// The entry that begins so far after the first byte of a unit's header.
 #[inline(always)]
@@ -49,7 +41,7 @@ fn type_by_signature(
     }
 }
 
-/// The entry that a value in a unit reaches.
+/// The target of a value in a unit.
 #[inline(always)]
 pub fn reach(
     entries: &Entries<'_>,
@@ -63,14 +55,14 @@ pub fn reach(
         (view value.now) }
 {
     match *value {
-        Value::RefInfo(offset) => entry_from_start(entries, offset),
+        Value::RefInfo(offset) => entries.find(offset),
         Value::RefUnit(offset) => entry_from_header(entries, unit, offset),
         Value::RefSig(signature) => type_by_signature(entries, signatures, signature),
         _ => None,
     }
 }
 
-/// Searches the entry that an entry's attribute reaches.
+/// Finds the target of an entry's attribute.
 pub(crate) fn find_target(
     entries: &Entries<'_>,
     signatures: &BTreeMap<u64, EntryId>,
@@ -186,8 +178,8 @@ fn entry_at<'e, 'a>(cursor: &Cursor<'e, 'a>, id: EntryId) -> EntryAt<'e, 'a>
     }
 }
 
-/// Whether an attribute of an entry may reach a target. This project's choice: the type, the specification, the
-/// signature and the import of a unit have targets of their kinds, and other attributes may reach any entry.
+/// Whether an attribute of an entry may have a target. This project's choice: the type, the specification, the
+/// signature and the import of a unit have targets of their kinds, and other attributes may refer to any entry.
 #[inline(always)]
 pub fn is_permitted(
     cursor: &Cursor<'_, '_>,

@@ -70,7 +70,7 @@ fn slot(section: &[u8], size: u8, base: u32, index: u64) -> u64
     number(section, base as usize + size * index as usize, size)
 }
 
-/// Where the string is that the slot of an index leads to, if there is a base.
+/// Where the string is whose offset is in the slot of an index, if there is a base.
 pub(crate) fn place_in_slot(
     sections: &Sections<'_>,
     base: Option<u32>,
@@ -162,7 +162,7 @@ impl LinkTables {
         self.bases[entries.unit_of(id)]
     }
 
-    /// Where the text of an entry's attribute is. None where the attribute is absent or no string.
+    /// Where the text of an entry's attribute is. None if the attribute is absent or no string.
     pub fn text_place(
         &self,
         entries: &Entries<'_>,
@@ -187,7 +187,7 @@ impl LinkTables {
         }
     }
 
-    /// The text of an entry's attribute. None where the attribute is absent or no string.
+    /// The text of an entry's attribute. None if the attribute is absent or no string.
     pub fn text<'a>(
         &self,
         entries: &Entries<'a>,
@@ -208,7 +208,7 @@ impl LinkTables {
         }
     }
 
-    /// The address of an entry's attribute. None where the attribute is absent or no address.
+    /// The address of an entry's attribute. None if the attribute is absent or no address.
     pub fn address(&self, entries: &Entries<'_>, id: EntryId, attribute: Attribute) -> Option<u64>
         requires id { id < length (all_entries entries.now.scanned) }
         requires tables { AreTables entries.now self.now }

@@ -9,7 +9,7 @@ use Rattle.dw_entries.proofs.EntryFacts.{entries_rise}
 use Rattle.dw_links.specs.References.{AtHeader}
 use Rattle.dw_links.specs.Signatures.{type_in}
 use Rattle.dw_links.proofs.ClassLaws.{unit_there}
-use Rattle.dw_links.proofs.HeaderLaws.{header_fails, header_passes, other_unit, new_signature}
+use Rattle.dw_links.proofs.HeaderLaws.{no_type, header_fails, header_passes, other_unit, new_signature}
 use Rattle.dw_links.proofs.TargetLaws.{type_of_unit_is, reach_in_unit_is}
 use Rattle.dw_links.proofs.references.add_type.Goals as goal
 
@@ -17,30 +17,30 @@ pub returns-in_default-clause-added : goal.returns-in_default-clause-added
 returns-in_default-clause-added c =
     let us = units_of c.args.entries.now.scanned in
     let (p, is, told) = unit_there us c.args.number c.unit-unit.result c.requires.within c.unit-unit.ensures in
-    other_unit (entries_of us) (placed us) c.args.number p c.args.signatures.now is (sym (ap (λ (x : UnitHead). type_in x.header.kind) told) ∙ sym c.in_default.ensures) c.requires.before
+    other_unit (entries_of us) (placed us) c.args.number p c.args.signatures.now is (sym (ap (λ (x : UnitHead). type_in x.header.kind) told) ∙ no_type _ c.in_default.not-TypeUnit) c.requires.before
 
 pub check_type-requires-clause-has : goal.check_type-requires-clause-has
 check_type-requires-clause-has c =
     let us = units_of c.args.entries.now.scanned in
     let (p, is, told) = unit_there us c.args.number c.unit-unit.result c.requires.within c.unit-unit.ensures in
-    record { unit = p; is_unit = is; type_offset = c.in-Some.type_offset; signed = sym (ap (λ (x : UnitHead). type_in x.header.kind) told) ∙ sym c.in-Some.ensures }
+    record { unit = p; is_unit = is; type_offset = c.in-TypeUnit.type_offset; signed = sym (ap (λ (x : UnitHead). type_in x.header.kind) told) ∙ ap type_in c.in-TypeUnit.is }
 
 pub returns-in_ok-insert-in-Ok-clause-added : goal.returns-in_ok-insert-in-Ok-clause-added
 returns-in_ok-insert-in-Ok-clause-added c =
     let us = units_of c.args.entries.now.scanned in
     let (p, is, told) = unit_there us c.args.number c.unit-unit.result c.requires.within c.unit-unit.ensures in
-    let kind = sym (ap (λ (x : UnitHead). type_in x.header.kind) told) ∙ sym c.in-Some.ensures in
-    new_signature (entries_of us) (placed us) c.args.number c.in-Some.signature c.in-Some.type_offset c.in-Ok.id p c.args.signatures.now c.insert.new.self is kind (λ before. c.in-Ok.ensures.ok p is SignatureTwice (inl (refl, before))) c.in_ok-insert-in-Ok.ensures.updates.0
-    (type_of_unit_is (entries_of us) (placed us) c.args.number c.in-Some.signature c.in-Some.type_offset p _ is kind
-    (reach_in_unit_is (entries_of us) (placed us) c.args.number c.in-Some.type_offset c.in-Ok.id (entries_rise _ us c.args.entries.now.scanned.1.spells.are) c.in-Ok.ensures.found))
+    let kind = sym (ap (λ (x : UnitHead). type_in x.header.kind) told) ∙ ap type_in c.in-TypeUnit.is in
+    new_signature (entries_of us) (placed us) c.args.number c.in-TypeUnit.signature c.in-TypeUnit.type_offset c.in-Ok.id p c.args.signatures.now c.insert.new.self is kind (λ before. c.in-Ok.ensures.ok p is SignatureTwice (inl (refl, before))) c.in_ok-insert-in-Ok.ensures.updates.0
+    (type_of_unit_is (entries_of us) (placed us) c.args.number c.in-TypeUnit.signature c.in-TypeUnit.type_offset p _ is kind
+    (reach_in_unit_is (entries_of us) (placed us) c.args.number c.in-TypeUnit.type_offset c.in-Ok.id (entries_rise _ us c.args.entries.now.scanned.1.spells.are) c.in-Ok.ensures.found))
     c.requires.before
 
 pub returns-in_ok-insert-in-Ok-clause-ok : goal.returns-in_ok-insert-in-Ok-clause-ok
 returns-in_ok-insert-in-Ok-clause-ok c = λ p is.
     let us = units_of c.args.entries.now.scanned in
     let told : c.unit-unit.result ≡ unit_head p = rw is at c.unit-unit.ensures in
-    header_passes (entries_of us) (placed us) c.args.number p.at c.in-Some.signature c.in-Some.type_offset (type_in p.unit.header.kind)
-    (sym (ap (λ (x : UnitHead). type_in x.header.kind) told) ∙ sym c.in-Some.ensures) (c.in-Ok.ensures.ok p is)
+    header_passes (entries_of us) (placed us) c.args.number p.at c.in-TypeUnit.signature c.in-TypeUnit.type_offset (type_in p.unit.header.kind)
+    (sym (ap (λ (x : UnitHead). type_in x.header.kind) told) ∙ ap type_in c.in-TypeUnit.is) (c.in-Ok.ensures.ok p is)
 
 pub returns-in-Err-clause-fault : goal.returns-in-Err-clause-fault
 returns-in-Err-clause-fault c = record {
@@ -48,8 +48,8 @@ returns-in-Err-clause-fault c = record {
       let us = units_of c.args.entries.now.scanned in
       let told : c.unit-unit.result ≡ unit_head p = rw is at c.unit-unit.ensures in
       subst (IsFirst (AtHeader (entries_of us) (placed us) c.args.number p)) (sym c.into_fault.ensures.holds)
-      (header_fails (entries_of us) (placed us) c.args.number p.at c.in-Some.signature c.in-Some.type_offset (type_in p.unit.header.kind) c.in-Err.rule _
-      (sym (ap (λ (x : UnitHead). type_in x.header.kind) told) ∙ sym c.in-Some.ensures) (c.in-Err.ensures.err p is)
+      (header_fails (entries_of us) (placed us) c.args.number p.at c.in-TypeUnit.signature c.in-TypeUnit.type_offset (type_in p.unit.header.kind) c.in-Err.rule _
+      (sym (ap (λ (x : UnitHead). type_in x.header.kind) told) ∙ ap type_in c.in-TypeUnit.is) (c.in-Err.ensures.err p is)
       (record { rule = refl; section = refl; at = ap (λ (x : UnitHead). x.offset) told; attribute = refl }));
   cycle = c.into_fault.ensures.cycle;
 }

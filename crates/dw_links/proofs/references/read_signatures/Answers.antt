@@ -2,18 +2,20 @@ use Rattle.std.proofs.Common.{ℕ, arith, ◌≡◌, length, subst}
 use Rattle.std.proofs.lemmas.Result.{err_from_is_err_and}
 use Rattle.dw_entries.specs.Entries.{entries_of, placed}
 use Rattle.dw_entries.specs.Scanned.{units_of}
+use Rattle.dw_entries.proofs.Firsts.{more_of_list, none_of_list}
+use Rattle.dw_links.specs.References.{AtHeader}
 use Rattle.dw_entries.proofs.EntryFacts.{length-placed_from}
 use Rattle.dw_links.specs.SignedTypes.{AreSignedBelow}
 use Rattle.dw_links.proofs.Skips.{there}
 use Rattle.dw_links.proofs.Transfers.{if_fault}
 use Rattle.dw_links.proofs.TargetLaws.{signed_type_is, signed_some}
-use Rattle.dw_links.proofs.HeaderLaws.{first_header, more_headers, headers_none, placed_rise}
+use Rattle.dw_links.proofs.HeaderLaws.{first_header, placed_rise}
 use Rattle.dw_links.proofs.references.read_signatures.Goals as goal
 
 pub returns-clause-ok : goal.returns-clause-ok
 returns-clause-ok c =
     let us = units_of c.args.entries.now.scanned in
-    headers_none (entries_of us) (placed us) (λ j u below. c.loop-number.invariant.none j u (omega (arith, below, c.loop-number-test.false, c.unit_count-number-end.ensures, length-placed_from 0 0 us)))
+    none_of_list (placed us) (AtHeader (entries_of us) (placed us)) (λ j u below. c.loop-number.invariant.none j u (omega (arith, below, c.loop-number-test.false, c.unit_count-number-end.ensures, length-placed_from 0 0 us)))
 
 pub returns-clause-types : goal.returns-clause-types
 returns-clause-types c = λ s.
@@ -39,6 +41,6 @@ loop-number-preserved c =
     let us = units_of c.args.entries.now.scanned in
     let (u, is) = there (placed us) c.loop-number.number (omega (arith, c.loop-number-test.true, c.unit_count-number-end.ensures, length-placed_from 0 0 us)) in
     record {
-      none = more_headers (entries_of us) (placed us) c.loop-number.number u is c.loop-number.invariant.none (c.in_ok-add_type.ensures.ok u is);
+      none = more_of_list (placed us) (AtHeader (entries_of us) (placed us)) c.loop-number.number u is c.loop-number.invariant.none (c.in_ok-add_type.ensures.ok u is);
       types = c.in_ok-add_type.ensures.added;
     }

@@ -1,9 +1,7 @@
-use Rattle.std.proofs.Common.{rules}
-use Rattle.std.proofs.Common.{◌≡◌, ap, ◌∙◌}
+use Rattle.std.proofs.Common.{rules, ap, ◌∙◌}
 use Rattle.std.specs.Option.{unwrap_or}
 use Rattle.std.proofs.lemmas.Result.{err_from_is_err_and}
 use Rattle.dw_entries.specs.Leading.{leading_left}
-use Rattle.dw_entries.specs.Lookups.{entry_head}
 use Rattle.dw_links.specs.Linkable.{entries_in}
 use Rattle.dw_links.proofs.LinkSteps.{none_so_far, more_so_far, fails_so_far, linked_at_end}
 use Rattle.dw_links.proofs.RuleSteps.{fewer}

@@ -1,8 +1,4 @@
 use Rattle.std.proofs.Common.{rules}
-use Rattle.std.proofs.Common.{None, Some}
-use Rattle.dw_forms.specs.Value.{view}
-use Rattle.dw_entries.specs.Leading.{leading_left}
-use Rattle.dw_links.specs.Linkable.{entries_in}
 use Rattle.dw_links.proofs.Transfers.{least_by_texts}
 use Rattle.dw_links.proofs.references.References.link_in.Goals as goal
 

@@ -1,6 +1,4 @@
 use Rattle.std.proofs.Common.{rules}
-use Rattle.dw_forms.specs.Value.{view}
-use Rattle.dw_entries.specs.Scanned.{all_entries, all_units}
 use Rattle.dw_links.proofs.TargetLaws.{reach_within}
 use Rattle.dw_links.proofs.references.References.link_value.Goals as goal
 
