@@ -42,20 +42,11 @@ if_fault so (Fault fault) p = record { holds = so (broken_of fault) p.holds; cyc
 
 -- the rules by what was read of a unit are the rules on strings and addresses, at the unit's entries
 module _ (entries : Entries) (texts : UnitTexts) (head : EntryHead) (read : AreTexts entries texts) (same : head.unit ≡ texts.unit) (a : ℕ) (v : Datum) where
-  header : texts.head.header ≡ read.place.unit.header
-  header = ap (λ (h : UnitHead). h.header) read.head
-
-  strings : texts.bases.strings ≡ base_in (all_entries entries.scanned) read.place DW_AT_str_offsets_base
-  strings = ap (λ (b : UnitBases). b.strings) read.bases
-
-  addresses : texts.bases.addresses ≡ base_in (all_entries entries.scanned) read.place DW_AT_addr_base
-  addresses = ap (λ (b : UnitBases). b.addresses) read.bases
-
   over : (r : Rule) → FailsByTexts texts head a v r → FailsByText entries head a v r
-  over r fails = search (rules, strings, addresses, header)
+  over r fails = search (rules)
 
   back : (r : Rule) → FailsByText entries head a v r → FailsByTexts texts head a v r
-  back r fails = search (rules, same_some, header, strings, addresses)
+  back r fails = search (rules, same_some)
 
   pub least_by_texts : (o : Option Rule) → IsLeast (FailsByTexts texts head a v) o → IsLeast (FailsByText entries head a v) o
   least_by_texts None least = λ r fails. least r (back r fails)
