@@ -15,10 +15,9 @@ use Rattle.dw_entries.specs.Failures.{Failure, HasNone}
 use Rattle.dw_entries.proofs.EntryFacts.{entries_rise}
 use Rattle.dw_links.specs.Strings.{OffsetFails, StringIndexFails, AddressIndexFails, BaseFails, StringFailsIn}
 use Rattle.dw_links.specs.References.{ReferenceFailsBy, HeaderFails}
-use Rattle.dw_types.specs.declared.kind.Role.{Role}
 use Rattle.dw_types.specs.Entries.{entry_of, Facts}
 use Rattle.dw_types.specs.FactsOf.{facts_in}
-use Rattle.dw_types.specs.Kinds.{parent_role}
+use Rattle.dw_types.specs.Kinds.{parent_role, Role}
 use Rattle.dw_types.specs.Shapes.{breaks_shape}
 use Rattle.dw_types.specs.SizeTables.{Size}
 use Rattle.dw_types.specs.SizeFaults.{breaks_size}

@@ -1,6 +1,7 @@
 -- An entry's children are the entry behind it, if that is a child, and the next siblings from there on.
+use Rattle.std.proofs.Common.{rules}
 use Rattle.std.proofs.Common.{◌≡◌, ℕ, zero, suc, ◌+◌, ◌<◌, ◌≤◌, ◌==◌, Bool, true, false, if◌then◌else◌, List, [], ◌∷◌, ◌++◌, length, drop, Option, Some, None, IfSome, refl, sym, ap, subst, ◌∙◌, arith, append_assoc, ne_eqb, eq-eqb}
-use Rattle.std.specs.Prelude.{slice_get, option_map}
+use Rattle.std.specs.Prelude.{slice_get}
 use Rattle.std.proofs.lemmas.List.{drop-drop}
 use Rattle.std.proofs.Math.Seq.{drop-append-add}
 use Rattle.std.proofs.Math.ListN.{drop_of_length-le}
@@ -113,19 +114,7 @@ Outside low high es = (p k : ℕ) → low ≤ p → p < high → children_from e
 after_more : (ys more : List Entry) (i k : ℕ) (above next : Option ℕ) → k ≡ i + length ys → ((p : ℕ) → above ≡ Some p → children_from ys p i ≡ []) → After k more above next → After i (ys ++ more) above next
 after_more ys more i k None next e clear after = tt
 after_more ys more i k (Some p) None e clear after = no_children-append ys more p i (clear p refl) (ap (children_from more p) (sym e) ∙ after)
-after_more ys more i k (Some p) (Some m) e clear after =
-    let over : drop (length ys + after.j) (ys ++ more) ≡ drop after.j more = drop-append-add ys more after.j in
-    let behind : children_from (ys ++ more) p i ≡ children_from more p k =
-    children_from-append ys more p i ∙ ap (λ xs. xs ++ children_from more p (i + length ys)) (clear p refl) ∙ ap (children_from more p) (sym e) in
-    record {
-      j = length ys + after.j;
-      number = omega (arith, e, after.number);
-      same = behind ∙ after.same ∙ ap (λ es. children_from es p m) (sym over);
-      child = after.child;
-      rest = after.rest;
-      there = over ∙ after.there;
-      parent = after.parent;
-    }
+after_more ys more i k (Some p) (Some m) e clear after = search (rules, drop-append-add, children_from-append)
 
 below_get : (k : ℕ) (above : Option ℕ) (p : ℕ) → Below k above → above ≡ Some p → p < k
 below_get k None p below is = absurd cc
@@ -235,9 +224,7 @@ pub parent-before : (us : List DebugUnit) (id : ℕ) (e : Entry) (above : ℕ) �
 parent-before us id e above is has = below_get id e.parent above (link-at us id e is).below has
 
 pub linked_there : (es : List Entry) (p m : ℕ) (e : Entry) → slice_get es m ≡ Some e → e.parent ≡ Some p → IsChild es p (Some m)
-linked_there es p m e there is = λ x found.
-    let same : m ≡ x = cc in
-    subst (λ n. option_map (λ (y : Entry). y.parent) (slice_get es n) ≡ Some (Some p)) same (ap (option_map (λ (y : Entry). y.parent)) there ∙ ap Some is)
+linked_there es p m e there is = search (rules)
 
 -- what is left from a child's next sibling on
 record Goes (es : List Entry) (p m : ℕ) (next : Option ℕ) : Type 0 where

@@ -1,9 +1,10 @@
 -- The children of an entry, in the words of the look-ups and by the facts of entries, and a loop over them.
+use Rattle.std.proofs.lemmas.Grind.{common_steps}
+use Rattle.std.proofs.Common.{rules}
 use Rattle.std.proofs.Common.{◌≡◌, ℕ, zero, suc, ◌+◌, ◌<◌, ◌≤◌, true, false, if◌then◌else◌, List, [], ◌∷◌, length, Option, Some, None, IfSome, refl, sym, ap, subst, ◌∙◌, arith, eqb-true, ◌-◌, drop, inl, inr, length-drop, ◌++◌, append_assoc}
-use Rattle.std.specs.Prelude.{slice_get, option_map, All}
+use Rattle.std.specs.Prelude.{slice_get, option_map}
 use Rattle.std.proofs.lemmas.Option.{slice_get_within, slice_get_cases}
 use Rattle.std.specs.List.{filter, range_with_len}
-use Rattle.std.proofs.lemmas.List.Elements.{All-append, All-cons, All-nil}
 use Rattle.dw_entries.specs.Tree.{◌then◌}
 use Rattle.dw_entries.specs.Units.{DebugUnit}
 use Rattle.dw_entries.specs.Entries.{Entry, entries_of, placed}
@@ -20,9 +21,7 @@ slice_get_none (e ∷ es) (suc i) is = let more = slice_get_none es i is in omeg
 
 -- the parent of the entry with this number
 pub linked_parent : (es : List Entry) (p m : ℕ) (e : Entry) → IsChild es p (Some m) → slice_get es m ≡ Some e → e.parent ≡ Some p
-linked_parent es p m e linked there =
-    let known : Some e.parent ≡ Some (Some p) = ap (option_map (λ (y : Entry). y.parent)) (sym there) ∙ linked m refl in
-    cc
+linked_parent es p m e linked there = search (rules)
 
 pub linked_within : (es : List Entry) (p m : ℕ) → IsChild es p (Some m) → m < length es
 linked_within es p m linked = go (slice_get es m) refl
@@ -51,22 +50,13 @@ number_is p None is = absurd cc
 number_is p (Some q) is = ap Some (eqb-true q p is)
 
 pub linked_of_behind : (us : List DebugUnit) (id k : ℕ) → k < length (entries_of us) → IfSome (slice_get (entries_of us) k) (λ e. true ≡ is_number id e.parent) → IsChild (entries_of us) id (Some k)
-linked_of_behind us id k lt says = go (slice_get (entries_of us) k) refl says
-  where
-    go : (found : Option Entry) → slice_get (entries_of us) k ≡ found → IfSome found (λ e. true ≡ is_number id e.parent) → IsChild (entries_of us) id (Some k)
-    go None gone says = absurd (omega (arith, lt, slice_get_none (entries_of us) k gone))
-    go (Some e) some says = linked_there (entries_of us) id k e some (number_is id e.parent (sym says))
+linked_of_behind us id k lt says = search (rules, slice_get_none, linked_there, number_is)
 
 -- the entry behind is no child, or there is none
 pub none_of_behind : (us : List DebugUnit) (id k : ℕ) → k ≡ id + 1 → id < length (entries_of us) → k < length (entries_of us) → IfSome (slice_get (entries_of us) k) (λ e. false ≡ is_number id e.parent)
     → children_of (entries_of us) id ≡ []
 unfolding children_of
-none_of_behind us id k is here lt says = go (slice_get (entries_of us) id) refl (slice_get (entries_of us) k) refl says
-  where
-    go : (this : Option Entry) → slice_get (entries_of us) id ≡ this → (found : Option Entry) → slice_get (entries_of us) k ≡ found → IfSome found (λ e. false ≡ is_number id e.parent) → children_from (entries_of us) id 0 ≡ []
-    go None there found behind says = absurd (omega (arith, here, slice_get_none (entries_of us) id there))
-    go (Some e) there None behind says = absurd (omega (arith, lt, slice_get_none (entries_of us) k behind))
-    go (Some e) there (Some d) behind says = no_first us id e d there (ap (slice_get (entries_of us)) (let e : suc id ≡ k = omega (arith, is) in e) ∙ behind) (sym says)
+none_of_behind us id k is here lt says = search (rules, slice_get_none, no_first)
 
 pub none_past : (us : List DebugUnit) (id k : ℕ) → k ≡ id + 1 → length (entries_of us) ≤ k → children_of (entries_of us) id ≡ []
 unfolding children_of
@@ -106,9 +96,7 @@ module _ (us : List DebugUnit) where
 
   pub children-same : (node : ℕ) → children (facts_in us) node ≡ children_of (entries_of us) node
   unfolding children_of
-  children-same node =
-      ap (λ (n : ℕ). filter (is_child (facts_in us) node) (range_with_len 0 n)) (length-facts_of (entries_of us) (placed us))
-      ∙ children-here (facts_in us) node 0 (entries_of us) (facts-from 0)
+  children-same node = search (rules, length-facts_of, children-here, facts-from)
 
   pub rest-same : (parent : ℕ) (next : Option ℕ) → rest_of_children (facts_in us) parent next ≡ siblings_from (entries_of us) parent next
   rest-same parent None = refl
@@ -142,23 +130,16 @@ module _ (us : List DebugUnit) where
       ]
 
 -- the children that were passed and those that are left are the children, and something is true of those that were passed
-pub record HasPassed (entries : List Facts) (parent : ℕ) (P : ℕ → Type 0) (Q : List ℕ → Type 0) (next : Option ℕ) : Type 0 where
+pub record HasPassed (entries : List Facts) (parent : ℕ) (Q : List ℕ → Type 0) (next : Option ℕ) : Type 0 where
   pub visited : List ℕ
   pub whole : visited ++ rest_of_children entries parent next ≡ children entries parent
   pub next_is : IfSome next (IsChildOf entries parent)
-  pub passed : All P visited
   pub value : Q visited
 
-module _ (entries : List Facts) (parent : ℕ) (P : ℕ → Type 0) (Q : List ℕ → Type 0) where
-  pub passed-none : (next : Option ℕ) → rest_of_children entries parent next ≡ children entries parent → IfSome next (IsChildOf entries parent) → Q [] → HasPassed entries parent P Q next
-  passed-none next whole is value = record { visited = []; whole = whole; next_is = is; passed = All-nil P; value = value }
+module _ (entries : List Facts) (parent : ℕ) (Q : List ℕ → Type 0) where
+  pub passed-none : (next : Option ℕ) → rest_of_children entries parent next ≡ children entries parent → IfSome next (IsChildOf entries parent) → Q [] → HasPassed entries parent Q next
+  passed-none next whole is value = record { visited = []; whole = whole; next_is = is; value = value }
 
-  pub passed-more : (R : List ℕ → Type 0) (child : ℕ) (next : Option ℕ) → HasPassed entries parent P Q (Some child) → rest_of_children entries parent (Some child) ≡ child ∷ rest_of_children entries parent next
-      → IfSome next (IsChildOf entries parent) → P child → ((visited : List ℕ) → Q visited → R (visited ++ child ∷ [])) → HasPassed entries parent P R next
-  passed-more R child next h rest is here more = record {
-    visited = h.visited ++ child ∷ [];
-    whole = append_assoc h.visited (child ∷ []) (rest_of_children entries parent next) ∙ (ap (λ (xs : List ℕ). h.visited ++ xs) (sym rest) ∙ h.whole);
-    next_is = is;
-    passed = All-append P h.visited (child ∷ []) h.passed (All-cons P child [] here (All-nil P));
-    value = more h.visited h.value;
-  }
+  pub passed-more : (R : List ℕ → Type 0) (child : ℕ) (next : Option ℕ) → HasPassed entries parent Q (Some child) → rest_of_children entries parent (Some child) ≡ child ∷ rest_of_children entries parent next
+      → IfSome next (IsChildOf entries parent) → ((visited : List ℕ) → Q visited → R (visited ++ child ∷ [])) → HasPassed entries parent R next
+  passed-more R child next h rest is more = grind (arith, common_steps, append_assoc)

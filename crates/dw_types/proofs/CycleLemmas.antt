@@ -1,4 +1,5 @@
 -- Closed lists of steps: none where ranks fall, and how a ring is turned into a cycle that begins with its least node.
+use Rattle.std.proofs.Common.{rules}
 use Rattle.std.proofs.Common.{◌≡◌, ◌≢◌, ℕ, ◌+◌, ◌-◌, ◌<◌, ◌≤◌, ◌⊎◌, List, [], ◌∷◌, ◌++◌, length, get_or, take, drop, inl, inr, arith, refl, sym, ◌∙◌, ap, suc, zero, length-append, length-drop}
 use Rattle.std.proofs.lemmas.Bool.{cases_lt, cases_order}
 use Rattle.std.proofs.lemmas.List.{length_push, get_or_at, get_or_append_left, get_or-append_right, get_or-take, get_or-drop, length-take-le}
@@ -96,14 +97,7 @@ step-round graph ring h m k i j in_ring in_i in_j p q =
 apart : (ring : List ℕ) (m k l i j : ℕ) → k < l → l < length ring → m < length ring → i < length ring → j < length ring
     → ((a b : ℕ) → a < b → b < length ring → get_or ring a 0 ≢ get_or ring b 0)
     → LiesAt (length ring) m k i → LiesAt (length ring) m l j → get_or ring i 0 ≢ get_or ring j 0
-apart ring m k l i j lt in_ring in_m in_i in_j once p q same =
-    elim (cases_order i j) [
-      | inl equal ↦ elim p [
-        | inl a ↦ elim q [ inl b ↦ (let x = a.1 in let y = b.1 in omega arith) | inr b ↦ (let x = a.1 in let y = b.1 in let z = a.0 in let w = b.0 in omega arith) ]
-        | inr a ↦ elim q [ inl b ↦ (let x = a.1 in let y = b.1 in let z = a.0 in let w = b.0 in omega arith) | inr b ↦ (let x = a.1 in let y = b.1 in omega arith) ]
-      ]
-      | inr other ↦ elim other [ inl below ↦ once i j below in_j same | inr above ↦ once j i above in_i (sym same) ]
-    ]
+apart ring m k l i j lt in_ring in_m in_i in_j once p q same = search (rules, cases_order)
 
 -- a ring, gone round from its least node, is a cycle
 pub cycle-from_ring : (graph : Graph) (ring : List ℕ) (m : ℕ) → IsRing graph ring → m < length ring

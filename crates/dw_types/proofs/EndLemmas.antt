@@ -1,6 +1,7 @@
 -- How a walk begins, and what holds at its end, also where it goes on past cycles: the nodes that are given up reach
 -- one, and those that have ranks reach none.
-use Rattle.std.proofs.Common.{◌≡◌, ◌≢◌, ℕ, ◌^◌, ◌+◌, ◌<◌, ◌⊎◌, ◌∙◌, true, false, [], length, get_or, replicate, below_more, inl, inr, arith, refl, sym, ap, sum, count_by, cond, zero, suc, ◌-◌, List, subst}
+use Rattle.std.proofs.Common.{rules}
+use Rattle.std.proofs.Common.{◌≡◌, ◌≢◌, ℕ, ◌^◌, ◌+◌, ◌<◌, ◌⊎◌, ◌∙◌, true, false, [], length, get_or, replicate, inl, inr, arith, refl, sym, ap, sum, count_by, cond, zero, suc, ◌-◌, List, subst}
 use Rattle.std.proofs.lemmas.Bool.{cases_lt}
 use Rattle.std.proofs.lemmas.List.{length-replicate, get_or-replicate, get_or_past, get_or_default}
 use Rattle.std.proofs.lemmas.List.Sums.{sum_by-cons}
@@ -8,7 +9,7 @@ use Rattle.std.specs.Prelude.{Contains}
 use Rattle.dw_types.specs.Cycles.{ReachesCycle, Leads, AreClear}
 use Rattle.dw_types.specs.declared.walk.Mark.{Mark}
 use Rattle.dw_types.specs.declared.walk.Mark.TheVariants.{Fresh, Open, Ranked}
-use Rattle.dw_types.specs.Graphs.{Graph, steps_of, FallsAlong, IsStep, FollowsSteps, step_at}
+use Rattle.dw_types.specs.Graphs.{Graph, FallsAlong, IsStep, FollowsSteps, step_at}
 use Rattle.dw_types.specs.Walks.{IsWalk, KeepsTaken, is_taken, IsAtCycle}
 use Rattle.dw_types.specs.WalkStates.{State, mark_of, taken_up, given_up}
 use Rattle.dw_types.proofs.ListLemmas.{at_set}
@@ -30,46 +31,12 @@ abbrev pub start : ℕ → State
 start n = record { marks = replicate n Fresh; next = replicate n 0; ranks = replicate n 0; by_rank = []; stack = []; turns = 0; gave_up = false }
 
 pub start-walk : (graph : Graph) → length graph < 2 ^ 64 → IsWalk graph (start (length graph))
-start-walk graph few =
-    let fresh : (node : ℕ) → mark_of (start (length graph)) node ≡ Fresh = λ node. get_or-same (length graph) node Fresh in
-    let none : (node : ℕ) → get_or (replicate {A = ℕ} (length graph) 0) node 0 ≡ 0 = λ node. get_or-same (length graph) node 0 in
-    record {
-      coherent = record {
-        places = record { marks = length-replicate _ _; next = length-replicate _ _; ranks = length-replicate _ _; few = few };
-        stack = record {
-          opened = λ k below. absurd (omega arith);
-          stacked = λ node opened. let e = fresh node in absurd cc;
-          once = λ i j lt below. absurd (omega arith);
-          steps = λ k below. absurd (omega arith);
-        };
-        counters = record {
-          within = λ node. rw (none node) (omega arith);
-          small = λ node. rw (none node) (omega arith);
-          fresh = λ node _. none node;
-          ranked = λ node done. let e = fresh node in absurd cc;
-        };
-        ranks = record {
-          below = λ node done. let e = fresh node in absurd cc;
-          listed = λ node done. let e = fresh node in absurd cc;
-          ranked = λ k below. absurd (omega arith);
-          leads = λ node k done below. let e = fresh node in absurd cc;
-          falls = λ node k done below. let e = fresh node in absurd cc;
-        };
-        turns = let a = sum-zeros (length graph) in let b = count-fresh (length graph) in omega arith;
-      };
-      looks_up = λ place k below. absurd (omega arith);
-    }
+start-walk graph few = search (rules, get_or-same, length-replicate, sum-zeros, count-fresh)
 
 -- with an empty stack, a node that was taken up was ranked, or given up
 end-by_mark : (graph : Graph) (s : State) (node : ℕ) → IsWalk graph s → s.stack ≡ [] → mark_of s node ≢ Fresh → (m : Mark) → mark_of s node ≡ m → (m ≡ Ranked) ⊎ ((s.gave_up ≡ true) × ReachesCycle graph node)
 end-by_mark graph s node h empty taken Fresh e = absurd (taken e)
-end-by_mark graph s node h empty taken Open e = elim (h.coherent.stack.stacked node e) [
-  | inl place ↦
-      let below : place.0 < length s.stack = place.1 in
-      let none : length s.stack ≡ 0 = ap length empty in
-      absurd (omega arith)
-  | inr lost ↦ inr lost
-]
+end-by_mark graph s node h empty taken Open e = search (rules)
 end-by_mark graph s node h empty taken Ranked e = inl refl
 
 pub end-of_taken : (graph : Graph) (s : State) (node : ℕ) → IsWalk graph s → s.stack ≡ [] → mark_of s node ≢ Fresh → (mark_of s node ≡ Ranked) ⊎ ((s.gave_up ≡ true) × ReachesCycle graph node)
@@ -82,17 +49,11 @@ ranked-from_taken graph s node h empty kept taken =
 
 -- once each node was ranked, each step leads to a smaller rank
 pub falls-from_ranked : (graph : Graph) (s : State) → IsWalk graph s → ((node : ℕ) → node < length graph → mark_of s node ≡ Ranked) → FallsAlong graph s.ranks
-falls-from_ranked graph s h all node k in_steps =
-    elim (cases_lt node (length graph)) [
-      | inl below ↦ h.coherent.ranks.falls node k (all node below) in_steps
-      | inr above ↦ absurd (let none : steps_of graph node ≡ [] = get_or_past graph node [] above in let some : k < length {A = ℕ} [] = rw none at in_steps in omega arith)
-    ]
+falls-from_ranked graph s h all node k in_steps = search (rules, cases_lt, get_or_past)
 
 -- where a node was taken up, and no node that was is fresh again, none up to it is fresh
 pub taken-more : (s new : State) (node : ℕ) → node < length s.marks → KeepsTaken (taken_up s node) new → ((k : ℕ) → k < node → mark_of s k ≢ Fresh) → (k : ℕ) → k < node + 1 → mark_of new k ≢ Fresh
-taken-more s new node inside keeps before = below_more _ _
-    (λ k below fresh. elim (at_set s.marks node k Open Fresh inside) [ inl here ↦ absurd (let same = here.0 in omega arith) | inr other ↦ before k below (sym other.1 ∙ keeps k fresh) ])
-    (λ fresh. elim (at_set s.marks node node Open Fresh inside) [ inl here ↦ let no : Open ≡ Fresh = sym here.1 ∙ keeps node fresh in cc | inr other ↦ other.0 refl ])
+taken-more s new node inside keeps before = search (rules, at_set)
 
 -- one step more at the end
 leads-more : (graph : Graph) (k a b c : ℕ) → Leads graph k a b → IsStep graph b c → Leads graph (suc k) a c
@@ -125,10 +86,7 @@ module _ (graph : Graph) (s : State) (to : ℕ) (h : IsAtCycle graph s to) where
 
   -- where none was given up, that one is on the stack
   pub on-stack : s.gave_up ≡ false → Contains s.stack to
-  on-stack kept = elim (h.coherent.stack.stacked to h.opened) [
-    | inl (k, within, same) ↦ (k, within, get_or_default s.stack k to 0 within ∙ same)
-    | inr lost ↦ let gave : s.gave_up ≡ true = lost.0 in absurd cc
-  ]
+  on-stack kept = search (rules, get_or_default)
 
   to-reaches : ReachesCycle graph to
   to-reaches = elim (h.coherent.stack.stacked to h.opened) [

@@ -1,4 +1,5 @@
 -- The facts of entries, one by one, and how the entries lie.
+use Rattle.std.proofs.Common.{rules}
 use Rattle.std.proofs.Common.{◌≡◌, ℕ, ◌<◌, List, length, Option, Some, arith, ◌≤◌, map, inl, inr, sym, ap, ◌∙◌}
 use Rattle.std.specs.Prelude.{slice_get, IfSome, option_map}
 use Rattle.std.proofs.lemmas.Option.{get_or_from_slice_get, slice_get-map, slice_get_cases}
@@ -62,12 +63,7 @@ facts-rise a us are earlier later before inside =
 -- what is read of the entry with a number is its facts
 pub known : (us : List DebugUnit) (id : ℕ) (o : Option Entry) → o ≡ slice_get (entries_of us) id → id < length (entries_of us) → (P : Facts → Type 0)
     → IfSome o (λ e. P (facts_at (entries_of us) (placed us) e)) → P (entry_of (facts_in us) id)
-known us id o there below P is = elim (slice_get_cases (entries_of us) id).1 [
-  | inr over ↦ absurd (omega (arith, over.0))
-  | inl here ↦
-      let at : P (facts_at (entries_of us) (placed us) here.0) = rw (there ∙ here.2) at is in
-      rw (facts-get (entries_of us) (placed us) id here.0 here.2) at
-]
+known us id o there below P is = search (rules, slice_get_cases, facts-get)
 
 module _ (us : List DebugUnit) (facts : List Facts) (same : facts_in us ≡ facts) where
   pub facts-count : length facts ≡ length (entries_of us)

@@ -1,4 +1,5 @@
 -- The longest rows of steps from nodes, by those from the nodes that their steps lead to.
+use Rattle.std.proofs.Common.{rules}
 use Rattle.std.proofs.Common.{◌≡◌, ◌≢◌, ℕ, zero, suc, ◌+◌, ◌<◌, ◌≤◌, List, length, get_or, set, inl, inr}
 use Rattle.std.proofs.Common.{arith, refl, sym, ◌∙◌, subst, get_or-set_same, get_or-set_other}
 use Rattle.std.specs.Prelude.{◌⊎◌, Contains}
@@ -94,11 +95,7 @@ module _ (graph : Graph) (clear : List ℕ) (h : AreClear graph clear) (counts :
 
 -- a row that goes on where some steps lead
 pub row-after : (graph : Graph) (k n from to : ℕ) → Leads graph k from to → HasRow graph to n → HasRow graph from (k + n)
-row-after graph zero n from to same row =
-    let P : ℕ → Type 0 = λ m. HasRow graph from m in
-    let Q : ℕ → Type 0 = λ x. HasRow graph x n in
-    let e : n ≡ 0 + n = omega arith in
-    subst P e (subst Q (sym same) row)
+row-after graph zero n from to same row = search (rules)
 row-after graph (suc k) n from to (next, step, led) row =
     let P : ℕ → Type 0 = λ m. HasRow graph from m in
     let e : suc (k + n) ≡ suc k + n = omega arith in

@@ -1,5 +1,6 @@
 -- A loop that packs one node after another.
-use Rattle.std.proofs.Common.{◌≡◌, ℕ, ◌+◌, ◌<◌, List, [], ◌∷◌, ◌++◌, length, get_or, take, inl, inr, arith, refl, sym, ◌∙◌, ap, append_assoc, suc, length-append}
+use Rattle.std.proofs.lemmas.Grind.{common_steps}
+use Rattle.std.proofs.Common.{◌≡◌, ℕ, ◌+◌, ◌<◌, List, [], ◌∷◌, ◌++◌, length, get_or, take, inl, inr, arith, sym, ◌∙◌, ap, append_assoc, length-append}
 use Rattle.std.proofs.lemmas.List.{get_or_append_left, get_or_push, length_push, take_more}
 use Rattle.dw_types.specs.Graphs.{Graph}
 use Rattle.dw_types.specs.Packing.{cut, begin_of, CutsInOrder, LeadsBelow}
@@ -20,18 +21,7 @@ pub record AreEnds (steps ends : List ℕ) : Type 0 where
 
 pub ends-more : (steps row ends : List ℕ) → AreEnds steps ends → AreEnds (steps ++ row) (ends ++ length (steps ++ row) ∷ [])
 ends-more steps row ends h =
-    let end = length (steps ++ row) in
-    let long = length-append steps row in
-    let more : length (ends ++ end ∷ []) ≡ suc (length ends) = (let e = length_push ends end in omega arith) in
-    record {
-      last = rw more (get_or_push ends end 0 (length ends) refl);
-      in_order = λ k within.
-          let begin = get_or_append_left (0 ∷ ends) (end ∷ []) 0 k (omega arith) in
-          elim (at_push ends k end 0 within) [
-            | inl p ↦ let last = h.last in let e = p.0 in rw (begin, p.1, e) ((omega arith), (omega arith))
-            | inr p ↦ let old = h.in_order k p.0 in let fits = old.1 in rw (begin, p.1) (old.0, (omega arith))
-          ];
-    }
+    grind (arith, common_steps, length-append, length_push, get_or_push, get_or_append_left, at_push)
 
 pub packs-more : (graph : Graph) (steps ends : List ℕ) (node : ℕ) → node < length graph → PacksUpTo graph steps ends node
     → PacksUpTo graph (steps ++ get_or graph node []) (ends ++ length (steps ++ get_or graph node []) ∷ []) (node + 1)

@@ -1,5 +1,6 @@
 -- The steps of an entry through its children, one after another.
-use Rattle.std.proofs.Common.{◌≡◌, ℕ, ◌-◌, ◌<◌, Bool, true, false, ◌&&◌, not, List, [], ◌∷◌, ◌++◌, Option, length, get_or, inl, inr, refl, sym, ap, ◌∙◌, arith, append-nil, append_assoc, nat_eq, length-append}
+use Rattle.std.proofs.Common.{rules}
+use Rattle.std.proofs.Common.{◌≡◌, ℕ, ◌-◌, ◌<◌, Bool, true, false, not, List, [], ◌∷◌, ◌++◌, Option, length, get_or, inl, inr, refl, sym, ap, arith, append-nil, append_assoc, nat_eq, length-append}
 use Rattle.std.specs.List.{filter, flat_map}
 use Rattle.std.specs.Option.{option_to_list}
 use Rattle.std.proofs.lemmas.Bool.{and_right, cases_lt}
@@ -8,9 +9,8 @@ use Rattle.std.proofs.Math.Seq.{get_or-append_right}
 use Rattle.std.proofs.lemmas.List.Concat.{flat_map-append}
 use Rattle.std.proofs.lemmas.List.Elements.{Contains-get_or}
 use Rattle.dw_forms.specs.Codes.{DW_TAG_member, is_type_tag}
-use Rattle.dw_types.specs.declared.kind.Role.TheVariants.{Members}
-use Rattle.dw_types.specs.Entries.{entry_of, entry_numbers, is_child, children, TargetsAreEntries, Facts}
-use Rattle.dw_types.specs.Kinds.{has_members, is_declared_type, passes_type_on}
+use Rattle.dw_types.specs.Entries.{entry_of, is_child, children, TargetsAreEntries, Facts}
+use Rattle.dw_types.specs.Kinds.{has_members, is_declared_type, passes_type_on, Members}
 use Rattle.dw_types.specs.Packing.{LeadsBelow}
 use Rattle.dw_types.specs.Shapes.{is_plain}
 use Rattle.dw_types.specs.Steps.{is_plain_member, member_step, part_step, steps_by_value, targets_if}
@@ -25,11 +25,7 @@ part-none entries child steps plain = rw plain (sym (append-nil steps))
 
 pub parts-push : (entries : List Facts) (child : ℕ) (visited steps first : List ℕ) → steps ≡ first ++ flat_map (part_step entries) visited
     → steps ++ part_step entries child ≡ first ++ flat_map (part_step entries) (visited ++ child ∷ [])
-parts-push entries child visited steps first is =
-    let part = part_step entries child in
-    let more : flat_map (part_step entries) (visited ++ child ∷ []) ≡ flat_map (part_step entries) visited ++ part =
-    flat_map-append (part_step entries) visited (child ∷ []) ∙ ap (λ (last : List ℕ). flat_map (part_step entries) visited ++ last) (append-nil part) in
-    ap (λ (xs : List ℕ). xs ++ part) is ∙ (append_assoc first (flat_map (part_step entries) visited) part ∙ ap (λ (xs : List ℕ). first ++ xs) (sym more))
+parts-push entries child visited steps first is = search (rules, flat_map-append, append-nil, append_assoc)
 
 -- pieces that come from the elements that pass a test
 
@@ -44,15 +40,7 @@ flat_map-filter f g p (x ∷ xs) same none = by-test f g p x xs (p x) refl (same
 
 module _ (entries : List Facts) (node : ℕ) where
   child-step : has_members (entry_of entries node) ≡ true → (child : ℕ) → is_child entries node child ≡ true → member_step entries node child ≡ part_step entries child
-  child-step members child is =
-      let entry = entry_of entries child in
-      let same : is_plain_member entries node child ≡ is_plain Members entry = rw (members, is) (tests (nat_eq entry.tag DW_TAG_member) (not entry.declared)) in
-      ap (λ (b : Bool). targets_if b entry.type_target) same
-    where
-      tests : (a b : Bool) → (true && (a && (b && true))) ≡ ((a && b) && true)
-      tests true true = refl
-      tests true false = refl
-      tests false b = refl
+  child-step members child is = search (rules)
 
   other-step : (child : ℕ) → is_child entries node child ≡ false → member_step entries node child ≡ []
   other-step child isnt =
@@ -70,19 +58,13 @@ module _ (entries : List Facts) (node : ℕ) where
   -- the row of a structure
   pub members-row : has_members (entry_of entries node) ≡ true → flat_map (part_step entries) (children entries node) ≡ steps_by_value entries node
   members-row members =
-      let entry = entry_of entries node in
-      let whole = flat_map-filter (member_step entries node) (part_step entries) (is_child entries node) (entry_numbers entries) (child-step members) other-step in
-      let signature = no-signature_step entry entry.signature_target members in
-      rw (no-passes entry members, signature, append-nil (flat_map (member_step entries node) (entry_numbers entries))) (sym whole)
+      search (rules, flat_map-filter, child-step, other-step, no-signature_step, no-passes, append-nil)
 
   -- the row of any other entry
   pub own-row : has_members (entry_of entries node) ≡ false
       → targets_if (passes_type_on (entry_of entries node)) (entry_of entries node).type_target ++ targets_if (is_declared_type (entry_of entries node)) (entry_of entries node).signature_target
       ≡ steps_by_value entries node
-  own-row none =
-      let entry = entry_of entries node in
-      let members = flat_map-none (member_step entries node) (entry_numbers entries) (λ k below. no-step none (get_or (entry_numbers entries) k 0)) in
-      rw (members, append-nil (targets_if (passes_type_on entry) entry.type_target)) refl
+  own-row none = search (rules, flat_map-none, no-step, append-nil)
 
   -- the row of an entry that is no type
   pub untyped-row : is_type_tag (entry_of entries node).tag ≡ false → [] ≡ steps_by_value entries node

@@ -1,6 +1,8 @@
 -- A node on top of the stack, all of whose steps were looked at, is ranked, and a fresh node without steps at once;
 -- ranks by the nodes in their order.
-use Rattle.std.proofs.Common.{◌≡◌, ◌≢◌, ℕ, ◌+◌, ◌<◌, List, [], ◌∷◌, ◌++◌, length, get_or, replicate, set, take, suc, arith, refl, sym, ap, ◌∙◌, length-set, get_or-set_same, get_or-set_other, ◌-◌, ◌⊎◌, cond, inl, inr, ◌≤◌}
+use Rattle.std.proofs.lemmas.Grind.{common_steps}
+use Rattle.std.proofs.Common.{rules}
+use Rattle.std.proofs.Common.{◌≡◌, ◌≢◌, None, ℕ, ◌+◌, ◌<◌, List, [], ◌∷◌, ◌++◌, length, get_or, replicate, set, take, suc, arith, refl, sym, ap, ◌∙◌, length-set, get_or-set_same, get_or-set_other, ◌-◌, ◌⊎◌, cond, inl, inr, ◌≤◌}
 use Rattle.std.proofs.lemmas.List.{length-replicate, length-take-le, take_more, length_push, get_or_push, get_or_append_left, get_or-take}
 use Rattle.std.proofs.lemmas.Bool.{cases_lt}
 use Rattle.std.proofs.lemmas.List.Sums.{sum_by-set}
@@ -8,11 +10,11 @@ use Rattle.std.proofs.Math.Seq.{take-append_seam}
 use Rattle.dw_types.specs.RanksListed.{ranks_from, ranks_listed}
 use Rattle.dw_types.specs.declared.walk.Mark.{Mark}
 use Rattle.dw_types.specs.declared.walk.Mark.TheVariants.{Fresh, Open, Ranked}
-use Rattle.dw_types.specs.Graphs.{Graph, steps_of, step_at}
-use Rattle.dw_types.specs.Walks.{HasStack, HasRanks, IsWalk, stack_step, KeepsTaken, is_taken, IsMet, work_left}
-use Rattle.dw_types.specs.WalkStates.{State, mark_of, with_rank, taken_up}
+use Rattle.dw_types.specs.Graphs.{Graph, LeadsToNodes, steps_of, step_at}
+use Rattle.dw_types.specs.Walks.{HasFollowed, HasNext, HasStack, HasRanks, IsTop, IsWalk, stack_step, KeepsTaken, is_taken, IsMet, work_left}
+use Rattle.dw_types.specs.WalkStates.{State, mark_of, with_rank, with_step, taken_up}
 use Rattle.dw_types.proofs.ListLemmas.{at_set, at_push}
-use Rattle.dw_types.proofs.WalkLemmas.{IsTop, top-opened, in-graph}
+use Rattle.dw_types.proofs.WalkLemmas.{followed-fresh, top-opened, in-graph}
 
 ranks_from-push : (ranks : List ℕ) (first : ℕ) (nodes : List ℕ) (node : ℕ) → ranks_from ranks first (nodes ++ node ∷ []) ≡ set (ranks_from ranks first nodes) node (first + length nodes)
 ranks_from-push ranks first [] node = ap (λ (rank : ℕ). set ranks node rank) (let e : first ≡ first + 0 = omega arith in e)
@@ -35,15 +37,10 @@ length-ranks_listed nodes by_rank = length-ranks_from (replicate nodes 0) 0 by_r
 -- the rank of a node once one more node has its rank
 module _ (nodes node : ℕ) (by_rank : List ℕ) (place : ℕ) (inside : node < nodes) (below : place < length by_rank) where
   more : ranks_listed nodes (take (place + 1) by_rank) ≡ set (ranks_listed nodes (take place by_rank)) (get_or by_rank place 0) place
-  more =
-      ap (ranks_listed nodes) (take_more by_rank place 0 below)
-      ∙ (ranks_listed-push nodes (take place by_rank) (get_or by_rank place 0)
-      ∙ ap (λ (rank : ℕ). set (ranks_listed nodes (take place by_rank)) (get_or by_rank place 0) rank) (length-take-le place by_rank (omega arith)))
+  more = grind (arith, common_steps, take_more, ranks_listed-push, length-take-le)
 
   pub rank-here : node ≡ get_or by_rank place 0 → place ≡ get_or (ranks_listed nodes (take (place + 1) by_rank)) node 0
-  rank-here same =
-      let long = length-ranks_listed nodes (take place by_rank) in
-      rw (more, ← same) (sym (get_or-set_same (ranks_listed nodes (take place by_rank)) node place 0 (omega arith)))
+  rank-here same = search (rules, length-ranks_listed, more, get_or-set_same)
 
   pub rank-other : node ≢ get_or by_rank place 0 → get_or (ranks_listed nodes (take place by_rank)) node 0 ≡ get_or (ranks_listed nodes (take (place + 1) by_rank)) node 0
   rank-other other = rw more (sym (get_or-set_other (ranks_listed nodes (take place by_rank)) (get_or by_rank place 0) node place 0 other))
@@ -77,14 +74,7 @@ module _ (graph : Graph) (s : State) (node : ℕ) (h : IsWalk graph s) (t : IsTo
 
   -- each step of the node leads to one that was ranked, since none is above the top
   done-leads : (k : ℕ) → k < length (steps_of graph node) → mark_of s (step_at graph node k) ≡ Ranked
-  done-leads k in_steps =
-      let some = t.some in
-      let below : length s.stack - 1 < length s.stack = omega arith in
-      let seen : k < get_or s.next (get_or s.stack (length s.stack - 1) 0) 0 = rw (t.top, all) in_steps in
-      elim (h.looks_up (length s.stack - 1) k below seen) [
-        | inl done ↦ rw t.top at done
-        | inr above ↦ let over = above.1 in let in_stack = above.2 in absurd (omega arith)
-      ]
+  done-leads k in_steps = search (rules)
 
   -- a node that was ranked before has a rank below the new one, and keeps it
   done-keeps : (a : ℕ) → mark_of s a ≡ Ranked → get_or (with_rank s node).ranks a 0 ≡ get_or s.ranks a 0
@@ -132,36 +122,8 @@ module _ (graph : Graph) (s : State) (node : ℕ) (h : IsWalk graph s) (t : IsTo
       }
 
   done-ranks : HasRanks graph (with_rank s node)
-  done-ranks = record {
-    below = λ a done. let e = length_push s.by_rank node in elim (done-mark a) [
-      | inl p ↦ rw p.0 (rw (get_or-set_same s.ranks node (length s.by_rank) 0 done-in_ranks) (omega arith))
-      | inr p ↦ let was = sym p.1 ∙ done in let old = h.coherent.ranks.below a was in rw (done-keeps a was) (omega arith)
-    ];
-    listed = λ a done. elim (done-mark a) [
-      | inl p ↦ rw p.0 (rw (get_or-set_same s.ranks node (length s.by_rank) 0 done-in_ranks) (get_or_push s.by_rank node 0 (length s.by_rank) refl))
-      | inr p ↦
-          let was = sym p.1 ∙ done in
-          rw (done-keeps a was) (get_or_append_left s.by_rank (node ∷ []) 0 _ (h.coherent.ranks.below a was) ∙ h.coherent.ranks.listed a was)
-    ];
-    ranked = λ k below. elim (at_push s.by_rank k node 0 below) [
-      | inl p ↦ rw p.1 (get_or-set_same s.marks node Ranked Fresh done-in_marks, get_or-set_same s.ranks node (length s.by_rank) 0 done-in_ranks ∙ sym p.0)
-      | inr p ↦
-          let old = h.coherent.ranks.ranked k p.0 in
-          rw p.1 (done-ranked _ old.0, done-keeps _ old.0 ∙ old.1)
-    ];
-    leads = λ a k done in_steps. elim (done-mark a) [
-      | inl p ↦ done-ranked _ (rw p.0 (done-leads k (rw p.0 at in_steps)))
-      | inr p ↦ done-ranked _ (h.coherent.ranks.leads a k (sym p.1 ∙ done) in_steps)
-    ];
-    falls = λ a k done in_steps. elim (done-mark a) [
-      | inl p ↦
-          let leads = done-leads k (rw p.0 at in_steps) in
-          rw p.0 (rw (done-keeps (step_at graph node k) leads, get_or-set_same s.ranks node (length s.by_rank) 0 done-in_ranks) (h.coherent.ranks.below _ leads))
-      | inr p ↦
-          let was = sym p.1 ∙ done in
-          rw (done-keeps a was, done-keeps _ (h.coherent.ranks.leads a k was in_steps)) (h.coherent.ranks.falls a k was in_steps)
-    ];
-  }
+  done-ranks =
+      search (rules, length_push, done-mark, get_or-set_same, done-in_ranks, done-keeps, get_or_push, get_or_append_left, at_push, done-in_marks, done-ranked, done-leads)
 
   pub done-keeps_taken : KeepsTaken s (with_rank s node)
   done-keeps_taken = done-fresh
@@ -212,10 +174,7 @@ take-push xs x = let long = length_push xs x in let e : length (xs ++ x ∷ []) 
 
 module _ (graph : Graph) (s : State) (node : ℕ) (h : IsWalk graph (taken_up s node)) (none : length (steps_of graph node) ≡ 0) where
   leaf-top : IsTop (taken_up s node) node
-  leaf-top =
-      let long = length_push s.stack node in
-      let last : length (s.stack ++ node ∷ []) - 1 ≡ length s.stack = omega arith in
-      record { some = omega arith; top = rw last (get_or_push s.stack node 0 (length s.stack) refl) }
+  leaf-top = search (rules, length_push, get_or_push)
 
   leaf-all : get_or (taken_up s node).next node 0 ≡ length (steps_of graph node)
   leaf-all = let within = h.coherent.counters.within node in omega arith
@@ -239,7 +198,17 @@ module _ (graph : Graph) (s : State) (node : ℕ) (new : State) (h : IsWalk grap
   met-gave_up = elim met [ inl up ↦ rw up refl | inr leaf ↦ rw leaf.1 refl ]
 
   pub met-less : work_left graph new ≤ work_left graph (taken_up s node)
-  met-less = elim met [
-    | inl up ↦ rw up (omega arith)
-    | inr leaf ↦ let long = length_push s.stack node in let short = ap length (take-push s.stack node) in rw leaf.1 (omega arith)
-  ]
+  met-less = search (rules, length_push, take-push)
+
+-- the next step goes to a fresh node, which is met
+pub followed-met : (graph : Graph) (s new : State) (node before to : ℕ) → LeadsToNodes graph → IsWalk graph s → HasNext graph s node before → to ≡ step_at graph node before
+    → mark_of s to ≡ Fresh → IsMet graph (with_step s node) to new → HasFollowed graph s new None
+followed-met graph s new node before to inside h n leads fresh met =
+    let up = followed-fresh graph s node before to h n leads fresh (rw (leads, ← n.looked) (inside node _ n.more)) in
+    let most = met-less graph (with_step s node) to new up.comes met in
+    record {
+      comes = met-walk graph (with_step s node) to new up.comes met;
+      taken = λ a is. up.taken a (met-keeps graph (with_step s node) to new up.comes met a is);
+      gave_up = met-gave_up graph (with_step s node) to new up.comes met;
+      less = let less = up.less in omega arith;
+    }

@@ -1,9 +1,9 @@
 -- The entries whose shapes a pass over entries has seen, and what is noted of them.
-use Rattle.std.proofs.Common.{◌≡◌, ℕ, suc, zero, ◌+◌, ◌<◌, ◌≤◌, ◌⊎◌, inl, inr, Bool, true, false, List, [], ◌∷◌, ◌++◌, Option, Some, None, length, refl, sym, subst, ap, ◌∙◌, arith, append-nil}
-use Rattle.std.specs.Prelude.{All, Contains, IfSome, IsSomeAnd}
+use Rattle.std.proofs.Common.{rules}
+use Rattle.std.proofs.Common.{◌≡◌, ℕ, ◌+◌, ◌<◌, ◌≤◌, ◌⊎◌, inl, inr, Bool, true, false, List, [], ◌++◌, Option, Some, None, length, refl, sym, subst, ap, ◌∙◌, arith, append-nil}
+use Rattle.std.specs.Prelude.{IfSome, IsSomeAnd}
 use Rattle.std.proofs.lemmas.Bool.{cases_lt, eqb-true, false≢true, or_parts, true≢false}
 use Rattle.std.proofs.lemmas.List.{get_or_past}
-use Rattle.std.proofs.lemmas.List.Elements.{All-contains, Contains-append_cases, Contains-append_left, Contains-append_right}
 use Rattle.dw_entries.specs.declared.fault.Rule.{Rule}
 use Rattle.dw_entries.specs.declared.fault.Rule.TheVariants.{MissingType, BadCount}
 use Rattle.dw_entries.specs.Failures.{HasNone, IsFirst, IsLeast}
@@ -12,31 +12,27 @@ use Rattle.dw_forms.specs.declared.fault.Stop.{Stop}
 use Rattle.dw_forms.specs.declared.fault.Stop.TheVariants.{Fault, Memory}
 use Rattle.dw_entries.specs.Stopped.{IfPlainFault}
 use Rattle.dw_forms.specs.Codes.{DW_TAG_array_type, is_type_tag}
-use Rattle.dw_types.specs.declared.kind.Role.{Role}
-use Rattle.dw_types.specs.declared.kind.Role.TheVariants.{Other}
 use Rattle.dw_types.specs.Children.{IsChildOf}
-use Rattle.dw_types.specs.Entries.{children, entry_of, no_entry, OffsetsRise, ParentsComeFirst, Facts}
-use Rattle.dw_types.specs.Kinds.{has_members, is_array, parent_role, role_in, role_of}
-use Rattle.dw_types.specs.Noted.{IsNoted, with_rule}
-use Rattle.dw_types.specs.Shapes.{breaks_shape, fails_shape, ShapeFailures}
+use Rattle.dw_types.specs.Entries.{children, entry_of, OffsetsRise, ParentsComeFirst, Facts}
+use Rattle.dw_types.specs.Kinds.{has_members, is_array, parent_role, role_in, role_of, Role, Dimensions, Other}
+use Rattle.dw_types.specs.Noted.{IsNoted, Passed}
+use Rattle.dw_types.specs.Shapes.{breaks_shape, has_bad_count, fails_shape, ShapeFailures}
 use Rattle.dw_types.specs.ShapesSeen.{has_parts, HasSeenShapes, array, part}
 use Rattle.dw_types.specs.TypeFailures.{PassesAt}
-use Rattle.dw_types.proofs.NotedLemmas.{broken_at, first-of_entries, none-of_entries, noted-first, noted-more, noted-none, noted-pass, noted-same}
+use Rattle.dw_types.proofs.NotedLemmas.{broken_at, first-of_entries, none-of_entries, noted-first, noted-none, noted-pass, noted-same}
 use Rattle.dw_types.proofs.RoleLemmas.{child-in, counted-other, other-role, plain-other, untyped-array, untyped-members}
 
 -- the least rule that fails
 
 pub part-least : (entries : List Facts) (node child : ℕ) (role : Role) (rule : Option Rule) → role_of (entry_of entries node) ≡ role → IsChildOf entries node child → IsLeast (λ r. breaks_shape role (entry_of entries child) r ≡ true) rule
     → IsLeast (λ r. fails_shape entries child r ≡ true) rule
-part-least entries node child role rule same is least =
-    let whole : parent_role entries child ≡ role = ap (role_in entries) is.parent_is ∙ same in
-    rw whole least
+part-least entries node child role rule same is least = search (rules)
 
 -- an array fails in one way, whatever its parent is to it
-array-same : (entry : Facts) (role another : Role) → is_array entry ≡ true → (r : Rule) → breaks_shape role entry r ≡ breaks_shape another entry r
-array-same entry role another is MissingType = rw is refl
-array-same entry role another is BadCount = let tag : entry.tag ≡ DW_TAG_array_type = eqb-true entry.tag DW_TAG_array_type is in rw tag refl
-array-same entry role another is _ = refl
+array-same : (entry : Facts) (role second : Role) → is_array entry ≡ true → (r : Rule) → breaks_shape role entry r ≡ breaks_shape second entry r
+array-same entry role second is MissingType = rw is refl
+array-same entry role second is BadCount = let tag : entry.tag ≡ DW_TAG_array_type = eqb-true entry.tag DW_TAG_array_type is in rw tag refl
+array-same entry role second is _ = refl
 
 least-same : (P Q : Rule → Bool) → ((r : Rule) → P r ≡ Q r) → (rule : Option Rule) → IsLeast (λ r. P r ≡ true) rule → IsLeast (λ r. Q r ≡ true) rule
 least-same P Q same None none = λ r breaks. none r (same r ∙ breaks)
@@ -45,6 +41,15 @@ least-same P Q same (Some rule) least = (sym (same rule) ∙ least.0, λ r break
 pub array-least : (entries : List Facts) (node : ℕ) (rule : Option Rule) → is_array (entry_of entries node) ≡ true → IsLeast (λ r. breaks_shape Other (entry_of entries node) r ≡ true) rule
     → IsLeast (λ r. fails_shape entries node r ≡ true) rule
 array-least entries node rule is = least-same (breaks_shape Other (entry_of entries node)) (fails_shape entries node) (array-same (entry_of entries node) Other (parent_role entries node) is) rule
+
+-- a child of an array whose count is not bad fails in one way, whatever its parent is to it
+pub uncounted-least : (entry : Facts) (rule : Option Rule) → has_bad_count Dimensions entry ≡ false → IsLeast (λ r. breaks_shape Other entry r ≡ true) rule → IsLeast (λ r. breaks_shape Dimensions entry r ≡ true) rule
+uncounted-least entry rule none = least-same (breaks_shape Other entry) (breaks_shape Dimensions entry) same rule
+  where
+    same : (r : Rule) → breaks_shape Other entry r ≡ breaks_shape Dimensions entry r
+    same MissingType = refl
+    same BadCount = counted-other Other entry refl ∙ sym none
+    same _ = refl
 
 -- an entry that is no array passes, if its parent is nothing to it
 
@@ -68,10 +73,7 @@ members-no_array entry has is = true≢false (sym has ∙ array-no_members entry
 
 module _ (entries : List Facts) (count : ℕ) where
   pub seen-inside : (k : ℕ) → HasSeenShapes entries count k → k < length entries
-  seen-inside k (array below is) = elim (cases_lt k (length entries)) [
-    | inl inside ↦ inside
-    | inr past ↦ let none = get_or_past entries k no_entry past in absurd (false≢true (rw none at is))
-  ]
+  seen-inside k (array below is) = search (rules, cases_lt, get_or_past, false≢true)
   seen-inside k (part parent below has of) = of.inside
 
   pub seen-later : (k : ℕ) → HasSeenShapes entries count k → HasSeenShapes entries (count + 1) k
@@ -80,13 +82,7 @@ module _ (entries : List Facts) (count : ℕ) where
 
   -- one more entry, which has no parts
   seen-back : has_parts (entry_of entries count) ≡ false → (k : ℕ) → HasSeenShapes entries (count + 1) k → HasSeenShapes entries count k
-  seen-back none k (array below is) = elim (cases_lt k count) [
-    | inl earlier ↦ array earlier is
-    | inr late ↦
-        let same : k ≡ count = omega arith in
-        let not : is_array (entry_of entries count) ≡ false = (or_parts (has_members (entry_of entries count)) _ none).1 in
-        absurd (true≢false (sym (subst (λ n. is_array (entry_of entries n) ≡ true) same is) ∙ not))
-  ]
+  seen-back none k (array below is) = search (rules, cases_lt, or_parts, true≢false)
   seen-back none k (part parent below has of) = elim (cases_lt parent count) [
     | inl earlier ↦ part parent earlier has of
     | inr late ↦ let same : parent ≡ count = omega arith in absurd (true≢false (sym (subst (λ n. has_parts (entry_of entries n) ≡ true) same has) ∙ none))
@@ -98,47 +94,22 @@ module _ (entries : List Facts) (count : ℕ) where
   -- one more entry and its children
   module _ (Before : ℕ → Type 0) (first : (k : ℕ) → HasSeenShapes entries count k → Before k) (own : is_array (entry_of entries count) ≡ true → Before count)
       (then : (k : ℕ) → Before k → HasSeenShapes entries (count + 1) k) (has : has_parts (entry_of entries count) ≡ true) where
-    parts-back : (all : List ℕ) → all ≡ children entries count → (k : ℕ) → HasSeenShapes entries (count + 1) k → Before k ⊎ Contains all k
+    parts-back : (all : List ℕ) → all ≡ children entries count → (k : ℕ) → HasSeenShapes entries (count + 1) k → Passed Before (IsChildOf entries count) all k
     parts-back all whole k (array below is) = elim (cases_lt k count) [
       | inl earlier ↦ inl (first k (array earlier is))
       | inr late ↦ let same : k ≡ count = omega arith in inl (subst Before (sym same) (own (subst (λ n. is_array (entry_of entries n) ≡ true) same is)))
     ]
     parts-back all whole k (part parent below is of) = elim (cases_lt parent count) [
       | inl earlier ↦ inl (first k (part parent earlier is of))
-      | inr late ↦ let same : parent ≡ count = omega arith in inr (rw whole (child-in entries count k (subst (λ n. IsChildOf entries n k) same of)))
+      | inr late ↦ let same : parent ≡ count = omega arith in let child = subst (λ n. IsChildOf entries n k) same of in inr (rw whole (child-in entries count k child), child)
     ]
 
-    pub noted-parts : (found : Option (ℕ × Rule)) (visited : List ℕ) → visited ++ [] ≡ children entries count → All (IsChildOf entries count) visited → IsNoted (fails_shape entries) (λ k. Before k ⊎ Contains visited k) found
+    pub noted-parts : (found : Option (ℕ × Rule)) (visited : List ℕ) → visited ++ [] ≡ children entries count → IsNoted (fails_shape entries) (Passed Before (IsChildOf entries count) visited) found
         → IsNoted (fails_shape entries) (HasSeenShapes entries (count + 1)) found
-    noted-parts found visited whole passed =
-        noted-same (fails_shape entries) (λ k. Before k ⊎ Contains visited k) (HasSeenShapes entries (count + 1)) found
-        (λ k is. elim is [ inl before ↦ then k before | inr there ↦ part count (omega arith) has (All-contains (IsChildOf entries count) visited k passed there) ])
+    noted-parts found visited whole =
+        noted-same (fails_shape entries) (Passed Before (IsChildOf entries count) visited) (HasSeenShapes entries (count + 1)) found
+        (λ k is. elim is [ inl before ↦ then k before | inr there ↦ part count (omega arith) has there.1 ])
         (parts-back visited (sym (append-nil visited) ∙ whole))
-
--- one more child
-
-contains-one : (child k : ℕ) → Contains (child ∷ []) k → k ≡ child
-contains-one child k (zero, below, is) = sym is
-contains-one child k (suc j, below, is) = absurd (omega arith)
-
-module _ (fails : ℕ → Rule → Bool) (Before : ℕ → Type 0) where
-  pub noted-no_child : (found : Option (ℕ × Rule)) → IsNoted fails Before found → IsNoted fails (λ k. Before k ⊎ Contains [] k) found
-  noted-no_child found = noted-same fails Before (λ k. Before k ⊎ Contains [] k) found (λ k is. inl is) (λ k is. elim is [ inl before ↦ before | inr there ↦ absurd (let below : there.0 < 0 = there.1 in omega arith) ])
-
-  pub noted-child : (visited : List ℕ) (child : ℕ) (found : Option (ℕ × Rule)) (rule : Option Rule) → IsLeast (λ r. fails child r ≡ true) rule → IsNoted fails (λ k. Before k ⊎ Contains visited k) found
-      → IsNoted fails (λ k. Before k ⊎ Contains (visited ++ child ∷ []) k) (with_rule found child rule)
-  noted-child visited child found rule least h =
-      let Seen : ℕ → Type 0 = λ k. Before k ⊎ Contains visited k in
-      noted-same fails (λ k. Seen k ⊎ (k ≡ child)) (λ k. Before k ⊎ Contains (visited ++ child ∷ []) k) (with_rule found child rule)
-      (λ k is. elim is [
-        | inl old ↦ elim old [ inl before ↦ inl before | inr there ↦ inr (Contains-append_left visited (child ∷ []) k there) ]
-        | inr same ↦ inr (Contains-append_right visited (child ∷ []) k (0, (omega arith), sym same))
-      ])
-      (λ k is. elim is [
-        | inl before ↦ inl (inl before)
-        | inr there ↦ elim (Contains-append_cases visited (child ∷ []) k there) [ inl old ↦ inl (inr old) | inr one ↦ inr (contains-one child k one) ]
-      ])
-      (noted-more fails Seen child found rule least h)
 
 -- all entries
 

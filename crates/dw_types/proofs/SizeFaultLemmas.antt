@@ -1,8 +1,9 @@
 -- A first fault over capped sizes is the first fault over the sizes themselves: the one table of sizes, and the capped
 -- table that is filled in its place.
+use Rattle.std.proofs.Common.{rules}
 use Rattle.std.proofs.Common.{◌≡◌, ℕ, ◌^◌, ◌<◌, ◌≤◌, min, ℤ, pos, negsuc, Bool, true, false, not, ◌&&◌, ◌||◌, if◌then◌else◌, List, Option, Some, None, IfSome, is_some, length, nat_eq, ◌⊎◌, inl, inr, arith, refl, sym, ap, ◌∙◌}
 use Rattle.std.proofs.lemmas.Bool.{cases_lt, eqb-true, false_from_ne_true}
-use Rattle.dw_forms.specs.Codes.{DW_TAG_array_type, DW_TAG_base_type, DW_TAG_enumeration_type, DW_TAG_pointer_type, DW_AT_bit_size, DW_AT_byte_stride, DW_AT_data_bit_offset}
+use Rattle.dw_forms.specs.Codes.{DW_TAG_array_type, DW_TAG_base_type, DW_TAG_enumeration_type, DW_TAG_pointer_type, DW_AT_byte_stride}
 use Rattle.dw_entries.specs.declared.fault.Rule.{Rule}
 use Rattle.dw_entries.specs.declared.fault.Rule.TheVariants.{NoSize, SizeTooGreat, MemberOutside, EnumSize}
 use Rattle.dw_entries.specs.Rules.{number_of}
@@ -10,16 +11,15 @@ use Rattle.dw_links.specs.Classes.{is_one_of}
 use Rattle.dw_types.specs.declared.count.Constant.{Constant}
 use Rattle.dw_types.specs.declared.count.Constant.TheVariants.{Absent, NotNumber, Unsigned, Signed}
 use Rattle.dw_types.specs.declared.kind.Kind.{Kind}
-use Rattle.dw_types.specs.declared.kind.Role.{Role}
 use Rattle.dw_types.specs.declared.kind.Kind.TheVariants.{Declared, OwnSized, Pointer, Alias, Enumeration, Array, Subroutine, NoType}
 use Rattle.dw_types.specs.Constants.{is_negative, is_present, natural_of}
 use Rattle.dw_types.specs.Entries.{entry_of, ParentsComeFirst, TargetsAreEntries, OffsetsRise, Facts, byte_size, constant}
-use Rattle.dw_types.specs.Extents.{bytes_end_past, end_past, is_number, is_outside, start_of, ends_past_container}
-use Rattle.dw_types.specs.Kinds.{container_tags, has_members, is_array, is_declared_type, is_enumeration, kind_of, parent_role}
+use Rattle.dw_types.specs.Extents.{bytes_end_past, end_past, is_outside, ends_past_container}
+use Rattle.dw_types.specs.Kinds.{container_tags, has_members, is_array, is_declared_type, is_enumeration, kind_of, parent_role, Role}
 use Rattle.dw_types.specs.Shapes.{is_plain, stands_alone}
 use Rattle.dw_types.specs.SizeFaults.{breaks_size, differ, fails_size, has_no_size, has_wrong_size, is_too_great, reads_own, wants_own, IsFirstSizeFault}
 use Rattle.dw_types.specs.SizeTables.{Size, cap_size}
-use Rattle.dw_types.specs.Sizes.{array_size, constant_or, is_regular, size_line, size_of_kind, size_to, times, ObeysSizeLines, IsSizeTable}
+use Rattle.dw_types.specs.Sizes.{constant_or, size_line, size_of_kind, size_to, times, ObeysSizeLines, IsSizeTable}
 use Rattle.dw_types.proofs.SizeLineLemmas.{declared-is, size_line-local, size_line-caps}
 use Rattle.dw_types.specs.TypeFailures.{IsFirstAt, PassAll}
 use Rattle.dw_types.specs.StoredSizes.{ObeysCappedLines}
@@ -59,9 +59,7 @@ cap-small (Some n) small = let below : n < 2 ^ 63 = grind arith in ap Some (omeg
 
 ends-same : (own : Size) (member : Facts) (size : Size) → is_too_great own ≡ false → ends_past_container own member (cap_size (2 ^ 63) size) ≡ ends_past_container own member size
 ends-same None member size small = refl
-ends-same (Some n) member size small =
-    let below : n < 2 ^ 63 = grind arith in
-    if-same (is_number (constant member DW_AT_bit_size) && is_number (constant member DW_AT_data_bit_offset)) (is_present (constant member DW_AT_bit_size)) _ false _ _ (bytes-same n (start_of member) size below)
+ends-same (Some n) member size small = search (rules, if-same, bytes-same)
 
 enumeration-kind : (entry : Facts) → is_enumeration entry ≡ true → kind_of entry ≡ Enumeration
 enumeration-kind entry is = grind arith
@@ -163,9 +161,9 @@ natural-own (Signed (negsuc m)) n is = absurd cc
 not-negative : (constant : Constant) (other : Size) (n : ℕ) → constant_or constant other ≡ Some n → is_negative constant ≡ false
 not-negative constant other n is = elim (own-or constant other n is) [ inl absent ↦ rw absent.0 refl | inr own ↦ own.1 ]
 
-if-some : (test : Bool) (size : Size) (n : ℕ) → (if test then size else None) ≡ Some n → size ≡ Some n
-if-some true size n is = is
-if-some false size n is = absurd cc
+if-some : (test : Bool) (size : Size) (n : ℕ) → (if test then None else size) ≡ Some n → size ≡ Some n
+if-some true size n is = absurd cc
+if-some false size n is = is
 
 times-some : (a b : Size) (n : ℕ) → times a b ≡ Some n → (m : ℕ) × (a ≡ Some m)
 times-some None b n is = absurd cc
@@ -224,11 +222,7 @@ alias-wants : (entry : Facts) → kind_of entry ≡ Alias → wants_own entry �
 alias-wants entry is = wants-none entry (grind arith) (grind arith) (grind arith)
 
 array-wants : (entry : Facts) → kind_of entry ≡ Array → is_negative (constant entry DW_AT_byte_stride) ≡ false → wants_own entry ≡ false
-array-wants entry is stride = let base : nat_eq entry.tag DW_TAG_base_type ≡ false = grind arith in let members : has_members entry ≡ false = grind arith in rw (base, members, stride) (and-none (is_array entry))
-  where
-    and-none : (b : Bool) → (b && false) ≡ false
-    and-none true = refl
-    and-none false = refl
+array-wants entry is stride = search (rules)
 
 -- with a byte size of its own, or by other sizes where nothing is wanted
 own-part : (entry : Facts) (other : Size) (n : ℕ) → constant_or (byte_size entry) other ≡ Some n → (other ≡ Some n → wants_own entry ≡ false) → has_no_size entry ≡ false
@@ -239,24 +233,13 @@ own-part entry other n is wants = elim (own-or (byte_size entry) other n is) [
 
 sized-kind : (entries : List Facts) (table : ℕ → Size) (node : ℕ) (kind : Kind) → kind_of (entry_of entries node) ≡ kind → (n : ℕ) → size_of_kind kind entries table node ≡ Some n
     → has_no_size (entry_of entries node) ≡ false
-sized-kind entries table node Declared is n sized =
-    let entry = entry_of entries node in
-    unread-own (reads_own (kind_of entry)) (is_present (byte_size entry)) (is_negative (byte_size entry)) (wants_own entry) (ap reads_own is) (declared-wants entry (declared-is entry is))
-sized-kind entries table node OwnSized is n sized =
-    let entry = entry_of entries node in
-    let own = natural-own (byte_size entry) n sized in
-    present-own (reads_own (kind_of entry)) (is_present (byte_size entry)) (is_negative (byte_size entry)) (wants_own entry) own.0 own.1
+sized-kind entries table node Declared is n sized = search (rules, unread-own, declared-wants, declared-is)
+sized-kind entries table node OwnSized is n sized = search (rules, natural-own, present-own)
 sized-kind entries table node Pointer is n sized = own-part (entry_of entries node) _ n sized (λ _. pointer-wants (entry_of entries node) is)
-sized-kind entries table node Alias is n sized =
-    let entry = entry_of entries node in
-    unread-own (reads_own (kind_of entry)) (is_present (byte_size entry)) (is_negative (byte_size entry)) (wants_own entry) (ap reads_own is) (alias-wants entry is)
+sized-kind entries table node Alias is n sized = search (rules, unread-own, alias-wants)
 sized-kind entries table node Enumeration is n sized = own-part (entry_of entries node) _ n sized (λ _. enumeration-wants (entry_of entries node) is)
 sized-kind entries table node Array is n sized =
-    let entry = entry_of entries node in
-    own-part entry (array_size entries table node) n sized (λ other.
-    let product = if-some (is_regular entries node) _ n other in
-    let storage = times-some (constant_or (constant entry DW_AT_byte_stride) (size_to table entry.type_target)) _ n product in
-    array-wants entry is (not-negative (constant entry DW_AT_byte_stride) (size_to table entry.type_target) storage.0 storage.1))
+    search (rules, own-part, if-some, times-some, array-wants, not-negative)
 sized-kind entries table node Subroutine is n sized = absurd cc
 sized-kind entries table node NoType is n sized = absurd cc
 

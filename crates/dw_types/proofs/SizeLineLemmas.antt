@@ -1,15 +1,17 @@
 -- The size lines read a table at steps by value alone, and may take capped sizes.
-use Rattle.std.proofs.Common.{◌≡◌, ℕ, ◌*◌, ◌^◌, ◌<◌, min, Bool, true, false, if◌then◌else◌, List, map, Option, Some, None, length, arith, refl, sym, ap, ◌∙◌}
+use Rattle.std.proofs.Common.{rules}
+use Rattle.std.proofs.Common.{◌≡◌, ℕ, ◌*◌, ◌^◌, ◌<◌, min, Bool, true, false, if◌then◌else◌, List, Option, Some, None, length, arith, refl, sym, ap, ◌∙◌}
 use Rattle.dw_types.specs.declared.count.Constant.{Constant}
 use Rattle.dw_types.specs.declared.count.Constant.TheVariants.{Absent, NotNumber, Unsigned, Signed}
 use Rattle.dw_types.specs.declared.kind.Kind.{Kind}
 use Rattle.dw_types.specs.declared.kind.Kind.TheVariants.{Declared, OwnSized, Pointer, Alias, Enumeration, Array, Subroutine, NoType}
 use Rattle.dw_types.specs.Entries.{entry_of, TargetsAreEntries, Facts, byte_size, constant}
 use Rattle.dw_types.specs.Graphs.{IsStep}
-use Rattle.dw_forms.specs.Codes.{DW_AT_byte_stride}
+use Rattle.dw_forms.specs.Codes.{DW_AT_bit_stride, DW_AT_byte_stride}
+use Rattle.dw_types.specs.Constants.{is_present}
 use Rattle.dw_types.specs.Kinds.{passes_type_on, is_declared_type, kind_of}
 use Rattle.dw_types.specs.SizeTables.{Size, cap_size}
-use Rattle.dw_types.specs.Sizes.{size_of_kind, size_line, size_to, constant_or, times, is_regular, product_of, factor_of, dimensions}
+use Rattle.dw_types.specs.Sizes.{size_of_kind, size_line, size_to, constant_or, times, element_count, parts_of}
 use Rattle.dw_types.specs.Steps.{by_value, by_type, by_signature}
 use Rattle.dw_types.proofs.ElementCountLemmas.{cap-product}
 use Rattle.dw_types.proofs.StepLemmas.{step-from_by_value}
@@ -62,7 +64,7 @@ module _ (entries : List Facts) where
       (to-same table other (entry_of entries node).type_target (λ to target. at-step table other node to same (step-from_by_value entries node to (by_type (enumeration-passes (entry_of entries node) is) target))))
   by-kind table other node Array is same =
       let e = to-same table other (entry_of entries node).type_target (λ to target. at-step table other node to same (step-from_by_value entries node to (by_type (array-passes (entry_of entries node) is) target))) in
-      ap (λ (size : Size). constant_or (byte_size (entry_of entries node)) (if is_regular entries node then times (constant_or (constant (entry_of entries node) DW_AT_byte_stride) size) (product_of (map (factor_of entries) (dimensions entries node))) else None)) e
+      ap (λ (size : Size). constant_or (byte_size (entry_of entries node)) (if is_present (constant (entry_of entries node) DW_AT_bit_stride) then None else times (constant_or (constant (entry_of entries node) DW_AT_byte_stride) size) (element_count (parts_of entries node)))) e
   by-kind table other node Subroutine is same = refl
   by-kind table other node NoType is same = refl
 
@@ -96,9 +98,9 @@ cap-times limit (Some a) None p same = cc
 cap-times limit (Some a) (Some b) None same = refl
 cap-times limit (Some a) (Some b) (Some p) same = let e : min limit a ≡ min limit b = cc in ap Some (cap-factor limit a b p e)
 
-cap-if : (limit : ℕ) (test : Bool) (a b : Size) → cap_size limit a ≡ cap_size limit b → cap_size limit (if test then a else None) ≡ cap_size limit (if test then b else None)
-cap-if limit true a b same = same
-cap-if limit false a b same = refl
+cap-if : (limit : ℕ) (test : Bool) (a b : Size) → cap_size limit a ≡ cap_size limit b → cap_size limit (if test then None else a) ≡ cap_size limit (if test then None else b)
+cap-if limit true a b same = refl
+cap-if limit false a b same = same
 
 cap-kind : (limit : ℕ) (entries : List Facts) (table : ℕ → Size) (node : ℕ) (kind : Kind)
     → cap_size limit (size_of_kind kind entries table node) ≡ cap_size limit (size_of_kind kind entries (λ n. cap_size limit (table n)) node)
@@ -107,11 +109,7 @@ cap-kind limit entries table node OwnSized = refl
 cap-kind limit entries table node Pointer = refl
 cap-kind limit entries table node Alias = cap-to limit table (entry_of entries node).type_target
 cap-kind limit entries table node Enumeration = cap-constant limit (byte_size (entry_of entries node)) _ _ (cap-to limit table (entry_of entries node).type_target)
-cap-kind limit entries table node Array =
-    cap-constant limit (byte_size (entry_of entries node)) _ _
-    (cap-if limit (is_regular entries node) _ _
-    (cap-times limit _ _ (product_of (map (factor_of entries) (dimensions entries node)))
-    (cap-constant limit (constant (entry_of entries node) DW_AT_byte_stride) _ _ (cap-to limit table (entry_of entries node).type_target))))
+cap-kind limit entries table node Array = search (rules, cap-constant, cap-if, cap-times, cap-to)
 cap-kind limit entries table node Subroutine = refl
 cap-kind limit entries table node NoType = refl
 

@@ -1,4 +1,5 @@
 -- Sizes by rank: which entries were checked before a place of the order, and what a size that is written there changes.
+use Rattle.std.proofs.Common.{rules}
 use Rattle.std.proofs.Common.{◌≡◌, ◌≢◌, ℕ, ◌+◌, ◌<◌, ◌≤◌, nat_lt, Bool, true, false, ◌&&◌, not, if◌then◌else◌, List, Option, Some, None, length, get_or, set, nat_eq, ◌⊎◌, inl, inr, refl, sym, ap, ◌∙◌, arith, get_or-set_other}
 use Rattle.std.specs.Prelude.{IsSomeAnd}
 use Rattle.std.proofs.lemmas.Bool.{and_parts, cases_lt, eq-eqb, false≢true, lt-ltb, ltb-true}
@@ -12,11 +13,9 @@ use Rattle.dw_entries.specs.Failures.{HasNone}
 use Rattle.dw_entries.specs.Stopped.{IfPlainFault}
 use Rattle.dw_types.specs.StoredSizes.{ObeysCappedLines}
 use Rattle.dw_forms.specs.Codes.{DW_TAG_member, is_type_tag}
-use Rattle.dw_types.specs.declared.kind.Role.{Role}
-use Rattle.dw_types.specs.declared.kind.Role.TheVariants.{Members, Dimensions, Other}
-use Rattle.dw_types.specs.Entries.{entry_of, no_entry, OffsetsRise, ParentsComeFirst, TargetsAreEntries, Facts}
+use Rattle.dw_types.specs.Entries.{entry_of, OffsetsRise, ParentsComeFirst, TargetsAreEntries, Facts}
 use Rattle.dw_types.specs.Extents.{ends_past_container}
-use Rattle.dw_types.specs.Kinds.{has_members, is_array, is_enumeration, is_members, parent_role, passes_type_on, role_in}
+use Rattle.dw_types.specs.Kinds.{has_members, is_array, is_enumeration, is_members, parent_role, passes_type_on, role_in, Role, Members, Dimensions, Other}
 use Rattle.dw_types.specs.Noted.{asked_at, IsNoted}
 use Rattle.dw_types.specs.Orders.{Ranking, IsOrderOf}
 use Rattle.dw_types.specs.Shapes.{is_plain}
@@ -51,40 +50,14 @@ module _ (entries : List Facts) (parents : ParentsComeFirst entries) (order : Ra
 
   -- at the end each entry was checked
   pub seen-all : (place : ℕ) → length order.by_rank ≤ place → (k : ℕ) → k < length entries → seen_before entries order place k ≡ true
-  seen-all place over k inside =
-      let within = asked-in entries k parents inside in
-      let long = length-by_value entries in
-      let rank = (h.listed (asked_at entries k) (omega arith)).0 in
-      seen-back place k inside (omega arith)
+  seen-all place over k inside = search (rules, asked-in, length-by_value, seen-back)
 
   -- at the next place those are checked that are checked at its entry
   pub seen-more : (place : ℕ) → place < length order.by_rank → (k : ℕ) → (seen_before entries order place k ≡ true) ⊎ (asked_at entries k ≡ get_or order.by_rank place 0) → seen_before entries order (place + 1) k ≡ true
-  seen-more place below k is = elim is [
-    | inl old ↦ let rank = seen-rank place k old in seen-back (place + 1) k (seen-inside place k old) (omega arith)
-    | inr asked ↦
-        let here = h.ranked place below in
-        let rank : get_or order.ranks (asked_at entries k) 0 ≡ place = ap (λ (n : ℕ). get_or order.ranks n 0) asked ∙ here.1 in
-        seen-back (place + 1) k (inside-asked k (get_or order.by_rank place 0) asked (let long = length-by_value entries in let p = here.0 in omega arith)) (omega arith)
-  ]
-    where
-      past-asked : (k : ℕ) → length entries ≤ k → asked_at entries k ≡ k
-      past-asked k past = let none = get_or_past entries k no_entry past in rw none refl
-
-      inside-asked : (k node : ℕ) → asked_at entries k ≡ node → node < length entries → k < length entries
-      inside-asked k node asked within = elim (cases_lt k (length entries)) [ inl inside ↦ inside | inr past ↦ let same : k ≡ node = sym (past-asked k past) ∙ asked in absurd (omega arith) ]
+  seen-more place below k is = search (rules, seen-rank, seen-back, seen-inside, length-by_value, get_or_past, cases_lt)
 
   pub seen-less : (place : ℕ) → place < length order.by_rank → (k : ℕ) → seen_before entries order (place + 1) k ≡ true → (seen_before entries order place k ≡ true) ⊎ (asked_at entries k ≡ get_or order.by_rank place 0)
-  seen-less place below k is =
-      let inside = seen-inside (place + 1) k is in
-      let rank = seen-rank (place + 1) k is in
-      elim (cases_lt (get_or order.ranks (asked_at entries k) 0) place) [
-        | inl lower ↦ inl (seen-back place k inside lower)
-        | inr last ↦
-            let same : get_or order.ranks (asked_at entries k) 0 ≡ place = omega arith in
-            let within = asked-in entries k parents inside in
-            let there = (h.listed (asked_at entries k) (let long = length-by_value entries in omega arith)).1 in
-            inr (sym there ∙ ap (λ (n : ℕ). get_or order.by_rank n 0) same)
-      ]
+  seen-less place below k is = search (rules, seen-inside, seen-rank, cases_lt, seen-back, asked-in, length-by_value)
 
   -- a step leads to an entry of smaller rank
   step-falls : (node to : ℕ) → IsStepByValue entries node to → get_or order.ranks to 0 < get_or order.ranks node 0

@@ -1,22 +1,18 @@
 -- The rules on sizes at an entry and at its members: which entries are checked there, and what is noted.
-use Rattle.std.proofs.Common.{◌≡◌, ℕ, ◌^◌, ◌<◌, Bool, true, false, ◌||◌, not, if◌then◌else◌, List, [], ◌∷◌, ◌++◌, Option, Some, None, length, get_or, set, nat_eq, ◌⊎◌, inl, inr, refl, sym, ap, ◌∙◌, arith, suc, zero}
+use Rattle.std.proofs.lemmas.Grind.{common_steps}
+use Rattle.std.proofs.Common.{rules}
+use Rattle.std.proofs.Common.{◌≡◌, ℕ, ◌^◌, ◌<◌, Bool, true, false, ◌||◌, not, if◌then◌else◌, List, [], ◌∷◌, ◌++◌, Option, Some, None, length, set, nat_eq, ◌⊎◌, inl, inr, refl, sym, ap, ◌∙◌, arith}
 use Rattle.std.specs.Option.{option_map_or}
-use Rattle.std.specs.List.{Contains}
-use Rattle.std.specs.Prelude.{All}
 use Rattle.std.proofs.lemmas.Bool.{and_parts, cases_lt, eqb-true, eq-eqb, false_from_ne_true, false≢true}
-use Rattle.std.proofs.lemmas.List.{get_or_past}
-use Rattle.std.proofs.lemmas.List.Elements.{All-contains, Contains-append_cases, Contains-append_left, Contains-append_right}
+use Rattle.std.proofs.lemmas.List.{get_or_past, set-get_or}
 use Rattle.dw_entries.specs.declared.fault.Rule.{Rule}
 use Rattle.dw_entries.specs.declared.fault.Rule.TheVariants.{NoSize, SizeTooGreat, MemberOutside, EnumSize}
 use Rattle.dw_entries.specs.Failures.{IsLeast}
 use Rattle.dw_forms.specs.Codes.{DW_TAG_member, is_type_tag}
 use Rattle.dw_types.specs.declared.kind.Kind.{Kind}
-use Rattle.dw_types.specs.declared.kind.Role.{Role}
-use Rattle.dw_types.specs.declared.kind.Role.TheVariants.{Members, Dimensions, Other}
-use Rattle.dw_types.specs.Children.{IsChildOf}
 use Rattle.dw_types.specs.Entries.{children, entry_of, no_entry, is_child, ParentsComeFirst, Facts}
-use Rattle.dw_types.specs.Kinds.{has_members, is_array, is_members, parent_role, role_in, role_of}
-use Rattle.dw_types.specs.Noted.{asked_at, is_member_of, IsNoted, with_rule}
+use Rattle.dw_types.specs.Kinds.{has_members, is_array, is_members, parent_role, role_in, role_of, Role, Members, Dimensions, Other}
+use Rattle.dw_types.specs.Noted.{asked_at, is_member_of, IsNoted, Passed, with_rule}
 use Rattle.dw_types.specs.Shapes.{is_plain}
 use Rattle.dw_types.specs.SizeFaults.{breaks_size, fails_size, is_too_great}
 use Rattle.dw_types.specs.SizeTables.{Size, cap_size, size_at, OnlyTypesAreSized}
@@ -24,7 +20,7 @@ use Rattle.dw_types.specs.Sizes.{size_of_kind, size_to}
 use Rattle.dw_types.specs.TypeFailures.{PassesAt}
 use Rattle.dw_types.proofs.RoleLemmas.{child-in, members-role, parent-true, plain-other, untyped-enumeration, untyped-kind, untyped-members, untyped-size_none}
 use Rattle.dw_types.proofs.ListLemmas.{at_set}
-use Rattle.dw_types.proofs.NotedLemmas.{noted-more, noted-pass, noted-same}
+use Rattle.dw_types.proofs.NotedLemmas.{noted-child, noted-more, noted-pass, noted-same, noted-skipped}
 use Rattle.dw_types.proofs.SizeLineLemmas.{capped_line}
 
 -- where the rules are checked at an entry
@@ -46,10 +42,7 @@ module _ (entries : List Facts) (k : ℕ) where
   asked-member parent is above = rw (is, above) refl
 
   pub asked-in : ParentsComeFirst entries → k < length entries → asked_at entries k < length entries
-  asked-in parents below = elim (asked-of (asked_at entries k) refl) [
-    | inl here ↦ let same = here.0 in omega arith
-    | inr above ↦ let first = parents k (asked_at entries k) above.1 in omega arith
-  ]
+  asked-in parents below = search (rules, asked-of)
 
 -- an entry that is no type
 
@@ -92,16 +85,8 @@ module _ (entries : List Facts) (table : ℕ → Size) where
 
   -- all that is checked at an entry that is no type passes
   pub untyped-asked : OnlyTypesAreSized entries table → (node : ℕ) → is_type_tag (entry_of entries node).tag ≡ false → has_members (entry_of entries node) ≡ false → (k : ℕ) → asked_at entries k ≡ node → PassesAt (fails_size entries table) k
-  untyped-asked sized node untyped not k is rule breaks = elim (asked-of entries k node is) [
-    | inl here ↦
-        let same : k ≡ node = here.0 in
-        let own : is_type_tag (entry_of entries k).tag ≡ false = ap (λ (n : ℕ). is_type_tag (entry_of entries n).tag) same ∙ untyped in
-        elim here.1 [
-          | inl other ↦ untyped-passes k own (unmember-plain (parent_role entries k) (entry_of entries k) other) (sized k own) rule breaks
-          | inr alone ↦ untyped-passes k own (alone-plain k alone) (sized k own) rule breaks
-        ]
-    | inr above ↦ members-pass sized node not k above.0 above.1 rule breaks
-  ]
+  untyped-asked sized node untyped not k is rule breaks =
+      search (rules, asked-of, untyped-passes, unmember-plain, alone-plain)
 
   least-same : (f g : Rule → Bool) → ((r : Rule) → f r ≡ g r) → (rule : Option Rule) → IsLeast (λ r. f r ≡ true) rule → IsLeast (λ r. g r ≡ true) rule
   least-same f g same None none = λ r breaks. none r (same r ∙ breaks)
@@ -134,92 +119,38 @@ module _ (entries : List Facts) (table : ℕ → Size) where
 
 -- going over the members
 
--- a child that was passed, with tag member
-abbrev pub IsVisited : List Facts → List ℕ → ℕ → Type 0
-IsVisited entries visited k = Contains visited k × (nat_eq (entry_of entries k).tag DW_TAG_member ≡ true)
-
-module _ (entries : List Facts) (Seen : ℕ → Type 0) (visited : List ℕ) (child : ℕ) where
-  abbrev Before : ℕ → Type 0
-  Before k = Seen k ⊎ IsVisited entries visited k
-
-  abbrev After : ℕ → Type 0
-  After k = Seen k ⊎ IsVisited entries (visited ++ child ∷ []) k
-
-  visited-keeps : (k : ℕ) → Before k → After k
-  visited-keeps k is = elim is [ inl old ↦ inl old | inr there ↦ inr (Contains-append_left visited (child ∷ []) k there.0, there.1) ]
-
-  one : (k : ℕ) → Contains (child ∷ []) k → k ≡ child
-  one k (zero, below, is) = sym is
-  one k (suc i, below, is) = absurd (omega arith)
-
-  visited-member : (fails : ℕ → Rule → Bool) (found : Option (ℕ × Rule)) → nat_eq (entry_of entries child).tag DW_TAG_member ≡ true → IsNoted fails (λ k. Before k ⊎ (k ≡ child)) found → IsNoted fails After found
-  visited-member fails found member h =
-      noted-same fails (λ k. Before k ⊎ (k ≡ child)) After found
-      (λ k is. elim is [
-        | inl old ↦ visited-keeps k old
-        | inr new ↦ inr (Contains-append_right visited (child ∷ []) k (0, (omega arith), sym new), ap (λ (n : ℕ). nat_eq (entry_of entries n).tag DW_TAG_member) new ∙ member)
-      ])
-      (λ k is. elim is [
-        | inl old ↦ inl (inl old)
-        | inr there ↦ elim (Contains-append_cases visited (child ∷ []) k there.0) [ inl before ↦ inl (inr (before, there.1)) | inr last ↦ inr (one k last) ]
-      ]) h
-
-  visited-other : (fails : ℕ → Rule → Bool) (found : Option (ℕ × Rule)) → nat_eq (entry_of entries child).tag DW_TAG_member ≡ false → IsNoted fails Before found → IsNoted fails After found
-  visited-other fails found other h =
-      noted-same fails Before After found visited-keeps
-      (λ k is. elim is [
-        | inl old ↦ inl old
-        | inr there ↦ elim (Contains-append_cases visited (child ∷ []) k there.0) [
-          | inl before ↦ inr (before, there.1)
-          | inr last ↦ absurd (false≢true (sym other ∙ (ap (λ (n : ℕ). nat_eq (entry_of entries n).tag DW_TAG_member) (sym (one k last)) ∙ there.1)))
-        ]
-      ]) h
-
--- no child was passed
-pub none-visited : (entries : List Facts) (fails : ℕ → Rule → Bool) (Seen : ℕ → Type 0) (found : Option (ℕ × Rule)) → IsNoted fails Seen found → IsNoted fails (λ k. Seen k ⊎ IsVisited entries [] k) found
-none-visited entries fails Seen found h =
-    noted-same fails Seen (λ k. Seen k ⊎ IsVisited entries [] k) found (λ k old. inl old) (λ k is. elim is [ inl old ↦ old | inr there ↦ absurd (let below = there.0.1 in omega arith) ]) h
-
 -- one more child of a structure or union, with the rule that it violates if it is a member
 pub child-noted : (entries : List Facts) (table : ℕ → Size) (Seen : ℕ → Type 0) (visited : List ℕ) (node child : ℕ) (size : Size) (found : Option (ℕ × Rule)) (rule : Option Rule)
     → has_members (entry_of entries node) ≡ true → (entry_of entries child).parent ≡ Some node → OnlyTypesAreSized entries table → table node ≡ size
     → ((entry_of entries child).tag ≡ DW_TAG_member → IsLeast (λ r. breaks_size Members (entry_of entries child) None size (size_to table (entry_of entries child).type_target) r ≡ true) rule)
     → (nat_eq (entry_of entries child).tag DW_TAG_member ≡ false → rule ≡ None)
-    → IsNoted (fails_size entries table) (λ k. Seen k ⊎ IsVisited entries visited k) found
-    → IsNoted (fails_size entries table) (λ k. Seen k ⊎ IsVisited entries (visited ++ child ∷ []) k) (with_rule found child rule)
+    → IsNoted (fails_size entries table) (Passed Seen (λ k. is_member_of entries node k ≡ true) visited) found
+    → IsNoted (fails_size entries table) (Passed Seen (λ k. is_member_of entries node k ≡ true) (visited ++ child ∷ [])) (with_rule found child rule)
 child-noted entries table Seen visited node child size found rule members above sized is least other h = by-tag (nat_eq (entry_of entries child).tag DW_TAG_member) refl
   where
-    fails : ℕ → Rule → Bool
-    fails = fails_size entries table
+    Asked : ℕ → Type 0
+    Asked k = is_member_of entries node k ≡ true
 
-    by-tag : (member : Bool) → nat_eq (entry_of entries child).tag DW_TAG_member ≡ member → IsNoted fails (λ k. Seen k ⊎ IsVisited entries (visited ++ child ∷ []) k) (with_rule found child rule)
+    by-tag : (member : Bool) → nat_eq (entry_of entries child).tag DW_TAG_member ≡ member → IsNoted (fails_size entries table) (Passed Seen Asked (visited ++ child ∷ [])) (with_rule found child rule)
     by-tag true member =
-        let here = member-least entries table node child size members above member sized is rule (least (eqb-true (entry_of entries child).tag DW_TAG_member member)) in
-        visited-member entries Seen visited child fails (with_rule found child rule) member (noted-more fails (Before entries Seen visited child) child found rule here h)
-    by-tag false not =
-        let same : found ≡ with_rule found child rule = ap (with_rule found child) (sym (other not)) in
-        visited-other entries Seen visited child fails (with_rule found child rule) not (rw (← same) h)
+        noted-child (fails_size entries table) Seen Asked visited child found rule (rw (member, above) (eq-eqb node node refl))
+        (member-least entries table node child size members above member sized is rule (least (eqb-true (entry_of entries child).tag DW_TAG_member member))) h
+    by-tag false not = rw (other not) (noted-skipped (fails_size entries table) Seen Asked visited child found (λ asked. false≢true (rw not at asked)) h)
 
 -- all children were passed
-pub members-noted : (entries : List Facts) (fails : ℕ → Rule → Bool) (Seen : ℕ → Type 0) (visited : List ℕ) (node : ℕ) (found : Option (ℕ × Rule)) → All (IsChildOf entries node) visited → visited ≡ children entries node
-    → IsNoted fails (λ k. Seen k ⊎ IsVisited entries visited k) found → IsNoted fails (λ k. Seen k ⊎ (is_member_of entries node k ≡ true)) found
-members-noted entries fails Seen visited node found each all h =
-    noted-same fails (λ k. Seen k ⊎ IsVisited entries visited k) (λ k. Seen k ⊎ (is_member_of entries node k ≡ true)) found
-    (λ k is. elim is [
-      | inl old ↦ inl old
-      | inr there ↦ inr (both k there.1 (All-contains (IsChildOf entries node) visited k each there.0).parent_is)
-    ])
+pub members-noted : (entries : List Facts) (fails : ℕ → Rule → Bool) (Seen : ℕ → Type 0) (visited : List ℕ) (node : ℕ) (found : Option (ℕ × Rule)) → visited ≡ children entries node
+    → IsNoted fails (Passed Seen (λ k. is_member_of entries node k ≡ true) visited) found → IsNoted fails (λ k. Seen k ⊎ (is_member_of entries node k ≡ true)) found
+members-noted entries fails Seen visited node found all h =
+    noted-same fails (Passed Seen (λ k. is_member_of entries node k ≡ true) visited) (λ k. Seen k ⊎ (is_member_of entries node k ≡ true)) found
+    (λ k is. elim is [ inl old ↦ inl old | inr there ↦ inr there.1 ])
     (λ k is. elim is [
       | inl old ↦ inl old
       | inr member ↦
           let parts = and_parts (nat_eq (entry_of entries k).tag DW_TAG_member) (is_child entries node k) member in
           let above = parent-true (entry_of entries k).parent node parts.1 in
-          inr (rw all (child-in entries node k record { inside = child-inside k above; parent_is = above }), parts.0)
+          inr (rw all (child-in entries node k record { inside = child-inside k above; parent_is = above }), member)
     ]) h
   where
-    both : (k : ℕ) → nat_eq (entry_of entries k).tag DW_TAG_member ≡ true → (entry_of entries k).parent ≡ Some node → is_member_of entries node k ≡ true
-    both k member above = rw (member, above) (eq-eqb node node refl)
-
     child-inside : (k : ℕ) → (entry_of entries k).parent ≡ Some node → k < length entries
     child-inside k above = elim (cases_lt k (length entries)) [
       | inl inside ↦ inside
@@ -230,20 +161,7 @@ members-noted entries fails Seen visited node found each all h =
 pub asked-noted : (entries : List Facts) (fails : ℕ → Rule → Bool) (Seen : ℕ → Type 0) (node : ℕ) (found : Option (ℕ × Rule)) → nat_eq (entry_of entries node).tag DW_TAG_member ≡ false
     → IsNoted fails (λ k. (Seen k ⊎ (k ≡ node)) ⊎ (is_member_of entries node k ≡ true)) found → IsNoted fails (λ k. Seen k ⊎ (asked_at entries k ≡ node)) found
 asked-noted entries fails Seen node found plain h =
-    noted-same fails (λ k. (Seen k ⊎ (k ≡ node)) ⊎ (is_member_of entries node k ≡ true)) (λ k. Seen k ⊎ (asked_at entries k ≡ node)) found
-    (λ k is. elim is [
-      | inl before ↦ elim before [ inl old ↦ inl old | inr here ↦ inr (ap (asked_at entries) here ∙ asked-itself entries node plain) ]
-      | inr member ↦
-          let parts = and_parts (nat_eq (entry_of entries k).tag DW_TAG_member) (is_child entries node k) member in
-          inr (asked-member entries k node parts.0 (parent-true (entry_of entries k).parent node parts.1))
-    ])
-    (λ k is. elim is [
-      | inl old ↦ inl (inl old)
-      | inr asked ↦ elim (asked-of entries k node asked) [
-        | inl here ↦ inl (inr here.0)
-        | inr above ↦ let member = above.0 in let parent = above.1 in inr (rw (member, parent) (eq-eqb node node refl))
-      ]
-    ]) h
+    search (rules, noted-same, asked-itself, and_parts, asked-member, parent-true, asked-of, eq-eqb)
 
 -- the same, where the members are noted after the others
 
@@ -296,9 +214,7 @@ alone-noted entries table Seen node found sized not plain h =
 -- all that is checked at an entry that is no type passes
 pub untyped-noted : (entries : List Facts) (table : ℕ → Size) (Seen : ℕ → Type 0) (node : ℕ) (found : Option (ℕ × Rule)) → OnlyTypesAreSized entries table → is_type_tag (entry_of entries node).tag ≡ false
     → IsNoted (fails_size entries table) Seen found → IsNoted (fails_size entries table) (λ k. Seen k ⊎ (asked_at entries k ≡ node)) found
-untyped-noted entries table Seen node found sized untyped h =
-    noted-pass (fails_size entries table) Seen (λ k. asked_at entries k ≡ node) found
-    (untyped-asked entries table sized node untyped (untyped-members (entry_of entries node) untyped)) h
+untyped-noted entries table Seen node found sized untyped h = search (rules, noted-pass, untyped-asked, untyped-members)
 
 -- a type was noted, with the least rule that it violates
 pub type-noted : (entries : List Facts) (table : ℕ → Size) (Seen : ℕ → Type 0) (node : ℕ) (size : Size) (found : Option (ℕ × Rule)) (rule : Option Rule) → is_type_tag (entry_of entries node).tag ≡ true → table node ≡ size
@@ -308,10 +224,7 @@ type-noted entries table Seen node size found rule is sized least h = noted-more
 
 -- the table with the size of a type
 pub typed-set : (entries : List Facts) (sizes : List Size) (node : ℕ) (size : Size) → node < length sizes → is_type_tag (entry_of entries node).tag ≡ true → OnlyTypesAreSized entries (size_at sizes) → OnlyTypesAreSized entries (size_at (set sizes node size))
-typed-set entries sizes node size inside is typed k untyped = elim (at_set sizes node k size None inside) [
-  | inl here ↦ absurd (false≢true (sym untyped ∙ (ap (λ (n : ℕ). is_type_tag (entry_of entries n).tag) here.0 ∙ is)))
-  | inr apart ↦ apart.1 ∙ typed k untyped
-]
+typed-set entries sizes node size inside is typed k untyped = search (rules, at_set, false≢true)
 
 -- the line of an entry that is no type
 pub untyped-line : (entries : List Facts) (table : ℕ → Size) (k : ℕ) → is_type_tag (entry_of entries k).tag ≡ false → capped_line entries table k ≡ None
@@ -319,10 +232,4 @@ untyped-line entries table k untyped = ap (λ (kind : Kind). cap_size (2 ^ 63) (
 
 -- an entry that is no type has no size in the table already
 pub untyped-set : (entries : List Facts) (sizes : List Size) (node : ℕ) → OnlyTypesAreSized entries (size_at sizes) → is_type_tag (entry_of entries node).tag ≡ false → sizes ≡ set sizes node (capped_line entries (size_at sizes) node)
-untyped-set entries sizes node typed untyped =
-    sym (ap (set sizes node) (untyped-line entries (size_at sizes) node untyped ∙ sym (typed node untyped)) ∙ set-itself sizes node)
-  where
-    set-itself : (xs : List Size) (k : ℕ) → set xs k (get_or xs k None) ≡ xs
-    set-itself [] k = refl
-    set-itself (x ∷ xs) zero = refl
-    set-itself (x ∷ xs) (suc k) = ap (λ (rest : List Size). x ∷ rest) (set-itself xs k)
+untyped-set entries sizes node typed untyped = grind (arith, common_steps, untyped-line, set-get_or)

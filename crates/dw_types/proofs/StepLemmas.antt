@@ -1,14 +1,14 @@
 -- The graph of steps by value has exactly the steps by value, and the steps of one entry.
+use Rattle.std.proofs.Common.{rules}
 use Rattle.std.proofs.Common.{◌≡◌, ℕ, ◌+◌, ◌<◌, ◌≤◌, Bool, true, false, List, [], ◌∷◌, ◌++◌, Option, Some, None, length, get_or, inl, inr, arith, refl, ap, ◌∙◌, suc, zero, not}
 use Rattle.std.specs.List.{flat_map, range_with_len, Contains}
 use Rattle.std.proofs.lemmas.Bool.{cases_lt, and_right, and_parts}
 use Rattle.std.proofs.lemmas.List.{length-map, get_or-map, get_or_past, get_or_default}
 use Rattle.std.proofs.lemmas.List.Elements.{Contains-append_left, Contains-append_right, Contains-append_cases}
 use Rattle.std.proofs.lemmas.List.FromFn.{length-range_with_len, get_or-range_with_len}
-use Rattle.dw_links.specs.Classes.{is_one_of}
 use Rattle.dw_types.specs.Entries.{no_entry, entry_of, entry_numbers, TargetsAreEntries, Facts}
 use Rattle.dw_types.specs.Graphs.{steps_of, IsStep, step_at, LeadsToNodes}
-use Rattle.dw_types.specs.Kinds.{passes_type_on, is_declared_type, has_members, container_tags, declarable_tags}
+use Rattle.dw_types.specs.Kinds.{passes_type_on, is_declared_type, has_members}
 use Rattle.dw_types.specs.Steps.{is_plain_member, IsStepByValue, by_type, by_member, by_signature, targets_if, member_step, steps_by_value, by_value}
 
 -- the one target, where the test passes
@@ -46,11 +46,7 @@ by_value-at entries node below =
     get_or-map (steps_by_value entries) (range_with_len 0 (length entries)) node 0 [] (omega arith) ∙ ap (steps_by_value entries) (at ∙ plain)
 
 number-at : (entries : List Facts) (k : ℕ) → k < length (entry_numbers entries) → (k < length entries) × (get_or (entry_numbers entries) k 0 ≡ k)
-number-at entries k below =
-    let long = length-range_with_len 0 (length entries) in
-    let within : k < length entries = omega arith in
-    let at = get_or-range_with_len 0 (length entries) k 0 within in
-    (within, (omega arith))
+number-at entries k below = search (rules, length-range_with_len, get_or-range_with_len)
 
 -- as many nodes as entries
 pub length-by_value : (entries : List Facts) → length (by_value entries) ≡ length entries
@@ -76,9 +72,7 @@ steps-from entries from to has =
     ]
 
 steps-to : (entries : List Facts) (from to : ℕ) → IsStepByValue entries from to → Contains (steps_by_value entries from) to
-steps-to entries from to (by_type passes is) =
-    Contains-append_left _ (targets_if (is_declared_type (entry_of entries from)) (entry_of entries from).signature_target) to
-    (Contains-append_left _ (flat_map (member_step entries from) (entry_numbers entries)) to (in-targets _ _ to passes is))
+steps-to entries from to (by_type passes is) = search (rules, in-targets)
 steps-to entries from to (by_member member below plain is) =
     let long = length-range_with_len 0 (length entries) in
     let at = number-at entries member (omega arith) in
@@ -133,10 +127,7 @@ not-true false e = refl
 
 -- a structure with members has no step by signature
 pub no-signature_step : (entry : Facts) (target : Option ℕ) → has_members entry ≡ true → targets_if (is_declared_type entry) target ≡ []
-no-signature_step entry target has =
-    let kept = and_parts (is_one_of container_tags entry.tag) (not entry.declared) has in
-    let plain : is_declared_type entry ≡ false = and_right (is_one_of declarable_tags entry.tag) entry.declared (not-true entry.declared kept.1) in
-    rw plain refl
+no-signature_step entry target has = search (rules, and_parts, and_right, not-true)
 
 -- a step by value leads to an entry
 pub step-to_entry : (entries : List Facts) → TargetsAreEntries entries → (from to : ℕ) → IsStepByValue entries from to → to < length entries

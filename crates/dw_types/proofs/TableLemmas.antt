@@ -1,5 +1,6 @@
 -- Lines that read a table only at a node's steps: where ranks fall along the steps, exactly one table obeys them.
-use Rattle.std.proofs.Common.{◌≡◌, ◌≢◌, ℕ, ◌+◌, ◌<◌, ◌≤◌, List, length, get_or, set, inl, inr, arith, sym, ap, ◌∙◌, suc, zero, None, get_or-set_same, get_or-set_other}
+use Rattle.std.proofs.Common.{rules}
+use Rattle.std.proofs.Common.{◌≡◌, ◌≢◌, ℕ, ◌+◌, ◌<◌, ◌≤◌, List, length, get_or, set, arith, sym, ap, ◌∙◌, suc, zero, None, get_or-set_same, get_or-set_other}
 use Rattle.std.proofs.lemmas.Bool.{cases_lt}
 use Rattle.dw_types.specs.Graphs.{Graph, steps_of, step_at, LeadsToNodes, FallsAlong}
 use Rattle.dw_types.specs.Orders.{Ranking, IsOrderOf}
@@ -55,10 +56,7 @@ module _ (graph : Graph) (ranks : List ℕ) (falls : FallsAlong graph ranks) (le
 
   -- some table obeys the lines
   pub some-obeys : (line : Lines) → IsLocal graph line → ObeysLines graph line (size_by_rank line ranks)
-  some-obeys line local node in_graph =
-      local (size_by line (get_or ranks node 0)) (size_by_rank line ranks) node in_graph (λ k in_steps.
-      let fall = falls node k in_steps in
-      uses-same line local (get_or ranks node 0) (suc (get_or ranks (step_at graph node k) 0)) (step_at graph node k) (leads node k in_steps) fall (omega arith))
+  some-obeys line local node in_graph = search (rules, uses-same)
 
   -- a table that obeys capped lines is the capped table
   pub capped-table : (line : Lines) → IsLocal graph line → (limit : ℕ)
@@ -84,36 +82,16 @@ module _ (graph : Graph) (order : Ranking) (h : IsOrderOf graph order) (line : L
   -- a step of a node with a rank up to some place leads to none that stands there by rank
   other-step : (place node k : ℕ) → get_or order.ranks node 0 ≤ place → place < length order.by_rank → k < length (steps_of graph node)
       → step_at graph node k ≢ get_or order.by_rank place 0
-  other-step place node k rank below in_steps same =
-      let fall = h.falls node k in_steps in
-      let here = h.ranked place below in
-      let e : get_or order.ranks (step_at graph node k) 0 ≡ place = rw same here.1 in
-      omega arith
+  other-step place node k rank below in_steps same = search (rules)
 
   line-kept : (sizes : List Size) (place node : ℕ) (size : Size) → node < length graph → get_or order.ranks node 0 ≤ place → place < length order.by_rank
       → line (size_at (set sizes (get_or order.by_rank place 0) size)) node ≡ line (size_at sizes) node
-  line-kept sizes place node size in_graph rank below =
-      local (size_at (set sizes (get_or order.by_rank place 0) size)) (size_at sizes) node in_graph (λ k in_steps.
-      get_or-set_other sizes (get_or order.by_rank place 0) (step_at graph node k) size None (other-step place node k rank below in_steps))
+  line-kept sizes place node size in_graph rank below = search (rules, get_or-set_other, other-step)
 
   pub has-filled_more : (sizes : List Size) (count : ℕ) → length sizes ≡ length graph → count < length order.by_rank → HasFilled graph order line sizes count
       → HasFilled graph order line (set sizes (get_or order.by_rank count 0) (line (size_at sizes) (get_or order.by_rank count 0))) (count + 1)
   has-filled_more sizes count long below filled k within =
-      let node = get_or order.by_rank count 0 in
-      let size = line (size_at sizes) node in
-      let here = h.ranked count below in
-      let there = h.ranked k (omega arith) in
-      let in_graph : node < length graph = here.0 in
-      let rank : get_or order.ranks (get_or order.by_rank k 0) 0 ≡ k = there.1 in
-      let keep = line-kept sizes count (get_or order.by_rank k 0) size there.0 (omega arith) below in
-      elim (cases_lt k count) [
-        | inl before ↦
-            let other : get_or order.by_rank k 0 ≢ node = λ same. (let e : get_or order.ranks (get_or order.by_rank k 0) 0 ≡ count = rw same here.1 in omega arith) in
-            get_or-set_other sizes node (get_or order.by_rank k 0) size None other ∙ (filled k before ∙ sym keep)
-        | inr last ↦
-            let same : k ≡ count = omega arith in
-            rw same (get_or-set_same sizes node size None (omega arith) ∙ sym (rw same at keep))
-      ]
+      search (rules, line-kept, cases_lt, get_or-set_other, get_or-set_same)
 
   pub has-filled_all : (sizes : List Size) (count : ℕ) → length order.by_rank ≤ count → HasFilled graph order line sizes count → ObeysLines graph line (size_at sizes)
   has-filled_all sizes count all filled node in_graph = let place = h.listed node in_graph in rw place.1 at (filled (get_or order.ranks node 0) (let p = place.0 in omega arith))

@@ -1,6 +1,7 @@
 -- What is read of the unit of an entry.
-use Rattle.std.proofs.Common.{◌≡◌, ℕ, ◌+◌, ◌<◌, ◌≤◌, List, [], ◌∷◌, ◌++◌, length, map, take, Option, None, Some, IfSome, inl, inr, refl, sym, ap, ◌∙◌, arith}
-use Rattle.std.specs.Prelude.{slice_get, option_map}
+use Rattle.std.proofs.Common.{rules}
+use Rattle.std.proofs.Common.{◌≡◌, ℕ, ◌+◌, ◌<◌, ◌≤◌, List, [], ◌∷◌, ◌++◌, length, map, take, Option, Some, IfSome, inl, inr, sym, ap, ◌∙◌, arith}
+use Rattle.std.specs.Prelude.{slice_get}
 use Rattle.std.specs.Option.{option_map_or}
 use Rattle.std.proofs.lemmas.List.{length-map, map_push, take_all, take_more}
 use Rattle.std.proofs.lemmas.Option.{IfSome_then, get_or_from_slice_get, same_Some, slice_get-map, slice_get_cases, slice_get_within}
@@ -69,13 +70,7 @@ languages-long us = length-map (placed us) language_of ∙ length-placed_from 0 
 
 -- the one of a number is that of the unit with this number
 pub language-there : (us : List DebugUnit) (number : ℕ) (language : Constant) → slice_get (languages_in us) number ≡ Some language → IfSome (slice_get (placed us) number) (λ u. language ≡ language_of u)
-language-there us number language at = go (slice_get (placed us) number) refl
-  where
-    go : (o : Option PlacedUnit) → slice_get (placed us) number ≡ o → IfSome o (λ u. language ≡ language_of u)
-    go None is = tt
-    go (Some u) is =
-        let listed : slice_get (languages_in us) number ≡ Some (language_of u) = slice_get-map language_of (placed us) number ∙ ap (option_map language_of) is in
-        same_Some language (language_of u) (sym at ∙ listed)
+language-there us number language at = search (rules, slice_get-map, same_Some)
 
 pub languages-more : (us : List DebugUnit) (number : ℕ) (language : Constant) → number < length us → IfSome (slice_get (placed us) number) (λ u. language ≡ language_of u)
     → map language_of (take number (placed us)) ++ language ∷ [] ≡ map language_of (take (number + 1) (placed us))

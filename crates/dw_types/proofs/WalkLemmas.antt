@@ -1,6 +1,8 @@
 -- A node is taken up, or a step looked at: each turn of a walk leads to another state of one, and how many turns a walk
 -- has taken.
-use Rattle.std.proofs.Common.{◌≡◌, ℕ, ◌+◌, ◌^◌, ◌<◌, ◌≤◌, List, [], ◌∷◌, Bool, true, cond, length, get_or, arith, refl, sum, count_by, suc, ◌≢◌, ◌-◌, ◌⊎◌, inl, inr, sym, ap, ◌∙◌, length-set, get_or-set_same}
+use Rattle.std.proofs.Common.{rules}
+use Rattle.std.proofs.lemmas.Grind.{common_steps}
+use Rattle.std.proofs.Common.{◌≡◌, None, Some, ℕ, ◌+◌, ◌^◌, ◌<◌, ◌≤◌, List, [], ◌∷◌, Bool, true, cond, length, get_or, arith, refl, sum, count_by, suc, ◌≢◌, ◌-◌, ◌⊎◌, inl, inr, sym, ap, ◌∙◌, length-set, get_or-set_same}
 use Rattle.std.specs.List.{sum_by}
 use Rattle.std.proofs.lemmas.List.Sums.{sum_by-cons, sum_by-le, count_by-le-length, sum_by-set}
 use Rattle.std.proofs.lemmas.List.Elements.{All-from_get_or}
@@ -8,9 +10,8 @@ use Rattle.std.proofs.lemmas.Bool.{cond-true, cases_lt}
 use Rattle.std.proofs.lemmas.List.{length_push, get_or_push, get_or_past, get_or_append_left}
 use Rattle.dw_types.specs.declared.walk.Mark.TheVariants.{Fresh, Ranked, Open}
 use Rattle.dw_types.specs.Graphs.{Graph, step_count, steps_of, step_at, IsStep}
-use Rattle.dw_types.specs.Walks.{IsCoherent, is_taken, HasPlaces, HasStack, HasCounters, IsAtCycle, IsWalk, LooksUp, LooksUpBut, work_left}
+use Rattle.dw_types.specs.Walks.{IsCoherent, is_taken, HasPlaces, HasStack, HasCounters, HasFollowed, HasNext, IsTop, IsWalk, LooksUp, LooksUpBut, work_left}
 use Rattle.dw_types.specs.WalkStates.{State, mark_of, taken_up, with_step}
-use Rattle.dw_types.specs.declared.walk.Mark.{Mark}
 use Rattle.dw_types.proofs.ListLemmas.{at_set, at_push}
 
 -- a count of a list each of whose elements passes
@@ -47,12 +48,7 @@ sum-same (n ∷ counts) (steps ∷ graph) e same =
 
 -- there are at most as many turns as nodes and steps
 pub turns-le : (graph : Graph) (s : State) → IsCoherent graph s → s.turns ≤ length graph + step_count graph
-turns-le graph s h =
-    let turns = h.turns in
-    let few = count_by-le-length is_taken s.marks in
-    let marks = h.places.marks in
-    let looked = sum-le s.next graph h.places.next h.counters.within in
-    omega arith
+turns-le graph s h = search (rules, count_by-le-length, sum-le)
 
 -- two more turns can be counted
 pub turns-room : (graph : Graph) (s : State) → IsCoherent graph s → s.turns + 2 < 2 ^ 128
@@ -74,11 +70,6 @@ turns-all graph s h all =
     let looked = sum-same s.next graph h.places.next (λ k below. h.counters.ranked k (all k below)) in
     omega arith
 
--- the node on top of the stack
-pub record IsTop (s : State) (node : ℕ) : Type 0 where
-  pub some : 0 < length s.stack
-  pub top : get_or s.stack (length s.stack - 1) 0 ≡ node
-
 pub top-opened : (graph : Graph) (s : State) (node : ℕ) → HasStack graph s → IsTop s node → mark_of s node ≡ Open
 top-opened graph s node h t = rw (← t.top) (h.opened (length s.stack - 1) (let some = t.some in omega arith))
 
@@ -91,24 +82,11 @@ in-graph graph s node h ne =
 
 look-counters : (graph : Graph) (s : State) (node : ℕ) → IsCoherent graph s → IsTop s node → node < length s.next
     → get_or s.next node 0 < length (steps_of graph node) → length (steps_of graph node) < 2 ^ 64 → HasCounters graph (with_step s node)
-look-counters graph s node h t in_graph more small =
-    let opened = top-opened graph s node h.stack t in
-    record {
-      within = λ a. elim (at_set s.next node a (get_or s.next node 0 + 1) 0 in_graph) [ inl p ↦ rw (p.1, p.0) (omega arith) | inr p ↦ rw p.1 (h.counters.within a) ];
-      small = λ a. elim (at_set s.next node a (get_or s.next node 0 + 1) 0 in_graph) [ inl p ↦ rw p.1 (omega arith) | inr p ↦ rw p.1 (h.counters.small a) ];
-      fresh = λ a fresh. elim (at_set s.next node a (get_or s.next node 0 + 1) 0 in_graph) [ inl p ↦ absurd (let e : mark_of s node ≡ Fresh = rw p.0 at fresh in cc) | inr p ↦ p.1 ∙ h.counters.fresh a fresh ];
-      ranked = λ a done. elim (at_set s.next node a (get_or s.next node 0 + 1) 0 in_graph) [ inl p ↦ absurd (let e : mark_of s node ≡ Ranked = rw p.0 at done in cc) | inr p ↦ p.1 ∙ h.counters.ranked a done ];
-    }
+look-counters graph s node h t in_graph more small = search (rules, top-opened, at_set)
 
 pub look-coherent : (graph : Graph) (s : State) (node : ℕ) → IsCoherent graph s → IsTop s node → node < length s.next
     → get_or s.next node 0 < length (steps_of graph node) → length (steps_of graph node) < 2 ^ 64 → IsCoherent graph (with_step s node)
-look-coherent graph s node h t in_graph more small = record {
-  places = record { marks = h.places.marks; next = length-set s.next node _ ∙ h.places.next; ranks = h.places.ranks; few = h.places.few };
-  stack = record { opened = h.stack.opened; stacked = h.stack.stacked; once = h.stack.once; steps = h.stack.steps };
-  counters = look-counters graph s node h t in_graph more small;
-  ranks = record { below = h.ranks.below; listed = h.ranks.listed; ranked = h.ranks.ranked; leads = h.ranks.leads; falls = h.ranks.falls };
-  turns = let turns = h.turns in let e = sum_by-set (λ (x : ℕ). x) s.next node (get_or s.next node 0 + 1) 0 in_graph in omega arith;
-}
+look-coherent graph s node h t in_graph more small = search (rules, length-set, look-counters, sum_by-set)
 
 pub look-but : (graph : Graph) (s : State) (node : ℕ) → IsWalk graph s → node < length s.next
     → LooksUpBut graph (with_step s node) (step_at graph node (get_or s.next node 0))
@@ -184,28 +162,7 @@ module _ (graph : Graph) (s : State) (node : ℕ) (h : IsCoherent graph s) (in_g
   }
 
   pub up-coherent : IsCoherent graph (taken_up s node)
-  up-coherent = record {
-    places = record { marks = length-set s.marks node _ ∙ h.places.marks; next = h.places.next; ranks = h.places.ranks; few = h.places.few };
-    stack = up-stack;
-    counters = record {
-      within = h.counters.within;
-      small = h.counters.small;
-      fresh = λ a fresh. h.counters.fresh a (was-fresh a fresh);
-      ranked = λ a done. h.counters.ranked a (was-ranked a done);
-    };
-    ranks = record {
-      below = λ a done. h.ranks.below a (was-ranked a done);
-      listed = λ a done. h.ranks.listed a (was-ranked a done);
-      ranked = λ k below. let old = h.ranks.ranked k below in (up-ranked _ old.0, old.1);
-      leads = λ a k done in_steps. up-ranked _ (h.ranks.leads a k (was-ranked a done) in_steps);
-      falls = λ a k done in_steps. h.ranks.falls a k (was-ranked a done) in_steps;
-    };
-    turns =
-        let turns = h.turns in
-        let e = sum_by-set (λ (m : Mark). cond (is_taken m) 1 0) s.marks node Open Fresh in_graph in
-        let e' = rw new at e in
-        omega arith;
-  }
+  up-coherent = search (rules, length-set, up-stack, was-fresh, was-ranked, up-ranked, sum_by-set)
 
   pub up-looks_up : LooksUpBut graph s node → LooksUp graph (taken_up s node)
   up-looks_up but place k in_stack seen =
@@ -226,33 +183,39 @@ module _ (graph : Graph) (s : State) (node : ℕ) (h : IsCoherent graph s) (in_g
 
 -- a whole turn: the next step of the node on top is looked at
 
-module _ (graph : Graph) (s : State) (node to : ℕ) (h : IsWalk graph s) (t : IsTop s node) (more : get_or s.next node 0 < length (steps_of graph node))
-    (small : length (steps_of graph node) < 2 ^ 64) (leads : to ≡ step_at graph node (get_or s.next node 0)) where
+module _ (graph : Graph) (s : State) (node before to : ℕ) (h : IsWalk graph s) (n : HasNext graph s node before) (leads : to ≡ step_at graph node before) where
   turn-in : node < length s.next
-  turn-in =
-      let next = h.coherent.places.next in
-      let below = in-graph graph s node h.coherent.places (λ e. let opened = top-opened graph s node h.coherent.stack t in cc) in
-      omega arith
+  turn-in = search (rules, in-graph, top-opened)
 
   turn-coherent : IsCoherent graph (with_step s node)
-  turn-coherent = look-coherent graph s node h.coherent t turn-in more small
+  turn-coherent = look-coherent graph s node h.coherent n.is_top turn-in n.more n.few
 
   turn-link : 0 < length s.stack → IsStep graph (get_or s.stack (length s.stack - 1) 0) to
-  turn-link some = rw t.top (get_or s.next node 0, more, sym leads)
+  turn-link some = rw n.is_top.top (get_or s.next node 0, n.more, rw n.looked (sym leads))
 
   turn-but : LooksUpBut graph (with_step s node) to
-  turn-but = rw leads (look-but graph s node h turn-in)
+  turn-but = rw (leads, ← n.looked) (look-but graph s node h turn-in)
 
-  -- to a node that was ranked
-  pub look-ranked_walk : mark_of s to ≡ Ranked → IsWalk graph (with_step s node)
-  look-ranked_walk done = record { coherent = turn-coherent; looks_up = looked-ranked graph (with_step s node) to turn-but done }
-
-  pub look-less : work_left graph (with_step s node) < work_left graph s
+  look-less : work_left graph (with_step s node) < work_left graph s
   look-less = let few = turns-le graph (with_step s node) turn-coherent in omega arith
 
+  -- to a node that was ranked
+  pub followed-ranked : mark_of s to ≡ Ranked → HasFollowed graph s (with_step s node) None
+  followed-ranked done = record {
+    comes = record { coherent = turn-coherent; looks_up = looked-ranked graph (with_step s node) to turn-but done };
+    taken = λ a fresh. fresh;
+    gave_up = refl;
+    less = look-less;
+  }
+
   -- to an open node
-  pub look-open : mark_of s to ≡ Open → IsAtCycle graph (with_step s node) to
-  look-open opened = record { coherent = turn-coherent; some = t.some; closes = turn-link t.some; opened = opened }
+  pub followed-open : mark_of s to ≡ Open → HasFollowed graph s (with_step s node) (Some to)
+  followed-open opened = record {
+    comes = record { coherent = turn-coherent; some = n.is_top.some; closes = turn-link n.is_top.some; opened = opened };
+    taken = λ a fresh. fresh;
+    gave_up = refl;
+    less = look-less;
+  }
 
   -- to a fresh node, which is taken up
   module _ (new : mark_of s to ≡ Fresh) (in_graph : to < length graph) where
@@ -262,11 +225,13 @@ module _ (graph : Graph) (s : State) (node to : ℕ) (h : IsWalk graph s) (t : I
     turn-up : IsCoherent graph (taken_up (with_step s node) to)
     turn-up = up-coherent graph (with_step s node) to turn-coherent turn-in_marks new turn-link
 
-    pub look-fresh_walk : IsWalk graph (taken_up (with_step s node) to)
-    look-fresh_walk = record { coherent = turn-up; looks_up = up-looks_up graph (with_step s node) to turn-coherent turn-in_marks new turn-link turn-but }
-
-    pub look-fresh_less : work_left graph (taken_up (with_step s node) to) < work_left graph s
-    look-fresh_less = let few = turns-le graph (taken_up (with_step s node) to) turn-up in let long = length_push s.stack to in omega arith
+    pub followed-fresh : HasFollowed graph s (taken_up (with_step s node) to) None
+    followed-fresh = record {
+      comes = record { coherent = turn-up; looks_up = up-looks_up graph (with_step s node) to turn-coherent turn-in_marks new turn-link turn-but };
+      taken = was-fresh graph (with_step s node) to turn-coherent turn-in_marks new turn-link;
+      gave_up = refl;
+      less = let few = turns-le graph (taken_up (with_step s node) to) turn-up in let long = length_push s.stack to in omega arith;
+    }
 
 -- a walk with an empty stack takes up a fresh node
 module _ (graph : Graph) (s : State) (node : ℕ) (h : IsWalk graph s) (empty : s.stack ≡ []) (in_graph : node < length graph) (new : mark_of s node ≡ Fresh) where
@@ -277,7 +242,4 @@ module _ (graph : Graph) (s : State) (node : ℕ) (h : IsWalk graph s) (empty : 
   first-link some = let none : length s.stack ≡ 0 = ap length empty in absurd (omega arith)
 
   pub first-walk : IsWalk graph (taken_up s node)
-  first-walk = record {
-    coherent = up-coherent graph s node h.coherent first-in_marks new first-link;
-    looks_up = up-looks_up graph s node h.coherent first-in_marks new first-link (λ place k in_stack seen. inl (h.looks_up place k in_stack seen));
-  }
+  first-walk = grind (arith, common_steps, up-coherent, first-in_marks, first-link, up-looks_up)

@@ -3,13 +3,12 @@ use Rattle.std.specs.Prelude.{ℕ, ◌^◌, ◌-◌, ℤ, pos, negsuc, ◌+ℤ�
 use Rattle.std.specs.Prelude.{Option, Some, None, if◌then◌else◌, nat_eq}
 use Rattle.dw_types.specs.declared.count.Constant.{Constant}
 use Rattle.dw_types.specs.declared.count.Constant.TheVariants.{Absent, NotNumber, Unsigned, Signed}
-use Rattle.dw_types.specs.declared.kind.Role.{Role}
 use Rattle.dw_forms.specs.Codes.{DW_AT_count, DW_AT_lower_bound, DW_AT_upper_bound, DW_TAG_array_type}
 use Rattle.dw_forms.specs.Codes.{DW_TAG_subrange_type, DW_LANG_C89, DW_LANG_C, DW_LANG_C_plus_plus}
 use Rattle.dw_forms.specs.Codes.{DW_LANG_C99, DW_LANG_C_plus_plus_11, DW_LANG_Rust, DW_LANG_C11, DW_LANG_C_plus_plus_14}
 use Rattle.dw_types.specs.Constants.{is_present, natural, natural_of, number_in}
 use Rattle.dw_types.specs.Entries.{entry_of, Facts, constant}
-use Rattle.dw_types.specs.Kinds.{is_dimensions, parent_role}
+use Rattle.dw_types.specs.Kinds.{is_dimensions, parent_role, Role}
 use Rattle.dw_links.specs.Classes.{is_one_of}
 use Rattle.dw_types.specs.SizeTables.{Size}
 

@@ -1,7 +1,7 @@
 -- Chapter: whether a plain member ends inside its container (DWARF 5, 5.7.6).
 use Rattle.std.specs.Prelude.{ℕ, ◌+◌, ◌*◌, ℤ, pos, negsuc, ◌*ℤ◌, Bool, true, false, ◌&&◌, Option, None, Some, is_some}
 use Rattle.std.specs.Prelude.{if◌then◌else◌, nat_lt}
-use Rattle.dw_types.specs.declared.kind.Role.{Role}
+use Rattle.dw_types.specs.Kinds.{Role}
 use Rattle.dw_types.specs.declared.count.Constant.{Constant}
 use Rattle.dw_types.specs.Constants.{is_present, number_in, natural_of}
 use Rattle.dw_types.specs.Shapes.{is_plain}

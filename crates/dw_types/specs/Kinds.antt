@@ -4,8 +4,6 @@ use Rattle.std.specs.List.{count_by}
 use Rattle.dw_types.specs.declared.kind.Kind.{Kind}
 use Rattle.dw_types.specs.declared.kind.Kind.TheVariants.{Declared, OwnSized, Pointer, Alias, Enumeration, Array}
 use Rattle.dw_types.specs.declared.kind.Kind.TheVariants.{Subroutine, NoType}
-use Rattle.dw_types.specs.declared.kind.Role.{Role}
-use Rattle.dw_types.specs.declared.kind.Role.TheVariants.{Members, Dimensions, Other}
 use Rattle.dw_forms.specs.Codes.{DW_TAG_array_type, DW_TAG_class_type, DW_TAG_enumeration_type, DW_TAG_pointer_type}
 use Rattle.dw_forms.specs.Codes.{DW_TAG_reference_type, DW_TAG_string_type, DW_TAG_structure_type}
 use Rattle.dw_forms.specs.Codes.{DW_TAG_subroutine_type, DW_TAG_typedef, DW_TAG_union_type, DW_TAG_ptr_to_member_type}
@@ -77,7 +75,14 @@ kind_of entry =
 abbrev pub type_count : List Facts → ℕ
 type_count entries = count_by (λ (entry : Facts). is_type_tag entry.tag) entries
 
--- what an entry is to its children: it has plain members, dimensions, or neither
+-- what an entry is to its children: it may have plain members, if it is a structure or union that is not declared, or
+-- dimensions, if it is an array
+pub data Role : Type 0 where
+  Members : Role
+  Dimensions : Role
+  Other : Role
+
+-- the role of an entry
 abbrev pub role_of : Facts → Role
 role_of entry = if has_members entry then Members else if is_array entry then Dimensions else Other
 

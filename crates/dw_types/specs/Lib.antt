@@ -26,6 +26,5 @@ pub mod ShapesSeen
 pub mod WalkStates
 pub mod Walks
 pub mod RanksListed
-pub mod ElementCounts
 pub mod StoredSizes
 pub mod Noted

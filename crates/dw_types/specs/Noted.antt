@@ -1,5 +1,5 @@
 -- State: the failing entry of the least number among those that a pass has seen.
-use Rattle.std.specs.Prelude.{◌≡◌, ℕ, ◌<◌, Bool, true, ◌&&◌, List, Option, None, Some, if◌then◌else◌, nat_eq, nat_le}
+use Rattle.std.specs.Prelude.{◌≡◌, ℕ, ◌<◌, ◌⊎◌, Bool, true, ◌&&◌, List, Contains, Option, None, Some, if◌then◌else◌, nat_eq, nat_le}
 use Rattle.std.specs.Option.{option_map_or}
 use Rattle.dw_entries.specs.declared.fault.Rule.{Rule}
 use Rattle.dw_entries.specs.Failures.{IsLeast}
@@ -17,6 +17,10 @@ pub record IsLeastSeen (fails : ℕ → Rule → Bool) (Seen : ℕ → Type 0) (
 abbrev pub IsNoted : (ℕ → Rule → Bool) → (ℕ → Type 0) → Option (ℕ × Rule) → Type 0
 IsNoted fails Seen None = (k : ℕ) → Seen k → PassesAt fails k
 IsNoted fails Seen (Some first) = IsLeastSeen fails Seen first.0 first.1
+
+-- an entry that was noted before, or one of the children that were passed, if it is asked about
+abbrev pub Passed : (Before Asked : ℕ → Type 0) → List ℕ → ℕ → Type 0
+Passed Before Asked visited k = Before k ⊎ (Contains visited k × Asked k)
 
 -- the entry that was found, or the one that violates this rule, if it violates one and has the lower number
 abbrev pub with_rule : Option (ℕ × Rule) → ℕ → Option Rule → Option (ℕ × Rule)

@@ -4,7 +4,6 @@ use Rattle.dw_entries.specs.declared.fault.Broken.{Broken}
 use Rattle.dw_types.specs.declared.kind.Kind.{Kind}
 use Rattle.dw_types.specs.declared.kind.Kind.TheVariants.{Declared, OwnSized, Pointer, Alias, Enumeration, Array}
 use Rattle.dw_types.specs.declared.kind.Kind.TheVariants.{Subroutine, NoType}
-use Rattle.dw_types.specs.declared.kind.Role.{Role}
 use Rattle.dw_entries.specs.declared.fault.Rule.{Rule}
 use Rattle.dw_entries.specs.declared.fault.Rule.TheVariants.{NoSize, SizeTooGreat, MemberOutside, EnumSize}
 use Rattle.dw_forms.specs.Codes.{DW_TAG_base_type, DW_AT_bit_size, DW_AT_byte_stride}
@@ -12,7 +11,7 @@ use Rattle.dw_types.specs.Constants.{is_present, is_negative, natural_of}
 use Rattle.dw_types.specs.Entries.{entry_of, Facts, byte_size, constant}
 use Rattle.dw_types.specs.Extents.{is_outside}
 use Rattle.dw_entries.specs.Failures.{Failure, IsFirst}
-use Rattle.dw_types.specs.Kinds.{has_members, is_array, is_enumeration, kind_of, parent_role}
+use Rattle.dw_types.specs.Kinds.{has_members, is_array, is_enumeration, kind_of, parent_role, Role}
 use Rattle.dw_types.specs.Shapes.{stands_alone}
 use Rattle.dw_types.specs.SizeTables.{Size}
 use Rattle.dw_types.specs.Sizes.{size_to, IsSizeTable}

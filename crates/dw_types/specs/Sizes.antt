@@ -1,6 +1,6 @@
 -- Chapter: the size of each type entry (DWARF 5, 5.1 to 5.13).
-use Rattle.std.specs.Prelude.{◌≡◌, ℕ, ◌*◌, ◌<◌, Bool, true, false, ◌&&◌, ◌||◌, not, List, [], ◌∷◌, Option, Some, None}
-use Rattle.std.specs.Prelude.{length, map, filter, if◌then◌else◌, nat_eq}
+use Rattle.std.specs.Prelude.{◌≡◌, ℕ, ◌*◌, ◌<◌, Bool, true, false, ◌||◌, List, [], ◌∷◌, Option, Some, None}
+use Rattle.std.specs.Prelude.{length, map, if◌then◌else◌}
 use Rattle.std.specs.List.{list_any}
 use Rattle.dw_types.specs.declared.count.Constant.{Constant}
 use Rattle.dw_types.specs.declared.count.Constant.TheVariants.{Absent, NotNumber, Unsigned, Signed}
@@ -8,21 +8,17 @@ use Rattle.dw_types.specs.declared.kind.Kind.{Kind}
 use Rattle.dw_types.specs.declared.kind.Kind.TheVariants.{Declared, OwnSized, Pointer, Alias, Enumeration, Array}
 use Rattle.dw_types.specs.declared.kind.Kind.TheVariants.{Subroutine, NoType}
 use Rattle.dw_forms.specs.Codes.{DW_AT_bit_stride, DW_AT_byte_stride, DW_TAG_enumeration_type}
-use Rattle.dw_forms.specs.Codes.{DW_TAG_generic_subrange, DW_TAG_subrange_type}
+use Rattle.dw_forms.specs.Codes.{DW_TAG_generic_subrange}
 use Rattle.dw_types.specs.Constants.{is_present, natural, natural_of}
-use Rattle.dw_types.specs.Counts.{count_of, known_natural}
+use Rattle.dw_types.specs.Counts.{count_of, is_subrange_tag, known_natural}
 use Rattle.dw_types.specs.Entries.{entry_of, children, Facts, byte_size, constant}
 use Rattle.dw_types.specs.Kinds.{kind_of}
 use Rattle.dw_links.specs.Classes.{is_one_of}
 use Rattle.dw_types.specs.SizeTables.{Size}
 
 -- a subrange
-abbrev pub is_subrange : List Facts → ℕ → Bool
-is_subrange entries node = nat_eq (entry_of entries node).tag DW_TAG_subrange_type
-
--- the dimensions of an array: its children that are subranges
-abbrev pub dimensions : List Facts → ℕ → List ℕ
-dimensions entries array = filter (is_subrange entries) (children entries array)
+abbrev pub is_subrange : Facts → Bool
+is_subrange child = is_subrange_tag child.tag
 
 -- the product of two numbers that are known
 abbrev pub times : Size → Size → Size
@@ -35,32 +31,35 @@ abbrev pub product_of : List Size → Size
 product_of [] = Some 1
 product_of (n ∷ rest) = times n (product_of rest)
 
--- the count of a dimension, if it is known
-abbrev pub factor_of : List Facts → ℕ → Size
-factor_of entries dimension = known_natural (count_of (entry_of entries dimension))
-
 -- a stride of bits or of bytes
-abbrev pub has_stride : List Facts → ℕ → Bool
-has_stride entries node =
-    is_present (constant (entry_of entries node) DW_AT_bit_stride)
-    || is_present (constant (entry_of entries node) DW_AT_byte_stride)
+abbrev pub has_stride : Facts → Bool
+has_stride entry =
+    is_present (constant entry DW_AT_bit_stride) || is_present (constant entry DW_AT_byte_stride)
 
 -- an enumeration or a generic subrange, which counts an array in another way
-abbrev pub is_other_index : List Facts → ℕ → Bool
-is_other_index entries node =
-    is_one_of (DW_TAG_enumeration_type ∷ DW_TAG_generic_subrange ∷ []) (entry_of entries node).tag
+abbrev pub is_other_index : Facts → Bool
+is_other_index entry = is_one_of (DW_TAG_enumeration_type ∷ DW_TAG_generic_subrange ∷ []) entry.tag
+
+-- by how much a child of an array multiplies its number of elements: a dimension by its count, if that is known. The
+-- number is unknown for an index of another kind and for a dimension with a stride
+abbrev pub factor_of : Facts → Size
+factor_of child =
+    if is_other_index child then None
+    else if is_subrange child then (if has_stride child then None else known_natural (count_of child))
+    else Some 1
+
+-- how many elements an array with these children has; without a dimension none is known
+abbrev pub element_count : List Facts → Size
+element_count children = if list_any is_subrange children then product_of (map factor_of children) else None
+
+-- the facts of an entry's children
+abbrev pub parts_of : List Facts → ℕ → List Facts
+parts_of entries node = map (entry_of entries) (children entries node)
 
 -- the list is not empty
 abbrev pub has_elements : {A : Type 0} → List A → Bool
 has_elements [] = false
 has_elements (x ∷ xs) = true
-
--- an array with dimensions, without an index of another kind, and without a stride of bits or on a dimension
-abbrev pub is_regular : List Facts → ℕ → Bool
-is_regular entries array =
-    (has_elements (dimensions entries array) && not (list_any (is_other_index entries) (children entries array)))
-    && (not (is_present (constant (entry_of entries array) DW_AT_bit_stride))
-    && not (list_any (has_stride entries) (dimensions entries array)))
 
 -- the size at a target, none if there is no target
 abbrev pub size_to : (ℕ → Size) → Option ℕ → Size
@@ -74,15 +73,14 @@ constant_or NotNumber other = None
 constant_or (Unsigned n) other = Some n
 constant_or (Signed n) other = natural n
 
--- element storage times all counts
+-- element storage times the number of elements; none with a stride of bits
 abbrev pub array_size : List Facts → (ℕ → Size) → ℕ → Size
 array_size entries table array =
-    if is_regular entries array
-    then times
+    if is_present (constant (entry_of entries array) DW_AT_bit_stride) then None
+    else times
     (constant_or (constant (entry_of entries array) DW_AT_byte_stride)
     (size_to table (entry_of entries array).type_target))
-    (product_of (map (factor_of entries) (dimensions entries array)))
-    else None
+    (element_count (parts_of entries array))
 
 -- the size of an entry of a kind, by those of others: one equation for each row
 abbrev pub size_of_kind : Kind → List Facts → (ℕ → Size) → ℕ → Size

@@ -3,11 +3,10 @@ use Rattle.std.specs.Prelude.{◌≡◌, ℕ, ◌<◌, Bool, true, ◌&&◌, not
 use Rattle.std.specs.Prelude.{if◌then◌else◌, nat_eq, length}
 use Rattle.std.specs.List.{flat_map}
 use Rattle.std.specs.Option.{option_to_list}
-use Rattle.dw_types.specs.declared.kind.Role.TheVariants.{Members}
 use Rattle.dw_forms.specs.Codes.{DW_TAG_member}
 use Rattle.dw_types.specs.Entries.{entry_of, entry_numbers, is_parent, Facts}
 use Rattle.dw_types.specs.Graphs.{Graph}
-use Rattle.dw_types.specs.Kinds.{has_members, is_declared_type, passes_type_on}
+use Rattle.dw_types.specs.Kinds.{has_members, is_declared_type, passes_type_on, Members}
 use Rattle.dw_types.specs.Shapes.{is_plain}
 
 -- a child with tag member of a structure or union, neither of the two declared

@@ -106,3 +106,22 @@ IsMet graph old node new =
 -- how far the turns are from their number, and the stack from empty
 abbrev pub work_left : Graph → State → ℕ
 work_left graph s = 2 * (length graph + step_count graph - s.turns) + length s.stack
+
+-- the node on top of the stack
+pub record IsTop (s : State) (node : ℕ) : Type 0 where
+  pub some : 0 < length s.stack
+  pub top : slice_index s.stack (length s.stack - 1) ≡ node
+
+-- the node on top of the stack has a next step, after so many that were looked at
+pub record HasNext (graph : Graph) (s : State) (node before : ℕ) : Type 0 where
+  pub is_top : IsTop s node
+  pub looked : slice_index s.next node ≡ before
+  pub more : slice_index s.next node < length (steps_of graph node)
+  pub few : length (steps_of graph node) < 2 ^ 64
+
+-- one more step was looked at: the walk goes on, or the step goes to an open node; less work is left
+pub record HasFollowed (graph : Graph) (old new : State) (stop : Option ℕ) : Type 0 where
+  pub comes : ComesTo graph new stop
+  pub taken : KeepsTaken old new
+  pub gave_up : new.gave_up ≡ old.gave_up
+  pub less : work_left graph new < work_left graph old

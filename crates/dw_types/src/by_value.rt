@@ -6,13 +6,13 @@ ghost use Rattle.std.specs.List.{flat_map};
 ghost use Rattle.std.specs.Option.{option_to_list};
 ghost use Rattle.dw_entries.specs.Failures.{HasNone, IsFirst, IsLeast};
 ghost use Rattle.dw_entries.specs.Stopped.{IfPlainFault};
-ghost use Rattle.dw_types.specs.Shapes.{breaks_shape, has_bad_count, is_plain, misses_type, stands_alone, fails_shape};
+ghost use Rattle.dw_types.specs.Shapes.{breaks_shape, has_bad_count, is_plain, stands_alone, fails_shape};
 ghost use Rattle.dw_types.specs.Shapes.{ShapeFailures};
 ghost use Rattle.dw_types.specs.Entries.{children, entry_of};
 ghost use Rattle.dw_types.specs.Graphs.{IsStep};
 ghost use Rattle.dw_types.specs.Held.{all_facts};
-ghost use Rattle.dw_types.specs.Kinds.{has_members, is_array, is_declared_type, is_dimensions};
-ghost use Rattle.dw_types.specs.Kinds.{passes_type_on, type_count};
+ghost use Rattle.dw_types.specs.Kinds.{has_members, is_array, is_declared_type, passes_type_on, type_count};
+ghost use Rattle.dw_types.specs.Kinds.{Dimensions, Members, Other};
 ghost use Rattle.dw_types.specs.Noted.{IsNoted};
 ghost use Rattle.dw_types.specs.ShapesSeen.{HasSeenArray, HasSeenShapes};
 ghost use Rattle.dw_types.specs.Steps.{by_value, part_step, steps_by_value, targets_if, IsStepByValue};
@@ -20,7 +20,6 @@ ghost use Rattle.dw_types.specs.Steps.{by_value, part_step, steps_by_value, targ
 use crate::count::Constant;
 use crate::facts::{FactsAt, FactsList, languages_of};
 use crate::graph::{Packed, StepGraph};
-use crate::kind::Role;
 use crate::numbers::Numbers;
 use crate::size_rules::{LeastFault, check, note};
 use dw_entries::constants::*;
@@ -29,12 +28,12 @@ use dw_links::Links;
 use std::alloc::{AllocError, Global};
 
 impl FactsAt<'_, '_> {
-    /// Whether the entry, whose parent is this to it, is a plain member.
+    /// Whether the entry, a child of a structure or union that is not declared, is a plain member.
     #[inline(always)]
-    fn is_plain(&self, parent: Role) -> bool
-        ensures { result ≡ is_plain parent self.now }
+    fn is_plain(&self) -> bool
+        ensures { result ≡ is_plain Members self.now }
     {
-        matches!(self.tag(), DW_TAG_member) && parent.is_members() && !self.declared()
+        matches!(self.tag(), DW_TAG_member) && !self.declared()
     }
 
     /// Whether the entry takes nothing over from another one.
@@ -46,45 +45,51 @@ impl FactsAt<'_, '_> {
             && !self.constant(DW_AT_abstract_origin).is_present()
     }
 
-    /// Whether a type is missing.
+    /// Whether it is a subrange with a known count below 0.
     #[inline(always)]
-    fn misses_type(&self, parent: Role) -> bool
-        ensures { result ≡ misses_type parent self.now }
+    fn has_bad_count(&self, language: Constant) -> bool
+        requires { language ≡ self.now.language }
+        ensures { result ≡ has_bad_count Dimensions self.now }
     {
-        matches!(self.tag(), DW_TAG_array_type | DW_TAG_member)
-            && self.type_target().is_none()
-            && (self.is_array() || self.is_plain(parent))
-            && self.stands_alone()
+        self.is_subrange() && matches!(self.known_count(language), Some(n) if n < 0)
     }
 
-    /// Whether it is a dimension with a known count below 0.
+    /// The rule on shapes that the entry violates if it is an array.
     #[inline(always)]
-    fn has_bad_count(&self, parent: Role, language: Constant) -> bool
-        requires { is_dimensions parent ≡ true → language ≡ self.now.language }
-        ensures { result ≡ has_bad_count parent self.now }
+    fn broken_array(&self) -> Option<Rule>
+        ensures { IsLeast (λ rule. breaks_shape Other self.now rule ≡ true) result }
     {
-        if !self.is_dimension(parent) {
-            return false;
-        }
-        match self.known_count(language) {
-            Some(n) => n < 0,
-            None => false,
-        }
-    }
-
-    /// The rule on shapes that the entry breaks: the one with the least number.
-    #[inline(always)]
-    fn broken_shape(&self, parent: Role, language: Constant) -> Option<Rule>
-        requires { is_dimensions parent ≡ true → language ≡ self.now.language }
-        ensures { IsLeast (λ rule. breaks_shape parent self.now rule ≡ true) result }
-    {
-        if self.misses_type(parent) {
+        if self.is_array() && self.type_target().is_none() && self.stands_alone() {
             return Some(Rule::MissingType);
         }
-        if self.has_bad_count(parent, language) {
-            return Some(Rule::BadCount);
+        None
+    }
+
+    /// The rule on shapes that a child of a structure or union violates.
+    #[inline(always)]
+    fn broken_member(&self) -> Option<Rule>
+        ensures { IsLeast (λ rule. breaks_shape Members self.now rule ≡ true) result }
+    {
+        if matches!(self.tag(), DW_TAG_array_type | DW_TAG_member)
+            && self.type_target().is_none()
+            && (self.is_array() || self.is_plain())
+            && self.stands_alone()
+        {
+            return Some(Rule::MissingType);
         }
         None
+    }
+
+    /// The rule on shapes that a child of an array violates.
+    #[inline(always)]
+    fn broken_dimension(&self, language: Constant) -> Option<Rule>
+        requires { language ≡ self.now.language }
+        ensures { IsLeast (λ rule. breaks_shape Dimensions self.now rule ≡ true) result }
+    {
+        if self.has_bad_count(language) {
+            return Some(Rule::BadCount);
+        }
+        self.broken_array()
     }
 }
 
@@ -147,12 +152,8 @@ fn push_members(
     let mut next = entries.first_child(node);
     while let Some(child) = next {
         let member = entries.at(child);
-        note(
-            least,
-            child,
-            member.broken_shape(Role::Members, Constant::Absent),
-        );
-        if member.is_plain(Role::Members) {
+        note(least, child, member.broken_member());
+        if member.is_plain() {
             push_to(steps, member.type_target())?;
         }
         next = entries.next_sibling(child);
@@ -172,11 +173,7 @@ fn note_dimensions(entries: &mut FactsList<'_, '_>, least: &mut LeastFault, node
     while let Some(child) = next {
         let dimension = entries.at(child);
         let language = entries.language(child);
-        note(
-            least,
-            child,
-            dimension.broken_shape(Role::Dimensions, language),
-        );
+        note(least, child, dimension.broken_dimension(language));
         next = entries.next_sibling(child);
     }
 }
@@ -198,11 +195,7 @@ fn note_array(
     if !entry.is_array() {
         return;
     }
-    note(
-        least,
-        node,
-        entry.broken_shape(Role::Other, Constant::Absent),
-    );
+    note(least, node, entry.broken_array());
     note_dimensions(entries, least, node);
 }
 

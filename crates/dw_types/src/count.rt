@@ -1,21 +1,19 @@
 //! The numbers under attributes (DWARF 5, 2.19 and 7.5.5), the count of a dimension, and how many elements an array
 //! has: the product of the counts of its dimensions (5.5 and 5.13).
 
-ghost use Rattle.std.specs.Prelude.{◌≡◌, ◌≤◌, ◌^◌, ◌<◌, ℕ, List, length, option_map, slice_get, IfSome};
+ghost use Rattle.std.specs.Prelude.{◌≡◌, ◌≤◌, ◌^◌, ◌<◌, length, option_map, slice_get, IfSome};
 ghost use Rattle.dw_forms.specs.Value.{view};
 ghost use Rattle.dw_entries.specs.Scanned.{all_entries, units_of};
-ghost use Rattle.dw_types.specs.ElementCounts.{child_factor, element_count};
-ghost use Rattle.dw_types.specs.Entries.{Facts, children, entry_of};
+ghost use Rattle.dw_types.specs.Entries.{entry_of};
 ghost use Rattle.dw_types.specs.Counts.{count_at, count_from, count_of, is_array_tag, is_dimension, is_subrange_tag};
 ghost use Rattle.dw_types.specs.Counts.{known_natural, lower_of, reads_bounds, upper_of};
 ghost use Rattle.dw_types.specs.Constants.{IsOf64Bits, constant_of, is_negative, is_present, natural_of, number_in};
 ghost use Rattle.dw_types.specs.FactsOf.{constant_at, facts_in, languages_in};
 ghost use Rattle.dw_types.specs.Kinds.{is_dimensions, parent_role, role_in};
 ghost use Rattle.dw_types.specs.SizeTables.{cap_size};
-ghost use Rattle.dw_types.specs.Sizes.{constant_or, times};
+ghost use Rattle.dw_types.specs.Sizes.{constant_or, element_count, factor_of, parts_of, times};
 
 use crate::facts::{FactsAt, FactsList, language_at};
-use crate::kind::Role;
 use dw_entries::constants::*;
 use dw_entries::{Attribute, Entries, EntryAt, EntryId, Value};
 
@@ -173,14 +171,6 @@ fn known_natural(count: Option<i128>) -> Option<u128>
 }
 
 impl FactsAt<'_, '_> {
-    /// Whether the entry, whose parent is this to it, is a dimension of an array.
-    #[inline(always)]
-    pub(crate) fn is_dimension(&self, parent: Role) -> bool
-        ensures { result ≡ is_dimension parent self.now }
-    {
-        matches!(self.tag(), DW_TAG_subrange_type) && parent.is_dimensions()
-    }
-
     /// The count of a dimension in a unit of this language. It may be below 0.
     #[inline(always)]
     pub(crate) fn known_count(&self, language: Constant) -> Option<i128>
@@ -200,8 +190,7 @@ impl FactsAt<'_, '_> {
     #[inline(always)]
     fn capped_factor(&self, language: Constant) -> Option<u64>
         requires { language ≡ self.now.language }
-        ensures { (entries : List Facts) (child : ℕ) → self.now ≡ entry_of entries child
-            → result ≡ cap_size (2 ^ 63) (child_factor entries child) }
+        ensures { result ≡ cap_size (2 ^ 63) (factor_of self.now) }
     {
         match self.tag() {
             DW_TAG_enumeration_type | DW_TAG_generic_subrange => None,
@@ -292,7 +281,7 @@ pub(crate) fn capped_times(a: Option<u64>, b: Option<u64>) -> Option<u64>
 pub(crate) fn count_elements(entries: &mut FactsList<'_, '_>, node: usize) -> Option<u64>
     requires { node < length entries.old }
     ensures same { entries.new ≡ entries.old }
-    ensures counted { result ≡ cap_size (2 ^ 63) (element_count entries.old (children entries.old node)) }
+    ensures counted { result ≡ cap_size (2 ^ 63) (element_count (parts_of entries.old node)) }
 {
     let mut product = Some(1);
     let mut has_dimension = false;
@@ -301,7 +290,7 @@ pub(crate) fn count_elements(entries: &mut FactsList<'_, '_>, node: usize) -> Op
         let entry = entries.at(child);
         let language = entries.language(child);
         product = capped_times(product, entry.capped_factor(language));
-        has_dimension |= is_subrange_tag(entry.tag());
+        has_dimension |= entry.is_subrange();
         next = entries.next_sibling(child);
     }
     if has_dimension { product } else { None }

@@ -1,8 +1,8 @@
 //! The kinds of entries that types, counts and sizes tell apart (DWARF 5, chapter 5).
 
 ghost use Rattle.std.specs.Prelude.{◌≡◌};
-ghost use Rattle.dw_types.specs.Kinds.{has_members, is_array, is_declared_type, is_dimensions, is_enumeration};
-ghost use Rattle.dw_types.specs.Kinds.{is_members, kind_of, passes_type_on};
+ghost use Rattle.dw_types.specs.Counts.{is_subrange_tag};
+ghost use Rattle.dw_types.specs.Kinds.{has_members, is_array, is_declared_type, is_enumeration, kind_of, passes_type_on};
 
 use crate::facts::FactsAt;
 use dw_entries::constants::*;
@@ -22,34 +22,6 @@ pub enum Kind {
     Subroutine,
     /// No type.
     NoType,
-}
-
-/// What an entry is to its children.
-#[derive(Clone, Copy, Debug, PartialEq, Eq)]
-pub enum Role {
-    /// A structure or union that is not declared: its children with tag member are plain members.
-    Members,
-    /// An array: its children with tag subrange are dimensions.
-    Dimensions,
-    Other,
-}
-
-impl Role {
-    /// Whether children with tag member are plain members.
-    #[inline(always)]
-    pub fn is_members(self) -> bool
-        ensures { result ≡ is_members self }
-    {
-        matches!(self, Role::Members)
-    }
-
-    /// Whether children with tag subrange are dimensions.
-    #[inline(always)]
-    pub fn is_dimensions(self) -> bool
-        ensures { result ≡ is_dimensions self }
-    {
-        matches!(self, Role::Dimensions)
-    }
 }
 
 impl FactsAt<'_, '_> {
@@ -136,6 +108,14 @@ impl FactsAt<'_, '_> {
         ensures { result ≡ is_array self.now }
     {
         matches!(self.tag(), DW_TAG_array_type)
+    }
+
+    /// Whether it is a subrange.
+    #[inline(always)]
+    pub(crate) fn is_subrange(&self) -> bool
+        ensures { result ≡ is_subrange_tag self.now.tag }
+    {
+        matches!(self.tag(), DW_TAG_subrange_type)
     }
 
     /// Whether it is an enumeration that is not declared.

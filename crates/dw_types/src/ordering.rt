@@ -7,7 +7,7 @@ ghost use Rattle.dw_types.specs.Graphs.{steps_of, step_at, FollowsSteps, IsStep,
 ghost use Rattle.dw_types.specs.LongestRows.{AreLongest, IsAbove};
 ghost use Rattle.dw_types.specs.OrderFaults.{IsFaultOf};
 ghost use Rattle.dw_types.specs.Orders.{IsOrderOf};
-ghost use Rattle.dw_types.specs.Walks.{ComesTo, IsMet, IsWalk, KeepsTaken, work_left};
+ghost use Rattle.dw_types.specs.Walks.{ComesTo, HasFollowed, HasNext, IsMet, IsWalk, KeepsTaken};
 ghost use Rattle.dw_types.specs.WalkStates.{mark_of, taken_up};
 ghost use Rattle.dw_types.specs.declared.ordering.OrderFault.TheVariants.{Memory};
 ghost use Rattle.dw_types.specs.declared.walk.Mark.TheVariants.{Fresh};
@@ -174,15 +174,8 @@ fn follow_step<G: StepGraph>(
     before: usize,
 ) -> Result<Option<usize>, AllocError>
     requires is_walk { IsWalk (G.graph graph.now) walk.old }
-    requires some { 0 < length walk.old.stack }
-    requires top { slice_index walk.old.stack (length walk.old.stack - 1) ≡ node }
-    requires before { slice_index walk.old.next node ≡ before }
-    requires more { slice_index walk.old.next node < length (steps_of (G.graph graph.now) node) }
-    requires fits { length (steps_of (G.graph graph.now) node) < 2 ^ 64 }
-    ensures comes { IfOk result (λ stop. ComesTo (G.graph graph.now) walk.new stop) }
-    ensures taken { OnOk result (KeepsTaken walk.old walk.new) }
-    ensures gave_up { OnOk result (walk.new.gave_up ≡ walk.old.gave_up) }
-    ensures less { OnOk result (work_left (G.graph graph.now) walk.new < work_left (G.graph graph.now) walk.old) }
+    requires next { HasNext (G.graph graph.now) walk.old node before }
+    ensures { IfOk result (HasFollowed (G.graph graph.now) walk.old walk.new) }
 {
     let to = graph.step(node, before);
     walk.count_step(alloc, node, before)?;

@@ -5,9 +5,8 @@ ghost use Rattle.std.specs.Prelude.{◌≡◌, ◌^◌, ◌<◌, ◌≤ℤ◌, �
 ghost use Rattle.std.specs.Prelude.{IfErr, IfSome, IsSomeAnd, OnOk};
 ghost use Rattle.dw_forms.specs.Codes.{DW_TAG_member as MemberTag};
 ghost use Rattle.dw_entries.specs.declared.fault.Section.TheVariants.{Info as InInfo};
-ghost use Rattle.dw_entries.specs.Failures.{IsLeast, IsPlainFault};
+ghost use Rattle.dw_entries.specs.Failures.{IsLeast};
 ghost use Rattle.dw_entries.specs.Stopped.{IfPlainFault};
-ghost use Rattle.dw_types.specs.declared.kind.Role.TheVariants.{Members, Other};
 ghost use Rattle.dw_types.specs.SizeFaults.{breaks_size, differ, has_no_size, has_wrong_size, is_too_great, reads_own};
 ghost use Rattle.dw_types.specs.SizeFaults.{wants_own};
 ghost use Rattle.dw_types.specs.Sizes.{size_to, ObeysSizeLines};
@@ -15,7 +14,7 @@ ghost use Rattle.dw_types.specs.SizeTables.{size_at, Size};
 ghost use Rattle.dw_types.specs.Extents.{bits_end_past, end_past, ends_past, start_of};
 ghost use Rattle.dw_types.specs.Constants.{natural_of};
 ghost use Rattle.dw_types.specs.Entries.{Facts, byte_size, entry_of};
-ghost use Rattle.dw_types.specs.Kinds.{has_members};
+ghost use Rattle.dw_types.specs.Kinds.{has_members, Members, Other};
 ghost use Rattle.dw_types.specs.Noted.{with_rule};
 
 use crate::facts::{FactsAt, FactsList};
@@ -24,20 +23,6 @@ use crate::size_table::SizeTable;
 use dw_entries::constants::*;
 use dw_entries::{Broken, Fault, Rule, Section, Stop};
 use std::alloc::Global;
-
-/// A rule that is broken at the entry with an offset, and at none of its attributes.
-fn fault_at_entry(alloc: Global, rule: Rule, at: u32) -> Fault
-    ensures { IsPlainFault
-        (λ broken. broken ≡ record { rule = rule; section = InInfo; at = at; attribute = 0 }) result }
-{
-    let broken = Broken {
-        rule,
-        section: Section::Info,
-        at,
-        attribute: 0,
-    };
-    broken.into_fault(alloc)
-}
 
 /// The failing entry of the least number so far, with its least rule. None if no entry fails so far.
 pub(crate) type LeastFault = Option<(usize, Rule)>;
@@ -72,7 +57,15 @@ pub(crate) fn check(
     }) stop)) }
 {
     match least {
-        Some((node, rule)) => Err(Stop::Fault(fault_at_entry(alloc, rule, entries.offset(node)))),
+        Some((node, rule)) => {
+            let broken = Broken {
+                rule,
+                section: Section::Info,
+                at: entries.offset(node),
+                attribute: 0,
+            };
+            Err(Stop::Fault(broken.into_fault(alloc)))
+        }
         None => Ok(()),
     }
 }

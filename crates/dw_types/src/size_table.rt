@@ -54,14 +54,6 @@ impl SizeTable {
         })
     }
 
-    /// The number that represents the size of an entry.
-    fn number(&self, node: usize) -> usize
-        requires { node < length self.now }
-        ensures { size_in result ≡ size_at self.now node }
-    {
-        self.sizes.get(node)
-    }
-
     /// The size of an entry.
     pub fn get(&self, id: EntryId) -> Option<u64>
         requires { id < length self.now }
@@ -75,7 +67,7 @@ impl SizeTable {
         requires { node < length self.now }
         ensures { result ≡ size_at self.now node }
     {
-        match self.number(node) {
+        match self.sizes.get(node) {
             0 => None,
             number => Some((number - 1) as u64),
         }

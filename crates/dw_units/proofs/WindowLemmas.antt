@@ -5,10 +5,9 @@ use Rattle.std.proofs.lemmas.Bool.{and_parts, eqb-true}
 use Rattle.std.specs.Prelude.{slice_index, is_some, nat_eq, not}
 use Rattle.dw_entries.specs.declared.fault.Rule.{Rule}
 use Rattle.dw_entries.specs.declared.fault.Rule.TheVariants.{MissingType, BadCount}
-use Rattle.dw_types.specs.declared.kind.Role.{Role}
 use Rattle.dw_types.specs.Entries.{entry_of, is_parent, ParentsComeFirst, TargetsAreEntries, Facts}
 use Rattle.dw_types.specs.Graphs.{IsStep, IsClosed}
-use Rattle.dw_types.specs.Kinds.{role_of, role_in, parent_role, has_members, passes_type_on, is_declared_type}
+use Rattle.dw_types.specs.Kinds.{role_of, role_in, parent_role, has_members, passes_type_on, is_declared_type, Role}
 use Rattle.dw_forms.specs.Codes.{DW_TAG_member}
 use Rattle.std.proofs.lemmas.List.{length-map}
 use Rattle.dw_types.specs.Shapes.{breaks_shape, fails_shape}

@@ -8,16 +8,13 @@ use Rattle.dw_entries.specs.declared.fault.Rule.{Rule}
 use Rattle.dw_entries.specs.declared.fault.Rule.TheVariants.{MemberOutside, EnumSize}
 use Rattle.dw_types.specs.declared.kind.Kind.{Kind}
 use Rattle.dw_types.specs.declared.kind.Kind.TheVariants.{Declared, OwnSized, Pointer, Alias, Enumeration, Array, Subroutine, NoType}
-use Rattle.dw_types.specs.declared.kind.Role.{Role}
 use Rattle.dw_types.specs.Constants.{is_present, natural_of}
-use Rattle.dw_types.specs.Counts.{count_of, known_natural}
-use Rattle.dw_types.specs.Entries.{entry_of, is_child, children, entry_numbers, Facts, byte_size, constant}
-use Rattle.dw_types.specs.Kinds.{kind_of, parent_role, is_enumeration}
+use Rattle.dw_types.specs.Entries.{entry_of, is_parent, is_child, children, entry_numbers, Facts, byte_size, constant}
+use Rattle.dw_types.specs.Kinds.{kind_of, parent_role, is_enumeration, Role}
 use Rattle.dw_types.specs.Shapes.{stands_alone}
-use Rattle.dw_links.specs.Classes.{is_one_of}
-use Rattle.dw_forms.specs.Codes.{DW_TAG_enumeration_type, DW_TAG_generic_subrange, DW_TAG_subrange_type, DW_AT_bit_stride, DW_AT_byte_stride}
+use Rattle.dw_forms.specs.Codes.{DW_AT_bit_stride, DW_AT_byte_stride}
 use Rattle.dw_types.specs.SizeTables.{Size}
-use Rattle.dw_types.specs.Sizes.{is_subrange, dimensions, product_of, factor_of, has_stride, is_other_index, has_elements, is_regular, size_to, constant_or, array_size, size_of_kind, size_line}
+use Rattle.dw_types.specs.Sizes.{is_subrange, times, product_of, factor_of, element_count, parts_of, size_to, constant_or, array_size, size_of_kind, size_line}
 use Rattle.dw_types.specs.SizeFaults.{breaks_size, fails_size, differ}
 use Rattle.dw_units.proofs.MovedEntries.{moved_number, moved_facts}
 use Rattle.dw_units.proofs.WindowLemmas.{IsWindow, role_same, parent_of_moved, parent_is, some_of_moved}
@@ -57,19 +54,17 @@ module _ (first m : ℕ) where
   filter_moved P Q [] all same = refl
   filter_moved P Q (x ∷ xs) (one, more) same = search (rules, (filter_moved P Q xs more same))
 
-  any_moved : (P Q : ℕ → Bool) (xs : List ℕ) → AllByRecursion (λ (k : ℕ). k < m) xs → ((k : ℕ) → k < m → P (first + k) ≡ Q k)
-      → list_any P (map (λ (k : ℕ). first + k) xs) ≡ list_any Q xs
-  any_moved P Q [] all same = refl
-  any_moved P Q (x ∷ xs) (one, more) same = search (rules, (any_moved P Q xs more same))
+-- the number of elements of an array reads nothing that differs
+elements_moved : (first at : ℕ) (parts : List Facts) → element_count (map (moved_facts first at) parts) ≡ element_count parts
+elements_moved first at parts = λ i. if subranges parts i then product_of (factors parts i) else None
+  where
+    subranges : (parts : List Facts) → list_any is_subrange (map (moved_facts first at) parts) ≡ list_any is_subrange parts
+    subranges [] = refl
+    subranges (part ∷ parts) = ap (λ (b : Bool). is_subrange part || b) (subranges parts)
 
-  map_moved : {X : Type 0} (f g : ℕ → X) (xs : List ℕ) → AllByRecursion (λ (k : ℕ). k < m) xs → ((k : ℕ) → k < m → f (first + k) ≡ g k)
-      → map f (map (λ (k : ℕ). first + k) xs) ≡ map g xs
-  map_moved f g [] all same = refl
-  map_moved f g (x ∷ xs) (one, more) same = search (rules, (map_moved f g xs more same))
-
-elements_moved : (first : ℕ) (xs : List ℕ) → has_elements (map (λ (k : ℕ). first + k) xs) ≡ has_elements xs
-elements_moved first [] = refl
-elements_moved first (x ∷ xs) = refl
+    factors : (parts : List Facts) → map factor_of (map (moved_facts first at) parts) ≡ map factor_of parts
+    factors [] = refl
+    factors (part ∷ parts) = ap (λ (sizes : List Size). factor_of part ∷ sizes) (factors parts)
 
 false_unless : (b : Bool) → (b ≡ true → ⊥) → b ≡ false
 false_unless true never = absurd (never refl)
@@ -106,36 +101,16 @@ module _ (all alone : List Facts) (first at : ℕ) (w : IsWindow all alone first
   children_below : (inner : ℕ) → AllByRecursion (λ (k : ℕ). k < length alone) (children alone inner)
   children_below inner = all_filter (is_child alone inner) (length alone) (entry_numbers alone) (all_range (length alone) 0 (length alone) (omega arith))
 
-  dimensions_moved : (inner : ℕ) → inner < length alone → dimensions all (first + inner) ≡ map (λ (k : ℕ). first + k) (dimensions alone inner)
-  dimensions_moved inner inside =
-      ap (filter (is_subrange all)) (children_moved inner inside)
-      ∙ filter_moved first (length alone) (is_subrange all) (is_subrange alone) (children alone inner) (children_below inner)
-      (λ k within. ap (λ (f : Facts). nat_eq f.tag DW_TAG_subrange_type) (w.facts k within))
+  facts_moved : (ks : List ℕ) → AllByRecursion (λ (k : ℕ). k < length alone) ks
+      → map (entry_of all) (map (λ (k : ℕ). first + k) ks) ≡ map (moved_facts first at) (map (entry_of alone) ks)
+  facts_moved [] below = refl
+  facts_moved (k ∷ ks) (one, more) = λ i. w.facts k one i ∷ facts_moved ks more i
 
-  dimensions_below : (inner : ℕ) → AllByRecursion (λ (k : ℕ). k < length alone) (dimensions alone inner)
-  dimensions_below inner = all_filter (is_subrange alone) (length alone) (children alone inner) (children_below inner)
-
-  regular_moved : (inner : ℕ) → inner < length alone → is_regular all (first + inner) ≡ is_regular alone inner
-  regular_moved inner inside =
-      let elements : has_elements (dimensions all (first + inner)) ≡ has_elements (dimensions alone inner) =
-      ap has_elements (dimensions_moved inner inside) ∙ elements_moved first (dimensions alone inner) in
-      let other : list_any (is_other_index all) (children all (first + inner)) ≡ list_any (is_other_index alone) (children alone inner) =
-      ap (list_any (is_other_index all)) (children_moved inner inside)
-      ∙ any_moved first (length alone) (is_other_index all) (is_other_index alone) (children alone inner) (children_below inner)
-      (λ k within. ap (λ (f : Facts). is_one_of (DW_TAG_enumeration_type ∷ DW_TAG_generic_subrange ∷ []) f.tag) (w.facts k within)) in
-      let stride : is_present (constant (entry_of all (first + inner)) DW_AT_bit_stride) ≡ is_present (constant (entry_of alone inner) DW_AT_bit_stride) =
-      ap (λ (f : Facts). is_present (constant f DW_AT_bit_stride)) (w.facts inner inside) in
-      let any : list_any (has_stride all) (dimensions all (first + inner)) ≡ list_any (has_stride alone) (dimensions alone inner) =
-      ap (list_any (has_stride all)) (dimensions_moved inner inside)
-      ∙ any_moved first (length alone) (has_stride all) (has_stride alone) (dimensions alone inner) (dimensions_below inner)
-      (λ k within. ap (λ (f : Facts). is_present (constant f DW_AT_bit_stride) || is_present (constant f DW_AT_byte_stride)) (w.facts k within)) in
-      rw (elements, other, stride, any)
-
-  product_moved : (inner : ℕ) → inner < length alone → product_of (map (factor_of all) (dimensions all (first + inner)))
-      ≡ product_of (map (factor_of alone) (dimensions alone inner))
-  product_moved inner inside =
-      rw (dimensions_moved inner inside) (ap product_of (map_moved first (length alone) (factor_of all) (factor_of alone) (dimensions alone inner) (dimensions_below inner)
-      (λ k within. ap (λ (f : Facts). known_natural (count_of f)) (w.facts k within))))
+  elements_same : (inner : ℕ) → inner < length alone → element_count (parts_of all (first + inner)) ≡ element_count (parts_of alone inner)
+  elements_same inner inside =
+      ap (λ (ks : List ℕ). element_count (map (entry_of all) ks)) (children_moved inner inside)
+      ∙ ap element_count (facts_moved (children alone inner) (children_below inner))
+      ∙ elements_moved first at (parts_of alone inner)
 
   -- ---- sizes, by a table of all and one of the entries alone that agree
 
@@ -164,7 +139,7 @@ module _ (all alone : List Facts) (first at : ℕ) (w : IsWindow all alone first
 
     array_moved : (inner : ℕ) → inner < length alone → array_size all table (first + inner) ≡ array_size alone lone inner
     array_moved inner inside =
-        rw (regular_moved inner inside, type_moved inner inside, product_moved inner inside, w.facts inner inside)
+        rw (elements_same inner inside, type_moved inner inside, w.facts inner inside)
 
     kind_moved : (kind : Kind) (inner : ℕ) → inner < length alone → size_of_kind kind all table (first + inner) ≡ size_of_kind kind alone lone inner
     kind_moved Declared inner inside = signature_moved inner inside

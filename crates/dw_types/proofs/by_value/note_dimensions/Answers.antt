@@ -1,23 +1,22 @@
-use Rattle.std.proofs.Common.{◌≡◌, ◌⊎◌, ℕ, List, None, Some, true, inl, inr, refl, subst, sym, ◌∙◌, arith}
-use Rattle.std.specs.Prelude.{Contains}
-use Rattle.dw_types.specs.declared.kind.Role.TheVariants.{Dimensions}
+use Rattle.std.proofs.Common.{◌≡◌, ℕ, List, None, Some, true, inl, inr, refl, subst, sym, ◌∙◌, arith}
 use Rattle.dw_types.specs.Children.{IsChildOf}
 use Rattle.dw_types.specs.Entries.{entry_of}
-use Rattle.dw_types.specs.Kinds.{is_array}
-use Rattle.dw_types.specs.Noted.{IsNoted}
+use Rattle.dw_types.specs.Kinds.{is_array, Dimensions}
+use Rattle.dw_types.specs.Noted.{IsNoted, Passed}
 use Rattle.dw_types.specs.Shapes.{fails_shape}
 use Rattle.dw_types.specs.ShapesSeen.{HasSeenArray, array}
 use Rattle.dw_types.proofs.RoleLemmas.{dimensions-role}
 use Rattle.dw_types.proofs.ChildSteps.{HasPassed, passed-more, passed-none}
-use Rattle.dw_types.proofs.ShapeLemmas.{array-no_members, noted-child, noted-no_child, noted-parts, part-least, seen-later}
+use Rattle.dw_types.proofs.NotedLemmas.{noted-child, noted-no_child}
+use Rattle.dw_types.proofs.ShapeLemmas.{array-no_members, noted-parts, part-least, seen-later}
 use Rattle.dw_types.proofs.by_value.note_dimensions.Goals as goal
 
 pub loop-next-init : goal.loop-next-init
 loop-next-init c =
     let entries = c.args.entries.now in
-    let Q : List ℕ → Type 0 = λ visited. IsNoted (fails_shape entries) (λ k. HasSeenArray entries c.args.node k ⊎ Contains visited k) c.args.least.now in (
-      passed-none entries c.args.node (IsChildOf entries c.args.node) Q c.first_child-next.result c.first_child-next.ensures.children c.first_child-next.ensures.child
-          (noted-no_child (fails_shape entries) (HasSeenArray entries c.args.node) c.args.least.now c.requires.noted),
+    let Q : List ℕ → Type 0 = λ visited. IsNoted (fails_shape entries) (Passed (HasSeenArray entries c.args.node) (IsChildOf entries c.args.node) visited) c.args.least.now in (
+      passed-none entries c.args.node Q c.first_child-next.result c.first_child-next.ensures.children c.first_child-next.ensures.child
+          (noted-no_child (fails_shape entries) (HasSeenArray entries c.args.node) (IsChildOf entries c.args.node) c.args.least.now c.requires.noted),
       refl,
     )
 
@@ -27,30 +26,28 @@ loop-next-preserved c =
     let node = c.args.node in
     let child = c.in-Some.child in
     let fails = fails_shape entries in
-    let P : ℕ → Type 0 = IsChildOf entries node in
-    let Q : List ℕ → Type 0 = λ visited. IsNoted fails (λ k. HasSeenArray entries node k ⊎ Contains visited k) c.loop-next.least in
-    let R : List ℕ → Type 0 = λ visited. IsNoted fails (λ k. HasSeenArray entries node k ⊎ Contains visited k) c.note.new.least in
+    let Q : List ℕ → Type 0 = λ visited. IsNoted fails (Passed (HasSeenArray entries node) (IsChildOf entries node) visited) c.loop-next.least in
+    let R : List ℕ → Type 0 = λ visited. IsNoted fails (Passed (HasSeenArray entries node) (IsChildOf entries node) visited) c.note.new.least in
     let found = rw c.loop-next.invariant.1 at c.at-dimension.ensures.found in
-    let h : HasPassed entries node P Q (Some child) = subst (HasPassed entries node P Q) c.in-Some.is c.loop-next.invariant.0 in
+    let h : HasPassed entries node Q (Some child) = subst (HasPassed entries node Q) c.in-Some.is c.loop-next.invariant.0 in
     let rest = rw (c.language-language.ensures.same, c.at-dimension.ensures.same, c.loop-next.invariant.1) at c.next_sibling-next.ensures.children node in
     let is = rw (c.language-language.ensures.same, c.at-dimension.ensures.same, c.loop-next.invariant.1) at c.next_sibling-next.ensures.child node in
     let none = array-no_members (entry_of entries node) c.requires.array in
-    let least = part-least entries node child Dimensions c.broken_shape.result (dimensions-role (entry_of entries node) none c.requires.array) h.next_is (rw found at c.broken_shape.ensures) in (
-      passed-more entries node P Q R child c.next_sibling-next.result h (rest h.next_is.parent_is) (is h.next_is.parent_is) h.next_is
-          (λ visited q. rw c.note.ensures (noted-child fails (HasSeenArray entries node) visited child c.loop-next.least c.broken_shape.result least q)),
+    let least = part-least entries node child Dimensions c.broken_dimension.result (dimensions-role (entry_of entries node) none c.requires.array) h.next_is (rw found at c.broken_dimension.ensures) in (
+      passed-more entries node Q R child c.next_sibling-next.result h (rest h.next_is.parent_is) (is h.next_is.parent_is)
+          (λ visited q. rw c.note.ensures (noted-child fails (HasSeenArray entries node) (IsChildOf entries node) visited child c.loop-next.least c.broken_dimension.result h.next_is least q)),
       c.language-language.ensures.same ∙ c.at-dimension.ensures.same ∙ c.loop-next.invariant.1,
     )
 
-pub broken_shape-requires : goal.broken_shape-requires
-broken_shape-requires c = λ yes. rw c.at-dimension.ensures.found (rw c.at-dimension.ensures.same at c.language-language.ensures.is)
+pub broken_dimension-requires : goal.broken_dimension-requires
+broken_dimension-requires c = rw c.at-dimension.ensures.found (rw c.at-dimension.ensures.same at c.language-language.ensures.is)
 
 pub returns-clause-noted : goal.returns-clause-noted
 returns-clause-noted c =
     let entries = c.args.entries.now in
     let node = c.args.node in
-    let P : ℕ → Type 0 = IsChildOf entries node in
-    let Q : List ℕ → Type 0 = λ visited. IsNoted (fails_shape entries) (λ k. HasSeenArray entries node k ⊎ Contains visited k) c.loop-next.least in
-    let h : HasPassed entries node P Q None = subst (HasPassed entries node P Q) c.in_default.is c.loop-next.invariant.0 in
+    let Q : List ℕ → Type 0 = λ visited. IsNoted (fails_shape entries) (Passed (HasSeenArray entries node) (IsChildOf entries node) visited) c.loop-next.least in
+    let h : HasPassed entries node Q None = subst (HasPassed entries node Q) c.in_default.is c.loop-next.invariant.0 in
     let is = c.requires.array in
     let none = array-no_members (entry_of entries node) is in
     noted-parts entries node (HasSeenArray entries node) (λ k seen. inl seen) (λ own. inr refl)
@@ -58,4 +55,4 @@ returns-clause-noted c =
       | inl seen ↦ seen-later entries node k seen
       | inr same ↦ array (omega arith) (subst (λ n. is_array (entry_of entries n) ≡ true) (sym same) is)
     ])
-    (rw (none, is) refl) c.loop-next.least h.visited h.whole h.passed h.value
+    (rw (none, is) refl) c.loop-next.least h.visited h.whole h.value

@@ -1,7 +1,6 @@
-use Rattle.std.proofs.Common.{◌≡◌, ◌⊎◌, length}
-use Rattle.std.specs.Prelude.{Contains}
+use Rattle.std.proofs.Common.{◌≡◌, length}
 use Rattle.dw_types.specs.Children.{rest_of_children, IsChildOf}
-use Rattle.dw_types.specs.Noted.{IsNoted}
+use Rattle.dw_types.specs.Noted.{IsNoted, Passed}
 use Rattle.dw_types.specs.Shapes.{fails_shape}
 use Rattle.dw_types.specs.ShapesSeen.{HasSeenArray}
 use Rattle.dw_types.proofs.ChildSteps.{HasPassed}
@@ -9,7 +8,7 @@ use Rattle.dw_types.proofs.by_value.note_dimensions.Given as goal
 
 abbrev pub invariant-loop-next : goal.invariant-loop-next
 invariant-loop-next l =
-    HasPassed l.fn.entries l.node (IsChildOf l.fn.entries l.node) (λ visited. IsNoted (fails_shape l.fn.entries) (λ k. HasSeenArray l.fn.entries l.node k ⊎ Contains visited k) l.least) l.next
+    HasPassed l.fn.entries l.node (λ visited. IsNoted (fails_shape l.fn.entries) (Passed (HasSeenArray l.fn.entries l.node) (IsChildOf l.fn.entries l.node) visited) l.least) l.next
     × (l.entries ≡ l.fn.entries)
 
 abbrev pub decreases-loop-next : goal.decreases-loop-next

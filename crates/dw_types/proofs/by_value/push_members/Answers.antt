@@ -1,17 +1,17 @@
-use Rattle.std.proofs.Common.{◌≡◌, ◌++◌, ◌⊎◌, ℕ, List, None, Some, refl, subst, sym, ap, ◌∙◌, append-nil}
+use Rattle.std.proofs.Common.{◌≡◌, ◌++◌, ℕ, List, None, Some, refl, subst, sym, ap, ◌∙◌, append-nil}
 use Rattle.std.specs.List.{flat_map}
-use Rattle.std.specs.Prelude.{Contains}
-use Rattle.dw_types.specs.declared.kind.Role.TheVariants.{Members}
+use Rattle.dw_types.specs.Kinds.{Members}
 use Rattle.dw_types.specs.Children.{IsChildOf}
 use Rattle.dw_types.specs.Entries.{entry_of}
-use Rattle.dw_types.specs.Noted.{IsNoted}
+use Rattle.dw_types.specs.Noted.{IsNoted, Passed}
 use Rattle.dw_types.specs.Shapes.{fails_shape}
 use Rattle.dw_types.specs.ShapesSeen.{HasSeenShapes}
 use Rattle.dw_types.specs.Steps.{part_step}
 use Rattle.dw_types.proofs.RoleLemmas.{members-role}
 use Rattle.dw_types.proofs.PartStepLemmas.{part-none, part-some, parts-push}
 use Rattle.dw_types.proofs.ChildSteps.{HasPassed, passed-more, passed-none}
-use Rattle.dw_types.proofs.ShapeLemmas.{members-no_array, noted-child, noted-no_child, noted-parts, part-least, seen-later}
+use Rattle.dw_types.proofs.NotedLemmas.{noted-child, noted-no_child}
+use Rattle.dw_types.proofs.ShapeLemmas.{members-no_array, noted-parts, part-least, seen-later}
 use Rattle.dw_types.proofs.by_value.push_members.Goals as goal
 use Rattle.dw_types.proofs.by_value.push_members.Goals.{then-is_plain+in_ok-push_to, else-is_plain}
 
@@ -19,9 +19,9 @@ pub loop-next-init : goal.loop-next-init
 loop-next-init c =
     let entries = c.args.entries.now in
     let steps = c.args.steps.now in
-    let Q : List ℕ → Type 0 = λ visited. (steps ≡ steps ++ flat_map (part_step entries) visited) × IsNoted (fails_shape entries) (λ k. HasSeenShapes entries c.args.node k ⊎ Contains visited k) c.args.least.now in (
-      passed-none entries c.args.node (IsChildOf entries c.args.node) Q c.first_child-next.result c.first_child-next.ensures.children c.first_child-next.ensures.child
-          (sym (append-nil steps), noted-no_child (fails_shape entries) (HasSeenShapes entries c.args.node) c.args.least.now c.requires.noted),
+    let Q : List ℕ → Type 0 = λ visited. (steps ≡ steps ++ flat_map (part_step entries) visited) × IsNoted (fails_shape entries) (Passed (HasSeenShapes entries c.args.node) (IsChildOf entries c.args.node) visited) c.args.least.now in (
+      passed-none entries c.args.node Q c.first_child-next.result c.first_child-next.ensures.children c.first_child-next.ensures.child
+          (sym (append-nil steps), noted-no_child (fails_shape entries) (HasSeenShapes entries c.args.node) (IsChildOf entries c.args.node) c.args.least.now c.requires.noted),
       refl,
     )
 
@@ -32,24 +32,23 @@ loop-next-preserved c =
     let node = c.args.node in
     let child = c.in-Some.child in
     let fails = fails_shape entries in
-    let P : ℕ → Type 0 = IsChildOf entries node in
-    let Seen : List ℕ → ℕ → Type 0 = λ visited k. HasSeenShapes entries node k ⊎ Contains visited k in
+    let Seen : List ℕ → ℕ → Type 0 = Passed (HasSeenShapes entries node) (IsChildOf entries node) in
     let Q : List ℕ → Type 0 = λ visited. (c.loop-next.steps ≡ steps ++ flat_map (part_step entries) visited) × IsNoted fails (Seen visited) c.loop-next.least in
     let R : List ℕ → Type 0 = λ visited. (c.if-is_plain.steps ≡ steps ++ flat_map (part_step entries) visited) × IsNoted fails (Seen visited) c.note.new.least in
     let found = rw c.loop-next.invariant.1 at c.at-member.ensures.found in
-    let h : HasPassed entries node P Q (Some child) = subst (HasPassed entries node P Q) c.in-Some.is c.loop-next.invariant.0 in
+    let h : HasPassed entries node Q (Some child) = subst (HasPassed entries node Q) c.in-Some.is c.loop-next.invariant.0 in
     let rest = rw (c.at-member.ensures.same, c.loop-next.invariant.1) at c.next_sibling-next.ensures.children node in
     let is = rw (c.at-member.ensures.same, c.loop-next.invariant.1) at c.next_sibling-next.ensures.child node in
     let plain = rw found at c.is_plain.ensures in
-    let least = part-least entries node child Members c.broken_shape.result (members-role (entry_of entries node) c.requires.members) h.next_is (rw found at c.broken_shape.ensures) in
+    let least = part-least entries node child Members c.broken_member.result (members-role (entry_of entries node) c.requires.members) h.next_is (rw found at c.broken_member.ensures) in
     let grown : c.if-is_plain.steps ≡ c.loop-next.steps ++ part_step entries child = elim c.if-is_plain.branch [
       | then-is_plain+in_ok-push_to w ↦
           rw (w.steps-is, w.in_ok-push_to.ensures) (ap (λ (xs : List ℕ). c.loop-next.steps ++ xs) (part-some entries child w.type_target.result (sym plain ∙ w.if-is_plain.true) (rw found at w.type_target.ensures)))
       | else-is_plain w ↦ rw w.steps-is (part-none entries child c.loop-next.steps (sym plain ∙ w.if-is_plain.false))
     ] in (
-      passed-more entries node P Q R child c.next_sibling-next.result h (rest h.next_is.parent_is) (is h.next_is.parent_is) h.next_is (λ visited q. (
+      passed-more entries node Q R child c.next_sibling-next.result h (rest h.next_is.parent_is) (is h.next_is.parent_is) (λ visited q. (
         grown ∙ parts-push entries child visited c.loop-next.steps steps q.0,
-        rw c.note.ensures (noted-child fails (HasSeenShapes entries node) visited child c.loop-next.least c.broken_shape.result least q.1),
+        rw c.note.ensures (noted-child fails (HasSeenShapes entries node) (IsChildOf entries node) visited child c.loop-next.least c.broken_member.result h.next_is least q.1),
       )),
       c.at-member.ensures.same ∙ c.loop-next.invariant.1,
     )
@@ -58,9 +57,8 @@ pub returns-clause-noted : goal.returns-clause-noted
 returns-clause-noted c =
     let entries = c.args.entries.now in
     let node = c.args.node in
-    let P : ℕ → Type 0 = IsChildOf entries node in
-    let Q : List ℕ → Type 0 = λ visited. (c.loop-next.steps ≡ c.args.steps.now ++ flat_map (part_step entries) visited) × IsNoted (fails_shape entries) (λ k. HasSeenShapes entries node k ⊎ Contains visited k) c.loop-next.least in
-    let h : HasPassed entries node P Q None = subst (HasPassed entries node P Q) c.in_default.is c.loop-next.invariant.0 in
+    let Q : List ℕ → Type 0 = λ visited. (c.loop-next.steps ≡ c.args.steps.now ++ flat_map (part_step entries) visited) × IsNoted (fails_shape entries) (Passed (HasSeenShapes entries node) (IsChildOf entries node) visited) c.loop-next.least in
+    let h : HasPassed entries node Q None = subst (HasPassed entries node Q) c.in_default.is c.loop-next.invariant.0 in
     let members = c.requires.members in
     noted-parts entries node (HasSeenShapes entries node) (λ k seen. seen) (λ is. absurd (members-no_array (entry_of entries node) members is)) (seen-later entries node) (rw members refl)
-    c.loop-next.least h.visited h.whole h.passed h.value.1
+    c.loop-next.least h.visited h.whole h.value.1

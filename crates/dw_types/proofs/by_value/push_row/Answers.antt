@@ -1,4 +1,5 @@
-use Rattle.std.proofs.Common.{◌≡◌, ◌++◌, ℕ, List, true, false, append_assoc, sym, ap, ◌∙◌}
+use Rattle.std.proofs.Common.{rules}
+use Rattle.std.proofs.Common.{◌≡◌, ◌++◌, ℕ, List, false, append_assoc, sym, ap, ◌∙◌}
 use Rattle.std.specs.Option.{option_to_list}
 use Rattle.dw_types.specs.Entries.{entry_of}
 use Rattle.dw_types.specs.Kinds.{has_members}
@@ -7,10 +8,7 @@ use Rattle.dw_types.proofs.PartStepLemmas.{members-row, own-row}
 use Rattle.dw_types.proofs.by_value.push_row.Goals as goal
 
 pub returns-then-has_members-clause-steps : goal.returns-then-has_members-clause-steps
-returns-then-has_members-clause-steps c =
-    let entries = c.args.entries.now in
-    let members : has_members (entry_of entries c.args.node) ≡ true = rw c.at-entry.ensures.found at (sym c.has_members.ensures ∙ c.if-has_members.true) in
-    rw (← members-row entries c.args.node members) (rw c.at-entry.ensures.same at c.push_members.ensures.steps)
+returns-then-has_members-clause-steps c = search (rules, members-row)
 
 pub returns-clause-steps : goal.returns-clause-steps
 returns-clause-steps c =

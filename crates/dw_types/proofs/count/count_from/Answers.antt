@@ -1,4 +1,5 @@
-use Rattle.std.proofs.Common.{◌≡◌, true, false, None, Some, ℤ, pos, ◌+ℤ◌, ◌-ℤ◌, FitsSigned, arith, refl, sym, ◌∙◌}
+use Rattle.std.proofs.Common.{rules}
+use Rattle.std.proofs.Common.{◌≡◌, true, false, Some, ℤ, pos, ◌+ℤ◌, ◌-ℤ◌, FitsSigned, arith, refl, sym, ◌∙◌}
 use Rattle.std.proofs.lemmas.Int.{ints, to_z-of_z}
 use mir.Syntax.{w128}
 use Rattle.dw_types.specs.Constants.{IsOf64Bits, is_present}
@@ -19,39 +20,19 @@ pub returns-then-is_present : goal.returns-then-is_present
 returns-then-is_present c = let given : is_present c.args.count ≡ true = sym c.is_present.ensures ∙ c.if-is_present.true in rw given c.number.ensures.value
 
 pub returns-then-not-reads_bounds : goal.returns-then-not-reads_bounds
-returns-then-not-reads_bounds c =
-    let given : is_present c.args.count ≡ false = sym c.is_present.ensures ∙ c.if-is_present.false in
-    let unread : reads_bounds c.args.language ≡ false = sym c.reads_bounds.ensures ∙ c.if-not-reads_bounds.true in
-    rw (given, unread) refl
+returns-then-not-reads_bounds c = search (rules)
 
 pub returns-in_err-upper : goal.returns-in_err-upper
-returns-in_err-upper c =
-    let given : is_present c.args.count ≡ false = sym c.is_present.ensures ∙ c.if-is_present.false in
-    let read : reads_bounds c.args.language ≡ true = sym c.reads_bounds.ensures ∙ c.if-not-reads_bounds.false in
-    let upper : upper_of c.args.upper ≡ None = sym c.upper.ensures.value ∙ c.in_err-upper.was in
-    rw (given, read, upper) c.from_residual.ensures
+returns-in_err-upper c = search (rules)
 
 pub returns-in_err-lower : goal.returns-in_err-lower
-returns-in_err-lower c =
-    let given : is_present c.args.count ≡ false = sym c.is_present.ensures ∙ c.if-is_present.false in
-    let read : reads_bounds c.args.language ≡ true = sym c.reads_bounds.ensures ∙ c.if-not-reads_bounds.false in
-    let upper : upper_of c.args.upper ≡ Some c.in_ok-upper.upper = sym c.upper.ensures.value ∙ c.in_ok-upper.was in
-    let lower : lower_of c.args.lower ≡ None = sym c.lower.ensures.value ∙ c.in_err-lower.was in
-    rw (given, read, upper, lower) c.from_residual-in_err-lower.ensures
+returns-in_err-lower c = search (rules)
 
 pub overflow_sub-result : goal.overflow_sub-result
-overflow_sub-result c =
-    let upper = c.in_ok-upper.ensures.range in
-    let lower = c.in_ok-lower.ensures.range in
-    rw (to_z-of_z w128 c.in_ok-upper.upper (wide c.in_ok-upper.upper upper), to_z-of_z w128 c.in_ok-lower.lower (wide c.in_ok-lower.lower lower))
-    (wide-difference c.in_ok-upper.upper c.in_ok-lower.lower upper lower)
+overflow_sub-result c = search (rules, to_z-of_z, wide, wide-difference)
 
 pub overflow_add-result : goal.overflow_add-result
-overflow_add-result c =
-    let upper = c.in_ok-upper.ensures.range in
-    let lower = c.in_ok-lower.ensures.range in
-    rw (to_z-of_z w128 c.in_ok-upper.upper (wide c.in_ok-upper.upper upper), to_z-of_z w128 c.in_ok-lower.lower (wide c.in_ok-lower.lower lower), to_z-of_z w128 (c.in_ok-upper.upper -ℤ c.in_ok-lower.lower) (wide-difference c.in_ok-upper.upper c.in_ok-lower.lower upper lower))
-    (wide-count c.in_ok-upper.upper c.in_ok-lower.lower upper lower)
+overflow_add-result c = search (rules, to_z-of_z, wide, wide-difference, wide-count)
 
 pub returns : goal.returns
 returns c =

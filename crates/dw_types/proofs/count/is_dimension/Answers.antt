@@ -9,7 +9,8 @@ use Rattle.dw_types.proofs.count.is_dimension.Goals as goal
 pub is_in_array-requires : goal.is_in_array-requires
 is_in_array-requires c =
     let us = units_of c.args.entries.now.scanned in
-    parent-entry us c.args.id c.args.entry.now c.parent.result c.requires.entry c.requires.id c.parent.ensures
+    parent-entry us c.args.id c.parent.result c.requires.id
+    (known us c.args.id _ c.requires.entry c.requires.id (λ (facts : Facts). c.parent.result ≡ facts.parent) c.parent.ensures)
 
 pub returns-then-is_subrange_tag : goal.returns-then-is_subrange_tag
 returns-then-is_subrange_tag c =

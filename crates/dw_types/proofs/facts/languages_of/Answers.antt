@@ -1,13 +1,11 @@
-use Rattle.std.proofs.Common.{◌<◌, ◌≤◌, length, ◌∙◌}
+use Rattle.std.proofs.Common.{rules}
+use Rattle.std.proofs.Common.{◌≤◌, length, ◌∙◌}
 use Rattle.dw_entries.specs.Scanned.{units_of}
 use Rattle.dw_types.proofs.UnitLemmas.{languages-all, languages-more}
 use Rattle.dw_types.proofs.facts.languages_of.Goals as goal
 
 pub loop-number-preserved : goal.loop-number-preserved
-loop-number-preserved c =
-    let us = units_of c.args.entries.now.scanned in
-    let inside : c.loop-number.number < length us = rw (← c.unit_count-count.ensures) c.loop-number-test.true in
-    rw (c.in_ok-push.ensures.items, c.loop-number.invariant) (languages-more us c.loop-number.number c.language_of.result inside c.language_of.ensures)
+loop-number-preserved c = search (rules, languages-more)
 
 pub returns : goal.returns
 returns c =

@@ -1,3 +1,4 @@
+use Rattle.std.proofs.Common.{rules}
 use Rattle.std.proofs.Common.{◌<◌, ◌≤◌, length, get_or, arith, ap, ◌∙◌, length-set}
 use Rattle.std.proofs.lemmas.List.{length-replicate}
 use Rattle.dw_types.specs.LongestRows.{IsAbove}
@@ -8,9 +9,7 @@ pub loop-rank-init : goal.loop-rank-init
 loop-rank-init g c = (ap length c.in_ok-counts.ensures ∙ (length-replicate c.nodes.result 0 ∙ c.nodes.ensures), λ k w. absurd (omega arith))
 
 pub one_above-most-requires-clause-node : goal.one_above-most-requires-clause-node
-one_above-most-requires-clause-node g c =
-    let below : c.loop-rank.rank < length c.args.clear.now.by_rank = rw (← c.count-rank-end.ensures) c.loop-rank-test.true in
-    rw c.node-node.ensures (c.requires.within c.loop-rank.rank below)
+one_above-most-requires-clause-node g c = search (rules)
 
 pub one_above-most-requires-clause-fits : goal.one_above-most-requires-clause-fits
 one_above-most-requires-clause-fits g c =
@@ -22,10 +21,7 @@ one_above-most-requires-clause-fits g c =
     omega (arith, step.1))
 
 pub set-requires : goal.set-requires
-set-requires g c =
-    let below : c.loop-rank.rank < length c.args.clear.now.by_rank = rw (← c.count-rank-end.ensures) c.loop-rank-test.true in
-    let within = c.requires.within c.loop-rank.rank below in
-    rw c.node-node.ensures (omega (arith, within, c.loop-rank.invariant.0))
+set-requires g c = search (rules)
 
 pub loop-rank-preserved : goal.loop-rank-preserved
 loop-rank-preserved g c =

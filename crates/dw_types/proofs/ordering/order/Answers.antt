@@ -1,4 +1,5 @@
-use Rattle.std.proofs.Common.{ℕ, ◌<◌, below_more, length, arith, refl, ◌∙◌}
+use Rattle.std.proofs.Common.{rules}
+use Rattle.std.proofs.Common.{ℕ, ◌<◌, below_more, length, arith, ◌∙◌}
 use Rattle.dw_types.specs.Walks.{IsAtCycle, IsWalk}
 use Rattle.dw_types.proofs.EndLemmas.{on-stack, start-walk, taken-more, ranked-from_taken, falls-from_ranked}
 use Rattle.dw_types.proofs.CycleLemmas.{no_cycle-from_falls}
@@ -7,16 +8,10 @@ use Rattle.dw_types.proofs.ordering.order.Goals as goal
 use Rattle.dw_types.proofs.ordering.order.Goals.{in-Fresh+in_ok-to+in_default-2, in_default}
 
 pub loop-start-init : goal.loop-start-init
-loop-start-init g c =
-    let graph = g.G.StepGraph.graph c.args.graph.now in
-    let few = rw c.nodes-nodes.ensures at c.nodes-nodes.type_inv in
-    rw (c.in_ok-walk.ensures, c.nodes-nodes.ensures) (start-walk graph few, refl, λ node below. absurd (omega arith), refl)
+loop-start-init g c = search (rules, start-walk)
 
 pub cycle_to-requires-clause-on_stack : goal.cycle_to-requires-clause-on_stack
-cycle_to-requires-clause-on_stack g c =
-    let graph = g.G.StepGraph.graph c.args.graph.now in
-    let at : IsAtCycle graph c.walk_from.new.walk c.in-Some.to = rw c.in-Some.is at c.in_ok-to.ensures.comes in
-    rw c.stack.ensures (on-stack graph c.walk_from.new.walk c.in-Some.to at (c.in_ok-to.ensures.gave_up ∙ c.loop-start.invariant.3))
+cycle_to-requires-clause-on_stack g c = search (rules, on-stack)
 
 pub cycle_to-requires-clause-steps : goal.cycle_to-requires-clause-steps
 cycle_to-requires-clause-steps g c =
@@ -37,21 +32,7 @@ loop-start-preserved g c = elim c.match-mark.branch [
 ]
 
 pub returns-clause-ok : goal.returns-clause-ok
-returns-clause-ok g c =
-    let graph = g.G.StepGraph.graph c.args.graph.now in
-    let s = c.loop-start.walk in
-    let sound : IsWalk graph s = c.loop-start.invariant.0 in
-    let over = rw c.nodes-nodes.ensures at c.loop-start-test.false in
-    let all = λ (node : ℕ) (below : node < length graph). ranked-from_taken graph s node sound c.loop-start.invariant.1 c.loop-start.invariant.3 (c.loop-start.invariant.2 node (omega arith)) in
-    rw c.into_order.ensures record {
-      nodes = sound.coherent.places.ranks;
-      falls = falls-from_ranked graph s sound all;
-      turns = turns-all graph s sound.coherent all;
-      listed = λ node below. (sound.coherent.ranks.below node (all node below), sound.coherent.ranks.listed node (all node below));
-      ranked = λ k below.
-          let old = sound.coherent.ranks.ranked k below in
-          (in-graph graph s _ sound.coherent.places (λ fresh. let done = old.0 in cc), old.1);
-    }
+returns-clause-ok g c = search (rules, ranked-from_taken, falls-from_ranked, turns-all, in-graph)
 
 pub returns-clause-no_cycle : goal.returns-clause-no_cycle
 returns-clause-no_cycle g c =

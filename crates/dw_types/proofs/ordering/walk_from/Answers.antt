@@ -1,7 +1,8 @@
-use Rattle.std.proofs.Common.{◌≡◌, length, slice_index, arith}
+use Rattle.std.proofs.Common.{◌≡◌, length, slice_index, arith, sym}
 use Rattle.dw_types.specs.Graphs.{steps_of}
 use Rattle.dw_types.proofs.RankLemmas.{met-gave_up, met-keeps, met-walk, done-walk, done-keeps_taken}
-use Rattle.dw_types.proofs.WalkLemmas.{turns-room, IsTop, first-walk}
+use Rattle.dw_types.specs.Walks.{IsTop}
+use Rattle.dw_types.proofs.WalkLemmas.{turns-room, first-walk}
 use Rattle.dw_types.proofs.ordering.walk_from.Goals as goal
 
 pub meet_fresh-requires-clause-room : goal.meet_fresh-requires-clause-room
@@ -17,6 +18,14 @@ loop-node-init g c =
       met-keeps graph s c.args.start c.meet_fresh.new.walk up met,
       met-gave_up graph s c.args.start c.meet_fresh.new.walk up met,
     )
+
+pub follow_step-requires-clause-next : goal.follow_step-requires-clause-next
+follow_step-requires-clause-next g c = record {
+  is_top = record { some = c.in-Some.ensures.0; top = c.in-Some.ensures.1 };
+  looked = sym c.next-before.ensures;
+  more = rw (c.next-before.ensures, c.steps.ensures) at c.if-before-steps.true;
+  few = rw c.steps.ensures at c.steps.type_inv;
+}
 
 pub loop-node-preserved : goal.loop-node-preserved
 loop-node-preserved g c =

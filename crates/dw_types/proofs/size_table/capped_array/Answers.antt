@@ -1,6 +1,6 @@
-use Rattle.std.proofs.Common.{sym, ◌∙◌}
-use Rattle.dw_types.specs.SizeTables.{size_at}
-use Rattle.dw_types.proofs.ElementCountLemmas.{array-by_children}
+use Rattle.std.proofs.Common.{◌∙◌}
+use Rattle.dw_types.specs.Sizes.{element_count, parts_of}
+use Rattle.dw_types.proofs.ElementCountLemmas.{cap-right}
 use Rattle.dw_types.proofs.SizeLineLemmas.{type-in}
 use Rattle.dw_types.proofs.size_table.capped_array.Goals as goal
 
@@ -9,7 +9,8 @@ get_to-requires c = rw (c.type_target.ensures, c.requires.entry) (type-in c.args
 
 pub returns-clause-value : goal.returns-clause-value
 returns-clause-value c =
+    let entries = c.args.entries.now in
     let plain = rw (c.constant.ensures, c.requires.entry) at c.if-is_present.ensures in
-    let law = array-by_children c.args.entries.now (size_at c.args.sizes.now) c.args.node (sym plain) in
     c.capped_times.ensures.value
-    ∙ rw (c.natural_or-storage.ensures, c.constant-stride.ensures, c.get_to.ensures, c.type_target.ensures, c.count_elements-elements.ensures.counted, c.requires.entry) law
+    ∙ rw (c.natural_or-storage.ensures, c.constant-stride.ensures, c.get_to.ensures, c.type_target.ensures, c.count_elements-elements.ensures.counted, c.requires.entry, ← plain)
+    (cap-right _ (element_count (parts_of entries c.args.node)))

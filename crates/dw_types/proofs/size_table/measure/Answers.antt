@@ -1,3 +1,4 @@
+use Rattle.std.proofs.Common.{rules}
 use Rattle.std.proofs.Common.{◌≡◌, ◌<◌, ℕ, Bool, true, false, None, length, set, sym, ◌∙◌, length-set, get_or-set_same, arith}
 use Rattle.std.specs.Prelude.{IfSome}
 use Rattle.dw_entries.specs.declared.fault.Rule.{Rule}
@@ -11,9 +12,7 @@ use Rattle.dw_types.proofs.SizingLemmas.{alone-noted, holder-noted, type-noted, 
 use Rattle.dw_types.proofs.size_table.measure.Goals as goal
 
 pub returns-then-not-is_type-clause-size : goal.returns-then-not-is_type-clause-size
-returns-then-not-is_type-clause-size c =
-    let untyped = rw c.at-entry.ensures.found at (sym c.is_type.ensures ∙ c.if-not-is_type.true) in
-    untyped-set c.args.entries.now c.args.sizes.now c.args.node c.requires.untyped untyped
+returns-then-not-is_type-clause-size c = search (rules, untyped-set)
 
 pub returns-then-not-is_type-clause-noted : goal.returns-then-not-is_type-clause-noted
 returns-then-not-is_type-clause-noted c =
@@ -55,10 +54,7 @@ pub note_members-requires-clause-targets : goal.note_members-requires-clause-tar
 note_members-requires-clause-targets c = rw (c.capped_size-size.ensures.same, c.at-entry.ensures.same) c.requires.targets
 
 pub note_members-requires-clause-untyped : goal.note_members-requires-clause-untyped
-note_members-requires-clause-untyped c =
-    let inside : c.args.node < length c.args.sizes.now = let below = c.requires.node in let long = c.requires.sizes_in in omega arith in
-    let is = rw c.at-entry.ensures.found at (sym c.is_type.ensures ∙ c.if-not-is_type.false) in
-    rw (c.capped_size-size.ensures.same, c.at-entry.ensures.same, c.in_ok-set.ensures) (typed-set c.args.entries.now c.args.sizes.now c.args.node c.capped_size-size.result inside is c.requires.untyped)
+note_members-requires-clause-untyped c = search (rules, typed-set)
 
 pub returns-clause-noted : goal.returns-clause-noted
 returns-clause-noted c =

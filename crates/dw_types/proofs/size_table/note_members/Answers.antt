@@ -1,25 +1,19 @@
-use Rattle.std.proofs.Common.{◌≡◌, ◌++◌, ◌⊎◌, ℕ, Bool, true, List, Some, None, refl, subst, sym, ◌∙◌, append-nil}
+use Rattle.std.proofs.Common.{rules}
+use Rattle.std.proofs.Common.{◌≡◌, ◌++◌, ℕ, Bool, true, List, Some, None, subst, sym, ◌∙◌, append-nil}
 use Rattle.dw_entries.specs.declared.fault.Rule.{Rule}
-use Rattle.dw_types.specs.Children.{IsChildOf, rest_of_children}
+use Rattle.dw_types.specs.Children.{rest_of_children}
 use Rattle.dw_types.specs.Entries.{children}
-use Rattle.dw_types.specs.Noted.{IsNoted}
+use Rattle.dw_types.specs.Noted.{is_member_of, IsNoted, Passed}
 use Rattle.dw_types.specs.SizeFaults.{fails_size}
 use Rattle.dw_types.specs.SizeTables.{size_at}
 use Rattle.dw_types.proofs.ChildSteps.{HasPassed, passed-more, passed-none}
+use Rattle.dw_types.proofs.NotedLemmas.{noted-no_child}
 use Rattle.dw_types.proofs.SizeLineLemmas.{type-in}
-use Rattle.dw_types.proofs.SizingLemmas.{child-noted, members-noted, none-visited, IsVisited}
+use Rattle.dw_types.proofs.SizingLemmas.{child-noted, members-noted}
 use Rattle.dw_types.proofs.size_table.note_members.Goals as goal
 
 pub loop-next-init : goal.loop-next-init
-loop-next-init c =
-    let entries = c.args.entries.now in
-    let fails : ℕ → Rule → Bool = fails_size entries (size_at c.args.sizes.now) in
-    let found = c.args.least.now in
-    let Q : List ℕ → Type 0 = λ visited. (seen : ℕ → Bool) → IsNoted fails (λ k. seen k ≡ true) found → IsNoted fails (λ k. (seen k ≡ true) ⊎ IsVisited entries visited k) found in (
-      passed-none entries c.args.node (IsChildOf entries c.args.node) Q c.first_child-next.result c.first_child-next.ensures.children c.first_child-next.ensures.child
-          (λ seen h. none-visited entries fails (λ k. seen k ≡ true) found h),
-      refl,
-    )
+loop-next-init c = search (rules, passed-none, noted-no_child)
 
 pub broken_as_member-requires : goal.broken_as_member-requires
 broken_as_member-requires c = rw (c.at-entry.ensures.found, c.loop-next.invariant.1) (type-in c.args.entries.now c.args.sizes.now c.in-Some.child c.requires.targets c.requires.sizes_in)
@@ -31,14 +25,14 @@ loop-next-preserved c =
     let node = c.args.node in
     let child = c.in-Some.child in
     let fails : ℕ → Rule → Bool = fails_size entries table in
-    let P : ℕ → Type 0 = IsChildOf entries node in
-    let Q : List ℕ → Type 0 = λ visited. (seen : ℕ → Bool) → IsNoted fails (λ k. seen k ≡ true) c.args.least.now → IsNoted fails (λ k. (seen k ≡ true) ⊎ IsVisited entries visited k) c.loop-next.least in
-    let R : List ℕ → Type 0 = λ visited. (seen : ℕ → Bool) → IsNoted fails (λ k. seen k ≡ true) c.args.least.now → IsNoted fails (λ k. (seen k ≡ true) ⊎ IsVisited entries visited k) c.note.new.least in
+    let Asked : ℕ → Type 0 = λ k. is_member_of entries node k ≡ true in
+    let Q : List ℕ → Type 0 = λ visited. (seen : ℕ → Bool) → IsNoted fails (λ k. seen k ≡ true) c.args.least.now → IsNoted fails (Passed (λ k. seen k ≡ true) Asked visited) c.loop-next.least in
+    let R : List ℕ → Type 0 = λ visited. (seen : ℕ → Bool) → IsNoted fails (λ k. seen k ≡ true) c.args.least.now → IsNoted fails (Passed (λ k. seen k ≡ true) Asked visited) c.note.new.least in
     let found = rw c.loop-next.invariant.1 at c.at-entry.ensures.found in
-    let h : HasPassed entries node P Q (Some child) = subst (HasPassed entries node P Q) c.in-Some.is c.loop-next.invariant.0 in
+    let h : HasPassed entries node Q (Some child) = subst (HasPassed entries node Q) c.in-Some.is c.loop-next.invariant.0 in
     let rest = rw (c.at-entry.ensures.same, c.loop-next.invariant.1) at c.next_sibling-next.ensures.children node in
     let is = rw (c.at-entry.ensures.same, c.loop-next.invariant.1) at c.next_sibling-next.ensures.child node in (
-      passed-more entries node P Q R child c.next_sibling-next.result h (rest h.next_is.parent_is) (is h.next_is.parent_is) h.next_is
+      passed-more entries node Q R child c.next_sibling-next.result h (rest h.next_is.parent_is) (is h.next_is.parent_is)
           (λ visited q seen old.
           rw c.note.ensures
           (child-noted entries table (λ k. seen k ≡ true) visited node child c.args.size c.loop-next.least c.broken_as_member.result c.requires.members h.next_is.parent_is c.requires.untyped
@@ -54,4 +48,4 @@ returns-clause-noted c =
     let h = c.loop-next.invariant.0 in
     let none : h.visited ++ rest_of_children entries node None ≡ children entries node = rw c.in_default.is at h.whole in
     λ seen old.
-    members-noted entries fails (λ k. seen k ≡ true) h.visited node c.loop-next.least h.passed (sym (append-nil h.visited) ∙ none) (h.value seen old)
+    members-noted entries fails (λ k. seen k ≡ true) h.visited node c.loop-next.least (sym (append-nil h.visited) ∙ none) (h.value seen old)

@@ -1,6 +1,6 @@
+use Rattle.std.proofs.Common.{rules}
 use Rattle.std.proofs.Common.{◌≡◌, ◌<◌, ◌≤◌, length, get_or, ◌∙◌, length-set}
 use Rattle.std.proofs.lemmas.Result.{err_from_is_err_and}
-use Rattle.dw_entries.specs.Entries.{entries_of, placed}
 use Rattle.dw_types.specs.Held.{all_facts, units_held}
 use Rattle.dw_types.specs.SizeTables.{size_at}
 use Rattle.dw_types.proofs.FactsLemmas.{facts-parents_first, facts-rise, facts-targets, length-facts_of}
@@ -60,6 +60,4 @@ returns-clause-sound c =
     last-sound (all_facts c.args.links.now) (facts-parents_first (units_held c.args.links.now)) (facts-targets (units_held c.args.links.now)) c.args.order.now c.requires.order c.loop-rank.sizes c.loop-rank.rank over c.loop-rank.invariant.2 noted
 
 pub returns-clause-long : goal.returns-clause-long
-returns-clause-long c =
-    let us = units_held c.args.links.now in
-    c.loop-rank.invariant.0 ∙ length-facts_of (entries_of us) (placed us)
+returns-clause-long c = search (rules, length-facts_of)

@@ -1,3 +1,4 @@
+use Rattle.std.proofs.Common.{rules}
 use Rattle.std.proofs.Common.{◌≡◌, ℕ, Bool, ◌+◌, ◌<◌, ◌≤◌, ◌++◌, [], false, List, length, get_or, take, sym, ap, ◌∙◌, arith, append-nil}
 use Rattle.std.proofs.lemmas.List.{take_all}
 use Rattle.std.proofs.lemmas.Result.{err_from_is_err_and}
@@ -56,9 +57,7 @@ loop-node-preserved c =
     )
 
 pub check-requires : goal.check-requires
-check-requires c =
-    let over : length (all_facts c.args.links.now) ≤ c.loop-node.node = rw (← c.new-entries.ensures.same, ← c.count-count.ensures) c.loop-node-test.false in
-    rw c.loop-node.invariant.2 (shapes-inside (all_facts c.args.links.now) (facts-parents_first (units_held c.args.links.now)) c.loop-node.node over c.loop-node.least c.loop-node.invariant.3)
+check-requires c = search (rules, shapes-inside, facts-parents_first)
 
 pub returns-in_err-check-clause-fault : goal.returns-in_err-check-clause-fault
 returns-in_err-check-clause-fault c =
@@ -67,10 +66,7 @@ returns-in_err-check-clause-fault c =
     rw (p.1, p.2) (shapes-fault (all_facts c.args.links.now) (facts-parents_first (units_held c.args.links.now)) c.loop-node.node over (facts-rise _ (units_held c.args.links.now) c.args.links.now.entries.now.scanned.1.spells.are) c.loop-node.least c.in_err-check.field-0.0 c.loop-node.invariant.3 (rw c.loop-node.invariant.2 at c.in_err-check.ensures.fault))
 
 pub returns-clause-graph : goal.returns-clause-graph
-returns-clause-graph c =
-    let entries = all_facts c.args.links.now in
-    let over : length entries ≤ c.loop-node.node = rw (← c.new-entries.ensures.same, ← c.count-count.ensures) c.loop-node-test.false in
-    c.from_rows-packed.ensures ∙ (c.loop-node.invariant.0.same ∙ take_all c.loop-node.node (by_value entries) (let long = length-by_value entries in omega arith))
+returns-clause-graph c = search (rules, take_all, length-by_value)
 
 pub returns-clause-steps : goal.returns-clause-steps
 returns-clause-steps c =

@@ -1,3 +1,4 @@
+use Rattle.std.proofs.Common.{rules}
 use Rattle.std.proofs.Common.{ap}
 use Rattle.std.specs.Prelude.{slice_get}
 use Rattle.std.proofs.lemmas.Option.{IfSome_then}
@@ -12,10 +13,7 @@ use Rattle.dw_types.proofs.UnitLemmas.{unit-below, unit-known}
 use Rattle.dw_types.proofs.facts.FactsAt.address_size.Goals as goal
 
 pub unit-requires : goal.unit-requires
-unit-requires c =
-    let it = c.self.inside in
-    let scanned = it.links.now.entries.now.scanned in
-    unit-below _ _ (units_of scanned) scanned.1.spells it.id c.self.invariant.0 it.entry c.self.invariant.1 c.unit-number.result c.unit-number.ensures
+unit-requires c = search (rules, unit-below)
 
 pub returns : goal.returns
 returns c =

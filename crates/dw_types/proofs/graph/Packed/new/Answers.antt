@@ -1,17 +1,12 @@
+use Rattle.std.proofs.Common.{rules}
 use Rattle.std.proofs.Common.{◌≡◌, ◌++◌, ◌∙◌, ◌<◌, length, ap}
 use Rattle.std.proofs.lemmas.List.{take_all}
-use Rattle.dw_types.specs.Graphs.{step_at, steps_of}
+use Rattle.dw_types.specs.Graphs.{steps_of}
 use Rattle.dw_types.proofs.PackingLemmas.{leads-more, packs-more, row-more}
 use Rattle.dw_types.proofs.graph.Packed.new.Goals as goal
 
 pub loop-k-preserved : goal.loop-k-preserved
-loop-k-preserved g c =
-    let graph = g.G.StepGraph.graph c.args.graph.now in
-    let node = c.loop-node.node in
-    let inside : c.loop-k.k < length (steps_of graph node) = rw (← c.steps-count.ensures) c.loop-k-test.true in
-    let below : step_at graph node c.loop-k.k < c.nodes-nodes.result = rw c.nodes-nodes.ensures (g.met.G.StepGraph.leads_to_nodes c.args.graph.now node c.loop-k.k inside) in
-    rw (c.in_ok-push.ensures, c.step.ensures)
-    (row-more c.loop-node.steps c.loop-k.steps (steps_of graph node) c.loop-k.k inside c.loop-k.invariant.0, leads-more c.loop-k.steps (step_at graph node c.loop-k.k) c.nodes-nodes.result c.loop-k.invariant.1 below)
+loop-k-preserved g c = search (rules, row-more, leads-more)
 
 pub loop-node-preserved : goal.loop-node-preserved
 loop-node-preserved g c =
