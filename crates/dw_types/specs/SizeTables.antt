@@ -1,7 +1,7 @@
 -- Chapter: tables with a size or none for each entry.
-use Rattle.std.specs.Prelude.{◌≡◌, ℕ, false, List, Option, None, Some, min, slice_index_or}
+use Rattle.std.specs.Prelude.{◌≡◌, ℕ, ◌<◌, false, List, length, Option, None, Some, min, slice_index_or}
 use Rattle.dw_forms.specs.Codes.{is_type_tag}
-use Rattle.dw_types.specs.Entries.{entry_of, Facts}
+use Rattle.dw_types.specs.Entries.{entry_of, Facts, TargetsAreEntries}
 
 -- a size or none
 abbrev pub Size : Type 0
@@ -19,3 +19,9 @@ cap_size limit (Some size) = Some (min limit size)
 -- an entry that is no type has no size
 abbrev pub OnlyTypesAreSized : List Facts → (ℕ → Size) → Type 0
 OnlyTypesAreSized entries table = (node : ℕ) → is_type_tag (entry_of entries node).tag ≡ false → table node ≡ None
+
+-- one of the entries; a table has a place for each of them, and so for each target
+pub record HasSizePlaces (entries : List Facts) (sizes : List Size) (node : ℕ) : Type 0 where
+  pub node_in : node < length entries
+  pub long : length sizes ≡ length entries
+  pub targets : TargetsAreEntries entries

@@ -5,9 +5,9 @@ ghost use Rattle.std.specs.Prelude.{slice_set, IfOk, IfErr, IfSome, OnOk};
 ghost use Rattle.dw_entries.specs.Failures.{HasNone};
 ghost use Rattle.dw_entries.specs.Stopped.{IfPlainFault};
 ghost use Rattle.dw_types.specs.Sizes.{size_to, array_size, size_line, IsSizeTable};
-ghost use Rattle.dw_types.specs.SizeTables.{Size, size_at, cap_size, OnlyTypesAreSized};
+ghost use Rattle.dw_types.specs.SizeTables.{Size, size_at, cap_size, HasSizePlaces, OnlyTypesAreSized};
 ghost use Rattle.dw_types.specs.StoredSizes.{size_in, sizes_in};
-ghost use Rattle.dw_types.specs.Entries.{entry_of, TargetsAreEntries};
+ghost use Rattle.dw_types.specs.Entries.{entry_of};
 ghost use Rattle.dw_types.specs.Kinds.{has_members};
 ghost use Rattle.dw_types.specs.Held.{all_facts, entries_held};
 ghost use Rattle.dw_types.specs.Noted.{asked_at, is_member_of, IsNoted};
@@ -130,10 +130,8 @@ fn capped_array(
     node: usize,
     entry: &FactsAt<'_, '_>,
 ) -> Option<u64>
-    requires node_in { node < length entries.old }
+    requires places { HasSizePlaces entries.old sizes.now node }
     requires entry { entry.now ≡ entry_of entries.old node }
-    requires targets { TargetsAreEntries entries.old }
-    requires sizes_in { length sizes.now ≡ length entries.old }
     ensures same { entries.new ≡ entries.old }
     ensures value { result ≡ cap_size (2 ^ 63) (array_size entries.old (size_at sizes.now) node) }
     ensures small { IfSome result (λ n. n ≤ 2 ^ 63) }
@@ -155,10 +153,8 @@ fn capped_size(
     node: usize,
     entry: &FactsAt<'_, '_>,
 ) -> Option<u64>
+    requires places { HasSizePlaces entries.old sizes.now node }
     requires entry { entry.now ≡ entry_of entries.old node }
-    requires node_in { node < length entries.old }
-    requires targets { TargetsAreEntries entries.old }
-    requires sizes_in { length sizes.now ≡ length entries.old }
     ensures same { entries.new ≡ entries.old }
     ensures value { result ≡ cap_size (2 ^ 63) (size_line entries.old (size_at sizes.now) node) }
     ensures small { IfSome result (λ n. n ≤ 2 ^ 63) }
@@ -191,11 +187,9 @@ fn note_members(
     node: usize,
     size: Option<u64>,
 )
-    requires node { node < length entries.old }
+    requires places { HasSizePlaces entries.old sizes.now node }
     requires members { has_members (entry_of entries.old node) ≡ true }
-    requires sizes_in { length sizes.now ≡ length entries.old }
     requires size { size_at sizes.now node ≡ size }
-    requires targets { TargetsAreEntries entries.old }
     requires untyped { OnlyTypesAreSized entries.old (size_at sizes.now) }
     ensures same { entries.new ≡ entries.old }
     ensures noted { (seen : ℕ → Bool)
@@ -219,9 +213,7 @@ fn measure(
     least: &mut LeastFault,
     node: usize,
 ) -> Result<(), AllocError>
-    requires node { node < length entries.old }
-    requires sizes_in { length sizes.old ≡ length entries.old }
-    requires targets { TargetsAreEntries entries.old }
+    requires places { HasSizePlaces entries.old sizes.old node }
     requires untyped { OnlyTypesAreSized entries.old (size_at sizes.old) }
     ensures same { OnOk result (entries.new ≡ entries.old) }
     ensures size { OnOk result (sizes.new

@@ -20,8 +20,8 @@ returns-then-not-is_type-clause-noted c =
     λ seen old.
     untyped-noted c.args.entries.now (size_at c.args.sizes.now) (λ k. seen k ≡ true) c.args.node c.args.least.now c.requires.untyped untyped old
 
-pub capped_size-size-requires-clause-targets : goal.capped_size-size-requires-clause-targets
-capped_size-size-requires-clause-targets c = rw c.at-entry.ensures.same c.requires.targets
+pub capped_size-size-requires-clause-places : goal.capped_size-size-requires-clause-places
+capped_size-size-requires-clause-places c = rw c.at-entry.ensures.same c.requires.places
 
 pub broken_size-requires-clause-own : goal.broken_size-requires-clause-own
 broken_size-requires-clause-own c =
@@ -32,14 +32,14 @@ broken_size-requires-clause-own c =
 pub broken_size-requires-clause-type_in : goal.broken_size-requires-clause-type_in
 broken_size-requires-clause-type_in c =
     rw (c.at-entry.ensures.found, c.in_ok-set.ensures)
-    (type-in c.args.entries.now (set c.args.sizes.now c.args.node c.capped_size-size.result) c.args.node c.requires.targets (length-set c.args.sizes.now c.args.node c.capped_size-size.result ∙ c.requires.sizes_in))
+    (type-in c.args.entries.now (set c.args.sizes.now c.args.node c.capped_size-size.result) c.args.node c.requires.places.targets (length-set c.args.sizes.now c.args.node c.capped_size-size.result ∙ c.requires.places.long))
 
 pub returns-then-not-has_members-clause-noted : goal.returns-then-not-has_members-clause-noted
 returns-then-not-has_members-clause-noted c =
     let entries = c.args.entries.now in
     let node = c.args.node in
     let size = c.capped_size-size.result in
-    let inside : node < length c.args.sizes.now = let below = c.requires.node in let long = c.requires.sizes_in in omega arith in
+    let inside : node < length c.args.sizes.now = let p = c.requires.places in omega arith in
     let is = rw c.at-entry.ensures.found at (sym c.is_type.ensures ∙ c.if-not-is_type.false) in
     let not = rw c.at-entry.ensures.found at (sym c.has_members.ensures ∙ c.if-not-has_members.true) in
     let least = rw c.at-entry.ensures.found at c.broken_size.ensures in
@@ -50,8 +50,14 @@ returns-then-not-has_members-clause-noted c =
     (alone-noted entries (size_at c.set.new.self) (λ k. seen k ≡ true) node (with_rule c.args.least.now node c.broken_size.result) typed not (type-unmember (entry_of entries node).tag is)
     (type-noted entries (size_at c.set.new.self) (λ k. seen k ≡ true) node size c.args.least.now c.broken_size.result is sized least old))
 
-pub note_members-requires-clause-targets : goal.note_members-requires-clause-targets
-note_members-requires-clause-targets c = rw (c.capped_size-size.ensures.same, c.at-entry.ensures.same) c.requires.targets
+pub note_members-requires-clause-places : goal.note_members-requires-clause-places
+note_members-requires-clause-places c =
+    let p = c.requires.places in
+    rw (c.capped_size-size.ensures.same, c.at-entry.ensures.same, c.in_ok-set.ensures) record {
+      node_in = p.node_in;
+      long = length-set c.args.sizes.now c.args.node c.capped_size-size.result ∙ p.long;
+      targets = p.targets;
+    }
 
 pub note_members-requires-clause-untyped : goal.note_members-requires-clause-untyped
 note_members-requires-clause-untyped c = search (rules, typed-set)
@@ -62,7 +68,7 @@ returns-clause-noted c =
     let node = c.args.node in
     let size = c.capped_size-size.result in
     let fails : ℕ → Rule → Bool = fails_size entries (size_at c.set.new.self) in
-    let inside : node < length c.args.sizes.now = let below = c.requires.node in let long = c.requires.sizes_in in omega arith in
+    let inside : node < length c.args.sizes.now = let p = c.requires.places in omega arith in
     let is = rw c.at-entry.ensures.found at (sym c.is_type.ensures ∙ c.if-not-is_type.false) in
     let least = rw c.at-entry.ensures.found at c.broken_size.ensures in
     let sized : size_at c.set.new.self node ≡ size = rw c.in_ok-set.ensures (get_or-set_same c.args.sizes.now node size None inside) in

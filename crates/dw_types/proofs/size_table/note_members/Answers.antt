@@ -16,7 +16,7 @@ pub loop-next-init : goal.loop-next-init
 loop-next-init c = search (rules, passed-none, noted-no_child)
 
 pub broken_as_member-requires : goal.broken_as_member-requires
-broken_as_member-requires c = rw (c.at-entry.ensures.found, c.loop-next.invariant.1) (type-in c.args.entries.now c.args.sizes.now c.in-Some.child c.requires.targets c.requires.sizes_in)
+broken_as_member-requires c = rw (c.at-entry.ensures.found, c.loop-next.invariant.1) (type-in c.args.entries.now c.args.sizes.now c.in-Some.child c.requires.places.targets c.requires.places.long)
 
 pub loop-next-preserved : goal.loop-next-preserved
 loop-next-preserved c =

@@ -8,13 +8,15 @@ use Rattle.dw_types.proofs.SizeLineLemmas.{capped_line}
 use Rattle.dw_types.proofs.SizeRankLemmas.{last-fault, last-sound, last-table, next-filled, next-noted, next-typed, next_sizes, node-in}
 use Rattle.dw_types.proofs.size_table.sizes.Goals as goal
 
-pub measure-requires-clause-targets : goal.measure-requires-clause-targets
-measure-requires-clause-targets c = rw c.loop-rank.invariant.1 (facts-targets (units_held c.args.links.now))
-
-pub measure-requires-clause-node : goal.measure-requires-clause-node
-measure-requires-clause-node c =
+pub measure-requires-clause-places : goal.measure-requires-clause-places
+measure-requires-clause-places c =
+    let us = units_held c.args.links.now in
     let below : c.loop-rank.rank < length c.args.order.now.by_rank = rw (← c.count-rank-end.ensures) c.loop-rank-test.true in
-    rw (c.loop-rank.invariant.1, c.node.ensures) (node-in (all_facts c.args.links.now) (facts-parents_first (units_held c.args.links.now)) (facts-targets (units_held c.args.links.now)) c.args.order.now c.requires.order c.loop-rank.rank below)
+    rw (c.loop-rank.invariant.1, c.node.ensures) record {
+      node_in = node-in (all_facts c.args.links.now) (facts-parents_first us) (facts-targets us) c.args.order.now c.requires.order c.loop-rank.rank below;
+      long = c.loop-rank.invariant.0;
+      targets = facts-targets us;
+    }
 
 pub loop-rank-preserved : goal.loop-rank-preserved
 loop-rank-preserved c =
