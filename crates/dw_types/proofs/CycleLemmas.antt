@@ -84,13 +84,7 @@ step-round graph ring h m k i j in_ring in_i in_j p q =
             | inr a ↦ elim q [ inl b ↦ (let x = a.1 in let y = b.1 in let z = a.0 in let w = b.0 in omega arith) | inr b ↦ (let x = a.1 in let y = b.1 in omega arith) ]
           ] in
           rw next (h.steps i below)
-      | inr over ↦
-          let last : i ≡ length ring - 1 = omega arith in
-          let first : j ≡ 0 = elim p [
-            | inl a ↦ elim q [ inl b ↦ (let x = a.1 in let y = b.1 in let z = a.0 in let w = b.0 in omega arith) | inr b ↦ (let x = a.1 in let y = b.1 in let z = a.0 in let w = b.0 in omega arith) ]
-            | inr a ↦ elim q [ inl b ↦ (let x = a.1 in let y = b.1 in let z = a.0 in let w = b.0 in omega arith) | inr b ↦ (let x = a.1 in let y = b.1 in let z = a.0 in let w = b.0 in omega arith) ]
-          ] in
-          rw (last, first) h.closes
+      | inr over ↦ search (rules)
     ]
 
 -- two places of the round but its last are two of the ring

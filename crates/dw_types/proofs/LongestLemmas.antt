@@ -57,18 +57,14 @@ module _ (graph : Graph) (clear : List ℕ) (h : AreClear graph clear) (counts :
         let Q : ℕ → Type 0 = λ n. IsLongest graph n (get_or (set counts node count) n 0) × (get_or (set counts node count) n 0 ≤ k) in
         let P : ℕ → Type 0 = λ n. IsLongest graph node n × (n ≤ k) in
         subst Q (sym same) (subst P (sym (get_or-set_same counts node count 0 in_counts)) (here, few same))
-    | inr other ↦
-        let before : k < place = elim (cases_lt k place) [ inl less ↦ less | inr more ↦ (let same : k ≡ place = omega arith in let P : ℕ → Type 0 = λ n. get_or clear n 0 ≢ node in absurd (subst P same other refl)) ] in
-        let P : ℕ → Type 0 = λ n. IsLongest graph (get_or clear k 0) n × (n ≤ k) in
-        subst P (sym (get_or-set_other counts node (get_or clear k 0) count 0 other)) (known k before)
+    | inr other ↦ search (rules, cases_lt, get_or-set_other)
   ]
     where
       node : ℕ
       node = get_or clear place 0
 
       in_counts : node < length counts
-      in_counts = let inside = h.within place below in omega arith
-
+      in_counts = search (rules)
       here : IsLongest graph node count
       here = longest-above graph counts node count above (λ m w. (known-step known below m w).0)
 

@@ -32,26 +32,9 @@ module _ (entries : List Facts) (rise : OffsetsRise entries) where
   pub first-of_entries : (fails : ℕ → Rule → Bool) (node : ℕ) (rule : Rule) → IsFirstAt entries fails node rule → IsFirst (EntryFailures entries fails) (broken_at rule (entry_of entries node).offset)
   first-of_entries fails node rule h = record {
     failure = record { rule = rule; place = at_entry (entry_of entries node).offset; attribute = 0 };
-    fails = record {
-      number = node;
-      item = entry_of entries node;
-      is_item = slice_get-get_or entries node no_entry h.inside;
-      fails = record { stands = refl; attribute = refl; fails = h.breaks };
-    };
+    fails = search (rules, slice_get-get_or);
     named = record { rule = refl; section = refl; at = refl; attribute = refl };
-    first = λ g failing precedes.
-        let below = slice_get_within entries failing.number failing.item failing.is_item in
-        let same = get_or_from_slice_get entries failing.number failing.item no_entry failing.is_item in
-        let at : g.place ≡ at_entry (entry_of entries failing.number).offset = failing.fails.stands ∙ ap (λ (entry : Facts). at_entry entry.offset) (sym same) in
-        elim precedes [
-          | inl before ↦
-              let lower : (entry_of entries failing.number).offset < (entry_of entries node).offset = rw at at before in
-              h.before failing.number (stands-before node failing.number below lower h.inside) g.rule failing.fails.fails
-          | inr here ↦
-              let one : (entry_of entries failing.number).offset ≡ (entry_of entries node).offset = ap offset_of (sym at ∙ here.0) in
-              let is = same-entry node failing.number h.inside below one in
-              h.least g.rule (rw is at failing.fails.fails) here.1
-        ];
+    first = search (rules, slice_get_within, get_or_from_slice_get, stands-before, same-entry);
   }
 
 -- where no entry breaks a rule there is no failure

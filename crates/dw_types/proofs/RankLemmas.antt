@@ -95,27 +95,9 @@ module _ (graph : Graph) (s : State) (node : ℕ) (h : IsWalk graph s) (t : IsTo
   done-stack =
       let short = done-length in
       record {
-        opened = λ k in_stack.
-            let below : k < length s.stack - 1 = omega arith in
-            rw (done-at k below) (elim (done-mark (get_or s.stack k 0)) [ inl q ↦ absurd (done-other k below q.0) | inr q ↦ q.1 ∙ h.coherent.stack.opened k (omega arith) ]);
-        stacked = λ a opened. elim (done-mark a) [
-          | inl p ↦ absurd cc
-          | inr p ↦ elim (h.coherent.stack.stacked a (sym p.1 ∙ opened)) [
-            | inl place ↦
-                let in_stack : place.0 < length s.stack = place.1 in
-                elim (cases_lt place.0 (length s.stack - 1)) [
-                  | inl below ↦ inl (place.0, (omega arith), done-at place.0 below ∙ place.2)
-                  | inr above ↦
-                      let last : place.0 ≡ length s.stack - 1 = omega arith in
-                      let e : get_or s.stack place.0 0 ≡ a = place.2 in
-                      absurd (p.0 (sym e ∙ (rw last t.top)))
-                ]
-            | inr lost ↦ inr lost
-          ]
-        ];
-        once = λ i j lt in_stack same.
-            let below : j < length s.stack - 1 = omega arith in
-            h.coherent.stack.once i j lt (omega arith) (sym (done-at i (omega arith)) ∙ (same ∙ done-at j below));
+        opened = search (rules, done-at, done-mark, done-other);
+        stacked = search (rules, done-mark, cases_lt, done-at);
+        once = search (rules, done-at);
         steps = λ k in_stack.
             let below : k + 1 < length s.stack - 1 = omega arith in
             rw (done-at (k + 1) below, done-at k (omega arith)) (h.coherent.stack.steps k (omega arith));
@@ -130,42 +112,8 @@ module _ (graph : Graph) (s : State) (node : ℕ) (h : IsWalk graph s) (t : IsTo
 
   pub done-walk : IsWalk graph (with_rank s node)
   done-walk = record {
-    coherent = record {
-      places = record {
-        marks = length-set s.marks node _ ∙ h.coherent.places.marks;
-        next = h.coherent.places.next;
-        ranks = length-set s.ranks node _ ∙ h.coherent.places.ranks;
-        few = h.coherent.places.few;
-      };
-      stack = done-stack;
-      counters = record {
-        within = h.coherent.counters.within;
-        small = h.coherent.counters.small;
-        fresh = λ a fresh. h.coherent.counters.fresh a (done-fresh a fresh);
-        ranked = λ a done. elim (done-mark a) [ inl p ↦ rw p.0 all | inr p ↦ h.coherent.counters.ranked a (sym p.1 ∙ done) ];
-      };
-      ranks = done-ranks;
-      turns =
-          let turns = h.coherent.turns in
-          let e = sum_by-set (λ (m : Mark). cond (is_taken m) 1 0) s.marks node Ranked Fresh done-in_marks in
-          let e' = rw done-opened at e in
-          omega arith;
-    };
-    looks_up = λ place k in_stack seen.
-        let short = done-length in
-        let below : place < length s.stack - 1 = omega arith in
-        rw (done-at place below) (elim (h.looks_up place k (omega arith) (rw (done-at place below) at seen)) [
-          | inl done ↦ inl (done-ranked _ done)
-          | inr above ↦
-              let in_stack : above.0 < length s.stack = above.2 in
-              elim (cases_lt above.0 (length s.stack - 1)) [
-                | inl under ↦ inr (above.0, above.1, (omega arith), done-at above.0 under ∙ above.3)
-                | inr over ↦
-                    let last : above.0 ≡ length s.stack - 1 = omega arith in
-                    let e : get_or s.stack above.0 0 ≡ stack_step graph s place k = above.3 in
-                    inl (rw (← e) (rw (last, t.top) (get_or-set_same s.marks node Ranked Fresh done-in_marks)))
-              ]
-        ]);
+    coherent = search (rules, length-set, done-stack, done-fresh, done-mark, done-ranks, sum_by-set, done-in_marks, done-opened);
+    looks_up = search (rules, done-length, done-at, done-ranked, cases_lt, get_or-set_same, done-in_marks);
   }
 
 -- a list without the element that was just added

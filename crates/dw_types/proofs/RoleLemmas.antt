@@ -16,48 +16,31 @@ use Rattle.dw_types.specs.SizeFaults.{has_no_size, reads_own, wants_own}
 use Rattle.dw_types.specs.Children.{IsChildOf}
 use Rattle.dw_types.specs.Counts.{is_dimension, is_subrange_tag}
 
-neither-or : (a b c d : Bool) → a ≡ false → d ≡ false → ((a && b) || (c && d)) ≡ true → ⊥
-neither-or true b c d not_a not_d either = true≢false not_a
-neither-or false b c true not_a not_d either = true≢false not_d
-neither-or false b true false not_a not_d either = false≢true either
-neither-or false b false false not_a not_d either = false≢true either
-
 -- an entry that is no type
 module _ (entry : Facts) (untyped : is_type_tag entry.tag ≡ false) where
-  not-tag : (type : ℕ) → is_type_tag type ≡ true → nat_eq entry.tag type ≡ false
-  not-tag type is = false_from_ne_true (nat_eq entry.tag type) (λ same. let e : entry.tag ≡ type = eqb-true entry.tag type same in true≢false (sym (ap is_type_tag e ∙ is) ∙ untyped))
-
-  abbrev AreTypes : List ℕ → Type 0
-  AreTypes [] = Unit {0}
-  AreTypes (x ∷ xs) = (is_type_tag x ≡ true) × AreTypes xs
-
-  not-one : (tags : List ℕ) → AreTypes tags → is_one_of tags entry.tag ≡ false
-  not-one [] are = refl
-  not-one (x ∷ xs) are = rw (not-tag x are.0) (not-one xs are.1)
-
   pub untyped-passes : passes_type_on entry ≡ false
-  untyped-passes = not-one (DW_TAG_typedef ∷ DW_TAG_const_type ∷ DW_TAG_volatile_type ∷ DW_TAG_restrict_type ∷ DW_TAG_atomic_type ∷ DW_TAG_array_type ∷ DW_TAG_enumeration_type ∷ []) (refl, (refl, (refl, (refl, (refl, (refl, (refl, tt)))))))
+  untyped-passes = search (rules)
 
   pub untyped-members : has_members entry ≡ false
-  untyped-members = rw (not-one container_tags (refl, (refl, tt))) refl
+  untyped-members = search (rules)
 
   pub untyped-array : is_array entry ≡ false
-  untyped-array = not-tag DW_TAG_array_type refl
+  untyped-array = search (rules)
 
   pub untyped-enumeration : nat_eq entry.tag DW_TAG_enumeration_type ≡ false
-  untyped-enumeration = not-tag DW_TAG_enumeration_type refl
+  untyped-enumeration = search (rules)
 
   pub untyped-declared : is_declared_type entry ≡ false
-  untyped-declared = rw (not-one declarable_tags (refl, (refl, (refl, tt)))) refl
+  untyped-declared = search (rules)
 
   pub untyped-kind : kind_of entry ≡ NoType
-  untyped-kind = search (rules, not-one, not-tag)
+  untyped-kind = search (rules)
 
   untyped-wants : wants_own entry ≡ false
-  untyped-wants = rw (not-tag DW_TAG_base_type refl, not-one container_tags (refl, (refl, tt)), not-tag DW_TAG_array_type refl) refl
+  untyped-wants = search (rules)
 
-  pub untyped-size_none : has_no_size entry ≡ true → ⊥
-  untyped-size_none breaks = neither-or (reads_own (kind_of entry)) (is_negative (byte_size entry)) (not (is_present (byte_size entry))) (wants_own entry) (ap reads_own untyped-kind) untyped-wants breaks
+  pub untyped-size_none : has_no_size entry ≡ false
+  untyped-size_none = search (rules, untyped-kind, untyped-wants)
 
 -- a child is among the children
 

@@ -144,13 +144,6 @@ module _ (entries : List Facts) (parents : ParentsComeFirst entries) (targets : 
 
 -- an entry that has a size reads no negative byte size, and where it has no byte size it wants none
 
-own-or : (constant : Constant) (other : Size) (n : ℕ) → constant_or constant other ≡ Some n → ((constant ≡ Absent) × (other ≡ Some n)) ⊎ ((is_present constant ≡ true) × (is_negative constant ≡ false))
-own-or Absent other n is = inl (refl, is)
-own-or NotNumber other n is = absurd cc
-own-or (Unsigned m) other n is = inr (refl, refl)
-own-or (Signed (pos m)) other n is = inr (refl, refl)
-own-or (Signed (negsuc m)) other n is = absurd cc
-
 natural-own : (constant : Constant) (n : ℕ) → natural_of constant ≡ Some n → (is_present constant ≡ true) × (is_negative constant ≡ false)
 natural-own Absent n is = absurd cc
 natural-own NotNumber n is = absurd cc
@@ -159,7 +152,9 @@ natural-own (Signed (pos m)) n is = (refl, refl)
 natural-own (Signed (negsuc m)) n is = absurd cc
 
 not-negative : (constant : Constant) (other : Size) (n : ℕ) → constant_or constant other ≡ Some n → is_negative constant ≡ false
-not-negative constant other n is = elim (own-or constant other n is) [ inl absent ↦ rw absent.0 refl | inr own ↦ own.1 ]
+not-negative (Signed (negsuc m)) other n is = absurd cc
+not-negative (Signed (pos m)) other n is = refl
+not-negative _ other n is = refl
 
 if-some : (test : Bool) (size : Size) (n : ℕ) → (if test then None else size) ≡ Some n → size ≡ Some n
 if-some true size n is = absurd cc
@@ -169,75 +164,37 @@ times-some : (a b : Size) (n : ℕ) → times a b ≡ Some n → (m : ℕ) × (a
 times-some None b n is = absurd cc
 times-some (Some a) b n is = (a, refl)
 
-present-own : (reads present negative wants : Bool) → present ≡ true → negative ≡ false → ((reads && negative) || (not present && wants)) ≡ false
-present-own true present negative wants p n = rw (p, n) refl
-present-own false present negative wants p n = rw p refl
-
-absent-own : (reads present negative wants : Bool) → negative ≡ false → wants ≡ false → ((reads && negative) || (not present && wants)) ≡ false
-absent-own true true negative wants n w = rw n refl
-absent-own true false negative wants n w = rw (n, w) refl
-absent-own false true negative wants n w = refl
-absent-own false false negative wants n w = w
-
-unread-own : (reads present negative wants : Bool) → reads ≡ false → wants ≡ false → ((reads && negative) || (not present && wants)) ≡ false
-unread-own reads true negative wants r w = rw r refl
-unread-own reads false negative wants r w = rw (r, w) refl
-
-wants-none : (entry : Facts) → nat_eq entry.tag DW_TAG_base_type ≡ false → has_members entry ≡ false → is_array entry ≡ false → wants_own entry ≡ false
-wants-none entry base members array = rw (base, members, array) refl
-
-declared-wants : (entry : Facts) → is_declared_type entry ≡ true → wants_own entry ≡ false
-declared-wants entry is = wants-none entry (grind arith) (grind arith) (grind arith)
-
-tag-wants : (entry : Facts) (tag : ℕ) → entry.tag ≡ tag → nat_eq tag DW_TAG_base_type ≡ false → is_one_of container_tags tag ≡ false → nat_eq tag DW_TAG_array_type ≡ false → wants_own entry ≡ false
-tag-wants entry tag is base container array = rw (is, base, container, array) refl
-
-kind-pointer : (a b c d e f g : Bool) → (if a then Declared else if b then Pointer else if c then Alias else if d then Enumeration else if e then Array else if f then Subroutine else if g then OwnSized else NoType) ≡ Pointer → b ≡ true
-kind-pointer true b c d e f g is = cc
-kind-pointer false true c d e f g is = refl
-kind-pointer false false true d e f g is = cc
-kind-pointer false false false true e f g is = cc
-kind-pointer false false false false true f g is = cc
-kind-pointer false false false false false true g is = cc
-kind-pointer false false false false false false true is = cc
-kind-pointer false false false false false false false is = cc
-
-kind-enumeration : (a b c d e f g : Bool) → (if a then Declared else if b then Pointer else if c then Alias else if d then Enumeration else if e then Array else if f then Subroutine else if g then OwnSized else NoType) ≡ Enumeration → d ≡ true
-kind-enumeration true b c d e f g is = cc
-kind-enumeration false true c d e f g is = cc
-kind-enumeration false false true d e f g is = cc
-kind-enumeration false false false true e f g is = refl
-kind-enumeration false false false false true f g is = cc
-kind-enumeration false false false false false true g is = cc
-kind-enumeration false false false false false false true is = cc
-kind-enumeration false false false false false false false is = cc
+declared-wants : (entry : Facts) → kind_of entry ≡ Declared → wants_own entry ≡ false
+declared-wants entry is = search (rules)
 
 pointer-wants : (entry : Facts) → kind_of entry ≡ Pointer → wants_own entry ≡ false
-pointer-wants entry is = tag-wants entry DW_TAG_pointer_type (eqb-true entry.tag DW_TAG_pointer_type (kind-pointer _ _ _ _ _ _ _ is)) refl refl refl
+pointer-wants entry is = search (rules)
 
 enumeration-wants : (entry : Facts) → kind_of entry ≡ Enumeration → wants_own entry ≡ false
-enumeration-wants entry is = tag-wants entry DW_TAG_enumeration_type (eqb-true entry.tag DW_TAG_enumeration_type (kind-enumeration _ _ _ _ _ _ _ is)) refl refl refl
+enumeration-wants entry is = search (rules)
 
 alias-wants : (entry : Facts) → kind_of entry ≡ Alias → wants_own entry ≡ false
-alias-wants entry is = wants-none entry (grind arith) (grind arith) (grind arith)
+alias-wants entry is = search (rules)
 
 array-wants : (entry : Facts) → kind_of entry ≡ Array → is_negative (constant entry DW_AT_byte_stride) ≡ false → wants_own entry ≡ false
 array-wants entry is stride = search (rules)
 
 -- with a byte size of its own, or by other sizes where nothing is wanted
 own-part : (entry : Facts) (other : Size) (n : ℕ) → constant_or (byte_size entry) other ≡ Some n → (other ≡ Some n → wants_own entry ≡ false) → has_no_size entry ≡ false
-own-part entry other n is wants = elim (own-or (byte_size entry) other n is) [
-  | inl absent ↦ absent-own (reads_own (kind_of entry)) (is_present (byte_size entry)) (is_negative (byte_size entry)) (wants_own entry) (rw absent.0 refl) (wants absent.1)
-  | inr own ↦ present-own (reads_own (kind_of entry)) (is_present (byte_size entry)) (is_negative (byte_size entry)) (wants_own entry) own.0 own.1
-]
+own-part entry other n is wants = by (byte_size entry) refl is
+  where
+    by : (own : Constant) → byte_size entry ≡ own → constant_or own other ≡ Some n → has_no_size entry ≡ false
+    by NotNumber e is = absurd cc
+    by (Signed (negsuc m)) e is = absurd cc
+    by _ e is = search (rules)
 
 sized-kind : (entries : List Facts) (table : ℕ → Size) (node : ℕ) (kind : Kind) → kind_of (entry_of entries node) ≡ kind → (n : ℕ) → size_of_kind kind entries table node ≡ Some n
     → has_no_size (entry_of entries node) ≡ false
-sized-kind entries table node Declared is n sized = search (rules, unread-own, declared-wants, declared-is)
-sized-kind entries table node OwnSized is n sized = search (rules, natural-own, present-own)
-sized-kind entries table node Pointer is n sized = own-part (entry_of entries node) _ n sized (λ _. pointer-wants (entry_of entries node) is)
-sized-kind entries table node Alias is n sized = search (rules, unread-own, alias-wants)
-sized-kind entries table node Enumeration is n sized = own-part (entry_of entries node) _ n sized (λ _. enumeration-wants (entry_of entries node) is)
+sized-kind entries table node Declared is n sized = search (rules, declared-wants)
+sized-kind entries table node OwnSized is n sized = search (rules, natural-own)
+sized-kind entries table node Pointer is n sized = search (rules, own-part, pointer-wants)
+sized-kind entries table node Alias is n sized = search (rules, alias-wants)
+sized-kind entries table node Enumeration is n sized = search (rules, own-part, enumeration-wants)
 sized-kind entries table node Array is n sized =
     search (rules, own-part, if-some, times-some, array-wants, not-negative)
 sized-kind entries table node Subroutine is n sized = absurd cc

@@ -26,21 +26,8 @@ enumeration-passes entry is = grind arith
 array-passes : (entry : Facts) → kind_of entry ≡ Array → passes_type_on entry ≡ true
 array-passes entry is = grind arith
 
-not-declared : (a b c d e f : Bool) → (if a then Pointer else if b then Alias else if c then Enumeration else if d then Array else if e then Subroutine else if f then OwnSized else NoType) ≡ Declared → ⊥
-not-declared true b c d e f is = cc
-not-declared false true c d e f is = cc
-not-declared false false true d e f is = cc
-not-declared false false false true e f is = cc
-not-declared false false false false true f is = cc
-not-declared false false false false false true is = cc
-not-declared false false false false false false is = cc
-
-declared-by : (entry : Facts) (declared : Bool) → is_declared_type entry ≡ declared → kind_of entry ≡ Declared → is_declared_type entry ≡ true
-declared-by entry true test is = test
-declared-by entry false test is = absurd (not-declared _ _ _ _ _ _ (rw test at is))
-
 pub declared-is : (entry : Facts) → kind_of entry ≡ Declared → is_declared_type entry ≡ true
-declared-is entry is = declared-by entry (is_declared_type entry) refl is
+declared-is entry is = search (rules)
 
 -- the sizes at a target are the same, where a target that there is is a step
 pub to-same : (table other : ℕ → Size) (target : Option ℕ) → ((to : ℕ) → target ≡ Some to → table to ≡ other to) → size_to table target ≡ size_to other target

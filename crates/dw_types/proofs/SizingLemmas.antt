@@ -58,7 +58,7 @@ unmember-plain role entry is = rw is refl
 module _ (entries : List Facts) (table : ℕ → Size) where
   -- it passes, if it has no size and is no plain member
   pub untyped-passes : (k : ℕ) → is_type_tag (entry_of entries k).tag ≡ false → is_plain (parent_role entries k) (entry_of entries k) ≡ false → table k ≡ None → PassesAt (fails_size entries table) k
-  untyped-passes k untyped plain none NoSize breaks = untyped-size_none (entry_of entries k) untyped breaks
+  untyped-passes k untyped plain none NoSize breaks = false≢true (sym (untyped-size_none (entry_of entries k) untyped) ∙ breaks)
   untyped-passes k untyped plain none SizeTooGreat breaks = false≢true (ap is_too_great (sym none) ∙ breaks)
   untyped-passes k untyped plain none MemberOutside breaks = false≢true (rw plain at breaks)
   untyped-passes k untyped plain none EnumSize breaks = let enumeration = untyped-enumeration (entry_of entries k) untyped in false≢true (rw enumeration at breaks)

@@ -100,11 +100,7 @@ by_value-from_step entries from to (k, below, is) =
           let within : k < length (steps_by_value entries from) = rw at at below in
           let e : get_or (steps_by_value entries from) k 0 ≡ to = rw at at is in
           steps-from entries from to (k, within, get_or_default (steps_by_value entries from) k to 0 within ∙ e)
-      | inr above ↦
-          let long = length-by_value entries in
-          let none : steps_of (by_value entries) from ≡ [] = get_or_past (by_value entries) from [] (omega arith) in
-          let some : k < length {A = ℕ} [] = rw none at below in
-          absurd (omega arith)
+      | inr above ↦ search (rules, length-by_value, get_or_past)
     ]
 
 pub step-from_by_value : (entries : List Facts) (from to : ℕ) → IsStepByValue entries from to → IsStep (by_value entries) from to

@@ -92,10 +92,7 @@ pub look-but : (graph : Graph) (s : State) (node : ℕ) → IsWalk graph s → n
     → LooksUpBut graph (with_step s node) (step_at graph node (get_or s.next node 0))
 look-but graph s node h in_graph place k in_stack seen =
     elim (at_set s.next node (get_or s.stack place 0) (get_or s.next node 0 + 1) 0 in_graph) [
-      | inl p ↦ elim (cases_lt k (get_or s.next node 0)) [
-        | inl below ↦ inl (h.looks_up place k in_stack (rw p.0 below))
-        | inr above ↦ let last : k ≡ get_or s.next node 0 = omega arith in inr (rw (p.0, last) refl)
-      ]
+      | inl p ↦ search (rules, cases_lt)
       | inr p ↦ inl (h.looks_up place k in_stack (rw p.1 at seen))
     ]
 
@@ -127,33 +124,14 @@ module _ (graph : Graph) (s : State) (node : ℕ) (h : IsCoherent graph s) (in_g
 
   up-stack : HasStack graph (taken_up s node)
   up-stack = record {
-    opened = λ k in_stack. elim (at_push s.stack k node 0 in_stack) [
-      | inl p ↦ rw p.1 (get_or-set_same s.marks node Open Fresh in_graph)
-      | inr p ↦ rw p.1 (elim (up-mark (get_or s.stack k 0)) [ inl q ↦ q.1 | inr q ↦ q.1 ∙ h.stack.opened k p.0 ])
-    ];
+    opened = search (rules, at_push, get_or-set_same, up-mark);
     stacked = λ a opened. elim (up-mark a) [
       | inl p ↦ inl (length s.stack, (let e = up-length in omega arith), get_or_push s.stack node 0 (length s.stack) refl ∙ sym p.0)
-      | inr p ↦ elim (h.stack.stacked a (sym p.1 ∙ opened)) [
-        | inl place ↦ inl (place.0, (let e = up-length in let below = place.1 in omega arith), get_or_append_left s.stack (node ∷ []) 0 place.0 place.1 ∙ place.2)
-        | inr lost ↦ inr lost
-      ]
+      | inr p ↦ search (rules, up-length, get_or_append_left)
     ];
-    once = λ i j lt in_stack same. elim (at_push s.stack j node 0 in_stack) [
-      | inl p ↦
-          let below : i < length s.stack = omega arith in
-          let e : get_or s.stack i 0 ≡ node = sym (get_or_append_left s.stack (node ∷ []) 0 i below) ∙ (same ∙ p.1) in
-          let opened : mark_of s node ≡ Open = rw (← e) (h.stack.opened i below) in
-          cc
-      | inr p ↦
-          let below : i < length s.stack = omega arith in
-          h.stack.once i j lt p.0 (sym (get_or_append_left s.stack (node ∷ []) 0 i below) ∙ (same ∙ p.1))
-    ];
+    once = search (rules, at_push, get_or_append_left);
     steps = λ k in_stack. elim (at_push s.stack (k + 1) node 0 in_stack) [
-      | inl p ↦
-          let below : k < length s.stack = omega arith in
-          let last : length s.stack - 1 ≡ k = omega arith in
-          let e = get_or_append_left s.stack (node ∷ []) 0 k below in
-          rw (p.1, e) (rw last at (link (omega arith)))
+      | inl p ↦ search (rules, get_or_append_left)
       | inr p ↦
           let below : k < length s.stack = omega arith in
           let e = get_or_append_left s.stack (node ∷ []) 0 k below in
@@ -167,16 +145,10 @@ module _ (graph : Graph) (s : State) (node : ℕ) (h : IsCoherent graph s) (in_g
   pub up-looks_up : LooksUpBut graph s node → LooksUp graph (taken_up s node)
   up-looks_up but place k in_stack seen =
       elim (at_push s.stack place node 0 in_stack) [
-        | inl p ↦
-            let none = h.counters.fresh node new in
-            let some : k < get_or s.next node 0 = rw p.1 at seen in
-            absurd (omega arith)
+        | inl p ↦ search (rules)
         | inr p ↦
             rw p.1 (elim (but place k p.0 (rw p.1 at seen)) [
-              | inl known ↦ elim known [
-                | inl done ↦ inl (up-ranked _ done)
-                | inr above ↦ inr (above.0, above.1, (let e = up-length in let b = above.2 in omega arith), get_or_append_left s.stack (node ∷ []) 0 above.0 above.2 ∙ above.3)
-              ]
+              | inl known ↦ search (rules, up-ranked, up-length, get_or_append_left)
               | inr here ↦ inr (length s.stack, p.0, (let e = up-length in omega arith), get_or_push s.stack node 0 (length s.stack) refl ∙ sym here)
             ])
       ]

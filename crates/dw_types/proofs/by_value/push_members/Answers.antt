@@ -1,3 +1,4 @@
+use Rattle.std.proofs.Common.{rules}
 use Rattle.std.proofs.Common.{◌≡◌, ◌++◌, ℕ, List, None, Some, refl, subst, sym, ap, ◌∙◌, append-nil}
 use Rattle.std.specs.List.{flat_map}
 use Rattle.dw_types.specs.Kinds.{Members}
@@ -42,8 +43,7 @@ loop-next-preserved c =
     let plain = rw found at c.is_plain.ensures in
     let least = part-least entries node child Members c.broken_member.result (members-role (entry_of entries node) c.requires.members) h.next_is (rw found at c.broken_member.ensures) in
     let grown : c.if-is_plain.steps ≡ c.loop-next.steps ++ part_step entries child = elim c.if-is_plain.branch [
-      | then-is_plain+in_ok-push_to w ↦
-          rw (w.steps-is, w.in_ok-push_to.ensures) (ap (λ (xs : List ℕ). c.loop-next.steps ++ xs) (part-some entries child w.type_target.result (sym plain ∙ w.if-is_plain.true) (rw found at w.type_target.ensures)))
+      | then-is_plain+in_ok-push_to w ↦ search (rules, part-some)
       | else-is_plain w ↦ rw w.steps-is (part-none entries child c.loop-next.steps (sym plain ∙ w.if-is_plain.false))
     ] in (
       passed-more entries node Q R child c.next_sibling-next.result h (rest h.next_is.parent_is) (is h.next_is.parent_is) (λ visited q. (

@@ -32,19 +32,8 @@ loop-node-preserved c =
     let row = steps_by_value entries node in
     let turn : (c.if-is_type.steps ≡ steps ++ row) × (c.if-is_type.entries ≡ entries) × IsNoted (fails_shape entries) (HasSeenShapes entries (node + 1)) c.if-is_type.least
     × (c.if-is_type.types ≡ type_count (take (node + 1) entries)) = elim c.if-is_type.branch [
-      | then-is_type+in_ok-push_row w ↦ (
-        w.steps-is ∙ (rw same at w.in_ok-push_row.ensures.steps),
-        w.entries-is ∙ (w.in_ok-push_row.ensures.same ∙ same),
-        rw w.least-is (rw same at w.in_ok-push_row.ensures.noted),
-        w.types-is ∙ (ap (λ (n : ℕ). n + 1) c.loop-node.invariant.4 ∙ sym (count_by_more_yes test entries node no_entry below (sym is ∙ w.if-is_type.true))),
-      )
-      | else-is_type w ↦
-          let untyped : is_type_tag (entry_of entries node).tag ≡ false = sym is ∙ w.if-is_type.false in (
-            w.steps-is ∙ (sym (append-nil steps) ∙ ap (λ (xs : List ℕ). steps ++ xs) (untyped-row entries node untyped)),
-            w.entries-is ∙ same,
-            rw w.least-is (noted-plain entries node c.loop-node.least (untyped-parts (entry_of entries node) untyped) c.loop-node.invariant.3),
-            w.types-is ∙ (c.loop-node.invariant.4 ∙ sym (count_by_more_no test entries node no_entry below untyped)),
-          )
+      | then-is_type+in_ok-push_row w ↦ search (rules, count_by_more_yes)
+      | else-is_type w ↦ search (rules, append-nil, untyped-row, noted-plain, untyped-parts, count_by_more_no)
     ] in
     let at : get_or (by_value entries) node [] ≡ row = by_value-at entries node below in
     let more = rw at at (packs-more (by_value entries) steps c.loop-node.ends node (let long = length-by_value entries in omega arith) c.loop-node.invariant.0) in
