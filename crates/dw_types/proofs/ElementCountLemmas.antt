@@ -61,13 +61,5 @@ pub factors-push : (parts : List Facts) (part : Facts) → product_of (map facto
 factors-push parts part = ap product_of (map_push factor_of parts part) ∙ product-push (map factor_of parts) (factor_of part)
 
 pub subranges-push : (parts : List Facts) (part : Facts) → list_any is_subrange (parts ++ part ∷ []) ≡ (list_any is_subrange parts || is_subrange part)
-subranges-push [] part = or_none (is_subrange part)
-  where
-    or_none : (b : Bool) → (b || false) ≡ b
-    or_none true = refl
-    or_none false = refl
-subranges-push (first ∷ parts) part = by (is_subrange first) _ _ _ (subranges-push parts part)
-  where
-    by : (b x y z : Bool) → x ≡ (y || z) → (b || x) ≡ ((b || y) || z)
-    by true x y z is = refl
-    by false x y z is = is
+subranges-push [] part = search (rules)
+subranges-push (first ∷ parts) part = search (rules, (subranges-push parts part))

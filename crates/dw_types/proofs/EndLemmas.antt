@@ -10,7 +10,7 @@ use Rattle.dw_types.specs.Cycles.{ReachesCycle, Leads, AreClear}
 use Rattle.dw_types.specs.declared.walk.Mark.{Mark}
 use Rattle.dw_types.specs.declared.walk.Mark.TheVariants.{Fresh, Open, Ranked}
 use Rattle.dw_types.specs.Graphs.{Graph, FallsAlong, IsStep, FollowsSteps, step_at}
-use Rattle.dw_types.specs.Walks.{IsWalk, KeepsTaken, is_taken, IsAtCycle}
+use Rattle.dw_types.specs.Walks.{HasStack, IsWalk, KeepsTaken, is_taken, IsAtCycle}
 use Rattle.dw_types.specs.WalkStates.{State, mark_of, taken_up, given_up}
 use Rattle.dw_types.proofs.ListLemmas.{at_set}
 use Rattle.dw_types.proofs.WalkLemmas.{in-graph}
@@ -102,27 +102,19 @@ module _ (graph : Graph) (s : State) (to : ℕ) (h : IsAtCycle graph s to) where
   pub given_up-walk : IsWalk graph (given_up s)
   given_up-walk =
       let old = h.coherent in
-      record {
-        coherent = record {
-          places = record { marks = old.places.marks; next = old.places.next; ranks = old.places.ranks; few = old.places.few };
-          stack = record {
-            opened = λ k below. absurd (omega arith);
-            stacked = λ node opened. inr (
-              refl,
-              elim (old.stack.stacked node opened) [
-                | inl (k, within, same) ↦ subst (λ (x : ℕ). ReachesCycle graph x) same (stacked-reaches k within)
-                | inr lost ↦ lost.1
-              ],
-            );
-            once = λ i j lt below. absurd (omega arith);
-            steps = λ k below. absurd (omega arith);
-          };
-          counters = record { within = old.counters.within; small = old.counters.small; fresh = old.counters.fresh; ranked = old.counters.ranked };
-          ranks = record { below = old.ranks.below; listed = old.ranks.listed; ranked = old.ranks.ranked; leads = old.ranks.leads; falls = old.ranks.falls };
-          turns = old.turns;
-        };
-        looks_up = λ place k below. absurd (omega arith);
-      }
+      let stack : HasStack graph (given_up s) = record {
+        opened = λ k below. absurd (omega arith);
+        stacked = λ node opened. inr (
+          refl,
+          elim (old.stack.stacked node opened) [
+            | inl (k, within, same) ↦ subst (λ (x : ℕ). ReachesCycle graph x) same (stacked-reaches k within)
+            | inr lost ↦ lost.1
+          ],
+        );
+        once = λ i j lt below. absurd (omega arith);
+        steps = λ k below. absurd (omega arith);
+      } in
+      search (rules)
 
 -- once each node was taken up, those that have ranks are the clear ones
 pub clear-at_end : (graph : Graph) (s : State) → IsWalk graph s → s.stack ≡ [] → ((node : ℕ) → node < length graph → mark_of s node ≢ Fresh) → AreClear graph s.by_rank

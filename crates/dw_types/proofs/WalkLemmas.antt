@@ -173,21 +173,11 @@ module _ (graph : Graph) (s : State) (node before to : ℕ) (h : IsWalk graph s)
 
   -- to a node that was ranked
   pub followed-ranked : mark_of s to ≡ Ranked → HasFollowed graph s (with_step s node) None
-  followed-ranked done = record {
-    comes = record { coherent = turn-coherent; looks_up = looked-ranked graph (with_step s node) to turn-but done };
-    taken = λ a fresh. fresh;
-    gave_up = refl;
-    less = look-less;
-  }
+  followed-ranked done = search (rules, turn-coherent, looked-ranked, turn-but, look-less)
 
   -- to an open node
   pub followed-open : mark_of s to ≡ Open → HasFollowed graph s (with_step s node) (Some to)
-  followed-open opened = record {
-    comes = record { coherent = turn-coherent; some = n.is_top.some; closes = turn-link n.is_top.some; opened = opened };
-    taken = λ a fresh. fresh;
-    gave_up = refl;
-    less = look-less;
-  }
+  followed-open opened = search (rules, turn-coherent, turn-link, look-less)
 
   -- to a fresh node, which is taken up
   module _ (new : mark_of s to ≡ Fresh) (in_graph : to < length graph) where

@@ -1,3 +1,4 @@
+use Rattle.std.proofs.Common.{rules}
 use Rattle.std.proofs.Common.{◌≡◌, ℕ, List, None, Some, true, inl, inr, refl, subst, sym, ◌∙◌, arith}
 use Rattle.dw_types.specs.Children.{IsChildOf}
 use Rattle.dw_types.specs.Entries.{entry_of}
@@ -12,13 +13,7 @@ use Rattle.dw_types.proofs.ShapeLemmas.{array-no_members, noted-parts, part-leas
 use Rattle.dw_types.proofs.by_value.note_dimensions.Goals as goal
 
 pub loop-next-init : goal.loop-next-init
-loop-next-init c =
-    let entries = c.args.entries.now in
-    let Q : List ℕ → Type 0 = λ visited. IsNoted (fails_shape entries) (Passed (HasSeenArray entries c.args.node) (IsChildOf entries c.args.node) visited) c.args.least.now in (
-      passed-none entries c.args.node Q c.first_child-next.result c.first_child-next.ensures.children c.first_child-next.ensures.child
-          (noted-no_child (fails_shape entries) (HasSeenArray entries c.args.node) (IsChildOf entries c.args.node) c.args.least.now c.requires.noted),
-      refl,
-    )
+loop-next-init c = search (rules, passed-none, noted-no_child)
 
 pub loop-next-preserved : goal.loop-next-preserved
 loop-next-preserved c =

@@ -17,14 +17,7 @@ use Rattle.dw_types.proofs.by_value.push_members.Goals as goal
 use Rattle.dw_types.proofs.by_value.push_members.Goals.{then-is_plain+in_ok-push_to, else-is_plain}
 
 pub loop-next-init : goal.loop-next-init
-loop-next-init c =
-    let entries = c.args.entries.now in
-    let steps = c.args.steps.now in
-    let Q : List ℕ → Type 0 = λ visited. (steps ≡ steps ++ flat_map (part_step entries) visited) × IsNoted (fails_shape entries) (Passed (HasSeenShapes entries c.args.node) (IsChildOf entries c.args.node) visited) c.args.least.now in (
-      passed-none entries c.args.node Q c.first_child-next.result c.first_child-next.ensures.children c.first_child-next.ensures.child
-          (sym (append-nil steps), noted-no_child (fails_shape entries) (HasSeenShapes entries c.args.node) (IsChildOf entries c.args.node) c.args.least.now c.requires.noted),
-      refl,
-    )
+loop-next-init c = search (rules, passed-none, append-nil, noted-no_child)
 
 pub loop-next-preserved : goal.loop-next-preserved
 loop-next-preserved c =

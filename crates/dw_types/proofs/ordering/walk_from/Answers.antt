@@ -1,3 +1,4 @@
+use Rattle.std.proofs.Common.{rules}
 use Rattle.std.proofs.Common.{◌≡◌, length, slice_index, arith, sym}
 use Rattle.dw_types.specs.Graphs.{steps_of}
 use Rattle.dw_types.proofs.RankLemmas.{met-gave_up, met-keeps, met-walk, done-walk, done-keeps_taken}
@@ -20,12 +21,7 @@ loop-node-init g c =
     )
 
 pub follow_step-requires-clause-next : goal.follow_step-requires-clause-next
-follow_step-requires-clause-next g c = record {
-  is_top = record { some = c.in-Some.ensures.0; top = c.in-Some.ensures.1 };
-  looked = sym c.next-before.ensures;
-  more = rw (c.next-before.ensures, c.steps.ensures) at c.if-before-steps.true;
-  few = rw c.steps.ensures at c.steps.type_inv;
-}
+follow_step-requires-clause-next g c = search (rules)
 
 pub loop-node-preserved : goal.loop-node-preserved
 loop-node-preserved g c =

@@ -1,3 +1,4 @@
+use Rattle.std.proofs.Common.{rules}
 use Rattle.std.proofs.Common.{◌∙◌}
 use Rattle.dw_types.specs.Sizes.{element_count, parts_of}
 use Rattle.dw_types.proofs.ElementCountLemmas.{cap-right}
@@ -8,9 +9,4 @@ pub get_to-requires : goal.get_to-requires
 get_to-requires c = rw (c.type_target.ensures, c.requires.entry) (type-in c.args.entries.now c.args.sizes.now c.args.node c.requires.places.targets c.requires.places.long)
 
 pub returns-clause-value : goal.returns-clause-value
-returns-clause-value c =
-    let entries = c.args.entries.now in
-    let plain = rw (c.constant.ensures, c.requires.entry) at c.if-is_present.ensures in
-    c.capped_times.ensures.value
-    ∙ rw (c.natural_or-storage.ensures, c.constant-stride.ensures, c.get_to.ensures, c.type_target.ensures, c.count_elements-elements.ensures.counted, c.requires.entry, ← plain)
-    (cap-right _ (element_count (parts_of entries c.args.node)))
+returns-clause-value c = search (rules, cap-right)

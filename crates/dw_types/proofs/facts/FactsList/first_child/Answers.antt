@@ -1,3 +1,4 @@
+use Rattle.std.proofs.Common.{rules}
 use Rattle.std.proofs.Common.{sym, ◌∙◌}
 use Rattle.dw_entries.specs.Scanned.{units_of}
 use Rattle.dw_types.proofs.ChildSteps.{child-linked, children-same, rest-same}
@@ -11,12 +12,7 @@ pub first_child-requires : goal.first_child-requires
 first_child-requires c = rw c.id.ensures (facts-below (units_of c.entries-entries.result.now.scanned) c.args.self.now c.entries-entries.ensures c.args.node c.requires)
 
 pub returns-clause-children : goal.returns-clause-children
-returns-clause-children c =
-    let us = units_of c.entries-entries.result.now.scanned in
-    let node = c.args.node in
-    rw (← c.entries-entries.ensures, c.number_of.ensures) (rest-same us node c.first_child.result ∙ (rw c.id.ensures at c.first_child.ensures.children ∙ sym (children-same us node)))
+returns-clause-children c = search (rules, rest-same, children-same)
 
 pub returns-clause-child : goal.returns-clause-child
-returns-clause-child c =
-    let us = units_of c.entries-entries.result.now.scanned in
-    rw (← c.entries-entries.ensures, c.number_of.ensures) (child-linked us c.args.node c.first_child.result (rw c.id.ensures at c.first_child.ensures.linked))
+returns-clause-child c = search (rules, child-linked)
