@@ -1,6 +1,6 @@
 -- The longest rows of steps from nodes, by those from the nodes that their steps lead to.
 use Rattle.std.proofs.Common.{rules}
-use Rattle.std.proofs.Common.{◌≡◌, ◌≢◌, ℕ, zero, suc, ◌+◌, ◌<◌, ◌≤◌, List, length, get_or, set, inl, inr}
+use Rattle.std.proofs.Common.{◌≡◌, ℕ, zero, suc, ◌+◌, ◌<◌, ◌≤◌, List, length, get_or, set, inl, inr}
 use Rattle.std.proofs.Common.{arith, refl, sym, ◌∙◌, subst, get_or-set_same, get_or-set_other}
 use Rattle.std.specs.Prelude.{◌⊎◌, Contains}
 use Rattle.std.proofs.lemmas.Bool.{cases_eq, cases_lt}
@@ -65,6 +65,7 @@ module _ (graph : Graph) (clear : List ℕ) (h : AreClear graph clear) (counts :
 
       in_counts : node < length counts
       in_counts = search (rules)
+
       here : IsLongest graph node count
       here = longest-above graph counts node count above (λ m w. (known-step known below m w).0)
 

@@ -10,8 +10,8 @@ use Rattle.dw_entries.specs.declared.fault.Broken.{Broken}
 use Rattle.dw_entries.specs.declared.fault.Section.TheVariants.{Info}
 use Rattle.dw_entries.specs.declared.fault.Rule.{Rule}
 use Rattle.dw_entries.specs.Failures.{HasNone, IsFirst, IsLeast}
-use Rattle.dw_entries.specs.Places.{at_entry, offset_of}
-use Rattle.dw_types.specs.Entries.{entry_of, no_entry, OffsetsRise, Facts}
+use Rattle.dw_entries.specs.Places.{at_entry}
+use Rattle.dw_types.specs.Entries.{entry_of, OffsetsRise, Facts}
 use Rattle.dw_types.specs.TypeFailures.{EntryFailures, IsFirstAt, PassAll, PassesAt}
 use Rattle.dw_types.specs.Noted.{IsNoted, Passed, with_rule}
 

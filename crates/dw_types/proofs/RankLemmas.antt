@@ -2,16 +2,15 @@
 -- ranks by the nodes in their order.
 use Rattle.std.proofs.lemmas.Grind.{common_steps}
 use Rattle.std.proofs.Common.{rules}
-use Rattle.std.proofs.Common.{◌≡◌, ◌≢◌, None, ℕ, ◌+◌, ◌<◌, List, [], ◌∷◌, ◌++◌, length, get_or, replicate, set, take, suc, arith, refl, sym, ap, ◌∙◌, length-set, get_or-set_same, get_or-set_other, ◌-◌, ◌⊎◌, cond, inl, inr, ◌≤◌}
+use Rattle.std.proofs.Common.{◌≡◌, ◌≢◌, None, ℕ, ◌+◌, ◌<◌, List, [], ◌∷◌, ◌++◌, length, get_or, replicate, set, take, suc, arith, refl, sym, ap, ◌∙◌, length-set, get_or-set_same, get_or-set_other, ◌-◌, ◌⊎◌, inl, inr, ◌≤◌}
 use Rattle.std.proofs.lemmas.List.{length-replicate, length-take-le, take_more, length_push, get_or_push, get_or_append_left, get_or-take}
 use Rattle.std.proofs.lemmas.Bool.{cases_lt}
 use Rattle.std.proofs.lemmas.List.Sums.{sum_by-set}
 use Rattle.std.proofs.Math.Seq.{take-append_seam}
 use Rattle.dw_types.specs.RanksListed.{ranks_from, ranks_listed}
-use Rattle.dw_types.specs.declared.walk.Mark.{Mark}
 use Rattle.dw_types.specs.declared.walk.Mark.TheVariants.{Fresh, Open, Ranked}
 use Rattle.dw_types.specs.Graphs.{Graph, LeadsToNodes, steps_of, step_at}
-use Rattle.dw_types.specs.Walks.{HasFollowed, HasNext, HasStack, HasRanks, IsTop, IsWalk, stack_step, KeepsTaken, is_taken, IsMet, work_left}
+use Rattle.dw_types.specs.Walks.{HasFollowed, HasNext, HasStack, HasRanks, IsTop, IsWalk, KeepsTaken, IsMet, work_left}
 use Rattle.dw_types.specs.WalkStates.{State, mark_of, with_rank, with_step, taken_up}
 use Rattle.dw_types.proofs.ListLemmas.{at_set, at_push}
 use Rattle.dw_types.proofs.WalkLemmas.{followed-fresh, top-opened, in-graph}

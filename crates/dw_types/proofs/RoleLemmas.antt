@@ -1,18 +1,16 @@
 -- An entry that is no type has no kind, no role, no steps and no size of its own; the children of an entry, and what it
 -- is to them.
 use Rattle.std.proofs.Common.{rules}
-use Rattle.std.proofs.Common.{◌≡◌, ℕ, Bool, true, false, ◌&&◌, ◌||◌, not, List, [], ◌∷◌, ◌+◌, None, nat_eq, refl, sym, ap, ◌∙◌, zero, suc, Option, Some, length, arith, eq-eqb}
-use Rattle.std.proofs.lemmas.Bool.{eqb-true, false_from_ne_true, false≢true, true≢false, and_right}
+use Rattle.std.proofs.Common.{◌≡◌, ℕ, Bool, true, false, ◌&&◌, not, List, [], ◌∷◌, ◌+◌, None, nat_eq, refl, ap, ◌∙◌, zero, suc, Option, Some, length, arith, eq-eqb}
+use Rattle.std.proofs.lemmas.Bool.{eqb-true, and_right}
 use Rattle.std.specs.List.{Contains, filter}
 use Rattle.std.proofs.lemmas.List.FromFn.{get_or-range_with_len, length-range_with_len}
-use Rattle.dw_forms.specs.Codes.{DW_TAG_array_type, DW_TAG_atomic_type, DW_TAG_base_type, DW_TAG_const_type, DW_TAG_enumeration_type, DW_TAG_member, DW_TAG_restrict_type, DW_TAG_typedef, DW_TAG_volatile_type, is_type_tag}
-use Rattle.dw_links.specs.Classes.{is_one_of}
+use Rattle.dw_forms.specs.Codes.{DW_TAG_enumeration_type, DW_TAG_member, is_type_tag}
 use Rattle.dw_types.specs.declared.kind.Kind.TheVariants.{NoType}
-use Rattle.dw_types.specs.Constants.{is_negative, is_present}
-use Rattle.dw_types.specs.Entries.{entry_numbers, is_child, is_parent, children, Facts, byte_size}
-use Rattle.dw_types.specs.Kinds.{container_tags, declarable_tags, has_members, is_array, is_declared_type, kind_of, passes_type_on, role_of, is_dimensions, is_members, Role, Other, Members, Dimensions}
+use Rattle.dw_types.specs.Entries.{entry_numbers, is_child, is_parent, children, Facts}
+use Rattle.dw_types.specs.Kinds.{has_members, is_array, is_declared_type, kind_of, passes_type_on, role_of, is_dimensions, is_members, Role, Other, Members, Dimensions}
 use Rattle.dw_types.specs.Shapes.{has_bad_count, is_plain}
-use Rattle.dw_types.specs.SizeFaults.{has_no_size, reads_own, wants_own}
+use Rattle.dw_types.specs.SizeFaults.{has_no_size, wants_own}
 use Rattle.dw_types.specs.Children.{IsChildOf}
 use Rattle.dw_types.specs.Counts.{is_dimension, is_subrange_tag}
 

@@ -1,13 +1,12 @@
 -- A first fault over capped sizes is the first fault over the sizes themselves: the one table of sizes, and the capped
 -- table that is filled in its place.
 use Rattle.std.proofs.Common.{rules}
-use Rattle.std.proofs.Common.{◌≡◌, ℕ, ◌^◌, ◌<◌, ◌≤◌, min, ℤ, pos, negsuc, Bool, true, false, not, ◌&&◌, ◌||◌, if◌then◌else◌, List, Option, Some, None, IfSome, is_some, length, nat_eq, ◌⊎◌, inl, inr, arith, refl, sym, ap, ◌∙◌}
-use Rattle.std.proofs.lemmas.Bool.{cases_lt, eqb-true, false_from_ne_true}
-use Rattle.dw_forms.specs.Codes.{DW_TAG_array_type, DW_TAG_base_type, DW_TAG_enumeration_type, DW_TAG_pointer_type, DW_AT_byte_stride}
+use Rattle.std.proofs.Common.{◌≡◌, ℕ, ◌^◌, ◌<◌, ◌≤◌, min, ℤ, pos, negsuc, Bool, true, false, not, ◌&&◌, ◌||◌, if◌then◌else◌, List, Option, Some, None, IfSome, is_some, length, inl, inr, arith, refl, sym, ap, ◌∙◌}
+use Rattle.std.proofs.lemmas.Bool.{cases_lt, false_from_ne_true}
+use Rattle.dw_forms.specs.Codes.{DW_AT_byte_stride}
 use Rattle.dw_entries.specs.declared.fault.Rule.{Rule}
 use Rattle.dw_entries.specs.declared.fault.Rule.TheVariants.{NoSize, SizeTooGreat, MemberOutside, EnumSize}
 use Rattle.dw_entries.specs.Rules.{number_of}
-use Rattle.dw_links.specs.Classes.{is_one_of}
 use Rattle.dw_types.specs.declared.count.Constant.{Constant}
 use Rattle.dw_types.specs.declared.count.Constant.TheVariants.{Absent, NotNumber, Unsigned, Signed}
 use Rattle.dw_types.specs.declared.kind.Kind.{Kind}
@@ -15,12 +14,12 @@ use Rattle.dw_types.specs.declared.kind.Kind.TheVariants.{Declared, OwnSized, Po
 use Rattle.dw_types.specs.Constants.{is_negative, is_present, natural_of}
 use Rattle.dw_types.specs.Entries.{entry_of, ParentsComeFirst, TargetsAreEntries, OffsetsRise, Facts, byte_size, constant}
 use Rattle.dw_types.specs.Extents.{bytes_end_past, end_past, is_outside, ends_past_container}
-use Rattle.dw_types.specs.Kinds.{container_tags, has_members, is_array, is_declared_type, is_enumeration, kind_of, parent_role, Role}
+use Rattle.dw_types.specs.Kinds.{is_enumeration, kind_of, parent_role, Role}
 use Rattle.dw_types.specs.Shapes.{is_plain, stands_alone}
-use Rattle.dw_types.specs.SizeFaults.{breaks_size, differ, fails_size, has_no_size, has_wrong_size, is_too_great, reads_own, wants_own, IsFirstSizeFault}
+use Rattle.dw_types.specs.SizeFaults.{breaks_size, differ, fails_size, has_no_size, has_wrong_size, is_too_great, wants_own, IsFirstSizeFault}
 use Rattle.dw_types.specs.SizeTables.{Size, cap_size}
 use Rattle.dw_types.specs.Sizes.{constant_or, size_line, size_of_kind, size_to, times, ObeysSizeLines, IsSizeTable}
-use Rattle.dw_types.proofs.SizeLineLemmas.{declared-is, size_line-local, size_line-caps}
+use Rattle.dw_types.proofs.SizeLineLemmas.{size_line-local, size_line-caps}
 use Rattle.dw_types.specs.TypeFailures.{IsFirstAt, PassAll}
 use Rattle.dw_types.specs.StoredSizes.{ObeysCappedLines}
 use Rattle.dw_types.specs.Graphs.{FallsAlong, LeadsToNodes}

@@ -1,6 +1,4 @@
 use Rattle.std.proofs.Common.{rules}
-use Rattle.std.proofs.Common.{◌∙◌}
-use Rattle.dw_types.specs.Sizes.{element_count, parts_of}
 use Rattle.dw_types.proofs.ElementCountLemmas.{cap-right}
 use Rattle.dw_types.proofs.SizeLineLemmas.{type-in}
 use Rattle.dw_types.proofs.size_table.capped_array.Goals as goal

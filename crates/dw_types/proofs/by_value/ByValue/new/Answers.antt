@@ -1,10 +1,10 @@
 use Rattle.std.proofs.Common.{rules}
-use Rattle.std.proofs.Common.{◌≡◌, ℕ, Bool, ◌+◌, ◌<◌, ◌≤◌, ◌++◌, [], false, List, length, get_or, take, sym, ap, ◌∙◌, arith, append-nil}
+use Rattle.std.proofs.Common.{◌≡◌, ℕ, Bool, ◌+◌, ◌<◌, ◌≤◌, ◌++◌, [], List, length, get_or, take, ap, ◌∙◌, arith, append-nil}
 use Rattle.std.proofs.lemmas.List.{take_all}
 use Rattle.std.proofs.lemmas.Result.{err_from_is_err_and}
 use Rattle.std.proofs.lemmas.List.Sums.{count_by_more_no, count_by_more_yes}
 use Rattle.dw_forms.specs.Codes.{is_type_tag}
-use Rattle.dw_types.specs.Entries.{entry_of, no_entry, Facts}
+use Rattle.dw_types.specs.Entries.{entry_of, Facts}
 use Rattle.dw_types.specs.Held.{all_facts, units_held}
 use Rattle.dw_types.specs.Kinds.{type_count}
 use Rattle.dw_types.specs.Noted.{IsNoted}

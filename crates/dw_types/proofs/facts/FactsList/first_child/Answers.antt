@@ -1,5 +1,4 @@
 use Rattle.std.proofs.Common.{rules}
-use Rattle.std.proofs.Common.{sym, ◌∙◌}
 use Rattle.dw_entries.specs.Scanned.{units_of}
 use Rattle.dw_types.proofs.ChildSteps.{child-linked, children-same, rest-same}
 use Rattle.dw_types.proofs.FactsLemmas.{facts-below}
