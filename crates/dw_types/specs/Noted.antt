@@ -1,5 +1,6 @@
 -- State: the failing entry of the least number among those that a pass has seen.
-use Rattle.std.specs.Prelude.{◌≡◌, ℕ, ◌<◌, ◌⊎◌, Bool, true, ◌&&◌, List, Contains, Option, None, Some, if◌then◌else◌, nat_eq, nat_le}
+use Rattle.std.specs.Prelude.{◌≡◌, ℕ, ◌<◌, ◌⊎◌, Bool, true, ◌&&◌, List, Contains}
+use Rattle.std.specs.Prelude.{Option, None, Some, if◌then◌else◌, nat_eq, nat_le}
 use Rattle.std.specs.Option.{option_map_or}
 use Rattle.dw_entries.specs.declared.fault.Rule.{Rule}
 use Rattle.dw_entries.specs.Failures.{IsLeast}

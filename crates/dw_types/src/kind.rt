@@ -2,7 +2,8 @@
 
 ghost use Rattle.std.specs.Prelude.{◌≡◌};
 ghost use Rattle.dw_types.specs.Counts.{is_subrange_tag};
-ghost use Rattle.dw_types.specs.Kinds.{has_members, is_array, is_declared_type, is_enumeration, kind_of, passes_type_on};
+ghost use Rattle.dw_types.specs.Kinds.{has_members, is_array, is_declared_type, is_enumeration};
+ghost use Rattle.dw_types.specs.Kinds.{kind_of, passes_type_on};
 
 use crate::facts::FactsAt;
 use dw_entries::constants::*;
