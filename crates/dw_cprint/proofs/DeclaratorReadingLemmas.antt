@@ -1,4 +1,7 @@
 -- The tokens of declarators and qualifiers are read as what they were written from.
+use Rattle.std.proofs.Common.{rules}
+use Rattle.std.proofs.lemmas.Grind.{common_steps}
+use Rattle.std.proofs.Common.{arith}
 use Rattle.std.proofs.Common.{◌≡◌, ℕ, Bool, true, false, List, [], ◌∷◌, ◌++◌, Option, Some, None, refl, sym, ◌∙◌, ap}
 use Rattle.std.proofs.Common.{append_assoc, append-nil}
 use Rattle.dw_cprint.specs.Terms.{Qualifier, TypeWord, Term, Basic, Qualified, Pointer, Array, Function, Signature}
@@ -187,9 +190,7 @@ qualifying_read (x ∷ qs) q place r = qualifying_read qs (λ t. q (Qualified x 
 pub after_qualifiers : (qs : List Qualifier) (place : Place) (ts r : List Token)
     → checked false (Before same place) ((qualifying qs ++ ts) ++ r)
     ≡ checked false (Before (qualified qs) place) (ts ++ r)
-after_qualifiers qs place ts r =
-    ap (λ (us : List Token). checked false (Before same place) us) (append_assoc (qualifying qs) ts r)
-    ∙ qualifying_read qs same place (ts ++ r)
+after_qualifiers qs place ts r = grind (arith, common_steps, checked, append_assoc, qualifying_read)
 
 pub qualified-snoc : (qs : List Qualifier) (x : Qualifier) (t : Term)
     → qualified (qs ++ x ∷ []) t ≡ qualified qs (Qualified x t)
@@ -202,9 +203,7 @@ pub words_read : (words : List TypeWord) (before : List TypeWord) (q : Shape) (p
     → Ends d name shape → (end : End) (r : List Token)
     → checked true (Inside same same (After q (Basic before) place)) (spaced (basic words) ++ (spaced d ++ (end_tokens end ++ r)))
     ≡ checked false (ended end name (shape (q (Basic (before ++ words)))) place) r
-words_read [] before q place d name shape h end r =
-    core_end d name shape h true q (Basic before) place end r
-    ∙ ap (λ (ws : List TypeWord). checked false (ended end name (shape (q (Basic ws))) place) r) (sym (append-nil before))
+words_read [] before q place d name shape h end r = search (rules, core_end, checked, append-nil)
 words_read (w ∷ words) before q place d name shape h end r =
     words_read words (before ++ w ∷ []) q place d name shape h end r
     ∙ ap (λ (ws : List TypeWord). checked false (ended end name (shape (q (Basic ws))) place) r) (append_assoc before (w ∷ []) words)

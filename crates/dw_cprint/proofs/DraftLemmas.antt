@@ -1,4 +1,5 @@
 -- One text after another, up to the limit.
+use Rattle.std.proofs.Common.{rules}
 use Rattle.std.proofs.Common.{◌≡◌, ℕ, ◌+◌, ◌-◌, ◌<◌, ◌≤◌, Bool, true, false, List, [], ◌++◌, Option, Some, None, refl, sym, ap, ◌∙◌, length, length-append, append_assoc, append-nil, arith, nat_lt, if◌then◌else◌, ltb-true, ltb-false}
 use Rattle.std.specs.Prelude.{is_none}
 use Rattle.std.proofs.lemmas.Bool.{le-ltb, lt-ltb}
@@ -17,30 +18,8 @@ appended-nil (Some text) = appended-fits text [] (omega arith) ∙ ap Some (appe
 
 pub appended-twice : (o : Option (List ℕ)) (a b : List ℕ) → appended (appended o a) b ≡ appended o (a ++ b)
 appended-twice None a b = refl
-appended-twice (Some text) a b = by_test (nat_lt (65536 - length text) (length a)) refl
-  where
-    both : length (a ++ b) ≡ length a + length b
-    both = length-append a b
-
-    more : length (text ++ a) ≡ length text + length a
-    more = length-append text a
-
-    by_second : (x : Bool) → nat_lt (65536 - length (text ++ a)) (length b) ≡ x → length a ≤ 65536 - length text
-        → appended (Some (text ++ a)) b ≡ appended (Some text) (a ++ b)
-    by_second true is fits =
-        let over = ltb-true (65536 - length (text ++ a)) (length b) is in
-        appended-over (text ++ a) b over ∙ sym (appended-over text (a ++ b) (omega (arith, both, more)))
-    by_second false is fits =
-        let under = ltb-false (65536 - length (text ++ a)) (length b) is in
-        appended-fits (text ++ a) b under ∙ ap Some (append_assoc text a b) ∙ sym (appended-fits text (a ++ b) (omega (arith, both, more)))
-
-    by_test : (x : Bool) → nat_lt (65536 - length text) (length a) ≡ x → appended (appended (Some text) a) b ≡ appended (Some text) (a ++ b)
-    by_test true is =
-        let over = ltb-true (65536 - length text) (length a) is in
-        ap (λ (o : Option (List ℕ)). appended o b) (appended-over text a over) ∙ sym (appended-over text (a ++ b) (omega (arith, both)))
-    by_test false is =
-        let fits = ltb-false (65536 - length text) (length a) is in
-        ap (λ (o : Option (List ℕ)). appended o b) (appended-fits text a fits) ∙ by_second (nat_lt (65536 - length (text ++ a)) (length b)) refl fits
+appended-twice (Some text) a b =
+    search (rules, length-append, ltb-true, appended-over, ltb-false, appended-fits, append_assoc)
 
 -- nothing is appended to a text that is too long
 pub over-stays : (old new : Option (List ℕ)) (more : List ℕ) → old ≡ None → new ≡ old → new ≡ appended old more
@@ -52,18 +31,10 @@ over-before old out rest all is so_far = is ∙ ap (λ (o : Option (List ℕ)). 
 
 -- a text that is too long by itself, and one that is not
 pub none-over : (text : List ℕ) → appended (Some []) text ≡ None → 65536 < length text
-none-over text is = by_test (nat_lt 65536 (length text)) refl is
-  where
-    by_test : (x : Bool) → nat_lt 65536 (length text) ≡ x → (if x then None else Some text) ≡ None → 65536 < length text
-    by_test true over e = ltb-true 65536 (length text) over
-    by_test false over e = absurd (cc)
+none-over text is = search (rules, ltb-true)
 
 pub there-whole : (o : Option (List ℕ)) (text : List ℕ) → o ≡ appended (Some []) text → (o ≡ None → ⊥) → o ≡ Some text
-there-whole o text is there = is ∙ by_test (nat_lt 65536 (length text)) (λ e. there (is ∙ e))
-  where
-    by_test : (x : Bool) → ((if x then None else Some text) ≡ None → ⊥) → (if x then None else Some text) ≡ Some text
-    by_test true other = absurd (other refl)
-    by_test false other = refl
+there-whole o text is there = search (rules)
 
 pub none-is : (o : Option (List ℕ)) → is_none o ≡ true → o ≡ None
 none-is None is = refl

@@ -1,4 +1,5 @@
 -- What is wrong with a type, by its own entry and by the types that it names.
+use Rattle.std.proofs.Common.{rules}
 use Rattle.std.proofs.Common.{◌≡◌, ℕ, Bool, true, false, List, [], ◌∷◌, Option, Some, None, refl, sym, ap, subst, ◌∙◌}
 use Rattle.std.proofs.Common.{◌⊎◌, inl, inr, length, map}
 use Rattle.std.proofs.lemmas.Bool.{or_cases}
@@ -30,10 +31,7 @@ test-itself b c same = (λ h. sym same ∙ h, λ h. same ∙ h)
 
 -- one of two tests
 pub either : {A B C : Type 0} (a b all : Bool) → IsTrue a ↔ A → IsTrue b ↔ B → all ≡ (a || b) → (A ⊎ B) ↔ C → IsTrue all ↔ C
-either a b all one other is joins = (
-  λ t. joins.0 (elim (or_cases a b (sym is ∙ t)) [ inl x ↦ inl (one.0 x) | inr y ↦ inr (other.0 y) ]),
-  λ c. is ∙ elim (joins.1 c) [ inl x ↦ or_left a b (one.1 x) | inr y ↦ or_right a b (other.1 y) ],
-)
+either a b all one other is joins = search (rules, or_cases, or_left, or_right)
 
 -- a test of each element, that says whether a fact holds of it
 any-iff : {X : Type 0} (P : X → Type 0) (p : X → Bool) (xs : List X) → All (λ x. IsTrue (p x) ↔ P x) xs → IsTrue (list_any p xs) ↔ Any P xs
@@ -69,17 +67,7 @@ module _ (shapes : ℕ → ShapeOf) (at : TypeAt) (k : TypeKind) (known : IsBase
   base-kind under stands = known.2 ∙ ap (kind_at shapes) (one-base known.1 stands)
 
   void-like : IsTrue (is_void k) ↔ IsVoidLike shapes at
-  void-like = (λ h. is known.0 known.1 (ap is_void (sym known.2) ∙ h), λ stands. ap is_void (base-kind None stands))
-    where
-      not-void : (s : ShapeOf) → is_void (kind_in (Some s)) ≡ true → ⊥
-      not-void (nameless Struct) h = cc
-      not-void (nameless Union) h = cc
-      not-void (nameless Enum) h = cc
-      not-void _ h = cc
-
-      is : (u : TypeAt) → StandsUnder shapes at u → is_void (kind_at shapes u) ≡ true → IsVoidLike shapes at
-      is None stands h = stands
-      is (Some entry) stands h = absurd (not-void (shapes entry) h)
+  void-like = search (rules, base-kind)
 
 -- ---- what summaries tell
 
@@ -104,10 +92,7 @@ module _ (shapes : ℕ → ShapeOf) (s : Summaries) where
   void-known at known = void-like shapes at (base_known s at) known.is_base
 
   voids-known : (shape : ShapeOf) → All (Knows shapes s) (types_reached shape) → IsTrue (list_any (λ at. is_void (base_known s at)) (object_types shape)) ↔ Any (IsVoidLike shapes) (object_types shape)
-  voids-known shape all =
-      let P : TypeAt → Type 0 = λ at. IsTrue (is_void (base_known s at)) ↔ IsVoidLike shapes at in
-      any-iff (IsVoidLike shapes) (λ at. is_void (base_known s at)) (object_types shape)
-      (All-weaker (Knows shapes s) P void-known (object_types shape) (objects-of (Knows shapes s) shape all))
+  voids-known shape all = search (rules, any-iff, void-known, objects-of)
 
   wrong-known : (shape : ShapeOf) → All (Knows shapes s) (types_reached shape) → is_wrong (kind_known s) shape ≡ is_wrong (kind_at shapes) shape
   wrong-known shape all = wrong-alike (kind_known s) (kind_at shapes) shape (kinds-known (types_reached shape) all)

@@ -1,4 +1,5 @@
 -- An entry that is not wrong has a term.
+use Rattle.std.proofs.Common.{rules}
 use Rattle.std.proofs.Common.{◌≡◌, ℕ, zero, suc, ℤ, ◌<◌, Bool, true, false, List, [], ◌∷◌, Option, Some, None, refl}
 use Rattle.std.proofs.Common.{subst, length, arith}
 use Rattle.std.specs.Prelude.{IsSome, is_some, ◌==◌, not, ◌||◌, option_map, option_and_then, Any, Contains}
@@ -64,13 +65,7 @@ pub record IsBaseTerm (t : Term) : Type 0 where
 
 base_some : (name : Name) (term : TypeAt → Option Term) → (lacks_base_name name ≡ true → ⊥) → IsSome (term_by term (base name))
 base_some None term h = absurd (h refl)
-base_some (Some n) term h = by_name (is_identifier n) (words_of 4 (parts_of n)) (not_refuted (is_base_name n) h)
-  where
-    by_name : (b : Bool) (o : Option (List TypeWord)) → (b || is_some o) ≡ true
-        → IsSome (if b then Some (Named n) else option_map Basic o)
-    by_name true o h = refl
-    by_name false None h = absurd (cc)
-    by_name false (Some ws) h = refl
+base_some (Some n) term h = search (rules, not_refuted)
 
 pub base_is : (n : List ℕ) (t : Term) → base_term n ≡ Some t → IsBaseTerm t
 base_is n t e = by_name (is_identifier n) refl (words_of 4 (parts_of n)) refl e
@@ -105,11 +100,7 @@ unvalued [] w = refl
 unvalued (e ∷ es) w = w
 
 value_some : (e : EnumeratorOf) → (lacks_value e ≡ true → ⊥) → IsSome e.value
-value_some e h = by_value e.value h
-  where
-    by_value : (o : Option ℤ) → (not (is_some o) ≡ true → ⊥) → IsSome o
-    by_value None h = absurd (h refl)
-    by_value (Some v) h = refl
+value_some e h = search (rules)
 
 pub constants_some : (es : List EnumeratorOf) → (list_any nameless_at es ≡ true → ⊥) → (list_any lacks_value es ≡ true → ⊥)
     → IsSome (constants_of es)
@@ -132,16 +123,14 @@ module _ (term : TypeAt → Option Term) (void : IsSome (term None)) where
       → IsSome (parameters_by term ps)
   parameters_some [] h = refl
   parameters_some (Typed at ∷ ps) h =
-      then_some (λ (t : Term). option_map (ParameterTerm t) (parameters_by term ps)) (term at) (head_of HasTerm void at (parameter_types ps) h)
-      (λ t. map_some (ParameterTerm t) (parameters_by term ps) (parameters_some ps (rest_of HasTerm void at (parameter_types ps) h)))
+      search (rules, then_some, head_of, map_some, rest_of, (parameters_some ps (rest_of HasTerm void at (parameter_types ps) h)))
   parameters_some (More ∷ ps) h = parameters_some ps h
 
   pub members_some : (ms : List MemberOf) → ((n : ℕ) → Contains (entries_of (member_types ms)) n → HasTerm (Some n))
       → IsSome (members_by term ms)
   members_some [] h = refl
   members_some (m ∷ ms) h =
-      then_some (λ (t : Term). option_map (MemberTerm m.name t (bits_of m.bits)) (members_by term ms)) (term m.type_at) (head_of HasTerm void m.type_at (member_types ms) h)
-      (λ t. map_some (MemberTerm m.name t (bits_of m.bits)) (members_by term ms) (members_some ms (rest_of HasTerm void m.type_at (member_types ms) h)))
+      search (rules, then_some, head_of, map_some, rest_of, (members_some ms (rest_of HasTerm void m.type_at (member_types ms) h)))
 
   shape_some : (shapes : ℕ → ShapeOf) (s : ShapeOf) → IsFine shapes s
       → ((n : ℕ) → Contains (entries_of (types_reached s)) n → HasTerm (Some n)) → IsSome (term_by term s)

@@ -1,4 +1,7 @@
 -- The members, enumerators and parameters that are left to be written, item by item.
+use Rattle.std.proofs.lemmas.Grind.{common_steps}
+use Rattle.std.proofs.Common.{arith}
+use Rattle.std.proofs.Common.{rules}
 use Rattle.std.proofs.Common.{◌≡◌, ℕ, ℤ, ◌+◌, ◌<◌, false, List, [], ◌∷◌, ◌++◌, Option, Some, None, refl, sym, ◌∙◌, ap, subst}
 use Rattle.std.proofs.Common.{append_assoc, drop, length, get_or, map}
 use Rattle.std.specs.Prelude.{option_map, option_and_then, if◌then◌else◌}
@@ -28,9 +31,7 @@ next-of f xs i one is within = ap (map f) (drop_more xs i one within) ∙ ap (λ
 -- what is written is followed by the same rest
 pub moved : (a rest whole : List Token) (old out out' : Option (List ℕ)) (all : List ℕ) → Writes a out out' → a ++ rest ≡ whole
     → appended out (text_of whole) ≡ appended old all → appended out' (text_of rest) ≡ appended old all
-moved a rest whole old out out' all h parts so_far =
-    ap (λ (u : Option (List ℕ)). appended u (text_of rest)) h ∙ appended-twice out (text_of a) (text_of rest) ∙ ap (appended out) (sym (text-append a rest))
-    ∙ ap (λ (u : List Token). appended out (text_of u)) parts ∙ so_far
+moved a rest whole old out out' all h parts so_far = search (rules, appended-twice, text-append)
 
 -- ---- items of any kind, by the tokens of some of them, if all of these have terms
 
@@ -47,26 +48,14 @@ IsSplit tokens left us out out' = (one others : List Token) × (tokens left ≡ 
 module _ {X : Type 0} (tokens : List X → Option (List Token)) (all : List X) (old : Option (List ℕ)) where
   left-next : (x : X) (left : List X) (out out' : Option (List ℕ)) → IsLeft tokens all old (x ∷ left) out
       → ((us : List Token) → tokens (x ∷ left) ≡ Some us → IsSplit tokens left us out out') → IsLeft tokens all old left out'
-  left-next x left out out' so_far split = record {
-    rest = λ us e.
-        let (vs, is, same) = so_far.rest us e in
-        let (one, others, are, parts, writes) = split vs is in
-        (others, are, moved one others vs old out out' (text_of us) writes parts same);
-  }
+  left-next x left out out' so_far split = grind (arith, common_steps, moved)
 
   -- none is left to be written where the text is too long
   pub left-over : (left : List X) (out : Option (List ℕ)) → tokens [] ≡ Some [] → out ≡ None → IsLeft tokens all old left out → IsLeft tokens all old [] out
-  left-over left out none is so_far = record {
-    rest = λ us e.
-        let (vs, _, same) = so_far.rest us e in
-        ([], none, appended-nil out ∙ over-before old out (text_of vs) (text_of us) is same);
-  }
+  left-over left out none is so_far = search (rules, appended-nil, over-before)
 
   left-done : (out : Option (List ℕ)) (us : List Token) → tokens [] ≡ Some [] → IsLeft tokens all old [] out → tokens all ≡ Some us → Writes us old out
-  left-done out us none so_far e =
-      let (vs, is, same) = so_far.rest us e in
-      let nil : [] ≡ vs = same_Some [] vs (sym none ∙ is) in
-      sym (appended-nil out) ∙ ap (λ (u : List Token). appended out (text_of u)) nil ∙ same
+  left-done out us none so_far e = search (rules, same_Some, appended-nil)
 
 -- ---- members
 
@@ -76,9 +65,7 @@ members_left term ms = option_map members_tokens (members_by term ms)
 member-tokens : (name : Name) (t : Term) (bits : Option ℕ) (us : Members)
     → (spell [] t (name_tokens name) ++ (bits_tokens bits ++ Semicolon ∷ Blank ∷ [])) ++ members_tokens us
     ≡ members_tokens (MemberTerm name t bits us)
-member-tokens name t bits us =
-    append_assoc (spell [] t (name_tokens name)) (bits_tokens bits ++ Semicolon ∷ Blank ∷ []) (members_tokens us)
-    ∙ ap (λ (u : List Token). spell [] t (name_tokens name) ++ u) (append_assoc (bits_tokens bits) (Semicolon ∷ Blank ∷ []) (members_tokens us))
+member-tokens name t bits us = search (rules, append_assoc)
 
 pub members_next : (term : TypeAt → Option Term) (all : List MemberOf) (m : MemberOf) (left : List MemberOf)
     (old out out' : Option (List ℕ)) → IsLeft (members_left term) all old (m ∷ left) out
@@ -114,12 +101,7 @@ pub record IsMoreConstants (x : EnumeratorOf) (es : List EnumeratorOf) (cs : Lis
 
 pub more-constants : (x : EnumeratorOf) (es : List EnumeratorOf) (cs : List Constant) → constants_of (x ∷ es) ≡ Some cs
     → IsMoreConstants x es cs
-more-constants x es cs e =
-    let rest = constants_of es in
-    let name = then_inverted (λ (name : List ℕ). option_and_then (λ (value : ℤ). option_map (λ (cs : List Constant). Valued name value ∷ cs) rest) x.value) x.name cs e in
-    let value = then_inverted (λ (value : ℤ). option_map (λ (cs : List Constant). Valued name.0 value ∷ cs) rest) x.value cs name.2 in
-    let others = map_inverted (λ (cs : List Constant). Valued name.0 value.0 ∷ cs) rest cs value.2 in
-    record { name = name.0; value = value.0; others = others.0; is_name = name.1; is_value = value.1; are_others = others.1; is = others.2 }
+more-constants x es cs e = search (rules, then_inverted, map_inverted)
 
 -- an enumerator is written
 abbrev WritesOne : EnumeratorOf → Option (List ℕ) → Option (List ℕ) → Type 0
@@ -191,11 +173,7 @@ pub parameters_done : (term : TypeAt → Option Term) (p : Parameter) (others : 
     → Writes (signature_tokens (Prototyped us (has_more (p ∷ others)))) begin new
 parameters_done term More others begin old new first left placed us e = absurd (cc)
 parameters_done term (Typed at) others begin old new first left placed us e =
-    let t = then_inverted (λ (t : Term). option_map (ParameterTerm t) (parameters_by term others)) (term at) us e in
-    let rest = map_inverted (ParameterTerm t.0) (parameters_by term others) us t.2 in
-    let inner = left-done (parameters_left term) others old new (following rest.0 others) refl left (parameters-are term others rest.0 placed rest.1) in
-    let P : Parameters → Type 0 = λ u. Writes (signature_tokens (Prototyped u (has_more others))) begin new in
-    subst P rest.2 (both (spell [] t.0 []) (following rest.0 others) begin old new (first t.0 t.1) inner)
+    search (rules, then_inverted, map_inverted, left-done, parameters-are, both)
 
 -- a parameter is written
 pub item-of : (s : Survey) (k : ℕ) (p : Parameter) (old new : Option (List ℕ)) → WritesParameter s k p old new

@@ -1,4 +1,6 @@
 -- The text of a type has at least as many bytes as are counted for it.
+use Rattle.std.proofs.Common.{rules}
+use Rattle.std.proofs.lemmas.Grind.{common_steps}
 use Rattle.std.proofs.Common.{◌≡◌, ℕ, ◌+◌, ◌≤◌, Bool, true, List, [], ◌∷◌, ◌++◌, Option, Some, None, refl, ap, subst, ◌∙◌, length, length-append, arith}
 use Rattle.std.specs.Prelude.{All, option_map, sum_by}
 use Rattle.std.proofs.lemmas.Grind.{flat_map-append}
@@ -75,10 +77,7 @@ module _ (term : TypeAt → Option Term) (n : TypeAt → ℕ) where
 -- the parentheses make up for the comma and the space that are not before the first parameter
 signature-least : (us : Parameters) (more : Bool) → byte_count (more_parameters us) ≤ byte_count (signature_tokens (Prototyped us more)) + 2
 signature-least NoParameter more = omega arith
-signature-least (ParameterTerm t us) more =
-    let a = count-cons Comma (Blank ∷ (spell [] t [] ++ more_parameters us)) in
-    let b = count-cons Blank (spell [] t [] ++ more_parameters us) in
-    omega (arith, count-append (spell [] t []) (more_parameters us), count-append (spell [] t []) (more_parameters us ++ ellipsis more), count-append (more_parameters us) (ellipsis more))
+signature-least (ParameterTerm t us) more = search (rules, count-cons, count-append)
 
 constants-least : (es : List EnumeratorOf) (cs : List Constant) → constants_of es ≡ Some cs
     → sum_by (λ (e : EnumeratorOf). name_size e.name + 5) es ≤ byte_count (more_constants cs)
@@ -130,9 +129,7 @@ array-least c cs t n least = λ qs inside.
     omega (arith, arrays-before cs t n least, arrays-after (c ∷ cs) t)
 
 function-least : (t : Term) (us : Parameters) (more : Bool) (n m : ℕ) → IsLeast t n → m ≤ n + byte_count (more_parameters us) → IsLeast (Function t (Prototyped us more)) m
-function-least t us more n m least within = λ qs inside.
-    let s = signature_tokens (Prototyped us more) in
-    omega (arith, least [] true, signature-least us more, count-cons Open (s ++ Close ∷ after t), count-append s (Close ∷ after t), count-cons Close (after t))
+function-least t us more n m least within = search (rules, signature-least, count-cons, count-append)
 
 pointer-least : (t : Term) (n : ℕ) → IsLeast t n → IsLeast (Pointer t) n
 pointer-least t n least = λ qs inside.
@@ -151,14 +148,8 @@ module _ (term : TypeAt → Option Term) (n : TypeAt → ℕ) where
   pub shape-least : (s : ShapeOf) (t : Term) → All (Counts term n) (types_reached s) → term_by term s ≡ Some t → IsLeast t (least_in n s)
   shape-least (base (Some name)) t all e =
       core-least t (length name + 0) (specifier-of term (base (Some name)) t refl e) (omega (arith, ap (λ (u : List ℕ). length u) (base-core name t e), count-cons (Identifier name) []))
-  shape-least (typedef (Some name)) t all e =
-      let same : Named name ≡ t = cc in
-      core-least t (length name + 0) (specifier-of term (typedef (Some name)) t refl e) (omega (arith, ap (λ (u : Term). byte_count (core u)) same, count-cons (Identifier name) []))
-  shape-least (qualified q at) t all e =
-      let u = map_inverted (Qualified q) (term at) t e in
-      let P : Term → Type 0 = λ x. IsLeast x (n at) in
-      let own = first-of (Counts term n) at [] all u.0 u.1 in
-      of-one at t (subst P u.2 (λ qs inside. own (qs ++ q ∷ []) inside))
+  shape-least (typedef (Some name)) t all e = search (rules, core-least, specifier-of, count-cons)
+  shape-least (qualified q at) t all e = search (rules, map_inverted, first-of, of-one)
   shape-least (pointer at) t all e =
       let u = map_inverted Pointer (term at) t e in
       let P : Term → Type 0 = λ x. IsLeast x (n at) in
@@ -169,21 +160,14 @@ module _ (term : TypeAt → Option Term) (n : TypeAt → ℕ) where
       let P : Term → Type 0 = λ x. IsLeast x (length (c ∷ cs) + n at) in
       fewer-least t (length (c ∷ cs) + n at) (length (c ∷ cs) + sum_by n (at ∷ [])) (omega (arith, sum_by-cons n at []))
       (subst P u.2 (array-least c cs u.0 (n at) (first-of (Counts term n) at [] all u.0 u.1)))
-  shape-least (function at None) t all e =
-      let u = map_inverted (λ (u : Term). Function u Unprototyped) (term at) t e in
-      let P : Term → Type 0 = λ x. IsLeast x (n at) in
-      of-one at t (subst P u.2 (bare-least u.0 (n at) (first-of (Counts term n) at [] all u.0 u.1)))
+  shape-least (function at None) t all e = search (rules, map_inverted, of-one, bare-least, first-of)
   shape-least (function at (Some ps)) t all e =
       let f = function-parts term at ps t e in
       let own = first-of (Counts term n) at (parameter_types ps) all f.result f.is_result in
       let others = parameters-least term n ps f.parameters (others-of (Counts term n) at (parameter_types ps) all) f.are_parameters in
       subst (λ (x : Term). IsLeast x (0 + sum_by n (at ∷ parameter_types ps))) f.is
       (function-least f.result f.parameters (has_more ps) (n at) (0 + sum_by n (at ∷ parameter_types ps)) own (omega (arith, sum_by-cons n at (parameter_types ps), others)))
-  shape-least (tagged word name) t all e =
-      let same : Tagged word name ≡ t = cc in
-      let long = ap (λ (u : Term). byte_count (core u)) same in
-      let a = count-cons (TagWord word) (Blank ∷ Identifier name ∷ []) in
-      core-least t (length name + 0) (specifier-of term (tagged word name) t refl e) (omega (arith, count-cons Blank (Identifier name ∷ []), count-cons (Identifier name) []))
+  shape-least (tagged word name) t all e = search (rules, count-cons, core-least, specifier-of)
   shape-least (body word odd ms) t all e =
       let f = map_inverted (Body word) (members_by term ms) t e in
       let inner = members-least term n ms f.0 all f.1 in
@@ -228,9 +212,5 @@ module _ (term : TypeAt → Option Term) (n : TypeAt → ℕ) where
       let a = count-cons (TagWord Enum) (Blank ∷ Identifier name ∷ Blank ∷ LeftBrace ∷ Blank ∷ (constants f.0 ++ Blank ∷ RightBrace ∷ Semicolon ∷ [])) in
       let b = count-cons (Identifier name) (Blank ∷ LeftBrace ∷ Blank ∷ (constants f.0 ++ Blank ∷ RightBrace ∷ Semicolon ∷ [])) in
       omega (arith, count-append (constants f.0) (Blank ∷ RightBrace ∷ Semicolon ∷ []))
-  declared-least (tag_subject (Some name) (tagged word tag)) d all e =
-      let same : Declared word tag ≡ d = cc in
-      let whole = ap (λ (x : Declaration). length (written x)) same in
-      let a = count-cons (TagWord word) (Blank ∷ Identifier tag ∷ Semicolon ∷ []) in
-      omega (arith, count-cons (Identifier tag) (Semicolon ∷ []))
+  declared-least (tag_subject (Some name) (tagged word tag)) d all e = grind (arith, common_steps, count-cons)
   declared-least _ d all e = absurd (cc)

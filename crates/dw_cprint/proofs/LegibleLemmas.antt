@@ -1,4 +1,5 @@
 -- The term of an entry that is not wrong can be read back from its text.
+use Rattle.std.proofs.Common.{rules}
 use Rattle.std.proofs.Common.{◌≡◌, ℕ, zero, suc, ℤ, Bool, true, false, List, [], ◌∷◌, Option, Some, None, refl, sym}
 use Rattle.std.proofs.Common.{◌∙◌, ap, subst, arith}
 use Rattle.std.specs.Prelude.{option_map, option_and_then, Any, Contains, IsSome, not}
@@ -119,17 +120,10 @@ head_is term (base (Some n)) t e = (IsBaseTerm.present (base_is n t e), λ a. Is
 head_is term (typedef (Some n)) t e = let same : Named n ≡ t = cc in subst (IsHead (typedef (Some n))) same (tt, λ a. tt)
 head_is term (qualified q at) t e = let f = map_inverted (Qualified q) (term at) t e in subst (IsHead (qualified q at)) f.2 (tt, λ a. tt)
 head_is term (pointer at) t e = let f = map_inverted Pointer (term at) t e in subst (IsHead (pointer at)) f.2 (tt, λ a. tt)
-head_is term (array (c ∷ cs) strange at) t e =
-    let u = unless_inverted (is_miscounted (c ∷ cs)) (option_map (arrays (c ∷ cs)) (term at)) t e in
-    let f = map_inverted (arrays (c ∷ cs)) (term at) t u.1 in subst (IsHead (array (c ∷ cs) strange at)) f.2 (tt, λ a. absurd (a refl))
+head_is term (array (c ∷ cs) strange at) t e = search (rules, unless_inverted, map_inverted)
 head_is term (function at None) t e =
     let f = map_inverted (λ (t : Term). Function t Unprototyped) (term at) t e in subst (IsHead (function at None)) f.2 (tt, λ a. absurd (a refl))
-head_is term (function at (Some ps)) t e =
-    let called : Term → Option Term = λ (t : Term). option_map (λ (us : Parameters). Function t (Prototyped us (has_more ps))) (parameters_by term ps) in
-    let u = unless_inverted (is_misplaced ps) (option_and_then called (term at)) t e in
-    let r = then_inverted called (term at) t u.1 in
-    let f = map_inverted (λ (us : Parameters). Function r.0 (Prototyped us (has_more ps))) (parameters_by term ps) t r.2 in
-    subst (IsHead (function at (Some ps))) f.2 (tt, λ a. absurd (a refl))
+head_is term (function at (Some ps)) t e = search (rules, unless_inverted, then_inverted, map_inverted)
 head_is term (tagged word name) t e = let same : Tagged word name ≡ t = cc in subst (IsHead (tagged word name)) same (tt, λ a. tt)
 head_is term (body word odd ms) t e = let f = map_inverted (Body word) (members_by term ms) t e in subst (IsHead (body word odd ms)) f.2 (tt, λ a. tt)
 head_is term (enumeration odd es) t e = let f = map_inverted Enumeration (constants_of es) t e in subst (IsHead (enumeration odd es)) f.2 (tt, λ a. tt)

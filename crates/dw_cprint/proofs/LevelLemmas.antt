@@ -1,4 +1,5 @@
 -- The steps by value of an image: each entry has a level, and the order of a listing by them.
+use Rattle.std.proofs.Common.{rules}
 use Rattle.std.proofs.Common.{◌≡◌, ℕ, zero, suc, ◌+◌, ◌<◌, List, [], ◌∷◌, length, get_or, inl, inr}
 use Rattle.std.proofs.Common.{arith, refl, sym, ◌∙◌, ◌-◌, ap}
 use Rattle.std.specs.Prelude.{◌⊎◌, Contains, AllPairs}
@@ -39,9 +40,7 @@ has-or-not (y ∷ xs) x = elim (cases_eq y x) [
 -- as many rows as entries
 steps-long : (image : Image) → length (steps_in image) ≡ length (entries_in image)
 unfolding units_in steps_in
-steps-long image =
-    let us = units_of image.entries.scanned in
-    length-by_value (facts_in us) ∙ length-facts_of (entries_of us) (placed us)
+steps-long image = search (rules, length-by_value, length-facts_of)
 
 -- an entry takes a byte, so there are fewer than 2 ^ 32
 pub few-entries : (image : Image) → length (entries_in image) < 4294967296

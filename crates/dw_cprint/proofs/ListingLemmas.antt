@@ -1,4 +1,5 @@
 -- The listing: the named types in order, judged one after another, and those that are refused, sorted by offset.
+use Rattle.std.proofs.Common.{rules}
 use Rattle.std.proofs.Common.{◌≡◌, ◌≢◌, ℕ, zero, suc, ◌+◌, ◌<◌, ◌≤◌, Bool, true, false, not, cond, List, [], ◌∷◌, ◌++◌}
 use Rattle.std.proofs.Common.{refl, sym, ◌∙◌, ap, subst, inl, inr, length, get_or, arith, append_assoc, drop, map, Some}
 use Rattle.std.proofs.Common.{None}
@@ -266,9 +267,7 @@ as-many f xs named same = sym (length-map xs view_subject) ∙ (ap length same �
 pub lines-more : {X : Type 0} (f : X → List ℕ) (out out' all : List ℕ) (xs : List X) (i : ℕ) (x : X) → out' ≡ out ++ f x
     → i < length xs → x ≡ get_or xs i x
     → out ++ flat_map f (drop i xs) ≡ all → out' ++ flat_map f (drop (i + 1) xs) ≡ all
-lines-more {X = X} f out out' all xs i x written within at so_far =
-    let split : drop i xs ≡ x ∷ drop (i + 1) xs = drop_more xs i x within ∙ ap (λ (y : X). y ∷ drop (i + 1) xs) (sym at) in
-    rw written (append_assoc out (f x) (flat_map f (drop (i + 1) xs)) ∙ (ap (λ (ys : List X). out ++ flat_map f ys) (sym split) ∙ so_far))
+lines-more {X = X} f out out' all xs i x written within at so_far = search (rules, drop_more, append_assoc)
 
 -- seven parts, each written after the one before
 pub seven-parts : (o o1 o2 o3 o4 o5 o6 o7 a b c d e f g : List ℕ) → o1 ≡ o ++ a → o2 ≡ o1 ++ b → o3 ≡ o2 ++ c
@@ -280,12 +279,7 @@ seven-parts o o1 o2 o3 o4 o5 o6 o7 a b c d e f g e1 e2 e3 e4 e5 e6 e7 = rw (e7, 
 
 kept-numbers : (p : ℕ → Bool) (xs : List ℕ) → filter_map (λ k. if p k then Some k else None) xs ≡ filter p xs
 kept-numbers p [] = refl
-kept-numbers p (x ∷ xs) = by_test (p x) (kept-numbers p xs)
-  where
-    by_test : (b : Bool) → filter_map (λ k. if p k then Some k else None) xs ≡ filter p xs
-        → cons_option (if b then Some x else None) (filter_map (λ k. if p k then Some k else None) xs) ≡ cond b (x ∷ filter p xs) (filter p xs)
-    by_test true e = ap (λ ys. x ∷ ys) e
-    by_test false e = e
+kept-numbers p (x ∷ xs) = search (rules, (kept-numbers p xs))
 
 pub named-done : (image : Image) (named : List ℕ) → named ≡ filter_map (named_number image) (range_with_len 0 (length (entries_in image))) → AreNamedTypes image named
 named-done image named is = rw (is, kept-numbers p range) (record {

@@ -1,4 +1,5 @@
 -- What is read of an entry, and of its children from the first on.
+use Rattle.std.proofs.Common.{rules}
 use Rattle.std.proofs.Common.{suc, ◌+◌, true, false, Bool, [], ◌∷◌, ◌≡◌, ℕ, ◌<◌, ◌≤◌, List, Option, Some, None, IfSome}
 use Rattle.std.proofs.Common.{refl, ap, arith, length, inl, inr, ◌++◌, sym, subst, append-nil, map}
 use Rattle.std.specs.List.{filter_map}
@@ -11,18 +12,11 @@ use Rattle.dw_cprint.specs.Children.{AreKept}
 use Rattle.dw_image.specs.Lookups.{is_number, children_from, children_of}
 
 none_past : (es : List Entry) (i : ℕ) → slice_get es i ≡ None → length es ≤ i
-none_past es i gone = elim (slice_get_cases es i).1 [
-  | inl it ↦ (let both : Some it.0 ≡ None = cc (it.2, gone) in absurd cc)
-  | inr it ↦ it.0
-]
+none_past es i gone = search (rules, slice_get_cases)
 
 -- what is said of the entry with a number holds of what is read of it, and of d if there is none
 pub read_or : {X : Type 0} (es : List Entry) (id : ℕ) (f : Entry → X) (r d : X) → id < length es → IfSome (slice_get es id) (λ e. r ≡ f e) → r ≡ option_map_or f (slice_get es id) d
-read_or {X = X} es id f r d within says = go (slice_get es id) (λ gone. none_past es id gone) says
-  where
-    go : (found : Option Entry) → (found ≡ None → length es ≤ id) → IfSome found (λ e. r ≡ f e) → r ≡ option_map_or f found d
-    go None past says = absurd (omega (arith, past refl))
-    go (Some e) past says = says
+read_or {X = X} es id f r d within says = search (rules, none_past)
 
 within_one : (b : Bool) (k n : ℕ) (ids : List ℕ) → k < n → All (λ child. child < n) ids → All (λ child. child < n) (if b then k ∷ ids else ids)
 within_one true k n ids below all = All-cons (λ child. child < n) k ids below all

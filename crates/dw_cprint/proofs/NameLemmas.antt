@@ -1,4 +1,5 @@
 -- The words of a base type's name, and its text.
+use Rattle.std.proofs.Common.{rules}
 use Rattle.std.proofs.Common.{◌≡◌, ℕ, zero, suc, ◌+◌, ◌*◌, ◌<◌, ◌≤◌, Bool, true, false, cond, List, [], ◌∷◌, ◌++◌}
 use Rattle.std.proofs.Common.{Option, Some, None, refl, sym, ◌∙◌, ap, subst, length, take, drop, append-nil, arith, ◌-◌}
 use Rattle.std.proofs.Common.{◌/◌, ◌%◌, get_or, inl, inr}
@@ -34,28 +35,13 @@ keyword_parts word = list_any-append (λ k. bytes_eq word k.now) KEYWORDS LONG_K
 module _ {X : Type 0} (p : X → Bool) where
   split-whole : (xs : List X) → length xs ≤ position_or_len p xs → slice_split p xs ≡ xs ∷ []
   split-whole [] h = refl
-  split-whole (x ∷ xs) h = by_test (p x) refl (split-whole xs)
-    where
-      by_test : (b : Bool) → p x ≡ b → (length xs ≤ position_or_len p xs → slice_split p xs ≡ xs ∷ []) → slice_split p (x ∷ xs) ≡ (x ∷ xs) ∷ []
-      by_test true is more = let none : position_or_len p (x ∷ xs) ≡ 0 = rw is refl in absurd (omega arith)
-      by_test false is more =
-          let first : position_or_len p (x ∷ xs) ≡ 1 + position_or_len p xs = rw is refl in
-          let rest = more (omega arith) in
-          slice_split-cons_no p x xs is ∙ rw rest refl
+  split-whole (x ∷ xs) h = search (rules, slice_split-cons_no, (split-whole xs))
 
   pub split-none : (xs : List X) → position p xs ≡ None → slice_split p xs ≡ xs ∷ []
-  split-none xs e = split-whole xs (by_test (nat_lt (position_or_len p xs) (length xs)) refl e)
-    where
-      by_test : (b : Bool) → nat_lt (position_or_len p xs) (length xs) ≡ b → cond b (Some (position_or_len p xs)) None ≡ None → length xs ≤ position_or_len p xs
-      by_test true is e = absurd (cc)
-      by_test false is e = grind (arith, nat_tests)
+  split-none xs e = search (rules, split-whole, nat_tests)
 
   pub split-some : (xs : List X) (d : X) (end : ℕ) → position p xs ≡ Some end → (end < length xs) × (slice_split p xs ≡ take end xs ∷ slice_split p (drop (end + 1) xs))
-  split-some xs d end e =
-      let at = cond_some (nat_lt (position_or_len p xs) (length xs)) (position_or_len p xs) end e in
-      let within : position_or_len p xs < length xs = grind (arith, nat_tests) in
-      let P : ℕ → Type 0 = λ n. (n < length xs) × (slice_split p xs ≡ take n xs ∷ slice_split p (drop (n + 1) xs)) in
-      subst P at.1 (within, slice_split_first p xs d within)
+  split-some xs d end e = search (rules, cond_some, nat_tests, slice_split_first)
 
 -- a name has a part, so no words are not enough
 pub words-none : (name : List ℕ) → false ≡ is_some (words_of 0 (parts_of name))
@@ -66,55 +52,28 @@ words-none name = by_parts (parts_of name) (length-slice_split (λ (b : ℕ). b 
     by_parts (part ∷ parts) e = refl
 
 first-word : (most : ℕ) (part : List ℕ) (parts : List (List ℕ)) → is_some (words_of (suc most) (part ∷ parts)) ≡ is_some (word_of part) && is_some (words_of most parts)
-first-word most part parts = by_word (word_of part) (words_of most parts)
-  where
-    by_word : (w : Option TypeWord) (ws : Option (List TypeWord)) → is_some (option_and_then (λ (w : TypeWord). option_map (λ (us : List TypeWord). w ∷ us) ws) w) ≡ is_some w && is_some ws
-    by_word None ws = refl
-    by_word (Some w) None = refl
-    by_word (Some w) (Some ws) = refl
+first-word most part parts = search (rules)
 
 -- a name without spaces is one word
 pub words-whole : (most : ℕ) (name : List ℕ) → (most ≡ 0 → ⊥) → position (λ (b : ℕ). b == 32) name ≡ None → is_some (words_of most (parts_of name)) ≡ is_some (word_of name)
 words-whole zero name some none = absurd (some refl)
-words-whole (suc most) name some none = rw (split-none (λ (b : ℕ). b == 32) name none, first-word most name []) (by_test (is_some (word_of name)))
-  where
-    by_test : (b : Bool) → b && true ≡ b
-    by_test true = refl
-    by_test false = refl
+words-whole (suc most) name some none = search (rules, split-none, first-word)
 
 -- one with a space is a word and the words behind the space
 pub words-split : (most : ℕ) (name : List ℕ) (end : ℕ) → (most ≡ 0 → ⊥) → position (λ (b : ℕ). b == 32) name ≡ Some end
     → is_some (words_of most (parts_of name)) ≡ is_some (word_of (take end name)) && is_some (words_of (most - 1) (parts_of (drop (end + 1) name)))
 words-split zero name end some at = absurd (some refl)
-words-split (suc most) name end some at =
-    let split = split-some (λ (b : ℕ). b == 32) name 0 end at in
-    let less : suc most - 1 ≡ most = omega arith in
-    rw (split.1, first-word most (take end name) (parts_of (drop (end + 1) name)), less) refl
+words-split (suc most) name end some at = search (rules, split-some, first-word)
 
 -- ---- the text of the words is the name
 
 -- one row of the words: this word, or one of the others
 one-word : (part name : List ℕ) (word w : TypeWord) (others : Option TypeWord) → type_word_spelling word ≡ name → (others ≡ Some w → type_word_spelling w ≡ part)
     → (if bytes_eq part name then Some word else others) ≡ Some w → type_word_spelling w ≡ part
-one-word part name word w others is otherwise e = by_test (bytes_eq part name) refl e
-  where
-    by_test : (b : Bool) → bytes_eq part name ≡ b → (if b then Some word else others) ≡ Some w → type_word_spelling w ≡ part
-    by_test true same e = let found : word ≡ w = cc in ap type_word_spelling (sym found) ∙ is ∙ sym ((bytes_eq-Decides part name).0 same)
-    by_test false same e = otherwise e
+one-word part name word w others is otherwise e = search (rules, bytes_eq-Decides)
 
 spelled : (part : List ℕ) (w : TypeWord) → word_of part ≡ Some w → type_word_spelling w ≡ part
-spelled part w e =
-    one-word part (codes "char") Char w _ refl
-    (one-word part (codes "short") Short w _ refl
-    (one-word part (codes "int") Int w _ refl
-    (one-word part (codes "long") Long w _ refl
-    (one-word part (codes "signed") Signed w _ refl
-    (one-word part (codes "unsigned") Unsigned w _ refl
-    (one-word part (codes "float") Float w _ refl
-    (one-word part (codes "double") Double w _ refl
-    (one-word part (codes "_Bool") BoolWord w _ refl
-    (one-word part (codes "_Complex") Complex w None refl (λ e. absurd (cc)))))))))))
-    e
+spelled part w e = search (rules, one-word)
 
 pub words-length : (most : ℕ) (parts : List (List ℕ)) (ws : List TypeWord) → words_of most parts ≡ Some ws → length ws ≡ length parts
 words-length most [] ws e = let same : [] ≡ ws = cc in ap length (sym same)
@@ -182,32 +141,17 @@ module _ {X : Type 0} (p : X → Bool) where
   before-stop x xs is = rw is refl
 
   before-more : (x : X) (xs : List X) → p x ≡ false → before_first p (x ∷ xs) ≡ x ∷ before_first p xs
-  before-more x xs is =
-      let n = position_or_len p xs in
-      let one : 1 + n ≡ suc n = omega arith in
-      rw is (ap (λ (k : ℕ). take k (x ∷ xs)) one)
+  before-more x xs is = search (rules)
 
   -- no element of the front passes
   before-joined : (xs ys : List X) → length xs ≤ length (before_first p xs) → before_first p (xs ++ ys) ≡ xs ++ before_first p ys
   before-joined [] ys long = refl
-  before-joined (x ∷ xs) ys long = by_test (p x) refl (before-joined xs ys)
-    where
-      by_test : (b : Bool) → p x ≡ b → (length xs ≤ length (before_first p xs) → before_first p (xs ++ ys) ≡ xs ++ before_first p ys)
-          → before_first p (x ∷ (xs ++ ys)) ≡ x ∷ (xs ++ before_first p ys)
-      by_test true is under = let none = ap length (before-stop x xs is) in absurd (omega arith)
-      by_test false is under =
-          before-more x (xs ++ ys) is ∙ ap (λ (zs : List X). x ∷ zs) (under (omega (arith, ap length (before-more x xs is))))
+  before-joined (x ∷ xs) ys long = search (rules, before-stop, before-more, (before-joined xs ys))
 
   -- an element of the front passes
   before-front : (xs ys : List X) → length (before_first p xs) < length xs → before_first p (xs ++ ys) ≡ before_first p xs
   before-front [] ys short = absurd (omega arith)
-  before-front (x ∷ xs) ys short = by_test (p x) refl (before-front xs ys)
-    where
-      by_test : (b : Bool) → p x ≡ b → (length (before_first p xs) < length xs → before_first p (xs ++ ys) ≡ before_first p xs)
-          → before_first p (x ∷ (xs ++ ys)) ≡ before_first p (x ∷ xs)
-      by_test true is under = before-stop x (xs ++ ys) is ∙ sym (before-stop x xs is)
-      by_test false is under =
-          before-more x (xs ++ ys) is ∙ ap (λ (zs : List X). x ∷ zs) (under (omega (arith, ap length (before-more x xs is)))) ∙ sym (before-more x xs is)
+  before-front (x ∷ xs) ys short = search (rules, before-stop, before-more, (before-front xs ys))
 
 -- a string that ends before the offset
 pub span-front : (bytes : List ℕ) (offset : ℕ) (front : List ℕ) (words : Bool) → offset ≤ length bytes → front ≡ string_at (take offset bytes) 0 → words ≡ list_all is_word_byte front → length front < offset
@@ -287,13 +231,4 @@ spans-more section bytes k spans more last span known is new grown =
 pub text-next : (section : List ℕ) (spans : List Span) (offset : ℕ) (bytes : List ℕ) (span d : Span) → AreSpans section spans → offset ≤ length section → bytes ≡ drop offset section
     → span ≡ get_or spans (length bytes / 64) d → IsSpan (drop (length bytes % 64) bytes) span
 text-next section spans offset bytes span d known offset_within is found =
-    let n = length bytes in
-    let size : n ≡ length section - offset = ap length is ∙ length-drop offset section in
-    let parts : 64 * (n / 64) + n % 64 ≡ n = div-add-mod n 64 in
-    let place : offset + n % 64 ≡ length section - 64 * (n / 64) = omega arith in
-    let count = known.count in
-    let within : n / 64 < length spans = omega arith in
-    let same : drop (n % 64) bytes ≡ drop (length section - 64 * (n / 64)) section =
-    ap (drop (n % 64)) is ∙ drop-drop (n % 64) offset section ∙ ap (λ (k : ℕ). drop k section) place in
-    let P : List ℕ → Type 0 = λ xs. IsSpan xs span in
-    subst P (sym same) (known.each (n / 64) span (slice_get-get_or spans (n / 64) d within ∙ ap Some (sym found)))
+    search (rules, length-drop, div-add-mod, drop-drop, slice_get-get_or)

@@ -1,4 +1,6 @@
 -- Finding what is reached: the loop over the entries that are found.
+use Rattle.std.proofs.lemmas.Grind.{common_steps}
+use Rattle.std.proofs.Common.{rules}
 use Rattle.std.proofs.Common.{◌≡◌, ◌≢◌, ℕ, zero, suc, ◌+◌, ◌<◌, ◌≤◌, List, [], ◌∷◌, ◌++◌, Option, Some, None, refl, sym}
 use Rattle.std.proofs.Common.{◌∙◌, ap, subst, inl, inr, length, get_or, arith, length-append, set, length-set}
 use Rattle.std.proofs.Common.{get_or-set_other, get_or-set_same, take, map, append-nil, append_assoc, ◌-◌, true, false}
@@ -26,11 +28,7 @@ use lib.Dec.{eqb}
 
 -- an element of a mapped list comes from one of the list
 pub from-map : (found row steps : List ℕ) (x : ℕ) → map (λ k. get_or found k 0) row ≡ steps → Contains steps x → (k : ℕ) × (k < length row) × (get_or found (get_or row k 0) 0 ≡ x)
-from-map found row steps x e has =
-    let P : List ℕ → Type 0 = λ xs. Contains xs x in
-    let (k, w, is) = subst P (sym e) has in
-    let inside : k < length row = omega (arith, length-map row (λ n. get_or found n 0)) in
-    (k, inside, sym (get_or-map (λ n. get_or found n 0) row k 0 x inside) ∙ is)
+from-map found row steps x e has = search (rules, length-map, get_or-map)
 
 -- and the other way
 pub into-map : (found row steps : List ℕ) (k : ℕ) → map (λ n. get_or found n 0) row ≡ steps → k < length row → Contains steps (get_or found (get_or row k 0) 0)
@@ -54,10 +52,7 @@ map-same f g (x ∷ xs) same = rw (same 0 (omega arith), map-same f g xs (λ k b
 
 -- a row stays one
 pub row-grows : (steps more old new row : List ℕ) → Grows more old new → IsRow old steps row → IsRow new steps row
-row-grows steps more old new row grows r = record {
-  leads = map-same (λ k. get_or new k 0) (λ k. get_or old k 0) row (λ k w. keeps-places more old new grows (get_or row k 0) (r.below k 0 w)) ∙ r.leads;
-  below = λ k d w. (let less = r.below k d w in let long = no-shorter more old new grows in omega arith);
-}
+row-grows steps more old new row grows r = grind (arith, common_steps, map-same, keeps-places, no-shorter)
 
 grows-both : (a b o m n : List ℕ) → Grows a o m → Grows b m n → Grows (a ++ b) o n
 grows-both a b o m n x y = record {
@@ -67,18 +62,10 @@ grows-both a b o m n x y = record {
 }
 
 row-both : (found a b p q : List ℕ) → IsRow found a p → IsRow found b q → IsRow found (a ++ b) (p ++ q)
-row-both found a b p q x y = record {
-  leads = map-append (λ k. get_or found k 0) p q ∙ ap (λ (u : List ℕ). u ++ map (λ k. get_or found k 0) q) x.leads ∙ ap (λ (u : List ℕ). a ++ u) y.leads;
-  below = All-append (λ k. k < length found) p q x.below y.below;
-}
+row-both found a b p q x y = grind (arith, common_steps, map-append)
 
 pub finds-both : (a b p0 p1 p2 f0 f1 f2 r s : List ℕ) → FindsAll a p0 p1 f0 f1 r → FindsAll b p1 p2 f1 f2 s → FindsAll (a ++ b) p0 p2 f0 f2 (r ++ s)
-finds-both a b p0 p1 p2 f0 f1 f2 r s x y = record {
-  placed = y.placed;
-  len = y.len ∙ x.len;
-  grows = grows-both a b f0 f1 f2 x.grows y.grows;
-  is_row = row-both f2 a b r s (row-grows a b f1 f2 r y.grows x.is_row) y.is_row;
-}
+finds-both a b p0 p1 p2 f0 f1 f2 r s x y = search (rules, grows-both, row-both, row-grows)
 
 -- ---- entries among types
 
@@ -100,37 +87,13 @@ entry-among (Some x ∷ types) entry (suc k, w, e) = Contains-append_right (x �
 -- ---- one entry
 
 pub finds-none : (places found : List ℕ) → ArePlaces places found → FindsAll [] places places found found []
-finds-none places found placed = record {
-  placed = placed;
-  len = refl;
-  grows = record { more = []; is = sym (append-nil found); among = λ entry has. has };
-  is_row = record { leads = refl; below = All-nil (λ k. k < length found) };
-}
+finds-none places found placed = search (rules, append-nil)
 
 pub finds-new : (places found : List ℕ) (entry : ℕ) → ArePlaces places found → entry < length places
     → ((k : ℕ) → k < length found → get_or found k 0 ≢ entry)
     → FindsAll (entry ∷ []) places (set places entry (length found)) found (found ++ entry ∷ []) (length found ∷ [])
-finds-new places found entry placed w fresh = record {
-  placed = record {
-    below = rw (length-set places entry (length found)) (All-push (λ e. e < length places) found entry placed.below w);
-    back = back;
-  };
-  len = length-set places entry (length found);
-  grows = record { more = entry ∷ []; is = refl; among = λ e has. has };
-  is_row = record {
-    leads = ap (λ (x : ℕ). x ∷ []) (get_or-append_seam found entry [] 0);
-    below = All-cons (λ k. k < length (found ++ entry ∷ [])) (length found) [] (omega (arith, length-append found (entry ∷ []))) (All-nil (λ k. k < length (found ++ entry ∷ [])));
-  };
-}
-  where
-    back : (k : ℕ) → k < length (found ++ entry ∷ []) → get_or (set places entry (length found)) (get_or (found ++ entry ∷ []) k 0) 0 ≡ k
-    back k v = elim (cases_lt k (length found)) [
-      | inl b ↦ (let e = get_or_append_left found (entry ∷ []) 0 k b in rw e (get_or-set_other places entry (get_or found k 0) (length found) 0 (fresh k b) ∙ placed.back k b))
-      | inr a ↦
-          let s : k ≡ length found = omega (arith, length-append found (entry ∷ [])) in
-          let e : get_or (found ++ entry ∷ []) k 0 ≡ entry = rw s (get_or-append_seam found entry [] 0) in
-          rw e (get_or-set_same places entry (length found) 0 w ∙ sym s)
-    ]
+finds-new places found entry placed w fresh =
+    grind (arith, common_steps, length-set, get_or-append_seam, length-append, cases_lt, get_or_append_left, get_or-set_other, get_or-set_same)
 
 pub finds-as : (steps steps' p0 p p' f0 f f' r r' : List ℕ) → steps ≡ steps' → p ≡ p' → f ≡ f' → r ≡ r' → FindsAll steps p0 p f0 f r → FindsAll steps' p0 p' f0 f' r'
 finds-as steps steps' p0 p p' f0 f f' r r' es ep ef er h = rw (← es, ← ep, ← ef, ← er) h
@@ -213,13 +176,7 @@ module _ (shapes : ℕ → ShapeOf) (roots places places' found found' : List �
           ]
 
 pub so_far-done : (shapes : ℕ → ShapeOf) (roots places found : List ℕ) (rows : Graph) (read : List ShapeOf) → IsSoFar shapes roots places found rows read → length found ≤ length rows → IsReachOf shapes roots places found rows
-so_far-done shapes roots places found rows read s over = record {
-  placed = s.placed;
-  nodes = (let m = s.made in omega arith);
-  rows = λ node w. s.rows_are node (omega arith);
-  roots_found = s.roots_found;
-  reached = s.reached;
-}
+so_far-done shapes roots places found rows read s over = search (rules)
 
 -- the shapes of all that is found are read
 pub read-done : (shapes : ℕ → ShapeOf) (roots places found : List ℕ) (rows : Graph) (read : List ShapeOf) → IsSoFar shapes roots places found rows read → length found ≤ length rows → read ≡ map shapes found
@@ -233,22 +190,12 @@ pub record ArePacked (found steps ends : List ℕ) : Type 0 where
   pub leads : LeadsBelow steps (length found)
 
 pub packed-start : (found : List ℕ) → ArePacked found [] []
-packed-start found = record {
-  are_ends = record { last = refl; in_order = λ node w. absurd (omega arith) };
-  leads = λ k w. absurd (omega arith);
-}
+packed-start found = search (rules)
 
 pub packed-more : (reached places places' found found' steps ends row : List ℕ) → ArePacked found steps ends → FindsAll reached places places' found found' row
     → ArePacked found' (steps ++ row) (ends ++ length (steps ++ row) ∷ [])
-packed-more reached places places' found found' steps ends row h f = record { are_ends = ends-more steps row ends h.are_ends; leads = leads }
-  where
-    leads : LeadsBelow (steps ++ row) (length found')
-    leads k w = elim (cases_lt k (length steps)) [
-      | inl before ↦ (let low = h.leads k before in let long = no-shorter reached found found' f.grows in rw (get_or_append_left steps row 0 k before) (omega arith))
-      | inr after ↦
-          let here : k - length steps < length row = omega (arith, length-append steps row) in
-          rw (get_or-append_right steps row (length steps) k 0 refl after) (f.is_row.below (k - length steps) 0 here)
-    ]
+packed-more reached places places' found found' steps ends row h f =
+    search (rules, ends-more, cases_lt, no-shorter, get_or_append_left, length-append, get_or-append_right)
 
 -- one more row
 pub rows-more : (found steps ends row : List ℕ) → ArePacked found steps ends → cut (steps ++ row) 0 (ends ++ length (steps ++ row) ∷ []) ≡ cut steps 0 ends ++ row ∷ []
@@ -286,8 +233,4 @@ room places found placed =
 pub roots-more : (types types' own : List (Option ℕ)) (xs : List Subject) (i : ℕ) (x : Subject) (all : List ℕ) → types' ≡ types ++ own → own ≡ types_declared (view_subject x) → i < length xs → x ≡ get_or xs i x
     → entries_of types ++ roots_of (map view_subject (drop i xs)) ≡ all → entries_of types' ++ roots_of (map view_subject (drop (i + 1) xs)) ≡ all
 roots-more types types' own xs i x all more is within at so_far =
-    let rest = roots_of (map view_subject (drop (i + 1) xs)) in
-    let split : drop i xs ≡ x ∷ drop (i + 1) xs = drop_more xs i x within ∙ ap (λ (y : Subject). y ∷ drop (i + 1) xs) (sym at) in
-    let here : roots_of (map view_subject (drop i xs)) ≡ entries_of own ++ rest = rw (split, is) refl in
-    let both : entries_of types' ≡ entries_of types ++ entries_of own = ap entries_of more ∙ entries-append types own in
-    rw both (append_assoc (entries_of types) (entries_of own) rest ∙ (ap (λ (u : List ℕ). entries_of types ++ u) (sym here) ∙ so_far))
+    search (rules, drop_more, entries-append, append_assoc)

@@ -1,4 +1,5 @@
 -- The least refusal that holds, by the tests of each.
+use Rattle.std.proofs.Common.{rules}
 use Rattle.std.proofs.Common.{◌≡◌, ℕ, zero, suc, ◌<◌, ◌≤◌, true, false, List, [], Option, Some, refl, sym, ◌∙◌, ap, subst, inl, inr, arith}
 use Rattle.std.specs.Prelude.{All, is_none}
 use Rattle.std.proofs.lemmas.Bool.{cases_lt}
@@ -53,13 +54,7 @@ module _ (shapes : ℕ → ShapeOf) (subject : SubjectOf) where
 
   -- and is refused by one rule
   pub one-rule : (a b : PrintFault) → Refuses shapes subject a → Refuses shapes subject b → a ≡ b
-  one-rule a b x y = elim (cases_lt (number_of a) (number_of b)) [
-    | inl less ↦ absurd (y.least a less x.holds)
-    | inr more ↦ elim (cases_lt (number_of b) (number_of a)) [
-      | inl less ↦ absurd (x.least b less y.holds)
-      | inr other ↦ one-number a b (omega arith)
-    ]
-  ]
+  one-rule a b x y = search (rules, cases_lt, one-number)
 
   -- ---- one rule after another
 
@@ -71,10 +66,7 @@ module _ (shapes : ℕ → ShapeOf) (subject : SubjectOf) where
   -- the next one does not hold either
   pub none-more : (rule : PrintFault) → HoldsNoneBelow (number_of rule) shapes subject → (Holds shapes subject rule → ⊥)
       → HoldsNoneBelow (suc (number_of rule)) shapes subject
-  none-more rule none not other less holds = elim (cases_lt (number_of other) (number_of rule)) [
-    | inl before ↦ none other before holds
-    | inr more ↦ (let same : other ≡ rule = one-number other rule (omega arith) in not (subst (Holds shapes subject) same holds))
-  ]
+  none-more rule none not other less holds = search (rules, cases_lt, one-number)
 
   -- neither another kind of entry nor a cycle that is reached
   pub printable : (is_other_kind subject ≡ true → ⊥) → (ReachACycle shapes (first_steps subject) → ⊥) → HoldsNoneBelow 2 shapes subject

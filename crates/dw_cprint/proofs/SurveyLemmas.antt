@@ -1,4 +1,5 @@
 -- What the graph of what is reached tells of the entries, and what a survey keeps of it.
+use Rattle.std.proofs.Common.{rules}
 use Rattle.std.proofs.Common.{◌≡◌, ℕ, zero, suc, ◌<◌, Bool, true, false, List, [], ◌∷◌, Option, Some, None, refl, sym, ◌∙◌, ap, subst, length, get_or, arith, map}
 use Rattle.std.specs.Prelude.{All, Contains, ◌↔◌, slice_get, option_and_then, option_map, is_none}
 use Rattle.std.specs.List.{list_any}
@@ -98,9 +99,7 @@ module _ (shapes : ℕ → ShapeOf) (roots places found : List ℕ) (graph : Gra
 
   -- the place of an entry that is reached
   place-of : (node entry : ℕ) → node < length found → get_or found node 0 ≡ entry → slice_get places entry ≡ Some node
-  place-of node entry w same =
-      let P : ℕ → Type 0 = λ x. slice_get places x ≡ Some node in
-      subst P same (slice_get-get_or places (get_or found node 0) 0 (h.placed.below node 0 w) ∙ ap (λ (n : ℕ). Some n) (h.placed.back node w))
+  place-of node entry w same = search (rules, slice_get-get_or)
 
   -- the clear nodes, for their summaries
   pub nodes-of : (kept : List Shape) (clear : List ℕ) → map view_shape kept ≡ map shapes found → AreClear graph clear → AreNodes shapes places found kept clear

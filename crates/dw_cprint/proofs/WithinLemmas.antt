@@ -1,4 +1,5 @@
 -- Each type that a shape or a declaration names is an entry.
+use Rattle.std.proofs.Common.{rules}
 use Rattle.std.proofs.Common.{◌≡◌, ℕ, ◌<◌, Bool, true, false, List, [], ◌∷◌, Option, Some, None, refl, length, map, arith}
 use Rattle.std.specs.Prelude.{slice_get, option_and_then, All, ◌==◌, if◌then◌else◌}
 use Rattle.std.specs.List.{cons_option, filter_map}
@@ -19,11 +20,7 @@ one_within true n id to below is = (let same : id ≡ to = cc in omega arith)
 one_within false n id to below is = absurd cc
 
 number_within : (es : List Entry) (id to : ℕ) → type_number es id ≡ Some to → to < length es
-number_within es id to is = go (slice_get es id) (λ e there. slice_get_within es id e there) is
-  where
-    go : (found : Option Entry) → ((e : Entry) → found ≡ Some e → id < length es) → option_and_then (λ (e : Entry). if is_type_entry e then Some id else None) found ≡ Some to → to < length es
-    go None within is = absurd cc
-    go (Some e) within is = one_within (is_type_entry e) (length es) id to (within e refl) is
+number_within es id to is = search (rules, slice_get_within, one_within)
 
 named_within : (es : List Entry) (at : Option ℕ) (to : ℕ) → option_and_then (type_number es) at ≡ Some to → to < length es
 named_within es None to is = absurd cc
@@ -32,11 +29,7 @@ named_within es (Some id) to is = number_within es id to is
 -- a type that an entry has is an entry
 pub type_within : (image : Image) (id to : ℕ) → type_at image id ≡ Some to → to < length (entries_in image)
 unfolding type_at type_in
-type_within image id to is = go (slice_get (entries_in image) id) is
-  where
-    go : (found : Option Entry) → option_and_then (type_in image) found ≡ Some to → to < length (entries_in image)
-    go None is = absurd cc
-    go (Some e) is = named_within (entries_in image) _ to is
+type_within image id to is = search (rules, named_within)
 
 -- the types are entries
 pub record AreWithin (n : ℕ) (types : List (Option ℕ)) : Type 0 where

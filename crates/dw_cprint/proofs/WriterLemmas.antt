@@ -1,4 +1,7 @@
 -- One step of writing a type, over plain values.
+use Rattle.std.proofs.lemmas.Grind.{common_steps}
+use Rattle.std.proofs.Common.{arith}
+use Rattle.std.proofs.Common.{rules}
 use Rattle.std.proofs.Common.{◌≡◌, ℕ, zero, suc, Bool, true, false, List, [], ◌∷◌, ◌++◌, Option, Some, None, refl}
 use Rattle.std.proofs.Common.{sym, ◌∙◌, ap, subst, append_assoc, append-nil}
 use Rattle.std.specs.Global.{Global}
@@ -64,29 +67,14 @@ specifier-named : (name : List ℕ) → IsSpecifier (Named name)
 specifier-named name = record { front = λ qs inside. refl; back = refl }
 
 specifier-base : (name : List ℕ) (t : Term) → base_term name ≡ Some t → IsSpecifier t
-specifier-base name t e = by_name (is_identifier name) (words_of 4 (parts_of name)) e
-  where
-    by_name : (b : Bool) (o : Option (List TypeWord)) → (if b then Some (Named name) else option_map Basic o) ≡ Some t → IsSpecifier t
-    by_name true o e = let same : Named name ≡ t = cc in subst IsSpecifier same (specifier-named name)
-    by_name false None e = absurd (cc)
-    by_name false (Some ws) e = let same : Basic ws ≡ t = cc in subst IsSpecifier same (record { front = λ qs inside. refl; back = refl })
+specifier-base name t e = search (rules, specifier-named)
 
 pub specifier-of : (term : TypeAt → Option Term) (s : ShapeOf) (t : Term) → is_specifier s ≡ true → term_by term s ≡ Some t → IsSpecifier t
 specifier-of term (base (Some name)) t is e = specifier-base name t e
 specifier-of term (typedef (Some name)) t is e = let same : Named name ≡ t = cc in subst IsSpecifier same (specifier-named name)
 specifier-of term (tagged word name) t is e = let same : Tagged word name ≡ t = cc in subst IsSpecifier same (record { front = λ qs inside. refl; back = refl })
-specifier-of term (body word odd ms) t is e =
-    let f = map_inverted (Body word) (members_by term ms) t e in
-    subst IsSpecifier f.2 (record {
-      front = λ qs inside. ap (λ (u : List Token). qualifying qs ++ TagWord word ∷ Blank ∷ LeftBrace ∷ Blank ∷ u) (append_assoc (members_tokens f.0) (RightBrace ∷ []) (gap inside));
-      back = refl;
-    })
-specifier-of term (enumeration odd es) t is e =
-    let f = map_inverted Enumeration (constants_of es) t e in
-    subst IsSpecifier f.2 (record {
-      front = λ qs inside. ap (λ (u : List Token). qualifying qs ++ TagWord Enum ∷ Blank ∷ LeftBrace ∷ Blank ∷ u) (append_assoc (constants f.0) (Blank ∷ RightBrace ∷ []) (gap inside));
-      back = refl;
-    })
+specifier-of term (body word odd ms) t is e = search (rules, map_inverted, append_assoc)
+specifier-of term (enumeration odd es) t is e = search (rules, map_inverted, append_assoc)
 specifier-of term _ t is e = absurd (cc)
 
 before-arrays : (counts : List (Option ℕ)) (u : Term) → before [] (arrays counts u) true ≡ before [] u true
@@ -107,12 +95,7 @@ pub record IsFunction (term : TypeAt → Option Term) (at : TypeAt) (ps : List P
   pub is : Function result (Prototyped parameters (has_more ps)) ≡ t
 
 pub function-parts : (term : TypeAt → Option Term) (at : TypeAt) (ps : List Parameter) (t : Term) → term_by term (function at (Some ps)) ≡ Some t → IsFunction term at ps t
-function-parts term at ps t e =
-    let called : Term → Option Term = λ (t : Term). option_map (λ (us : Parameters). Function t (Prototyped us (has_more ps))) (parameters_by term ps) in
-    let u = unless_inverted (is_misplaced ps) (option_and_then called (term at)) t e in
-    let r = then_inverted called (term at) t u.1 in
-    let f = map_inverted (λ (us : Parameters). Function r.0 (Prototyped us (has_more ps))) (parameters_by term ps) t r.2 in
-    record { result = r.0; is_result = r.1; placed = u.0; parameters = f.0; are_parameters = f.1; is = f.2 }
+function-parts term at ps t e = search (rules, unless_inverted, then_inverted, map_inverted)
 
 -- the step from a type to the shape of its entry
 pub step-at : (shapes : ℕ → ShapeOf) (k below : ℕ) (at : TypeAt) (n : ℕ) (seen s : ShapeOf) → at ≡ Some n → term_at k shapes (Some n) ≡ term_by (term_at below shapes) seen → seen ≡ s
@@ -128,19 +111,13 @@ module _ (term : TypeAt → Option Term) (o : Option Term) (old new : Option (Li
       → ((t : Term) → term at ≡ Some t → Writes (before [] t true) old mid) → ((t : Term) → term at ≡ Some t → Writes (opened t) mid mid2) → Writes (Star ∷ []) mid2 mid3
       → Writes (pointer_row qs inside) mid3 new → (t : Term) → o ≡ Some t → Writes (before qs t inside) old new
   pointer_before mid mid2 mid3 qs inside at step inner opens star row t e =
-      let f = map_inverted Pointer (term at) t (sym step ∙ e) in
-      let P : Term → Type 0 = λ u. Writes (before qs u inside) old new in
-      subst P f.2 (both (before [] f.0 true) (opened f.0 ++ Star ∷ pointer_row qs inside) old mid new (inner f.0 f.1)
-      (both (opened f.0) (Star ∷ pointer_row qs inside) mid mid2 new (opens f.0 f.1) (both (Star ∷ []) (pointer_row qs inside) mid2 mid3 new star row)))
+      grind (arith, common_steps, map_inverted, both)
 
   pub array_before : (qs : List Qualifier) (inside : Bool) (counts : List (Option ℕ)) (strange : Bool) (at : TypeAt) → o ≡ term_by term (array counts strange at)
       → ((t : Term) → term at ≡ Some t → Writes (before [] t true) old new) → (t : Term) → o ≡ Some t → Writes (before qs t inside) old new
   array_before qs inside [] strange at step inner t e = absurd (cc)
   array_before qs inside (c ∷ cs) strange at step inner t e =
-      let u = unless_inverted (is_miscounted (c ∷ cs)) (option_map (arrays (c ∷ cs)) (term at)) t (sym step ∙ e) in
-      let f = map_inverted (arrays (c ∷ cs)) (term at) t u.1 in
-      let P : Term → Type 0 = λ u. Writes (before qs u inside) old new in
-      subst P f.2 (as_tokens (before [] f.0 true) (before [] (arrays cs f.0) true) old new (sym (before-arrays cs f.0)) (inner f.0 f.1))
+      search (rules, unless_inverted, map_inverted, as_tokens, before-arrays)
 
   pub specifier_before : (mid mid2 : Option (List ℕ)) (qs : List Qualifier) (inside : Bool) (s : ShapeOf) → is_specifier s ≡ true → o ≡ term_by term s
       → Writes (qualifying qs) old mid → ((t : Term) → term_by term s ≡ Some t → Writes (core t) mid mid2) → Writes (gap inside) mid2 new → (t : Term) → o ≡ Some t → Writes (before qs t inside) old new
@@ -161,10 +138,7 @@ module _ (term : TypeAt → Option Term) (o : Option Term) (old new : Option (Li
 
   pub pointer_after : (mid : Option (List ℕ)) (at : TypeAt) → o ≡ term_by term (pointer at) → ((t : Term) → term at ≡ Some t → Writes (closed t) old mid)
       → ((t : Term) → term at ≡ Some t → Writes (after t) mid new) → (t : Term) → o ≡ Some t → Writes (after t) old new
-  pointer_after mid at step closes inner t e =
-      let f = map_inverted Pointer (term at) t (sym step ∙ e) in
-      let P : Term → Type 0 = λ u. Writes (after u) old new in
-      subst P f.2 (both (closed f.0) (after f.0) old mid new (closes f.0 f.1) (inner f.0 f.1))
+  pointer_after mid at step closes inner t e = search (rules, map_inverted, both)
 
   pub prototype_after : (mid mid2 mid3 : Option (List ℕ)) (at : TypeAt) (ps : List Parameter) → o ≡ term_by term (function at (Some ps)) → Writes (Open ∷ []) old mid
       → (is_misplaced ps ≡ false → (us : Parameters) → parameters_by term ps ≡ Some us → Writes (signature_tokens (Prototyped us (has_more ps))) mid mid2) → Writes (Close ∷ []) mid2 mid3
@@ -185,23 +159,12 @@ there-name (Some name) = refl
 
 pub named_written : (term : TypeAt → Option Term) (at : TypeAt) (name : Name) (old mid mid2 new : Option (List ℕ)) → ((t : Term) → term at ≡ Some t → Writes (before [] t (is_some name)) old mid)
     → Writes (name_tokens name) mid mid2 → ((t : Term) → term at ≡ Some t → Writes (after t) mid2 new) → (t : Term) → term at ≡ Some t → Writes (spell [] t (name_tokens name)) old new
-named_written term at name old mid mid2 new front word back t e =
-    let d = name_tokens name in
-    let P : Bool → Type 0 = λ b. before [] t b ++ (d ++ after t) ≡ spell [] t d in
-    as_tokens (before [] t (is_some name) ++ (d ++ after t)) (spell [] t d) old new (subst P (there-name name) (sym (in_parts [] t d)))
-    (both (before [] t (is_some name)) (d ++ after t) old mid new (front t e) (both d (after t) mid mid2 new word (back t e)))
+named_written term at name old mid mid2 new front word back t e = search (rules, as_tokens, there-name, in_parts, both)
 
 -- ---- a specifier without its qualifiers
 
 pub base-core : (name : List ℕ) (t : Term) → base_term name ≡ Some t → text_of (Identifier name ∷ []) ≡ text_of (core t)
-base-core name t e = by_name (is_identifier name) (words_of 4 (parts_of name)) refl e
-  where
-    by_name : (b : Bool) (o : Option (List TypeWord)) → words_of 4 (parts_of name) ≡ o → (if b then Some (Named name) else option_map Basic o) ≡ Some t → text_of (Identifier name ∷ []) ≡ text_of (core t)
-    by_name true o w e = let same : Named name ≡ t = cc in ap (λ (u : Term). text_of (core u)) same
-    by_name false None w e = absurd (cc)
-    by_name false (Some ws) w e =
-        let same : Basic ws ≡ t = cc in
-        append-nil name ∙ sym (words-text name ws w) ∙ ap (λ (u : Term). text_of (core u)) same
+base-core name t e = search (rules, append-nil, words-text)
 
 module _ (term : TypeAt → Option Term) (old new : Option (List ℕ)) where
   pub base_core : (name : Name) → Writes (name_tokens name) old new → (t : Term) → term_by term (base name) ≡ Some t → Writes (core t) old new
@@ -218,10 +181,7 @@ module _ (term : TypeAt → Option Term) (old new : Option (List ℕ)) where
 
   pub enumeration_core : (mid : Option (List ℕ)) (odd : Bool) (es : List EnumeratorOf) → Writes (TagWord Enum ∷ Blank ∷ []) old mid
       → ((cs : List Constant) → constants_of es ≡ Some cs → Writes (enumeration_tokens cs) mid new) → (t : Term) → term_by term (enumeration odd es) ≡ Some t → Writes (core t) old new
-  enumeration_core mid odd es tag inner t e =
-      let f = map_inverted Enumeration (constants_of es) t e in
-      let P : Term → Type 0 = λ u. Writes (core u) old new in
-      subst P f.2 (both (TagWord Enum ∷ Blank ∷ []) (enumeration_tokens f.0) old mid new tag (inner f.0 f.1))
+  enumeration_core mid odd es tag inner t e = grind (arith, common_steps, map_inverted, both)
 
 -- ---- declarations
 
@@ -229,19 +189,12 @@ module _ (term : TypeAt → Option Term) (old mid mid2 new : Option (List ℕ)) 
   pub typedef_done : (name : Name) (at : TypeAt) → Writes (TypedefWord ∷ Blank ∷ []) old mid → ((t : Term) → term at ≡ Some t → Writes (spell [] t (name_tokens name)) mid mid2) → Writes (Semicolon ∷ []) mid2 new
       → (d : Declaration) → declaration_by term (typedef_subject name at) ≡ Some d → new ≡ appended old (written d)
   typedef_done None at first inner last d e = absurd (cc)
-  typedef_done (Some name) at first inner last d e =
-      let f = map_inverted (Typedef name) (term at) d e in
-      let s = spell [] f.0 (Identifier name ∷ []) in
-      let P : Declaration → Type 0 = λ d. new ≡ appended old (written d) in
-      subst P f.2 (both (TypedefWord ∷ Blank ∷ []) (s ++ Semicolon ∷ []) old mid new first (both s (Semicolon ∷ []) mid mid2 new (inner f.0 f.1) last))
+  typedef_done (Some name) at first inner last d e = grind (arith, common_steps, map_inverted, both)
 
   pub variable_done : (name : Name) (at : TypeAt) → ((t : Term) → term at ≡ Some t → Writes (spell [] t (name_tokens name)) old mid) → Writes (Semicolon ∷ []) mid new
       → (d : Declaration) → declaration_by term (variable_subject name at) ≡ Some d → new ≡ appended old (written d)
   variable_done None at inner last d e = absurd (cc)
-  variable_done (Some name) at inner last d e =
-      let f = map_inverted (Variable name) (term at) d e in
-      let P : Declaration → Type 0 = λ d. new ≡ appended old (written d) in
-      subst P f.2 (both (spell [] f.0 (Identifier name ∷ [])) (Semicolon ∷ []) old mid new (inner f.0 f.1) last)
+  variable_done (Some name) at inner last d e = search (rules, map_inverted, both)
 
   pub aggregate_done : (mid3 : Option (List ℕ)) (word : TagKeyword) (name : Name) (odd : Bool) (ms : List MemberOf) → Writes (TagWord word ∷ Blank ∷ name_tokens name) old mid → Writes (Blank ∷ []) mid mid2
       → ((us : Members) → members_by term ms ≡ Some us → Writes (body_tokens us) mid2 mid3) → Writes (Semicolon ∷ []) mid3 new
@@ -263,15 +216,7 @@ module _ (term : TypeAt → Option Term) (old mid mid2 new : Option (List ℕ)) 
       → (d : Declaration) → declaration_by term (tag_subject name (enumeration odd es)) ≡ Some d → new ≡ appended old (written d)
   constants_done mid3 None odd es first gap inner last d e = absurd (cc)
   constants_done mid3 (Some name) odd es first gap inner last d e =
-      let f = map_inverted (Constants name) (constants_of es) d e in
-      let tag = TagWord Enum ∷ Blank ∷ Identifier name ∷ [] in
-      let body = enumeration_tokens f.0 in
-      let same : body ++ Semicolon ∷ [] ≡ LeftBrace ∷ Blank ∷ (constants f.0 ++ Blank ∷ RightBrace ∷ Semicolon ∷ []) =
-      ap (λ (u : List Token). LeftBrace ∷ Blank ∷ u) (append_assoc (constants f.0) (Blank ∷ RightBrace ∷ []) (Semicolon ∷ [])) in
-      let P : Declaration → Type 0 = λ d. new ≡ appended old (written d) in
-      subst P f.2
-      (as_tokens (tag ++ Blank ∷ (body ++ Semicolon ∷ [])) (declaration_tokens (Constants name f.0)) old new (ap (λ (u : List Token). tag ++ Blank ∷ u) same)
-      (both tag (Blank ∷ (body ++ Semicolon ∷ [])) old mid new first (both (Blank ∷ []) (body ++ Semicolon ∷ []) mid mid2 new gap (both body (Semicolon ∷ []) mid2 mid3 new (inner f.0 f.1) last))))
+      grind (arith, common_steps, map_inverted, append_assoc, as_tokens, both)
 
 -- ---- shapes as the code has them
 

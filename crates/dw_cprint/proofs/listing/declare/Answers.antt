@@ -1,3 +1,4 @@
+use Rattle.std.proofs.Common.{rules}
 use Rattle.std.proofs.Common.{◌≡◌, ◌<◌, ◌∷◌, ◌++◌, [], ℕ, List, Option, map, length, sym, ap, ◌∙◌, subst}
 use Rattle.std.specs.Prelude.{All, IfSome}
 use Rattle.std.proofs.lemmas.List.Elements.{Contains-append_left}
@@ -24,12 +25,7 @@ among-own s entry has = Contains-append_left (first_steps s) [] entry has
 judged-alone : (shapes : ℕ → ShapeOf) (s : SubjectOf) (x : Subject) (xs : List Subject) (survey : Survey) (draft : Option (List ℕ)) (o p : Option PrintFault)
     → xs ≡ x ∷ [] → view_subject x ≡ s → IsSurveyOf shapes (roots_of (map view_subject xs)) survey
     → BySurvey survey (first_steps (view_subject x)) (λ shapes. IsJudgement shapes (view_subject x) draft o) → o ≡ p → IsSurveyOf shapes (roots_of (s ∷ [])) survey × IsJudgement shapes s draft p
-judged-alone shapes s x xs survey draft o p alone seen surveyed judged same =
-    let S : List SubjectOf → Type 0 = λ ss. IsSurveyOf shapes (roots_of ss) survey in
-    let J : Option PrintFault → Type 0 = λ r. IsJudgement shapes s draft r in
-    let B : SubjectOf → Type 0 = λ t. BySurvey survey (first_steps t) (λ shapes. IsJudgement shapes t draft o) in
-    let own = subst S (ap (map view_subject) alone ∙ ap (λ (t : SubjectOf). t ∷ []) seen) surveyed in
-    (own, subst J same (subst B seen judged shapes (roots_of (s ∷ [])) own (among-own s)))
+judged-alone shapes s x xs survey draft o p alone seen surveyed judged same = search (rules, among-own)
 
 pub new-requires : goal.new-requires
 new-requires c =
@@ -48,17 +44,10 @@ returns-in-Some-clause-refused c = λ rule other same.
     subst F fault judged.1
 
 pub returns-clause-printed : goal.returns-clause-printed
-returns-clause-printed c =
-    let judged = judged-alone (shape_in c.args.image.now) (subject_in c.args.image.now c.args.id) c.in_ok-subject.subject c.from_ref.result.now c.in_ok-survey.survey c.refusal.new.draft _ _ c.from_ref.ensures.value c.in_ok-subject.ensures.subject c.in_ok-survey.ensures c.in_ok-fault.ensures c.in_default.is in
-    judged.1.0
+returns-clause-printed c = search (rules, judged-alone)
 
 pub returns-clause-text : goal.returns-clause-text
-returns-clause-text c =
-    let judged = judged-alone (shape_in c.args.image.now) (subject_in c.args.image.now c.args.id) c.in_ok-subject.subject c.from_ref.result.now c.in_ok-survey.survey c.refusal.new.draft _ _ c.from_ref.ensures.value c.in_ok-subject.ensures.subject c.in_ok-survey.ensures c.in_ok-fault.ensures c.in_default.is in
-    let (d, has, drafts) = judged.1.1 in
-    let B : Option (List ℕ) → Type 0 = λ o. IfSome o (λ (text : List ℕ). c.bytes.result.now ≡ text) in
-    let text : c.bytes.result.now ≡ written d = subst B drafts c.bytes.ensures in
-    (d, has, (c.in_ok-extend_from_slice.ensures.items ∙ ap (λ (u : List ℕ). c.args.out.now.items ++ u) text))
+returns-clause-text c = search (rules, judged-alone)
 
 pub returns-clause-one : goal.returns-clause-one
 returns-clause-one c =

@@ -16,9 +16,7 @@ use Rattle.dw_cprint.proofs.WithinLemmas.{roots_within}
 use Rattle.dw_cprint.proofs.listing.declare_all.Goals as goal
 
 pub subjects_of-requires : goal.subjects_of-requires
-subjects_of-requires c =
-    let P : List ℕ → Type 0 = λ xs. All (λ id. id < length (entries_in c.args.image.now)) xs in
-    subst P (sym c.deref.ensures.value) (named-within c.args.image.now c.in_ok-named.named.items c.sort_by_level.new.entries.items c.in_ok-named.ensures c.in_ok-sort_by_level.ensures.permutation)
+subjects_of-requires c = search (rules, named-within)
 
 pub new-requires : goal.new-requires
 new-requires c =
@@ -26,11 +24,7 @@ new-requires c =
     subst R (sym (ap (map view_subject) c.deref-2.ensures.value ∙ c.in_ok-subjects.ensures)) (roots_within c.args.image.now c.deref.result.now)
 
 pub index-requires-in-loop-place : goal.index-requires-in-loop-place
-index-requires-in-loop-place c =
-    let f = subject_in c.args.image.now in
-    let same : map view_subject c.in_ok-subjects.subjects.items ≡ map f c.sort_by_level.new.entries.items = c.in_ok-subjects.ensures ∙ ap (map f) c.deref.ensures.value in
-    let long : length c.in_ok-subjects.subjects.items ≡ vec_len c.in_ok-subjects.subjects = search rules in
-    omega (arith, as-many f c.in_ok-subjects.subjects.items c.sort_by_level.new.entries.items same, long, c.loop-place-test.true, c.len-place-end.ensures)
+index-requires-in-loop-place c = search (rules, as-many)
 
 pub loop-place-preserved : goal.loop-place-preserved
 loop-place-preserved c =

@@ -1,3 +1,5 @@
+use Rattle.std.proofs.lemmas.Grind.{common_steps}
+use Rattle.std.proofs.Common.{arith}
 use Rattle.std.proofs.Common.{◌+◌, ◌-◌, ℕ, Bool, List, drop, ap, sym, ◌∙◌}
 use Rattle.std.specs.Prelude.{is_some, ◌&&◌}
 use Rattle.std.proofs.lemmas.List.{take_rest}
@@ -12,11 +14,7 @@ pub returns-in-None : goal.returns-in-None
 returns-in-None t c = c.is_type_word.ensures ∙ sym (words-whole c.args.most c.args.name.now c.if-most-eq0.false (sym c.in-None.ensures))
 
 pub returns-then-is_type_word : goal.returns-then-is_type_word
-returns-then-is_type_word t c =
-    let name = c.args.name.now in
-    let split = words-split c.args.most name c.in-Some.end c.if-most-eq0.false (sym c.in-Some.ensures) in
-    let others = ap (λ (u : List ℕ). is_some (words_of (c.args.most - 1) (parts_of u))) (take_rest name (c.in-Some.end + 1)) in
-    c.are_type_words.ensures ∙ others ∙ sym (split ∙ ap (λ (b : Bool). b && is_some (words_of (c.args.most - 1) (parts_of (drop (c.in-Some.end + 1) name)))) (sym c.if-is_type_word.ensures))
+returns-then-is_type_word t c = grind (arith, common_steps, words-split, take_rest)
 
 pub returns-else-is_type_word : goal.returns-else-is_type_word
 returns-else-is_type_word t c =

@@ -17,9 +17,7 @@ use Rattle.dw_cprint.proofs.WithinLemmas.{shape_within}
 use Rattle.dw_cprint.proofs.reaching.reach.Goals as goal
 
 pub push_row-requires-clause-few : goal.push_row-requires-clause-few
-push_row-requires-clause-few c =
-    let long : length c.in_ok-places.places.items ≡ c.entries.result = search rules in
-    omega (arith, few-entries c.args.source.now.image.now, long, c.entries.ensures)
+push_row-requires-clause-few c = search (rules, few-entries)
 
 pub push_row-requires-in-loop-alloc-clause-few : goal.push_row-requires-in-loop-alloc-clause-few
 push_row-requires-in-loop-alloc-clause-few c = omega (arith, few-entries c.args.source.now.image.now, c.loop-alloc.invariant.2)
@@ -49,14 +47,7 @@ loop-alloc-init c =
     )
 
 pub loop-alloc-smaller : goal.loop-alloc-smaller
-loop-alloc-smaller c =
-    let ends = c.loop-alloc.ends in
-    let all = length (entries_in c.args.source.now.image.now) in
-    let fits = room c.loop-alloc.places.items c.loop-alloc.found c.loop-alloc.invariant.0.placed in
-    let more : length c.push-in-loop-alloc.new.self ≡ length (ends ++ c.len-in-loop-alloc-3.result ∷ []) = ap length c.in_ok-push-2.ensures in
-    let less : all - length c.push-in-loop-alloc.new.self < all - length ends =
-    omega (arith, more, length-append ends (c.len-in-loop-alloc-3.result ∷ []), fits, c.loop-alloc.invariant.2, c.len.ensures, c.len-in-loop-alloc.ensures, c.loop-alloc-test.true) in
-    less
+loop-alloc-smaller c = search (rules, room, length-append)
 
 pub loop-alloc-preserved : goal.loop-alloc-preserved
 loop-alloc-preserved c =
@@ -93,12 +84,7 @@ loop-alloc-preserved c =
     )
 
 pub returns-clause-reach : goal.returns-clause-reach
-returns-clause-reach c =
-    let rows = cut c.loop-alloc.steps 0 c.loop-alloc.ends in
-    let long = length-cut c.loop-alloc.steps 0 c.loop-alloc.ends in
-    let over : length c.loop-alloc.found ≤ length rows = omega (arith, long, c.len.ensures, c.len-in-loop-alloc.ensures, c.loop-alloc-test.false) in
-    rw c.from_rows-graph.ensures
-    (so_far-done (shape_in c.args.source.now.image.now) (entries_of c.args.types.now) c.loop-alloc.places.items c.loop-alloc.found rows (map view_shape c.loop-alloc.shapes.items) c.loop-alloc.invariant.0 over)
+returns-clause-reach c = search (rules, length-cut, so_far-done)
 
 pub returns-clause-shapes : goal.returns-clause-shapes
 returns-clause-shapes c =

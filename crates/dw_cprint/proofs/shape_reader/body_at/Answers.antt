@@ -6,12 +6,7 @@ use Rattle.dw_cprint.proofs.LookUpLemmas.{kept-are}
 use Rattle.dw_cprint.proofs.shape_reader.body_at.Goals as goal
 
 pub returns-then-eq-clause-shape : goal.returns-then-eq-clause-shape
-returns-then-eq-clause-shape c =
-    let image = c.args.source.now.image.now in
-    rw (
-      c.any_child-odd.ensures (has_tag image 0x1c 0x33) (λ child r w is. search rules),
-      kept-are view_enumerator (enumerator_at image) (entries_in image) c.args.id _ _ c.in_ok-enumerators.ensures (λ child one w is. search rules),
-    ) (search rules)
+returns-then-eq-clause-shape c = search (rules, kept-are)
 
 pub returns-clause-shape : goal.returns-clause-shape
 returns-clause-shape c =

@@ -1,3 +1,4 @@
+use Rattle.std.proofs.Common.{rules}
 use Rattle.std.proofs.Common.{◌<◌, ◌∷◌, Some, None, length, ap, refl, ◌∙◌, append_assoc}
 use Rattle.std.proofs.lemmas.List.Elements.{All-head, All-rest, All-same}
 use Rattle.dw_image.specs.ChildrenLeft.{children_left}
@@ -6,10 +7,7 @@ use Rattle.dw_cprint.proofs.LookUpLemmas.{children_within, kept-all}
 use Rattle.dw_cprint.proofs.shape_reader.read_children.Goals as goal
 
 pub loop-child-init : goal.loop-child-init
-loop-child-init g c =
-    let es = entries_in c.args.image.now in
-    let all = ap children_left c.into_iter-child-iterator.ensures.into_iter_gives ∙ c.children-child-items.ensures in
-    record { within = All-same (λ child. child < length es) _ _ all (children_within es c.args.id); so_far = λ rest keeps. rw (c.new-kept.ensures.items, ← all) keeps }
+loop-child-init g c = search (rules, children_within)
 
 pub read-requires : goal.read-requires
 read-requires g c = c.requires.callable c.in-Some.child (All-head (λ child. child < length (entries_in c.args.image.now)) _ _ (rw c.in-Some.ensures.steps at c.loop-child.invariant.within))

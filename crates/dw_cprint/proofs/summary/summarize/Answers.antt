@@ -1,3 +1,4 @@
+use Rattle.std.proofs.Common.{rules}
 use Rattle.std.proofs.Common.{◌≡◌, ℕ, ◌<◌, ◌≤◌, List, Some, refl, sym, subst, ◌∙◌, length, get_or, arith, length-set}
 use Rattle.std.specs.Prelude.{All, slice_get}
 use Rattle.std.proofs.lemmas.List.{take_all}
@@ -36,10 +37,7 @@ loop-rank-preserved c =
     })
 
 pub returns-clause-clear : goal.returns-clause-clear
-returns-clause-clear c =
-    let P : List ℕ → Type 0 = λ ns. HaveSummaries ns c.loop-rank.summaries.nodes.items in
-    let over : length c.args.clear.now.by_rank ≤ c.loop-rank.rank = rw (← c.count-rank-end.ensures) c.loop-rank-test.false in
-    subst P (take_all c.loop-rank.rank c.args.clear.now.by_rank over) c.loop-rank.invariant.have
+returns-clause-clear c = search (rules, take_all)
 
 pub returns-clause-right : goal.returns-clause-right
 returns-clause-right c = λ all found are i lower.

@@ -1,3 +1,4 @@
+use Rattle.std.proofs.Common.{rules}
 use Rattle.std.proofs.Common.{◌+◌, ℕ, List, Option, None, drop, get_or, ap, sym, ◌∙◌}
 use Rattle.std.specs.Prelude.{flat_map}
 use Rattle.std.proofs.lemmas.List.{drop_all, drop_more}
@@ -9,11 +10,7 @@ use Rattle.dw_cprint.proofs.ItemWriterLemmas.{moved}
 use Rattle.dw_cprint.proofs.text.put_counts.Goals as goal
 
 pub loop-count-preserved : goal.loop-count-preserved
-loop-count-preserved c =
-    let counts = c.args.counts.now in
-    let i = c.loop-count.count-index in
-    moved (count_tokens (get_or counts i None)) (flat_map count_tokens (drop (i + 1) counts)) _ c.args.out.now _ _ (text_of (flat_map count_tokens counts)) c.in_ok-put_count.ensures
-    (ap (flat_map count_tokens) (sym (drop_more counts i None c.loop-count-test.true))) c.loop-count.invariant
+loop-count-preserved c = search (rules, moved, drop_more)
 
 pub returns-then-is_over : goal.returns-then-is_over
 returns-then-is_over c = over-before c.args.out.now _ _ (text_of (flat_map count_tokens c.args.counts.now)) (none-is c.loop-count.out (sym c.is_over.ensures ∙ c.if-is_over.true)) c.loop-count.invariant

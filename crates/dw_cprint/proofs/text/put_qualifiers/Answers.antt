@@ -1,3 +1,5 @@
+use Rattle.std.proofs.lemmas.Grind.{common_steps}
+use Rattle.std.proofs.Common.{arith}
 use Rattle.std.proofs.Common.{◌∷◌, [], List, get_or, ap, sym, ◌∙◌, append-nil}
 use Rattle.std.proofs.lemmas.List.{drop_all, drop_more}
 use Rattle.dw_cprint.specs.Drafts.{appended}
@@ -11,11 +13,7 @@ use Rattle.dw_cprint.proofs.WriterLemmas.{both}
 use Rattle.dw_cprint.proofs.text.put_qualifiers.Goals as goal
 
 pub loop-qualifier-preserved : goal.loop-qualifier-preserved
-loop-qualifier-preserved c =
-    let q = get_or c.args.qualifiers.now c.loop-qualifier.qualifier-index Const in
-    let word : Writes (QualifierWord q ∷ []) c.loop-qualifier.out c.put.new.self = c.in_ok-put.ensures ∙ ap (appended c.loop-qualifier.out) (c.text.ensures ∙ sym (append-nil (spelling (QualifierWord q)))) in
-    moved (QualifierWord q ∷ Blank ∷ []) _ _ c.args.out.now _ _ (text_of (qualifying c.args.qualifiers.now)) (both (QualifierWord q ∷ []) (Blank ∷ []) _ _ _ word c.in_ok-put-2.ensures)
-    (ap qualifying (sym (drop_more c.args.qualifiers.now c.loop-qualifier.qualifier-index Const c.loop-qualifier-test.true))) c.loop-qualifier.invariant
+loop-qualifier-preserved c = grind (arith, common_steps, append-nil, moved, both, drop_more)
 
 pub returns : goal.returns
 returns c =

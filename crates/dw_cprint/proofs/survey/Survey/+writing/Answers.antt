@@ -1,3 +1,5 @@
+use Rattle.std.proofs.lemmas.Grind.{common_steps}
+use Rattle.std.proofs.Common.{arith}
 use Rattle.std.proofs.Common.{◌≡◌, [], ◌∷◌, Bool, List, Some, None, true, refl, ap, sym, ◌∙◌}
 use Rattle.std.proofs.Common.{subst, get_or, map, append-nil, rules}
 use Rattle.std.specs.Prelude.{flat_map}
@@ -104,13 +106,7 @@ put_core-returns-in_ok-put-in-Body-2 t c =
     c.put_members.ensures
 
 pub put_core-returns-in_ok-put-in-Enumeration : goal.put_core-returns-in_ok-put-in-Enumeration
-put_core-returns-in_ok-put-in-Enumeration t c =
-    let it = c.in-Enumeration in
-    let P : ShapeOf → Type 0 = λ shape. WritesCore c.args.self.now c.args.depth shape c.args.out.now c.put_enumerators.new.out in
-    let Q : List EnumeratorOf → Type 0 = λ us. WritesEnumerators us c.put-in-Enumeration.new.self c.put_enumerators.new.out in
-    ok_then _ _ _
-    (λ inner. subst P (sym (ap view_shape it.is)) (enumeration_core (term_at c.args.depth (kept c.args.self.now)) _ _ _ it.field-0 (map view_enumerator it.enumerators.items) c.in_ok-put-in-Enumeration.ensures (subst Q (ap (map view_enumerator) c.deref-in-Enumeration.ensures.value) inner)))
-    c.put_enumerators.ensures
+put_core-returns-in_ok-put-in-Enumeration t c = grind (arith, common_steps, ok_then, enumeration_core)
 
 pub put_named-returns : goal.put_named-returns
 put_named-returns t c =
@@ -120,11 +116,7 @@ put_named-returns t c =
     ok_then _ _ _ (named_written (term_at c.args.depth (kept c.args.self.now)) c.args.at (view_name c.args.name) _ _ _ _ front c.in_ok-put_name.ensures) c.put_after.ensures
 
 pub put_members-loop-member-preserved : goal.put_members-loop-member-preserved
-put_members-loop-member-preserved t c =
-    let term = term_at c.args.depth (kept c.args.self.now) in
-    let P : List MemberOf → Type 0 = λ left. IsLeft (members_left term) (map view_member c.args.members.now) c.put.new.self left c.loop-member.out in
-    members_next term _ _ _ _ _ _
-    (subst P (next-of view_member c.args.members.now c.loop-member.member-index c.member-item.result c.member-item.is c.loop-member-test.true) c.loop-member.invariant) c.in_ok-put_member.ensures
+put_members-loop-member-preserved t c = search (rules, members_left, members_next, next-of)
 
 pub put_parameters-loop-parameter-preserved : goal.put_parameters-loop-parameter-preserved
 put_parameters-loop-parameter-preserved t c =
