@@ -9,7 +9,7 @@ use Rattle.std.specs.Ordering.{nat_cmp, is_lt}
 use Rattle.std.specs.List.{range_with_len, filter_map, cons_option}
 use Rattle.std.proofs.lemmas.Bool.{and_parts, cases_lt}
 use Rattle.std.proofs.lemmas.Bool.Decides.{nat_tests}
-use Rattle.std.proofs.lemmas.List.{get_or_default, drop_more, flat_map_more, length-map}
+use Rattle.std.proofs.lemmas.List.{get_or_default, drop_more, flat_map_more}
 use Rattle.std.proofs.lemmas.List.Elements.{All-contains, Contains-append_left, Contains-append_right, Contains-get_or}
 use Rattle.std.proofs.lemmas.List.Elements.{Contains-push, Contains-push_cases}
 use Rattle.std.proofs.lemmas.List.Elements.{filter_passes}
@@ -24,11 +24,8 @@ use Rattle.dw_cprint.specs.Judgements.{IsAdded, printed, refused}
 use Rattle.dw_cprint.specs.Listings.{IsNamedType, AreNamedTypes, AreLevels, StandsBefore, IsListing, declared_line}
 use Rattle.dw_cprint.specs.Listings.{is_named_type, named_number}
 use Rattle.dw_cprint.specs.Refusals.{PrintFault, Refuses, IsPrinted}
-use Rattle.dw_cprint.specs.Shapes.{SubjectOf, view_subject}
-use Rattle.dw_cprint.specs.Steps.{first_steps, roots_of}
 use Rattle.dw_cprint.specs.Surveys.{AreAmong}
 use Rattle.dw_cprint.specs.declared.listing.Listing.{Listing}
-use Rattle.dw_cprint.specs.declared.shape.Subject.{Subject}
 use Rattle.dw_cprint.proofs.RefusalLemmas.{one-rule, printed-or-refused}
 
 -- ---- sorting
@@ -99,21 +96,11 @@ by-offset rs sorted apart rises stable i j d less w =
 
 -- ---- judging
 
--- what is declared at an entry, as it is seen
-pub seen-at : (f : ℕ → SubjectOf) (xs : List Subject) (named : List ℕ) (i : ℕ) (x : Subject) → map view_subject xs ≡ map f named → i < length named → x ≡ get_or xs i x
-    → view_subject x ≡ f (get_or named i 0)
-seen-at f xs [] i x same w at = absurd (omega arith)
-seen-at f [] (n ∷ named) i x same w at = absurd (cc)
-seen-at f (y ∷ xs) (n ∷ named) zero x same w at = (let one : view_subject y ≡ f n = cc in ap view_subject at ∙ one)
-seen-at f (y ∷ xs) (n ∷ named) (suc i) x same w at = (let rest : map view_subject xs ≡ map f named = cc in seen-at f xs named i x rest (omega arith) at)
-
--- its first steps are among those of all
-pub steps-among : (xs : List Subject) (i : ℕ) (x : Subject) → i < length xs → x ≡ get_or xs i x → AreAmong (first_steps (view_subject x)) (roots_of (map view_subject xs))
-steps-among [] i x w e entry has = absurd (omega arith)
-steps-among (y ∷ xs) zero x w e entry has =
-    let P : Subject → Type 0 = λ z. Contains (first_steps (view_subject z)) entry in
-    Contains-append_left (first_steps (view_subject y)) (roots_of (map view_subject xs)) entry (subst P e has)
-steps-among (y ∷ xs) (suc i) x w e entry has = Contains-append_right (first_steps (view_subject y)) (roots_of (map view_subject xs)) entry (steps-among xs i x (omega arith) e entry has)
+-- the steps of one entry are among those of all
+pub steps-among : (f : ℕ → List ℕ) (ids : List ℕ) (i : ℕ) → i < length ids → AreAmong (f (get_or ids i 0)) (flat_map f ids)
+steps-among f [] i w entry has = absurd (omega arith)
+steps-among f (y ∷ ids) zero w entry has = Contains-append_left (f y) (flat_map f ids) entry has
+steps-among f (y ∷ ids) (suc i) w entry has = Contains-append_right (f y) (flat_map f ids) entry (steps-among f ids i (omega arith) entry has)
 
 stands-apart : (level : ℕ → ℕ) (a b : ℕ) → StandsBefore level a b → a ≢ b
 stands-apart level a b (inl less) same = (let e = ap level same in omega arith)
@@ -256,10 +243,6 @@ module _ (image : Image) (named sorted : List ℕ) (count : ℕ) (order : List �
 pub named-within : (image : Image) (named sorted : List ℕ) → AreNamedTypes image named → IsPermutation named sorted → All (λ id. id < length (entries_in image)) sorted
 named-within image named sorted names permuted k d w =
     ((names.all (get_or sorted k d)).0 (Contains-permutation sorted named (get_or sorted k d) (IsPermutation-sym named sorted permuted) (Contains-get_or sorted k d w))).0
-
--- there are as many declarations as named types
-pub as-many : (f : ℕ → SubjectOf) (xs : List Subject) (named : List ℕ) → map view_subject xs ≡ map f named → length xs ≡ length named
-as-many f xs named same = sym (length-map xs view_subject) ∙ (ap length same ∙ length-map named f)
 
 -- ---- the text
 

@@ -20,10 +20,9 @@ use Rattle.dw_types.specs.Graphs.{Graph, steps_of}
 use Rattle.dw_types.specs.Packing.{cut, LeadsBelow}
 use Rattle.dw_types.specs.PackingLaws.{cut-more}
 use Rattle.dw_types.proofs.PackingLemmas.{AreEnds, ends-more}
-use Rattle.dw_cprint.specs.Steps.{entries_of, roots_of, types_declared, steps_reached, IsReachedFrom, root, further}
+use Rattle.dw_cprint.specs.Steps.{entries_of, steps_reached, IsReachedFrom, root, further}
 use Rattle.dw_cprint.specs.Reach.{ArePlaces, Grows, IsRow, FindsAll, IsReachOf}
-use Rattle.dw_cprint.specs.Shapes.{ShapeOf, view_subject}
-use Rattle.dw_cprint.specs.declared.shape.Subject.{Subject}
+use Rattle.dw_cprint.specs.Shapes.{ShapeOf}
 use lib.Dec.{eqb}
 
 -- an element of a mapped list comes from one of the list
@@ -226,11 +225,3 @@ among_below q n (x ∷ xs) h has = elim (eqb_tells q x) [
 pub room : (places found : List ℕ) → ArePlaces places found → length found ≤ length places
 room places found placed =
     length-le_from_distinct_below found (length places) (distinct (λ x. get_or places x 0) 0 found (λ k w. (let e = placed.back k w in omega arith))) (λ q h. among_below q (length places) found (λ k w. placed.below k 0 w) h)
-
--- ROOTS
-
--- the types of one more declaration
-pub roots-more : (types types' own : List (Option ℕ)) (xs : List Subject) (i : ℕ) (x : Subject) (all : List ℕ) → types' ≡ types ++ own → own ≡ types_declared (view_subject x) → i < length xs → x ≡ get_or xs i x
-    → entries_of types ++ roots_of (map view_subject (drop i xs)) ≡ all → entries_of types' ++ roots_of (map view_subject (drop (i + 1) xs)) ≡ all
-roots-more types types' own xs i x all more is within at so_far =
-    search (rules, drop_more, entries-append, append_assoc)

@@ -20,7 +20,7 @@ use Rattle.dw_cprint.specs.Wrong.{is_foreign, is_wrong_row, kind_at, kind_in, ob
 use Rattle.dw_cprint.specs.Wrong.{wrong, void_object, row, IsOwnUnspeakable, void_variable, unspeakable}
 use Rattle.dw_cprint.specs.Wrong.{declared_enumeration}
 use Rattle.dw_cprint.specs.Kept.{kept}
-use Rattle.dw_cprint.specs.Regular.{AreRegular, IsRegularSubject}
+use Rattle.dw_cprint.specs.Regular.{AreRegular}
 use Rattle.dw_cprint.specs.Surveys.{AreAmong, IsSurveyOf}
 use Rattle.dw_cprint.specs.declared.survey.Survey.{Survey}
 use Rattle.dw_cprint.proofs.KindLemmas.{names-alike, own-names-alike, wrong-alike}
@@ -243,7 +243,3 @@ pub printed-one : (shapes : ℕ → ShapeOf) (subject : SubjectOf) → IsPrinted
 unfolding declaration_of
 printed-one shapes subject printed regular d another e legible text =
     one_text another d legible (subject_legible 65 shapes subject (λ rule below holds. printed rule (omega arith) holds) regular.own regular.reached d e) text
-
--- what was surveyed is regular
-pub survey-regular : (shapes : ℕ → ShapeOf) (roots : List ℕ) (s : Survey) (subject : SubjectOf) → IsSurveyOf shapes roots s → AreAmong (first_steps subject) roots → IsRegularSubject subject → AreRegular shapes subject
-survey-regular shapes roots s subject survey among own = record { own = own; reached = λ entry r. survey.regular entry (reached-wider among r) }

@@ -12,7 +12,6 @@ use Rattle.dw_types.specs.Graphs.{Graph, steps_of, step_at, IsStep}
 use Rattle.dw_types.specs.Cycles.{AreClear, Leads as NodeLeads, ReachesCycle as NodeReachesCycle}
 use Rattle.dw_cprint.specs.Kept.{kept}
 use Rattle.dw_cprint.specs.Reach.{IsReachOf}
-use Rattle.dw_cprint.specs.Regular.{IsRegular}
 use Rattle.dw_cprint.specs.Shapes.{ShapeOf, other, view_shape}
 use Rattle.dw_cprint.specs.Steps.{entries_of, steps_reached, IsReachedFrom, root, further, Leads, ReachesCycle, ReachACycle}
 use Rattle.dw_cprint.specs.Summaries.{Knows, AreNodes, AreRight}
@@ -144,18 +143,10 @@ module _ (shapes : ℕ → ShapeOf) (roots places found : List ℕ) (graph : Gra
           ap (λ (o : Option (Option Summary)). is_none (option_and_then (λ (x : Option Summary). x) o)) (at-node s.summaries.nodes.items node entry w e) ∙ flattened s.summaries.nodes.items node
 
       -- what a survey tells of these entries
-      pub survey-done : map view_shape s.shapes.items ≡ map shapes found → All (λ (shape : Shape). IsRegular (view_shape shape)) s.shapes.items → AreRight shapes found clear s.summaries → AreClear graph clear
+      pub survey-done : map view_shape s.shapes.items ≡ map shapes found → AreRight shapes found clear s.summaries → AreClear graph clear
           → IsSurveyOf shapes roots s
-      survey-done read fit right sorted = record { keeps = keeps-shapes read; regular = regular-of; clear = clear-of; known = known-of }
+      survey-done read right sorted = record { keeps = keeps-shapes read; clear = clear-of; known = known-of }
         where
-          regular-of : (entry : ℕ) → IsReachedFrom shapes roots entry → IsRegular (shapes entry)
-          regular-of entry r =
-              let (node, w, e) = found-all r in
-              let P : List ShapeOf → Type 0 = λ xs. All IsRegular xs in
-              let Q : ShapeOf → Type 0 = λ shape. IsRegular shape in
-              let all = subst P read (All-map IsRegular view_shape s.shapes.items fit) in
-              subst Q (get_or-map shapes found node 0 other w ∙ ap shapes e) (all node other (omega (arith, length-map found shapes)))
-
           clear-node : (node entry : ℕ) → node < length found → get_or found node 0 ≡ entry → lacks_summary s (Some entry) ≡ false → Contains clear node
           clear-node node entry w e has = (summarized node).1 (sym (summary-same node entry w e) ∙ has)
 

@@ -1,6 +1,6 @@
 -- Chapter: spelling steps from an entry that is reached, and from the one that is declared. The latter are not the
 -- steps of the same entry where it is reached.
-use Rattle.std.specs.Prelude.{◌≡◌, ℕ, zero, suc, List, [], ◌∷◌, Option, Some, None, Contains, map, flat_map}
+use Rattle.std.specs.Prelude.{◌≡◌, ℕ, zero, suc, List, [], ◌∷◌, Option, Some, None, Contains, map}
 use Rattle.dw_cprint.specs.Shapes.{Parameter, Typed, More, MemberOf}
 use Rattle.dw_cprint.specs.Shapes.{ShapeOf, qualified, pointer, array, function, body}
 use Rattle.dw_cprint.specs.Shapes.{SubjectOf, typedef_subject, variable_subject, tag_subject}
@@ -80,7 +80,3 @@ HasPathFrom shapes roots (suc k) = (next to : ℕ) × Contains roots next × Lea
 -- a path of so many steps begins at the declared entry
 abbrev pub HasPath : (ℕ → ShapeOf) → SubjectOf → ℕ → Type 0
 HasPath shapes subject count = HasPathFrom shapes (first_steps subject) count
-
--- the first steps of some declarations
-abbrev pub roots_of : List SubjectOf → List ℕ
-roots_of subjects = flat_map first_steps subjects

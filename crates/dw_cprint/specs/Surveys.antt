@@ -1,7 +1,6 @@
 -- State: what a survey of some declarations keeps of the entries that they reach.
 use Rattle.std.specs.Prelude.{◌≡◌, ◌↔◌, ℕ, Bool, true, false, List, Some, Contains, is_none}
 use Rattle.dw_cprint.specs.Kept.{kept}
-use Rattle.dw_cprint.specs.Regular.{IsRegular}
 use Rattle.dw_cprint.specs.Shapes.{ShapeOf, TypeAt}
 use Rattle.dw_cprint.specs.Steps.{IsReachedFrom, ReachesCycle}
 use Rattle.dw_cprint.specs.declared.survey.Survey.{Survey}
@@ -21,7 +20,6 @@ lacks_summary s at = is_none (summary_at VOID s.summaries.places.items s.summari
 -- the others
 pub record IsSurveyOf (shapes : ℕ → ShapeOf) (roots : List ℕ) (s : Survey) : Type 0 where
   pub keeps : (entry : ℕ) → IsReachedFrom shapes roots entry → kept s entry ≡ shapes entry
-  pub regular : (entry : ℕ) → IsReachedFrom shapes roots entry → IsRegular (shapes entry)
   pub clear : (entry : ℕ) → IsReachedFrom shapes roots entry
       → (lacks_summary s (Some entry) ≡ true) ↔ ReachesCycle shapes entry
   pub known : (entry : ℕ) → IsReachedFrom shapes roots entry → lacks_summary s (Some entry) ≡ false

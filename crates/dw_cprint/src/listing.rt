@@ -1,10 +1,10 @@
 //! The declaration of one entry, and the listing of all named types.
 
-ghost use Rattle.std.specs.Prelude.{◌≡◌, ◌≢◌, ◌<◌, ◌++◌, length, slice_index, map, flat_map, All, AllPairs};
+ghost use Rattle.std.specs.Prelude.{◌≡◌, ◌≢◌, ◌<◌, ◌++◌, length, slice_index, flat_map, All, AllPairs};
 ghost use Rattle.std.specs.Prelude.{IsPermutation, IfOk, OnOk, OnErr, Err};
 ghost use Rattle.dw_image.specs.Images.{entries_in};
 ghost use Rattle.dw_cprint.specs.EntryShapes.{shape_in, subject_in};
-ghost use Rattle.dw_cprint.specs.Judgements.{IsAdded};
+ghost use Rattle.dw_cprint.specs.Judgements.{IsAdded, IsJudgement};
 ghost use Rattle.dw_cprint.specs.Kept.{WritesDeclaration};
 ghost use Rattle.dw_cprint.specs.Listings.{AreLevels, AreNamedTypes, IsListing, StandsBefore, is_named_type};
 ghost use Rattle.dw_cprint.specs.Listings.{listing_text, named_number, refused_line, refused_line_in};
@@ -16,6 +16,7 @@ ghost use Rattle.dw_cprint.specs.declared.fault.PrintFault.{PrintFault as PrintF
 ghost use Rattle.dw_cprint.specs.declared.fault.PrintFault.TheVariants.{Memory};
 
 use crate::fault::PrintFault;
+use crate::reaching::{all_types, put_declared_types};
 use crate::shape::{Name, Shape, Subject};
 use crate::shape_reader::subject_of;
 use crate::source::{Source, Strings, flag_at, has_name, tag_at};
@@ -26,7 +27,6 @@ use dw_entries::constants::*;
 use dw_image::{EntryId, Image, NoMemory};
 use dw_types::{Numbers, clear_nodes, longest_at, longest_rows};
 use std::alloc::{AllocError, Global};
-use std::slice::from_ref;
 
 /// The most types on a path that is printed: 64 entries, and void after the last.
 const DEPTH: usize = 65;
@@ -90,6 +90,24 @@ impl<'a> Survey<'a> {
     }
 }
 
+/// Why the declaration of an entry is refused, if it is. Otherwise its text is written to the draft.
+fn refusal_of(
+    alloc: Global,
+    source: &Source<'_, '_>,
+    id: EntryId,
+    draft: &mut Draft,
+) -> Result<Option<PrintFault>, AllocError>
+    requires { id < length (entries_in source.now.image.now) }
+    ensures { IfOk result
+        (IsJudgement (shape_in source.now.image.now) (subject_in source.now.image.now id) draft.new) }
+{
+    let subject = subject_of(alloc, source, id)?;
+    let mut types = Vec::new(alloc);
+    put_declared_types(&mut types, &subject)?;
+    let survey = Survey::new(alloc, source, types)?;
+    survey.refusal(alloc, &subject, draft)
+}
+
 /// Appends the C declaration of an entry (DWARF 5, chapter 5): a typedef, a variable, a structure, a union or an
 /// enumeration. The text has at most 65,536 bytes and no line feed.
 ///
@@ -115,10 +133,8 @@ pub fn declare(
         image,
         strings: Strings::read(alloc, image)?,
     };
-    let subject = subject_of(alloc, &source, id)?;
-    let survey = Survey::new(alloc, &source, from_ref(&subject))?;
     let mut draft = Draft::new(alloc);
-    if let Some(fault) = survey.refusal(alloc, &subject, &mut draft)? {
+    if let Some(fault) = refusal_of(alloc, &source, id, &mut draft)? {
         return Err(fault);
     }
     out.extend_from_slice(draft.bytes())?;
@@ -192,23 +208,6 @@ fn named_types(alloc: Global, image: &Image<'_>) -> Result<Vec<EntryId>, AllocEr
         .collect(alloc)
 }
 
-/// What is declared at each of some entries.
-fn subjects_of<'a>(
-    alloc: Global,
-    source: &Source<'_, 'a>,
-    ids: &[EntryId],
-) -> Result<Vec<Subject<'a>>, AllocError>
-    requires { All (λ id. id < length (entries_in source.now.image.now)) ids.now }
-    ensures { IfOk result (λ subjects. map view_subject subjects.items
-        ≡ map (subject_in source.now.image.now) ids.now) }
-{
-    let mut subjects = Vec::with_capacity(alloc, ids.len())?;
-    for id in ids {
-        subjects.push(subject_of(alloc, source, *id)?)?;
-    }
-    Ok(subjects)
-}
-
 /// The level of each entry: how many steps by value the longest path from it has.
 fn levels_of(alloc: Global, image: &Image<'_>) -> Result<Numbers, AllocError>
     ensures { IfOk result (λ levels. AreLevels image.now (slice_index levels)) }
@@ -275,8 +274,8 @@ pub fn declare_all(alloc: Global, image: &Image<'_>) -> Result<Listing, NoMemory
         image,
         strings: Strings::read(alloc, image)?,
     };
-    let subjects = subjects_of(alloc, &source, &named)?;
-    let survey = Survey::new(alloc, &source, &subjects)?;
+    let types = all_types(alloc, &source, &named)?;
+    let survey = Survey::new(alloc, &source, types)?;
     let mut listing = Listing {
         order: Vec::new(alloc),
         text: Vec::new(alloc),
@@ -284,7 +283,9 @@ pub fn declare_all(alloc: Global, image: &Image<'_>) -> Result<Listing, NoMemory
     };
     let mut draft = Draft::new(alloc);
     for place in 0..named.len() {
-        listing.add(alloc, &survey, named[place], &subjects[place], &mut draft)?;
+        let id = named[place];
+        let subject = subject_of(alloc, &source, id)?;
+        listing.add(alloc, &survey, id, &subject, &mut draft)?;
     }
     listing.refused.sort_by_key(|one| one.0)?;
     put_all_refused(&mut listing.text, image, &listing.refused)?;

@@ -1,18 +1,17 @@
 //! The entries that are reached by spelling steps.
 
-ghost use Rattle.std.specs.Prelude.{◌≡◌, ◌++◌, ◌^◌, ◌<◌, [], ◌∷◌, length, map, All, IfOk, OnOk};
+ghost use Rattle.std.specs.Prelude.{◌≡◌, ◌++◌, ◌^◌, ◌<◌, [], ◌∷◌, length, map, flat_map, All, IfOk, OnOk};
 ghost use Rattle.dw_cprint.specs.Reach.{AddsRow, ArePlaces, FindsAll, IsReachOf};
 ghost use Rattle.dw_image.specs.Images.{entries_in};
-ghost use Rattle.dw_cprint.specs.EntryShapes.{shape_in};
-ghost use Rattle.dw_cprint.specs.Regular.{IsRegular};
+ghost use Rattle.dw_cprint.specs.EntryShapes.{shape_in, subject_in};
 ghost use Rattle.dw_cprint.specs.Shapes.{view_member, view_shape, view_subject};
-ghost use Rattle.dw_cprint.specs.Steps.{entries_of, roots_of};
+ghost use Rattle.dw_cprint.specs.Steps.{entries_of, first_steps};
 ghost use Rattle.dw_cprint.specs.Steps.{member_types, parameter_types, types_declared, types_reached};
 
 use crate::shape::{Member, Parameter, Shape, Subject, TypeAt};
-use crate::shape_reader::shape_of;
+use crate::shape_reader::{shape_of, subject_of};
 use crate::source::Source;
-use dw_image::Image;
+use dw_image::{EntryId, Image};
 use dw_types::{Numbers, Packed, StepGraph};
 use std::alloc::{AllocError, Global};
 
@@ -127,8 +126,7 @@ fn shape_at<'a>(
     entry: usize,
 ) -> Result<Shape<'a>, AllocError>
     requires { entry < length (entries_in source.now.image.now) }
-    ensures shape { IfOk result (λ shape. view_shape shape ≡ shape_in source.now.image.now entry) }
-    ensures fit { IfOk result (λ shape. IsRegular (view_shape shape)) }
+    ensures { IfOk result (λ shape. view_shape shape ≡ shape_in source.now.image.now entry) }
 {
     match source.image.nth(entry) {
         Some(id) => shape_of(alloc, source, id),
@@ -136,13 +134,20 @@ fn shape_at<'a>(
     }
 }
 
-/// The types that some declared entries lead to.
-pub fn all_types<'a>(alloc: Global, subjects: &[Subject<'a>]) -> Result<Vec<TypeAt>, AllocError>
-    ensures { IfOk result (λ types. entries_of types.items ≡ roots_of (map view_subject subjects.now)) }
+/// The types that some declared entries lead to. What is read of an entry is not kept.
+pub fn all_types(
+    alloc: Global,
+    source: &Source<'_, '_>,
+    ids: &[EntryId],
+) -> Result<Vec<TypeAt>, AllocError>
+    requires { All (λ id. id < length (entries_in source.now.image.now)) ids.now }
+    ensures { IfOk result (λ types. entries_of types.items
+        ≡ flat_map (λ id. first_steps (subject_in source.now.image.now id)) ids.now) }
 {
     let mut types = Vec::new(alloc);
-    for subject in subjects {
-        put_declared_types(&mut types, subject)?;
+    for id in ids {
+        let subject = subject_of(alloc, source, *id)?;
+        put_declared_types(&mut types, &subject)?;
     }
     Ok(types)
 }
@@ -158,7 +163,6 @@ pub fn reach<'a>(
         r.places.items r.found (⟦<Packed as StepGraph>⟧.graph r.graph)) }
     ensures shapes { IfOk result (λ r. map view_shape r.shapes.items
         ≡ map (shape_in source.now.image.now) r.found) }
-    ensures fit { IfOk result (λ r. All (λ shape. IsRegular (view_shape shape)) r.shapes.items) }
 {
     let mut places = vec![in alloc; 0; source.image.entries()]?;
     let mut found = Numbers::with_room(alloc, 0)?;

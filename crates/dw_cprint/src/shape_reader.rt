@@ -7,7 +7,6 @@ ghost use Rattle.dw_cprint.specs.EntryShapes.{body_in, counts_in, dimension_at, 
 ghost use Rattle.dw_cprint.specs.EntryShapes.{member_at, parameter_at, parameters_in, shape_in, subject_in, tag_in};
 ghost use Rattle.dw_cprint.specs.EntryShapes.{is_strange, tag_shape};
 ghost use Rattle.dw_cprint.specs.LookUps.{children_at, name_at, type_at};
-ghost use Rattle.dw_cprint.specs.Regular.{IsRegular, IsRegularSubject};
 ghost use Rattle.dw_cprint.specs.Shapes.{array, function, view_enumerator, view_member, view_shape, view_subject};
 
 use crate::shape::{Enumerator, Member, Parameter, Shape, Subject};
@@ -72,9 +71,8 @@ fn dimension_at(image: &Image<'_>, id: EntryId) -> Option<Option<u128>>
 /// The shape of an array.
 fn array_shape<'a>(alloc: Global, image: &Image<'a>, id: EntryId) -> Result<Shape<'a>, AllocError>
     requires { id < length (entries_in image.now) }
-    ensures shape { IfOk result (λ shape. view_shape shape
+    ensures { IfOk result (λ shape. view_shape shape
         ≡ array (counts_in image.now id) (is_strange image.now id) (type_at image.now id)) }
-    ensures fit { IfOk result (λ shape. IsRegular (view_shape shape)) }
 {
     let counts = read_children(alloc, image, id, |child| dimension_at(image, child))?;
     let strided = any_child(image, id, |child| {
@@ -109,9 +107,8 @@ fn function_shape<'a>(
     id: EntryId,
 ) -> Result<Shape<'a>, AllocError>
     requires { id < length (entries_in image.now) }
-    ensures shape { IfOk result (λ shape. view_shape shape
+    ensures { IfOk result (λ shape. view_shape shape
         ≡ function (type_at image.now id) (parameters_in image.now id)) }
-    ensures fit { IfOk result (λ shape. IsRegular (view_shape shape)) }
 {
     if !flag_at(image, id, DW_AT_prototyped) {
         return Ok(Shape::Function(type_at(image, id), None));
@@ -158,8 +155,7 @@ fn body_at<'a>(
     word: TagKeyword,
 ) -> Result<Shape<'a>, AllocError>
     requires { id < length (entries_in source.now.image.now) }
-    ensures shape { IfOk result (λ shape. view_shape shape ≡ body_in source.now.image.now id word) }
-    ensures fit { IfOk result (λ shape. IsRegular (view_shape shape)) }
+    ensures { IfOk result (λ shape. view_shape shape ≡ body_in source.now.image.now id word) }
 {
     let image = source.image;
     let odd = any_child(image, id, |child| {
@@ -184,9 +180,8 @@ fn tag_shape<'a>(
     word: TagKeyword,
 ) -> Result<Shape<'a>, AllocError>
     requires { id < length (entries_in source.now.image.now) }
-    ensures shape { IfOk result (λ shape. view_shape shape
+    ensures { IfOk result (λ shape. view_shape shape
         ≡ tag_shape source.now.image.now id word (name_at source.now.image.now id)) }
-    ensures fit { IfOk result (λ shape. IsRegular (view_shape shape)) }
 {
     if let Some(name) = source.name(id) {
         return Ok(Shape::Tagged(word, name));
@@ -205,8 +200,7 @@ pub fn shape_of<'a>(
     id: EntryId,
 ) -> Result<Shape<'a>, AllocError>
     requires { id < length (entries_in source.now.image.now) }
-    ensures shape { IfOk result (λ shape. view_shape shape ≡ shape_in source.now.image.now id) }
-    ensures fit { IfOk result (λ shape. IsRegular (view_shape shape)) }
+    ensures { IfOk result (λ shape. view_shape shape ≡ shape_in source.now.image.now id) }
 {
     let image = source.image;
     let tag = tag_at(image, id);
@@ -239,8 +233,7 @@ fn tag_subject<'a>(
     word: TagKeyword,
 ) -> Result<Subject<'a>, AllocError>
     requires { id < length (entries_in source.now.image.now) }
-    ensures subject { IfOk result (λ subject. view_subject subject ≡ tag_in source.now.image.now id word) }
-    ensures fit { IfOk result (λ subject. IsRegularSubject (view_subject subject)) }
+    ensures { IfOk result (λ subject. view_subject subject ≡ tag_in source.now.image.now id word) }
 {
     if flag_at(source.image, id, DW_AT_declaration) {
         return Ok(Subject::Tag(source.name(id), tag_shape(alloc, source, id, word)?));
@@ -256,8 +249,7 @@ pub fn subject_of<'a>(
     id: EntryId,
 ) -> Result<Subject<'a>, AllocError>
     requires { id < length (entries_in source.now.image.now) }
-    ensures subject { IfOk result (λ subject. view_subject subject ≡ subject_in source.now.image.now id) }
-    ensures fit { IfOk result (λ subject. IsRegularSubject (view_subject subject)) }
+    ensures { IfOk result (λ subject. view_subject subject ≡ subject_in source.now.image.now id) }
 {
     match tag_at(source.image, id) {
         DW_TAG_typedef => Ok(Subject::Typedef(source.name(id), type_at(source.image, id))),

@@ -1,18 +1,18 @@
 //! What some declarations need, found once for all of them: what they reach, what of that reaches a cycle, and what is
 //! known of the rest.
 
-ghost use Rattle.std.specs.Prelude.{◌≡◌, ◌<◌, length, map, All, IfOk};
+ghost use Rattle.std.specs.Prelude.{◌≡◌, ◌<◌, length, All, IfOk};
 ghost use Rattle.std.specs.List.{list_any};
 ghost use Rattle.dw_image.specs.Images.{entries_in};
 ghost use Rattle.dw_cprint.specs.EntryShapes.{shape_in};
-ghost use Rattle.dw_cprint.specs.Judgements.{IsJudgement};
+ghost use Rattle.dw_cprint.specs.Judgements.{IsJudgement, IsRefusalBelow};
 ghost use Rattle.dw_cprint.specs.Shapes.{view_subject};
-ghost use Rattle.dw_cprint.specs.Steps.{first_steps, roots_of};
+ghost use Rattle.dw_cprint.specs.Steps.{entries_of, first_steps};
 ghost use Rattle.dw_cprint.specs.Surveys.{BySurvey, IsSurveyOf, lacks_summary};
 ghost use Rattle.dw_cprint.specs.Wrong.{is_other_kind};
 
 use crate::fault::PrintFault;
-use crate::reaching::{all_types, put_declared_types, reach};
+use crate::reaching::{put_declared_types, reach};
 use crate::shape::{Shape, Subject, TypeAt};
 use crate::source::Source;
 use crate::summary::{Summaries, findings_declared, summarize};
@@ -41,17 +41,15 @@ fn is_other_kind(subject: &Subject<'_>) -> bool
 }
 
 impl<'a> Survey<'a> {
-    /// Surveys what some declarations reach. Each entry is looked at once, and no path by itself.
+    /// Surveys what is reached from some types. Each entry is looked at once, and no path by itself.
     pub fn new(
         alloc: Global,
         source: &Source<'_, 'a>,
-        subjects: &[Subject<'a>],
+        types: Vec<TypeAt>,
     ) -> Result<Survey<'a>, AllocError>
-        requires { All (λ to. to < length (entries_in source.now.image.now))
-            (roots_of (map view_subject subjects.now)) }
-        ensures { IfOk result (IsSurveyOf (shape_in source.now.image.now) (roots_of (map view_subject subjects.now))) }
+        requires { All (λ to. to < length (entries_in source.now.image.now)) (entries_of types.items) }
+        ensures { IfOk result (IsSurveyOf (shape_in source.now.image.now) (entries_of types.items)) }
     {
-        let types = all_types(alloc, subjects)?;
         let reached = reach(alloc, source, &types)?;
         drop(types);
         drop(reached.found);
@@ -71,6 +69,26 @@ impl<'a> Survey<'a> {
         types.iter().any(|at| self.summaries.get(*at).is_none())
     }
 
+    /// Why a declaration is refused, if it is by a rule that does not need its text.
+    fn refusal_before_text(
+        &self,
+        alloc: Global,
+        subject: &Subject<'a>,
+    ) -> Result<Option<PrintFault>, AllocError>
+        ensures { IfOk result (λ r. BySurvey self.now (first_steps (view_subject subject.now)) (λ shapes.
+            IsRefusalBelow 6 shapes (view_subject subject.now) r)) }
+    {
+        let mut types = Vec::new(alloc);
+        put_declared_types(&mut types, subject)?;
+        if is_other_kind(subject) {
+            return Ok(Some(PrintFault::NotPrintable));
+        }
+        if self.reaches_cycle(&types) {
+            return Ok(Some(PrintFault::NotPrintable));
+        }
+        Ok(findings_declared(&self.summaries, subject, &types).refusal())
+    }
+
     /// Why a declaration is refused, if it is. Otherwise its text is written to the draft.
     pub fn refusal(
         &self,
@@ -81,15 +99,7 @@ impl<'a> Survey<'a> {
         ensures { IfOk result (λ r. BySurvey self.now (first_steps (view_subject subject.now)) (λ shapes.
             IsJudgement shapes (view_subject subject.now) draft.new r)) }
     {
-        let mut types = Vec::new(alloc);
-        put_declared_types(&mut types, subject)?;
-        if is_other_kind(subject) {
-            return Ok(Some(PrintFault::NotPrintable));
-        }
-        if self.reaches_cycle(&types) {
-            return Ok(Some(PrintFault::NotPrintable));
-        }
-        if let Some(fault) = findings_declared(&self.summaries, subject, &types).refusal() {
+        if let Some(fault) = self.refusal_before_text(alloc, subject)? {
             return Ok(Some(fault));
         }
         draft.clear();

@@ -1,9 +1,15 @@
-use Rattle.std.proofs.Common.{rules}
-use Rattle.dw_cprint.specs.Shapes.{view_subject}
-use Rattle.dw_cprint.specs.Steps.{roots_of, types_declared}
-use Rattle.std.proofs.Common.{map, refl}
-use Rattle.dw_cprint.proofs.ReachLemmas.{roots-more}
+use Rattle.std.proofs.Common.{◌≡◌, ◌++◌, ◌∙◌, ap, ℕ, List}
+use Rattle.dw_cprint.specs.EntryShapes.{subject_in}
+use Rattle.dw_cprint.specs.Shapes.{SubjectOf}
+use Rattle.dw_cprint.specs.Steps.{entries_of, first_steps, types_declared}
+use Rattle.dw_cprint.proofs.ListingLemmas.{lines-more}
+use Rattle.dw_cprint.proofs.ReachLemmas.{entries-append}
 use Rattle.dw_cprint.proofs.reaching.all_types.Goals as goal
 
-pub loop-subject-preserved : goal.loop-subject-preserved
-loop-subject-preserved c = search (rules, roots-more)
+pub loop-id-preserved : goal.loop-id-preserved
+loop-id-preserved c =
+    let f : ℕ → List ℕ = λ id. first_steps (subject_in c.args.source.now.image.now id) in
+    let types = c.loop-id.types.items in
+    let own = c.in_ok-put_declared_types.ensures ∙ ap (λ (s : SubjectOf). types ++ types_declared s) c.in_ok-subject.ensures in
+    let more : entries_of c.put_declared_types.new.types.items ≡ entries_of types ++ f c.id-item.result = ap entries_of own ∙ entries-append types (types_declared (subject_in c.args.source.now.image.now c.id-item.result)) in
+    lines-more f (entries_of types) _ _ c.args.ids.now c.loop-id.id-index c.id-item.result more c.loop-id-test.true c.id-item.is c.loop-id.invariant

@@ -1,8 +1,10 @@
-use Rattle.std.proofs.Common.{◌≡◌, ◌++◌, drop, map}
-use Rattle.dw_cprint.specs.Shapes.{view_subject}
-use Rattle.dw_cprint.specs.Steps.{entries_of, roots_of}
+use Rattle.std.proofs.Common.{◌≡◌, ◌++◌, ℕ, List, drop}
+use Rattle.std.specs.Prelude.{flat_map}
+use Rattle.dw_cprint.specs.EntryShapes.{subject_in}
+use Rattle.dw_cprint.specs.Steps.{entries_of, first_steps}
 use Rattle.dw_cprint.proofs.reaching.all_types.Given as goal
 
-abbrev pub invariant-loop-subject : goal.invariant-loop-subject
-invariant-loop-subject l =
-    entries_of l.types.items ++ roots_of (map view_subject (drop l.subject-index l.subjects)) ≡ roots_of (map view_subject l.subjects)
+abbrev pub invariant-loop-id : goal.invariant-loop-id
+invariant-loop-id l =
+    let f : ℕ → List ℕ = λ id. first_steps (subject_in l.source.image.now id) in
+    entries_of l.types.items ++ flat_map f (drop l.id-index l.ids) ≡ flat_map f l.ids

@@ -1,16 +1,13 @@
 use Rattle.std.proofs.Common.{rules, ◌≡◌, ◌-◌, ◌<◌, ◌≤◌, ◌++◌, [], ◌∷◌, length, map, ℕ, List, get_or, sym, ap, ◌∙◌, subst, arith, length-append}
 use Rattle.std.specs.Prelude.{All}
 use Rattle.std.proofs.lemmas.List.{map-append}
-use Rattle.std.proofs.lemmas.List.Elements.{All-nil, All-push}
 use Rattle.dw_image.specs.Images.{entries_in}
 use Rattle.dw_types.specs.Packing.{cut}
 use Rattle.dw_types.specs.PackingLaws.{length-cut}
 use Rattle.dw_cprint.specs.EntryShapes.{shape_in}
 use Rattle.dw_cprint.specs.Reach.{FindsAll}
-use Rattle.dw_cprint.specs.Regular.{IsRegular}
 use Rattle.dw_cprint.specs.Shapes.{ShapeOf, TypeAt, view_shape}
 use Rattle.dw_cprint.specs.Steps.{entries_of, steps_reached, types_reached}
-use Rattle.dw_cprint.specs.declared.shape.Shape.{Shape}
 use Rattle.dw_cprint.proofs.LevelLemmas.{few-entries}
 use Rattle.dw_cprint.proofs.ReachLemmas.{so_far-start, so_far-more, so_far-done, read-done, packed-start, packed-more, rows-more, room}
 use Rattle.dw_cprint.proofs.WithinLemmas.{shape_within}
@@ -28,7 +25,7 @@ push_row-requires-in-loop-alloc-clause-within c =
     let next : c.put_reached_types.new.types.items ≡ types_reached (view_shape c.in_ok-shape.shape) =
     c.in_ok-put_reached_types.ensures ∙ ap (λ (types : List TypeAt). types ++ types_reached (view_shape c.in_ok-shape.shape)) c.clear.ensures.items in
     let steps : steps_reached shapes c.get.result ≡ entries_of c.deref.result.now =
-    ap (λ (s : ShapeOf). entries_of (types_reached s)) (sym c.in_ok-shape.ensures.shape) ∙ ap entries_of (sym (c.deref.ensures.value ∙ next)) in
+    ap (λ (s : ShapeOf). entries_of (types_reached s)) (sym c.in_ok-shape.ensures) ∙ ap entries_of (sym (c.deref.ensures.value ∙ next)) in
     let P : List ℕ → ℕ → Type 0 = λ xs n. All (λ to. to < n) xs in
     subst (λ (n : ℕ). P (entries_of c.deref.result.now) n) (sym c.loop-alloc.invariant.2)
     (subst (λ (xs : List ℕ). P xs (length (entries_in c.args.source.now.image.now))) steps (shape_within c.args.source.now.image.now c.get.result).all.all)
@@ -43,7 +40,6 @@ loop-alloc-init c =
       so_far-start (shape_in c.args.source.now.image.now) (entries_of c.args.types.now) c.in_ok-places.places.items c.push_row.new.places.items found row (subst P c.in_ok-found.ensures finds),
       packed-start found,
       c.in_ok-push_row.ensures.places ∙ (long ∙ c.entries.ensures),
-      All-nil (λ (shape : Shape). IsRegular (view_shape shape)),
     )
 
 pub loop-alloc-smaller : goal.loop-alloc-smaller
@@ -62,14 +58,13 @@ loop-alloc-preserved c =
     let more : length rows < length found = omega (arith, long, c.len.ensures, c.len-in-loop-alloc.ensures, c.loop-alloc-test.true) in
     let at : c.len-in-loop-alloc-2.result ≡ length rows = c.len-in-loop-alloc-2.ensures ∙ sym long in
     let entry : c.get.result ≡ get_or found (length rows) 0 = c.get.ensures ∙ ap (λ k. get_or found k 0) at in
-    let shape : view_shape c.in_ok-shape.shape ≡ shapes (get_or found (length rows) 0) = c.in_ok-shape.ensures.shape ∙ ap shapes entry in
+    let shape : view_shape c.in_ok-shape.shape ≡ shapes (get_or found (length rows) 0) = c.in_ok-shape.ensures ∙ ap shapes entry in
     let seen : map view_shape c.push.new.self.items ≡ read ++ shapes (get_or found (length rows) 0) ∷ [] =
     ap (map view_shape) c.in_ok-push.ensures.items ∙ map-append view_shape c.loop-alloc.shapes.items (c.in_ok-shape.shape ∷ []) ∙ ap (λ (s : ShapeOf). read ++ s ∷ []) shape in
     let next : c.put_reached_types.new.types.items ≡ types_reached (view_shape c.in_ok-shape.shape) =
     c.in_ok-put_reached_types.ensures ∙ ap (λ (types : List TypeAt). types ++ types_reached (view_shape c.in_ok-shape.shape)) c.clear.ensures.items in
     let reached : entries_of c.deref.result.now ≡ steps_reached shapes (get_or found (length rows) 0) =
     ap entries_of (c.deref.ensures.value ∙ next) ∙ ap (λ (s : ShapeOf). entries_of (types_reached s)) shape in
-    let R : List Shape → Type 0 = λ xs. All (λ (shape : Shape). IsRegular (view_shape shape)) xs in
     let p2 = c.push_row-in-loop-alloc.new.places.items in
     let f2 = c.push_row-in-loop-alloc.new.found in
     let (row, finds, all) = c.in_ok-push_row-2.ensures.row in
@@ -80,7 +75,6 @@ loop-alloc-preserved c =
       so_far-more shapes (entries_of c.args.types.now) places p2 found f2 rows read row c.loop-alloc.invariant.0 more placed,
       packed-more (steps_reached shapes (get_or found (length rows) 0)) places p2 found f2 steps ends row c.loop-alloc.invariant.1 placed,
       c.in_ok-push_row-2.ensures.places ∙ c.loop-alloc.invariant.2,
-      subst R (sym c.in_ok-push.ensures.items) (All-push (λ (shape : Shape). IsRegular (view_shape shape)) c.loop-alloc.shapes.items c.in_ok-shape.shape c.loop-alloc.invariant.3 c.in_ok-shape.ensures.fit),
     )
 
 pub returns-clause-reach : goal.returns-clause-reach

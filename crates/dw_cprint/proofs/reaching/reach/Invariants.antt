@@ -1,11 +1,8 @@
 use Rattle.std.proofs.Common.{◌≡◌, ◌-◌, length, map}
-use Rattle.std.specs.Prelude.{All}
 use Rattle.dw_image.specs.Images.{entries_in}
 use Rattle.dw_types.specs.Packing.{cut}
 use Rattle.dw_cprint.specs.EntryShapes.{shape_in}
-use Rattle.dw_cprint.specs.Regular.{IsRegular}
 use Rattle.dw_cprint.specs.Shapes.{view_shape}
-use Rattle.dw_cprint.specs.declared.shape.Shape.{Shape}
 use Rattle.dw_cprint.specs.Steps.{entries_of}
 use Rattle.dw_cprint.proofs.ReachLemmas.{ArePacked, IsSoFar}
 use Rattle.dw_cprint.proofs.reaching.reach.Given as goal
@@ -15,7 +12,6 @@ invariant-loop-alloc l =
     IsSoFar (shape_in l.source.image.now) (entries_of l.fn.types) l.places.items l.found (cut l.steps 0 l.ends) (map view_shape l.shapes.items)
     × ArePacked l.found l.steps l.ends
     × (length l.places.items ≡ length (entries_in l.source.image.now))
-    × All (λ (shape : Shape). IsRegular (view_shape shape)) l.shapes.items
 
 abbrev pub decreases-loop-alloc : goal.decreases-loop-alloc
 decreases-loop-alloc l = length (entries_in l.source.image.now) - length l.ends

@@ -5,8 +5,8 @@ use Rattle.dw_cprint.specs.EntryShapes.{dimension_at, has_tag, is_strided_dimens
 use Rattle.dw_cprint.proofs.LookUpLemmas.{kept-are}
 use Rattle.dw_cprint.proofs.shape_reader.array_shape.Goals as goal
 
-pub returns-clause-shape : goal.returns-clause-shape
-returns-clause-shape c =
+pub returns : goal.returns
+returns c =
     let image = c.args.image.now in
     let counts = sym (map-id _) ∙ kept-are (λ x. x) (dimension_at image) (entries_in image) c.args.id _ _ c.in_ok-counts.ensures (λ child one w is. search rules) in
     let strided = c.any_child-strided.ensures (is_strided_dimension image) (λ child r w is. search rules) in

@@ -5,11 +5,11 @@ use Rattle.dw_cprint.specs.Shapes.{view_enumerator, view_member}
 use Rattle.dw_cprint.proofs.LookUpLemmas.{kept-are}
 use Rattle.dw_cprint.proofs.shape_reader.body_at.Goals as goal
 
-pub returns-then-eq-clause-shape : goal.returns-then-eq-clause-shape
-returns-then-eq-clause-shape c = search (rules, kept-are)
+pub returns-then-eq : goal.returns-then-eq
+returns-then-eq c = search (rules, kept-are)
 
-pub returns-clause-shape : goal.returns-clause-shape
-returns-clause-shape c =
+pub returns : goal.returns
+returns c =
     let image = c.args.source.now.image.now in
     rw (
       c.any_child-odd.ensures (has_tag image 0x1c 0x33) (λ child r w is. search rules),
