@@ -287,6 +287,8 @@ pub fn declare_all(alloc: Global, image: &Image<'_>) -> Result<Listing, NoMemory
         let subject = subject_of(alloc, &source, id)?;
         listing.add(alloc, &survey, id, &subject, &mut draft)?;
     }
+    drop(survey);
+    drop(named);
     listing.refused.sort_by_key(|one| one.0)?;
     put_all_refused(&mut listing.text, image, &listing.refused)?;
     Ok(listing)
