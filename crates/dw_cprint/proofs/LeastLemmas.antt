@@ -11,9 +11,9 @@ use Rattle.dw_cprint.specs.Declarators.{gap, opened, closed, pointer_row, before
 use Rattle.dw_cprint.specs.Least.{byte_count, IsLeast, name_size, least_in, least_declared}
 use Rattle.dw_cprint.specs.Shapes.{Parameter, Typed, More, Name, TypeAt, MemberOf, EnumeratorOf, ShapeOf, base, typedef, qualified, pointer, array, function, tagged, body, enumeration, SubjectOf, typedef_subject, variable_subject, tag_subject}
 use Rattle.dw_cprint.specs.Steps.{member_types, parameter_types, types_declared, types_reached}
-use Rattle.dw_cprint.specs.Terms.{Enum, Constant, Valued, Term, Void, Named, Tagged, Body, Enumeration, Qualified, Pointer, Function, Unprototyped, Prototyped, Parameters, NoParameter, Parameter as ParameterTerm, Members, Member as MemberTerm, Declaration, Typedef, Variable, Aggregate, Constants, Declared}
+use Rattle.dw_cprint.specs.Terms.{Enum, Constant, Valued, Term, Void, Body, Enumeration, Pointer, Function, Unprototyped, Prototyped, Parameters, NoParameter, Parameter as ParameterTerm, Members, Member as MemberTerm, Declaration, Typedef, Variable, Aggregate, Constants}
 use Rattle.dw_cprint.specs.Tokens.{Token, Blank, Star, Open, Close, LeftBrace, RightBrace, Semicolon, Comma, Equals, TypedefWord, TagWord, Identifier, spelling, text_of}
-use Rattle.dw_cprint.specs.Writing.{spell, qualifying, bits_tokens, constant, constants, count_tokens, ellipsis, members_tokens, more_constants, more_parameters, name_tokens, signature_tokens, value_tokens, written}
+use Rattle.dw_cprint.specs.Writing.{spell, qualifying, bits_tokens, constant, constants, count_tokens, members_tokens, more_constants, more_parameters, name_tokens, signature_tokens, value_tokens, written}
 use Rattle.dw_cprint.proofs.DeclaratorLemmas.{in_parts}
 use Rattle.dw_cprint.proofs.ItemWriterLemmas.{more-constants}
 use Rattle.dw_cprint.proofs.KindLemmas.{first-of, others-of}

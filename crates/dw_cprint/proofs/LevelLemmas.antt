@@ -1,17 +1,14 @@
 -- The steps by value of an image: each entry has a level, and the order of a listing by them.
 use Rattle.std.proofs.Common.{rules}
 use Rattle.std.proofs.Common.{◌≡◌, ℕ, zero, suc, ◌+◌, ◌<◌, List, [], ◌∷◌, length, get_or, inl, inr}
-use Rattle.std.proofs.Common.{arith, refl, sym, ◌∙◌, ◌-◌, ap}
+use Rattle.std.proofs.Common.{arith, refl, sym, ◌-◌, ap}
 use Rattle.std.specs.Prelude.{◌⊎◌, Contains, AllPairs}
 use Rattle.std.proofs.lemmas.Bool.{cases_eq}
 use Rattle.std.proofs.lemmas.List.Elements.{Contains-get_or}
-use Rattle.dw_entries.specs.Entries.{entries_of, placed}
-use Rattle.dw_entries.specs.Scanned.{units_of}
 use Rattle.dw_entries.proofs.FindLaws.{entries_counted}
 use Rattle.dw_entries.proofs.OrderLaws.{scanned_few}
 use Rattle.dw_types.specs.Cycles.{AreClear, Leads, IsOnCycle}
 use Rattle.dw_types.specs.Graphs.{Graph, FollowsSteps, HasNoCycle, IsStep}
-use Rattle.dw_types.specs.FactsOf.{facts_in}
 use Rattle.dw_types.proofs.FactsLemmas.{length-facts_of}
 use Rattle.dw_types.proofs.LongestLemmas.{row-after}
 use Rattle.dw_types.proofs.StepLemmas.{length-by_value}

@@ -1,10 +1,10 @@
 -- The words of a base type's name, and its text.
 use Rattle.std.proofs.Common.{rules}
-use Rattle.std.proofs.Common.{◌≡◌, ℕ, zero, suc, ◌+◌, ◌*◌, ◌<◌, ◌≤◌, Bool, true, false, cond, List, [], ◌∷◌, ◌++◌}
+use Rattle.std.proofs.Common.{◌≡◌, ℕ, zero, suc, ◌+◌, ◌*◌, ◌<◌, ◌≤◌, Bool, true, false, List, [], ◌∷◌, ◌++◌}
 use Rattle.std.proofs.Common.{Option, Some, None, refl, sym, ◌∙◌, ap, subst, length, take, drop, append-nil, arith, ◌-◌}
 use Rattle.std.proofs.Common.{◌/◌, ◌%◌, get_or, inl, inr}
-use Rattle.std.specs.Prelude.{◌==◌, ◌&&◌, ◌||◌, ◌-◌, count_by, position, nat_lt, codes, bytes_eq, option_map}
-use Rattle.std.specs.Prelude.{option_and_then, is_some, if◌then◌else◌, ◌⊎◌, slice_get}
+use Rattle.std.specs.Prelude.{◌==◌, ◌&&◌, ◌||◌, ◌-◌, count_by, position, bytes_eq, option_map}
+use Rattle.std.specs.Prelude.{is_some, if◌then◌else◌, ◌⊎◌, slice_get}
 use Rattle.std.specs.List.{list_any, slice_split, position_or_len, join_with_byte, before_first, list_all}
 use Rattle.std.proofs.lemmas.Bool.Decides.{nat_tests}
 use Rattle.std.proofs.lemmas.Option.{cond_some, get_or_from_slice_get, slice_get-get_or, slice_get_within}
@@ -20,7 +20,7 @@ use Rattle.dw_image.specs.Contributions.{string_at}
 use Rattle.dw_cprint.specs.Declarations.{parts_of, word_of, words_of}
 use Rattle.dw_cprint.specs.Legible.{is_keyword, is_word_byte}
 use Rattle.dw_cprint.specs.declared.names.TheConstants.{KEYWORDS, LONG_KEYWORDS}
-use Rattle.dw_cprint.specs.Terms.{TypeWord, Char, Short, Int, Long, Signed, Unsigned, Float, Double, BoolWord, Complex}
+use Rattle.dw_cprint.specs.Terms.{TypeWord}
 use Rattle.dw_cprint.specs.Tokens.{type_word_spelling, text_of}
 use Rattle.dw_cprint.specs.Writing.{basic}
 use Rattle.dw_cprint.specs.StringSpans.{AreSpans, IsSpan}

@@ -5,8 +5,8 @@ use Rattle.std.specs.Prelude.{All, Contains, ◌↔◌, slice_get, option_and_th
 use Rattle.std.specs.List.{list_any}
 use Rattle.std.specs.Option.{option_map_or}
 use Rattle.std.proofs.lemmas.Option.{slice_get-get_or, slice_get-map, slice_get_within, same_Some}
-use Rattle.std.proofs.lemmas.List.{get_or_default, get_or-map, length-map}
-use Rattle.std.proofs.lemmas.List.Elements.{All-map, Contains-append_right}
+use Rattle.std.proofs.lemmas.List.{get_or_default, length-map}
+use Rattle.std.proofs.lemmas.List.Elements.{Contains-append_right}
 use Rattle.std.proofs.lemmas.List.Folds.{Any-from_list_any, list_any-from_Any}
 use Rattle.dw_types.specs.Graphs.{Graph, steps_of, step_at, IsStep}
 use Rattle.dw_types.specs.Cycles.{AreClear, Leads as NodeLeads, ReachesCycle as NodeReachesCycle}

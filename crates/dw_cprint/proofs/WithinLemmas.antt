@@ -1,14 +1,14 @@
 -- What holds of each shape and declaration that is read: each type that it names is an entry, and it is regular.
 use Rattle.std.proofs.Common.{rules}
-use Rattle.std.proofs.Common.{◌≡◌, ℕ, ◌<◌, Bool, true, false, List, [], ◌∷◌, Option, Some, None, refl, length, map, arith}
-use Rattle.std.specs.Prelude.{slice_get, option_and_then, All, ◌==◌, flat_map, if◌then◌else◌}
+use Rattle.std.proofs.Common.{◌≡◌, ℕ, ◌<◌, Bool, true, false, List, [], ◌∷◌, Option, Some, None, refl, length, arith}
+use Rattle.std.specs.Prelude.{option_and_then, All, ◌==◌, flat_map, if◌then◌else◌}
 use Rattle.std.specs.List.{cons_option, filter_map}
 use Rattle.std.proofs.lemmas.List.Elements.{All-nil, All-cons, All-append}
 use Rattle.std.proofs.lemmas.Option.{slice_get_within}
 use Rattle.dw_entries.specs.Entries.{Entry}
 use Rattle.dw_image.specs.declared.image.Image.{Image}
 use Rattle.dw_image.specs.Images.{entries_in, type_in}
-use Rattle.dw_image.specs.Lookups.{is_type_entry, type_number}
+use Rattle.dw_image.specs.Lookups.{type_number}
 use Rattle.dw_forms.specs.Codes.{DW_AT_prototyped, DW_TAG_array_type, DW_TAG_atomic_type, DW_TAG_base_type, DW_TAG_const_type, DW_TAG_enumeration_type, DW_TAG_pointer_type, DW_TAG_restrict_type, DW_TAG_structure_type, DW_TAG_subroutine_type, DW_TAG_typedef, DW_TAG_union_type, DW_TAG_variable, DW_TAG_volatile_type, is_type_tag}
 use Rattle.dw_cprint.specs.EntryShapes.{member_at, parameter_at, parameters_in, shape_in, subject_in, body_in, tag_in, tag_shape, declared_name, counts_in, is_strange}
 use Rattle.dw_cprint.specs.LookUps.{tag_at, type_at, name_at, flag_at, declared_at, children_at}

@@ -1,9 +1,7 @@
-use Rattle.std.proofs.Common.{rules, ◌≡◌, ◌++◌, ℕ, List, Option, ap, ◌∙◌, subst}
-use Rattle.std.specs.Prelude.{IfSome}
+use Rattle.std.proofs.Common.{rules, ◌≡◌, Option, subst}
 use Rattle.dw_cprint.specs.EntryShapes.{shape_in, subject_in}
 use Rattle.dw_cprint.specs.Judgements.{IsJudgement}
 use Rattle.dw_cprint.specs.Refusals.{PrintFault, Refuses}
-use Rattle.dw_cprint.specs.Writing.{written}
 use Rattle.dw_cprint.proofs.SameLemmas.{printed-one}
 use Rattle.dw_cprint.proofs.WithinLemmas.{all-regular}
 use Rattle.dw_cprint.proofs.listing.declare.Goals as goal

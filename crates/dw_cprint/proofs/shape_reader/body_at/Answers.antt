@@ -1,7 +1,7 @@
 use Rattle.std.proofs.Common.{rules}
 use Rattle.dw_image.specs.Images.{entries_in}
-use Rattle.dw_cprint.specs.EntryShapes.{enumerator_at, has_tag, member_at}
-use Rattle.dw_cprint.specs.Shapes.{view_enumerator, view_member}
+use Rattle.dw_cprint.specs.EntryShapes.{has_tag, member_at}
+use Rattle.dw_cprint.specs.Shapes.{view_member}
 use Rattle.dw_cprint.proofs.LookUpLemmas.{kept-are}
 use Rattle.dw_cprint.proofs.shape_reader.body_at.Goals as goal
 

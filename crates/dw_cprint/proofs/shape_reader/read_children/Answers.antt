@@ -1,7 +1,6 @@
 use Rattle.std.proofs.Common.{rules}
-use Rattle.std.proofs.Common.{◌<◌, ◌∷◌, Some, None, length, ap, refl, ◌∙◌, append_assoc}
-use Rattle.std.proofs.lemmas.List.Elements.{All-head, All-rest, All-same}
-use Rattle.dw_image.specs.ChildrenLeft.{children_left}
+use Rattle.std.proofs.Common.{◌<◌, ◌∷◌, Some, None, length, refl, append_assoc}
+use Rattle.std.proofs.lemmas.List.Elements.{All-head, All-rest}
 use Rattle.dw_image.specs.Images.{entries_in}
 use Rattle.dw_cprint.proofs.LookUpLemmas.{children_within, kept-all}
 use Rattle.dw_cprint.proofs.shape_reader.read_children.Goals as goal

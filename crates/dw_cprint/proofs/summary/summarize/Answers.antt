@@ -5,7 +5,7 @@ use Rattle.std.proofs.lemmas.List.{take_all}
 use Rattle.std.proofs.lemmas.Option.{slice_get_read}
 use Rattle.dw_cprint.specs.Shapes.{ShapeOf}
 use Rattle.dw_cprint.specs.Steps.{types_reached}
-use Rattle.dw_cprint.specs.Summaries.{IsSummary, Knows, HaveSummaries}
+use Rattle.dw_cprint.specs.Summaries.{IsSummary, Knows}
 use Rattle.dw_cprint.proofs.SummaryLemmas.{known_by, have_more, all_known, right_more}
 use Rattle.dw_cprint.proofs.summary.summarize.Goals as goal
 

@@ -1,11 +1,10 @@
 use Rattle.std.proofs.lemmas.Grind.{common_steps}
 use Rattle.std.proofs.Common.{arith}
-use Rattle.std.proofs.Common.{◌∷◌, [], List, get_or, ap, sym, ◌∙◌, append-nil}
+use Rattle.std.proofs.Common.{List, ap, sym, ◌∙◌, append-nil}
 use Rattle.std.proofs.lemmas.List.{drop_all, drop_more}
 use Rattle.dw_cprint.specs.Drafts.{appended}
-use Rattle.dw_cprint.specs.Kept.{Writes}
-use Rattle.dw_cprint.specs.Shapes.{Qualifier, Const}
-use Rattle.dw_cprint.specs.Tokens.{Blank, QualifierWord, spelling, text_of}
+use Rattle.dw_cprint.specs.Shapes.{Qualifier}
+use Rattle.dw_cprint.specs.Tokens.{text_of}
 use Rattle.dw_cprint.specs.Writing.{qualifying}
 use Rattle.dw_cprint.proofs.DraftLemmas.{appended-nil}
 use Rattle.dw_cprint.proofs.ItemWriterLemmas.{moved}

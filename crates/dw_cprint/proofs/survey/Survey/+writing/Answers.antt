@@ -8,9 +8,9 @@ use Rattle.dw_cprint.specs.Declarations.{term_at}
 use Rattle.dw_cprint.specs.Declarators.{before, gap, pointer_row}
 use Rattle.dw_cprint.specs.Drafts.{appended}
 use Rattle.dw_cprint.specs.Kept.{kept, Writes, WritesBefore, WritesCore, WritesMembers}
-use Rattle.dw_cprint.specs.Kept.{WritesParameters, WritesEnumerators}
+use Rattle.dw_cprint.specs.Kept.{WritesParameters}
 use Rattle.dw_cprint.specs.Shapes.{Qualifier, Parameter, Typed, MemberOf, ShapeOf, function}
-use Rattle.dw_cprint.specs.Shapes.{EnumeratorOf, view_name, view_shape, view_member, view_enumerator}
+use Rattle.dw_cprint.specs.Shapes.{view_name, view_shape, view_member}
 use Rattle.dw_cprint.specs.Terms.{Term}
 use Rattle.dw_cprint.specs.declared.words.Text.{Text}
 use Rattle.dw_cprint.specs.Tokens.{VoidWord, TagWord, RightBrace, spelling, text_of}

@@ -1,7 +1,6 @@
-use Rattle.std.proofs.Common.{ℕ, Option, sym, subst, ◌∙◌}
+use Rattle.std.proofs.Common.{sym, subst, ◌∙◌}
 use Rattle.dw_cprint.specs.Judgements.{IsRefusalBelow}
-use Rattle.dw_cprint.specs.Refusals.{PrintFault}
-use Rattle.dw_cprint.specs.Shapes.{ShapeOf, view_subject}
+use Rattle.dw_cprint.specs.Shapes.{view_subject}
 use Rattle.dw_cprint.proofs.RefusalLemmas.{long-by-draft, short-by-draft}
 use Rattle.dw_cprint.proofs.survey.Survey.refusal.Goals as goal
 
