@@ -4,8 +4,8 @@ use Rattle.std.proofs.Common.{rules}
 use Rattle.std.proofs.Common.{◌≡◌, ◌≢◌, ℕ, zero, suc, ◌+◌, ◌<◌, ◌≤◌, List, [], ◌∷◌, ◌++◌, Option, Some, None, refl, sym}
 use Rattle.std.proofs.Common.{◌∙◌, ap, subst, inl, inr, length, get_or, arith, length-append, set, length-set}
 use Rattle.std.proofs.Common.{get_or-set_other, get_or-set_same, take, map, append-nil, append_assoc, true, false}
-use Rattle.std.specs.Prelude.{Contains}
-use Rattle.std.specs.List.{IsDistinct, AllByRecursion, list_any}
+use Rattle.std.specs.Prelude.{Contains, option_map}
+use Rattle.std.specs.List.{IsDistinct, AllByRecursion, cons_option, list_any}
 use Rattle.std.proofs.lemmas.List.{get_or-map, length-map, map-append, get_or_append_left, take_more}
 use Rattle.std.proofs.lemmas.List.{get_or-append_right, get_or_push, take_all, take-append-le}
 use Rattle.std.proofs.lemmas.List.Elements.{Contains-get_or}
@@ -19,9 +19,9 @@ use Rattle.dw_types.specs.Graphs.{Graph, steps_of}
 use Rattle.dw_types.specs.Packing.{cut, LeadsBelow}
 use Rattle.dw_types.specs.PackingLaws.{cut-more}
 use Rattle.dw_types.proofs.PackingLemmas.{AreEnds, ends-more}
-use Rattle.dw_cprint.specs.Steps.{entries_of, steps_reached, IsReachedFrom, root, further}
+use Rattle.dw_cprint.specs.Steps.{entries_of, member_types, steps_reached, IsReachedFrom, root, further}
 use Rattle.dw_cprint.specs.Reach.{ArePlaces, Grows, IsRow, FindsAll, IsReachOf}
-use Rattle.dw_cprint.specs.Shapes.{ShapeOf}
+use Rattle.dw_cprint.specs.Shapes.{MemberOf, ShapeOf}
 use lib.Dec.{eqb}
 
 -- an element of a mapped list comes from one of the list
@@ -224,3 +224,16 @@ among_below q n (x ∷ xs) h has = elim (eqb_tells q x) [
 pub room : (places found : List ℕ) → ArePlaces places found → length found ≤ length places
 room places found placed =
     length-le_from_distinct_below found (length places) (distinct (λ x. get_or places x 0) 0 found (λ k w. (let e = placed.back k w in omega arith))) (λ q h. among_below q (length places) found (λ k w. placed.below k 0 w) h)
+
+-- ---- the types of members
+
+-- one child more, a member or not
+pub types-here : (o : Option MemberOf) (at : Option ℕ) (members : List MemberOf) → Some at ≡ option_map (λ (m : MemberOf). m.type_at) o
+    → member_types (cons_option o members) ≡ at ∷ member_types members
+types-here None at members is = absurd cc
+types-here (Some m) at members is = cc
+
+pub types-none : (o : Option MemberOf) (members : List MemberOf) → None ≡ option_map (λ (m : MemberOf). m.type_at) o
+    → member_types (cons_option o members) ≡ member_types members
+types-none None members is = refl
+types-none (Some m) members is = absurd cc

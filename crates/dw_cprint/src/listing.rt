@@ -274,7 +274,7 @@ pub fn declare_all(alloc: Global, image: &Image<'_>) -> Result<Listing, NoMemory
         image,
         strings: Strings::read(alloc, image)?,
     };
-    let types = all_types(alloc, &source, &named)?;
+    let types = all_types(alloc, image, &named)?;
     let survey = Survey::new(alloc, &source, types)?;
     let mut listing = Listing {
         order: Vec::new(alloc),

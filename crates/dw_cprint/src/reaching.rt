@@ -1,16 +1,17 @@
 //! The entries that are reached by spelling steps.
 
-ghost use Rattle.std.specs.Prelude.{◌≡◌, ◌++◌, ◌^◌, ◌<◌, [], ◌∷◌, length, map, flat_map, All, IfOk, OnOk};
+ghost use Rattle.std.specs.Prelude.{◌≡◌, ◌++◌, ◌^◌, ◌<◌, [], ◌∷◌, length, map, flat_map, All, IfOk, OnOk, option_map};
 ghost use Rattle.dw_cprint.specs.Reach.{AddsRow, ArePlaces, FindsAll, IsReachOf};
 ghost use Rattle.dw_image.specs.Images.{entries_in};
-ghost use Rattle.dw_cprint.specs.EntryShapes.{shape_in, subject_in};
+ghost use Rattle.dw_cprint.specs.EntryShapes.{member_at, members_in, shape_in, subject_in};
 ghost use Rattle.dw_cprint.specs.Shapes.{view_member, view_shape, view_subject};
 ghost use Rattle.dw_cprint.specs.Steps.{entries_of, first_steps};
 ghost use Rattle.dw_cprint.specs.Steps.{member_types, parameter_types, types_declared, types_reached};
 
 use crate::shape::{Member, Parameter, Shape, Subject, TypeAt};
-use crate::shape_reader::{shape_of, subject_of};
-use crate::source::Source;
+use crate::shape_reader::shape_of;
+use crate::source::{Source, flag_at, tag_at, type_at};
+use dw_entries::constants::*;
 use dw_image::{EntryId, Image};
 use dw_types::{Numbers, Packed, StepGraph};
 use std::alloc::{AllocError, Global};
@@ -134,20 +135,65 @@ fn shape_at<'a>(
     }
 }
 
-/// The types that some declared entries lead to. What is read of an entry is not kept.
+/// The type of a child that is a plain member: one that is not declared.
+fn member_type_at(image: &Image<'_>, id: EntryId) -> Option<TypeAt>
+    requires { id < length (entries_in image.now) }
+    ensures { result ≡ option_map (λ member. member.type_at) (member_at image.now id) }
+{
+    if tag_at(image, id) != DW_TAG_member || flag_at(image, id, DW_AT_declaration) {
+        return None;
+    }
+    Some(type_at(image, id))
+}
+
+/// Appends the types of the members of a structure or union.
+fn put_types_of_members(
+    types: &mut Vec<TypeAt>,
+    image: &Image<'_>,
+    id: EntryId,
+) -> Result<(), AllocError>
+    requires { id < length (entries_in image.now) }
+    ensures { OnOk result (types.new.items ≡ types.old.items ++ member_types (members_in image.now id)) }
+{
+    for child in image.children(id) {
+        if let Some(at) = member_type_at(image, child) {
+            types.push(at)?;
+        }
+    }
+    Ok(())
+}
+
+/// Appends the types that an entry leads to where it is declared. Nothing else is read of it.
+#[tactic(auto, unfolding(crate::specs::EntryShapes::subject_in))]
+fn put_types_of(types: &mut Vec<TypeAt>, image: &Image<'_>, id: EntryId) -> Result<(), AllocError>
+    requires { id < length (entries_in image.now) }
+    ensures { OnOk result (types.new.items ≡ types.old.items ++ types_declared (subject_in image.now id)) }
+{
+    match tag_at(image, id) {
+        DW_TAG_typedef | DW_TAG_variable => types.push(type_at(image, id))?,
+        DW_TAG_structure_type | DW_TAG_union_type => {
+            if !flag_at(image, id, DW_AT_declaration) {
+                put_types_of_members(types, image, id)?;
+            }
+        }
+        _ => {}
+    }
+    Ok(())
+}
+
+/// The types that some declared entries lead to.
 pub fn all_types(
     alloc: Global,
-    source: &Source<'_, '_>,
+    image: &Image<'_>,
     ids: &[EntryId],
 ) -> Result<Vec<TypeAt>, AllocError>
-    requires { All (λ id. id < length (entries_in source.now.image.now)) ids.now }
+    requires { All (λ id. id < length (entries_in image.now)) ids.now }
     ensures { IfOk result (λ types. entries_of types.items
-        ≡ flat_map (λ id. first_steps (subject_in source.now.image.now id)) ids.now) }
+        ≡ flat_map (λ id. first_steps (subject_in image.now id)) ids.now) }
 {
     let mut types = Vec::new(alloc);
     for id in ids {
-        let subject = subject_of(alloc, source, *id)?;
-        put_declared_types(&mut types, &subject)?;
+        put_types_of(&mut types, image, *id)?;
     }
     Ok(types)
 }

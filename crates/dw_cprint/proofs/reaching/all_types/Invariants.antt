@@ -6,5 +6,5 @@ use Rattle.dw_cprint.proofs.reaching.all_types.Given as goal
 
 abbrev pub invariant-loop-id : goal.invariant-loop-id
 invariant-loop-id l =
-    let f : ℕ → List ℕ = λ id. first_steps (subject_in l.source.image.now id) in
+    let f : ℕ → List ℕ = λ id. first_steps (subject_in l.image id) in
     entries_of l.types.items ++ flat_map f (drop l.id-index l.ids) ≡ flat_map f l.ids
