@@ -70,11 +70,7 @@ module _ (earlier : List Declaration) (bytes : List ℕ) (code tag : ℕ) (behin
   decl_takes good children others e attributes rest u = record {
     text = t.text ++ (children_byte children ∷ u.text);
     parts = t.parts ∙ ap (λ (r : List ℕ). t.text ++ r) (e ∙ ap (λ (r : List ℕ). children_byte children ∷ r) u.parts) ∙ sym (append_assoc t.text (children_byte children ∷ u.text) rest);
-    spelled = (
-      record { pair = t.text; attributes = u.text; parts = refl; is_pair = t.spelled; are_attributes = u.spelled.spelled },
-      record { code = new.some; tag = good; attributes = u.spelled.allowed },
-      new.new,
-    );
+    spelled = search (rules);
   }
 
   children_fail : IsCode16 tag → (fault : DeclFault) → ChildrenFails behind fault → DeclFails earlier bytes fault

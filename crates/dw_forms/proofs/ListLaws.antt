@@ -1,6 +1,6 @@
 -- An attribute and the list after it: they are a list if the attribute is not in it twice, and no other list begins
 -- there.
-use Rattle.std.proofs.Common.{◌≡◌, ℕ, suc, ◌-◌, ◌<◌, false, true, List, [], ◌∷◌, ◌++◌, length, take, drop, Option, Some, None, Result, Ok, Err, refl, sym, ap, subst, ◌∙◌, append_assoc, arith}
+use Rattle.std.proofs.Common.{◌≡◌, ℕ, suc, ◌-◌, false, true, List, [], ◌∷◌, ◌++◌, length, take, drop, Option, Some, None, Result, Ok, Err, refl, sym, ap, subst, ◌∙◌, append_assoc, arith}
 use Rattle.std.proofs.lemmas.List.{length-append, length-drop, take-append-drop, take_all, drop_at}
 use Rattle.std.proofs.lemmas.Result.{MatchResult-at_ok}
 use Rattle.dw_forms.specs.declared.decl.AttributeSpec.{AttributeSpec}

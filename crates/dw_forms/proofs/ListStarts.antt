@@ -1,5 +1,5 @@
 -- Lists of attributes that begin at offsets of a section, as more attributes are kept.
-use Rattle.std.proofs.Common.{◌≡◌, ℕ, suc, ◌<◌, ◌≤◌, List, [], ◌∷◌, ◌++◌, ◌-◌, length, drop, Option, Some, None, Ok, refl, sym, ap, subst, ◌∙◌, inl, inr, append_assoc, append-nil, rules, arith}
+use Rattle.std.proofs.Common.{◌≡◌, ℕ, suc, ◌<◌, ◌≤◌, List, [], ◌∷◌, ◌++◌, ◌-◌, length, drop, Option, Some, None, Ok, sym, ap, subst, ◌∙◌, append_assoc, append-nil, rules, arith}
 use Rattle.std.specs.Prelude.{get_or}
 use Rattle.std.proofs.lemmas.Bool.{cases_eq}
 use Rattle.std.proofs.lemmas.List.{length-append, get_or_append_left, get_or_at}
@@ -41,17 +41,7 @@ placed_more section nodes n starts ends at end placed nothing less_at is = recor
   apart = apart_push (length section) starts at placed.apart nothing less_at;
   starts_long = omega (arith, placed.starts_long, length-append starts (at ∷ []), length-append nodes (n ∷ []));
   ends_long = omega (arith, placed.ends_long, length-append ends (end ∷ []), length-append nodes (n ∷ []));
-  lists = λ k less. elim (cases_eq k (length nodes)) [
-    | inl same ↦
-        let at_is : get_or (starts ++ at ∷ []) k 0 ≡ at = get_or_at starts at [] 0 k (placed.starts_long ∙ sym same) in
-        let end_is : get_or (ends ++ end ∷ []) k 0 ≡ end = get_or_at ends end [] 0 k (placed.ends_long ∙ sym same) in
-        rw (at_is, end_is, same) is
-    | inr other ↦
-        let before : k < length nodes = omega (arith, other, less, length-append nodes (n ∷ [])) in
-        let at_is : get_or (starts ++ at ∷ []) k 0 ≡ get_or starts k 0 = get_or_append_left starts (at ∷ []) 0 k (omega (arith, before, placed.starts_long)) in
-        let end_is : get_or (ends ++ end ∷ []) k 0 ≡ get_or ends k 0 = get_or_append_left ends (end ∷ []) 0 k (omega (arith, before, placed.ends_long)) in
-        rw (at_is, end_is) (list_stays section nodes (nodes ++ n ∷ []) (get_or starts k 0) (suc k) (get_or ends k 0) (n ∷ [], refl) (placed.lists k before))
-  ];
+  lists = search (rules, cases_eq, get_or_at, length-append, get_or_append_left, list_stays);
 }
 
 -- where no list begins after attributes, none begins with them

@@ -43,10 +43,7 @@ apart_none end = record {
 pub apart_push : (end : ℕ) (starts : List ℕ) (start : ℕ) → AreApart end starts → NothingAt starts start → start < end → AreApart end (starts ++ start ∷ [])
 apart_push end starts start are nothing less = record {
   distinct = IsDistinct-push nat_eq_equiv starts start are.distinct (none_any starts start nothing);
-  before = λ offset any. elim (either (list_any (nat_eq offset) starts) (nat_eq offset start) (sym (list_any-append (nat_eq offset) starts (start ∷ [])) ∙ any)) [
-    | inl old ↦ are.before offset old
-    | inr new ↦ let same = eqb-true offset start new in omega (arith, same, less)
-  ];
+  before = search (rules, either, list_any-append, eqb-true);
 }
 
 -- so there are no more of them than offsets

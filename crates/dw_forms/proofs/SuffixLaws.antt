@@ -1,7 +1,7 @@
 -- Attributes from one on: the first of them, those after it, and those from the next one of a kind on.
 use Rattle.std.proofs.lemmas.Grind.{common_steps}
 use Rattle.std.proofs.Common.{rules, ◌≡◌, ◌≢◌, ℕ, ◌-◌, ◌≤◌, Bool, true, false, List, [], ◌∷◌, ◌++◌, length, take, Result, Ok, Err, refl, sym, ap, subst, ◌∙◌, append_assoc, append-nil, arith}
-use Rattle.std.specs.Prelude.{All, slice_index_or}
+use Rattle.std.specs.Prelude.{All}
 use Rattle.std.specs.List.{list_any, slice_range}
 use Rattle.std.proofs.lemmas.Bool.{eqb-true}
 use Rattle.std.proofs.lemmas.List.{length-append, get_or_append_left, get_or_at}
@@ -119,8 +119,7 @@ reads_front : (version size code : ℕ) (front : List AttributeSpec) (spec : Att
 reads_front version size code front spec back bytes answer none is e = record {
   place = length front;
   first = stands_first code front spec back none is;
-  reads = λ d. e ∙ ap (λ (s : AttributeSpec). value_behind version size s.form (values_end version size front bytes)) (sym (get_or_at front spec back d (length front) refl))
-      ∙ ap (λ (specs : List AttributeSpec). value_behind version size (slice_index_or (front ++ spec ∷ back) (length front) d).form (values_end version size specs bytes)) (sym (front_range front (spec ∷ back)));
+  reads = search (rules, get_or_at, front_range);
 }
 
 -- where there are none from it on, none has the code

@@ -1,7 +1,6 @@
 -- A declaration and the table after it: they are a table where no code occurs twice, and no other table begins there.
 use Rattle.std.proofs.Common.{◌≡◌, ◌≤◌, ℕ, suc, ◌-◌, ◌<◌, List, [], ◌∷◌, ◌++◌, length, take, drop, Option, Some, None, Ok, Err, refl, sym, ap, subst, ◌∙◌, append_assoc, rules, arith}
 use Rattle.std.proofs.lemmas.List.{length-append, length-take, length-drop, take-append-drop}
-use Rattle.std.proofs.lemmas.List.Elements.{All-cons}
 use Rattle.std.proofs.lemmas.Result.{MatchResult-at_ok}
 use Rattle.dw_forms.specs.declared.fault.DeclFault.{DeclFault}
 use Rattle.dw_forms.specs.declared.decl.KeptDecl.{KeptDecl}
@@ -11,7 +10,7 @@ use Rattle.dw_forms.specs.declared.fault.AbbrevFault.{AbbrevFault}
 use Rattle.dw_forms.specs.declared.fault.Stop.TheVariants as stops
 use Rattle.dw_forms.specs.AbbrevFaults.{fault_at}
 use Rattle.dw_forms.specs.Front.{Takes}
-use Rattle.dw_forms.specs.Abbrev.{Declaration, SpellsTable, IsDeclaration, AreDeclarations, DeclFails, Decls, TableFails}
+use Rattle.dw_forms.specs.Abbrev.{Declaration, SpellsTable, AreDeclarations, DeclFails, Decls, TableFails}
 use Rattle.dw_forms.specs.AbbrevReading.{decl_at, decls_from, table_at}
 use Rattle.dw_forms.specs.Readers.{read_is, not_both}
 use Rattle.dw_forms.specs.declared.attribute_lists.Node.{Node}
@@ -51,10 +50,7 @@ module _ (section : List ℕ) where
       t.parts ∙ ap (λ (r : List ℕ). t.text ++ r) (sym (take-append-drop len (drop next section))) ∙ sym (append_assoc t.text text rest) in
       table_spelled offset (t.text ++ text) rest (d ∷ ds) parts (record {
         spelled = (t.text, text, refl, t.spelled.0, b.spelled.spelled);
-        allowed = record {
-          each = All-cons IsDeclaration d ds t.spelled.1 b.spelled.allowed.each;
-          distinct = apart_cons code_of_decl d ds lacks b.spelled.allowed.distinct;
-        };
+        allowed = search (rules, apart_cons, code_of_decl);
       })
 
   -- at the code 0 the table is empty

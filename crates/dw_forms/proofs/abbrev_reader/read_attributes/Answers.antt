@@ -1,5 +1,4 @@
-use Rattle.std.proofs.Common.{rules}
-use Rattle.std.proofs.Common.{arith, refl}
+use Rattle.std.proofs.Common.{rules, arith, refl}
 use Rattle.dw_forms.proofs.AbbrevSteps.{attributes_done, attributes_more, attributes_fail}
 use Rattle.dw_forms.proofs.abbrev_reader.read_attributes.Goals as goal
 

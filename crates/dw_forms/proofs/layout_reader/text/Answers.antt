@@ -1,5 +1,4 @@
-use Rattle.std.proofs.Common.{rules}
-use Rattle.std.proofs.Common.{arith, eq-eqb}
+use Rattle.std.proofs.Common.{rules, arith, eq-eqb}
 use Rattle.std.proofs.lemmas.Bool.{eqb-true}
 use Rattle.dw_forms.proofs.Texts.{text_none, text_taken}
 use Rattle.dw_forms.proofs.layout_reader.text.Goals as goal

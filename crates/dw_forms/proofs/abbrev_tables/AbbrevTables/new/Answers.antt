@@ -1,14 +1,11 @@
-use Rattle.std.proofs.Common.{[], length, refl, sym, arith}
+use Rattle.std.proofs.Common.{rules, [], length, sym, arith}
 use Rattle.dw_forms.proofs.OffsetLaws.{apart_none}
 use Rattle.dw_forms.proofs.KeptLaws.{tables_long}
 use Rattle.dw_forms.proofs.abbrev_tables.AbbrevTables.new.Goals as goal
 
 pub returns-clause-tables : goal.returns-clause-tables
 returns-clause-tables c = λ section. record {
-  searchable = record {
-    coded = rw (c.new.ensures.items, c.new-2.ensures) refl;
-    within = rw c.new.ensures.items (λ k x less. absurd (omega (arith, less)));
-  };
+  searchable = search (rules);
   lists = c.new-3.ensures.lists section;
   starts = rw (c.new.ensures.items, c.new-4.ensures) (record { long = sym (tables_long c.new-3.result.lists.nodes.items []); each = λ k less. absurd (omega (arith, less)); apart = apart_none (length section) });
 }

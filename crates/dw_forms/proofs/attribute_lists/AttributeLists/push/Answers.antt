@@ -1,8 +1,7 @@
 use Rattle.std.proofs.Common.{rules, ◌≡◌, suc, false, ◌++◌, ◌∷◌, [], List, length, ap, sym, subst, refl, ◌∙◌}
 use Rattle.dw_forms.specs.declared.attribute_lists.Node.{Node}
 use Rattle.dw_forms.specs.AbbrevReading.{has_attribute}
-use Rattle.dw_forms.specs.AttributeLists.{AreKnown, AreCoded, numbered_in, list_in}
-use Rattle.dw_forms.specs.Walks.{IsStep}
+use Rattle.dw_forms.specs.AttributeLists.{AreCoded, list_in}
 use Rattle.dw_forms.proofs.NodeLaws.{known_push, coded_push, links_long}
 use Rattle.dw_forms.proofs.attribute_lists.AttributeLists.push.Goals as goal
 
@@ -20,8 +19,7 @@ invariant_of-self-in-Ok c =
     let number : c.in-Ok.number ≡ suc (length a.nodes.items) = added.0 ∙ ap suc (links_long a.codes.links.items a.nodes.items a.coded) in
     let new : c.push_reserved.new.self.items ≡ a.nodes.items ++ n ∷ [] = c.push_reserved.ensures.items ∙ ap (λ (xs : List Node). xs ++ n ∷ []) c.reserve.ensures.items in
     record {
-      known = subst AreKnown (sym new) (known_push a.nodes.items n c.args.spec c.args.rest c.in-Ok.number made.spec made.next number a.known c.requires.rest c.requires.code none (made.knows _ c.node-next.ensures.knows)
-          (subst (IsStep (numbered_in a.nodes.items c.args.rest)) (sym made.after) c.step-after.ensures.step));
+      known = search (rules, known_push);
       coded = subst (AreCoded c.push.new.self.links.items) (sym new) (coded_push a.codes.links.items c.push.new.self.links.items a.nodes.items n c.args.spec c.args.rest c.from.result made.spec made.next code a.coded added.1);
     }
 

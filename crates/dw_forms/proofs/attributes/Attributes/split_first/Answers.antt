@@ -1,5 +1,4 @@
-use Rattle.std.proofs.Common.{rules}
-use Rattle.std.proofs.Common.{ap, arith}
+use Rattle.std.proofs.Common.{rules, ap, arith}
 use Rattle.dw_forms.specs.Chains.{items_of}
 use Rattle.dw_forms.proofs.SuffixLaws.{first_ends}
 use Rattle.dw_forms.proofs.attributes.Attributes.split_first.Goals as goal
