@@ -1,6 +1,5 @@
 -- How far the pass over a unit's body has come.
-use Rattle.std.proofs.Common.{rules}
-use Rattle.std.proofs.Common.{◌≡◌, ◌≢◌, ℕ, suc, ◌+◌, ◌-◌, ◌<◌, ◌≤◌, Bool, map, true, false, cond, List, [], ◌∷◌, ◌++◌, length, reverse, Some, None, Ok, Err, refl, sym, ap, ◌∙◌, append_assoc, append-nil, arith, length-append, eq-eqb, eqb-true, true≢false}
+use Rattle.std.proofs.Common.{rules, ◌≡◌, ◌≢◌, ℕ, suc, ◌+◌, ◌-◌, ◌<◌, ◌≤◌, Bool, map, true, false, cond, List, [], ◌∷◌, ◌++◌, length, reverse, Some, None, Ok, Err, refl, sym, ap, ◌∙◌, append_assoc, append-nil, arith, length-append, eq-eqb, eqb-true, true≢false}
 use Rattle.std.specs.Prelude.{◌==◌}
 use Rattle.std.proofs.lemmas.List.{nil_from_length, length-reverse}
 use Rattle.dw_entries.specs.declared.walk.Record.{Record}

@@ -1,6 +1,5 @@
 -- One list of units at most, one fault at most, and never both.
-use Rattle.std.proofs.Common.{rules}
-use Rattle.std.proofs.Common.{◌≡◌, ℕ, zero, suc, true, true≢false, map, List, [], ◌∷◌, ◌++◌, length, Option, Some, Ok, Err, inl, inr, refl, sym, ap, ◌∙◌, append_assoc, append-nil, arith, length-append}
+use Rattle.std.proofs.Common.{rules, ◌≡◌, ℕ, zero, suc, true, true≢false, map, List, [], ◌∷◌, ◌++◌, length, Option, Some, Ok, Err, inl, inr, refl, sym, ap, ◌∙◌, append_assoc, append-nil, arith, length-append}
 use Rattle.dw_entries.specs.declared.fault.Failing.{Failing}
 use Rattle.dw_entries.specs.declared.fault.Broken.{Broken}
 use Rattle.dw_entries.specs.declared.header.HeaderKind.{HeaderKind}
@@ -50,10 +49,10 @@ node_or_fault t kind header n zs f p nulls tag b =
     whole = node_items n ++ map null zs
 
     spelled : items_bytes (node_items n ++ map null zs) ≡ node_bytes n ++ nulls_bytes zs
-    spelled = items_bytes-append (node_items n) (map null zs) ∙ ap (λ (x : List ℕ). x ++ items_bytes (map null zs)) (node_spelled n) ∙ ap (λ (x : List ℕ). node_bytes n ++ x) (nulls_spelled zs)
+    spelled = search (rules, items_bytes-append, node_spelled, nulls_spelled)
 
     fits : FitsUnit kind (node_items n ++ map null zs)
-    fits = fits_node kind n (map null zs) tag
+    fits = search (rules, fits_node)
 
     none_more : (more : List Item) → AreItems t more → [] ≡ items_bytes more ++ b.rest → more ≡ []
     none_more more are e = no_items t more b.rest are e

@@ -1,6 +1,5 @@
 -- The search for an entry by its offset.
-use Rattle.std.proofs.Common.{rules}
-use Rattle.std.proofs.Common.{◌≡◌, ℕ, ◌<◌, ◌≤◌, List, length, get_or, Some, sym, ap, subst, ◌∙◌, arith, inl, inr}
+use Rattle.std.proofs.Common.{rules, ◌≡◌, ℕ, ◌<◌, ◌≤◌, List, length, get_or, Some, sym, ap, subst, ◌∙◌, arith, inl, inr}
 use Rattle.std.specs.Prelude.{slice_get}
 use Rattle.std.specs.List.Sorted.{IsPartitionPoint, IsNonDecreasingBy}
 use Rattle.std.proofs.lemmas.Option.{slice_get_within, slice_get-get_or}
@@ -39,12 +38,8 @@ module _ (a info : List ℕ) (tables : Tables) (rs : List UnitRecord) (records :
       let at_low = ap (λ (r : Record). r.at) (record_is low (get_or records i d) (slice_get-get_or records i d (omega arith))) in
       let at_high = ap (λ (r : Record). r.at) (record_is high (get_or records j d) (slice_get-get_or records j d lt)) in
       elim (three_ways i j) [
-        | inl (inl less) ↦
-            let rise = entries_rise a (units_of s) s.1.spells.are i j low.entry high.entry less low.is_entry high.is_entry in
-            omega (arith, at_low, at_high, rise)
-        | inl (inr same) ↦
-            let P : ℕ → Type 0 = λ n. (get_or records i d).at ≤ (get_or records n d).at in
-            subst P same (omega arith)
+        | inl (inl less) ↦ search (rules, entries_rise)
+        | inl (inr same) ↦ search (rules)
         | inr more ↦ absurd (omega arith)
       ]
 

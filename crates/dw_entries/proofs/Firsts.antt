@@ -1,6 +1,5 @@
 -- The first failure of rules that are asked of entries one by one.
-use Rattle.std.proofs.Common.{rules}
-use Rattle.std.proofs.Common.{◌≡◌, ℕ, ◌+◌, ◌<◌, ◌≤◌, List, length, Option, Some, refl, sym, ap, ◌∙◌, arith, subst, eq-or-lt_of_le, inl, inr, ◌⊎◌}
+use Rattle.std.proofs.Common.{rules, ◌≡◌, ℕ, ◌+◌, ◌<◌, ◌≤◌, List, length, Option, Some, refl, sym, ap, ◌∙◌, arith, subst, eq-or-lt_of_le, inl, inr, ◌⊎◌}
 use Rattle.std.specs.Prelude.{slice_get}
 use Rattle.std.proofs.lemmas.Option.{slice_get_within}
 use Rattle.dw_forms.specs.Value.{Datum}
@@ -58,12 +57,7 @@ first_of_list {X} xs offset Fails number x broken rise stands is_x passed first 
   first = λ g fails precedes.
       elim (three_ways fails.number number) [
         | inl (inl less) ↦ passed fails.number fails.item less fails.is_item g fails.fails
-        | inl (inr same) ↦
-            let here : slice_get xs number ≡ Some fails.item = ap (λ (i : ℕ). slice_get xs i) (sym same) ∙ fails.is_item in
-            let one : fails.item ≡ x = same_some (slice_get xs number) fails.item x here is_x in
-            let P : X → Type 0 = λ y. Fails number y g in
-            let Q : ℕ → Type 0 = λ i. Fails i fails.item g in
-            first.first g (subst P one (subst Q same fails.fails)) precedes
+        | inl (inr same) ↦ search (rules, same_some)
         | inr more ↦
             let above = rise number fails.number x fails.item more is_x fails.is_item in
             let below = stands fails.number number fails.item x g first.failure fails.fails first.fails precedes in

@@ -1,6 +1,5 @@
 -- At each entry's offset is its head, in the context of its unit.
-use Rattle.std.proofs.Common.{rules}
-use Rattle.std.proofs.Common.{◌≡◌, ℕ, zero, suc, ◌+◌, ◌<◌, List, [], ◌∷◌, ◌++◌, length, drop, Option, Some, None, Ok, refl, sym, ap, ◌∙◌, arith, length-append, length-drop, subst, append_assoc, append-nil, drop_at, drop-drop}
+use Rattle.std.proofs.Common.{rules, ◌≡◌, ℕ, zero, suc, ◌+◌, ◌<◌, List, [], ◌∷◌, ◌++◌, length, drop, Option, Some, None, Ok, refl, sym, ap, ◌∙◌, arith, length-append, length-drop, subst, append_assoc, append-nil, drop_at, drop-drop}
 use Rattle.std.specs.Prelude.{slice_get}
 use Rattle.std.specs.List.{flat_map, AllByRecursion}
 use Rattle.dw_entries.specs.Grammar.{Context, head_bytes, attribute_bytes, IsHead}

@@ -1,6 +1,5 @@
 -- What is kept of an entry and of its unit, and what is in .debug_info where they point.
-use Rattle.std.proofs.Common.{rules}
-use Rattle.std.proofs.Common.{◌≡◌, ℕ, zero, suc, ◌-◌, ◌<◌, ◌≤◌, List, [], ◌∷◌, ◌++◌, length, take, drop, get_or, Option, Some, None, Ok, Err, refl, sym, ap, subst, ◌∙◌, inl, inr, arith}
+use Rattle.std.proofs.Common.{rules, ◌≡◌, ℕ, zero, suc, ◌-◌, ◌<◌, ◌≤◌, List, [], ◌∷◌, ◌++◌, length, take, drop, get_or, Option, Some, None, Ok, Err, refl, sym, ap, subst, ◌∙◌, inl, inr, arith}
 use Rattle.std.specs.Prelude.{slice_get, IfSome, IsSomeAnd}
 use Rattle.std.specs.List.{AllZip, flat_map}
 use Rattle.std.proofs.lemmas.List.{length-map}
@@ -192,9 +191,7 @@ pub record KeptUnit (a info : List ℕ) (tables : Tables) (rs : List UnitRecord)
 pub kept_unit : (a info : List ℕ) (tables : Tables) (rs : List UnitRecord) (records : List Record) (s : Scanned a info tables rs records) (number : ℕ) → number < length (units_of s) → KeptUnit a info tables rs records s number
 kept_unit a info tables rs records s number within = elim (slice_get_cases (placed (units_of s)) number).1 [
   | inr past ↦ absurd (omega (arith, past.0, within, length-placed_from 0 0 (units_of s)))
-  | inl it ↦
-      let (r, is_r, kept) = unit_kept tables rs (placed (units_of s)) s.1.kept number it.0 it.2 in
-      record { place = it.0; is_place = it.2; unit_record = r; is_unit_record = is_r; kept = kept; first = first_entry (units_of s) number it.0 it.2 }
+  | inl it ↦ search (rules, unit_kept, first_entry)
 ]
 
 abbrev told : ℕ → UnitHeader → UnitType → ℕ → UnitHead

@@ -1,6 +1,5 @@
 -- The attributes of an entry that stand in .debug_info, and the value of one of them.
-use Rattle.std.proofs.Common.{rules}
-use Rattle.std.proofs.Common.{◌≡◌, ℕ, List, ◌++◌, map, None, false, sym, ap, ◌∙◌}
+use Rattle.std.proofs.Common.{rules, ◌≡◌, ℕ, List, ◌++◌, map, None, false, sym, ap, ◌∙◌}
 use Rattle.std.specs.Prelude.{◌==◌, ◌≢◌, All, slice_get, slice_index_or, IfSome}
 use Rattle.std.specs.List.{flat_map}
 use Rattle.std.proofs.lemmas.Bool.{ne_eqb}

@@ -1,6 +1,5 @@
 -- The nulls after a unit's tree.
-use Rattle.std.proofs.Common.{rules}
-use Rattle.std.proofs.Common.{◌≡◌, ℕ, ◌+◌, ◌-◌, ◌<◌, map, true, List, [], ◌∷◌, ◌++◌, length, Ok, refl, sym, ap, ◌∙◌, append_assoc, append-nil, arith, length-append}
+use Rattle.std.proofs.Common.{rules, ◌≡◌, ℕ, ◌+◌, ◌-◌, ◌<◌, map, true, List, [], ◌∷◌, ◌++◌, length, Ok, refl, sym, ap, ◌∙◌, append_assoc, append-nil, arith, length-append}
 use Rattle.std.proofs.lemmas.List.Concat.{flat_map-append}
 use Rattle.dw_entries.specs.declared.walk.Record.{Record}
 use Rattle.dw_entries.specs.declared.header.HeaderKind.{HeaderKind}
@@ -9,7 +8,7 @@ use Rattle.dw_entries.specs.declared.fault.Failing.{Failing}
 use Rattle.dw_entries.specs.Grammar.{Context, IsNull}
 use Rattle.dw_entries.specs.Header.{fits_tag, header_size}
 use Rattle.dw_entries.specs.Tree.{Node, leaf, parent, node_bytes}
-use Rattle.dw_entries.specs.Items.{IsItem, Item, null, items_bytes, node_items}
+use Rattle.dw_entries.specs.Items.{Item, null, items_bytes, node_items}
 use Rattle.dw_entries.specs.Reading.{Code, seen, code_at}
 use Rattle.dw_entries.specs.Units.{AreNulls, nulls_bytes, head_of}
 use Rattle.dw_entries.specs.Faults.{FitsUnit, in_unit, BodyFails}
@@ -75,12 +74,7 @@ left_over t numbers kind header start body rest left old new s tree then =
       rest = left;
       depth = 0;
       failing = f;
-      front = record {
-        are = all-append (IsItem t) (node_items tree.root) (map null zs) (node_are_items t tree.root tree.is) (nulls_are_items t zs (all-append IsNull tree.nulls then.nulls tree.are_nulls then.are));
-        fits = fits_node kind tree.root (map null zs) tree.tag;
-        at_depth = whole_depth t tree.root zs tree.is;
-        parts = parts;
-      };
+      front = search (rules, all-append, node_are_items, nulls_are_items, fits_node, whole_depth);
       stops = (then.more, then.other, refl);
       is = ap (λ (k : ℕ). in_unit f header k) here;
     }

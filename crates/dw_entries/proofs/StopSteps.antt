@@ -1,6 +1,5 @@
 -- What is asked for is found among the attributes at which a search stops.
-use Rattle.std.proofs.Common.{rules}
-use Rattle.std.proofs.Common.{◌≡◌, ◌<◌, false, List, [], ◌∷◌, ◌++◌, length, sym, ap, subst, append-nil, arith}
+use Rattle.std.proofs.Common.{rules, ◌≡◌, ◌<◌, false, List, [], ◌∷◌, ◌++◌, length, sym, ap, subst, append-nil, arith}
 use Rattle.std.specs.List.{list_any}
 use Rattle.std.proofs.lemmas.Bool.{or_parts}
 use Rattle.std.proofs.lemmas.List.{length-append}

@@ -1,6 +1,5 @@
 -- Where a text is that is in the value of an attribute.
-use Rattle.std.proofs.Common.{rules}
-use Rattle.std.proofs.Common.{◌≡◌, ◌≢◌, ℕ, suc, ◌+◌, ◌-◌, ◌<◌, ◌≤◌, List, [], ◌∷◌, ◌++◌, length, take, drop, map, All, true, false, Some, Result, Ok, refl, sym, ap, subst, ◌∙◌, append_assoc, length-append, length-drop, drop_at, drop-drop, take-append-drop, arith}
+use Rattle.std.proofs.Common.{rules, ◌≡◌, ◌≢◌, ℕ, suc, ◌+◌, ◌-◌, ◌<◌, ◌≤◌, List, [], ◌∷◌, ◌++◌, length, take, drop, map, All, true, false, Some, Result, Ok, refl, sym, ap, subst, ◌∙◌, append_assoc, length-append, length-drop, drop_at, drop-drop, take-append-drop, arith}
 use Rattle.std.specs.Prelude.{slice_get, IfSome}
 use Rattle.std.specs.List.{flat_map, list_any}
 use Rattle.std.proofs.Props.{props}
@@ -113,8 +112,7 @@ text_of_first x [] s back (b ∷ bs) rest bytes after code t are spelled none ha
     record {
       before = take n b.bytes;
       tail = others;
-      parts = ap (λ (c : List ℕ). c ++ others) split ∙ append_assoc (take n b.bytes) (t ++ 0 ∷ []) others
-          ∙ ap (λ (c : List ℕ). take n b.bytes ++ c) (append_assoc t (0 ∷ []) others);
+      parts = search (rules, append_assoc);
       follows = sym (ok_is (ap (λ (r : Result (List ℕ) ValueFault). r >>= λ more. values_end x.version x.address_size [] more) (sym first_end) ∙ ends));
       none_before = end.none_before;
     }

@@ -1,6 +1,5 @@
 -- Which entries are of a unit: those from its first one up to the first one of the next unit.
-use Rattle.std.proofs.Common.{rules}
-use Rattle.std.proofs.Common.{◌≡◌, ℕ, zero, suc, ◌+◌, ◌-◌, ◌<◌, ◌≤◌, List, [], ◌∷◌, ◌++◌, length, get_or, Option, Some, None, refl, sym, ap, subst, ◌∙◌, inl, inr, arith, length-append}
+use Rattle.std.proofs.Common.{rules, ◌≡◌, ℕ, zero, suc, ◌+◌, ◌-◌, ◌<◌, ◌≤◌, List, [], ◌∷◌, ◌++◌, length, get_or, Option, Some, None, refl, sym, ap, subst, ◌∙◌, inl, inr, arith, length-append}
 use Rattle.std.specs.Prelude.{slice_get, IfSome}
 use Rattle.std.specs.List.{AllByRecursion}
 use Rattle.std.specs.List.Sorted.{IsPartitionPoint, IsNonDecreasingBy}
@@ -162,7 +161,7 @@ module _ (a info : List ℕ) (tables : Tables) (rs : List UnitRecord) (records :
   ends_with_all n within past = go (slice_get (placed (units_of s)) n) refl
     where
       last : suc n ≡ length (units_of s)
-      last = omega (arith, within, past, units_counted a info tables rs records s)
+      last = search (rules, units_counted)
 
       go : (o : Option PlacedUnit) → slice_get (placed (units_of s)) n ≡ o → IfSome o (λ p. length records ≡ p.first + node_count p.unit.root)
       go None at = tt

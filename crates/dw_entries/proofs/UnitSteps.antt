@@ -1,5 +1,5 @@
 -- What taking a unit rests on.
-use Rattle.std.proofs.Common.{◌≡◌, ℕ, ◌+◌, ◌≤◌, List, [], ◌∷◌, ◌++◌, length, None, Ok, refl, sym, ap, ◌∙◌, append_assoc, append-nil, arith, length-append}
+use Rattle.std.proofs.Common.{rules, ◌≡◌, ℕ, ◌+◌, ◌≤◌, List, [], ◌∷◌, ◌++◌, length, None, Ok, sym, ap, ◌∙◌, append_assoc, append-nil, arith, length-append}
 use Rattle.dw_forms.specs.Abbrev.{Declaration}
 use Rattle.dw_entries.specs.declared.walk.UnitRecord.{UnitRecord}
 use Rattle.dw_entries.specs.declared.walk.Kept.{Kept}
@@ -52,13 +52,7 @@ module _ (a rest : List ℕ) (h : UnitHeader) (body : List ℕ) (bytes : AreByte
         parts = r.parts ∙ ap (λ (b : List ℕ). header_bytes h ++ (b ++ r.after)) whole ∙ sym (append_assoc (header_bytes h) (body_bytes u) r.after);
         len_is = omega (arith, r.unit_length, ap length whole, length-append (header_fields h) body, length-append (header_bytes h) (body_bytes u), length-header h, length-append (little_bytes 4 h.unit_length) (header_fields h), length-bytes_low_first 0 4 h.unit_length);
         record_is = unit_record at h number first;
-        kept = record {
-          at = refl;
-          header = refl;
-          within = there.within;
-          table = refl;
-          first = few;
-        };
+        kept = search (rules);
         units = units;
         records = tree.records ∙ ap (λ (k : ℕ). old.records.items ++ node_records numbers None None (length old.records.items) k tree.root) s;
         tables = tables;

@@ -1,6 +1,5 @@
 -- One attribute of those that are left.
-use Rattle.std.proofs.Common.{rules}
-use Rattle.std.proofs.Common.{◌≡◌, ℕ, ◌≤◌, ◌<◌, subst, List, [], ◌∷◌, ◌++◌, ◌-◌, length, take, drop, map, None, Result, Ok, Err, refl, sym, ap, ◌∙◌, append_assoc, arith, false}
+use Rattle.std.proofs.Common.{rules, ◌≡◌, ℕ, ◌≤◌, ◌<◌, subst, List, [], ◌∷◌, ◌++◌, ◌-◌, length, take, drop, map, None, Result, Ok, Err, refl, sym, ap, ◌∙◌, append_assoc, arith, false}
 use Rattle.std.specs.List.{flat_map}
 use Rattle.dw_forms.specs.declared.decl.AttributeSpec.{AttributeSpec}
 use Rattle.dw_forms.specs.declared.value.ValueFault.{ValueFault}

@@ -1,5 +1,4 @@
-use Rattle.std.proofs.Common.{rules}
-use Rattle.std.proofs.Common.{arith}
+use Rattle.std.proofs.Common.{rules, arith}
 use Rattle.dw_entries.proofs.ScanLaws.{upto_start, upto_next, upto_end, upto_few_entries, unit_within, rest_of}
 use Rattle.dw_entries.proofs.scanning.scan_units.Goals as goal
 

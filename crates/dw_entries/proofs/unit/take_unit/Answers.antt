@@ -1,5 +1,4 @@
-use Rattle.std.proofs.Common.{rules}
-use Rattle.std.proofs.Common.{◌∙◌, refl}
+use Rattle.std.proofs.Common.{rules, ◌∙◌, refl}
 use Rattle.dw_entries.proofs.HeaderReads.{slice_bytes}
 use Rattle.dw_entries.proofs.UnitSteps.{read_size, read_offset, read_start, unit_taken}
 use Rattle.dw_entries.proofs.unit.take_unit.Goals as goal

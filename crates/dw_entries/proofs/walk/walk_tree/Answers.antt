@@ -1,5 +1,4 @@
-use Rattle.std.proofs.Common.{rules}
-use Rattle.std.proofs.Common.{◌≡◌, [], ap, reverse}
+use Rattle.std.proofs.Common.{rules, ◌≡◌, [], ap, reverse}
 use Rattle.dw_entries.specs.Units.{context_in, numbers_in}
 use Rattle.dw_entries.specs.Walk.{walk_of}
 use Rattle.dw_entries.specs.ReadingLaws.{seen_err}

@@ -1,5 +1,4 @@
-use Rattle.std.proofs.Common.{rules}
-use Rattle.std.proofs.Common.{◌∙◌, sym, subst}
+use Rattle.std.proofs.Common.{rules, ◌∙◌, sym, subst}
 use Rattle.dw_forms.specs.Walks.{IsStep}
 use Rattle.dw_entries.proofs.KeptLaws.{kept_entry}
 use Rattle.dw_entries.proofs.LeftLaws.{specs_here}

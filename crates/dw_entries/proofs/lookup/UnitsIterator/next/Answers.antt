@@ -1,5 +1,4 @@
-use Rattle.std.proofs.Common.{rules}
-use Rattle.std.proofs.Common.{arith}
+use Rattle.std.proofs.Common.{rules, arith}
 use Rattle.dw_entries.specs.Scanned.{units_of}
 use Rattle.dw_entries.proofs.UnitTurns.{unit_turn, fewer_units, no_units}
 use Rattle.dw_entries.proofs.lookup.UnitsIterator.next.Goals as goal

@@ -1,5 +1,4 @@
-use Rattle.std.proofs.Common.{rules}
-use Rattle.std.proofs.Common.{length}
+use Rattle.std.proofs.Common.{rules, length}
 use Rattle.dw_forms.specs.Suffixes.{specs_in}
 use Rattle.dw_entries.specs.Values.{value_context}
 use Rattle.dw_entries.specs.ValuesLeft.{values_left}
