@@ -114,12 +114,7 @@ signed_twice entries units s i j none less has_i has_j =
       number = j;
       item = has_j.unit;
       is_item = has_j.is_unit;
-      fails = record {
-        stands = refl;
-        attribute = refl;
-        fails = let P : Option (ℕ × ℕ) → Type 0 = λ o. HeaderFails entries units j has_j.unit.at o SignatureTwice in
-            subst P (sym has_j.signed) (inl (refl, record { earlier = i; before = less; has = has_i }));
-      };
+      fails = search (rules);
     })
 
 pub distinct_from : (entries : List Entry) (units : List PlacedUnit) → HasNone (HeaderFailures entries units) → AreDistinct units

@@ -1,5 +1,5 @@
 -- Where no rule on strings, addresses and references fails, values lead somewhere.
-use Rattle.std.proofs.Common.{rules, ◌≡◌, ℕ, List, Option, Some, None, IsSome, refl, sym, subst, ◌+◌, ◌==◌, Bool, true, false, ap, ◌∙◌, inl, inr, eq-eqb}
+use Rattle.std.proofs.Common.{rules, ◌≡◌, ℕ, List, Option, Some, None, IsSome, refl, sym, ◌+◌, ◌==◌, Bool, true, false, ap, ◌∙◌, inl, inr, eq-eqb}
 use Rattle.std.specs.Prelude.{slice_get}
 use Rattle.std.proofs.lemmas.Bool.{eqb-true}
 use Rattle.dw_elf.specs.declared.sections.Sections.{Sections}
@@ -25,7 +25,7 @@ use Rattle.dw_links.specs.AttributeTexts.{text_at, address_at}
 use Rattle.dw_links.specs.LinkLaws.{HaveTexts, HaveAddresses, HaveTargets, HaveTypes}
 use Rattle.dw_links.proofs.TableLaws.{unit_of_entry}
 use Rattle.dw_links.proofs.SlotLaws.{passes_string, stands_at}
-use Rattle.dw_links.specs.References.{permits, permits_form, IsOtherThan, is_reference_value, ReferenceFailsBy, TypeUnitFails, HeaderFails, ReferenceFailures}
+use Rattle.dw_links.specs.References.{permits, permits_form, IsOtherThan, is_reference_value, ReferenceFailsBy, TypeUnitFails, ReferenceFailures}
 use Rattle.dw_links.specs.Signatures.{type_in, HasSignature, first_signed}
 use Rattle.dw_links.specs.Targets.{entry_at, reach_in_unit, reach_of, target_of}
 use Rattle.dw_links.proofs.HeaderLaws.{distinct_from, typed, not_typed}
@@ -103,11 +103,7 @@ passes_header us number signature type_offset p none is kind rule fails =
       number = number;
       item = p;
       is_item = is;
-      fails = record {
-        stands = refl;
-        attribute = refl;
-        fails = let P : Option (ℕ × ℕ) → Type 0 = λ o. HeaderFails (entries_of us) (placed us) number p.at o rule in subst P (sym kind) fails;
-      };
+      fails = search (rules);
     }))
 
 no_answer : (o : Option ℕ) (k : ℕ) → o ≡ None → o ≡ Some k → ⊥

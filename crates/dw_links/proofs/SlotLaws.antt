@@ -117,11 +117,7 @@ text_slot sections index base never is_sound = record {
 address_slot : (sections : Sections) (header : UnitHeader) (index base : ℕ) → IsSize header.address_size → (AddressIndexFails sections header (Some base) index AddrIndex → ⊥) → ((IsAddressContribution sections header base → ⊥) → ⊥) → IsAddressSlot sections header index base
 address_slot sections header index base size never is_sound = record {
   size = size;
-  within = at_most (base + header.address_size * index + header.address_size) (length sections.addr.now) (λ more. is_sound (λ c.
-      elim (below_or_not index (slot_count sections.addr.now header.address_size base)) [
-        | inl under ↦ let lies = slot_within sections.addr.now header.address_size header.address_size base index size c under in omega (arith, lies, more)
-        | inr over ↦ never (c, over)
-      ]));
+  within = search (rules, at_most, below_or_not, slot_within);
 }
 
 if_each : (o : Option ℕ) (P : ℕ → Type 0) → ((n : ℕ) → o ≡ Some n → P n) → IfSome o P

@@ -2,14 +2,12 @@
 -- entry after the other.
 use Rattle.std.proofs.Common.{rules, ◌≡◌, ℕ, ◌+◌, ◌<◌, ◌≤◌, length, Option, None, Some, ap, ◌∙◌, arith}
 use Rattle.std.specs.Prelude.{slice_get, IfSome}
-use Rattle.dw_forms.specs.Codes.{DW_AT_str_offsets_base, DW_AT_addr_base}
 use Rattle.dw_forms.specs.Value.{Datum}
 use Rattle.dw_entries.specs.declared.fault.Broken.{Broken}
 use Rattle.dw_entries.specs.declared.fault.Fault.{Fault as FaultOf}
 use Rattle.dw_entries.specs.declared.fault.Rule.{Rule}
 use Rattle.dw_entries.specs.declared.entries.Entries.{Entries}
 use Rattle.dw_entries.specs.declared.lookup.EntryHead.{EntryHead}
-use Rattle.dw_entries.specs.declared.lookup.UnitHead.{UnitHead}
 use Rattle.dw_forms.specs.declared.fault.Stop.{Stop}
 use Rattle.dw_forms.specs.declared.fault.Stop.TheVariants.{Memory, Fault}
 use Rattle.dw_entries.specs.Asked.{AtEntries}
@@ -22,9 +20,7 @@ use Rattle.dw_entries.specs.Views.{sections_of}
 use Rattle.dw_entries.proofs.EntryFacts.{entries_rise}
 use Rattle.dw_entries.proofs.FirstPlaces.{first_by_right}
 use Rattle.dw_entries.proofs.Firsts.{same_some, first_of_entries, none_of_entries, attributes_stand}
-use Rattle.dw_links.specs.declared.contribution.UnitBases.{UnitBases}
 use Rattle.dw_links.specs.declared.strings.UnitTexts.{UnitTexts}
-use Rattle.dw_links.specs.Bases.{base_in}
 use Rattle.dw_links.specs.Concerns.{Rules, AtHead, PassesAt, FailsAt}
 use Rattle.dw_links.specs.declared.linking.Failed.{Failed}
 use Rattle.dw_links.specs.declared.linking.Failed.TheVariants.{String, Reference}
