@@ -16,7 +16,7 @@ ghost use Rattle.dw_cprint.specs.declared.fault.PrintFault.{PrintFault as PrintF
 ghost use Rattle.dw_cprint.specs.declared.fault.PrintFault.TheVariants.{Memory};
 
 use crate::fault::PrintFault;
-use crate::reaching::{all_types, put_declared_types};
+use crate::reaching::all_types;
 use crate::shape::{Name, Shape, Subject};
 use crate::shape_reader::subject_of;
 use crate::source::{Source, Strings, flag_at, has_name, tag_at};
@@ -98,13 +98,10 @@ fn refusal_of(
     draft: &mut Draft,
 ) -> Result<Option<PrintFault>, AllocError>
     requires { id < length (entries_in source.now.image.now) }
-    ensures { IfOk result
-        (IsJudgement (shape_in source.now.image.now) (subject_in source.now.image.now id) draft.new) }
+    ensures { IfOk result (IsJudgement (shape_in source.now.image.now) (subject_in source.now.image.now id) draft.new) }
 {
     let subject = subject_of(alloc, source, id)?;
-    let mut types = Vec::new(alloc);
-    put_declared_types(&mut types, &subject)?;
-    let survey = Survey::new(alloc, source, types)?;
+    let survey = Survey::new(alloc, source, all_types(alloc, source.image, &[id])?)?;
     survey.refusal(alloc, &subject, draft)
 }
 
@@ -222,8 +219,7 @@ fn levels_of(alloc: Global, image: &Image<'_>) -> Result<Numbers, AllocError>
 fn sort_by_level(entries: &mut Vec<EntryId>, levels: &Numbers) -> Result<(), AllocError>
     requires { AllPairs (λ a b. a < b) entries.old.items }
     ensures permutation { IsPermutation entries.old.items entries.new.items }
-    ensures sorted { OnOk result
-        (AllPairs (λ a b. StandsBefore (slice_index levels.now) a b) entries.new.items) }
+    ensures sorted { OnOk result (AllPairs (λ a b. StandsBefore (slice_index levels.now) a b) entries.new.items) }
 {
     entries.sort_by_key(|id| longest_at(levels, id.number()))?;
     Ok(())
@@ -287,8 +283,7 @@ pub fn declare_all(alloc: Global, image: &Image<'_>) -> Result<Listing, NoMemory
         let subject = subject_of(alloc, &source, id)?;
         listing.add(alloc, &survey, id, &subject, &mut draft)?;
     }
-    drop(survey);
-    drop(named);
+    drop((survey, named));
     listing.refused.sort_by_key(|one| one.0)?;
     put_all_refused(&mut listing.text, image, &listing.refused)?;
     Ok(listing)

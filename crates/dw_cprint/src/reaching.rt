@@ -171,10 +171,8 @@ fn put_types_of(types: &mut Vec<TypeAt>, image: &Image<'_>, id: EntryId) -> Resu
 {
     match tag_at(image, id) {
         DW_TAG_typedef | DW_TAG_variable => types.push(type_at(image, id))?,
-        DW_TAG_structure_type | DW_TAG_union_type => {
-            if !flag_at(image, id, DW_AT_declaration) {
-                put_types_of_members(types, image, id)?;
-            }
+        DW_TAG_structure_type | DW_TAG_union_type if !flag_at(image, id, DW_AT_declaration) => {
+            put_types_of_members(types, image, id)?;
         }
         _ => {}
     }
@@ -207,8 +205,7 @@ pub fn reach<'a>(
     requires { All (λ to. to < length (entries_in source.now.image.now)) (entries_of types.now) }
     ensures reach { IfOk result (λ r. IsReachOf (shape_in source.now.image.now) (entries_of types.now)
         r.places.items r.found (⟦<Packed as StepGraph>⟧.graph r.graph)) }
-    ensures shapes { IfOk result (λ r. map view_shape r.shapes.items
-        ≡ map (shape_in source.now.image.now) r.found) }
+    ensures shapes { IfOk result (λ r. map view_shape r.shapes.items ≡ map (shape_in source.now.image.now) r.found) }
 {
     let mut places = vec![in alloc; 0; source.image.entries()]?;
     let mut found = Numbers::with_room(alloc, 0)?;

@@ -107,8 +107,7 @@ fn function_shape<'a>(
     id: EntryId,
 ) -> Result<Shape<'a>, AllocError>
     requires { id < length (entries_in image.now) }
-    ensures { IfOk result (λ shape. view_shape shape
-        ≡ function (type_at image.now id) (parameters_in image.now id)) }
+    ensures { IfOk result (λ shape. view_shape shape ≡ function (type_at image.now id) (parameters_in image.now id)) }
 {
     if !flag_at(image, id, DW_AT_prototyped) {
         return Ok(Shape::Function(type_at(image, id), None));

@@ -299,8 +299,7 @@ pub fn summarize(
     ensures places { IfOk result (λ it. it.places.items ≡ places.items) }
     ensures clear { IfOk result (λ it. HaveSummaries clear.now.by_rank it.nodes.items) }
     ensures right { IfOk result (λ it. (all : ℕ → ShapeOf) (found : List ℕ)
-        → AreNodes all places.items found shapes.now clear.now.by_rank
-        → AreRight all found clear.now.by_rank it) }
+        → AreNodes all places.items found shapes.now clear.now.by_rank → AreRight all found clear.now.by_rank it) }
 {
     let mut summaries = Summaries {
         places,

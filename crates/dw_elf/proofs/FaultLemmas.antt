@@ -1,7 +1,6 @@
 -- A file has one fault: of two checks that fail first, at places where all lower ones pass, neither comes
 -- before the other.
-use Rattle.std.proofs.Common.{rules}
-use Rattle.std.proofs.Common.{◌≡◌, ℕ, List, cond, eqb, refl, sym, subst}
+use Rattle.std.proofs.Common.{rules, ◌≡◌, ℕ, List, cond, eqb, refl, sym, subst}
 use Rattle.std.proofs.lemmas.Bool.{cases_order}
 use Rattle.dw_elf.specs.declared.fault.ElfRule.{ElfRule}
 use Rattle.dw_elf.specs.declared.fault.ElfFault.{ElfFault}

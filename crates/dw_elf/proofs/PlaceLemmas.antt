@@ -1,6 +1,5 @@
 -- Where the bytes of a section are in the file.
-use Rattle.std.proofs.Common.{rules}
-use Rattle.std.proofs.Common.{◌≡◌, ℕ, zero, suc, inl, inr, List, [], ◌∷◌, length, take, drop, refl, ap}
+use Rattle.std.proofs.Common.{rules, ◌≡◌, ℕ, zero, suc, inl, inr, List, [], ◌∷◌, length, take, drop, refl, ap}
 use Rattle.dw_elf.specs.declared.sections.DebugSection.{DebugSection}
 use Rattle.dw_elf.specs.Elf.{IsHeader, section_name, section_bytes, section_offset, section_size}
 use Rattle.dw_elf.specs.Names.{name_of}

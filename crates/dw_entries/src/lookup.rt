@@ -69,8 +69,7 @@ impl<'a> Entries<'a> {
     /// The declaration of an entry. Its unit is not looked up.
     pub fn decl(&self, id: EntryId) -> Decl<'_>
         requires { id < length (all_entries self.now.scanned) }
-        ensures { IfSome (slice_get (all_entries self.now.scanned) id)
-            (λ e. decl_view result ≡ e.head.decl) }
+        ensures { IfSome (slice_get (all_entries self.now.scanned) id) (λ e. decl_view result ≡ e.head.decl) }
     {
         let kept = self.record(id);
         self.decls.decl(kept.decl)
@@ -145,8 +144,7 @@ impl<'a> Entries<'a> {
     /// The attributes of an entry in their order, each value decoded on demand.
     pub fn values(&self, id: EntryId) -> Values<'_, 'a>
         requires { id < length (all_entries self.now.scanned) }
-        ensures { IfSome (slice_get (all_entries self.now.scanned) id)
-            (λ e. values_left result ≡ values_of e.head) }
+        ensures { IfSome (slice_get (all_entries self.now.scanned) id) (λ e. values_left result ≡ values_of e.head) }
     {
         self.at(id).values()
     }

@@ -134,8 +134,7 @@ fn skip_attribute<'b>(
     spec: AttributeSpec,
     bytes: &'b [u8],
 ) -> Result<&'b [u8], Failing>
-    ensures { Gives (λ rest. rest.now) result
-        (after (attribute_at (context_in context.entry) spec bytes.now)) }
+    ensures { Gives (λ rest. rest.now) result (after (attribute_at (context_in context.entry) spec bytes.now)) }
 {
     if !spec.form.allowed(context.version) {
         return Err(Failing {

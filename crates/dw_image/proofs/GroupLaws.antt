@@ -1,6 +1,5 @@
 -- Which rules a group of failures has, and that one of them is named at a place.
-use Rattle.std.proofs.Common.{rules}
-use Rattle.std.proofs.Common.{◌≡◌, ℕ, true, List, Option, Some, None, refl, sym, ap, ◌∙◌, arith, inl, inr, ◌+◌, ◌<◌, ◌≤◌, ◌==◌, if◌then◌else◌}
+use Rattle.std.proofs.Common.{rules, ◌≡◌, ℕ, true, List, Option, Some, None, refl, sym, ap, ◌∙◌, arith, inl, inr, ◌+◌, ◌<◌, ◌≤◌, ◌==◌, if◌then◌else◌}
 use Rattle.dw_elf.specs.declared.sections.Sections.{Sections}
 use Rattle.dw_forms.specs.Value.{Datum, str, line_str, str_index, sec_offset, addr_index}
 use Rattle.dw_entries.specs.declared.header.UnitHeader.{UnitHeader}

@@ -1,6 +1,5 @@
 -- The entry that starts at an offset: offsets rise, so there is one at most; and a text is no longer than its section.
-use Rattle.std.proofs.Common.{rules}
-use Rattle.std.proofs.Common.{◌≡◌, ◌≢◌, ℕ, zero, suc, ◌+◌, ◌<◌, ◌==◌, false, List, [], ◌∷◌, Option, Some, None, IfSome, refl, sym, ap, ◌∙◌, arith, length, ne_eqb, eq-eqb, ◌≤◌, length-take, length-drop}
+use Rattle.std.proofs.Common.{rules, ◌≡◌, ◌≢◌, ℕ, zero, suc, ◌+◌, ◌<◌, ◌==◌, false, List, [], ◌∷◌, Option, Some, None, IfSome, refl, sym, ap, ◌∙◌, arith, length, ne_eqb, eq-eqb, ◌≤◌, length-take, length-drop}
 use Rattle.std.specs.Prelude.{slice_get, All, IfNone}
 use Rattle.std.specs.List.{position_from}
 use Rattle.std.proofs.lemmas.List.Elements.{All-head, All-tail}

@@ -76,8 +76,7 @@ fn cycle_fault(alloc: Global, entries: &Entries<'_>, numbers: &[usize]) -> Resul
 fn measure(alloc: Global, links: &Links<'_, '_>) -> Result<(ByValue, SizeTable), Stop<Fault>>
     ensures steps { IfOk result (λ found. AreSteps (all_facts links.now) found.0) }
     ensures sizes { IfOk result (λ found. AreMeasures (all_facts links.now) found.1) }
-    ensures fault { IfErr result (IfFault
-        (FailsInTypes (sections_of links.now.entries.now) (units_held links.now))) }
+    ensures fault { IfErr result (IfFault (FailsInTypes (sections_of links.now.entries.now) (units_held links.now))) }
 {
     let steps = ByValue::new(alloc, links)?;
     match order(alloc, &steps) {

@@ -25,8 +25,7 @@ pub fn put_offset(text: &mut Vec<u8>, n: u32) -> Result<(), AllocError>
 /// `sound: U units, E entries, T types`.
 #[tactic(auto, unfolding(crate::specs::Lines::sound_line))]
 pub fn put_sound_line(text: &mut Vec<u8>, counts: Counts) -> Result<(), AllocError>
-    ensures ok { OnOk result (text.new.items
-        ≡ text.old.items ++ sound_line counts.units counts.entries counts.types) }
+    ensures ok { OnOk result (text.new.items ≡ text.old.items ++ sound_line counts.units counts.entries counts.types) }
 {
     text.extend_from_slice(b"sound: ")?;
     put_decimal(text, counts.units as u64)?;

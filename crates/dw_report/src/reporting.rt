@@ -134,8 +134,7 @@ fn text_of_types(alloc: Global, image: &Image<'_>) -> Result<Vec<u8>, NoMemory>
 
 /// The size of the type whose entry starts at an offset.
 fn answer_of_size(alloc: Global, image: &Image<'_>, offset: u32) -> Result<Answer, AllocError>
-    ensures text { IfOk result (λ answer.
-        answer.text.items ≡ size_text image.now (type_at_offset image.now offset)) }
+    ensures text { IfOk result (λ answer. answer.text.items ≡ size_text image.now (type_at_offset image.now offset)) }
     ensures status { IfOk result (λ answer. answer.status ≡ size_status (type_at_offset image.now offset)) }
 {
     let mut text = Vec::new(alloc);
@@ -145,8 +144,7 @@ fn answer_of_size(alloc: Global, image: &Image<'_>, offset: u32) -> Result<Answe
 
 /// The result if the sections are sound.
 fn answer_of_sound(alloc: Global, request: Request, image: &Image<'_>) -> Result<Answer, NoMemory>
-    ensures { IfOk result (λ answer.
-        SoundReport (sections_in image.now) request answer.status answer.text.items) }
+    ensures { IfOk result (λ answer. SoundReport (sections_in image.now) request answer.status answer.text.items) }
 {
     match request {
         Request::Check { json } => {

@@ -1,6 +1,5 @@
 -- Closed lists of steps: none where ranks fall, and how a ring is turned into a cycle that begins with its least node.
-use Rattle.std.proofs.Common.{rules}
-use Rattle.std.proofs.Common.{◌≡◌, ◌≢◌, ℕ, ◌+◌, ◌-◌, ◌<◌, ◌≤◌, ◌⊎◌, List, [], ◌∷◌, ◌++◌, length, get_or, take, drop, inl, inr, arith, refl, sym, ◌∙◌, ap, suc, zero, length-append, length-drop}
+use Rattle.std.proofs.Common.{rules, ◌≡◌, ◌≢◌, ℕ, ◌+◌, ◌-◌, ◌<◌, ◌≤◌, ◌⊎◌, List, [], ◌∷◌, ◌++◌, length, get_or, take, drop, inl, inr, arith, refl, sym, ◌∙◌, ap, suc, zero, length-append, length-drop}
 use Rattle.std.proofs.lemmas.Bool.{cases_lt, cases_order}
 use Rattle.std.proofs.lemmas.List.{length_push, get_or_at, get_or_append_left, get_or-append_right, get_or-take, get_or-drop, length-take-le}
 use Rattle.dw_types.specs.Graphs.{Graph, IsStep, FollowsSteps, IsCycle, HasNoCycle, FallsAlong}

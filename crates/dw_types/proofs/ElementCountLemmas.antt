@@ -1,6 +1,5 @@
 -- Sizes and products that are capped at a limit, and the product of an array's counts, found child by child.
-use Rattle.std.proofs.Common.{rules}
-use Rattle.std.proofs.Common.{◌≡◌, ℕ, ◌*◌, ◌<◌, ◌≤◌, min, Some, None, arith, refl, ap, ◌∙◌, suc, zero, ◌^◌, ◌||◌, List, [], ◌∷◌, ◌++◌, map, sym}
+use Rattle.std.proofs.Common.{rules, ◌≡◌, ℕ, ◌*◌, ◌<◌, ◌≤◌, min, Some, None, arith, refl, ap, ◌∙◌, suc, zero, ◌^◌, ◌||◌, List, [], ◌∷◌, ◌++◌, map, sym}
 use Rattle.std.proofs.lemmas.Bool.{cases_lt}
 use Rattle.std.proofs.Math.Nat.{mul-le-mul_left, mul_comm, mul_assoc}
 use Rattle.std.specs.List.{list_any}

@@ -1,7 +1,6 @@
 -- How a walk begins, and what holds at its end, also where it goes on past cycles: the nodes that are given up reach
 -- one, and those that have ranks reach none.
-use Rattle.std.proofs.Common.{rules}
-use Rattle.std.proofs.Common.{◌≡◌, ◌≢◌, ℕ, ◌^◌, ◌+◌, ◌<◌, ◌⊎◌, ◌∙◌, true, false, [], length, get_or, replicate, inl, inr, arith, refl, sym, ap, sum, count_by, cond, zero, suc, ◌-◌, List, subst}
+use Rattle.std.proofs.Common.{rules, ◌≡◌, ◌≢◌, ℕ, ◌^◌, ◌+◌, ◌<◌, ◌⊎◌, ◌∙◌, true, false, [], length, get_or, replicate, inl, inr, arith, refl, sym, ap, sum, count_by, cond, zero, suc, ◌-◌, List, subst}
 use Rattle.std.proofs.lemmas.Bool.{cases_lt}
 use Rattle.std.proofs.lemmas.List.{length-replicate, get_or-replicate, get_or_past, get_or_default}
 use Rattle.std.proofs.lemmas.List.Sums.{sum_by-cons}

@@ -1,6 +1,5 @@
 -- The facts of entries, one by one, and how the entries lie.
-use Rattle.std.proofs.Common.{rules}
-use Rattle.std.proofs.Common.{◌≡◌, ℕ, ◌<◌, List, length, Option, Some, arith, ◌≤◌, map, inl, inr, sym, ap, ◌∙◌}
+use Rattle.std.proofs.Common.{rules, ◌≡◌, ℕ, ◌<◌, List, length, Option, Some, arith, ◌≤◌, map, inl, inr, sym, ap, ◌∙◌}
 use Rattle.std.specs.Prelude.{slice_get, IfSome, option_map}
 use Rattle.std.proofs.lemmas.Option.{get_or_from_slice_get, slice_get-map, slice_get_cases}
 use Rattle.std.proofs.lemmas.List.{get_or_past, length-map}

@@ -1,7 +1,6 @@
 -- The first failure of rules that are asked of entries, and the failing entry of the least number among those that a
 -- pass has seen.
-use Rattle.std.proofs.Common.{rules}
-use Rattle.std.proofs.Common.{◌≡◌, ℕ, zero, suc, ◌<◌, Bool, true, List, [], ◌∷◌, ◌++◌, subst, Some, length, inl, inr, arith, refl, sym, ap, ◌∙◌, ◌≤◌, Option, None, ◌⊎◌}
+use Rattle.std.proofs.Common.{rules, ◌≡◌, ℕ, zero, suc, ◌<◌, Bool, true, List, [], ◌∷◌, ◌++◌, subst, Some, length, inl, inr, arith, refl, sym, ap, ◌∙◌, ◌≤◌, Option, None, ◌⊎◌}
 use Rattle.std.specs.Prelude.{Contains}
 use Rattle.std.proofs.lemmas.Bool.{cases_lt, le-leb, lt-leb}
 use Rattle.std.proofs.lemmas.List.Elements.{Contains-append_cases, Contains-append_left, Contains-append_right}

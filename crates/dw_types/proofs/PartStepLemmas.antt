@@ -1,6 +1,5 @@
 -- The steps of an entry through its children, one after another.
-use Rattle.std.proofs.Common.{rules}
-use Rattle.std.proofs.Common.{◌≡◌, ℕ, ◌-◌, ◌<◌, Bool, true, false, not, List, [], ◌∷◌, ◌++◌, Option, length, get_or, inl, inr, refl, sym, ap, arith, append-nil, append_assoc, nat_eq, length-append}
+use Rattle.std.proofs.Common.{rules, ◌≡◌, ℕ, ◌-◌, ◌<◌, Bool, true, false, not, List, [], ◌∷◌, ◌++◌, Option, length, get_or, inl, inr, refl, sym, ap, arith, append-nil, append_assoc, nat_eq, length-append}
 use Rattle.std.specs.List.{filter, flat_map}
 use Rattle.std.specs.Option.{option_to_list}
 use Rattle.std.proofs.lemmas.Bool.{and_right, cases_lt}

@@ -1,8 +1,7 @@
 -- A node on top of the stack, all of whose steps were looked at, is ranked, and a fresh node without steps at once;
 -- ranks by the nodes in their order.
 use Rattle.std.proofs.lemmas.Grind.{common_steps}
-use Rattle.std.proofs.Common.{rules}
-use Rattle.std.proofs.Common.{◌≡◌, ◌≢◌, None, ℕ, ◌+◌, ◌<◌, List, [], ◌∷◌, ◌++◌, length, get_or, replicate, set, take, suc, arith, refl, sym, ap, ◌∙◌, length-set, get_or-set_same, get_or-set_other, ◌-◌, ◌⊎◌, inl, inr, ◌≤◌}
+use Rattle.std.proofs.Common.{rules, ◌≡◌, ◌≢◌, None, ℕ, ◌+◌, ◌<◌, List, [], ◌∷◌, ◌++◌, length, get_or, replicate, set, take, suc, arith, refl, sym, ap, ◌∙◌, length-set, get_or-set_same, get_or-set_other, ◌-◌, ◌⊎◌, inl, inr, ◌≤◌}
 use Rattle.std.proofs.lemmas.List.{length-replicate, length-take-le, take_more, length_push, get_or_push, get_or_append_left, get_or-take}
 use Rattle.std.proofs.lemmas.Bool.{cases_lt}
 use Rattle.std.proofs.lemmas.List.Sums.{sum_by-set}

@@ -1,7 +1,6 @@
 -- An entry that is no type has no kind, no role, no steps and no size of its own; the children of an entry, and what it
 -- is to them.
-use Rattle.std.proofs.Common.{rules}
-use Rattle.std.proofs.Common.{◌≡◌, ℕ, Bool, true, false, ◌&&◌, not, List, [], ◌∷◌, ◌+◌, None, nat_eq, refl, ap, ◌∙◌, zero, suc, Option, Some, length, arith, eq-eqb}
+use Rattle.std.proofs.Common.{rules, ◌≡◌, ℕ, Bool, true, false, ◌&&◌, not, List, [], ◌∷◌, ◌+◌, None, nat_eq, refl, ap, ◌∙◌, zero, suc, Option, Some, length, arith, eq-eqb}
 use Rattle.std.proofs.lemmas.Bool.{eqb-true, and_right}
 use Rattle.std.specs.List.{Contains, filter}
 use Rattle.std.proofs.lemmas.List.FromFn.{get_or-range_with_len, length-range_with_len}

@@ -1,6 +1,5 @@
 -- The graph of steps by value has exactly the steps by value, and the steps of one entry.
-use Rattle.std.proofs.Common.{rules}
-use Rattle.std.proofs.Common.{◌≡◌, ℕ, ◌+◌, ◌<◌, ◌≤◌, Bool, true, false, List, [], ◌∷◌, ◌++◌, Option, Some, None, length, get_or, inl, inr, arith, refl, ap, ◌∙◌, suc, zero, not}
+use Rattle.std.proofs.Common.{rules, ◌≡◌, ℕ, ◌+◌, ◌<◌, ◌≤◌, Bool, true, false, List, [], ◌∷◌, ◌++◌, Option, Some, None, length, get_or, inl, inr, arith, refl, ap, ◌∙◌, suc, zero, not}
 use Rattle.std.specs.List.{flat_map, range_with_len, Contains}
 use Rattle.std.proofs.lemmas.Bool.{cases_lt, and_right, and_parts}
 use Rattle.std.proofs.lemmas.List.{length-map, get_or-map, get_or_past, get_or_default}

@@ -1,6 +1,5 @@
 -- Lines that read a table only at a node's steps: where ranks fall along the steps, exactly one table obeys them.
-use Rattle.std.proofs.Common.{rules}
-use Rattle.std.proofs.Common.{◌≡◌, ◌≢◌, ℕ, ◌+◌, ◌<◌, ◌≤◌, List, length, get_or, set, arith, sym, ap, ◌∙◌, suc, zero, None, get_or-set_same, get_or-set_other}
+use Rattle.std.proofs.Common.{rules, ◌≡◌, ◌≢◌, ℕ, ◌+◌, ◌<◌, ◌≤◌, List, length, get_or, set, arith, sym, ap, ◌∙◌, suc, zero, None, get_or-set_same, get_or-set_other}
 use Rattle.std.proofs.lemmas.Bool.{cases_lt}
 use Rattle.dw_types.specs.Graphs.{Graph, steps_of, step_at, LeadsToNodes, FallsAlong}
 use Rattle.dw_types.specs.Orders.{Ranking, IsOrderOf}

@@ -1,8 +1,7 @@
 -- A node is taken up, or a step looked at: each turn of a walk leads to another state of one, and how many turns a walk
 -- has taken.
-use Rattle.std.proofs.Common.{rules}
+use Rattle.std.proofs.Common.{rules, ◌≡◌, None, Some, ℕ, ◌+◌, ◌^◌, ◌<◌, ◌≤◌, List, [], ◌∷◌, Bool, true, cond, length, get_or, arith, refl, sum, count_by, suc, ◌≢◌, ◌-◌, ◌⊎◌, inl, inr, sym, ap, ◌∙◌, length-set, get_or-set_same}
 use Rattle.std.proofs.lemmas.Grind.{common_steps}
-use Rattle.std.proofs.Common.{◌≡◌, None, Some, ℕ, ◌+◌, ◌^◌, ◌<◌, ◌≤◌, List, [], ◌∷◌, Bool, true, cond, length, get_or, arith, refl, sum, count_by, suc, ◌≢◌, ◌-◌, ◌⊎◌, inl, inr, sym, ap, ◌∙◌, length-set, get_or-set_same}
 use Rattle.std.specs.List.{sum_by}
 use Rattle.std.proofs.lemmas.List.Sums.{sum_by-cons, sum_by-le, count_by-le-length, sum_by-set}
 use Rattle.std.proofs.lemmas.List.Elements.{All-from_get_or}

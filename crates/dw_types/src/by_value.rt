@@ -146,8 +146,7 @@ fn push_members(
     ensures same { OnOk result (entries.new ≡ entries.old) }
     ensures steps { OnOk result
         (steps.new ≡ steps.old ++ flat_map (part_step entries.old) (children entries.old node)) }
-    ensures noted { OnOk result
-        (IsNoted (fails_shape entries.old) (HasSeenShapes entries.old (node + 1)) least.new) }
+    ensures noted { OnOk result (IsNoted (fails_shape entries.old) (HasSeenShapes entries.old (node + 1)) least.new) }
 {
     let mut next = entries.first_child(node);
     while let Some(child) = next {
@@ -211,8 +210,7 @@ fn push_row(
     requires noted { IsNoted (fails_shape entries.old) (HasSeenShapes entries.old node) least.old }
     ensures same { OnOk result (entries.new ≡ entries.old) }
     ensures steps { OnOk result (steps.new ≡ steps.old ++ steps_by_value entries.old node) }
-    ensures noted { OnOk result
-        (IsNoted (fails_shape entries.old) (HasSeenShapes entries.old (node + 1)) least.new) }
+    ensures noted { OnOk result (IsNoted (fails_shape entries.old) (HasSeenShapes entries.old (node + 1)) least.new) }
 {
     let entry = entries.at(node);
     if entry.has_members() {

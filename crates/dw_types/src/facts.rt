@@ -277,8 +277,7 @@ impl<'r, 'a> FactsList<'r, 'a> {
 #[inline(always)]
 fn is_child(entries: &Entries<'_>, id: EntryId, parent: EntryId) -> bool
     requires { id < length (all_entries entries.now.scanned) }
-    ensures { IfSome (slice_get (all_entries entries.now.scanned) id)
-        (λ e. result ≡ is_number parent e.parent) }
+    ensures { IfSome (slice_get (all_entries entries.now.scanned) id) (λ e. result ≡ is_number parent e.parent) }
 {
     match entries.parent(id) {
         Some(above) => above == parent,

@@ -1,7 +1,6 @@
 -- Sizes: one table for all, made of those of the units, and no rule on sizes fails; and units that each stand alone
 -- spell their bytes, joined.
-use Rattle.std.proofs.Common.{rules}
-use Rattle.std.proofs.Common.{◌≡◌, List, [], ◌∷◌, ℕ, ◌+◌, ◌-◌, ◌<◌, ◌≤◌, zero, suc, Bool, false, length, Option, Some, None, refl, sym, ap, subst, ◌∙◌, arith, nat_lt, lt-ltb, append-nil}
+use Rattle.std.proofs.Common.{rules, ◌≡◌, List, [], ◌∷◌, ℕ, ◌+◌, ◌-◌, ◌<◌, ◌≤◌, zero, suc, Bool, false, length, Option, Some, None, refl, sym, ap, subst, ◌∙◌, arith, nat_lt, lt-ltb, append-nil}
 use Rattle.std.specs.List.{AllByRecursion}
 use Rattle.std.specs.Prelude.{slice_get, if◌then◌else◌}
 use Rattle.std.proofs.lemmas.Option.{slice_get_within}

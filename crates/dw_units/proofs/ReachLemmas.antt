@@ -1,6 +1,5 @@
 -- References inside a unit: what is reached in the unit's place, and the rules on references.
-use Rattle.std.proofs.Common.{rules}
-use Rattle.std.proofs.Common.{◌≡◌, ℕ, ◌+◌, false, List, [], ◌∷◌, Option, Some, None, refl, sym, ap, subst, ◌∙◌, arith}
+use Rattle.std.proofs.Common.{rules, ◌≡◌, ℕ, ◌+◌, false, List, [], ◌∷◌, Option, Some, None, refl, sym, ap, subst, ◌∙◌, arith}
 use Rattle.std.specs.Prelude.{slice_get}
 use Rattle.dw_forms.specs.Value.{Datum, ref_unit, ref_info, ref_sig, address, block, unsigned, signed, wide, text, flag, str, line_str, str_index, sec_offset, expr, addr_index, loc_index, rng_index}
 use Rattle.dw_entries.specs.Units.{DebugUnit}

@@ -6,8 +6,7 @@ use Rattle.dw_units.specs.Counted.{AreCounts}
 use Rattle.dwv_c.specs.declared.exports.CheckError.{CheckError}
 use Rattle.dwv_c.specs.declared.exports.CheckError.TheVariants.{Fault, Memory}
 use Rattle.dwv_c.specs.declared.verdict.Verdict.{Verdict}
-use Rattle.dwv_c.specs.Verdicts.{AreOfFile, AreCountsOfFile, AreCountsOfSix, Checks, HaveBytes, IsFaultOfFile}
-use Rattle.dwv_c.specs.Verdicts.{IsFaultOfSix, IsFaultOfSections, violates, sound, fault, memory}
+use Rattle.dwv_c.specs.Verdicts.{AreOfFile, AreCountsOfFile, AreCountsOfSix, Checks, HaveBytes, IsFaultOfFile, IsFaultOfSix, IsFaultOfSections, violates, sound, fault, memory}
 use Rattle.dwv_c.specs.Checked.{IsErrorOf, status_of, verdict_after}
 
 checked_by : (P Q : Verdict → Type 0) (A B : Counts → Type 0) → ((v : Verdict) → P v → Q v) → ((c : Counts) → A c → B c)

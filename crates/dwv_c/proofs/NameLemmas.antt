@@ -1,6 +1,5 @@
 -- Where texts of sections are in the file.
-use Rattle.std.proofs.Common.{◌≡◌, ℕ, ◌+◌, ◌≤◌, ◌==◌, List, ◌++◌, length, take, drop, sym, ap, ◌∙◌, drop-drop}
-use Rattle.std.proofs.Common.{take-append-drop, take_at, append_assoc, refl}
+use Rattle.std.proofs.Common.{◌≡◌, ℕ, ◌+◌, ◌≤◌, ◌==◌, List, ◌++◌, length, take, drop, sym, ap, ◌∙◌, drop-drop, take-append-drop, take_at, append_assoc, refl}
 use Rattle.std.proofs.lemmas.List.{drop-append-le}
 use Rattle.std.specs.List.{position_or_len}
 use Rattle.dw_elf.specs.Sections.{IsAt}

@@ -1,8 +1,5 @@
 -- The row of an entry, and the rows that are written so far.
-use Rattle.std.proofs.Common.{rules}
-use Rattle.std.proofs.Common.{◌≡◌, ℕ, zero, suc, ◌+◌, ◌<◌, ◌≤◌, ◌⊎◌, List}
-use Rattle.std.proofs.Common.{[], ◌∷◌, length, drop, min, Option, Some, None, Err, IfSome, refl, sym, ap, subst, ◌∙◌}
-use Rattle.std.proofs.Common.{arith}
+use Rattle.std.proofs.Common.{rules, ◌≡◌, ℕ, zero, suc, ◌+◌, ◌<◌, ◌≤◌, ◌⊎◌, List, [], ◌∷◌, length, drop, min, Option, Some, None, Err, IfSome, refl, sym, ap, subst, ◌∙◌, arith}
 use Rattle.std.specs.Prelude.{slice_get, slice_set, option_map}
 use Rattle.std.specs.Option.{IsSomeAnd}
 use Rattle.dw_elf.specs.Sections.{IsAt}
@@ -19,8 +16,7 @@ use Rattle.dw_report.specs.Shown.{entry_size}
 use Rattle.dwv_c.specs.declared.rows.EntryRow.{EntryRow}
 use Rattle.dwv_c.specs.declared.verdict.Verdict.{Verdict}
 use Rattle.dwv_c.specs.Filling.{HasPlace, IsNamePlace, depth_under}
-use Rattle.dwv_c.specs.Rows.{FillsRows, HasName, HasSize, HaveRows, IsRow, PutsRows, greatest, sound, fault, memory}
-use Rattle.dwv_c.specs.Rows.{whole}
+use Rattle.dwv_c.specs.Rows.{FillsRows, HasName, HasSize, HaveRows, IsRow, PutsRows, greatest, sound, fault, memory, whole}
 use Rattle.dwv_c.specs.Checked.{IsErrorOf, status_of, verdict_after}
 use Rattle.dwv_c.specs.Verdicts.{SOUND, IsSoundFile, IsFaultOfFile, of_image}
 

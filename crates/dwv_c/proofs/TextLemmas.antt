@@ -1,6 +1,5 @@
 -- The texts of a verdict are shorter than their fields.
-use Rattle.std.proofs.Common.{rules}
-use Rattle.std.proofs.Common.{◌≡◌, ℕ, ◌<◌, List, ◌++◌, length, drop, replicate, refl, arith}
+use Rattle.std.proofs.Common.{rules, ◌≡◌, ℕ, ◌<◌, List, ◌++◌, length, drop, replicate, refl, arith}
 use Rattle.std.proofs.lemmas.List.{drop-replicate}
 use Rattle.dw_elf.specs.declared.fault.ElfRule.{ElfRule}
 use Rattle.dw_elf.specs.declared.fault.ElfRule.TheVariants.{TooLarge}

@@ -93,8 +93,7 @@ pub fn count_six(
     str_offsets: &[u8],
     addr: &[u8],
 ) -> Result<Counts, CheckError>
-    ensures { MatchResult result
-        (AreCountsOfSix info.now «abbrev».now str.now line_str.now str_offsets.now addr.now)
+    ensures { MatchResult result (AreCountsOfSix info.now «abbrev».now str.now line_str.now str_offsets.now addr.now)
         (IsErrorOf (IsFaultOfSix info.now «abbrev».now str.now line_str.now str_offsets.now addr.now)) }
 {
     match Sections::new(abbrev, info, str, line_str, str_offsets, addr) {

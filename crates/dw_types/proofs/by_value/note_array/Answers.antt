@@ -1,5 +1,4 @@
-use Rattle.std.proofs.Common.{rules}
-use Rattle.std.proofs.Common.{◌≡◌, true, sym, ◌∙◌}
+use Rattle.std.proofs.Common.{rules, ◌≡◌, true, sym, ◌∙◌}
 use Rattle.dw_types.specs.Entries.{entry_of}
 use Rattle.dw_types.specs.Kinds.{is_array}
 use Rattle.dw_types.specs.Shapes.{fails_shape}

@@ -1,5 +1,4 @@
-use Rattle.std.proofs.Common.{rules}
-use Rattle.std.proofs.Common.{◌≡◌, ◌++◌, ℕ, List, false, append_assoc, sym, ap, ◌∙◌}
+use Rattle.std.proofs.Common.{rules, ◌≡◌, ◌++◌, ℕ, List, false, append_assoc, sym, ap, ◌∙◌}
 use Rattle.std.specs.Option.{option_to_list}
 use Rattle.dw_types.specs.Entries.{entry_of}
 use Rattle.dw_types.specs.Kinds.{has_members}

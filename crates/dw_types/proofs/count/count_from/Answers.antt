@@ -1,5 +1,4 @@
-use Rattle.std.proofs.Common.{rules}
-use Rattle.std.proofs.Common.{◌≡◌, true, false, Some, ℤ, pos, ◌+ℤ◌, ◌-ℤ◌, FitsSigned, arith, refl, sym, ◌∙◌}
+use Rattle.std.proofs.Common.{rules, ◌≡◌, true, false, Some, ℤ, pos, ◌+ℤ◌, ◌-ℤ◌, FitsSigned, arith, refl, sym, ◌∙◌}
 use Rattle.std.proofs.lemmas.Int.{ints, to_z-of_z}
 use mir.Syntax.{w128}
 use Rattle.dw_types.specs.Constants.{IsOf64Bits, is_present}

@@ -1,5 +1,4 @@
-use Rattle.std.proofs.Common.{rules}
-use Rattle.std.proofs.Common.{◌≤◌, length, ◌∙◌}
+use Rattle.std.proofs.Common.{rules, ◌≤◌, length, ◌∙◌}
 use Rattle.dw_entries.specs.Scanned.{units_of}
 use Rattle.dw_types.proofs.UnitLemmas.{languages-all, languages-more}
 use Rattle.dw_types.proofs.facts.languages_of.Goals as goal

@@ -1,5 +1,4 @@
-use Rattle.std.proofs.Common.{rules}
-use Rattle.std.proofs.Common.{◌<◌, ◌≤◌, length, get_or, arith, ap, ◌∙◌, length-set}
+use Rattle.std.proofs.Common.{rules, ◌<◌, ◌≤◌, length, get_or, arith, ap, ◌∙◌, length-set}
 use Rattle.std.proofs.lemmas.List.{length-replicate}
 use Rattle.dw_types.specs.LongestRows.{IsAbove}
 use Rattle.dw_types.proofs.LongestLemmas.{known-step, known-more, known-all}

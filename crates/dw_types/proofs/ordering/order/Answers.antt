@@ -1,5 +1,4 @@
-use Rattle.std.proofs.Common.{rules}
-use Rattle.std.proofs.Common.{ℕ, ◌<◌, below_more, length, arith, ◌∙◌}
+use Rattle.std.proofs.Common.{rules, ℕ, ◌<◌, below_more, length, arith, ◌∙◌}
 use Rattle.dw_types.specs.Walks.{IsAtCycle, IsWalk}
 use Rattle.dw_types.proofs.EndLemmas.{on-stack, start-walk, taken-more, ranked-from_taken, falls-from_ranked}
 use Rattle.dw_types.proofs.CycleLemmas.{no_cycle-from_falls}

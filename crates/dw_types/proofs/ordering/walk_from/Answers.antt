@@ -1,5 +1,4 @@
-use Rattle.std.proofs.Common.{rules}
-use Rattle.std.proofs.Common.{◌≡◌, length, slice_index, arith}
+use Rattle.std.proofs.Common.{rules, ◌≡◌, length, slice_index, arith}
 use Rattle.dw_types.specs.Graphs.{steps_of}
 use Rattle.dw_types.proofs.RankLemmas.{met-gave_up, met-keeps, met-walk, done-walk, done-keeps_taken}
 use Rattle.dw_types.specs.Walks.{IsTop}

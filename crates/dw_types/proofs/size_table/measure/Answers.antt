@@ -1,5 +1,4 @@
-use Rattle.std.proofs.Common.{rules}
-use Rattle.std.proofs.Common.{◌≡◌, ◌<◌, ℕ, Bool, true, false, None, length, set, sym, ◌∙◌, length-set, get_or-set_same, arith}
+use Rattle.std.proofs.Common.{rules, ◌≡◌, ◌<◌, ℕ, Bool, true, false, None, length, set, sym, ◌∙◌, length-set, get_or-set_same, arith}
 use Rattle.std.specs.Prelude.{IfSome}
 use Rattle.dw_entries.specs.declared.fault.Rule.{Rule}
 use Rattle.dw_types.specs.Entries.{entry_of}

@@ -1,5 +1,4 @@
-use Rattle.std.proofs.Common.{rules}
-use Rattle.std.proofs.Common.{◌≡◌, ◌++◌, ℕ, Bool, true, List, Some, None, subst, sym, ◌∙◌, append-nil}
+use Rattle.std.proofs.Common.{rules, ◌≡◌, ◌++◌, ℕ, Bool, true, List, Some, None, subst, sym, ◌∙◌, append-nil}
 use Rattle.dw_entries.specs.declared.fault.Rule.{Rule}
 use Rattle.dw_types.specs.Children.{rest_of_children}
 use Rattle.dw_types.specs.Entries.{children}

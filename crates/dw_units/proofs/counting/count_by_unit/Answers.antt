@@ -1,5 +1,4 @@
-use Rattle.std.proofs.Common.{rules}
-use Rattle.std.proofs.Common.{arith, subst, List, ℕ, length-drop}
+use Rattle.std.proofs.Common.{rules, arith, subst, List, ℕ, length-drop}
 use Rattle.dw_units.proofs.CountLemmas.{AreSoFar, so_far_first, so_far_next, so_far_all, no_bytes}
 use Rattle.dw_entries.proofs.ScanLaws.{rest_of}
 use Rattle.dw_units.proofs.counting.count_by_unit.Goals as goal

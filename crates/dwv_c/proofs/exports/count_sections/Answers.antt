@@ -1,5 +1,4 @@
-use Rattle.std.proofs.Common.{rules}
-use Rattle.std.proofs.Common.{subst}
+use Rattle.std.proofs.Common.{rules, subst}
 use Rattle.dw_image.specs.Headline.{IsFaultOf, IsImageOf}
 use Rattle.dw_units.specs.Counted.{AreCounts}
 use Rattle.dwv_c.proofs.exports.count_sections.Goals as goal

@@ -1,5 +1,4 @@
-use Rattle.std.proofs.Common.{rules}
-use Rattle.std.proofs.Common.{sym, subst, refl}
+use Rattle.std.proofs.Common.{rules, sym, subst, refl}
 use Rattle.dwv_c.specs.Verdicts.{IsFaultOfSix, large}
 use Rattle.dwv_c.proofs.CheckLemmas.{checked_six}
 use Rattle.dwv_c.proofs.exports.count_six.Goals as goal

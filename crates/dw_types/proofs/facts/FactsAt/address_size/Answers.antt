@@ -1,11 +1,9 @@
-use Rattle.std.proofs.Common.{rules}
-use Rattle.std.proofs.Common.{ap}
-use Rattle.std.specs.Prelude.{slice_get}
+use Rattle.std.proofs.Common.{rules, ap}
+use Rattle.std.specs.Prelude.{slice_get, ◌≡◌}
 use Rattle.std.proofs.lemmas.Option.{IfSome_then}
 use Rattle.dw_entries.specs.declared.lookup.UnitHead.{UnitHead}
 use Rattle.dw_entries.specs.Entries.{placed}
 use Rattle.dw_entries.specs.Scanned.{units_of}
-use Rattle.std.specs.Prelude.{◌≡◌}
 use Rattle.dw_types.specs.Entries.{Facts}
 use Rattle.dw_types.specs.FactsOf.{address_size_of}
 use Rattle.dw_types.proofs.FactsLemmas.{known}

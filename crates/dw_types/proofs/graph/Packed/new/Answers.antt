@@ -1,5 +1,4 @@
-use Rattle.std.proofs.Common.{rules}
-use Rattle.std.proofs.Common.{◌≡◌, ◌++◌, ◌∙◌, ◌<◌, length, ap}
+use Rattle.std.proofs.Common.{rules, ◌≡◌, ◌++◌, ◌∙◌, ◌<◌, length, ap}
 use Rattle.std.proofs.lemmas.List.{take_all}
 use Rattle.dw_types.specs.Graphs.{steps_of}
 use Rattle.dw_types.proofs.PackingLemmas.{leads-more, packs-more, row-more}
