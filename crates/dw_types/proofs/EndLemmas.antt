@@ -43,8 +43,7 @@ end-of_taken graph s node h empty taken = end-by_mark graph s node h empty taken
 
 -- so it was ranked, if none was given up
 pub ranked-from_taken : (graph : Graph) (s : State) (node : ℕ) → IsWalk graph s → s.stack ≡ [] → s.gave_up ≡ false → mark_of s node ≢ Fresh → mark_of s node ≡ Ranked
-ranked-from_taken graph s node h empty kept taken =
-    elim (end-of_taken graph s node h empty taken) [ inl done ↦ done | inr lost ↦ let gave : s.gave_up ≡ true = lost.0 in absurd cc ]
+ranked-from_taken graph s node h empty kept taken = search (rules, end-of_taken)
 
 -- once each node was ranked, each step leads to a smaller rank
 pub falls-from_ranked : (graph : Graph) (s : State) → IsWalk graph s → ((node : ℕ) → node < length graph → mark_of s node ≡ Ranked) → FallsAlong graph s.ranks

@@ -1,4 +1,5 @@
 -- A loop that packs one node after another.
+use Rattle.std.proofs.Common.{rules}
 use Rattle.std.proofs.lemmas.Grind.{common_steps}
 use Rattle.std.proofs.Common.{◌≡◌, ℕ, ◌+◌, ◌<◌, List, [], ◌∷◌, ◌++◌, length, get_or, take, inl, inr, arith, sym, ◌∙◌, ap, append_assoc, length-append}
 use Rattle.std.proofs.lemmas.List.{get_or_append_left, get_or_push, length_push, take_more}
@@ -38,8 +39,7 @@ packs-more graph steps ends node below h =
 
 -- one more step of a row
 pub row-more : (steps all row : List ℕ) (k : ℕ) → k < length row → all ≡ steps ++ take k row → all ++ get_or row k 0 ∷ [] ≡ steps ++ take (k + 1) row
-row-more steps all row k below is =
-    ap (λ (xs : List ℕ). xs ++ get_or row k 0 ∷ []) is ∙ (append_assoc steps (take k row) (get_or row k 0 ∷ []) ∙ ap (λ (xs : List ℕ). steps ++ xs) (sym (take_more row k 0 below)))
+row-more steps all row k below is = search (rules, append_assoc, take_more)
 
 -- one more step that leads to a node
 pub leads-more : (steps : List ℕ) (to nodes : ℕ) → LeadsBelow steps nodes → to < nodes → LeadsBelow (steps ++ to ∷ []) nodes

@@ -42,11 +42,7 @@ module _ (entries : List Facts) (node : ℕ) where
   child-step members child is = search (rules)
 
   other-step : (child : ℕ) → is_child entries node child ≡ false → member_step entries node child ≡ []
-  other-step child isnt =
-      let entry = entry_of entries child in
-      let plain : is_plain_member entries node child ≡ false =
-      and_right (has_members (entry_of entries node)) _ (and_right (nat_eq entry.tag DW_TAG_member) _ (and_right (not entry.declared) _ isnt)) in
-      rw plain refl
+  other-step child isnt = search (rules, and_right)
 
   no-step : has_members (entry_of entries node) ≡ false → (child : ℕ) → member_step entries node child ≡ []
   no-step none child = rw none refl

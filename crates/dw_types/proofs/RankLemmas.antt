@@ -26,8 +26,7 @@ length-ranks_from ranks first (node ∷ rest) = length-ranks_from (set ranks nod
 
 -- the next rank
 pub ranks_listed-push : (nodes : ℕ) (by_rank : List ℕ) (node : ℕ) → ranks_listed nodes (by_rank ++ node ∷ []) ≡ set (ranks_listed nodes by_rank) node (length by_rank)
-ranks_listed-push nodes by_rank node =
-    ranks_from-push (replicate nodes 0) 0 by_rank node ∙ ap (λ (rank : ℕ). set (ranks_listed nodes by_rank) node rank) (let e : 0 + length by_rank ≡ length by_rank = omega arith in e)
+ranks_listed-push nodes by_rank node = search (rules, ranks_from-push)
 
 pub length-ranks_listed : (nodes : ℕ) (by_rank : List ℕ) → length (ranks_listed nodes by_rank) ≡ nodes
 length-ranks_listed nodes by_rank = length-ranks_from (replicate nodes 0) 0 by_rank ∙ length-replicate nodes 0
@@ -76,8 +75,7 @@ module _ (graph : Graph) (s : State) (node : ℕ) (h : IsWalk graph s) (t : IsTo
 
   -- a node that was ranked before has a rank below the new one, and keeps it
   done-keeps : (a : ℕ) → mark_of s a ≡ Ranked → get_or (with_rank s node).ranks a 0 ≡ get_or s.ranks a 0
-  done-keeps a done =
-      elim (done-rank a) [ inl p ↦ absurd (let opened = done-opened in let e : mark_of s node ≡ Ranked = rw (← p.0) done in cc) | inr p ↦ p.1 ]
+  done-keeps a done = search (rules, done-rank, done-opened)
 
   done-length : length (take (length s.stack - 1) s.stack) ≡ length s.stack - 1
   done-length = length-take-le (length s.stack - 1) s.stack (omega arith)

@@ -179,12 +179,7 @@ array-wants entry is stride = search (rules)
 
 -- with a byte size of its own, or by other sizes where nothing is wanted
 own-part : (entry : Facts) (other : Size) (n : ℕ) → constant_or (byte_size entry) other ≡ Some n → (other ≡ Some n → wants_own entry ≡ false) → has_no_size entry ≡ false
-own-part entry other n is wants = by (byte_size entry) refl is
-  where
-    by : (own : Constant) → byte_size entry ≡ own → constant_or own other ≡ Some n → has_no_size entry ≡ false
-    by NotNumber e is = absurd cc
-    by (Signed (negsuc m)) e is = absurd cc
-    by _ e is = search (rules)
+own-part entry other n is wants = search (rules)
 
 sized-kind : (entries : List Facts) (table : ℕ → Size) (node : ℕ) (kind : Kind) → kind_of (entry_of entries node) ≡ kind → (n : ℕ) → size_of_kind kind entries table node ≡ Some n
     → has_no_size (entry_of entries node) ≡ false

@@ -72,8 +72,7 @@ module _ (entries : List Facts) (table : ℕ → Size) where
 
   -- the members of an entry that has no plain members pass
   child-plain : (k node : ℕ) → (entry_of entries k).parent ≡ Some node → has_members (entry_of entries node) ≡ false → is_plain (parent_role entries k) (entry_of entries k) ≡ false
-  child-plain k node above not =
-      plain-other (parent_role entries k) (entry_of entries k) (ap (λ (parent : Option ℕ). is_members (role_in entries parent)) above ∙ role-not (entry_of entries node) not)
+  child-plain k node above not = search (rules, plain-other, role-not)
 
   alone-plain : (k : ℕ) → (entry_of entries k).parent ≡ None → is_plain (parent_role entries k) (entry_of entries k) ≡ false
   alone-plain k above = plain-other (parent_role entries k) (entry_of entries k) (ap (λ (parent : Option ℕ). is_members (role_in entries parent)) above)

@@ -70,8 +70,7 @@ module _ (graph : Graph) (ranks : List ℕ) (falls : FallsAlong graph ranks) (le
 
   -- a table that is the same as one that obeys the lines obeys them too
   pub same-obeys : (line : Lines) → IsLocal graph line → (exact found : ℕ → Size) → ObeysLines graph line exact → SameAt graph found exact → ObeysLines graph line found
-  same-obeys line local exact found obeys same node in_graph =
-      same node in_graph ∙ (obeys node in_graph ∙ local exact found node in_graph (λ k in_steps. sym (same (step_at graph node k) (leads node k in_steps))))
+  same-obeys line local exact found obeys same node in_graph = search (rules)
 
 -- the lines of the first nodes by rank hold
 abbrev pub HasFilled : Graph → Ranking → Lines → List Size → ℕ → Type 0

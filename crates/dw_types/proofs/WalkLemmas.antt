@@ -74,8 +74,7 @@ top-opened graph s node h t = rw (← t.top) (h.opened (length s.stack - 1) (let
 
 -- a node with a mark other than `Fresh` is one of the graph
 pub in-graph : (graph : Graph) (s : State) (node : ℕ) → HasPlaces graph s → (mark_of s node ≡ Fresh → ⊥) → node < length graph
-in-graph graph s node h ne =
-    elim (cases_lt node (length graph)) [ inl below ↦ below | inr above ↦ absurd (ne (get_or_past s.marks node Fresh (let e = h.marks in omega arith))) ]
+in-graph graph s node h ne = search (rules, cases_lt, get_or_past)
 
 -- looking at a step
 
@@ -97,8 +96,7 @@ look-but graph s node h in_graph place k in_stack seen =
 
 -- where the step leads to a node that was ranked, that is all
 pub looked-ranked : (graph : Graph) (s : State) (to : ℕ) → LooksUpBut graph s to → mark_of s to ≡ Ranked → LooksUp graph s
-looked-ranked graph s to but done place k in_stack seen =
-    elim (but place k in_stack seen) [ inl known ↦ known | inr here ↦ inl (rw here done) ]
+looked-ranked graph s to but done place k in_stack seen = search (rules)
 
 -- taking up a fresh node
 
@@ -109,8 +107,7 @@ module _ (graph : Graph) (s : State) (node : ℕ) (h : IsCoherent graph s) (in_g
   up-mark a = at_set s.marks node a Open Fresh in_graph
 
   up-ranked : (a : ℕ) → mark_of s a ≡ Ranked → mark_of (taken_up s node) a ≡ Ranked
-  up-ranked a done =
-      elim (up-mark a) [ inl p ↦ absurd (let e : mark_of s node ≡ Ranked = rw (← p.0) done in cc) | inr p ↦ p.1 ∙ done ]
+  up-ranked a done = search (rules, up-mark)
 
   was-ranked : (a : ℕ) → mark_of (taken_up s node) a ≡ Ranked → mark_of s a ≡ Ranked
   was-ranked a done = elim (up-mark a) [ inl p ↦ absurd cc | inr p ↦ sym p.1 ∙ done ]

@@ -1,13 +1,11 @@
+use Rattle.std.proofs.Common.{rules}
 use Rattle.std.proofs.Common.{◌<◌, below_more, length, arith, refl, ◌∙◌}
 use Rattle.dw_types.proofs.EndLemmas.{given_up-walk, clear-at_end, start-walk, taken-more}
 use Rattle.dw_types.proofs.ordering.clear_nodes.Goals as goal
 use Rattle.dw_types.proofs.ordering.clear_nodes.Goals.{in-Fresh+in_ok-walk_from+in-Some, in-Fresh+in_ok-walk_from+in_default-2, in_default}
 
 pub loop-start-init : goal.loop-start-init
-loop-start-init g c =
-    let graph = g.G.StepGraph.graph c.args.graph.now in
-    let few = rw c.nodes-nodes.ensures at c.nodes-nodes.type_inv in
-    rw (c.in_ok-walk.ensures, c.nodes-nodes.ensures) (start-walk graph few, refl, λ node below. absurd (omega arith))
+loop-start-init g c = search (rules, start-walk)
 
 pub loop-start-preserved : goal.loop-start-preserved
 loop-start-preserved g c =

@@ -1,3 +1,4 @@
+use Rattle.std.proofs.Common.{rules}
 use Rattle.std.proofs.Common.{◌<◌, ◌≤◌, length, get_or, arith}
 use Rattle.dw_types.specs.Packing.{begin_of}
 use Rattle.dw_types.specs.PackingLaws.{length-cut, cut-length}
@@ -10,13 +11,7 @@ pub begin-requires : goal.begin-requires
 begin-requires c = let p = c.args.self.now in let all = length-cut p.steps 0 p.ends in omega (arith, c.requires)
 
 pub overflow_sub-result : goal.overflow_sub-result
-overflow_sub-result c =
-    let p = c.args.self.now in
-    let all = length-cut p.steps 0 p.ends in
-    let below : c.args.node < length p.ends = omega (arith, c.requires) in
-    let here = p.in_order c.args.node below in
-    let rises : begin_of p.ends c.args.node ≤ get_or p.ends c.args.node 0 = here.0 in
-    omega (arith, c.begin.ensures, c.get.ensures)
+overflow_sub-result c = search (rules, length-cut)
 
 pub returns : goal.returns
 returns c =
