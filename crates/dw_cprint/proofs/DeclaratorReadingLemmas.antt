@@ -1,17 +1,11 @@
 -- The tokens of declarators and qualifiers are read as what they were written from.
-use Rattle.std.proofs.Common.{rules}
+use Rattle.std.proofs.Common.{rules, arith, ◌≡◌, ℕ, Bool, true, false, List, [], ◌∷◌, ◌++◌, Option, Some, None, refl, ◌∙◌, ap, append_assoc, append-nil}
 use Rattle.std.proofs.lemmas.Grind.{common_steps}
-use Rattle.std.proofs.Common.{arith}
-use Rattle.std.proofs.Common.{◌≡◌, ℕ, Bool, true, false, List, [], ◌∷◌, ◌++◌, Option, Some, None, refl, ◌∙◌, ap}
-use Rattle.std.proofs.Common.{append_assoc, append-nil}
 use Rattle.dw_cprint.specs.Terms.{Qualifier, TypeWord, Term, Basic, Qualified, Pointer, Array, Function, Signature}
-use Rattle.dw_cprint.specs.Tokens.{Token, Blank, Star, Open, Close, LeftBracket, RightBracket, Semicolon, Colon, Comma}
-use Rattle.dw_cprint.specs.Tokens.{Identifier, Number}
-use Rattle.dw_cprint.specs.Writing.{spaced, qualifying, joined, basic, enclosed, count_tokens, name_tokens}
-use Rattle.dw_cprint.specs.Writing.{signature_tokens}
+use Rattle.dw_cprint.specs.Tokens.{Token, Blank, Star, Open, Close, LeftBracket, RightBracket, Semicolon, Colon, Comma, Identifier, Number}
+use Rattle.dw_cprint.specs.Writing.{spaced, qualifying, joined, basic, enclosed, count_tokens, name_tokens, signature_tokens}
 use Rattle.dw_cprint.specs.Legible.{IsIdentifier, IsName, IsQualifiable}
-use Rattle.dw_cprint.specs.Reading.{Shape, same, Place, OfFirst, After, Grouped, Before, Inside, Behind, AtCount, End}
-use Rattle.dw_cprint.specs.Reading.{AtClose, AtComma, AtSemicolon, AtColon, ended, finished, behind}
+use Rattle.dw_cprint.specs.Reading.{Shape, same, Place, OfFirst, After, Grouped, Before, Inside, Behind, AtCount, End, AtClose, AtComma, AtSemicolon, AtColon, ended, finished, behind}
 use Rattle.dw_cprint.proofs.CheckedLemmas.{checked, checked-name, checked-number}
 
 -- the tokens at which a declarator ends

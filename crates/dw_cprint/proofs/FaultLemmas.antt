@@ -1,24 +1,16 @@
 -- What is wrong with a type, by its own entry and by the types that it names.
-use Rattle.std.proofs.Common.{rules}
-use Rattle.std.proofs.Common.{◌≡◌, ℕ, Bool, true, false, List, [], ◌∷◌, Option, Some, refl, sym, ap, subst, ◌∙◌}
-use Rattle.std.proofs.Common.{◌⊎◌, inl, inr, length, map}
+use Rattle.std.proofs.Common.{rules, ◌≡◌, ℕ, Bool, true, false, List, [], ◌∷◌, Option, Some, refl, sym, ap, subst, ◌∙◌, ◌⊎◌, inl, inr, length, map}
 use Rattle.std.proofs.lemmas.Bool.{or_cases}
 use Rattle.std.specs.Prelude.{IsTrue, All, Any, ◌↔◌, ◌||◌, is_none, ◌==◌}
 use Rattle.std.specs.List.{list_any}
 use Rattle.std.proofs.lemmas.List.Elements.{All-weaker, All-nil}
 use Rattle.std.proofs.lemmas.List.Folds.{Any-from_list_any, list_any-from_Any}
 use Rattle.dw_cprint.specs.Declarations.{is_cut_short, is_miscounted, is_misplaced}
-use Rattle.dw_cprint.specs.Shapes.{Parameter, TypeAt, ShapeOf, array, qualified}
-use Rattle.dw_cprint.specs.Shapes.{function, body, SubjectOf, typedef_subject, variable_subject, tag_subject}
-use Rattle.dw_cprint.specs.Shapes.{view_enumerator}
+use Rattle.dw_cprint.specs.Shapes.{Parameter, TypeAt, ShapeOf, array, qualified, function, body, SubjectOf, typedef_subject, variable_subject, tag_subject, view_enumerator}
 use Rattle.dw_cprint.specs.declared.shape.Enumerator.{Enumerator}
 use Rattle.dw_cprint.specs.Steps.{parameter_types, types_declared, types_reached}
-use Rattle.dw_cprint.specs.Summaries.{IsBase, Knows, Summaries, base_known, is_own_unspeakable}
-use Rattle.dw_cprint.specs.Summaries.{is_unspeakable, is_wrong_base, kind_known}
-use Rattle.dw_cprint.specs.Wrong.{TypeKind, kind_at, StandsUnder, nothing, itself, below, IsVoidLike}
-use Rattle.dw_cprint.specs.Wrong.{has_bad_name, has_own_bad_name, is_declared_enumeration, is_void, is_wrong}
-use Rattle.dw_cprint.specs.Wrong.{is_wrong_row, is_wrong_enumeration, lacks_value, object_types, IsUnspeakable, wrong}
-use Rattle.dw_cprint.specs.Wrong.{void_object, row, IsOwnUnspeakable, void_variable, unspeakable, declared_enumeration}
+use Rattle.dw_cprint.specs.Summaries.{IsBase, Knows, Summaries, base_known, is_own_unspeakable, is_unspeakable, is_wrong_base, kind_known}
+use Rattle.dw_cprint.specs.Wrong.{TypeKind, kind_at, StandsUnder, nothing, itself, below, IsVoidLike, has_bad_name, has_own_bad_name, is_declared_enumeration, is_void, is_wrong, is_wrong_row, is_wrong_enumeration, lacks_value, object_types, IsUnspeakable, wrong, void_object, row, IsOwnUnspeakable, void_variable, unspeakable, declared_enumeration}
 use Rattle.dw_cprint.proofs.KindLemmas.{first-of, names-alike, others-of, own-names-alike, wrong-alike}
 use Rattle.dw_cprint.proofs.OptionLemmas.{or_left, or_right}
 

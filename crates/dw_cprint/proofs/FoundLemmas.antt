@@ -1,22 +1,13 @@
 -- What is found of types, of an entry and of the declared entry, by what is found of those that they lead to.
-use Rattle.std.proofs.Common.{◌≡◌, ℕ, false, List, [], ◌∷◌, Some, refl, sym, subst, ◌∙◌}
-use Rattle.std.proofs.Common.{◌⊎◌, inl, inr, arith, zero, suc, ◌++◌, ◌+◌, ◌<◌, ◌≤◌, min, max}
+use Rattle.std.proofs.Common.{◌≡◌, ℕ, false, List, [], ◌∷◌, Some, refl, sym, subst, ◌∙◌, ◌⊎◌, inl, inr, arith, zero, suc, ◌++◌, ◌+◌, ◌<◌, ◌≤◌, min, max}
 use Rattle.std.proofs.lemmas.Bool.{cases_lt}
 use Rattle.std.specs.Prelude.{IsTrue, All, ◌↔◌, Contains}
-use Rattle.std.proofs.lemmas.List.Elements.{Contains-append_left, Contains-append_right}
-use Rattle.std.proofs.lemmas.List.Elements.{Contains-append_cases}
-use Rattle.dw_cprint.specs.Shapes.{TypeAt, ShapeOf}
-use Rattle.dw_cprint.specs.Shapes.{SubjectOf}
-use Rattle.dw_cprint.specs.Steps.{types_declared, types_reached, entries_of, steps_reached}
-use Rattle.dw_cprint.specs.Steps.{IsReachedFrom, root, further, HasPathFrom}
-use Rattle.dw_cprint.specs.Summaries.{IsSummary, Knows, Summaries, is_own_unspeakable}
-use Rattle.dw_cprint.specs.Summaries.{is_unspeakable, kind_known, Findings, Summary, ReachesOne, IsForeign}
-use Rattle.dw_cprint.specs.Summaries.{AreFound, AreFoundOf, IsDepth, IsEither, IsOwn}
-use Rattle.dw_cprint.specs.Wrong.{has_bad_name, has_own_bad_name}
-use Rattle.dw_cprint.specs.Wrong.{IsUnspeakable}
-use Rattle.dw_cprint.specs.Wrong.{HasBadName, is_foreign, is_own_foreign}
-use Rattle.dw_cprint.specs.Refusals.{Holds, own_name, name_reached, own_child, foreign_reached, own_shape}
-use Rattle.dw_cprint.specs.Refusals.{shape_reached, deep, TooLong, HoldsNoneBelow}
+use Rattle.std.proofs.lemmas.List.Elements.{Contains-append_left, Contains-append_right, Contains-append_cases}
+use Rattle.dw_cprint.specs.Shapes.{TypeAt, ShapeOf, SubjectOf}
+use Rattle.dw_cprint.specs.Steps.{types_declared, types_reached, entries_of, steps_reached, IsReachedFrom, root, further, HasPathFrom}
+use Rattle.dw_cprint.specs.Summaries.{IsSummary, Knows, Summaries, is_own_unspeakable, is_unspeakable, kind_known, Findings, Summary, ReachesOne, IsForeign, AreFound, AreFoundOf, IsDepth, IsEither, IsOwn}
+use Rattle.dw_cprint.specs.Wrong.{has_bad_name, has_own_bad_name, IsUnspeakable, HasBadName, is_foreign, is_own_foreign}
+use Rattle.dw_cprint.specs.Refusals.{Holds, own_name, name_reached, own_child, foreign_reached, own_shape, shape_reached, deep, TooLong, HoldsNoneBelow}
 use Rattle.dw_cprint.proofs.ReachLemmas.{entries-append}
 use Rattle.dw_cprint.proofs.FaultLemmas.{either, test-itself, test-same, names-known, own-names-known, unspeakable-known, own-unspeakable-known}
 

@@ -1,22 +1,14 @@
 -- An entry that is not wrong has a term.
-use Rattle.std.proofs.Common.{rules}
-use Rattle.std.proofs.Common.{◌≡◌, ℕ, zero, suc, ℤ, ◌<◌, Bool, true, false, List, [], ◌∷◌, Option, Some, None, refl}
-use Rattle.std.proofs.Common.{subst, length, arith}
-use Rattle.std.specs.Prelude.{IsSome, ◌==◌, option_map, option_and_then, Any, Contains}
-use Rattle.std.specs.Prelude.{if◌then◌else◌}
+use Rattle.std.proofs.Common.{rules, ◌≡◌, ℕ, zero, suc, ℤ, ◌<◌, Bool, true, false, List, [], ◌∷◌, Option, Some, None, refl, subst, length, arith}
+use Rattle.std.specs.Prelude.{IsSome, ◌==◌, option_map, option_and_then, Any, Contains, if◌then◌else◌}
 use Rattle.std.specs.List.{list_any}
 use Rattle.std.proofs.lemmas.List.Splits.{length-slice_split}
-use Rattle.dw_cprint.specs.Declarations.{words_of, parts_of, is_miscounted, is_misplaced, base_term, arrays}
-use Rattle.dw_cprint.specs.Declarations.{constants_of, has_more, parameters_by, members_by, term_by, term_at}
+use Rattle.dw_cprint.specs.Declarations.{words_of, parts_of, is_miscounted, is_misplaced, base_term, arrays, constants_of, has_more, parameters_by, members_by, term_by, term_at}
 use Rattle.dw_cprint.specs.Legible.{is_identifier, IsIdentifier, IsQualifiable, IsPresent, IsLegible}
-use Rattle.dw_cprint.specs.Shapes.{Parameter, Typed, More, Name, TypeAt, MemberOf, EnumeratorOf, ShapeOf, base, typedef}
-use Rattle.dw_cprint.specs.Shapes.{qualified, pointer, array, function, tagged, nameless, body, enumeration, foreign}
-use Rattle.dw_cprint.specs.Shapes.{other}
+use Rattle.dw_cprint.specs.Shapes.{Parameter, Typed, More, Name, TypeAt, MemberOf, EnumeratorOf, ShapeOf, base, typedef, qualified, pointer, array, function, tagged, nameless, body, enumeration, foreign, other}
 use Rattle.dw_cprint.specs.Steps.{entries_of, parameter_types, member_types, types_reached, steps_reached, Leads}
-use Rattle.dw_cprint.specs.Terms.{TypeWord, Constant, Valued, Term, Named, Basic, Body, Enumeration, Qualified, Pointer}
-use Rattle.dw_cprint.specs.Terms.{Function, Unprototyped, Prototyped, Parameters}
-use Rattle.dw_cprint.specs.Wrong.{lacks_name, lacks_base_name, HasBadName, is_foreign, lacks_value}
-use Rattle.dw_cprint.specs.Wrong.{is_wrong_enumeration, IsUnspeakable, wrong}
+use Rattle.dw_cprint.specs.Terms.{TypeWord, Constant, Valued, Term, Named, Basic, Body, Enumeration, Qualified, Pointer, Function, Unprototyped, Prototyped, Parameters}
+use Rattle.dw_cprint.specs.Wrong.{lacks_name, lacks_base_name, HasBadName, is_foreign, lacks_value, is_wrong_enumeration, IsUnspeakable, wrong}
 use Rattle.dw_cprint.proofs.NameLemmas.{words-length}
 use Rattle.dw_cprint.proofs.OptionLemmas.{map_some, then_some, unless_some, not_refuted, or_left, or_right}
 

@@ -1,23 +1,17 @@
 -- The members, enumerators and parameters that are left to be written, item by item.
 use Rattle.std.proofs.lemmas.Grind.{common_steps}
-use Rattle.std.proofs.Common.{arith}
-use Rattle.std.proofs.Common.{rules}
-use Rattle.std.proofs.Common.{◌≡◌, ℕ, ℤ, ◌+◌, ◌<◌, false, List, [], ◌∷◌, ◌++◌, Option, Some, None, refl, sym, ◌∙◌, ap, subst}
-use Rattle.std.proofs.Common.{append_assoc, drop, length, get_or, map}
+use Rattle.std.proofs.Common.{arith, rules, ◌≡◌, ℕ, ℤ, ◌+◌, ◌<◌, false, List, [], ◌∷◌, ◌++◌, Option, Some, None, refl, sym, ◌∙◌, ap, subst, append_assoc, drop, length, get_or, map}
 use Rattle.std.specs.Prelude.{option_map, if◌then◌else◌}
 use Rattle.std.proofs.lemmas.Option.{same_Some}
 use Rattle.std.proofs.lemmas.List.{drop_more}
-use Rattle.dw_cprint.specs.Declarations.{bits_of, is_misplaced, is_cut_short, has_more, constants_of, parameters_by}
-use Rattle.dw_cprint.specs.Declarations.{members_by}
+use Rattle.dw_cprint.specs.Declarations.{bits_of, is_misplaced, is_cut_short, has_more, constants_of, parameters_by, members_by}
 use Rattle.dw_cprint.specs.Declarators.{body_tokens, enumeration_tokens}
 use Rattle.dw_cprint.specs.Drafts.{appended}
 use Rattle.dw_cprint.specs.Kept.{Writes, WritesParameter, kept_term}
 use Rattle.dw_cprint.specs.Shapes.{Parameter, Typed, More, Name, TypeAt, MemberOf, EnumeratorOf}
-use Rattle.dw_cprint.specs.Terms.{Constant, Valued, Term, Prototyped, Parameters}
-use Rattle.dw_cprint.specs.Terms.{Parameter as ParameterTerm, Members, Member as MemberTerm}
+use Rattle.dw_cprint.specs.Terms.{Constant, Valued, Term, Prototyped, Parameters, Parameter as ParameterTerm, Members, Member as MemberTerm}
 use Rattle.dw_cprint.specs.Tokens.{Token, Blank, LeftBrace, RightBrace, Semicolon, Comma, Dot, text_of}
-use Rattle.dw_cprint.specs.Writing.{spell, name_tokens, bits_tokens, ellipsis, constant, more_constants}
-use Rattle.dw_cprint.specs.Writing.{signature_tokens, more_parameters, members_tokens, written}
+use Rattle.dw_cprint.specs.Writing.{spell, name_tokens, bits_tokens, ellipsis, constant, more_constants, signature_tokens, more_parameters, members_tokens, written}
 use Rattle.dw_cprint.specs.declared.survey.Survey.{Survey}
 use Rattle.dw_cprint.proofs.OptionLemmas.{map_inverted, then_inverted, unless_inverted}
 use Rattle.dw_cprint.proofs.DraftLemmas.{appended-nil, appended-twice, over-before}

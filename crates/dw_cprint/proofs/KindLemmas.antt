@@ -5,8 +5,7 @@ use Rattle.std.specs.List.{list_any}
 use Rattle.dw_cprint.specs.Declarations.{is_miscounted, is_misplaced}
 use Rattle.dw_cprint.specs.Shapes.{TypeAt, MemberOf, ShapeOf, array, function, body, SubjectOf, tag_subject}
 use Rattle.dw_cprint.specs.Steps.{member_types, parameter_types, types_declared, types_reached}
-use Rattle.dw_cprint.specs.Wrong.{TypeKind, has_bad_name, has_own_bad_name, is_bracketed, is_function, is_open}
-use Rattle.dw_cprint.specs.Wrong.{is_wrong, is_wrong_bits, lacks_member_name, lacks_name}
+use Rattle.dw_cprint.specs.Wrong.{TypeKind, has_bad_name, has_own_bad_name, is_bracketed, is_function, is_open, is_wrong, is_wrong_bits, lacks_member_name, lacks_name}
 
 pub first-of : (P : TypeAt → Type 0) (at : TypeAt) (ats : List TypeAt) → All P (at ∷ ats) → P at
 first-of P at ats all = all 0 at (omega arith)

@@ -1,34 +1,18 @@
 -- The term of an entry that is not wrong can be read back from its text.
-use Rattle.std.proofs.Common.{rules}
-use Rattle.std.proofs.Common.{◌≡◌, ℕ, zero, suc, ℤ, Bool, true, false, List, [], ◌∷◌, Option, Some, None, refl, sym}
-use Rattle.std.proofs.Common.{◌∙◌, ap, subst, arith}
+use Rattle.std.proofs.Common.{rules, ◌≡◌, ℕ, zero, suc, ℤ, Bool, true, false, List, [], ◌∷◌, Option, Some, None, refl, sym, ◌∙◌, ap, subst, arith}
 use Rattle.std.specs.Prelude.{option_map, option_and_then, Any, Contains, IsSome, not}
 use Rattle.std.specs.List.{list_any}
-use Rattle.dw_cprint.specs.Declarations.{is_miscounted, is_misplaced, arrays, bits_of, constants_of, has_more}
-use Rattle.dw_cprint.specs.Declarations.{parameters_by, members_by, term_by, term_at, declaration_by}
-use Rattle.dw_cprint.specs.Legible.{is_identifier, IsIdentifier, IsName, AreConstants, IsQualifiable, IsPresent}
-use Rattle.dw_cprint.specs.Legible.{IsLegible, IsSignature, AreParameters, AreMembers, IsDeclaration}
+use Rattle.dw_cprint.specs.Declarations.{is_miscounted, is_misplaced, arrays, bits_of, constants_of, has_more, parameters_by, members_by, term_by, term_at, declaration_by}
+use Rattle.dw_cprint.specs.Legible.{is_identifier, IsIdentifier, IsName, AreConstants, IsQualifiable, IsPresent, IsLegible, IsSignature, AreParameters, AreMembers, IsDeclaration}
 use Rattle.dw_cprint.specs.Regular.{IsRegular, IsRegularSubject}
-use Rattle.dw_cprint.specs.Shapes.{Parameter, Typed, More, Name, TypeAt, MemberOf, EnumeratorOf, ShapeOf, base, typedef}
-use Rattle.dw_cprint.specs.Shapes.{Bits, Qualifier, Restrict, qualified, pointer, array, function, tagged, body}
-use Rattle.dw_cprint.specs.Shapes.{enumeration, nameless, SubjectOf, typedef_subject, variable_subject, tag_subject}
-use Rattle.dw_cprint.specs.Steps.{entries_of, parameter_types, member_types, types_reached, first_steps, root, further}
-use Rattle.dw_cprint.specs.Steps.{IsReached, HasPath}
-use Rattle.dw_cprint.specs.Terms.{Constant, Valued, Term, Void, Named, Tagged, Body, Enumeration, Qualified, Pointer}
-use Rattle.dw_cprint.specs.Terms.{Function, Unprototyped, Prototyped, Parameters, NoParameter}
-use Rattle.dw_cprint.specs.Terms.{Parameter as ParameterTerm, Members, NoMember, Member as MemberTerm, Declaration}
-use Rattle.dw_cprint.specs.Terms.{Typedef, Variable, Aggregate, Constants, Declared}
-use Rattle.dw_cprint.specs.Wrong.{TypeKind, StandsUnder, nothing, itself, IsVoidLike, is_bracketed, is_wrong_row}
-use Rattle.dw_cprint.specs.Wrong.{kind_at, kind_in, lacks_member_name, row, void_object, has_own_bad_name, lacks_name}
-use Rattle.dw_cprint.specs.Wrong.{unspeakable, wrong}
-use Rattle.dw_cprint.specs.Refusals.{other_kind, own_name, own_child, own_shape, name_reached, foreign_reached}
-use Rattle.dw_cprint.specs.Refusals.{shape_reached, HoldsNoneBelow, NotPrintable, BadName, Foreign, Unspeakable}
+use Rattle.dw_cprint.specs.Shapes.{Parameter, Typed, More, Name, TypeAt, MemberOf, EnumeratorOf, ShapeOf, base, typedef, Bits, Qualifier, Restrict, qualified, pointer, array, function, tagged, body, enumeration, nameless, SubjectOf, typedef_subject, variable_subject, tag_subject}
+use Rattle.dw_cprint.specs.Steps.{entries_of, parameter_types, member_types, types_reached, first_steps, root, further, IsReached, HasPath}
+use Rattle.dw_cprint.specs.Terms.{Constant, Valued, Term, Void, Named, Tagged, Body, Enumeration, Qualified, Pointer, Function, Unprototyped, Prototyped, Parameters, NoParameter, Parameter as ParameterTerm, Members, NoMember, Member as MemberTerm, Declaration, Typedef, Variable, Aggregate, Constants, Declared}
+use Rattle.dw_cprint.specs.Wrong.{TypeKind, StandsUnder, nothing, itself, IsVoidLike, is_bracketed, is_wrong_row, kind_at, kind_in, lacks_member_name, row, void_object, has_own_bad_name, lacks_name, unspeakable, wrong}
+use Rattle.dw_cprint.specs.Refusals.{other_kind, own_name, own_child, own_shape, name_reached, foreign_reached, shape_reached, HoldsNoneBelow, NotPrintable, BadName, Foreign, Unspeakable}
 use Rattle.dw_cprint.specs.declared.refusals.TypeKind.TheVariants as kind
-use Rattle.dw_cprint.proofs.OptionLemmas.{map_inverted, then_inverted, unless_inverted, not_refuted, or_left, or_right}
-use Rattle.dw_cprint.proofs.OptionLemmas.{map_some}
-use Rattle.dw_cprint.proofs.HasTermLemmas.{AreKept, IsBaseTerm, IsFine, among_here, among_there, any_here, base_is}
-use Rattle.dw_cprint.proofs.HasTermLemmas.{head_of, name_there, nameless_at, rest_of, HasTerm, constants_some}
-use Rattle.dw_cprint.proofs.HasTermLemmas.{entry_some, members_some, unvalued}
+use Rattle.dw_cprint.proofs.OptionLemmas.{map_inverted, then_inverted, unless_inverted, not_refuted, or_left, or_right, map_some}
+use Rattle.dw_cprint.proofs.HasTermLemmas.{AreKept, IsBaseTerm, IsFine, among_here, among_there, any_here, base_is, head_of, name_there, nameless_at, rest_of, HasTerm, constants_some, entry_some, members_some, unvalued}
 
 -- ---- an entry that is not wrong is legible
 

@@ -1,8 +1,5 @@
 -- The listing: the named types in order, judged one after another, and those that are refused, sorted by offset.
-use Rattle.std.proofs.Common.{rules}
-use Rattle.std.proofs.Common.{◌≡◌, ◌≢◌, ℕ, zero, suc, ◌+◌, ◌<◌, ◌≤◌, Bool, true, false, not, cond, List, [], ◌∷◌, ◌++◌}
-use Rattle.std.proofs.Common.{refl, sym, ◌∙◌, ap, subst, inl, inr, length, get_or, arith, append_assoc, drop, Some}
-use Rattle.std.proofs.Common.{None}
+use Rattle.std.proofs.Common.{rules, ◌≡◌, ◌≢◌, ℕ, zero, suc, ◌+◌, ◌<◌, ◌≤◌, Bool, true, false, not, cond, List, [], ◌∷◌, ◌++◌, refl, sym, ◌∙◌, ap, subst, inl, inr, length, get_or, arith, append_assoc, drop, Some, None}
 use Rattle.std.specs.Prelude.{◌⊎◌, ◌&&◌, All, Contains, AllPairs, IsPermutation, filter, flat_map, nat_lt, if◌then◌else◌}
 use Rattle.std.specs.List.Sorted.{IsNonDecreasingBy, IsStableByKey, ties}
 use Rattle.std.specs.Ordering.{nat_cmp, is_lt}
@@ -10,9 +7,7 @@ use Rattle.std.specs.List.{range_with_len, filter_map}
 use Rattle.std.proofs.lemmas.Bool.{and_parts, cases_lt}
 use Rattle.std.proofs.lemmas.Bool.Decides.{nat_tests}
 use Rattle.std.proofs.lemmas.List.{get_or_default, drop_more, flat_map_more}
-use Rattle.std.proofs.lemmas.List.Elements.{All-contains, Contains-append_left, Contains-append_right, Contains-get_or}
-use Rattle.std.proofs.lemmas.List.Elements.{Contains-push, Contains-push_cases}
-use Rattle.std.proofs.lemmas.List.Elements.{filter_passes}
+use Rattle.std.proofs.lemmas.List.Elements.{All-contains, Contains-append_left, Contains-append_right, Contains-get_or, Contains-push, Contains-push_cases, filter_passes}
 use Rattle.std.proofs.lemmas.List.Kept.{AllPairs-filter}
 use Rattle.std.proofs.lemmas.List.Quantifiers.{all_pairs_push}
 use Rattle.std.proofs.lemmas.List.Sorted.{IsPermutation-sym, Contains-permutation}
@@ -21,8 +16,7 @@ use Rattle.dw_image.specs.declared.image.Image.{Image}
 use Rattle.dw_image.specs.Images.{entries_in}
 use Rattle.dw_cprint.specs.EntryShapes.{shape_in, subject_in}
 use Rattle.dw_cprint.specs.Judgements.{IsAdded, printed, refused}
-use Rattle.dw_cprint.specs.Listings.{IsNamedType, AreNamedTypes, AreLevels, StandsBefore, IsListing, declared_line}
-use Rattle.dw_cprint.specs.Listings.{is_named_type, named_number}
+use Rattle.dw_cprint.specs.Listings.{IsNamedType, AreNamedTypes, AreLevels, StandsBefore, IsListing, declared_line, is_named_type, named_number}
 use Rattle.dw_cprint.specs.Refusals.{PrintFault, Refuses, IsPrinted}
 use Rattle.dw_cprint.specs.Surveys.{AreAmong}
 use Rattle.dw_cprint.specs.declared.listing.Listing.{Listing}
@@ -138,10 +132,7 @@ module _ (image : Image) (named : List ℕ) (count : ℕ) (order : List ℕ) (re
       → (place : ℕ) → place < count + 1 → Contains order' (get_or named place 0) ⊎ ((rule : PrintFault) × Contains refusals' (get_or named place 0, rule))
   each-more order' refusals' kept stay here place w = elim (cases_lt place count) [
     | inl less ↦ elim (h.each place less) [ inl p ↦ inl (kept (get_or named place 0) p) | inr (rule, r) ↦ inr (rule, stay (get_or named place 0, rule) r) ]
-    | inr past ↦
-        let same : count ≡ place = omega arith in
-        let P : ℕ → Type 0 = λ e. Contains order' e ⊎ ((rule : PrintFault) × Contains refusals' (e, rule)) in
-        subst P (sym at ∙ ap (λ (n : ℕ). get_or named n 0) same) here
+    | inr past ↦ search (rules)
   ]
 
   judged-printed : IsPrinted (shape_in image) (subject_in image entry) → AreJudged image named (count + 1) (order ++ entry ∷ []) refusals (text ++ declared_line image entry)

@@ -1,7 +1,5 @@
 -- What is read of an entry, and of its children from the first on.
-use Rattle.std.proofs.Common.{rules}
-use Rattle.std.proofs.Common.{suc, ◌+◌, true, false, Bool, [], ◌∷◌, ◌≡◌, ℕ, ◌<◌, ◌≤◌, List, Option, Some, None, IfSome}
-use Rattle.std.proofs.Common.{refl, ap, arith, length, ◌++◌, sym, subst, append-nil, map}
+use Rattle.std.proofs.Common.{rules, suc, ◌+◌, true, false, Bool, [], ◌∷◌, ◌≡◌, ℕ, ◌<◌, ◌≤◌, List, Option, Some, None, IfSome, refl, ap, arith, length, ◌++◌, sym, subst, append-nil, map}
 use Rattle.std.specs.List.{filter_map}
 use Rattle.std.specs.Prelude.{slice_get, option_map, All, if◌then◌else◌}
 use Rattle.std.specs.Option.{option_map_or}

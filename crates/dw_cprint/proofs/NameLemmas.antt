@@ -1,18 +1,12 @@
 -- The words of a base type's name, and its text.
-use Rattle.std.proofs.Common.{rules}
-use Rattle.std.proofs.Common.{◌≡◌, ℕ, zero, suc, ◌+◌, ◌*◌, ◌<◌, ◌≤◌, Bool, true, false, List, [], ◌∷◌, ◌++◌}
-use Rattle.std.proofs.Common.{Option, Some, None, refl, sym, ◌∙◌, ap, subst, length, take, drop, append-nil, arith, ◌-◌}
-use Rattle.std.proofs.Common.{◌/◌, ◌%◌, get_or, inl, inr}
-use Rattle.std.specs.Prelude.{◌==◌, ◌&&◌, ◌||◌, ◌-◌, count_by, position, bytes_eq, option_map}
-use Rattle.std.specs.Prelude.{is_some, if◌then◌else◌, ◌⊎◌, slice_get}
+use Rattle.std.proofs.Common.{rules, ◌≡◌, ℕ, zero, suc, ◌+◌, ◌*◌, ◌<◌, ◌≤◌, Bool, true, false, List, [], ◌∷◌, ◌++◌, Option, Some, None, refl, sym, ◌∙◌, ap, subst, length, take, drop, append-nil, arith, ◌-◌, ◌/◌, ◌%◌, get_or, inl, inr}
+use Rattle.std.specs.Prelude.{◌==◌, ◌&&◌, ◌||◌, ◌-◌, count_by, position, bytes_eq, option_map, is_some, if◌then◌else◌, ◌⊎◌, slice_get}
 use Rattle.std.specs.List.{list_any, slice_split, position_or_len, join_with_byte, before_first, list_all}
 use Rattle.std.proofs.lemmas.Bool.Decides.{nat_tests}
 use Rattle.std.proofs.lemmas.Option.{cond_some, get_or_from_slice_get, slice_get-get_or, slice_get_within}
-use Rattle.std.proofs.lemmas.List.{length-append, take-append-drop, length-take-le, length-drop, length_push, drop-drop}
-use Rattle.std.proofs.lemmas.List.{get_or_append_left, get_or_push}
+use Rattle.std.proofs.lemmas.List.{length-append, take-append-drop, length-take-le, length-drop, length_push, drop-drop, get_or_append_left, get_or_push}
 use Rattle.std.proofs.lemmas.Slice.Eq.{bytes_eq-Decides}
-use Rattle.std.proofs.lemmas.List.Splits.{slice_split_first, slice_split-cons_no, length-slice_split}
-use Rattle.std.proofs.lemmas.List.Splits.{join_with_byte-slice_split}
+use Rattle.std.proofs.lemmas.List.Splits.{slice_split_first, slice_split-cons_no, length-slice_split, join_with_byte-slice_split}
 use Rattle.std.proofs.lemmas.List.Folds.{list_any-append, list_all-append}
 use Rattle.std.proofs.Math.Nat.{div-add-mod}
 use Rattle.std.proofs.lemmas.Bool.{cases_lt}
@@ -178,9 +172,7 @@ span-joined bytes offset next front words both within known is means long split 
     let whole : front ≡ start = is ∙ ap (before_first zero) (sym (append-nil start)) ∙ before-joined zero start [] all ∙ append-nil start in
     record {
       long = sym (ap length same ∙ length-append start rest ∙ ap (λ (n : ℕ). n + length rest) size ∙ ap (λ (n : ℕ). offset + n) (sym known.long));
-      words = split ∙ sym (ap (list_all is_word_byte) same ∙ list_all-append is_word_byte start rest
-          ∙ ap (λ (b : Bool). b && list_all is_word_byte rest) (sym (means ∙ ap (list_all is_word_byte) whole))
-          ∙ ap (λ (b : Bool). words && b) (sym known.words));
+      words = search (rules, list_all-append);
     }
 
 -- what is known of the last k blocks

@@ -1,15 +1,10 @@
 -- Finding what is reached: the loop over the entries that are found.
 use Rattle.std.proofs.lemmas.Grind.{common_steps}
-use Rattle.std.proofs.Common.{rules}
-use Rattle.std.proofs.Common.{◌≡◌, ◌≢◌, ℕ, zero, suc, ◌+◌, ◌<◌, ◌≤◌, List, [], ◌∷◌, ◌++◌, Option, Some, None, refl, sym}
-use Rattle.std.proofs.Common.{◌∙◌, ap, subst, inl, inr, length, get_or, arith, length-append, set, length-set}
-use Rattle.std.proofs.Common.{get_or-set_other, get_or-set_same, take, map, append-nil, append_assoc, true, false}
+use Rattle.std.proofs.Common.{rules, ◌≡◌, ◌≢◌, ℕ, zero, suc, ◌+◌, ◌<◌, ◌≤◌, List, [], ◌∷◌, ◌++◌, Option, Some, None, refl, sym, ◌∙◌, ap, subst, inl, inr, length, get_or, arith, length-append, set, length-set, get_or-set_other, get_or-set_same, take, map, append-nil, append_assoc, true, false}
 use Rattle.std.specs.Prelude.{Contains, option_map}
 use Rattle.std.specs.List.{IsDistinct, AllByRecursion, cons_option, list_any}
-use Rattle.std.proofs.lemmas.List.{get_or-map, length-map, map-append, get_or_append_left, take_more}
-use Rattle.std.proofs.lemmas.List.{get_or-append_right, get_or_push, take_all, take-append-le}
-use Rattle.std.proofs.lemmas.List.Elements.{Contains-get_or}
-use Rattle.std.proofs.lemmas.List.Elements.{Contains-append_left, Contains-append_right, Contains-append_cases}
+use Rattle.std.proofs.lemmas.List.{get_or-map, length-map, map-append, get_or_append_left, take_more, get_or-append_right, get_or_push, take_all, take-append-le}
+use Rattle.std.proofs.lemmas.List.Elements.{Contains-get_or, Contains-append_left, Contains-append_right, Contains-append_cases}
 use Rattle.std.proofs.Math.Seq.{get_or-append_seam}
 use Rattle.std.proofs.lemmas.Bool.{cases_lt}
 use Rattle.std.proofs.lemmas.Option.{same_Some}

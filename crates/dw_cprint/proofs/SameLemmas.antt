@@ -1,24 +1,14 @@
 -- Shapes that are the same at each entry that is reached: the same declaration, and the same refusals.
-use Rattle.std.proofs.Common.{◌≡◌, ℕ, zero, suc, true, List, [], ◌∷◌, Option, Some, None, refl, sym, ◌∙◌}
-use Rattle.std.proofs.Common.{ap, subst, arith}
+use Rattle.std.proofs.Common.{◌≡◌, ℕ, zero, suc, true, List, [], ◌∷◌, Option, Some, None, refl, sym, ◌∙◌, ap, subst, arith}
 use Rattle.std.specs.Prelude.{option_map, All, Any, Contains, if◌then◌else◌}
 use Rattle.std.proofs.lemmas.List.Elements.{All-nil, All-cons}
-use Rattle.dw_cprint.specs.Declarations.{arrays, is_miscounted, parameters_by, members_by, term_by, declaration_by}
-use Rattle.dw_cprint.specs.Declarations.{term_at, declaration_of}
-use Rattle.dw_cprint.specs.Refusals.{PrintFault, Holds, other_kind, cycle, own_name, name_reached, own_child}
-use Rattle.dw_cprint.specs.Refusals.{foreign_reached, own_shape, shape_reached, deep, long, number_of, HoldsNoneBelow}
-use Rattle.dw_cprint.specs.Refusals.{Refuses, HasOneReading, IsPrinted}
+use Rattle.dw_cprint.specs.Declarations.{arrays, is_miscounted, parameters_by, members_by, term_by, declaration_by, term_at, declaration_of}
+use Rattle.dw_cprint.specs.Refusals.{PrintFault, Holds, other_kind, cycle, own_name, name_reached, own_child, foreign_reached, own_shape, shape_reached, deep, long, number_of, HoldsNoneBelow, Refuses, HasOneReading, IsPrinted}
 use Rattle.dw_cprint.specs.SameShapes.{AreSameFor}
-use Rattle.dw_cprint.specs.Shapes.{Parameter, Typed, More, TypeAt, MemberOf, ShapeOf, base}
-use Rattle.dw_cprint.specs.Shapes.{typedef, qualified, pointer, array, function, body, SubjectOf, typedef_subject}
-use Rattle.dw_cprint.specs.Shapes.{variable_subject, tag_subject}
-use Rattle.dw_cprint.specs.Steps.{entries_of, parameter_types, member_types, types_reached, types_declared}
-use Rattle.dw_cprint.specs.Steps.{steps_reached, first_steps, IsReachedFrom, root, further, IsReached, Leads}
+use Rattle.dw_cprint.specs.Shapes.{Parameter, Typed, More, TypeAt, MemberOf, ShapeOf, base, typedef, qualified, pointer, array, function, body, SubjectOf, typedef_subject, variable_subject, tag_subject}
+use Rattle.dw_cprint.specs.Steps.{entries_of, parameter_types, member_types, types_reached, types_declared, steps_reached, first_steps, IsReachedFrom, root, further, IsReached, Leads}
 use Rattle.dw_cprint.specs.Terms.{Term, Qualified, Pointer, Function, Unprototyped, Body, Typedef, Variable, Aggregate}
-use Rattle.dw_cprint.specs.Wrong.{shape_of, StandsUnder, nothing, itself, below, HasBadName, has_own_bad_name}
-use Rattle.dw_cprint.specs.Wrong.{is_foreign, is_wrong_row, kind_at, kind_in, object_types, IsVoidLike, IsUnspeakable}
-use Rattle.dw_cprint.specs.Wrong.{wrong, void_object, row, IsOwnUnspeakable, void_variable, unspeakable}
-use Rattle.dw_cprint.specs.Wrong.{declared_enumeration}
+use Rattle.dw_cprint.specs.Wrong.{shape_of, StandsUnder, nothing, itself, below, HasBadName, has_own_bad_name, is_foreign, is_wrong_row, kind_at, kind_in, object_types, IsVoidLike, IsUnspeakable, wrong, void_object, row, IsOwnUnspeakable, void_variable, unspeakable, declared_enumeration}
 use Rattle.dw_cprint.specs.Kept.{kept}
 use Rattle.dw_cprint.specs.Regular.{AreRegular}
 use Rattle.dw_cprint.specs.Surveys.{AreAmong, IsSurveyOf}

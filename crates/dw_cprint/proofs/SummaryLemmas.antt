@@ -3,11 +3,10 @@ use Rattle.std.proofs.Common.{◌≡◌, ℕ, zero, suc, ◌+◌, ◌<◌, false
 use Rattle.std.specs.Prelude.{All, Contains, ◌↔◌, slice_get, is_none, option_and_then, unwrap_or}
 use Rattle.std.proofs.lemmas.Bool.{cases_eq}
 use Rattle.std.proofs.lemmas.List.{take_more, get_or-set_same, get_or-set_other}
-use Rattle.std.proofs.lemmas.List.Elements.{Contains-push, Contains-append_left, Contains-push_cases}
+use Rattle.std.proofs.lemmas.List.Elements.{Contains-push, Contains-append_left, Contains-push_cases, All-weaker}
 use Rattle.dw_cprint.specs.Declarations.{term_at, term_by}
 use Rattle.dw_cprint.specs.Shapes.{Qualifier, TypeAt, ShapeOf, qualified, view_shape}
 use Rattle.dw_cprint.specs.Steps.{entries_of, types_reached}
-use Rattle.std.proofs.lemmas.List.Elements.{All-weaker}
 use Rattle.dw_cprint.specs.Least.{IsLeast}
 use Rattle.dw_cprint.specs.Summaries.{TypeKind, Summary, AreFound, IsBase, IsSummary, least_known, Summaries, Knows, AreNodes, HaveSummaries, summary_at}
 use Rattle.dw_cprint.specs.Terms.{Term, Void}

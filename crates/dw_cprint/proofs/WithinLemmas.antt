@@ -1,6 +1,5 @@
 -- What holds of each shape and declaration that is read: each type that it names is an entry, and it is regular.
-use Rattle.std.proofs.Common.{rules}
-use Rattle.std.proofs.Common.{◌≡◌, ℕ, ◌<◌, Bool, true, false, List, [], ◌∷◌, Option, Some, None, refl, length, arith}
+use Rattle.std.proofs.Common.{rules, ◌≡◌, ℕ, ◌<◌, Bool, true, false, List, [], ◌∷◌, Option, Some, None, refl, length, arith}
 use Rattle.std.specs.Prelude.{option_and_then, All, ◌==◌, flat_map, if◌then◌else◌}
 use Rattle.std.specs.List.{cons_option, filter_map}
 use Rattle.std.proofs.lemmas.List.Elements.{All-nil, All-cons, All-append}
@@ -119,8 +118,7 @@ shape_within image id =
     test tag = either (IsRead n) (tag_at image id == tag)
 
     none : (s : ShapeOf) → types_reached s ≡ [] → IsRegular s → IsRead n s
-    none = leads_nowhere n
-
+    none = search (rules, leads_nowhere)
     typed : (s : ShapeOf) → types_reached s ≡ type_at image id ∷ [] → IsRegular s → IsRead n s
     typed s one regular = record { all = rw one (type_more image id [] (none_within n)); regular = regular }
 
@@ -151,8 +149,7 @@ subject_within image id =
     test tag = either (IsSubjectRead n) (tag_at image id == tag)
 
     one : AreWithin n (at ∷ [])
-    one = type_more image id [] (none_within n)
-
+    one = search (rules, type_more, none_within)
     tag : (word : TagKeyword) → IsSubjectRead n (tag_in image id word)
     tag word = (let own = tag_within image id word (declared_name image id) in record { all = own.all; regular = own.regular })
 

@@ -1,27 +1,17 @@
 -- One step of writing a type, over plain values.
-use Rattle.std.proofs.lemmas.Grind.{common_steps}
-use Rattle.std.proofs.Common.{arith}
-use Rattle.std.proofs.Common.{rules}
-use Rattle.std.proofs.Common.{◌≡◌, ℕ, zero, suc, Bool, true, false, List, [], ◌∷◌, ◌++◌, Option, Some, None, refl}
-use Rattle.std.proofs.Common.{sym, ◌∙◌, ap, subst, append_assoc, append-nil}
+use Rattle.std.proofs.lemmas.Grind.{common_steps, flat_map-append}
+use Rattle.std.proofs.Common.{arith, rules, ◌≡◌, ℕ, zero, suc, Bool, true, false, List, [], ◌∷◌, ◌++◌, Option, Some, None, refl, sym, ◌∙◌, ap, subst, append_assoc, append-nil}
 use Rattle.std.specs.Global.{Global}
 use Rattle.std.specs.Prelude.{is_some, Vec, flat_map, option_map}
-use Rattle.std.proofs.lemmas.Grind.{flat_map-append}
 use Rattle.dw_types.specs.Sizes.{has_elements}
-use Rattle.dw_cprint.specs.Declarations.{base_term, arrays, is_miscounted, is_misplaced, has_more, constants_of}
-use Rattle.dw_cprint.specs.Declarations.{parameters_by, members_by, term_by, declaration_by, term_at}
+use Rattle.dw_cprint.specs.Declarations.{base_term, arrays, is_miscounted, is_misplaced, has_more, constants_of, parameters_by, members_by, term_by, declaration_by, term_at}
 use Rattle.dw_cprint.specs.Declarators.{gap, pointer_row, opened, closed, before, after, core, body_tokens, enumeration_tokens}
 use Rattle.dw_cprint.specs.Drafts.{appended}
 use Rattle.dw_cprint.specs.Kept.{Writes}
-use Rattle.dw_cprint.specs.Shapes.{Qualifier, TagKeyword, Parameter, Name, TypeAt, MemberOf, EnumeratorOf, ShapeOf, base, typedef}
-use Rattle.dw_cprint.specs.Shapes.{qualified, pointer, array, function, tagged, body, enumeration}
-use Rattle.dw_cprint.specs.Shapes.{typedef_subject, variable_subject, tag_subject, view_shape}
-use Rattle.dw_cprint.specs.Terms.{Enum, Term, Void, Named, Tagged, Body}
-use Rattle.dw_cprint.specs.Terms.{Function, Prototyped, Parameters, Members, Constant, Declaration, Aggregate}
-use Rattle.dw_cprint.specs.Tokens.{Token, Blank, Star, Open, Close, LeftBrace, RightBrace, Semicolon, TypedefWord}
-use Rattle.dw_cprint.specs.Tokens.{TagWord, Identifier, spelling, text_of}
-use Rattle.dw_cprint.specs.Writing.{spell, qualifying, count_tokens, name_tokens, signature_tokens}
-use Rattle.dw_cprint.specs.Writing.{members_tokens, declaration_tokens, written}
+use Rattle.dw_cprint.specs.Shapes.{Qualifier, TagKeyword, Parameter, Name, TypeAt, MemberOf, EnumeratorOf, ShapeOf, base, typedef, qualified, pointer, array, function, tagged, body, enumeration, typedef_subject, variable_subject, tag_subject, view_shape}
+use Rattle.dw_cprint.specs.Terms.{Enum, Term, Void, Named, Tagged, Body, Function, Prototyped, Parameters, Members, Constant, Declaration, Aggregate}
+use Rattle.dw_cprint.specs.Tokens.{Token, Blank, Star, Open, Close, LeftBrace, RightBrace, Semicolon, TypedefWord, TagWord, Identifier, spelling, text_of}
+use Rattle.dw_cprint.specs.Writing.{spell, qualifying, count_tokens, name_tokens, signature_tokens, members_tokens, declaration_tokens, written}
 use Rattle.dw_cprint.specs.declared.shape.Shape.{Shape}
 use Rattle.dw_cprint.specs.declared.shape.Shape.TheVariants as shape
 use Rattle.dw_cprint.proofs.DraftLemmas.{appended-twice}

@@ -1,6 +1,5 @@
 use Rattle.std.proofs.lemmas.Grind.{common_steps}
-use Rattle.std.proofs.Common.{arith}
-use Rattle.std.proofs.Common.{◌+◌, ◌-◌, ℕ, Bool, drop, ap, sym, ◌∙◌}
+use Rattle.std.proofs.Common.{arith, ◌+◌, ◌-◌, ℕ, Bool, drop, ap, sym, ◌∙◌}
 use Rattle.std.specs.Prelude.{is_some, ◌&&◌}
 use Rattle.std.proofs.lemmas.List.{take_rest}
 use Rattle.dw_cprint.specs.Declarations.{parts_of, words_of}

@@ -1,4 +1,4 @@
-use Rattle.std.proofs.Common.{ℕ, ◌<◌, ◌+◌, [], ◌∷◌, ◌++◌, length, arith, List, Option, Some, None, refl, sym, ap, ◌∙◌, take, append-nil, append_assoc, Vec}
+use Rattle.std.proofs.Common.{rules, ℕ, ◌<◌, ◌+◌, [], ◌∷◌, ◌++◌, length, arith, List, Option, Some, None, refl, sym, ap, ◌∙◌, take, append-nil, append_assoc, Vec}
 use Rattle.std.specs.Global.{Global}
 use Rattle.std.proofs.lemmas.List.{get_or_default}
 use Rattle.std.proofs.lemmas.List.Elements.{All-contains}
@@ -42,10 +42,5 @@ loop-at-preserved c =
                 (finds-both before (w.in-Some.entry ∷ []) p0 c.loop-at.places.items p f0 c.loop-at.found w.place_of.new.found r (place ∷ []) finds w.in_ok-place_of.ensures.row),
             w.steps-is ∙ (w.in_ok-push.ensures ∙ (ap (λ (xs : List ℕ). xs ++ place ∷ []) all ∙ append_assoc c.args.steps.now r (place ∷ []))),
           )
-      | in_default w ↦ (
-        r,
-        finds-as before after p0 c.loop-at.places.items c.match-at.places.items f0 c.loop-at.found c.match-at.found r r
-            (sym (append-nil before) ∙ (ap (λ (o : Option ℕ). before ++ entries_of (o ∷ [])) (sym w.in_default.is) ∙ split)) (ap items (sym w.places-is)) (sym w.found-is) refl finds,
-        w.steps-is ∙ all,
-      )
+      | in_default w ↦ search (rules, finds-as, append-nil, in_default)
     ]

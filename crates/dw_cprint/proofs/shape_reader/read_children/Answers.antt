@@ -1,5 +1,4 @@
-use Rattle.std.proofs.Common.{rules}
-use Rattle.std.proofs.Common.{◌<◌, ◌∷◌, Some, None, length, refl, append_assoc}
+use Rattle.std.proofs.Common.{rules, ◌<◌, ◌∷◌, Some, None, length, refl, append_assoc}
 use Rattle.std.proofs.lemmas.List.Elements.{All-head, All-rest}
 use Rattle.dw_image.specs.Images.{entries_in}
 use Rattle.dw_cprint.proofs.LookUpLemmas.{children_within, kept-all}

@@ -1,5 +1,4 @@
-use Rattle.std.proofs.Common.{rules}
-use Rattle.std.proofs.Common.{ℕ, List, Option, ap, sym, ◌∙◌}
+use Rattle.std.proofs.Common.{rules, ℕ, List, Option, ap, sym, ◌∙◌}
 use Rattle.std.specs.Prelude.{flat_map}
 use Rattle.std.proofs.lemmas.List.{drop_all, drop_more}
 use Rattle.dw_cprint.specs.Drafts.{appended}

@@ -1,26 +1,19 @@
 use Rattle.std.proofs.lemmas.Grind.{common_steps}
-use Rattle.std.proofs.Common.{arith}
-use Rattle.std.proofs.Common.{◌≡◌, [], ◌∷◌, Bool, List, Some, None, true, refl, ap, sym, ◌∙◌}
-use Rattle.std.proofs.Common.{subst, get_or, map, append-nil, rules}
+use Rattle.std.proofs.Common.{arith, ◌≡◌, [], ◌∷◌, Bool, List, Some, None, true, refl, ap, sym, ◌∙◌, subst, get_or, map, append-nil, rules}
 use Rattle.std.specs.Prelude.{flat_map}
 use Rattle.std.proofs.lemmas.List.{drop_more, drop_all}
 use Rattle.dw_cprint.specs.Declarations.{term_at}
 use Rattle.dw_cprint.specs.Declarators.{before, gap, pointer_row}
 use Rattle.dw_cprint.specs.Drafts.{appended}
-use Rattle.dw_cprint.specs.Kept.{kept, Writes, WritesBefore, WritesCore, WritesMembers}
-use Rattle.dw_cprint.specs.Kept.{WritesParameters}
-use Rattle.dw_cprint.specs.Shapes.{Qualifier, Parameter, Typed, MemberOf, ShapeOf, function}
-use Rattle.dw_cprint.specs.Shapes.{view_name, view_shape, view_member}
+use Rattle.dw_cprint.specs.Kept.{kept, Writes, WritesBefore, WritesCore, WritesMembers, WritesParameters}
+use Rattle.dw_cprint.specs.Shapes.{Qualifier, Parameter, Typed, MemberOf, ShapeOf, function, view_name, view_shape, view_member}
 use Rattle.dw_cprint.specs.Terms.{Term}
 use Rattle.dw_cprint.specs.declared.words.Text.{Text}
 use Rattle.dw_cprint.specs.Tokens.{VoidWord, TagWord, RightBrace, spelling, text_of}
 use Rattle.dw_cprint.specs.Writing.{count_tokens, qualifying}
 use Rattle.dw_cprint.proofs.OptionLemmas.{ok_then}
-use Rattle.dw_cprint.proofs.WriterLemmas.{both, as_tokens, step-at, void-at, pointer_before, array_before}
-use Rattle.dw_cprint.proofs.WriterLemmas.{specifier_before, array_after, prototype_after, named_written, base_core}
-use Rattle.dw_cprint.proofs.WriterLemmas.{body_core, enumeration_core, pointer_after, specifier-shape, some-mapped}
-use Rattle.dw_cprint.proofs.ItemWriterLemmas.{IsLeft, next-of, left-over, members_left, members_next, parameters_left}
-use Rattle.dw_cprint.proofs.ItemWriterLemmas.{parameters_next, parameters_done, item-of, members_done}
+use Rattle.dw_cprint.proofs.WriterLemmas.{both, as_tokens, step-at, void-at, pointer_before, array_before, specifier_before, array_after, prototype_after, named_written, base_core, body_core, enumeration_core, pointer_after, specifier-shape, some-mapped}
+use Rattle.dw_cprint.proofs.ItemWriterLemmas.{IsLeft, next-of, left-over, members_left, members_next, parameters_left, parameters_next, parameters_done, item-of, members_done}
 use Rattle.dw_cprint.proofs.DraftLemmas.{none-is, over-stays}
 use Rattle.dw_cprint.proofs.survey.Survey.+writing.Goals as goal
 
