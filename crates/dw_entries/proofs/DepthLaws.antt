@@ -157,14 +157,6 @@ one_deeper us k p e is under = go (units_below 0 0 0 us k e is)
         let P : ℕ → Type 0 = λ n. slice_get (entries_of us) n ≡ Some h.above in
         (h.above, subst P place h.is_above, h.depth, omega (arith, before, place))
 
--- the parent of an entry is an entry
-pub parent_within : (us : List DebugUnit) (k : ℕ) (e : Entry) → slice_get (entries_of us) k ≡ Some e → IfSome e.parent (λ p. p < length (entries_of us))
-parent_within us k e is = go e.parent refl
-  where
-    go : (o : Option ℕ) → e.parent ≡ o → IfSome o (λ p. p < length (entries_of us))
-    go None top = tt
-    go (Some p) under = let (above, at, deeper, less) = one_deeper us k p e is under in slice_get_within (entries_of us) p above at
-
 -- ---- steps up from an entry
 
 -- so many steps above an entry is one with this parent

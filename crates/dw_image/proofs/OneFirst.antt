@@ -49,11 +49,6 @@ AreOneAtPlace Fails = (f g : Failure) → Fails f → Fails g → f.place ≡ g.
 pub one_first : (Fails : Failure → Type 0) (a b : Broken) → AreOneAtPlace Fails → IsFirst Fails a → IsFirst Fails b → a ≡ b
 one_first Fails a b one p q = search (rules, compared, three_ways, one_name, named)
 
-abbrev place_of : Place → ℕ × ℕ
-place_of (at_header at) = (at, 0)
-place_of (at_entry at) = (at, 0)
-place_of (at_attribute at k) = (at, k)
-
 same_some : {X : Type 0} (o : Option X) (x y : X) → o ≡ Some x → o ≡ Some y → x ≡ y
 same_some o x y p q = cc
 
