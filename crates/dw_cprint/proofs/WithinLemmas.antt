@@ -119,6 +119,7 @@ shape_within image id =
 
     none : (s : ShapeOf) → types_reached s ≡ [] → IsRegular s → IsRead n s
     none = search (rules, leads_nowhere)
+
     typed : (s : ShapeOf) → types_reached s ≡ type_at image id ∷ [] → IsRegular s → IsRead n s
     typed s one regular = record { all = rw one (type_more image id [] (none_within n)); regular = regular }
 
@@ -150,6 +151,7 @@ subject_within image id =
 
     one : AreWithin n (at ∷ [])
     one = search (rules, type_more, none_within)
+
     tag : (word : TagKeyword) → IsSubjectRead n (tag_in image id word)
     tag word = (let own = tag_within image id word (declared_name image id) in record { all = own.all; regular = own.regular })
 
