@@ -12,7 +12,7 @@ use Rattle.dw_forms.specs.declared.fault.Stop.{Stop}
 use Rattle.dw_forms.specs.declared.fault.Stop.TheVariants as stops
 use Rattle.dw_forms.specs.Steps.{◌>>=◌}
 use Rattle.dw_forms.specs.Abbrev.{Declaration, view, views}
-use Rattle.dw_forms.specs.AbbrevReading.{on_option, unsigned_at, form_at, has_attribute, new_form_of, begun_at, pair_at, attributes_of, attributes_from, has_code, tagged_at, decl_at, decls_from, placed}
+use Rattle.dw_forms.specs.AbbrevReading.{on_option, unsigned_at, form_at, has_attribute, new_form_of, begun_at, pair_at, attributes_of, has_code, tagged_at, decl_at}
 use Rattle.dw_forms.specs.declared.fault.AbbrevFault.{AbbrevFault}
 use Rattle.dw_forms.specs.Stops.{FailsOrMemory}
 
@@ -29,53 +29,10 @@ pub find_views : (code : ℕ) (ds : List TableDecl) → find (λ d. d.code == co
 find_views code [] = refl
 find_views code (d ∷ ds) = find_views_on code d ds (d.code == code) (find_views code ds)
 
--- reading the rest, after the earlier pairs, gives the total
-abbrev pub AttributesGoOn : List AttributeSpec → List ℕ → Result (List AttributeSpec × List ℕ) DeclFault → Type 0
-AttributesGoOn earlier rest total = (bound : ℕ) × (length rest < bound) × (attributes_from bound earlier rest ≡ total)
-
-pub attributes_done : (earlier : List AttributeSpec) (rest after : List ℕ) (total : Result (List AttributeSpec × List ℕ) DeclFault)
-    → AttributesGoOn earlier rest total → pair_at earlier rest ≡ Ok (None, after) → total ≡ Ok (earlier, after)
-unfolding attributes_from
-attributes_done earlier rest after total (zero, lt, same) e = absurd (omega arith)
-attributes_done earlier rest after total (suc bound, lt, same) e = sym same ∙ rw e refl
-
-pub attributes_more : (earlier : List AttributeSpec) (rest after : List ℕ) (spec : AttributeSpec) (total : Result (List AttributeSpec × List ℕ) DeclFault)
-    → AttributesGoOn earlier rest total → pair_at earlier rest ≡ Ok (Some spec, after) → length after < length rest → AttributesGoOn (earlier ++ spec ∷ []) after total
-unfolding attributes_from
-attributes_more earlier rest after spec total (zero, lt, same) e shorter = absurd (omega arith)
-attributes_more earlier rest after spec total (suc bound, lt, same) e shorter = (bound, omega arith, sym (rw e refl) ∙ same)
-
-pub attributes_fail : (error : Stop DeclFault) (earlier : List AttributeSpec) (rest : List ℕ) (total : Result (List AttributeSpec × List ℕ) DeclFault)
-    → AttributesGoOn earlier rest total → FailsOrMemory error (pair_at earlier rest) → FailsOrMemory error total
-unfolding attributes_from
-attributes_fail stops.Memory earlier rest total go h = tt
-attributes_fail (stops.Fault f) earlier rest total (zero, lt, same) h = absurd (omega arith)
-attributes_fail (stops.Fault f) earlier rest total (suc bound, lt, same) h = sym same ∙ rw h refl
-
--- ---- declarations
-
--- reading the rest, after the earlier declarations, gives the total
-abbrev pub DeclsGoOn : ℕ → List Declaration → List ℕ → Result (List Declaration) AbbrevFault → Type 0
-DeclsGoOn len earlier rest total = (bound : ℕ) × (length rest < bound) × ((decls_from bound len earlier rest >>= λ x. Ok x.0) ≡ total)
-
-pub decls_done : (len : ℕ) (earlier : List Declaration) (rest after : List ℕ) (total : Result (List Declaration) AbbrevFault)
-    → DeclsGoOn len earlier rest total → placed (len - length rest) (decl_at earlier rest) ≡ Ok (None, after) → total ≡ Ok earlier
-unfolding decls_from
-decls_done len earlier rest after total (zero, lt, same) e = absurd (omega arith)
-decls_done len earlier rest after total (suc bound, lt, same) e = sym same ∙ rw e refl
-
-pub decls_more : (len : ℕ) (earlier : List Declaration) (rest after : List ℕ) (decl : Declaration) (total : Result (List Declaration) AbbrevFault)
-    → DeclsGoOn len earlier rest total → placed (len - length rest) (decl_at earlier rest) ≡ Ok (Some decl, after) → length after < length rest → DeclsGoOn len (earlier ++ decl ∷ []) after total
-unfolding decls_from
-decls_more len earlier rest after decl total (zero, lt, same) e shorter = absurd (omega arith)
-decls_more len earlier rest after decl total (suc bound, lt, same) e shorter = (bound, omega arith, sym (rw e refl) ∙ same)
-
-pub decls_fail : (error : Stop AbbrevFault) (len : ℕ) (earlier : List Declaration) (rest : List ℕ) (total : Result (List Declaration) AbbrevFault)
-    → DeclsGoOn len earlier rest total → FailsOrMemory error (placed (len - length rest) (decl_at earlier rest)) → FailsOrMemory error total
-unfolding decls_from
-decls_fail stops.Memory len earlier rest total go h = tt
-decls_fail (stops.Fault f) len earlier rest total (zero, lt, same) h = absurd (omega arith)
-decls_fail (stops.Fault f) len earlier rest total (suc bound, lt, same) h = sym same ∙ rw h refl
+-- a fault stays one where only what is read is seen in another way
+pub then_fails : {A B E : Type 0} (error : Stop E) (r : Result A E) (f : A → B) → FailsOrMemory error r → FailsOrMemory error (r >>= λ x. Ok (f x))
+then_fails stops.Memory r f e = tt
+then_fails (stops.Fault fault) r f e = rw e refl
 
 -- ---- a pair, by what it begins with
 

@@ -20,6 +20,7 @@ use Rattle.dw_forms.specs.AbbrevReading.{on_option, with_rest, unsigned_at, sign
 use Rattle.dw_forms.specs.Says.{bind_says, cond_says}
 use Rattle.dw_forms.specs.Readers.{IsReader}
 use Rattle.dw_forms.proofs.Keys.{Lacks, lacks_from, lacks_test, any_from}
+use Rattle.dw_forms.proofs.SpelledLists.{NextOf}
 use Rattle.dw_forms.specs.FormLaws.{bare, code_some, form_of-code_of, FormIs, form_of_says}
 use Rattle.dw_forms.specs.LebLaws.{uleb_says, uleb_again, sleb_says, sleb_again}
 
@@ -95,8 +96,7 @@ form_again f text rest s = ap (λ (t : List ℕ). form_at f (t ++ rest)) s
 
 -- what follows the earlier attributes: the end, or an attribute that none of them is
 abbrev pub NextAttribute : List AttributeSpec → List ℕ → Option AttributeSpec → Type 0
-NextAttribute earlier text None = SpellsPair text (0, 0)
-NextAttribute earlier text (Some s) = SpellsAttribute text s × IsCode16 s.attribute × Lacks attribute_of s.attribute earlier
+NextAttribute = NextOf attribute_of (λ s. IsCode16 s.attribute) SpellsAttribute (λ text. SpellsPair text (0, 0))
 
 pub pair_takes : (bytes : List ℕ) (a c : ℕ) (rest after : List ℕ) → Takes Uleb bytes a rest → Takes Uleb rest c after → Takes SpellsPair bytes (a, c) after
 pair_takes bytes a c rest after t u = record {

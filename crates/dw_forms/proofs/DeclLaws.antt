@@ -15,15 +15,15 @@ use Rattle.dw_forms.specs.Says.{bind_says, cond_says}
 use Rattle.dw_forms.specs.Readers.{takes}
 use Rattle.dw_forms.proofs.Keys.{Lacks, lacks_from, lacks_test, any_from}
 use Rattle.dw_forms.proofs.AttributeLaws.{number_reader, pair_takes}
-use Rattle.dw_forms.proofs.AttributesLaws.{SpellsAll, attributes_say, attributes_again}
+use Rattle.dw_forms.proofs.AttributesLaws.{SpellsAll, attributes_reader}
+use Rattle.dw_forms.proofs.SpelledLists.{NextOf}
 
 abbrev pub code_of_decl : Declaration → ℕ
 code_of_decl d = d.code
 
 -- what follows the earlier declarations: the end, or a declaration whose code none of them has
 abbrev pub NextDecl : List Declaration → List ℕ → Option Declaration → Type 0
-NextDecl earlier text None = Uleb text 0
-NextDecl earlier text (Some d) = SpellsDecl text d × IsDeclaration d × Lacks code_of_decl d.code earlier
+NextDecl = NextOf code_of_decl IsDeclaration SpellsDecl (λ text. Uleb text 0)
 
 abbrev Next : List Declaration → List ℕ → Option Declaration × List ℕ → Type 0
 Next earlier bytes x = Takes (NextDecl earlier) bytes x.0 x.1
@@ -87,7 +87,7 @@ module _ (earlier : List Declaration) (bytes : List ℕ) (code tag : ℕ) (behin
       (children_says behind)
       (λ children e. bind_says (attributes_of children.1) (λ attributes. Ok (Some (made code tag children.0 attributes.0), attributes.1))
       (λ (x : List AttributeSpec × List ℕ). Takes SpellsAll children.1 x.0 x.1) (AttributesFail children.1) (Next earlier bytes) (DeclFails earlier bytes)
-      (attributes_say children.1)
+      (attributes_reader.says children.1)
       (λ attributes u. decl_takes good children.0 children.1 e attributes.0 attributes.1 u)
       (λ fault h. attributes_fail code tag children.0 children.1 (subst (Takes SpellsPair bytes (code, tag)) e t) new good h))
       (λ fault h. children_fail good fault h))
@@ -130,7 +130,7 @@ module _ (earlier : List Declaration) (rest : List ℕ) where
       let tag_some : eqb d.tag 0 ≡ false = ne_eqb d.tag 0 (λ same. let h = good.tag.some in absurd (omega arith)) in
       let tag_small : ltb 65535 d.tag ≡ false = le-ltb 65535 d.tag good.tag.small in
       let once : has_code d.code earlier ≡ false = lacks_test code_of_decl d.code earlier lacks in
-      let last : attributes_of (p.attributes ++ rest) ≡ Ok (d.attributes, rest) = attributes_again p.attributes rest d.attributes (record { spelled = p.are_attributes; allowed = good.attributes }) in
+      let last : attributes_of (p.attributes ++ rest) ≡ Ok (d.attributes, rest) = attributes_reader.again p.attributes rest d.attributes (record { spelled = p.are_attributes; allowed = good.attributes }) in
       rw (first, code_some, once, second, tag_some, tag_small, children_again d.has_children (p.attributes ++ rest), last) refl
 
 -- ---- the bytes after a code, and after a tag and the byte of the children

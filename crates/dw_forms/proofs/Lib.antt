@@ -7,6 +7,7 @@ pub mod Places
 pub mod MarkSteps
 pub mod AttributeLaws
 pub mod AttributesLaws
+pub mod SpelledLists
 pub mod DeclLaws
 pub mod TableLaws
 pub mod NumberFaults

@@ -6,7 +6,8 @@ use Rattle.std.proofs.lemmas.List.{length-append, get_or_append_left, get_or_at}
 use Rattle.dw_forms.specs.declared.decl.AttributeSpec.{AttributeSpec}
 use Rattle.dw_forms.specs.declared.attribute_lists.Node.{Node}
 use Rattle.dw_forms.specs.declared.offsets.Placed.{Placed}
-use Rattle.dw_forms.specs.Abbrev.{IsCode16}
+use Rattle.dw_forms.specs.Abbrev.{IsCode16, broken}
+use Rattle.dw_forms.specs.declared.fault.AbbrevRule.TheVariants.{AbbrevCut}
 use Rattle.dw_forms.specs.declared.fault.Stop.{Stop}
 use Rattle.dw_forms.specs.declared.fault.DeclFault.{DeclFault}
 use Rattle.dw_forms.specs.declared.fault.Stop.TheVariants as stops
@@ -17,7 +18,11 @@ use Rattle.dw_forms.specs.Offsets.{BeginsAt, NothingAt, AreAlong, AreNew, Stay}
 use Rattle.dw_forms.specs.ListOffsets.{IsListAt, ArePlaced, NoListAt, IsPairAt, Leads}
 use Rattle.dw_forms.specs.Stops.{IfFault, FailsOrMemory}
 use Rattle.dw_forms.proofs.ChainLaws.{chain_none}
-use Rattle.dw_forms.proofs.ListLaws.{rest_of, taken, pair_code, list_more, list_end, none_before, none_twice, none_broken}
+use Rattle.dw_forms.proofs.Keys.{lacks_from, lacks_test}
+use Rattle.dw_forms.proofs.ListLaws.{rest_of}
+use Rattle.dw_forms.proofs.AttributeLaws.{attribute_of}
+use Rattle.dw_forms.proofs.AttributesLaws.{reads_attributes}
+use Rattle.dw_forms.proofs.SpelledLists.{taken, is_good, list_more, list_end, none_before, none_twice, none_broken}
 use Rattle.dw_forms.proofs.NodeLaws.{old_list, new_list}
 use Rattle.dw_forms.proofs.OffsetLaws.{begins_within, apart_push, along_pop, along_back, new_pop, new_stay}
 
@@ -46,11 +51,11 @@ placed_more section nodes n starts ends at end placed nothing less_at is = recor
 
 -- where no list begins after attributes, none begins with them
 none_along : (section : List ℕ) (pairs : List (Placed AttributeSpec)) (offset end : ℕ) → AreAlong (IsPairAt section) pairs offset end → NoListAt section end → NoListAt section offset
-none_along section = along_back (IsPairAt section) (NoListAt section) (λ offset next spec e none. none_before (drop offset section) (drop next section) spec e.is none)
+none_along section = along_back (IsPairAt section) (NoListAt section) (λ offset next spec e none. none_before reads_attributes (drop offset section) (drop next section) spec e.is none)
 
 -- ---- a turn: the last attribute before a list, and the list
 
-module _ {section : List ℕ} {old : List Node} {offset first end : ℕ} {all : List (Placed AttributeSpec)} (left : List (Placed AttributeSpec)) (p : Placed AttributeSpec) (parts : all ≡ left ++ p ∷ []) (leads : Leads section old all offset first end) where
+module _ {section : List ℕ} {old : List Node} {starts : List ℕ} {offset first end : ℕ} {all : List (Placed AttributeSpec)} (left : List (Placed AttributeSpec)) (p : Placed AttributeSpec) (parts : all ≡ left ++ p ∷ []) (leads : Leads section old starts all offset first end) where
   popped : AreAlong (IsPairAt section) left offset p.at × IsPairAt section p.at p.item leads.next
   popped = along_pop (IsPairAt section) left offset leads.next p (subst (λ (xs : List (Placed AttributeSpec)). AreAlong (IsPairAt section) xs offset leads.next) parts leads.along)
 
@@ -58,13 +63,14 @@ module _ {section : List ℕ} {old : List Node} {offset first end : ℕ} {all : 
   pair_less = let e = popped.1 in omega (arith, e.rises, e.fits)
 
   pub code_before : IsCode16 p.item.attribute
-  code_before = pair_code (drop p.at section) (drop leads.next section) p.item popped.1.is
+  code_before = is_good reads_attributes (drop p.at section) (drop leads.next section) p.item popped.1.is
 
   pub no_list : (new : List Node) → AddedSpec p.item first old new None → NoListAt section offset
-  no_list new added = none_along section left offset p.at popped.0 (none_twice (drop p.at section) (drop leads.next section) (drop end section) p.item (list_in old first) popped.1.is leads.list.list added.0)
+  no_list new added = none_along section left offset p.at popped.0 (none_twice reads_attributes (drop p.at section) (drop leads.next section) (drop end section) p.item (list_in old first) popped.1.is leads.list.list
+      (λ lacks. let e = lacks_test attribute_of p.item.attribute (list_in old first) lacks in cc))
 
-  pub next_new : (starts : List ℕ) → AreNew starts all → NothingAt starts p.at × AreNew (starts ++ p.at ∷ []) left
-  next_new starts are = search (rules, new_pop, new_stay, popped)
+  pub next_new : NothingAt starts p.at × AreNew (starts ++ p.at ∷ []) left
+  next_new = let new = leads.new in search (rules, new_pop, new_stay, popped)
 
   module _ (new : List Node) (number : ℕ) (added : AddedSpec p.item first old new (Some number)) where
     last : IsLast p.item first old new
@@ -81,21 +87,22 @@ module _ {section : List ℕ} {old : List Node} {offset first end : ℕ} {all : 
         let less = popped.1.rises in
         record {
           within = omega (arith, length-append old (last.node ∷ []));
-          list = list_more (drop p.at section) (drop leads.next section) (drop end section) p.item (list_in old first) popped.1.is leads.list.list added.0 ∙ ap (λ (specs : List AttributeSpec). Ok (specs, drop end section)) (sym made);
+          list = list_more reads_attributes (drop p.at section) (drop leads.next section) (drop end section) p.item (list_in old first) popped.1.is leads.list.list (lacks_from attribute_of p.item.attribute (list_in old first) added.0) ∙ ap (λ (specs : List AttributeSpec). Ok (specs, drop end section)) (sym made);
           rises = omega (arith, less, rises);
           fits = leads.list.fits;
         }
 
-    pub next_leads : Leads section new left offset number end
+    pub next_leads : Leads section new (starts ++ p.at ∷ []) left offset number end
     next_leads = record {
       next = p.at;
       along = popped.0;
+      new = next_new.1;
       list = subst (λ (n : ℕ). IsListAt section new p.at n end) (sym added.1) (subst (λ (ns : List Node). IsListAt section ns p.at (suc (length old)) end) (sym last.nodes) here);
     }
 
-    pub next_placed : (starts ends : List ℕ) → ArePlaced section old starts ends → NothingAt starts p.at → ArePlaced section new (starts ++ p.at ∷ []) (ends ++ end ∷ [])
-    next_placed starts ends placed nothing =
-        subst (λ (ns : List Node). ArePlaced section ns (starts ++ p.at ∷ []) (ends ++ end ∷ [])) (sym last.nodes) (placed_more section old last.node starts ends p.at end placed nothing pair_less here)
+    pub next_placed : (ends : List ℕ) → ArePlaced section old starts ends → ArePlaced section new (starts ++ p.at ∷ []) (ends ++ end ∷ [])
+    next_placed ends placed =
+        subst (λ (ns : List Node). ArePlaced section ns (starts ++ p.at ∷ []) (ends ++ end ∷ [])) (sym last.nodes) (placed_more section old last.node starts ends p.at end placed next_new.0 pair_less here)
 
     pub next_stay : Stay old new
     next_stay = (last.node ∷ [], last.nodes)
@@ -104,16 +111,16 @@ module _ {section : List ℕ} {old : List Node} {offset first end : ℕ} {all : 
 
 -- what is left after a pair is an end of the section
 pub pair_rest : (section : List ℕ) (offset : ℕ) (o : Option AttributeSpec) (after : List ℕ) → pair_at [] (drop offset section) ≡ Ok (o, after) → after ≡ drop (length section - length after) section
-pair_rest section offset o after e = let t = taken (drop offset section) o after e in rest_of section offset t.text after t.parts
+pair_rest section offset o after e = let t = taken reads_attributes (drop offset section) o after e in rest_of section offset t.text after t.parts
 
 -- at the pair 0, 0 begins the list without attributes
 pub end_list : (section : List ℕ) (nodes : List Node) (at after : ℕ) → pair_at [] (drop at section) ≡ Ok (None, drop after section) → at < after → after ≤ length section → IsListAt section nodes at 0 after
-end_list section nodes at after e rises fits = search (rules, list_end, chain_none)
+end_list section nodes at after e rises fits = search (rules, (list_end pair_at (broken AbbrevCut 0)), chain_none)
 
 -- where an attribute is broken, no list begins before it
 pub pairs_break : (section : List ℕ) (pairs : List (Placed AttributeSpec)) (offset at : ℕ) → AreAlong (IsPairAt section) pairs offset at → (error : Stop DeclFault) → FailsOrMemory error (pair_at [] (drop at section)) → IfFault (λ _. NoListAt section offset) error
 pairs_break section pairs offset at after stops.Memory e = tt
-pairs_break section pairs offset at after (stops.Fault fault) e = none_along section pairs offset at after (none_broken (drop at section) fault e)
+pairs_break section pairs offset at after (stops.Fault fault) e = none_along section pairs offset at after (none_broken pair_at _ (drop at section) fault e)
 
 -- a list that is kept begins at its offset
 pub kept_list : (section : List ℕ) (nodes : List Node) (starts ends : List ℕ) (offset number end : ℕ) → ArePlaced section nodes starts ends → BeginsAt starts number offset → 0 < number → end ≡ get_or ends (number - 1) 0

@@ -12,7 +12,7 @@ use Rattle.dw_forms.specs.AbbrevReading.{has_attribute}
 use Rattle.dw_forms.specs.AttributeLists.{spec_of, specs_of, numbered_in, list_in, Knows, IsKnown, AreKnown, AreCoded}
 use Rattle.dw_forms.specs.Chains.{Numbered, chain_in, chains_of, codes_of, codes_in, number_in, number_where}
 use Rattle.dw_forms.specs.Walks.{IsStep}
-use Rattle.dw_forms.proofs.AttributesLaws.{none_allowed}
+use Rattle.dw_forms.proofs.SpelledLists.{none_apart}
 use Rattle.dw_forms.proofs.BitLaws.{eq_true, differ}
 use Rattle.dw_forms.proofs.CodeLaws.{codes_long}
 use Rattle.dw_forms.proofs.Keys.{apart_cons, lacks_from}
@@ -82,7 +82,7 @@ pub attributes_more : (spec : AttributeSpec) (specs : List AttributeSpec) → Ar
 attributes_more spec specs are code none = grind (arith, common_steps, apart_cons, lacks_from)
 
 pub attributes_in : (nodes : List Node) (number : ℕ) → AreKnown nodes → number ≤ length nodes → AreAttributes (list_in nodes number)
-attributes_in nodes zero known within = rw (chain_none (specs_of nodes)) none_allowed
+attributes_in nodes zero known within = rw (chain_none (specs_of nodes)) none_apart
 attributes_in [] (suc k) known within = absurd (omega (arith, within))
 attributes_in (d ∷ nodes) (suc k) known within =
     (known k (get_or (d ∷ nodes) k d) (omega (arith, within)) (get_or_default (d ∷ nodes) k d (get_or (d ∷ nodes) k d) (omega (arith, within)))).attributes

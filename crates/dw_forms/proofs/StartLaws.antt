@@ -16,7 +16,7 @@ use Rattle.dw_forms.proofs.Keys.{Lacks, lacks_from, lacks_test}
 use Rattle.dw_forms.proofs.DeclLaws.{code_of_decl}
 use Rattle.dw_forms.proofs.KeptLaws.{tables_long, table_none}
 use Rattle.dw_forms.proofs.OffsetLaws.{begins_within, apart_push, along_pop, new_pop, new_stay}
-use Rattle.dw_forms.proofs.TailLaws.{table_more, none_twice, none_along, table_allowed, table_fewer}
+use Rattle.dw_forms.proofs.TailLaws.{table_more, twice_none, none_along, table_allowed, table_fewer}
 
 -- ---- what stays
 
@@ -54,7 +54,7 @@ module _ {section : List ℕ} {nodes : List Node} {old : Tables} {offset rest : 
   pub turn_none : (new : Tables) → Added (kept_view nodes s.item) rest old new None → NoTable section offset
   turn_none new added =
       none_along section nodes left offset s.at popped.0
-      (none_twice section s.at leads.next (kept_view nodes s.item) (table_in old rest) popped.1.is leads.table.table (code_twice s.item.code (table_in old rest) added.0))
+      (twice_none section s.at leads.next (kept_view nodes s.item) (table_in old rest) popped.1.is leads.table.table (code_twice s.item.code (table_in old rest) added.0))
 
   pub turn_new : (starts : List ℕ) → AreNew starts all → NothingAt starts s.at × AreNew (starts ++ s.at ∷ []) left
   turn_new starts are = search (rules, new_pop, new_stay, popped)

@@ -15,16 +15,17 @@ use Rattle.dw_forms.specs.Front.{BeginsWithNone, Takes}
 use Rattle.dw_forms.specs.AbbrevFaults.{fault_at}
 use Rattle.dw_forms.specs.FormCodes.{code_of, form_of}
 use Rattle.dw_forms.specs.Leb.{Uleb}
-use Rattle.dw_forms.specs.Abbrev.{Declaration, SpellsPair, SpellsAttribute, SpellsDecl, SpellsFront, SpellsDecls, IsCode16, IsNewCode, AreAttributes, AreDeclarations, broken, NumberFails, ConstantFails, IsBadPair, PairFails, attribute_number, form_number, bad_pair, unknown_form, attribute_twice, constant_number, AttributesFail, Decls, DeclFails, code_number, code_twice, tag_number, bad_tag, children_cut, bad_children, attributes_fail, TableFails}
-use Rattle.dw_forms.specs.AbbrevReading.{unsigned_at, signed_at, children_at, new_form_of, pair_at, attributes_from, attributes_of, has_code, decl_at, decls_from, decls_of, table_at}
+use Rattle.dw_forms.specs.Abbrev.{Declaration, SpellsPair, IsCode16, IsNewCode, broken, NumberFails, ConstantFails, IsBadPair, PairFails, attribute_number, form_number, bad_pair, unknown_form, attribute_twice, constant_number, AttributesFail, Decls, DeclFails, code_number, code_twice, tag_number, bad_tag, children_cut, bad_children, attributes_fail, TableFails}
+use Rattle.dw_forms.specs.AbbrevReading.{unsigned_at, signed_at, children_at, new_form_of, pair_at, attributes_of, has_code, decl_at, decls_of, table_at}
 use Rattle.dw_forms.specs.TableGrammar.{IsTableAt, IsReadByGrammar}
-use Rattle.dw_forms.proofs.Keys.{lacks_test, apart_lacks}
+use Rattle.dw_forms.proofs.Keys.{lacks_test}
 use Rattle.dw_forms.specs.FormLaws.{FormIs, form_of_says, form_of-code_of, code_some}
 use Rattle.dw_forms.proofs.NumberFaults.{uleb_refuses, sleb_refuses, reads_on, fault_is}
-use Rattle.dw_forms.proofs.AttributeLaws.{attribute_of, number_reader, after_numbers, numbers_again, not_bad, new_form_again, next_again as attribute_again}
-use Rattle.dw_forms.proofs.AttributesLaws.{spec_some, each_fits, one_of as one_attribute}
-use Rattle.dw_forms.proofs.DeclLaws.{code_of_decl, after_tag, tag_is, children_again, next_again as decl_again}
-use Rattle.dw_forms.proofs.TableLaws.{decl_some, one_of as one_decl, decls_again, table_found, table_none, table_fails}
+use Rattle.dw_forms.proofs.AttributeLaws.{attribute_of, number_reader, after_numbers, numbers_again, not_bad, new_form_again}
+use Rattle.dw_forms.proofs.AttributesLaws.{reads_attributes}
+use Rattle.dw_forms.proofs.SpelledLists.{list_refuses}
+use Rattle.dw_forms.proofs.DeclLaws.{code_of_decl, after_tag, tag_is, children_again}
+use Rattle.dw_forms.proofs.TableLaws.{reads_decls, decls_reader, table_found, table_none, table_fails}
 
 -- ---- numbers
 
@@ -81,25 +82,8 @@ pair_refuses earlier bytes fault (constant_number a rest t good lacks fails) =
     let new : new_form_of earlier a 0x21 ≡ Ok (form.ImplicitConst (pos 0)) = new_form_again earlier a (form.ImplicitConst (pos 0)) lacks in
     pair_on earlier bytes a 0x21 rest t ∙ rw (b.0, b.1, new, constant_refuses rest fault fails) refl
 
--- ---- all attributes
-
-front_refuses : (specs earlier : List AttributeSpec) (bound : ℕ) (text rest : List ℕ) (fault : DeclFault) → SpellsFront specs text → AreAttributes (earlier ++ specs) → length specs < bound → PairFails (earlier ++ specs) rest fault
-    → attributes_from bound earlier (text ++ rest) ≡ Err fault
-unfolding attributes_from
-front_refuses [] earlier zero text rest fault s a lt h = absurd (omega arith)
-front_refuses [] earlier (suc bound) text rest fault s a lt h =
-    rw (s, pair_refuses earlier rest fault (subst (λ (e : List AttributeSpec). PairFails e rest fault) (append-nil earlier) h)) refl
-front_refuses (s ∷ specs) earlier zero text rest fault p a lt h = absurd (omega arith)
-front_refuses (s ∷ specs) earlier (suc bound) text rest fault p a lt h =
-    let parts : text ++ rest ≡ p.0 ++ (p.1 ++ rest) = ap (λ (t : List ℕ). t ++ rest) p.2 ∙ append_assoc p.0 p.1 rest in
-    let first : pair_at earlier (text ++ rest) ≡ Ok (Some s, p.1 ++ rest) = ap (pair_at earlier) parts ∙ attribute_again earlier (p.1 ++ rest) p.0 s p.3 (one_attribute earlier s specs a) (apart_lacks attribute_of earlier s specs a.distinct) in
-    let regrouped : (earlier ++ s ∷ []) ++ specs ≡ earlier ++ s ∷ specs = append_assoc earlier (s ∷ []) specs in
-    rw first (front_refuses specs (earlier ++ s ∷ []) bound p.1 rest fault p.4 (subst AreAttributes (sym regrouped) a) (omega arith) (subst (λ (e : List AttributeSpec). PairFails e rest fault) (sym regrouped) h))
-
 attributes_refuse : (bytes : List ℕ) (fault : DeclFault) → AttributesFail bytes fault → attributes_of bytes ≡ Err fault
-attributes_refuse bytes fault f =
-    let n = each_fits SpellsAttribute (λ text. text ≡ []) spec_some f.specs f.text f.spelled in
-    ap attributes_of f.parts ∙ front_refuses f.specs [] (suc (length (f.text ++ f.rest))) f.text f.rest fault f.spelled f.allowed (omega (arith, length-append f.text f.rest)) f.fails
+attributes_refuse bytes fault f = list_refuses reads_attributes pair_refuses bytes fault f
 
 -- ---- a declaration
 
@@ -145,26 +129,19 @@ module _ (earlier : List Declaration) (bytes : List ℕ) where
 
 -- ---- a table
 
-decls_refuse : (ds earlier : List Declaration) (bound len : ℕ) (text rest : List ℕ) (reason : DeclFault) → SpellsDecls ds text → AreDeclarations (earlier ++ ds) → length ds < bound → DeclFails (earlier ++ ds) rest reason
-    → decls_from bound len earlier (text ++ rest) ≡ Err (fault_at (len - length rest) reason)
-unfolding decls_from
-decls_refuse [] earlier zero len text rest reason s a lt h = absurd (omega arith)
-decls_refuse [] earlier (suc bound) len text rest reason s a lt h =
-    rw (s, decl_refuses earlier rest reason (subst (λ (e : List Declaration). DeclFails e rest reason) (append-nil earlier) h)) refl
-decls_refuse (d ∷ ds) earlier zero len text rest reason p a lt h = absurd (omega arith)
-decls_refuse (d ∷ ds) earlier (suc bound) len text rest reason p a lt h =
-    let parts : text ++ rest ≡ p.0 ++ (p.1 ++ rest) = ap (λ (t : List ℕ). t ++ rest) p.2 ∙ append_assoc p.0 p.1 rest in
-    let first : decl_at earlier (text ++ rest) ≡ Ok (Some d, p.1 ++ rest) = ap (decl_at earlier) parts ∙ decl_again earlier (p.1 ++ rest) p.0 d p.3 (one_decl earlier d ds a) (apart_lacks code_of_decl earlier d ds a.distinct) in
-    let regrouped : (earlier ++ d ∷ []) ++ ds ≡ earlier ++ d ∷ ds = append_assoc earlier (d ∷ []) ds in
-    rw first (decls_refuse ds (earlier ++ d ∷ []) bound len p.1 rest reason p.4 (subst AreDeclarations (sym regrouped) a) (omega arith) (subst (λ (e : List Declaration). DeclFails e rest reason) (sym regrouped) h))
-
 pub table_refuses : (section : List ℕ) (offset : ℕ) (fault : AbbrevFault) → offset ≤ length section → TableFails section offset fault → table_at section offset ≡ Err fault
 table_refuses section offset fault within f =
-    let n = each_fits SpellsDecl (λ text. text ≡ []) decl_some f.ds f.text f.spelled in
     let place : length section - length f.rest ≡ offset + length f.text = omega (arith, length-drop offset section, ap length f.parts, length-append f.text f.rest) in
-    let read : decls_of (length section) (drop offset section) ≡ Err (fault_at (length section - length f.rest) f.reason) =
-    ap (decls_of (length section)) f.parts ∙ decls_refuse f.ds [] (suc (length (f.text ++ f.rest))) (length section) f.text f.rest f.reason f.spelled f.allowed (omega (arith, length-append f.text f.rest)) f.fails in
-    rw (read, f.is, place) refl
+    let read = list_refuses (reads_decls (length section)) (λ earlier bytes other g. rw (decl_refuses earlier bytes g.0 g.1, g.2) refl) (drop offset section) fault (record {
+      items = f.ds;
+      text = f.text;
+      rest = f.rest;
+      parts = f.parts;
+      spelled = f.spelled;
+      allowed = f.allowed;
+      fails = (f.reason, f.fails, f.is ∙ ap (λ (p : ℕ). fault_at p f.reason) (sym place));
+    }) in
+    rw read refl
 
 pub table_one_fault : (section : List ℕ) (offset : ℕ) (f g : AbbrevFault) → offset ≤ length section → TableFails section offset f → TableFails section offset g → f ≡ g
 table_one_fault section offset f g within h k = fault_is (sym (table_refuses section offset f within h) ∙ table_refuses section offset g within k)
@@ -178,7 +155,7 @@ module _ (section : List ℕ) (offset : ℕ) where
       let text = take len (drop offset section) in
       let rest = drop len (drop offset section) in
       let parts : text ++ rest ≡ drop offset section = take-append-drop len (drop offset section) in
-      rw (sym (ap (decls_of (length section)) parts) ∙ decls_again (length section) text rest ds b.spelled) refl
+      rw (sym (ap (decls_of (length section)) parts) ∙ (decls_reader (length section)).again text rest ds b.spelled) refl
 
   -- where no table is spelled, a fault is read
   fault_read : (r : Result (List Declaration) AbbrevFault) → table_at section offset ≡ r → BeginsWithNone Decls (drop offset section) → (fault : AbbrevFault) × (table_at section offset ≡ Err fault)

@@ -78,10 +78,6 @@ pub record SpellsDecl (bytes : List ℕ) (d : Declaration) : Type 0 where
   pub is_pair : SpellsPair pair (d.code, d.tag)
   pub are_attributes : SpellsAttributes d.attributes attributes
 
--- one spelling for each declaration, and the code 0
-abbrev pub SpellsTable : List Declaration → List ℕ → Type 0
-SpellsTable = SpellsEach SpellsDecl (λ bytes. Uleb bytes 0)
-
 -- ---- what may be declared
 
 -- the code of a tag or an attribute
@@ -89,10 +85,14 @@ pub record IsCode16 (n : ℕ) : Type 0 where
   pub some : 0 < n
   pub small : n ≤ 0xffff
 
--- attributes that one declaration may have, none of them twice
-pub record AreAttributes (specs : List AttributeSpec) : Type 0 where
-  pub each : All (λ s. IsCode16 s.attribute) specs
-  pub distinct : AllPairs (λ s t. s.attribute ≢ t.attribute) specs
+-- elements that one list may have, no key of them twice
+pub record AreDistinct {X : Type 0} (Good : X → Type 0) (key : X → ℕ) (xs : List X) : Type 0 where
+  pub each : All Good xs
+  pub distinct : AllPairs (λ x y. key x ≢ key y) xs
+
+-- attributes that one declaration may have
+abbrev pub AreAttributes : List AttributeSpec → Type 0
+AreAttributes = AreDistinct (λ s. IsCode16 s.attribute) (λ s. s.attribute)
 
 -- a declaration that a table may have; the code 0 ends the table
 pub record IsDeclaration (d : Declaration) : Type 0 where
@@ -100,15 +100,19 @@ pub record IsDeclaration (d : Declaration) : Type 0 where
   pub tag : IsCode16 d.tag
   pub attributes : AreAttributes d.attributes
 
--- declarations that one table may have, no code of them twice
-pub record AreDeclarations (ds : List Declaration) : Type 0 where
-  pub each : All IsDeclaration ds
-  pub distinct : AllPairs (λ c d. c.code ≢ d.code) ds
+-- declarations that one table may have
+abbrev pub AreDeclarations : List Declaration → Type 0
+AreDeclarations = AreDistinct IsDeclaration (λ d. d.code)
+
+-- the bytes are a list of these elements, up to its end
+pub record SpellsList {X : Type 0} (Spells : List ℕ → X → Type 0) (End : List ℕ → Type 0) (Good : X → Type 0)
+    (key : X → ℕ) (bytes : List ℕ) (xs : List X) : Type 0 where
+  pub spelled : SpellsEach Spells End xs bytes
+  pub allowed : AreDistinct Good key xs
 
 -- the bytes are the table of these declarations
-pub record Decls (bytes : List ℕ) (ds : List Declaration) : Type 0 where
-  pub spelled : SpellsTable ds bytes
-  pub allowed : AreDeclarations ds
+abbrev pub Decls : List ℕ → List Declaration → Type 0
+Decls = SpellsList SpellsDecl (λ bytes. Uleb bytes 0) IsDeclaration (λ d. d.code)
 
 -- ---- the faults
 
@@ -146,19 +150,20 @@ pub data PairFails (earlier : List AttributeSpec) (bytes : List ℕ) (fault : De
   constant_number : (attribute : ℕ) (rest : List ℕ) → Takes SpellsPair bytes (attribute, 0x21) rest → IsCode16 attribute
       → All (λ s. s.attribute ≢ attribute) earlier → ConstantFails rest fault → PairFails earlier bytes fault
 
--- these attributes are spelled, with no pair 0, 0 after them
-abbrev pub SpellsFront : List AttributeSpec → List ℕ → Type 0
-SpellsFront = SpellsEach SpellsAttribute (λ bytes. bytes ≡ [])
-
--- some attributes are spelled, and after them no next one and no end
-pub record AttributesFail (bytes : List ℕ) (fault : DeclFault) : Type 0 where
-  pub specs : List AttributeSpec
+-- after the earlier elements some more are spelled, and after them no next one and no end
+pub record FailsAfter {X : Type 0} {E : Type 0} (Spells : List ℕ → X → Type 0) (Good : X → Type 0) (key : X → ℕ)
+    (Fails : List X → List ℕ → E → Type 0) (earlier : List X) (bytes : List ℕ) (fault : E) : Type 0 where
+  pub items : List X
   pub text : List ℕ
   pub rest : List ℕ
   pub parts : bytes ≡ text ++ rest
-  pub spelled : SpellsFront specs text
-  pub allowed : AreAttributes specs
-  pub fails : PairFails specs rest fault
+  pub spelled : SpellsEach Spells (λ bytes. bytes ≡ []) items text
+  pub allowed : AreDistinct Good key (earlier ++ items)
+  pub fails : Fails (earlier ++ items) rest fault
+
+-- some attributes are spelled, and after them no next one and no end
+abbrev pub AttributesFail : List ℕ → DeclFault → Type 0
+AttributesFail = FailsAfter SpellsAttribute (λ s. IsCode16 s.attribute) (λ s. s.attribute) PairFails []
 
 -- a code that no earlier declaration has
 pub record IsNewCode (earlier : List Declaration) (code : ℕ) : Type 0 where
@@ -184,10 +189,6 @@ pub data DeclFails (earlier : List Declaration) (bytes : List ℕ) (fault : Decl
       → Takes SpellsPair bytes (code, tag) (children_byte children ∷ rest)
       → IsNewCode earlier code → IsCode16 tag → AttributesFail rest fault → DeclFails earlier bytes fault
 
--- these declarations are spelled, with no code 0 after them
-abbrev pub SpellsDecls : List Declaration → List ℕ → Type 0
-SpellsDecls = SpellsEach SpellsDecl (λ bytes. bytes ≡ [])
-
 -- a beginning of the table spells some declarations, and nothing after it spells a next one or the end.
 -- The place is where that next one begins
 pub record TableFails (section : List ℕ) (offset : ℕ) (fault : AbbrevFault) : Type 0 where
@@ -195,7 +196,7 @@ pub record TableFails (section : List ℕ) (offset : ℕ) (fault : AbbrevFault) 
   pub text : List ℕ
   pub rest : List ℕ
   pub parts : drop offset section ≡ text ++ rest
-  pub spelled : SpellsDecls ds text
+  pub spelled : SpellsEach SpellsDecl (λ bytes. bytes ≡ []) ds text
   pub allowed : AreDeclarations ds
   pub reason : DeclFault
   pub fails : DeclFails ds rest reason

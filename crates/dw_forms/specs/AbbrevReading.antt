@@ -34,6 +34,18 @@ abbrev pub on_option : {A : Type 0} {B : Type 0} → Option A → B → (A → B
 on_option None none some = none
 on_option (Some x) none some = some x
 
+-- element after element up to the end, after the earlier ones. There are fewer than this bound
+unfoldable pub list_from : {X : Type 0} {E : Type 0} → (List X → List ℕ → Result (Option X × List ℕ) E) → E → ℕ → List X
+    → List ℕ → Result (List X × List ℕ) E
+list_from next cut zero earlier bytes = Err cut
+list_from next cut (suc bound) earlier bytes =
+    next earlier bytes >>= λ p. on_option p.0 (Ok (earlier, p.1)) (λ x. list_from next cut bound (earlier ++ x ∷ []) p.1)
+
+-- a list up to its end
+abbrev pub list_of : {X : Type 0} {E : Type 0} → (List X → List ℕ → Result (Option X × List ℕ) E) → E → List ℕ
+    → Result (List X × List ℕ) E
+list_of next cut bytes = list_from next cut (suc (length bytes)) [] bytes
+
 -- after form implicit_const its number is in the table
 abbrev pub form_at : Form → List ℕ → Result (Form × List ℕ) DeclFault
 form_at (ImplicitConst number) bytes = do
@@ -72,16 +84,9 @@ pair_at earlier bytes = do
       form_at form f.1 >>= λ g.
       Ok (Some (record { attribute = a.0; form = g.0 }), g.1)))
 
--- all pairs, after the earlier ones. There are fewer than this bound
-unfoldable pub attributes_from : ℕ → List AttributeSpec → List ℕ → Result (List AttributeSpec × List ℕ) DeclFault
-attributes_from zero earlier bytes = Err (record { rule = AbbrevCut; attribute = 0 })
-attributes_from (suc bound) earlier bytes =
-    pair_at earlier bytes >>= λ p. on_option p.0 (Ok (earlier, p.1))
-    (λ spec. attributes_from bound (earlier ++ spec ∷ []) p.1)
-
 -- all pairs of a declaration, up to the pair 0, 0
 abbrev pub attributes_of : List ℕ → Result (List AttributeSpec × List ℕ) DeclFault
-attributes_of bytes = attributes_from (suc (length bytes)) [] bytes
+attributes_of = list_of pair_at (record { rule = AbbrevCut; attribute = 0 })
 
 -- the byte that says whether there are children
 abbrev pub children_at : List ℕ → Result (Bool × List ℕ) DeclFault
@@ -122,17 +127,13 @@ abbrev pub placed : {A : Type 0} → ℕ → Result A DeclFault → Result A Abb
 placed place (Ok x) = Ok x
 placed place (Err e) = Err (fault_at place e)
 
--- all declarations up to the code 0, after the earlier ones. There are fewer than this bound. The
--- section that the bytes are the end of has this length
-unfoldable pub decls_from : ℕ → ℕ → List Declaration → List ℕ → Result (List Declaration × List ℕ) AbbrevFault
-decls_from zero len earlier bytes = Err (record { rule = AbbrevCut; at = len - length bytes; attribute = 0 })
-decls_from (suc bound) len earlier bytes =
-    placed (len - length bytes) (decl_at earlier bytes) >>= λ d. on_option d.0 (Ok (earlier, d.1))
-    (λ decl. decls_from bound len (earlier ++ decl ∷ []) d.1)
+-- the next declaration, or a fault at its place, in the end of a section of this length
+abbrev pub placed_decl_at : ℕ → List Declaration → List ℕ → Result (Option Declaration × List ℕ) AbbrevFault
+placed_decl_at len earlier bytes = placed (len - length bytes) (decl_at earlier bytes)
 
--- the declarations at the front of the end of a section of this length
+-- all declarations up to the code 0, at the front of the end of a section of this length
 abbrev pub decls_of : ℕ → List ℕ → Result (List Declaration × List ℕ) AbbrevFault
-decls_of len bytes = decls_from (suc (length bytes)) len [] bytes
+decls_of len = list_of (placed_decl_at len) (record { rule = AbbrevCut; at = len; attribute = 0 })
 
 -- the table that begins at an offset of the section
 abbrev pub table_at : List ℕ → ℕ → Result (List Declaration) AbbrevFault

@@ -6,7 +6,7 @@ use Rattle.dw_forms.specs.declared.list_reader.KeptLists.{KeptLists}
 use Rattle.dw_forms.specs.declared.offsets.Placed.{Placed}
 use Rattle.dw_forms.specs.AbbrevReading.{pair_at, attributes_of}
 use Rattle.dw_forms.specs.AttributeLists.{list_in}
-use Rattle.dw_forms.specs.Offsets.{AreAlong, AreApart, Stay}
+use Rattle.dw_forms.specs.Offsets.{AreAlong, AreApart, AreNew, Stay}
 
 -- the list of this number begins at an offset of the section, and ends before another
 pub record IsListAt (section : List ℕ) (nodes : List Node) (offset number end : ℕ) : Type 0 where
@@ -33,11 +33,12 @@ pub record IsPairAt (section : List ℕ) (offset : ℕ) (spec : AttributeSpec) (
   pub rises : offset < next
   pub fits : next ≤ length section
 
--- the attributes go on as the list of this number, which ends at an offset
-pub record Leads (section : List ℕ) (nodes : List Node) (pairs : List (Placed AttributeSpec)) (offset first end : ℕ)
-    : Type 0 where
+-- the attributes, at which no list begins that is kept, go on as the list of this number, which ends at an offset
+pub record Leads (section : List ℕ) (nodes : List Node) (starts : List ℕ) (pairs : List (Placed AttributeSpec))
+    (offset first end : ℕ) : Type 0 where
   pub next : ℕ
   pub along : AreAlong (IsPairAt section) pairs offset next
+  pub new : AreNew starts pairs
   pub list : IsListAt section nodes next first end
 
 -- the lists that are kept are those of this section

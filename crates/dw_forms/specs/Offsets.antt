@@ -11,14 +11,10 @@ BeginsAt starts number offset = slice_get starts (number - 1) ≡ Some offset
 abbrev pub AreBefore : ℕ → List ℕ → Type 0
 AreBefore end starts = All (λ start. start < end) starts
 
--- each number that is entered at an offset is that of what begins there
-abbrev pub AreEntered : List ℕ → List ℕ → Type 0
-AreEntered starts numbers = (offset : ℕ) → 0 < get_or numbers offset 0
-    → BeginsAt starts (get_or numbers offset 0) offset
-
--- the first so many of the offsets have their numbers
-abbrev pub HaveNumbers : ℕ → List ℕ → List ℕ → Type 0
-HaveNumbers entered starts numbers = (k : ℕ) → k < entered → 0 < get_or numbers (get_or starts k 0) 0
+-- each number that is entered at an offset is that of what begins there, and the first so many offsets have theirs
+pub record AreEntered (entered : ℕ) (starts numbers : List ℕ) : Type 0 where
+  pub known : (offset : ℕ) → 0 < get_or numbers offset 0 → BeginsAt starts (get_or numbers offset 0) offset
+  pub numbered : (k : ℕ) → k < entered → 0 < get_or numbers (get_or starts k 0) 0
 
 -- the offsets from this one on have their numbers
 abbrev pub AreKnownFrom : ℕ → List ℕ → List ℕ → Type 0
@@ -43,6 +39,11 @@ AreAlong Is (x ∷ xs) offset end = (x.at ≡ offset) × (next : ℕ) × Is offs
 abbrev pub AreNew : {T : Type 0} → List ℕ → List (Placed T) → Type 0
 AreNew starts [] = Unit {0}
 AreNew starts (x ∷ xs) = NothingAt starts x.at × AreNew starts xs
+
+-- an offset of a section whose offsets have four bytes
+pub record IsOffset (section : List ℕ) (offset : ℕ) : Type 0 where
+  pub within : offset ≤ length section
+  pub fits : length section < 0xffffffff
 
 -- the old ones stay, and others come after them
 abbrev pub Stay : {X : Type 0} → List X → List X → Type 0

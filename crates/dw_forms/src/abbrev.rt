@@ -1,18 +1,16 @@
 //! Abbreviation tables (DWARF 5, 7.5.3).
 
 ghost use Rattle.std.specs.Prelude.{◌≡◌, ◌==◌, ◌<◌, [], ◌∷◌, ◌++◌, length, false, find, option_map, option_copied};
-ghost use Rattle.std.specs.Prelude.{option_and_then, slice_get, IfErr, IfSome, IfNone, OnOk, All, ◌≢◌, ◌+◌, Some};
+ghost use Rattle.std.specs.Prelude.{option_and_then, slice_get, IfSome, IfNone, OnOk, All, ◌≢◌, ◌+◌, Some};
 ghost use Rattle.std.specs.Ordering.{nat_cmp};
 ghost use Rattle.std.specs.BTreeMap.{get};
 ghost use Rattle.dw_forms.specs.Abbrev.{view};
 ghost use Rattle.dw_forms.specs.Places.{IsIndex, IsPlace, StandsAt};
 ghost use Rattle.dw_forms.specs.AbbrevReading.{has_code};
-ghost use Rattle.dw_forms.specs.Stops.{IfFault};
 
 use crate::constants::Tag;
 use crate::decl::AttributeSpec;
-use crate::fault::{AbbrevFault, Stop};
-use std::alloc::Global;
+use std::alloc::{AllocError, Global};
 use std::collections::BTreeMap;
 use std::marker::Model;
 
@@ -74,13 +72,12 @@ fn make_room(
     decls: &[TableDecl],
     elsewhere: &mut BTreeMap<u64, usize>,
     code: u64,
-) -> Result<(), Stop<AbbrevFault>>
+) -> Result<(), AllocError>
     requires index { IsIndex decls.now elsewhere.old }
     requires new { All (λ d. d.code ≢ code) decls.now }
     ensures index { IsIndex decls.now elsewhere.new }
     ensures entered { OnOk result (code ≢ length decls.now + 1
         → get nat_cmp elsewhere.new code ≡ Some (length decls.now)) }
-    ensures err { IfErr result (IfFault (λ _. ⊥)) }
 {
     if code != decls.len() as u64 + 1 {
         elsewhere.insert(code, decls.len())?;
@@ -107,10 +104,9 @@ impl AbbrevTable {
     }
 
     /// Adds a declaration with a new code.
-    pub(crate) fn push(&mut self, decl: TableDecl) -> Result<(), Stop<AbbrevFault>>
+    pub(crate) fn push(&mut self, decl: TableDecl) -> Result<(), AllocError>
         requires { has_code decl.code self.old ≡ false }
-        ensures ok { OnOk result (self.new ≡ self.old ++ view decl ∷ []) }
-        ensures err { IfErr result (IfFault (λ _. ⊥)) }
+        ensures { OnOk result (self.new ≡ self.old ++ view decl ∷ []) }
     {
         make_room(&self.decls, &mut self.elsewhere, decl.code)?;
         self.decls.push(decl)?;

@@ -6,7 +6,7 @@ ghost use Rattle.dw_forms.specs.AbbrevReading.{table_at};
 ghost use Rattle.dw_forms.specs.AttributeLists.{HasList};
 ghost use Rattle.dw_forms.specs.KeptDecls.{kept_view, view, table_in, tables_of, number_in, AreReadable};
 ghost use Rattle.dw_forms.specs.ListOffsets.{AreListsOf, MoreLists};
-ghost use Rattle.dw_forms.specs.Offsets.{AreKnownFrom};
+ghost use Rattle.dw_forms.specs.Offsets.{AreKnownFrom, IsOffset};
 ghost use Rattle.dw_forms.specs.TableStarts.{NoTable, IfNoDecl, IsNextAt, IsFront, IsTableIn, Stay, Added, IsWhole};
 ghost use Rattle.dw_forms.specs.Abbrev.{AreDeclarations, TableFails};
 ghost use Rattle.dw_forms.specs.AbbrevTables.{tables_in, AreSearchable, AreTablesOf};
@@ -20,7 +20,7 @@ use crate::decl::{Decl, Decls, KeptDecl};
 use crate::fault::{AbbrevFault, DeclFault, Stop};
 use crate::list_reader::KeptLists;
 use crate::offsets::{Offsets, Placed};
-use std::alloc::Global;
+use std::alloc::{AllocError, Global};
 
 /// The declaration at an offset, and the offset after it; or none at the code 0. A code may be there twice.
 fn next_at(
@@ -28,8 +28,7 @@ fn next_at(
     section: &[u8],
     offset: usize,
 ) -> Result<(Option<KeptDecl>, usize), Stop<DeclFault>>
-    requires offset { offset ≤ length section.now }
-    requires fits { length section.now < 0xffffffff }
+    requires offset { IsOffset section.now offset }
     requires lists { AreListsOf section.now lists.old }
     ensures more { OnOk result (MoreLists section.now lists.old lists.new) }
     ensures next { IfOk result (λ x. IsNextAt section.now lists.new.lists.nodes.items offset x.0 x.1) }
@@ -68,8 +67,7 @@ fn read_front(
     section: &[u8],
     offset: usize,
 ) -> Result<(Vec<Placed<KeptDecl>>, u32), Stop<DeclFault>>
-    requires offset { offset ≤ length section.now }
-    requires fits { length section.now < 0xffffffff }
+    requires offset { IsOffset section.now offset }
     requires lists { AreListsOf section.now lists.old }
     requires known { AreKnownFrom offset starts.now.starts.items starts.now.numbers.items }
     ensures more { OnOk result (MoreLists section.now lists.old lists.new) }
@@ -120,7 +118,7 @@ fn push(
     lists: &AttributeLists,
     rest: u32,
     decl: KeptDecl,
-) -> Result<Option<u32>, Stop<AbbrevFault>>
+) -> Result<Option<u32>, AllocError>
     requires rest { rest ≤ length kept.old.items }
     requires few { length kept.old.items < 0xffffffff }
     requires kept { AreReadable codes.old.links.items lists.now.nodes.items kept.old.items }
@@ -128,7 +126,6 @@ fn push(
     ensures kept { OnOk result (AreReadable codes.new.links.items lists.now.nodes.items kept.new.items) }
     ensures added { IfOk result (Added (kept_view lists.now.nodes.items decl) rest
         (tables_of lists.now.nodes.items kept.old.items) (tables_of lists.now.nodes.items kept.new.items)) }
-    ensures err { IfErr result (IfFault (λ _. ⊥)) }
 {
     if codes.find(rest, decl.code) != 0 {
         return Ok(None);
@@ -184,7 +181,7 @@ impl AbbrevTables {
         offset: usize,
         mut decls: Vec<Placed<KeptDecl>>,
         rest: u32,
-    ) -> Result<Option<u32>, Stop<AbbrevFault>>
+    ) -> Result<Option<u32>, AllocError>
         requires fits { length section.now < 0xffffffff }
         requires tables { AreTablesOf section.now self.old }
         requires front { IsFront section.now self.old.lists.lists.nodes.items self.old.starts.starts.items decls.items
@@ -192,7 +189,6 @@ impl AbbrevTables {
         ensures tables { OnOk result (AreTablesOf section.now self.new) }
         ensures stay { OnOk result (Stay (tables_in self.old) (tables_in self.new)) }
         ensures whole { IfOk result (IsWhole section.now (tables_in self.new) offset) }
-        ensures err { IfErr result (IfFault (λ _. ⊥)) }
     {
         let mut table = rest;
         while let Some(Placed { at, item: decl }) = decls.pop() {

@@ -71,13 +71,12 @@ fn push_branches(
 ) -> Result<u32, AllocError>
     requires rest { rest ≤ length links.now }
     requires found { AreFound branches.old.items links.now }
-    ensures found { OnOk result (AreFound branches.new.items links.now) }
+    ensures found { AreFound branches.new.items links.now }
     ensures branches { IfOk result (λ count. AreBranches branches.new.items (length branches.old.items) count code
         (codes_in links.now rest)) }
     ensures below { IfOk result (λ count. AreBelow branches.new.items (length branches.old.items) count
         (length links.now + 1)) }
     ensures few { IfOk result (λ count. count ≤ 64) }
-    ensures err { OnErr result (AreFound branches.new.items links.now) }
 {
     let mut number = rest;
     for bit in 0..64 {

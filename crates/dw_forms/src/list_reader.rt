@@ -3,7 +3,7 @@
 ghost use Rattle.std.specs.Prelude.{◌≡◌, ◌<◌, ◌≤◌, ℕ, List, [], length, drop, IfOk, IfErr, OnOk};
 ghost use Rattle.dw_forms.specs.AbbrevReading.{pair_at};
 ghost use Rattle.dw_forms.specs.ListOffsets.{IsListAt, ArePlaced, AreListsOf, MoreLists, NoListAt, Leads};
-ghost use Rattle.dw_forms.specs.Offsets.{AreKnownFrom, AreNew};
+ghost use Rattle.dw_forms.specs.Offsets.{AreKnownFrom, IsOffset};
 ghost use Rattle.dw_forms.specs.Stops.{IfFault, GivesOrMemory};
 
 use crate::abbrev_reader::{fault, form_with_number, pair_of};
@@ -70,8 +70,8 @@ fn read_pairs(
     requires offset { offset ≤ length section.now }
     requires placed { ArePlaced section.now lists.now.nodes.items starts.now.starts.items ends.now }
     requires known { AreKnownFrom offset starts.now.starts.items starts.now.numbers.items }
-    ensures leads { IfOk result (λ x. Leads section.now lists.now.nodes.items pairs.new.items offset x.0 x.1) }
-    ensures new { OnOk result (AreNew starts.now.starts.items pairs.new.items) }
+    ensures leads { IfOk result (λ x.
+        Leads section.now lists.now.nodes.items starts.now.starts.items pairs.new.items offset x.0 x.1) }
     ensures fault { IfErr result (IfFault (λ _. NoListAt section.now offset)) }
 {
     let mut at = offset;
@@ -126,8 +126,8 @@ impl KeptLists {
     ) -> Result<u32, Stop<DeclFault>>
         requires fits { length section.now < 0xffffffff }
         requires lists { AreListsOf section.now self.old }
-        requires leads { Leads section.now self.old.lists.nodes.items self.old.pairs.items offset rest end }
-        requires new { AreNew self.old.starts.starts.items self.old.pairs.items }
+        requires leads { Leads section.now self.old.lists.nodes.items self.old.starts.starts.items self.old.pairs.items
+            offset rest end }
         ensures list { IfOk result (λ first. IsListAt section.now self.new.lists.nodes.items offset first end) }
         ensures more { OnOk result (MoreLists section.now self.old self.new) }
         ensures fault { IfErr result (IfFault (λ _. NoListAt section.now offset)) }
@@ -151,8 +151,7 @@ impl KeptLists {
         section: &[u8],
         offset: usize,
     ) -> Result<(u32, usize), Stop<DeclFault>>
-        requires offset { offset ≤ length section.now }
-        requires fits { length section.now < 0xffffffff }
+        requires offset { IsOffset section.now offset }
         requires lists { AreListsOf section.now self.old }
         ensures list { IfOk result (λ x. IsListAt section.now self.new.lists.nodes.items offset x.0 x.1) }
         ensures more { OnOk result (MoreLists section.now self.old self.new) }

@@ -1,7 +1,7 @@
 //! What begins at which offset of a section.
 
 ghost use Rattle.std.specs.Prelude.{◌≡◌, ◌<◌, ◌≤◌, ◌∷◌, ◌++◌, ℕ, [], length, get_or, OnOk};
-ghost use Rattle.dw_forms.specs.Offsets.{AreEntered, AreBefore, BeginsAt, HaveNumbers, AreKnownFrom, NothingAt};
+ghost use Rattle.dw_forms.specs.Offsets.{AreEntered, AreBefore, BeginsAt, AreKnownFrom, NothingAt};
 
 use std::alloc::{AllocError, Global};
 
@@ -25,9 +25,8 @@ pub struct Offsets {
     end: usize,
     ghost few: { length starts.items ≤ 0xffffffff },
     ghost before: { AreBefore end starts.items },
-    ghost known: { AreEntered starts.items numbers.items },
     ghost within: { entered ≤ length starts.items },
-    ghost numbered: { HaveNumbers entered starts.items numbers.items },
+    ghost known: { AreEntered entered starts.items numbers.items },
 }
 
 /// The offset after all things, with one more that begins at an offset.
@@ -54,11 +53,9 @@ fn make_room(numbers: &mut Vec<u32>, end: usize) -> Result<(), AllocError>
 fn enter(starts: &[u32], entered: usize, numbers: &mut [u32])
     requires few { length starts.now ≤ 0xffffffff }
     requires before { AreBefore (length numbers.old) starts.now }
-    requires known { AreEntered starts.now numbers.old }
     requires within { entered ≤ length starts.now }
-    requires numbered { HaveNumbers entered starts.now numbers.old }
-    ensures known { AreEntered starts.now numbers.new }
-    ensures numbered { HaveNumbers (length starts.now) starts.now numbers.new }
+    requires entered { AreEntered entered starts.now numbers.old }
+    ensures { AreEntered (length starts.now) starts.now numbers.new }
 {
     for place in entered..starts.len() {
         numbers[starts[place] as usize] = place as u32 + 1;

@@ -1,18 +1,18 @@
 use Rattle.std.proofs.Common.{rules, arith, refl}
-use Rattle.dw_forms.proofs.AbbrevSteps.{attributes_done, attributes_more, attributes_fail}
+use Rattle.dw_forms.proofs.SpelledLists.{goes_to_end, goes_further, goes_wrong}
 use Rattle.dw_forms.proofs.abbrev_reader.read_attributes.Goals as goal
 
 pub returns-in-Err-clause-exact : goal.returns-in-Err-clause-exact
-returns-in-Err-clause-exact c = search (rules, attributes_fail)
+returns-in-Err-clause-exact c = goes_wrong _ _ c.in-Err.error _ _ _ c.loop-found.invariant.goes_on (rw c.deref.ensures.value at c.in-Err.ensures.exact)
 
 pub returns-in_default-clause-exact : goal.returns-in_default-clause-exact
 returns-in_default-clause-exact c =
-    attributes_done _ _ _ _ c.loop-found.invariant.goes_on (rw (c.deref.ensures.value, c.in_default.is) at c.in-Ok.ensures.exact)
+    goes_to_end _ _ _ _ _ _ c.loop-found.invariant.goes_on (rw (c.deref.ensures.value, c.in_default.is) at c.in-Ok.ensures.exact)
 
 pub loop-found-preserved : goal.loop-found-preserved
 loop-found-preserved c = record {
   within = omega (arith, c.in-Ok.ensures.shorter);
   marked = rw c.in_ok-push.ensures.items (rw c.deref-in-loop-found.ensures.value at (c.mark.ensures c.in-Some.spec refl));
   goes_on = rw c.in_ok-push.ensures.items
-      (attributes_more _ _ _ c.in-Some.spec _ c.loop-found.invariant.goes_on (rw (c.deref.ensures.value, c.in-Some.is) at c.in-Ok.ensures.exact) c.in-Ok.ensures.shorter);
+      (goes_further _ _ _ _ _ c.in-Some.spec _ c.loop-found.invariant.goes_on (rw (c.deref.ensures.value, c.in-Some.is) at c.in-Ok.ensures.exact) c.in-Ok.ensures.shorter);
 }

@@ -1,14 +1,16 @@
 use Rattle.std.proofs.Common.{◌≤◌, length}
 use Rattle.dw_forms.specs.Marks.{AreMarks}
-use Rattle.dw_forms.specs.AbbrevReading.{attributes_of}
-use Rattle.dw_forms.proofs.AbbrevSteps.{AttributesGoOn}
+use Rattle.dw_forms.specs.declared.fault.AbbrevRule.TheVariants.{AbbrevCut}
+use Rattle.dw_forms.specs.Abbrev.{broken}
+use Rattle.dw_forms.specs.AbbrevReading.{pair_at, attributes_of}
+use Rattle.dw_forms.proofs.SpelledLists.{ReadsOn}
 use Rattle.dw_forms.proofs.abbrev_reader.read_attributes.Given as goal
 
 abbrev pub invariant-loop-found : goal.invariant-loop-found
 invariant-loop-found l = record {
   within : length l.rest ≤ length l.bytes;
   marked : AreMarks l.attributes.items l.marks;
-  goes_on : AttributesGoOn l.attributes.items l.rest (attributes_of l.bytes);
+  goes_on : ReadsOn pair_at (broken AbbrevCut 0) l.attributes.items l.rest (attributes_of l.bytes);
 }
 
 abbrev pub decreases-loop-found : goal.decreases-loop-found

@@ -1,21 +1,24 @@
-use Rattle.std.proofs.Common.{arith, [], ◌∷◌}
+use Rattle.std.proofs.Common.{arith, [], ◌∷◌, refl}
 use Rattle.std.proofs.lemmas.List.{length-append}
 use Rattle.dw_forms.specs.Abbrev.{view}
-use Rattle.dw_forms.proofs.AbbrevSteps.{decls_done, decls_more, decls_fail}
+use Rattle.dw_forms.specs.Steps.{◌>>=◌}
+use Rattle.dw_forms.specs.AbbrevReading.{decls_of}
+use Rattle.dw_forms.proofs.AbbrevSteps.{then_fails}
+use Rattle.dw_forms.proofs.SpelledLists.{goes_to_end, goes_further, goes_wrong}
 use Rattle.dw_forms.proofs.abbrev_reader.table.Goals as goal
 
 pub returns-in-Err-clause-exact : goal.returns-in-Err-clause-exact
-returns-in-Err-clause-exact c = decls_fail c.in-Err.fault _ _ _ _ c.loop-found.invariant.goes_on c.in-Err.ensures.exact
+returns-in-Err-clause-exact c = then_fails c.in-Err.fault _ (λ x. x.0) (goes_wrong _ _ c.in-Err.fault _ _ _ c.loop-found.invariant.goes_on c.in-Err.ensures.exact)
 
 pub returns-in_default-clause-exact : goal.returns-in_default-clause-exact
 returns-in_default-clause-exact c =
-    decls_done _ _ _ _ _ c.loop-found.invariant.goes_on (rw c.in_default.is at c.in-Ok.ensures.exact)
+    rw (goes_to_end _ _ _ _ _ _ c.loop-found.invariant.goes_on (rw c.in_default.is at c.in-Ok.ensures.exact)) refl
 
 pub loop-found-preserved : goal.loop-found-preserved
 loop-found-preserved c = record {
   within = omega (arith, c.in-Ok.ensures.shorter);
-  fewer = rw c.in_ok-push.ensures.ok (omega (arith, length-append c.loop-found.table (view c.in-Some.decl ∷ []), c.in-Ok.ensures.shorter, c.loop-found.invariant.fewer));
+  fewer = rw c.in_ok-push.ensures (omega (arith, length-append c.loop-found.table (view c.in-Some.decl ∷ []), c.in-Ok.ensures.shorter, c.loop-found.invariant.fewer));
   unmarked = c.in-Ok.ensures.unmarked;
-  goes_on = rw c.in_ok-push.ensures.ok
-      (decls_more _ _ _ _ (view c.in-Some.decl) _ c.loop-found.invariant.goes_on (rw c.in-Some.is at c.in-Ok.ensures.exact) c.in-Ok.ensures.shorter);
+  goes_on = rw c.in_ok-push.ensures
+      (goes_further _ _ _ _ _ (view c.in-Some.decl) _ c.loop-found.invariant.goes_on (rw c.in-Some.is at c.in-Ok.ensures.exact) c.in-Ok.ensures.shorter);
 }

@@ -5,7 +5,7 @@ use Rattle.dw_forms.proofs.TailLaws.{table_end, decls_stay, front_fails}
 use Rattle.dw_forms.proofs.abbrev_tables.read_front.Goals as goal
 
 pub loop-decls-init : goal.loop-decls-init
-loop-decls-init c = record { from = omega arith; within = c.requires.offset; more = record { lists = c.requires.lists; stay = stay_same _ }; along = rw c.new-decls.ensures.items refl; new = rw c.new-decls.ensures.items tt }
+loop-decls-init c = record { from = omega arith; within = c.requires.offset.within; more = record { lists = c.requires.lists; stay = stay_same _ }; along = rw c.new-decls.ensures.items refl; new = rw c.new-decls.ensures.items tt }
 
 pub returns-then-rest-ne0-clause-front : goal.returns-then-rest-ne0-clause-front
 returns-then-rest-ne0-clause-front c = record { end = c.loop-decls.end; along = c.loop-decls.invariant.along; new = c.loop-decls.invariant.new; goes_on = search (rules) }

@@ -14,6 +14,7 @@ returns-then-first-ne0-clause-leads c =
     record {
       next = c.loop-end.at;
       along = c.loop-end.invariant.along;
+      new = c.loop-end.invariant.new;
       list = kept_list c.args.section.now c.args.lists.now.nodes.items c.args.starts.now.starts.items c.args.ends.now c.loop-end.at c.find-first.result _ c.requires.placed begins (omega (arith, some)) refl;
     }
 

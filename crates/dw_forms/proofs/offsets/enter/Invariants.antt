@@ -1,10 +1,9 @@
 use Rattle.std.proofs.Common.{◌≡◌, length}
-use Rattle.dw_forms.specs.Offsets.{AreEntered, HaveNumbers}
+use Rattle.dw_forms.specs.Offsets.{AreEntered}
 use Rattle.dw_forms.proofs.offsets.enter.Given as goal
 
 abbrev pub invariant-loop-place : goal.invariant-loop-place
 invariant-loop-place l = record {
   long : length l.numbers ≡ length l.fn.numbers;
-  known : AreEntered l.starts l.numbers;
-  numbered : HaveNumbers l.place l.starts l.numbers;
+  entered : AreEntered l.place l.starts l.numbers;
 }

@@ -4,7 +4,7 @@ use Rattle.dw_forms.proofs.OffsetLaws.{apart_few, stay_same, stay_on}
 use Rattle.dw_forms.proofs.list_reader.KeptLists.keep_pairs.Goals as goal
 
 pub loop-at-init : goal.loop-at-init
-loop-at-init c = record { leads = c.requires.leads; placed = c.requires.lists; new = c.requires.new; stay = stay_same _ }
+loop-at-init c = record { leads = c.requires.leads; placed = c.requires.lists; stay = stay_same _ }
 
 pub push-requires-clause-rest : goal.push-requires-clause-rest
 push-requires-clause-rest c = c.loop-at.invariant.leads.list.within
@@ -25,12 +25,10 @@ loop-at-preserved c =
     let parts = c.in-Some.ensures.items in
     let i = c.loop-at.invariant in
     let new = c.push.new.self.nodes.items in
-    let on = next_new left p parts i.leads c.loop-at.self.starts.starts.items i.new in
     let added = rw c.in-Some-2.is at c.in_ok-longer.ensures.added in
     record {
-      leads = next_leads left p parts i.leads new c.in-Some-2.longer added;
-      placed = rw (c.in_ok-push.ensures, c.in_ok-push-2.ensures.items) (next_placed left p parts i.leads new c.in-Some-2.longer added c.loop-at.self.starts.starts.items c.loop-at.self.ends.items i.placed on.0);
-      new = rw c.in_ok-push.ensures on.1;
+      leads = rw c.in_ok-push.ensures (next_leads left p parts i.leads new c.in-Some-2.longer added);
+      placed = rw (c.in_ok-push.ensures, c.in_ok-push-2.ensures.items) (next_placed left p parts i.leads new c.in-Some-2.longer added c.loop-at.self.ends.items i.placed);
       stay = stay_on _ _ _ i.stay (next_stay left p parts i.leads new c.in-Some-2.longer added);
     }
 
