@@ -130,11 +130,11 @@ fn indirect(version: u16, address_size: u8, bytes: &[u8]) -> Result<(Value<'_>, 
     Ok((value, before + len))
 }
 
-/// The value of any form, and how many bytes it has. Most values that are read are offsets of strings, references
-/// within a unit and numbers of one byte, which are read in place.
+/// The value of any form, and how many bytes it has, whether the version allows its form or not. Most values that are
+/// read are offsets of strings, references within a unit and numbers of one byte, which are read in place.
 #[inline(always)]
 #[tactic(auto, unfolding(crate::specs::ValueReading::layout_at))]
-fn value(
+pub(crate) fn read_any(
     version: u16,
     form: Form,
     address_size: u8,
@@ -162,20 +162,6 @@ fn value(
     }
 }
 
-/// The value of any form, and how many bytes it has, whether the version allows its form or not.
-#[inline(always)]
-pub(crate) fn read_any(
-    version: u16,
-    form: Form,
-    address_size: u8,
-    bytes: &[u8],
-) -> Result<(Value<'_>, usize), ValueFault>
-    requires { (address_size ≡ 4) ⊎ (address_size ≡ 8) }
-    ensures { Gives (λ x. (view x.0, drop x.1 bytes.now)) result (value_at version form address_size bytes.now) }
-{
-    value(version, form, address_size, bytes)
-}
-
 /// Reads the value at the front, in a form that the unit's version allows, and how many bytes it takes. Bytes may
 /// follow it.
 #[inline(always)]
@@ -194,7 +180,7 @@ pub fn read_value(
     // For callers that reason by steps.
     ensures exact { Gives (λ r. (view r.0, drop r.1 bytes.now)) result (value_at version form address_size bytes.now) }
 {
-    value(version, form, address_size, bytes)
+    read_any(version, form, address_size, bytes)
 }
 
 /// The length of a value whose form has no one size. Only an indirect one is read for it.
@@ -219,27 +205,13 @@ pub(crate) fn skip_long(
         Form::Block2 => Ok(2 + counted(bytes, 2)?.len()),
         Form::Block4 => Ok(4 + counted(bytes, 4)?.len()),
         Form::Text => Ok(text(bytes)?.len() + 1),
-        _ => Ok(value(version, form, address_size, bytes)?.1),
-    }
-}
-
-/// How many bytes the value at the front takes, whether the version allows its form or not.
-#[inline(always)]
-#[tactic(auto, using(crate::specs::SizeLaws::rest_skips, crate::specs::SizeLaws::rest_cuts))]
-fn skip_any(version: u16, form: Form, address_size: u8, bytes: &[u8]) -> Result<usize, ValueFault>
-    requires { (address_size ≡ 4) ⊎ (address_size ≡ 8) }
-    ensures within { IfOk result (λ len. len ≤ length bytes.now) }
-    ensures exact { Gives (λ len. drop len bytes.now) result (rest_at version form address_size bytes.now) }
-{
-    match form.fixed_size(address_size) {
-        Some(size) if bytes.len() < size => Err(ValueFault::Cut),
-        Some(size) => Ok(size),
-        None => skip_long(version, form, address_size, bytes),
+        _ => Ok(read_any(version, form, address_size, bytes)?.1),
     }
 }
 
 /// How many bytes the value at the front takes, as `read_value` says it, without making the value.
 #[inline(always)]
+#[tactic(auto, using(crate::specs::SizeLaws::rest_skips, crate::specs::SizeLaws::rest_cuts))]
 pub fn skip_value(
     version: u16,
     form: Form,
@@ -251,5 +223,9 @@ pub fn skip_value(
     ensures within { IfOk result (λ len. len ≤ length bytes.now) }
     ensures exact { Gives (λ len. drop len bytes.now) result (rest_at version form address_size bytes.now) }
 {
-    skip_any(version, form, address_size, bytes)
+    match form.fixed_size(address_size) {
+        Some(size) if bytes.len() < size => Err(ValueFault::Cut),
+        Some(size) => Ok(size),
+        None => skip_long(version, form, address_size, bytes),
+    }
 }

@@ -16,9 +16,9 @@ returns-in-Err c =
 pub returns-in-Ok-read_any : goal.returns-in-Ok-read_any
 returns-in-Ok-read_any c =
     let before = before_found c.args.version c.args.address_size c.args.attribute c.args.self.now c.find-found.result c.find-found.ensures in
-    it_reads c.args.version c.args.address_size c.args.attribute c.args.self.now c.find-found.result c.find-found.ensures c.in-Some.spec _ c.in-Some.ensures c.args.bytes.now c.in-Ok.rest.now (c.in-Ok.ensures before.0 before.1) (view c.in-Ok-read_any.value) _ c.in-Ok-read_any.ensures
+    it_reads c.args.version c.args.address_size c.args.attribute c.args.self.now c.find-found.result c.find-found.ensures c.in-Some.spec _ c.in-Some.ensures c.args.bytes.now c.in-Ok.rest.now (c.in-Ok.ensures before.0 before.1) (view c.in-Ok-read_any.value) _ c.in-Ok-read_any.ensures.exact
 
 pub returns-in-Err-read_any : goal.returns-in-Err-read_any
 returns-in-Err-read_any c =
     let before = before_found c.args.version c.args.address_size c.args.attribute c.args.self.now c.find-found.result c.find-found.ensures in
-    it_fails c.args.version c.args.address_size c.args.attribute c.args.self.now c.find-found.result c.find-found.ensures c.in-Some.spec _ c.in-Some.ensures c.args.bytes.now c.in-Ok.rest.now (c.in-Ok.ensures before.0 before.1) c.in-Err-read_any.fault c.in-Err-read_any.ensures
+    it_fails c.args.version c.args.address_size c.args.attribute c.args.self.now c.find-found.result c.find-found.ensures c.in-Some.spec _ c.in-Some.ensures c.args.bytes.now c.in-Ok.rest.now (c.in-Ok.ensures before.0 before.1) c.in-Err-read_any.fault c.in-Err-read_any.ensures.exact
