@@ -6,6 +6,7 @@ use Rattle.std.specs.Prelude.{◌≡◌, ◌≢◌, ℕ, true, false, List, ◌+
 use Rattle.dw_entries.specs.declared.walk.Record.{Record}
 use Rattle.dw_entries.specs.declared.walk.UnitRecord.{UnitRecord}
 use Rattle.dw_entries.specs.declared.walk.Kept.{Kept}
+use Rattle.dw_forms.specs.declared.abbrev_tables.AbbrevTables.{AbbrevTables}
 use Rattle.dw_forms.specs.AbbrevTables.{tables_in, AreTablesOf}
 use Rattle.dw_forms.specs.Chains.{chain_in}
 use Rattle.dw_forms.specs.KeptDecls.{number_in}
@@ -61,6 +62,11 @@ as_broken (Err f) = Err (in_table f)
 abbrev pub BreaksBy : Stop Broken → Result (List Declaration) AbbrevFault → Type 0
 BreaksBy stops.Memory read = Unit {0}
 BreaksBy (stops.Fault b) read = as_broken read ≡ Err b
+
+-- the tables are those of this section, the old ones among them
+pub record MoreTables («abbrev» : List ℕ) (old new : AbbrevTables) : Type 0 where
+  pub tables : AreTablesOf «abbrev» new
+  pub stay : Stay (tables_in old) (tables_in new)
 
 -- a unit begins the bytes, and what is kept of it comes after the old
 pub record UnitTaken («abbrev» rest : List ℕ) (at : ℕ) (old new : Kept) (len : ℕ) : Type 0 where

@@ -4,14 +4,14 @@ ghost use Rattle.std.specs.Prelude.{◌≡◌, ◌≤◌, length, OnOk, IfOk, If
 ghost use Rattle.dw_elf.specs.declared.TheConstants.{SECTION_LIMIT};
 ghost use Rattle.dw_forms.specs.AbbrevReading.{table_at};
 ghost use Rattle.dw_forms.specs.AbbrevTables.{tables_in, AreTablesOf, AreSearchable};
-ghost use Rattle.dw_forms.specs.TableStarts.{IsTableIn, Stay};
+ghost use Rattle.dw_forms.specs.TableStarts.{IsTableIn};
 ghost use Rattle.dw_forms.specs.KeptDecls.{view};
 ghost use Rattle.dw_forms.specs.Suffixes.{specs_in};
 ghost use Rattle.dw_forms.specs.ValueReading.{Gives};
 ghost use Rattle.dw_entries.specs.Faults.{rule_of, Fails};
 ghost use Rattle.dw_entries.specs.declared.fault.Rule.TheVariants.{UndeclaredCode};
 ghost use Rattle.dw_forms.specs.Stops.{IfFault};
-ghost use Rattle.dw_entries.specs.Stopped.{BreaksBy, IfPlainFault};
+ghost use Rattle.dw_entries.specs.Stopped.{BreaksBy, IfPlainFault, MoreTables};
 ghost use Rattle.dw_entries.specs.Grammar.{declared_in};
 ghost use Rattle.dw_entries.specs.Items.{numbered_decl};
 ghost use Rattle.dw_entries.specs.Reading.{seen, after, code_at, value_rule as rule_of_value, attribute_at};
@@ -61,8 +61,7 @@ pub fn unit_table(
     requires fits { length section.now ≤ SECTION_LIMIT }
     requires tables { AreTablesOf section.now tables.old }
     ensures found { IfOk result (IsTableIn section.now (tables_in tables.new) offset) }
-    ensures tables { OnOk result (AreTablesOf section.now tables.new) }
-    ensures stay { OnOk result (Stay (tables_in tables.old) (tables_in tables.new)) }
+    ensures tables { OnOk result (MoreTables section.now tables.old tables.new) }
     ensures fault { IfErr result (λ e. BreaksBy e (table_at section.now offset)) }
 {
     match tables.read(alloc, section, offset as usize) {
