@@ -1,24 +1,15 @@
--- State: what is known while the headers are read: the fields of the file header and of a section header, and the
--- sections that the headers so far name.
+-- State: what is known while the headers are read: the fields of a section header, and the sections that the headers so
+-- far name.
 use Rattle.std.specs.Prelude.{◌≡◌, ◌≢◌, ℕ, ◌-◌, ◌<◌, ◌≤◌, ◌↔◌, List, length, slice_index, Option, Some, None}
 use Rattle.std.specs.Option.{option_copied}
-use Rattle.dw_elf.specs.declared.header.FileHeader.{FileHeader}
 use Rattle.dw_elf.specs.declared.section_table.SectionHeader.{SectionHeader}
 use Rattle.dw_elf.specs.declared.sections.Found.{Found}
 use Rattle.dw_elf.specs.declared.sections.DebugSection.{DebugSection}
 use Rattle.dw_elf.specs.declared.sections.DebugSection.TheVariants.{Abbrev, Info, Str, LineStr, StrOffsets, Addr}
 use Rattle.dw_elf.specs.Limits.{section_limit}
-use Rattle.dw_elf.specs.Elf.{file_type, table_offset, header_size, section_count, names_index, name_offset}
-use Rattle.dw_elf.specs.Elf.{section_type, section_flags, section_offset, section_size, section_name, section_bytes}
+use Rattle.dw_elf.specs.Elf.{name_offset, section_type, section_flags, section_offset, section_size, section_name}
+use Rattle.dw_elf.specs.Elf.{section_bytes}
 use Rattle.dw_elf.specs.Names.{name_of, IsZdebug}
-
--- these are the fields of the file header
-pub record IsFileHeader (file : List ℕ) (header : FileHeader) : Type 0 where
-  pub kind : header.kind ≡ file_type file
-  pub table : header.table_offset ≡ table_offset file
-  pub size : header.header_size ≡ header_size file
-  pub count : header.section_count ≡ section_count file
-  pub names : header.names_index ≡ names_index file
 
 -- these are the fields of section header k
 pub record IsHeaderAt (file : List ℕ) (k : ℕ) (header : SectionHeader) : Type 0 where

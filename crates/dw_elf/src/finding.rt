@@ -3,9 +3,9 @@
 
 ghost use Rattle.std.specs.Prelude.{◌≡◌, ℕ, List, ◌+◌, IfOk, IfErr, OnOk};
 ghost use Rattle.dw_elf.specs.declared.fault.ElfFault.{ElfFault as AnyFault};
-ghost use Rattle.dw_elf.specs.Elf.{IsHeader, section_count};
-ghost use Rattle.dw_elf.specs.Checks.{ChecksPass, Passes};
-ghost use Rattle.dw_elf.specs.Rules.{FailsAt, IsFault};
+ghost use Rattle.dw_elf.specs.Elf.{section_count};
+ghost use Rattle.dw_elf.specs.Checks.{ChecksPass};
+ghost use Rattle.dw_elf.specs.Rules.{IsFault};
 ghost use Rattle.dw_elf.specs.Sections.{AreSections, IsAt, IsSection};
 ghost use Rattle.dw_elf.specs.Reading.{SlotsUpTo};
 ghost use Rattle.dw_elf.specs.Names.{name_of};
@@ -13,21 +13,6 @@ ghost use Rattle.dw_elf.specs.Names.{name_of};
 use crate::fault::{ElfFault, ElfRule};
 use crate::section_table::{SectionHeader, SectionTable};
 use crate::sections::{DebugSection, Found, Sections, section_named};
-
-/// What is found once header `k` is taken in.
-fn with_header<'a>(table: &SectionTable<'a>, k: u16, found: Found<'a>) -> Result<Found<'a>, ElfRule>
-    requires header { IsHeader table.now.file.now k }
-    requires so_far { SlotsUpTo table.now.file.now k found }
-    ensures passes { OnOk result (Passes table.now.file.now k) }
-    ensures found { IfOk result (λ found. SlotsUpTo table.now.file.now (k + 1) found) }
-    ensures fails { IfErr result (λ rule. FailsAt table.now.file.now k rule k) }
-{
-    match table.check(k, &found) {
-        Ok(Some((section, bytes))) => Ok(found.put(section, bytes)),
-        Ok(None) => Ok(found),
-        Err(rule) => Err(rule),
-    }
-}
 
 /// The sections, once all headers are taken in.
 fn sections_of<'a>(file: &[u8], found: &Found<'a>) -> Sections<'a>
@@ -57,7 +42,7 @@ pub fn find<'a>(file: &'a [u8]) -> Result<Sections<'a>, ElfFault>
     };
     let mut found = Found::new();
     for k in 1..table.count {
-        found = match with_header(&table, k, found) {
+        found = match table.check(k, found) {
             Ok(found) => found,
             Err(rule) => return Err(ElfFault { rule, section: k }),
         };
@@ -82,7 +67,7 @@ pub fn section_start(file: &[u8], section: DebugSection) -> usize
     };
     for k in 1..table.count {
         let header = SectionHeader::read(table.file, table.start, k);
-        let Some(front) = table.names.front_at(header.name_offset) else {
+        let Some(front) = table.front_at(header.name_offset) else {
             return 0;
         };
         if section_named(front) == Some(section) {

@@ -4,65 +4,15 @@
 ghost use Rattle.std.specs.Prelude.{◌≡◌, ◌+◌, ◌*◌, ◌<◌, ◌≤◌, length, take, drop, IfOk, IfErr, IfSome, IfNone, OnOk};
 ghost use Rattle.std.specs.Prelude.{OnSome};
 ghost use Rattle.dw_elf.specs.Elf.{table_offset, header_offset, section_count, FILE_HEADER_SIZE, SECTION_HEADER_SIZE};
-ghost use Rattle.dw_elf.specs.Elf.{section_name, section_bytes, name_table, IsHeader, string_at, HasText};
-ghost use Rattle.dw_elf.specs.Limits.{section_limit};
-ghost use Rattle.dw_elf.specs.Names.{name_of, IsWanted, IsZdebug};
-ghost use Rattle.dw_elf.specs.Checks.{HasSectionTable, IsNamed, IsNamedBefore, Passes};
-ghost use Rattle.dw_elf.specs.Reading.{IsFileHeader, IsAfterLastZero, StandsFor};
+ghost use Rattle.dw_elf.specs.Elf.{name_table, IsHeader, string_at, HasText};
+ghost use Rattle.dw_elf.specs.Checks.{HasSectionTable, Passes};
+ghost use Rattle.dw_elf.specs.Reading.{IsAfterLastZero, StandsFor};
 
 use crate::SECTION_LIMIT;
 use crate::fault::ElfRule;
-use crate::header::{FileHeader, is_elf64, u32_at, u64_at};
-use crate::sections::{DebugSection, Found, is_zdebug, section_named};
+use crate::header::{is_elf64, is_linked, u16_at, u32_at, u64_at};
+use crate::sections::{Found, is_zdebug, section_named};
 use memchr::{memchr, memrchr};
-
-/// The most bytes of a name that are read. The longest name that is looked for has one byte fewer, so
-/// a name of this many bytes or more is none of them.
-const FRONT_SIZE: usize = 19;
-
-/// The name table. A name is read in bounded time, since headers may share one name of any length.
-#[derive(Clone, Copy)]
-pub(crate) struct NameTable<'a> {
-    /// The bytes of the table.
-    pub bytes: &'a [u8],
-    /// The count of bytes up to the last zero byte, with it, or 0.
-    pub end: usize,
-    ghost after_last_zero: { IsAfterLastZero bytes.now end },
-}
-
-impl<'a> NameTable<'a> {
-    /// The table of these bytes.
-    #[tactic(auto, using(crate::proofs::NameLemmas::no_zero, crate::proofs::NameLemmas::last_zero))]
-    pub(crate) fn new(bytes: &'a [u8]) -> NameTable<'a>
-        ensures { result.bytes ≡ bytes.entry }
-    {
-        match memrchr(0, bytes) {
-            Some(last) => NameTable {
-                bytes,
-                end: last + 1,
-            },
-            None => NameTable { bytes, end: 0 },
-        }
-    }
-
-    /// A prefix of the name at an offset, if a zero byte ends the name in the table.
-    pub(crate) fn front_at(&self, offset: u32) -> Option<&'a [u8]>
-        ensures front { IfSome result (λ front. StandsFor front.now (string_at self.now.bytes.now offset)) }
-        ensures ended { OnSome result (HasText self.now.bytes.now offset) }
-        ensures none { IfNone result (¬ HasText self.now.bytes.now offset) }
-    {
-        let offset = offset as usize;
-        if offset >= self.end {
-            return None;
-        }
-        let rest = &self.bytes[offset..];
-        let front = &rest[..rest.len().min(FRONT_SIZE)];
-        match memchr(0, front) {
-            Some(len) => Some(&front[..len]),
-            None => Some(front),
-        }
-    }
-}
 
 /// The bytes of a section header.
 const SECTION_HEADER_SIZE: u16 = 64;
@@ -121,6 +71,21 @@ fn range(file: &[u8], offset: u64, size: u64) -> Option<&[u8]>
     Some(&file[offset as usize..end as usize])
 }
 
+/// The count of bytes of a name table up to its last zero byte, with it, or 0.
+#[tactic(auto, using(crate::proofs::NameLemmas::no_zero, crate::proofs::NameLemmas::last_zero))]
+fn end_of_names(names: &[u8]) -> usize
+    ensures { IsAfterLastZero names.now result }
+{
+    match memrchr(0, names) {
+        Some(last) => last + 1,
+        None => 0,
+    }
+}
+
+/// The most bytes of a name that are read. The longest name that is looked for has one byte fewer, so
+/// a name of this many bytes or more is none of them.
+const FRONT_SIZE: usize = 19;
+
 /// A file that passes the checks of the file.
 #[derive(Clone, Copy)]
 pub(crate) struct SectionTable<'a> {
@@ -130,18 +95,21 @@ pub(crate) struct SectionTable<'a> {
     pub start: u64,
     /// The count of section headers, number 0 included.
     pub count: u16,
-    /// The name table.
-    pub names: NameTable<'a>,
+    /// The bytes of the name table.
+    pub names: &'a [u8],
+    /// The count of bytes of the name table up to its last zero byte, with it, or 0.
+    pub names_end: usize,
     ghost start_of_file: { start ≡ table_offset file.now },
     ghost count_of_file: { count ≡ section_count file.now },
-    ghost names_of_file: { names.bytes.now ≡ name_table file.now },
+    ghost names_of_file: { names.now ≡ name_table file.now },
+    ghost after_last_zero: { IsAfterLastZero names.now names_end },
     ghost in_file: { start + SECTION_HEADER_SIZE * count ≤ length file.now },
     ghost some: { 0 < count },
 }
 
 impl<'a> SectionTable<'a> {
     ghost use Rattle.dw_elf.specs.Rules.{FailsAt};
-    ghost use Rattle.dw_elf.specs.Reading.{IsHeaderAt, slot, SlotsUpTo};
+    ghost use Rattle.dw_elf.specs.Reading.{SlotsUpTo};
 
     /// Makes the checks of the file.
     pub(crate) fn of(file: &'a [u8]) -> Result<SectionTable<'a>, ElfRule>
@@ -152,64 +120,57 @@ impl<'a> SectionTable<'a> {
         if !is_elf64(file) {
             return Err(ElfRule::NotElf64);
         }
-        let header = FileHeader::read(file);
-        if !header.is_linked(file) {
+        if !is_linked(file) {
             return Err(ElfRule::NotLinked);
         }
-        let Some(table) = table_of(file, &header) else {
+        let Some(table) = table_of(file) else {
             return Err(ElfRule::SectionTable);
         };
         Ok(table)
     }
 
-    /// Makes the checks of header `k`, where `found` is what lower headers name. Returns the section
-    /// that this header names, if it is one of the six.
-    pub(crate) fn check(
-        &self,
-        k: u16,
-        found: &Found<'a>,
-    ) -> Result<Option<(DebugSection, &'a [u8])>, ElfRule>
+    /// A prefix of the name at an offset in the name table, if a zero byte ends the name there. A name is read in
+    /// bounded time, since headers may share one name of any length.
+    pub(crate) fn front_at(&self, offset: u32) -> Option<&'a [u8]>
+        ensures front { IfSome result (λ front. StandsFor front.now (string_at self.now.names.now offset)) }
+        ensures ended { OnSome result (HasText self.now.names.now offset) }
+        ensures none { IfNone result (¬ HasText self.now.names.now offset) }
+    {
+        let offset = offset as usize;
+        if offset >= self.names_end {
+            return None;
+        }
+        let rest = &self.names[offset..];
+        let front = &rest[..rest.len().min(FRONT_SIZE)];
+        match memchr(0, front) {
+            Some(len) => Some(&front[..len]),
+            None => Some(front),
+        }
+    }
+
+    /// Makes the checks of header `k`, where `found` is what lower headers name. Returns what is found with the
+    /// section that this header names, if it is one of the six.
+    #[tactic(auto, unfolding(crate::specs::Elf::section_bytes))]
+    pub(crate) fn check(&self, k: u16, found: Found<'a>) -> Result<Found<'a>, ElfRule>
         requires header { IsHeader self.now.file.now k }
-        requires so_far { SlotsUpTo self.now.file.now k found.now }
+        requires so_far { SlotsUpTo self.now.file.now k found }
         ensures passes { OnOk result (Passes self.now.file.now k) }
-        ensures named { IfOk result (λ o. IfSome o (λ x. section_name self.now.file.now k ≡ name_of x.0)) }
-        ensures first { IfOk result (λ o. IfSome o (λ x. slot found.now x.0 ≡ None)) }
-        ensures bytes { IfOk result (λ o. IfSome o (λ x. x.1.now ≡ section_bytes self.now.file.now k)) }
-        ensures small { IfOk result (λ o. IfSome o (λ x. length x.1.now ≤ section_limit)) }
-        ensures other { IfOk result (λ o. IfNone o (¬ IsWanted (section_name self.now.file.now k))) }
+        ensures found { IfOk result (λ found. SlotsUpTo self.now.file.now (k + 1) found) }
         ensures fails { IfErr result (λ rule. FailsAt self.now.file.now k rule k) }
     {
         let header = SectionHeader::read(self.file, self.start, k);
-        let Some(front) = self.names.front_at(header.name_offset) else {
+        let Some(front) = self.front_at(header.name_offset) else {
             return Err(ElfRule::SectionName);
         };
         if is_zdebug(front) {
             return Err(ElfRule::Compressed);
         }
         let Some(section) = section_named(front) else {
-            return Ok(None);
+            return Ok(found);
         };
         if found.get(section).is_some() {
             return Err(ElfRule::SectionTwice);
         }
-        let bytes = self.bytes_of(k, &header)?;
-        Ok(Some((section, bytes)))
-    }
-
-    /// The bytes of one of the six sections, whose name no lower header has.
-    #[tactic(auto, unfolding(crate::specs::Elf::section_bytes))]
-    fn bytes_of(&self, k: u16, header: &SectionHeader) -> Result<&'a [u8], ElfRule>
-        requires header { IsHeader self.now.file.now k }
-        requires fields { IsHeaderAt self.now.file.now k header.now }
-        requires named { IsNamed self.now.file.now k }
-        requires plain { ¬ IsZdebug (section_name self.now.file.now k) }
-        requires wanted { IsWanted (section_name self.now.file.now k) }
-        requires once { ¬ IsNamedBefore self.now.file.now k }
-        ensures passes { OnOk result (Passes self.now.file.now k) }
-        ensures bytes { IfOk result (λ bytes. bytes.now ≡ section_bytes self.now.file.now k) }
-        ensures small { IfOk result (λ bytes. length bytes.now ≤ section_limit) }
-        ensures fails { IfErr result (λ rule. FailsAt self.now.file.now k rule k) }
-    {
         if header.kind == SHT_NOBITS {
             return Err(ElfRule::NoBits);
         }
@@ -222,38 +183,40 @@ impl<'a> SectionTable<'a> {
         if bytes.len() > SECTION_LIMIT {
             return Err(ElfRule::TooLarge);
         }
-        Ok(bytes)
+        Ok(found.put(section, bytes))
     }
 }
 
-/// The table of section headers that a file header describes, if it is valid.
+/// The table of section headers that the file header describes, if it is valid.
 #[tactic(auto, unfolding(crate::specs::Elf::section_bytes))]
-fn table_of<'a>(file: &'a [u8], header: &FileHeader) -> Option<SectionTable<'a>>
+fn table_of(file: &[u8]) -> Option<SectionTable<'_>>
     requires long { FILE_HEADER_SIZE ≤ length file.now }
-    requires fields { IsFileHeader file.now header.now }
     ensures file { IfSome result (λ table. table.file ≡ file.entry) }
     ensures there { OnSome result (HasSectionTable file.now) }
     ensures none { IfNone result (¬ HasSectionTable file.now) }
 {
-    let start = header.table_offset;
-    let count = header.section_count;
-    let index = header.names_index;
-    if header.header_size != SECTION_HEADER_SIZE || index == 0 || index >= count {
+    // The fields e_shoff, e_shentsize, e_shnum and e_shstrndx.
+    let start = u64_at(file, 40);
+    let header_size = u16_at(file, 58);
+    let count = u16_at(file, 60);
+    let names_index = u16_at(file, 62);
+    if header_size != SECTION_HEADER_SIZE || names_index == 0 || names_index >= count {
         return None;
     }
     let size = u64::from(SECTION_HEADER_SIZE) * u64::from(count);
     if range(file, start, size).is_none() {
         return None;
     }
-    let named = SectionHeader::read(file, start, index);
-    if named.kind == SHT_NOBITS {
+    let header = SectionHeader::read(file, start, names_index);
+    if header.kind == SHT_NOBITS {
         return None;
     }
-    let names = NameTable::new(range(file, named.offset, named.size)?);
+    let names = range(file, header.offset, header.size)?;
     Some(SectionTable {
         file,
         start,
         count,
         names,
+        names_end: end_of_names(names),
     })
 }
