@@ -1,4 +1,3 @@
 pub mod NameLemmas
 pub mod PlaceLemmas
 pub mod SlotLemmas
-pub mod FaultLemmas

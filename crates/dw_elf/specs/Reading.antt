@@ -1,9 +1,8 @@
 -- State: what is known while the headers are read: the fields of a section header, and the sections that the headers so
 -- far name.
-use Rattle.std.specs.Prelude.{◌≡◌, ◌≢◌, ℕ, ◌-◌, ◌<◌, ◌≤◌, ◌↔◌, List, length, slice_index, Option, Some, None}
-use Rattle.std.specs.Option.{option_copied}
+use Rattle.std.specs.Prelude.{◌≡◌, ◌≢◌, ℕ, ◌-◌, ◌<◌, ◌≤◌, ◌↔◌, List, length, slice_index, get_or, Option, Some, None}
+use Rattle.std.specs.Borrow.{Bor}
 use Rattle.dw_elf.specs.declared.section_table.SectionHeader.{SectionHeader}
-use Rattle.dw_elf.specs.declared.sections.Found.{Found}
 use Rattle.dw_elf.specs.declared.sections.DebugSection.{DebugSection}
 use Rattle.dw_elf.specs.declared.sections.DebugSection.TheVariants.{Abbrev, Info, Str, LineStr, StrOffsets, Addr}
 use Rattle.dw_elf.specs.Limits.{section_limit}
@@ -30,24 +29,28 @@ pub record StandsFor (part name : List ℕ) : Type 0 where
   pub zdebug : IsZdebug part ↔ IsZdebug name
   pub named : (s : DebugSection) → (part ≡ name_of s) ↔ (name ≡ name_of s)
 
--- the bytes that were found for a section
-abbrev pub slot : Found → DebugSection → Option (List ℕ)
-slot f Abbrev = option_copied f.abbrev
-slot f Info = option_copied f.info
-slot f Str = option_copied f.str
-slot f LineStr = option_copied f.line_str
-slot f StrOffsets = option_copied f.str_offsets
-slot f Addr = option_copied f.addr
+-- the index of a section in what was found
+abbrev pub index_of : DebugSection → ℕ
+index_of Abbrev = 0
+index_of Info = 1
+index_of Str = 2
+index_of LineStr = 3
+index_of StrOffsets = 4
+index_of Addr = 5
+
+-- what was found for a section
+abbrev pub slot : List (Option (Bor (List ℕ))) → DebugSection → Option (Bor (List ℕ))
+slot found s = get_or found (index_of s) None
 
 -- of the headers from 1 on and below k, none has this name, or one alone has it, and these are its bytes,
 -- within the limit
-abbrev pub IsSlot : List ℕ → ℕ → List ℕ → Option (List ℕ) → Type 0
+abbrev pub IsSlot : List ℕ → ℕ → List ℕ → Option (Bor (List ℕ)) → Type 0
 IsSlot file k name None = (j : ℕ) → 0 < j → j < k → section_name file j ≢ name
 IsSlot file k name (Some bytes) =
     (j : ℕ) × ((0 < j) × (j < k)) × (section_name file j ≡ name)
     × ((i : ℕ) → 0 < i → i < k → section_name file i ≡ name → i ≡ j)
-    × (bytes ≡ section_bytes file j) × (length bytes ≤ section_limit)
+    × (bytes.now ≡ section_bytes file j) × (length bytes.now ≤ section_limit)
 
 -- what was found is what the headers from 1 on and below k name
-abbrev pub SlotsUpTo : List ℕ → ℕ → Found → Type 0
+abbrev pub SlotsUpTo : List ℕ → ℕ → List (Option (Bor (List ℕ))) → Type 0
 SlotsUpTo file k found = (s : DebugSection) → IsSlot file k (name_of s) (slot found s)

@@ -1,18 +1,26 @@
 //! The search for the six sections: the checks of the file, then of each header in order, then of all; and where one of
 //! them starts.
 
-ghost use Rattle.std.specs.Prelude.{◌≡◌, ℕ, List, ◌+◌, IfOk, IfErr, OnOk};
+ghost use Rattle.std.specs.Prelude.{◌≡◌, ℕ, List, [], unwrap_or, IfOk, IfErr, OnOk};
+ghost use Rattle.std.specs.Option.{option_copied};
 ghost use Rattle.dw_elf.specs.declared.fault.ElfFault.{ElfFault as AnyFault};
 ghost use Rattle.dw_elf.specs.Elf.{section_count};
 ghost use Rattle.dw_elf.specs.Checks.{ChecksPass};
 ghost use Rattle.dw_elf.specs.Rules.{IsFault};
 ghost use Rattle.dw_elf.specs.Sections.{AreSections, IsAt, IsSection};
-ghost use Rattle.dw_elf.specs.Reading.{SlotsUpTo};
+ghost use Rattle.dw_elf.specs.Reading.{slot, SlotsUpTo};
 ghost use Rattle.dw_elf.specs.Names.{name_of};
 
 use crate::fault::{ElfFault, ElfRule};
 use crate::section_table::{SectionHeader, SectionTable};
 use crate::sections::{DebugSection, Found, Sections, section_named};
+
+/// The bytes that were found for a section, or no bytes if no header names it.
+fn bytes_of<'a>(found: &Found<'a>, section: DebugSection) -> &'a [u8]
+    ensures { result.now ≡ unwrap_or (option_copied (slot found.now section)) [] }
+{
+    found[section.index()].unwrap_or(&[])
+}
 
 /// The sections, once all headers are taken in.
 fn sections_of<'a>(file: &[u8], found: &Found<'a>) -> Sections<'a>
@@ -20,17 +28,18 @@ fn sections_of<'a>(file: &[u8], found: &Found<'a>) -> Sections<'a>
     ensures { AreSections file.now result }
 {
     Sections {
-        abbrev: found.bytes(DebugSection::Abbrev),
-        info: found.bytes(DebugSection::Info),
-        str: found.bytes(DebugSection::Str),
-        line_str: found.bytes(DebugSection::LineStr),
-        str_offsets: found.bytes(DebugSection::StrOffsets),
-        addr: found.bytes(DebugSection::Addr),
+        abbrev: bytes_of(found, DebugSection::Abbrev),
+        info: bytes_of(found, DebugSection::Info),
+        str: bytes_of(found, DebugSection::Str),
+        line_str: bytes_of(found, DebugSection::LineStr),
+        str_offsets: bytes_of(found, DebugSection::StrOffsets),
+        addr: bytes_of(found, DebugSection::Addr),
     }
 }
 
 /// Finds the six sections of a linked ELF-64 little-endian file. The slices are lent from the file,
 /// and no memory is taken.
+#[tactic(auto, using(crate::proofs::SlotLemmas::passes_below))]
 pub fn find<'a>(file: &'a [u8]) -> Result<Sections<'a>, ElfFault>
     ensures passes { OnOk result (ChecksPass file.now) }
     ensures sections { IfOk result (λ sections. AreSections file.now sections) }
@@ -40,14 +49,13 @@ pub fn find<'a>(file: &'a [u8]) -> Result<Sections<'a>, ElfFault>
         Ok(table) => table,
         Err(rule) => return Err(ElfFault { rule, section: 0 }),
     };
-    let mut found = Found::new();
+    let mut found = [None; 6];
     for k in 1..table.count {
-        found = match table.check(k, found) {
-            Ok(found) => found,
-            Err(rule) => return Err(ElfFault { rule, section: k }),
-        };
+        if let Err(rule) = table.check(k, &mut found) {
+            return Err(ElfFault { rule, section: k });
+        }
     }
-    if found.info.is_none() {
+    if found[DebugSection::Info.index()].is_none() {
         return Err(ElfFault {
             rule: ElfRule::NoInfo,
             section: 0,
@@ -78,6 +86,7 @@ pub fn section_start(file: &[u8], section: DebugSection) -> usize
 }
 
 /// A file has one fault at most, and none if no check fails: so `find` has one possible result.
+#[tactic(auto, using(std::proofs::lemmas::Bool::cases_order))]
 pub fn one_fault()
     ensures one { (file : List ℕ) (e f : AnyFault) → IsFault file e → IsFault file f → e ≡ f }
     ensures none { (file : List ℕ) (e : AnyFault) → IsFault file e → ¬ ChecksPass file }

@@ -148,14 +148,14 @@ impl<'a> SectionTable<'a> {
         }
     }
 
-    /// Makes the checks of header `k`, where `found` is what lower headers name. Returns what is found with the
-    /// section that this header names, if it is one of the six.
+    /// Makes the checks of header `k`, where `found` is what lower headers name, and adds the section that this header
+    /// names, if it is one of the six.
     #[tactic(auto, unfolding(crate::specs::Elf::section_bytes))]
-    pub(crate) fn check(&self, k: u16, found: Found<'a>) -> Result<Found<'a>, ElfRule>
+    pub(crate) fn check(&self, k: u16, found: &mut Found<'a>) -> Result<(), ElfRule>
         requires header { IsHeader self.now.file.now k }
-        requires so_far { SlotsUpTo self.now.file.now k found }
+        requires so_far { SlotsUpTo self.now.file.now k found.old }
         ensures passes { OnOk result (Passes self.now.file.now k) }
-        ensures found { IfOk result (λ found. SlotsUpTo self.now.file.now (k + 1) found) }
+        ensures found { OnOk result (SlotsUpTo self.now.file.now (k + 1) found.new) }
         ensures fails { IfErr result (λ rule. FailsAt self.now.file.now k rule k) }
     {
         let header = SectionHeader::read(self.file, self.start, k);
@@ -166,9 +166,9 @@ impl<'a> SectionTable<'a> {
             return Err(ElfRule::Compressed);
         }
         let Some(section) = section_named(front) else {
-            return Ok(found);
+            return Ok(());
         };
-        if found.get(section).is_some() {
+        if found[section.index()].is_some() {
             return Err(ElfRule::SectionTwice);
         }
         if header.kind == SHT_NOBITS {
@@ -183,7 +183,8 @@ impl<'a> SectionTable<'a> {
         if bytes.len() > SECTION_LIMIT {
             return Err(ElfRule::TooLarge);
         }
-        Ok(found.put(section, bytes))
+        found[section.index()] = Some(bytes);
+        Ok(())
     }
 }
 

@@ -26,6 +26,18 @@ pub enum DebugSection {
     Addr,
 }
 
+impl DebugSection {
+    ghost use Rattle.dw_elf.specs.Reading.{index_of};
+
+    /// The index of the section in `Found`.
+    pub(crate) fn index(self) -> usize
+        ensures index { result ≡ index_of self }
+        ensures below { result < 6 }
+    {
+        self as usize
+    }
+}
+
 /// The bytes of the six sections that are checked, each within `SECTION_LIMIT`. A section that a file
 /// does not have is empty.
 #[derive(Clone, Copy, Debug)]
@@ -124,70 +136,5 @@ pub(crate) fn section_named(name: &[u8]) -> Option<DebugSection>
     None
 }
 
-/// The bytes of each of the six sections that a header named so far.
-#[derive(Clone, Copy)]
-pub(crate) struct Found<'a> {
-    pub abbrev: Option<&'a [u8]>,
-    pub info: Option<&'a [u8]>,
-    pub str: Option<&'a [u8]>,
-    pub line_str: Option<&'a [u8]>,
-    pub str_offsets: Option<&'a [u8]>,
-    pub addr: Option<&'a [u8]>,
-}
-
-impl<'a> Found<'a> {
-    ghost use Rattle.dw_elf.specs.Reading.{slot};
-    ghost use Rattle.dw_elf.specs.declared.sections.DebugSection.{DebugSection as AnySection};
-
-    /// Nothing is found yet.
-    pub(crate) fn new() -> Found<'a>
-        ensures { (s : AnySection) → slot result s ≡ None }
-    {
-        Found {
-            abbrev: None,
-            info: None,
-            str: None,
-            line_str: None,
-            str_offsets: None,
-            addr: None,
-        }
-    }
-
-    /// The bytes that were found for a section.
-    pub(crate) fn get(&self, section: DebugSection) -> Option<&'a [u8]>
-        ensures { option_copied result ≡ slot self.now section }
-    {
-        match section {
-            DebugSection::Abbrev => self.abbrev,
-            DebugSection::Info => self.info,
-            DebugSection::Str => self.str,
-            DebugSection::LineStr => self.line_str,
-            DebugSection::StrOffsets => self.str_offsets,
-            DebugSection::Addr => self.addr,
-        }
-    }
-
-    /// The bytes of a section, or no bytes if no header names it.
-    pub(crate) fn bytes(&self, section: DebugSection) -> &'a [u8]
-        ensures { result.now ≡ unwrap_or (slot self.now section) [] }
-    {
-        self.get(section).unwrap_or(&[])
-    }
-
-    /// The same with the bytes of one more section.
-    pub(crate) fn put(self, section: DebugSection, bytes: &'a [u8]) -> Found<'a>
-        ensures at { slot result section ≡ Some bytes.now }
-        ensures others { (s : AnySection) → s ≢ section → slot result s ≡ slot self.entry s }
-    {
-        let mut found = self;
-        match section {
-            DebugSection::Abbrev => found.abbrev = Some(bytes),
-            DebugSection::Info => found.info = Some(bytes),
-            DebugSection::Str => found.str = Some(bytes),
-            DebugSection::LineStr => found.line_str = Some(bytes),
-            DebugSection::StrOffsets => found.str_offsets = Some(bytes),
-            DebugSection::Addr => found.addr = Some(bytes),
-        }
-        found
-    }
-}
+/// The bytes of each of the six sections that a header named so far, by `DebugSection::index`.
+pub(crate) type Found<'a> = [Option<&'a [u8]>; 6];
