@@ -1,12 +1,12 @@
 -- What is kept of the entries that are declared and not defined.
-use Rattle.std.proofs.Common.{rules, ◌<◌, get_or, ◌≡◌, ℕ, zero, suc, Bool, List, [], ◌∷◌, Option, None, Some, refl, ap, length, set, replicate, inl, inr, ◌⊎◌}
+use Rattle.std.proofs.Common.{rules, ◌<◌, get_or, ◌≡◌, ℕ, zero, suc, Bool, List, [], ◌∷◌, Option, None, Some, refl, ap, length, set, replicate, inl, inr, ◌⊎◌, ◌++◌, ◌∙◌, sym, take, drop}
 use Rattle.std.specs.Prelude.{slice_get, IfSome}
+use Rattle.std.proofs.Math.Seq.{take-append_seam}
 use Rattle.std.proofs.lemmas.List.{length-set, length-replicate}
-use Rattle.std.proofs.lemmas.Option.{slice_get_read}
+use Rattle.std.proofs.lemmas.Option.{slice_get-get_or}
 use Rattle.dw_entries.specs.declared.entries.Entries.{Entries}
 use Rattle.dw_entries.specs.Scanned.{all_entries}
 use Rattle.dw_links.proofs.Skips.{there}
-use Rattle.dw_links.specs.declared.targets.DeclaredEntries.{DeclaredEntries}
 use Rattle.dw_links.specs.References.{is_declared}
 use Rattle.dw_links.specs.DeclaredEntries.{KeepsDeclared}
 
@@ -19,14 +19,14 @@ set_get (z ∷ xs) (suc i) zero x y is = inr is
 set_get (z ∷ xs) (suc i) (suc j) x y is = elim (set_get xs i j x y is) [ inl here ↦ inl (ap suc here.0, here.1) | inr there ↦ inr there ]
 
 -- one entry more is known
-pub one_more_known : (entries : Entries) (kept new : DeclaredEntries) (id number : ℕ) (declared : Bool) → KeepsDeclared entries kept → id < length (all_entries entries.scanned) → number ≡ id
-    → IfSome (slice_get (all_entries entries.scanned) id) (λ e. declared ≡ is_declared e) → new.known.items ≡ set kept.known.items number (Some declared) → KeepsDeclared entries new
+pub one_more_known : (entries : Entries) (kept new : List (Option Bool)) (id number : ℕ) (declared : Bool) → KeepsDeclared entries kept → id < length (all_entries entries.scanned) → number ≡ id
+    → IfSome (slice_get (all_entries entries.scanned) id) (λ e. declared ≡ is_declared e) → new ≡ set kept number (Some declared) → KeepsDeclared entries new
 one_more_known entries kept new id number declared keeps below is read same = search (rules, length-set, set_get, there)
 
 -- what is known of an entry is true of it
-pub known_right : (entries : Entries) (kept : DeclaredEntries) (id number : ℕ) (declared : Bool) (o : Option Bool) → KeepsDeclared entries kept → id < length (all_entries entries.scanned) → number ≡ id
-    → o ≡ get_or kept.known.items number o → o ≡ Some declared → IfSome (slice_get (all_entries entries.scanned) id) (λ e. declared ≡ is_declared e)
-known_right entries kept id number declared o keeps below is read some = search (rules, there, slice_get_read)
+pub known_right : (entries : Entries) (kept : List (Option Bool)) (id number : ℕ) (declared : Bool) → KeepsDeclared entries kept → id < length (all_entries entries.scanned) → number ≡ id
+    → get_or kept number None ≡ Some declared → IfSome (slice_get (all_entries entries.scanned) id) (λ e. declared ≡ is_declared e)
+known_right entries kept id number declared keeps below is read = search (rules, there, slice_get-get_or)
 
 -- none is known of any entry
 none_known : (n j : ℕ) (known : Bool) → slice_get (replicate n None) j ≡ Some (Some known) → ⊥
@@ -34,8 +34,14 @@ none_known zero j known is = absurd cc
 none_known (suc n) zero known is = absurd cc
 none_known (suc n) (suc j) known is = none_known n j known is
 
-pub keeps_none : (entries : Entries) (kept : DeclaredEntries) (n : ℕ) → n ≡ length (all_entries entries.scanned) → kept.known.items ≡ replicate n None → KeepsDeclared entries kept
+pub keeps_none : (entries : Entries) (kept : List (Option Bool)) (n : ℕ) → n ≡ length (all_entries entries.scanned) → kept ≡ replicate n None → KeepsDeclared entries kept
 keeps_none entries kept n all same = search (rules, length-replicate, none_known)
+
+-- the list after its slice has changed
+pub keeps_whole : (entries : Entries) (old new : List (Option Bool)) (len : ℕ) → len ≡ length old → KeepsDeclared entries old → KeepsDeclared entries new → KeepsDeclared entries (take len (new ++ drop (length new) old))
+keeps_whole entries old new len is kept keeps =
+    let all : len ≡ length new = is ∙ kept.all ∙ sym keeps.all in
+    rw (all, take-append_seam new (drop (length new) old)) keeps
 
 -- a fact that holds of no Some holds of None alone
 pub only_none : (P : Option Bool → Type 0) → ((known : Bool) → P (Some known) → ⊥) → (o : Option Bool) → P o → o ≡ None

@@ -11,4 +11,5 @@ pub mod LinkedEntries
 pub mod RuleSteps
 pub mod LinkSteps
 pub mod Transfers
+pub mod RuleGroups
 pub mod DeclaredLemmas

@@ -1,6 +1,6 @@
 -- The values of an entry that may lead elsewhere, one after the other: at which no rule fails, and the entry that the
 -- entry's type reaches.
-use Rattle.std.proofs.Common.{rules, ◌≡◌, ℕ, suc, Bool, true, false, List, [], ◌∷◌, ◌++◌, Option, Some, None, refl, sym, ap, ◌∙◌, append_assoc}
+use Rattle.std.proofs.Common.{rules, ◌≡◌, ℕ, suc, Bool, true, false, List, [], ◌∷◌, ◌++◌, Option, Some, None, refl, sym, ap, ◌∙◌, append_assoc, inl, inr}
 use Rattle.std.specs.Prelude.{◌==◌, option_map}
 use Rattle.std.specs.Option.{unwrap_or, option_and_then}
 use Rattle.dw_forms.specs.Codes.{DW_AT_type}
@@ -9,11 +9,10 @@ use Rattle.dw_entries.specs.Asked.{values_of}
 use Rattle.dw_entries.specs.Chosen.{ArePassed, IsNextOf}
 use Rattle.dw_entries.specs.Entries.{Entry}
 use Rattle.dw_entries.specs.declared.entries.Entries.{Entries}
+use Rattle.dw_entries.specs.declared.fault.Broken.{Broken}
 use Rattle.dw_entries.specs.declared.lookup.EntryHead.{EntryHead}
 use Rattle.dw_entries.specs.Leading.{DoesNotLead}
 use Rattle.dw_entries.specs.Lookups.{entry_head, value_in}
-use Rattle.dw_links.specs.declared.linking.Failed.{Failed}
-use Rattle.dw_links.specs.declared.linking.Failed.TheVariants.{String, Reference}
 use Rattle.dw_links.specs.Linking.{kept_after, LinksNext, HasFailedNext, IsLinked, HasFailed}
 use Rattle.dw_links.specs.Linkable.{FailsByText, FailsByTarget, target_by}
 use Rattle.dw_links.specs.Targets.{target_of}
@@ -101,6 +100,6 @@ module _ (entries : Entries) (e : Entry) (left : List (ℕ × Datum)) where
     }
 
     -- where a rule fails, that is the first failure of its group
-    pub fails_so_far : (failed : Failed) → HasFailedNext entries head left failed → HasFailed entries e failed
-    fails_so_far (String broken) n = checked_fails (FailsByText entries) DoesNotLead (passes_texts entries) e left n.behind n.attribute n.value s.strings n.next head same n.rule broken n.least n.named
-    fails_so_far (Reference broken) n = checked_fails (FailsByTarget entries) DoesNotLead (passes_targets entries) e left n.behind n.attribute n.value s.references n.next head same n.rule broken n.least n.named
+    pub fails_so_far : (broken : Broken) → HasFailedNext entries head left broken → HasFailed entries e broken
+    fails_so_far broken (inl n) = inl (checked_fails (FailsByText entries) DoesNotLead (passes_texts entries) e left n.behind n.attribute n.value s.strings n.next head same n.rule broken n.least n.named)
+    fails_so_far broken (inr n) = inr (checked_fails (FailsByTarget entries) DoesNotLead (passes_targets entries) e left n.behind n.attribute n.value s.references n.next head same n.rule broken n.least n.named)

@@ -19,11 +19,8 @@ use Rattle.dw_entries.specs.Lookups.{entry_head, value_in, value_at_entry}
 use Rattle.dw_entries.proofs.EntryFacts.{first_entry}
 use Rattle.dw_entries.proofs.Firsts.{same_some}
 use Rattle.dw_links.specs.Contributions.{IsContribution, slot_count, slot_at}
-use Rattle.dw_links.specs.Bases.{section_offset_in, base_in, bases_in}
+use Rattle.dw_links.specs.Bases.{section_offset_in, base_in}
 use Rattle.dw_links.specs.Strings.{IsStringContribution, IsAddressContribution, BaseFails, StringIndexFails, AddressIndexFails, StringFailsIn, StringFailures}
-use Rattle.dw_links.specs.declared.contribution.UnitBases.{UnitBases}
-use Rattle.dw_links.specs.ValueTexts.{text_of, address_of}
-use Rattle.dw_links.specs.AttributeTexts.{text_at, address_at}
 use Rattle.dw_links.specs.Slots.{IsTextSlot, TextLies, IsAddressSlot, AddressLies}
 
 -- ---- the attribute that a value is found at
@@ -147,24 +144,3 @@ address_lies sections us id e p attribute (addr_index index) none is is_unit siz
     (λ fails. passes_string sections us id e p attribute (addr_index index) none is is_unit value AddrIndex (subst (λ (o : Option ℕ). AddressIndexFails sections p.unit.header o index AddrIndex) (sym said) fails))
     (λ broken. sound sections us e.unit p DW_AT_addr_base base BadAddrBase none is_unit said (inr (refl, refl, broken))))
 address_lies sections us id e p attribute _ none is is_unit size value = tt
-
--- ---- what is told of a value is told of the attribute
-
-pub text_told : (sections : Sections) (entries : List Entry) (units : List PlacedUnit) (e : Entry) (p : PlacedUnit) (attribute : ℕ) (v : Datum) (bases : UnitBases) (answer : Option (List ℕ)) → bases ≡ bases_in entries p
-    → slice_get units e.unit ≡ Some p → Some v ≡ value_at_entry e attribute → answer ≡ text_of sections bases.strings v → answer ≡ text_at sections entries units e attribute
-unfolding text_at
-text_told sections entries units e p attribute v bases answer of_unit is_unit value is = search (rules)
-
-pub address_told : (given sections : Sections) (entries : List Entry) (units : List PlacedUnit) (e : Entry) (p : PlacedUnit) (attribute : ℕ) (v : Datum) (header : UnitHeader) (bases : UnitBases) (answer : Option ℕ) → given ≡ sections → header ≡ p.unit.header
-    → bases ≡ bases_in entries p → slice_get units e.unit ≡ Some p → Some v ≡ value_at_entry e attribute → answer ≡ address_of given header bases.addresses v → answer ≡ address_at sections entries units e attribute
-unfolding address_at
-address_told given sections entries units e p attribute v header bases answer same of_header of_unit is_unit value is =
-    search (rules)
-
-pub no_text : (sections : Sections) (entries : List Entry) (units : List PlacedUnit) (e : Entry) (p : PlacedUnit) (attribute : ℕ) → slice_get units e.unit ≡ Some p → None ≡ value_at_entry e attribute → None ≡ text_at sections entries units e attribute
-unfolding text_at
-no_text sections entries units e p attribute is_unit value = rw (is_unit, ← value) refl
-
-pub no_address : (sections : Sections) (entries : List Entry) (units : List PlacedUnit) (e : Entry) (p : PlacedUnit) (attribute : ℕ) → slice_get units e.unit ≡ Some p → None ≡ value_at_entry e attribute → None ≡ address_at sections entries units e attribute
-unfolding address_at
-no_address sections entries units e p attribute is_unit value = rw (is_unit, ← value) refl

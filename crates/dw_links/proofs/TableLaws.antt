@@ -17,7 +17,7 @@ use Rattle.dw_entries.specs.declared.lookup.UnitHead.{UnitHead}
 use Rattle.dw_entries.specs.Header.{IsSize, version_of}
 use Rattle.dw_entries.proofs.Firsts.{same_some}
 use Rattle.dw_entries.proofs.HeadLaws.{all_get}
-use Rattle.dw_links.specs.Bases.{section_offset_in, base_in}
+use Rattle.dw_links.specs.Bases.{section_offset_in, base_in, bases_in}
 use Rattle.dw_links.specs.Tables.{type_target, AreTables}
 use Rattle.dw_links.specs.Targets.{target_of}
 use Rattle.dw_links.proofs.TargetLaws.{reached_entry}
@@ -44,6 +44,11 @@ pub kept_target : (entries : Entries) (tables : LinkTables) (id number : ℕ) (f
 kept_target entries tables id number found are below same read =
     let (e, is) = there (all_entries entries.scanned) id below in
     (e, is, mapped (type_target (all_entries entries.scanned) (all_units entries.scanned)) (all_entries entries.scanned) tables.types.items id e found are.types is (read ∙ ap (λ (n : ℕ). get_or tables.types.items n found) same))
+
+-- the base that is kept of a unit
+pub kept_base : (entries : List Entry) (units : List PlacedUnit) (attribute : ℕ) (bases : List (Option ℕ)) (number : ℕ) (p : PlacedUnit) (found : Option ℕ) → bases ≡ bases_in entries units attribute → slice_get units number ≡ Some p → found ≡ option_and_then (λ base. base) (slice_get bases number)
+    → found ≡ base_in entries p attribute
+kept_base entries units attribute bases number p found all is read = search (rules, slice_get-map)
 
 -- one item more
 pub map_one_more : {X Y : Type 0} (f : X → Y) (xs : List X) (ys : List Y) (i : ℕ) (x : X) (y : Y) → slice_get xs i ≡ Some x → ys ≡ map f (take i xs) → y ≡ f x → ys ++ y ∷ [] ≡ map f (take (i + 1) xs)

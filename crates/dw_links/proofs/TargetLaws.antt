@@ -8,7 +8,6 @@ use Rattle.std.proofs.lemmas.Iterator.Adapters.{position_from-zero}
 use Rattle.std.proofs.lemmas.List.Sums.{position_or_len_is, passes_at_first, fails_before_first}
 use Rattle.dw_forms.specs.Value.{Datum, ref_info, ref_unit, ref_sig}
 use Rattle.dw_entries.proofs.Firsts.{same_some}
-use Rattle.dw_entries.specs.Lookups.{value_at_entry}
 use Rattle.dw_entries.specs.Asked.{OffsetsRise}
 use Rattle.dw_entries.specs.Entries.{Entry, PlacedUnit}
 use Rattle.dw_entries.specs.Runs.{IsEntryAt, IsEntryIn, ReachesInUnit}
@@ -16,7 +15,7 @@ use Rattle.dw_links.proofs.Skips.{there}
 use Rattle.dw_links.specs.LinkLaws.{ReachesBySignature}
 use Rattle.dw_links.specs.Signatures.{type_in, HasSignature, is_signature_of, first_signed, AreDistinct}
 use Rattle.dw_links.specs.SignedTypes.{IsFirstSigned, IsSignedType}
-use Rattle.dw_links.specs.Targets.{entry_at, entry_in, reach_in_unit, type_of_unit, signed_type, reach_of, target_of}
+use Rattle.dw_links.specs.Targets.{entry_at, entry_in, reach_in_unit, type_of_unit, signed_type, reach_of}
 
 -- no item before a place passes the test
 abbrev pub NoneBefore : {X : Type 0} → (X → Bool) → List X → ℕ → Type 0
@@ -243,19 +242,7 @@ reached_entry entries units unit (ref_unit offset) id is = let found = at_reach_
 reached_entry entries units unit (ref_sig signature) id is = let found = at_type entries units signature id is in (found.target.entry, found.target.is_entry)
 reached_entry entries units unit _ id is = absurd cc
 
--- ---- what an attribute reaches
-
--- what was asked of an entry's value is the target
-target_of_value : (entries : List Entry) (units : List PlacedUnit) (e : Entry) (attribute : ℕ) (v : Option Datum) (answer : Option ℕ) → v ≡ value_at_entry e attribute → answer ≡ option_and_then (reach_of entries units e.unit) v
-    → answer ≡ target_of entries units e attribute
-unfolding target_of
-target_of_value entries units e attribute v answer value is = is ∙ ap (option_and_then (reach_of entries units e.unit)) value
-
-pub target_is : (entries : List Entry) (units : List PlacedUnit) (id attribute : ℕ) (v : Option Datum) (answer : Option ℕ) → IfSome (slice_get entries id) (λ e. v ≡ value_at_entry e attribute)
-    → IfSome (slice_get entries id) (λ e. answer ≡ option_and_then (reach_of entries units e.unit) v) → IfSome (slice_get entries id) (λ e. answer ≡ target_of entries units e attribute)
-target_is entries units id attribute v answer value is = search (rules, target_of_value)
-
--- and its number is below their count
+-- its number is below their count
 pub reach_within : (entries : List Entry) (units : List PlacedUnit) (unit : ℕ) (v : Datum) (answer : Option ℕ) → answer ≡ reach_of entries units unit v → IfSome answer (λ t. t < length entries)
 reach_within entries units unit v None is = tt
 reach_within entries units unit v (Some t) is = search (rules, reached_entry, slice_get_within)

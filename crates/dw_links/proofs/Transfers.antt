@@ -1,6 +1,6 @@
 -- Rules by what was read of a unit are the rules among all entries; what holds of a fault, unless memory ran out; and one
 -- entry after the other.
-use Rattle.std.proofs.Common.{rules, ◌≡◌, ℕ, ◌+◌, ◌<◌, ◌≤◌, length, Option, None, Some, ap, ◌∙◌, arith}
+use Rattle.std.proofs.Common.{rules, ◌≡◌, ℕ, ◌+◌, ◌<◌, ◌≤◌, length, Option, None, Some, ap, sym, ◌∙◌, arith, inl, inr}
 use Rattle.std.specs.Prelude.{slice_get, IfSome}
 use Rattle.dw_forms.specs.Value.{Datum}
 use Rattle.dw_entries.specs.declared.fault.Broken.{Broken}
@@ -22,8 +22,6 @@ use Rattle.dw_entries.proofs.FirstPlaces.{first_by_right}
 use Rattle.dw_entries.proofs.Firsts.{same_some, first_of_entries, none_of_entries, attributes_stand}
 use Rattle.dw_links.specs.declared.strings.UnitTexts.{UnitTexts}
 use Rattle.dw_links.specs.Concerns.{Rules, AtHead, PassesAt, FailsAt}
-use Rattle.dw_links.specs.declared.linking.Failed.{Failed}
-use Rattle.dw_links.specs.declared.linking.Failed.TheVariants.{String, Reference}
 use Rattle.dw_links.specs.Linkable.{FailsByText, FailsByTarget}
 use Rattle.dw_links.specs.Linking.{HasFailed, IsFirstOfGroup}
 use Rattle.dw_links.specs.References.{HeaderFailures, AttributeFailures}
@@ -65,11 +63,15 @@ module _ (entries : Entries) (Fails : Rules) (number id : ℕ) (same : id ≡ nu
   more_below here = search (rules)
 
   -- the first failure at this one is the first of all
-  pub first_failure : (broken : Broken) → number < length (all_entries entries.scanned) → FailsAt (slice_get (all_entries entries.scanned) id) (AtHead Fails) broken → IsFirst (AtEntries (all_entries entries.scanned) (AtHead Fails)) broken
+  pub first_here : (broken : Broken) (e : Entry) → slice_get (all_entries entries.scanned) id ≡ Some e → IsFirst (AtHead Fails e) broken → IsFirst (AtEntries (all_entries entries.scanned) (AtHead Fails)) broken
+  first_here broken e is first =
+      first_of_entries (all_entries entries.scanned) (AtHead Fails) number e broken (entries_rise _ (units_of entries.scanned) entries.scanned.1.spells.are) (attributes_stand (λ x. Fails (entry_head x))) (ap (slice_get (all_entries entries.scanned)) (sym same) ∙ is)
+      (λ j d lt at. passed j lt d at) first
+
+  pub first_failure : (broken : Broken) → id < length (all_entries entries.scanned) → FailsAt (slice_get (all_entries entries.scanned) id) (AtHead Fails) broken → IsFirst (AtEntries (all_entries entries.scanned) (AtHead Fails)) broken
   first_failure broken below first =
-      let (e, is) = there (all_entries entries.scanned) number below in
-      first_of_entries (all_entries entries.scanned) (AtHead Fails) number e broken (entries_rise _ (units_of entries.scanned) entries.scanned.1.spells.are) (attributes_stand (λ x. Fails (entry_head x))) is
-      (λ j d lt at. passed j lt d at) (first e (ap (slice_get (all_entries entries.scanned)) same ∙ is))
+      let (e, is) = there (all_entries entries.scanned) id below in
+      first_here broken e is (first e is)
 
 -- nor at any
 pub none_fails : (entries : Entries) (Fails : Rules) (number : ℕ) → length (all_entries entries.scanned) ≤ number → NoneBelow entries Fails number → HasNone (AtEntries (all_entries entries.scanned) (AtHead Fails))
@@ -82,10 +84,12 @@ head_unit None head told = tt
 head_unit (Some e) head told = ap (λ (h : EntryHead). h.unit) told
 
 -- the first failure of its group at this entry is the first of all
-pub failed_first : (entries : Entries) (number id : ℕ) → id ≡ number → (failed : Failed) → NoneBelow entries (FailsByText entries) number → NoneBelow entries (FailsByTarget entries) number
-    → HasNone (HeaderFailures (all_entries entries.scanned) (all_units entries.scanned)) → number < length (all_entries entries.scanned)
-    → ((e : Entry) → slice_get (all_entries entries.scanned) id ≡ Some e → HasFailed entries e failed) → IsFirstOfGroup (sections_of entries) (units_of entries.scanned) failed
-failed_first entries number id same (String broken) strings references headers below first = first_failure entries (FailsByText entries) number id same strings broken below first
-failed_first entries number id same (Reference broken) strings references headers below first =
-    first_by_right (HeaderFailures (all_entries entries.scanned) (all_units entries.scanned)) (AttributeFailures (all_entries entries.scanned) (all_units entries.scanned)) broken headers
-    (first_failure entries (FailsByTarget entries) number id same references broken below first)
+pub failed_first : (entries : Entries) (number id : ℕ) → id ≡ number → (broken : Broken) → NoneBelow entries (FailsByText entries) number → NoneBelow entries (FailsByTarget entries) number
+    → HasNone (HeaderFailures (all_entries entries.scanned) (all_units entries.scanned)) → (e : Entry) → slice_get (all_entries entries.scanned) id ≡ Some e → HasFailed entries e broken
+    → IsFirstOfGroup (sections_of entries) (units_of entries.scanned) broken
+failed_first entries number id same broken strings references headers e is first =
+    elim first [
+      | inl string ↦ inl (first_here entries (FailsByText entries) number id same strings broken e is string)
+      | inr reference ↦ inr (first_by_right (HeaderFailures (all_entries entries.scanned) (all_units entries.scanned)) (AttributeFailures (all_entries entries.scanned) (all_units entries.scanned)) broken headers
+          (first_here entries (FailsByTarget entries) number id same references broken e is reference))
+    ]

@@ -1,12 +1,10 @@
 -- Chapter: the offset at which a unit's contribution starts (DWARF 5, 7.26 and 7.27).
-use Rattle.std.specs.Prelude.{ℕ, ◌==◌, List, Option, None, Some, slice_get, if◌then◌else◌}
+use Rattle.std.specs.Prelude.{ℕ, ◌==◌, List, map, Option, None, Some, slice_get, if◌then◌else◌}
 use Rattle.std.specs.Option.{option_and_then}
-use Rattle.dw_forms.specs.Codes.{DW_AT_str_offsets_base, DW_AT_addr_base}
 use Rattle.dw_forms.specs.Value.{Datum, sec_offset}
 use Rattle.dw_entries.specs.Header.{version_of}
 use Rattle.dw_entries.specs.Entries.{Entry, PlacedUnit}
 use Rattle.dw_entries.specs.Lookups.{value_at_entry}
-use Rattle.dw_links.specs.declared.contribution.UnitBases.{UnitBases}
 
 -- the offset into a section that a value is, if its class is that of such offsets
 abbrev pub section_offset_in : Datum → Option ℕ
@@ -23,9 +21,6 @@ base_in entries unit attribute =
     if version_of unit.unit.header.kind == 4 then None else option_and_then
     (λ first. section_offset_of first attribute) (slice_get entries unit.first)
 
--- both bases of a unit
-abbrev pub bases_in : List Entry → PlacedUnit → UnitBases
-bases_in entries unit = record {
-  strings = base_in entries unit DW_AT_str_offsets_base;
-  addresses = base_in entries unit DW_AT_addr_base;
-}
+-- the bases of all units under an attribute
+abbrev pub bases_in : List Entry → List PlacedUnit → (attribute : ℕ) → List (Option ℕ)
+bases_in entries units attribute = map (λ unit. base_in entries unit attribute) units

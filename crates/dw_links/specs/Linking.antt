@@ -1,5 +1,5 @@
 -- State: what is found at an entry and at its values, while the links of all entries are read.
-use Rattle.std.specs.Prelude.{ℕ, ◌==◌, if◌then◌else◌, Option, None, Some, ◌≡◌, List}
+use Rattle.std.specs.Prelude.{ℕ, ◌==◌, if◌then◌else◌, Option, None, Some, ◌≡◌, ◌⊎◌, List, map}
 use Rattle.dw_elf.specs.declared.sections.Sections.{Sections}
 use Rattle.dw_forms.specs.Codes.{DW_AT_type}
 use Rattle.dw_forms.specs.Value.{Datum}
@@ -12,10 +12,9 @@ use Rattle.dw_entries.specs.Chosen.{IsNextOf}
 use Rattle.dw_entries.specs.Entries.{Entry}
 use Rattle.dw_entries.specs.Failures.{HasNone, IsFirst, IsLeast}
 use Rattle.dw_entries.specs.Leading.{DoesNotLead}
-use Rattle.dw_entries.specs.Scanned.{all_entries, all_units}
+use Rattle.dw_entries.specs.Scanned.{all_entries, all_units, units_of}
 use Rattle.dw_entries.specs.Units.{DebugUnit}
-use Rattle.dw_links.specs.declared.linking.Failed.{Failed}
-use Rattle.dw_links.specs.declared.linking.Failed.TheVariants.{String, Reference}
+use Rattle.dw_entries.specs.Views.{sections_of}
 use Rattle.dw_links.specs.Concerns.{Rules, AtHead}
 use Rattle.dw_links.specs.Linkable.{FailsByText, FailsByTarget, target_by}
 use Rattle.dw_links.specs.References.{ReferenceFailures}
@@ -47,9 +46,9 @@ pub record FailsNext (Fails : Rules) (head : EntryHead) (left : List (ℕ × Dat
   pub named : broken ≡ record { rule = rule; section = Info; at = head.offset; attribute = attribute }
 
 -- the rule is one on strings and addresses, or on references
-abbrev pub HasFailedNext : Entries → EntryHead → (left : List (ℕ × Datum)) → Failed → Type 0
-HasFailedNext entries head left (String broken) = FailsNext (FailsByText entries) head left broken
-HasFailedNext entries head left (Reference broken) = FailsNext (FailsByTarget entries) head left broken
+abbrev pub HasFailedNext : Entries → EntryHead → (left : List (ℕ × Datum)) → Broken → Type 0
+HasFailedNext entries head left broken =
+    FailsNext (FailsByText entries) head left broken ⊎ FailsNext (FailsByTarget entries) head left broken
 
 -- no rule fails at an entry, and its type has this target
 pub record IsLinked (entries : Entries) (e : Entry) (target : Option ℕ) : Type 0 where
@@ -58,11 +57,18 @@ pub record IsLinked (entries : Entries) (e : Entry) (target : Option ℕ) : Type
   pub is_target : target ≡ type_target (all_entries entries.scanned) (all_units entries.scanned) e
 
 -- a failure is the first at an entry, of the rules on strings and addresses or of those on references
-abbrev pub HasFailed : Entries → Entry → Failed → Type 0
-HasFailed entries e (String broken) = IsFirst (AtHead (FailsByText entries) e) broken
-HasFailed entries e (Reference broken) = IsFirst (AtHead (FailsByTarget entries) e) broken
+abbrev pub HasFailed : Entries → Entry → Broken → Type 0
+HasFailed entries e broken =
+    IsFirst (AtHead (FailsByText entries) e) broken ⊎ IsFirst (AtHead (FailsByTarget entries) e) broken
 
 -- a failure is the first of its group, at any entry or header
-abbrev pub IsFirstOfGroup : Sections → List DebugUnit → Failed → Type 0
-IsFirstOfGroup sections units (String broken) = IsFirst (StringFailures sections units) broken
-IsFirstOfGroup sections units (Reference broken) = IsFirst (ReferenceFailures units) broken
+abbrev pub IsFirstOfGroup : Sections → List DebugUnit → Broken → Type 0
+IsFirstOfGroup sections units broken =
+    IsFirst (StringFailures sections units) broken ⊎ IsFirst (ReferenceFailures units) broken
+
+-- no rule on strings, addresses and references fails, and these are the targets of the types of all entries
+pub record AreLinked (entries : Entries) (targets : List (Option ℕ)) : Type 0 where
+  pub strings : HasNone (StringFailures (sections_of entries) (units_of entries.scanned))
+  pub references : HasNone (ReferenceFailures (units_of entries.scanned))
+  pub types : targets ≡ map (type_target (all_entries entries.scanned) (all_units entries.scanned))
+      (all_entries entries.scanned)

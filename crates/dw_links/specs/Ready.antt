@@ -1,5 +1,6 @@
 -- State: what is read once of a unit to check the rules on its strings and addresses.
 use Rattle.std.specs.Prelude.{◌≡◌, Option, Some, slice_get, IfSome}
+use Rattle.dw_forms.specs.Codes.{DW_AT_str_offsets_base, DW_AT_addr_base}
 use Rattle.dw_entries.specs.Header.{IsSize}
 use Rattle.dw_entries.specs.Entries.{Entry, PlacedUnit}
 use Rattle.dw_entries.specs.declared.entries.Entries.{Entries}
@@ -9,21 +10,21 @@ use Rattle.dw_entries.specs.Views.{sections_of}
 use Rattle.dw_links.specs.declared.strings.UnitTexts.{UnitTexts}
 use Rattle.dw_links.specs.Concerns.{Rules}
 use Rattle.dw_links.specs.Contributions.{IsCount, IsEndOfStrings}
-use Rattle.dw_links.specs.Bases.{bases_in}
+use Rattle.dw_links.specs.Bases.{base_in}
 use Rattle.dw_links.specs.Strings.{StringFailsIn}
 
 -- what was read of a unit is right: the size of its addresses, its contributions, and where strings end
 pub record IsReady (texts : UnitTexts) : Type 0 where
   pub address_size : IsSize texts.head.header.address_size
-  pub strings : IfSome texts.bases.strings (λ base. IsCount texts.sections.str_offsets.now 4 0 base texts.strings)
-  pub addresses : IfSome texts.bases.addresses (λ base. IsCount texts.sections.addr.now
+  pub strings : IfSome texts.str_base (λ base. IsCount texts.sections.str_offsets.now 4 0 base texts.strings)
+  pub addresses : IfSome texts.addr_base (λ base. IsCount texts.sections.addr.now
       texts.head.header.address_size texts.head.header.address_size base texts.addresses)
   pub str_end : IsEndOfStrings texts.sections.str.now texts.str_end
   pub line_str_end : IsEndOfStrings texts.sections.line_str.now texts.line_str_end
 
 -- the rules on strings and addresses, by what was read of the unit
 abbrev pub FailsByTexts : UnitTexts → Rules
-FailsByTexts texts = StringFailsIn texts.sections texts.head.header texts.bases.strings texts.bases.addresses
+FailsByTexts texts = StringFailsIn texts.sections texts.head.header texts.str_base texts.addr_base
 
 -- what was read is that of its unit
 pub record AreTexts (entries : Entries) (texts : UnitTexts) : Type 0 where
@@ -32,7 +33,8 @@ pub record AreTexts (entries : Entries) (texts : UnitTexts) : Type 0 where
   pub place : PlacedUnit
   pub in_unit : slice_get (all_units entries.scanned) texts.unit ≡ Some place
   pub head : texts.head ≡ unit_head place
-  pub bases : texts.bases ≡ bases_in (all_entries entries.scanned) place
+  pub str_base : texts.str_base ≡ base_in (all_entries entries.scanned) place DW_AT_str_offsets_base
+  pub addr_base : texts.addr_base ≡ base_in (all_entries entries.scanned) place DW_AT_addr_base
 
 -- the same, and the entry that was looked up is in that unit
 abbrev pub AreTextsAt : Entries → UnitTexts → Option Entry → Type 0

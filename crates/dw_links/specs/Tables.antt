@@ -1,6 +1,6 @@
 -- State: what is read once of all units, to follow the values of attributes.
 use Rattle.std.specs.Prelude.{◌≡◌, ℕ, List, map, Option}
-use Rattle.dw_forms.specs.Codes.{DW_AT_type}
+use Rattle.dw_forms.specs.Codes.{DW_AT_type, DW_AT_str_offsets_base, DW_AT_addr_base}
 use Rattle.dw_entries.specs.declared.entries.Entries.{Entries}
 use Rattle.dw_entries.specs.Entries.{Entry, PlacedUnit}
 use Rattle.dw_entries.specs.Scanned.{all_entries, all_units}
@@ -16,6 +16,9 @@ type_target entries units e = target_of entries units e DW_AT_type
 -- the tables of these entries: the type of each signature, the bases of each unit, and the target of each entry's type
 pub record AreTables (entries : Entries) (tables : LinkTables) : Type 0 where
   pub signatures : HasSignedTypes entries tables.signatures
-  pub bases : tables.bases.items ≡ map (bases_in (all_entries entries.scanned)) (all_units entries.scanned)
+  pub str_bases : tables.str_bases.items
+      ≡ bases_in (all_entries entries.scanned) (all_units entries.scanned) DW_AT_str_offsets_base
+  pub addr_bases : tables.addr_bases.items
+      ≡ bases_in (all_entries entries.scanned) (all_units entries.scanned) DW_AT_addr_base
   pub types : tables.types.items ≡ map (type_target (all_entries entries.scanned) (all_units entries.scanned))
       (all_entries entries.scanned)

@@ -4,26 +4,16 @@ ghost use Rattle.std.specs.Prelude.{◌≡◌, ◌+◌, ◌<◌, ◌≤◌, leng
 ghost use Rattle.dw_elf.specs.Elf.{number_at};
 ghost use Rattle.dw_entries.specs.Entries.{PlacedUnit};
 ghost use Rattle.dw_entries.specs.Scanned.{all_entries, all_units, units_of};
-ghost use Rattle.dw_links.specs.Bases.{base_in, bases_in};
+ghost use Rattle.dw_links.specs.Bases.{base_in};
 ghost use Rattle.dw_links.specs.Contributions.{IsCount, IsEndOfStrings};
 
 use byteorder::{ByteOrder, LittleEndian};
 use dw_entries::Entries;
-use dw_entries::constants::*;
 use dw_forms::{Attribute, Value};
 use memchr::memrchr;
 
-/// Where the first slots of a unit's contributions are, if its first entry says so.
-#[derive(Clone, Copy, Debug, PartialEq, Eq)]
-pub struct UnitBases {
-    /// The offset in .debug_str_offsets.
-    pub strings: Option<u32>,
-    /// The offset in .debug_addr.
-    pub addresses: Option<u32>,
-}
-
-/// The base that a unit's first entry gives to a contribution.
-fn base_in_unit(entries: &Entries<'_>, number: usize, attribute: Attribute) -> Option<u32>
+/// The base that a unit's first entry gives to its contribution: the offset of the first slot in its section.
+pub fn base_in_unit(entries: &Entries<'_>, number: usize, attribute: Attribute) -> Option<u32>
     requires { number < length (units_of entries.now.scanned) }
     ensures { (p : PlacedUnit) → slice_get (all_units entries.now.scanned) number ≡ Some p
         → result ≡ base_in (all_entries entries.now.scanned) p attribute }
@@ -35,18 +25,6 @@ fn base_in_unit(entries: &Entries<'_>, number: usize, attribute: Attribute) -> O
     match entries.value(unit.first, attribute) {
         Some(Value::SecOffset(base)) => Some(base),
         _ => None,
-    }
-}
-
-/// The bases of the unit with this number.
-pub fn unit_bases(entries: &Entries<'_>, number: usize) -> UnitBases
-    requires { number < length (units_of entries.now.scanned) }
-    ensures { IfSome (slice_get (all_units entries.now.scanned) number)
-        (λ p. result ≡ bases_in (all_entries entries.now.scanned) p) }
-{
-    UnitBases {
-        strings: base_in_unit(entries, number, DW_AT_str_offsets_base),
-        addresses: base_in_unit(entries, number, DW_AT_addr_base),
     }
 }
 

@@ -1,45 +1,34 @@
 //! The rules on strings, addresses and references, checked in one pass over the values of all entries, and the targets
 //! of their types.
 
-ghost use Rattle.std.specs.Prelude.{ℕ, ◌≡◌, ◌<◌, length, map, None, Some, IfSome, IsSome, OnOk, IfOk, IfErr};
-ghost use Rattle.dw_forms.specs.Value.{view};
+ghost use Rattle.std.specs.Prelude.{◌≡◌, ◌==◌, ◌<◌, length, Some, IfSome, IsSome, IfOk, IfErr};
 ghost use Rattle.dw_entries.specs.Entries.{Entry};
 ghost use Rattle.dw_entries.specs.Scanned.{all_entries, all_units, units_of};
 ghost use Rattle.dw_entries.specs.Views.{sections_of};
 ghost use Rattle.dw_entries.specs.Lookups.{entry_head};
 ghost use Rattle.dw_entries.specs.Leading.{next_form, leading_left};
-ghost use Rattle.dw_entries.specs.Failures.{HasNone, IsFirst, IsLeast};
+ghost use Rattle.dw_entries.specs.Failures.{HasNone, IsFirst};
+ghost use Rattle.dw_entries.specs.Rules.{group_of};
 ghost use Rattle.dw_entries.specs.Stopped.{IfPlainFault};
 ghost use Rattle.dw_links.specs.DeclaredEntries.{KeepsDeclared};
 ghost use Rattle.dw_links.specs.Linking.{kept_after, LinksNext, HasFailedNext, IsLinked, HasFailed, IsFirstOfGroup};
-ghost use Rattle.dw_links.specs.Linkable.{entries_in, FailsByTarget, target_by, MayAsk};
+ghost use Rattle.dw_links.specs.Linking.{AreLinked};
+ghost use Rattle.dw_links.specs.Linkable.{entries_in, MayAsk};
 ghost use Rattle.dw_links.specs.LinkFaults.{IsFirstOfTargets};
 ghost use Rattle.dw_links.specs.References.{HeaderFailures, ReferenceFailures};
 ghost use Rattle.dw_links.specs.SignedTypes.{HasSignedTypes, AreTyped};
-ghost use Rattle.dw_links.specs.Strings.{StringFailures};
-ghost use Rattle.dw_links.specs.Tables.{type_target};
 
 use crate::class::broken_at;
 use crate::contribution::end_of_strings;
 use crate::references::References;
 use crate::strings::{check_strings, keep_texts, read_texts};
-use crate::targets::DeclaredEntries;
 use dw_entries::constants::*;
 use dw_entries::{
     Broken, Entries, EntryAt, EntryHead, EntryId, Fault, Hints, Leading, OptionalId, Rule, Stop,
 };
-use dw_forms::{Attribute, Form, Value};
+use dw_forms::{Attribute, Form};
 use std::alloc::Global;
 use std::collections::BTreeMap;
-
-/// A failure at an entry, by the group of its rule.
-#[derive(Drop)]
-pub enum Failed {
-    /// Of a rule on strings and addresses.
-    String(Broken),
-    /// Of a rule on references.
-    Reference(Broken),
-}
 
 /// The number of an entry, or none.
 #[inline(always)]
@@ -66,41 +55,15 @@ fn keep(kept: Option<OptionalId>, attribute: Attribute, reached: OptionalId) -> 
 }
 
 impl References<'_, '_, '_> {
-    /// The target of a value, or the rule on references that fails there.
-    #[inline(always)]
-    fn link_value(
-        &self,
-        declared: &mut DeclaredEntries,
-        head: &EntryHead,
-        attribute: Attribute,
-        value: &Value<'_>,
-    ) -> Result<OptionalId, Rule>
-        requires may { MayAsk self.now head.now }
-        requires kept { KeepsDeclared (entries_in self.now) declared.old }
-        ensures kept { KeepsDeclared (entries_in self.now) declared.new }
-        ensures ok { OnOk result
-            (IsLeast (FailsByTarget (entries_in self.now) head.now attribute (view value.now)) None) }
-        ensures reached { IfOk result (λ target. target ≡ target_by (entries_in self.now) head.now (view value.now)) }
-        ensures err { IfErr result
-            (λ rule. IsLeast (FailsByTarget (entries_in self.now) head.now attribute (view value.now)) (Some rule)) }
-    {
-        let reached = self.reach(head, value);
-        let target = number_of(self.cursor.entries, &reached);
-        match self.ask(declared, head, attribute, value, reached) {
-            None => Ok(target),
-            Some(rule) => Err(rule),
-        }
-    }
-
     /// The next attribute, whose form is this one, and its target, or the rule that fails there.
     #[inline(always)]
     fn link_in(
         &self,
-        declared: &mut DeclaredEntries,
+        declared: &mut [Option<bool>],
         head: &EntryHead,
         leading: &mut Leading<'_, '_>,
         form: Form,
-    ) -> Result<(Attribute, OptionalId), Failed>
+    ) -> Result<(Attribute, OptionalId), Broken>
         requires may { MayAsk self.now head.now }
         requires kept { KeepsDeclared (entries_in self.now) declared.old }
         requires form { next_form leading.old ≡ Some form }
@@ -111,11 +74,13 @@ impl References<'_, '_, '_> {
     {
         let (attribute, value) = leading.next_in(form);
         if let Some(rule) = self.texts.ask(head, attribute, &value) {
-            return Err(Failed::String(broken_at(head, attribute, rule)));
+            return Err(broken_at(head, attribute, rule));
         }
-        match self.link_value(declared, head, attribute, &value) {
-            Ok(reached) => Ok((attribute, reached)),
-            Err(rule) => Err(Failed::Reference(broken_at(head, attribute, rule))),
+        let reached = self.reach(head, &value);
+        let target = number_of(self.cursor.entries, &reached);
+        match self.ask(declared, head, attribute, &value, reached) {
+            None => Ok((attribute, target)),
+            Some(rule) => Err(broken_at(head, attribute, rule)),
         }
     }
 
@@ -123,11 +88,11 @@ impl References<'_, '_, '_> {
     #[inline(always)]
     fn link_next(
         &self,
-        declared: &mut DeclaredEntries,
+        declared: &mut [Option<bool>],
         head: &EntryHead,
         leading: &mut Leading<'_, '_>,
         form: Form,
-    ) -> Result<(Attribute, OptionalId), Failed>
+    ) -> Result<(Attribute, OptionalId), Broken>
         requires may { MayAsk self.now head.now }
         requires kept { KeepsDeclared (entries_in self.now) declared.old }
         requires form { next_form leading.old ≡ Some form }
@@ -147,9 +112,9 @@ impl References<'_, '_, '_> {
     #[inline(always)]
     fn link_entry(
         &self,
-        declared: &mut DeclaredEntries,
+        declared: &mut [Option<bool>],
         entry: &EntryAt<'_, '_>,
-    ) -> Result<OptionalId, Failed>
+    ) -> Result<OptionalId, Broken>
         requires found { IsSome entry.now }
         requires may { (e : Entry) → entry.now ≡ Some e → MayAsk self.now (entry_head e) }
         requires kept { KeepsDeclared (entries_in self.now) declared.old }
@@ -157,7 +122,7 @@ impl References<'_, '_, '_> {
         ensures ok { IfOk result
             (λ target. (e : Entry) → entry.now ≡ Some e → IsLinked (entries_in self.now) e target) }
         ensures err { IfErr result
-            (λ failed. (e : Entry) → entry.now ≡ Some e → HasFailed (entries_in self.now) e failed) }
+            (λ broken. (e : Entry) → entry.now ≡ Some e → HasFailed (entries_in self.now) e broken) }
     {
         let head = entry.head();
         let mut leading = entry.leading();
@@ -186,17 +151,25 @@ pub(crate) fn strings_first(
     }
 }
 
+/// Whether a rule is one on strings and addresses.
+fn is_string_rule(rule: Rule) -> bool
+    ensures { result ≡ (group_of rule == 3) }
+{
+    matches!(
+        rule,
+        Rule::BadStrBase | Rule::StrIndex | Rule::StringEnd | Rule::BadAddrBase | Rule::AddrIndex
+    )
+}
+
 /// The fault of a failure, if it is the first of its group.
-fn stop_of(alloc: Global, entries: &Entries<'_>, failed: Failed) -> Stop<Fault>
-    requires { IsFirstOfGroup (sections_of entries.now) (units_of entries.now.scanned) failed }
+fn stop_of(alloc: Global, entries: &Entries<'_>, broken: Broken) -> Stop<Fault>
+    requires { IsFirstOfGroup (sections_of entries.now) (units_of entries.now.scanned) broken }
     ensures { IfPlainFault (IsFirstOfTargets (sections_of entries.now) (units_of entries.now.scanned)) result }
 {
-    match failed {
-        Failed::String(broken) => Stop::Fault(broken.into_fault(alloc)),
-        Failed::Reference(broken) => {
-            strings_first(alloc, entries, Stop::Fault(broken.into_fault(alloc)))
-        }
+    if is_string_rule(broken.rule) {
+        return Stop::Fault(broken.into_fault(alloc));
     }
+    strings_first(alloc, entries, Stop::Fault(broken.into_fault(alloc)))
 }
 
 /// The targets of the types of all entries, in their order, or the first failure at a string or an address, or if there
@@ -210,11 +183,7 @@ pub(crate) fn link_entries<'t>(
     requires types { HasSignedTypes entries.now signatures.now }
     requires typed { AreTyped entries.now }
     requires headers { HasNone (HeaderFailures (all_entries entries.now.scanned) (all_units entries.now.scanned)) }
-    ensures strings { OnOk result (HasNone (StringFailures (sections_of entries.now) (units_of entries.now.scanned))) }
-    ensures references { OnOk result (HasNone (ReferenceFailures (units_of entries.now.scanned))) }
-    ensures types { IfOk result (λ types. types.items
-        ≡ map (type_target (all_entries entries.now.scanned) (all_units entries.now.scanned))
-        (all_entries entries.now.scanned)) }
+    ensures ok { IfOk result (λ types. AreLinked entries.now types.items) }
     ensures fault { IfErr result
         (IfPlainFault (IsFirstOfTargets (sections_of entries.now) (units_of entries.now.scanned))) }
 {
@@ -225,7 +194,7 @@ pub(crate) fn link_entries<'t>(
     let sections = entries.sections();
     let str_end = end_of_strings(sections.str);
     let line_str_end = end_of_strings(sections.line_str);
-    let mut declared = DeclaredEntries::new(alloc, entries)?;
+    let mut declared = vec![in alloc; None; entries.count()]?;
     let mut references = References {
         cursor: entries.cursor(),
         texts: read_texts(entries, str_end, line_str_end, 0),
@@ -235,9 +204,9 @@ pub(crate) fn link_entries<'t>(
     for number in 0..entries.count() {
         let entry = references.cursor.at(entries.id(number));
         keep_texts(&mut references.texts, entries, entry.unit());
-        match references.link_entry(&mut declared, &entry) {
+        match references.link_entry(declared.as_mut_slice(), &entry) {
             Ok(target) => types.push(target)?,
-            Err(failed) => return Err(stop_of(alloc, entries, failed)),
+            Err(broken) => return Err(stop_of(alloc, entries, broken)),
         }
     }
     Ok(types)

@@ -1,7 +1,7 @@
 //! Entries whose references all have a target, what is read once of all units to find it, and what the attributes of
 //! entries refer to.
 
-ghost use Rattle.std.specs.Prelude.{◌≡◌, ◌<◌, length, map, slice_get, IfSome, IfOk, option_copied, OnOk, IfErr};
+ghost use Rattle.std.specs.Prelude.{◌≡◌, ◌<◌, length, slice_get, IfSome, IfOk, option_copied, OnOk, IfErr};
 ghost use Rattle.dw_entries.specs.Scanned.{all_entries, all_units, units_of};
 ghost use Rattle.dw_entries.specs.Views.{sections_of};
 ghost use Rattle.dw_entries.specs.Stopped.{IfPlainFault};
@@ -16,7 +16,7 @@ ghost use Rattle.dw_links.specs.References.{ReferenceFailures};
 ghost use Rattle.dw_links.specs.AttributeTexts.{text_at, address_at};
 
 use crate::class::check_classes;
-use crate::contribution::{UnitBases, unit_bases};
+use crate::contribution::base_in_unit;
 use crate::linking::{link_entries, strings_first};
 use crate::references::read_signatures;
 use crate::targets::find_target;
@@ -31,19 +31,24 @@ use std::collections::BTreeMap;
 #[derive(Drop)]
 pub struct LinkTables {
     pub(crate) signatures: BTreeMap<u64, EntryId>,
-    pub(crate) bases: Vec<UnitBases>,
+    pub(crate) str_bases: Vec<Option<u32>>,
+    pub(crate) addr_bases: Vec<Option<u32>>,
     pub(crate) types: Vec<OptionalId>,
 }
 
-/// The bases of all units, in their order.
-pub(crate) fn read_bases(alloc: Global, entries: &Entries<'_>) -> Result<Vec<UnitBases>, AllocError>
+/// The bases of all units under an attribute, in their order.
+fn read_bases(
+    alloc: Global,
+    entries: &Entries<'_>,
+    attribute: Attribute,
+) -> Result<Vec<Option<u32>>, AllocError>
     ensures { IfOk result (λ bases. bases.items
-        ≡ map (bases_in (all_entries entries.now.scanned)) (all_units entries.now.scanned)) }
+        ≡ bases_in (all_entries entries.now.scanned) (all_units entries.now.scanned) attribute) }
 {
     let count = entries.unit_count();
     let mut bases = Vec::with_capacity(alloc, count)?;
     for number in 0..count {
-        bases.push(unit_bases(entries, number))?;
+        bases.push(base_in_unit(entries, number, attribute))?;
     }
     Ok(bases)
 }
@@ -57,10 +62,8 @@ impl LinkTables {
             (λ e. result ≡ type_target (all_entries entries.now.scanned) (all_units entries.now.scanned) e) }
         ensures within { IfSome result (λ t. t < length (all_entries entries.now.scanned)) }
     {
-        match self.types[id.number()].get() {
-            Some(number) => Some(entries.id(number as usize)),
-            None => None,
-        }
+        let number = self.types[id.number()].get()?;
+        Some(entries.id(number as usize))
     }
 
     /// The target of an entry's attribute. None if the attribute is absent or no reference.
@@ -108,12 +111,14 @@ pub fn link<'r, 'a>(alloc: Global, entries: &'r Entries<'a>) -> Result<Links<'r,
         Ok(signatures) => signatures,
         Err(stop) => return Err(strings_first(alloc, entries, stop)),
     };
-    let bases = read_bases(alloc, entries)?;
+    let str_bases = read_bases(alloc, entries, DW_AT_str_offsets_base)?;
+    let addr_bases = read_bases(alloc, entries, DW_AT_addr_base)?;
     let hints = entries.hints(alloc)?;
     let types = link_entries(alloc, entries, &signatures, &hints)?;
     let tables = LinkTables {
         signatures,
-        bases,
+        str_bases,
+        addr_bases,
         types,
     };
     Ok(Links { entries, tables })
@@ -135,9 +140,8 @@ impl<'a> Links<'_, 'a> {
     pub fn text(&self, id: EntryId, attribute: Attribute) -> Option<&'a [u8]>
         requires { id < length (all_entries self.now.entries.now.scanned) }
         ensures { IfSome (slice_get (all_entries self.now.entries.now.scanned) id)
-            (λ e. option_copied result
-            ≡ text_at (sections_of self.now.entries.now) (all_entries self.now.entries.now.scanned)
-            (all_units self.now.entries.now.scanned) e attribute) }
+            (λ e. option_copied result ≡ text_at (sections_of self.now.entries.now)
+            (all_entries self.now.entries.now.scanned) (all_units self.now.entries.now.scanned) e attribute) }
     {
         self.tables.text(self.entries, id, attribute)
     }

@@ -17,8 +17,7 @@ ghost use Rattle.dw_links.specs.SignedTypes.{AreSignedBelow, HasSignedTypes, Are
 
 use crate::strings::UnitTexts;
 use crate::targets::{
-    DeclaredEntries, entry_from_header, is_permitted, is_permitted_form, is_reference, is_sig8,
-    reach,
+    entry_from_header, is_permitted, is_permitted_form, is_reference, is_sig8, reach,
 };
 use dw_entries::constants::*;
 use dw_entries::{
@@ -152,18 +151,6 @@ pub struct References<'e, 'd, 't> {
     pub hints: &'t Hints,
 }
 
-/// Whether the next sibling is this entry.
-#[inline(always)]
-fn is_next(next: Option<EntryId>, id: EntryId) -> bool
-    ensures yes { OnTrue result (next ≡ Some id) }
-    ensures otherwise { OnFalse result (next ≡ Some id → ⊥) }
-{
-    match next {
-        Some(next) if next.number() == id.number() => true,
-        _ => false,
-    }
-}
-
 impl References<'_, '_, '_> {
     /// The entry of the unit at hand that starts so many bytes after the unit's header, if a guess finds it.
     #[inline(always)]
@@ -230,7 +217,7 @@ impl References<'_, '_, '_> {
     #[inline(always)]
     fn ask_reached(
         &self,
-        declared: &mut DeclaredEntries,
+        declared: &mut [Option<bool>],
         head: &EntryHead,
         attribute: Attribute,
         value: &Value<'_>,
@@ -252,7 +239,7 @@ impl References<'_, '_, '_> {
         if attribute != DW_AT_sibling {
             return None;
         }
-        if is_next(head.next_sibling, id) {
+        if head.next_sibling == Some(id) {
             return None;
         }
         Some(Rule::NotNextSibling)
@@ -262,7 +249,7 @@ impl References<'_, '_, '_> {
     #[inline(always)]
     pub fn ask(
         &self,
-        declared: &mut DeclaredEntries,
+        declared: &mut [Option<bool>],
         head: &EntryHead,
         attribute: Attribute,
         value: &Value<'_>,

@@ -14,9 +14,7 @@ ghost use Rattle.dw_links.specs.Ready.{AreTexts, AreTextsAt, IsReady, FailsByTex
 ghost use Rattle.dw_links.specs.Concerns.{AtHead, PassesAt, FailsAt};
 
 use crate::class::broken_at;
-use crate::contribution::{
-    UnitBases, count_named, count_slots, end_of_strings, number, unit_bases,
-};
+use crate::contribution::{base_in_unit, count_named, count_slots, end_of_strings, number};
 use dw_elf::Sections;
 use dw_entries::constants::*;
 use dw_entries::{Broken, Entries, EntryAt, EntryHead, Fault, Rule, UnitHead};
@@ -41,7 +39,10 @@ pub struct UnitTexts<'a> {
     /// The number of the unit.
     pub unit: usize,
     pub head: UnitHead,
-    pub bases: UnitBases,
+    /// The base of its contribution to .debug_str_offsets, if its first entry gives one.
+    pub str_base: Option<u32>,
+    /// The same in .debug_addr.
+    pub addr_base: Option<u32>,
     /// How many slots its contribution to .debug_str_offsets has, if it has one whose header is well-formed.
     pub strings: Option<u64>,
     /// The same in .debug_addr.
@@ -82,9 +83,9 @@ impl UnitTexts<'_> {
     #[inline(never)]
     fn ask_string(&self, index: u64) -> Option<Rule>
         requires { IsReady self.now }
-        ensures { IsLeast (StringIndexFails self.now.sections self.now.bases.strings index) result }
+        ensures { IsLeast (StringIndexFails self.now.sections self.now.str_base index) result }
     {
-        match (self.bases.strings, self.strings) {
+        match (self.str_base, self.strings) {
             (None, _) => Some(Rule::BadStrBase),
             (Some(_), None) => None,
             (Some(base), Some(count)) => {
@@ -106,10 +107,9 @@ impl UnitTexts<'_> {
     #[inline(never)]
     fn ask_address(&self, index: u64) -> Option<Rule>
         requires { IsReady self.now }
-        ensures { IsLeast (AddressIndexFails self.now.sections self.now.head.header self.now.bases.addresses index)
-            result }
+        ensures { IsLeast (AddressIndexFails self.now.sections self.now.head.header self.now.addr_base index) result }
     {
-        match (self.bases.addresses, self.addresses) {
+        match (self.addr_base, self.addresses) {
             (None, _) => Some(Rule::BadAddrBase),
             (Some(_), Some(count)) if index >= count => Some(Rule::AddrIndex),
             _ => None,
@@ -151,14 +151,16 @@ pub fn read_texts<'a>(
 {
     let sections = *entries.sections();
     let head = entries.unit(number);
-    let bases = unit_bases(entries, number);
     let size = head.header.address_size;
+    let str_base = base_in_unit(entries, number, DW_AT_str_offsets_base);
+    let addr_base = base_in_unit(entries, number, DW_AT_addr_base);
     UnitTexts {
         unit: number,
         head,
-        bases,
-        strings: count_named(sections.str_offsets, 4, 0, bases.strings),
-        addresses: count_named(sections.addr, size, size, bases.addresses),
+        str_base,
+        addr_base,
+        strings: count_named(sections.str_offsets, 4, 0, str_base),
+        addresses: count_named(sections.addr, size, size, addr_base),
         sections,
         str_end,
         line_str_end,

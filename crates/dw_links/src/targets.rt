@@ -1,7 +1,7 @@
 //! The targets of references (DWARF 5, sections 2.3 and 7.5.5): the entry that a value refers to, and which entries an
 //! attribute may refer to.
 
-ghost use Rattle.std.specs.Prelude.{◌≡◌, ◌<◌, length, replicate, slice_get, IfSome, IfOk, Some};
+ghost use Rattle.std.specs.Prelude.{◌≡◌, ◌<◌, length, slice_get, IfSome, Some};
 ghost use Rattle.dw_forms.specs.Value.{view};
 ghost use Rattle.dw_entries.specs.Scanned.{all_entries, all_units, units_of};
 ghost use Rattle.dw_entries.specs.Entries.{Entry};
@@ -14,7 +14,6 @@ ghost use Rattle.dw_links.specs.Targets.{reach_in_unit, signed_type, reach_of, t
 use dw_entries::constants::*;
 use dw_entries::{Cursor, Entries, EntryAt, EntryHead, EntryId};
 use dw_forms::{Attribute, Value};
-use std::alloc::{AllocError, Global};
 use std::collections::BTreeMap;
 
 /// The entry that begins so far after the first byte of a unit's header.
@@ -35,10 +34,8 @@ fn type_by_signature(
     requires { HasSignedTypes entries.now signatures.now }
     ensures { result ≡ signed_type (all_entries entries.now.scanned) (all_units entries.now.scanned) signature }
 {
-    match signatures.get(&signature) {
-        Some(id) => Some(*id),
-        None => None,
-    }
+    let id = signatures.get(&signature)?;
+    Some(*id)
 }
 
 /// The target of a value in a unit.
@@ -75,17 +72,8 @@ pub(crate) fn find_target(
         (λ e. result ≡ target_of (all_entries entries.now.scanned) (all_units entries.now.scanned) e attribute) }
     ensures within { IfSome result (λ t. t < length (all_entries entries.now.scanned)) }
 {
-    match entries.value(id, attribute) {
-        Some(value) => reach(entries, signatures, entries.unit_of(id), &value),
-        None => None,
-    }
-}
-
-/// Which entries are declared and not defined. An entry is read when this is first needed, and the result is kept.
-#[derive(Drop)]
-pub struct DeclaredEntries {
-    /// Of each entry, whether it is declared and not defined; None if it was not read yet.
-    pub known: Vec<Option<bool>>,
+    let value = entries.value(id, attribute)?;
+    reach(entries, signatures, entries.unit_of(id), &value)
 }
 
 /// Whether DW_AT_declaration of an entry is true.
@@ -99,30 +87,20 @@ fn read_declared(entries: &Entries<'_>, id: EntryId) -> bool
     )
 }
 
-impl DeclaredEntries {
-    /// Nothing is known of any entry.
-    pub fn new(alloc: Global, entries: &Entries<'_>) -> Result<Self, AllocError>
-        ensures { IfOk result (KeepsDeclared entries.now) }
-    {
-        Ok(DeclaredEntries {
-            known: vec![in alloc; None; entries.count()]?,
-        })
-    }
-
-    /// Whether an entry is declared and not defined.
-    pub fn has(&mut self, entries: &Entries<'_>, id: EntryId) -> bool
-        requires id { id < length (all_entries entries.now.scanned) }
-        requires kept { KeepsDeclared entries.now self.old }
-        ensures exact { IfSome (slice_get (all_entries entries.now.scanned) id) (λ e. result ≡ is_declared e) }
-        ensures kept { KeepsDeclared entries.now self.new }
-    {
-        match self.known[id.number()] {
-            Some(declared) => declared,
-            None => {
-                let declared = read_declared(entries, id);
-                self.known[id.number()] = Some(declared);
-                declared
-            }
+/// Whether an entry is declared and not defined. `declared` has this of each entry that was read before, and None of
+/// the others: an entry is read when this is first needed, and the result is kept.
+fn is_declaration(entries: &Entries<'_>, declared: &mut [Option<bool>], id: EntryId) -> bool
+    requires id { id < length (all_entries entries.now.scanned) }
+    requires kept { KeepsDeclared entries.now declared.old }
+    ensures exact { IfSome (slice_get (all_entries entries.now.scanned) id) (λ e. result ≡ is_declared e) }
+    ensures kept { KeepsDeclared entries.now declared.new }
+{
+    match declared[id.number()] {
+        Some(known) => known,
+        None => {
+            let read = read_declared(entries, id);
+            declared[id.number()] = Some(read);
+            read
         }
     }
 }
@@ -183,7 +161,7 @@ fn entry_at<'e, 'a>(cursor: &Cursor<'e, 'a>, id: EntryId) -> EntryAt<'e, 'a>
 #[inline(always)]
 pub fn is_permitted(
     cursor: &Cursor<'_, '_>,
-    declared: &mut DeclaredEntries,
+    declared: &mut [Option<bool>],
     head: &EntryHead,
     attribute: Attribute,
     id: EntryId,
@@ -199,7 +177,7 @@ pub fn is_permitted(
         return target.is_type();
     }
     if attribute == DW_AT_specification {
-        return target.offset() != head.offset && declared.has(cursor.entries, id);
+        return target.offset() != head.offset && is_declaration(cursor.entries, declared, id);
     }
     if is_signed_by(head, attribute) {
         return target.tag() == head.tag;

@@ -1,21 +1,20 @@
 //! The texts and addresses of attributes (DWARF 5, sections 7.26 and 7.27), and where a text is.
 
 ghost use Rattle.std.specs.Prelude.{◌≡◌, ◌+◌, ◌*◌, ◌<◌, ◌≤◌, length, slice_get, Some, IfSome, option_copied};
-ghost use Rattle.std.specs.Prelude.{option_map};
+ghost use Rattle.std.specs.Prelude.{option_map, option_and_then};
 ghost use Rattle.dw_forms.specs.Value.{view};
 ghost use Rattle.dw_entries.specs.Lookups.{value_at_entry};
 ghost use Rattle.dw_entries.specs.Scanned.{all_entries, all_units, units_of};
 ghost use Rattle.dw_entries.specs.Views.{sections_of};
 ghost use Rattle.dw_entries.specs.Failures.{HasNone};
 ghost use Rattle.dw_links.specs.Contributions.{string_at, slot_at};
-ghost use Rattle.dw_links.specs.Slots.{IsAddressSlot, IsPlace, IsTextSlot, AddressLies, TextLies};
-ghost use Rattle.dw_links.specs.ValueTexts.{text_there, indexed_text, indexed_address, text_of, address_of};
+ghost use Rattle.dw_links.specs.Slots.{IsPlace, AddressLies, TextLies};
+ghost use Rattle.dw_links.specs.ValueTexts.{text_there, text_of, address_of};
 ghost use Rattle.dw_links.specs.Strings.{StringFailures};
-ghost use Rattle.dw_links.specs.Bases.{bases_in};
 ghost use Rattle.dw_links.specs.Tables.{AreTables};
 ghost use Rattle.dw_links.specs.AttributeTexts.{text_at, address_at};
 
-use crate::contribution::{UnitBases, number};
+use crate::contribution::number;
 use crate::links::LinkTables;
 use dw_elf::Sections;
 use dw_entries::{Entries, EntryId, UnitHeader};
@@ -70,41 +69,6 @@ fn slot(section: &[u8], size: u8, base: u32, index: u64) -> u64
     number(section, base as usize + size * index as usize, size)
 }
 
-/// Where the string is whose offset is in the slot of an index, if there is a base.
-pub(crate) fn place_in_slot(
-    sections: &Sections<'_>,
-    base: Option<u32>,
-    index: u64,
-) -> Option<TextPlace>
-    requires { IfSome base (IsTextSlot sections.now index) }
-    ensures text { option_map (text_there sections.now) result ≡ indexed_text sections.now base index }
-    ensures within { IfSome result (IsPlace sections.now) }
-{
-    match base {
-        Some(base) => {
-            let offset = slot(sections.str_offsets, 4, base, index);
-            Some(TextPlace::Str(offset as usize))
-        }
-        None => None,
-    }
-}
-
-/// The address in the slot of an index, if there is a base.
-pub(crate) fn address_in_slot(
-    sections: &Sections<'_>,
-    header: UnitHeader,
-    base: Option<u32>,
-    index: u64,
-) -> Option<u64>
-    requires { IfSome base (IsAddressSlot sections.now header index) }
-    ensures { result ≡ indexed_address sections.now header base index }
-{
-    match base {
-        Some(base) => Some(slot(sections.addr, header.address_size, base, index)),
-        None => None,
-    }
-}
-
 /// Where the text of the value of an entry's attribute is, if that is a string.
 fn place_of_value(
     entries: &Entries<'_>,
@@ -128,7 +92,10 @@ fn place_of_value(
         }
         Value::Str(offset) => Some(TextPlace::Str(offset as usize)),
         Value::LineStr(offset) => Some(TextPlace::LineStr(offset as usize)),
-        Value::StrIndex(index) => place_in_slot(entries.sections(), base, index),
+        Value::StrIndex(index) => {
+            let offset = slot(entries.sections().str_offsets, 4, base?, index);
+            Some(TextPlace::Str(offset as usize))
+        }
         _ => None,
     }
 }
@@ -145,23 +112,21 @@ fn address_of_value(
 {
     match value {
         Value::Addr(address) => Some(address),
-        Value::AddrIndex(index) => address_in_slot(sections, header, base, index),
+        Value::AddrIndex(index) => Some(slot(sections.addr, header.address_size, base?, index)),
         _ => None,
     }
 }
 
-impl LinkTables {
-    /// The bases of an entry's unit.
-    fn bases_of(&self, entries: &Entries<'_>, id: EntryId) -> UnitBases
-        requires id { id < length (all_entries entries.now.scanned) }
-        requires tables { AreTables entries.now self.now }
-        ensures { IfSome (slice_get (all_entries entries.now.scanned) id)
-            (λ e. IfSome (slice_get (all_units entries.now.scanned) e.unit)
-            (λ p. result ≡ bases_in (all_entries entries.now.scanned) p)) }
-    {
-        self.bases[entries.unit_of(id)]
-    }
+/// The base of an entry's unit, among those of all units.
+fn base_of(bases: &[Option<u32>], entries: &Entries<'_>, id: EntryId) -> Option<u32>
+    requires { id < length (all_entries entries.now.scanned) }
+    ensures { IfSome (slice_get (all_entries entries.now.scanned) id)
+        (λ e. result ≡ option_and_then (λ base. base) (slice_get bases.now e.unit)) }
+{
+    *bases.get(entries.unit_of(id))?
+}
 
+impl LinkTables {
     /// Where the text of an entry's attribute is. None if the attribute is absent or no string.
     pub fn text_place(
         &self,
@@ -173,18 +138,13 @@ impl LinkTables {
         requires tables { AreTables entries.now self.now }
         requires strings { HasNone (StringFailures (sections_of entries.now) (units_of entries.now.scanned)) }
         ensures text { IfSome (slice_get (all_entries entries.now.scanned) id)
-            (λ e. option_map (text_there (sections_of entries.now)) result
-            ≡ text_at (sections_of entries.now) (all_entries entries.now.scanned)
-            (all_units entries.now.scanned) e attribute) }
+            (λ e. option_map (text_there (sections_of entries.now)) result ≡ text_at (sections_of entries.now)
+            (all_entries entries.now.scanned) (all_units entries.now.scanned) e attribute) }
         ensures within { IfSome result (IsPlace (sections_of entries.now)) }
     {
-        match entries.value(id, attribute) {
-            Some(value) => {
-                let base = self.bases_of(entries, id).strings;
-                place_of_value(entries, id, attribute, base, value)
-            }
-            None => None,
-        }
+        let value = entries.value(id, attribute)?;
+        let base = base_of(self.str_bases.as_slice(), entries, id);
+        place_of_value(entries, id, attribute, base, value)
     }
 
     /// The text of an entry's attribute. None if the attribute is absent or no string.
@@ -198,14 +158,11 @@ impl LinkTables {
         requires tables { AreTables entries.now self.now }
         requires strings { HasNone (StringFailures (sections_of entries.now) (units_of entries.now.scanned)) }
         ensures { IfSome (slice_get (all_entries entries.now.scanned) id)
-            (λ e. option_copied result
-            ≡ text_at (sections_of entries.now) (all_entries entries.now.scanned)
+            (λ e. option_copied result ≡ text_at (sections_of entries.now) (all_entries entries.now.scanned)
             (all_units entries.now.scanned) e attribute) }
     {
-        match self.text_place(entries, id, attribute) {
-            Some(place) => Some(place.text(entries.sections())),
-            None => None,
-        }
+        let place = self.text_place(entries, id, attribute)?;
+        Some(place.text(entries.sections()))
     }
 
     /// The address of an entry's attribute. None if the attribute is absent or no address.
@@ -217,13 +174,9 @@ impl LinkTables {
             (λ e. result ≡ address_at (sections_of entries.now) (all_entries entries.now.scanned)
             (all_units entries.now.scanned) e attribute) }
     {
-        match entries.value(id, attribute) {
-            Some(value) => {
-                let header = entries.unit(entries.unit_of(id)).header;
-                let base = self.bases_of(entries, id).addresses;
-                address_of_value(entries.sections(), header, base, value)
-            }
-            None => None,
-        }
+        let value = entries.value(id, attribute)?;
+        let header = entries.unit(entries.unit_of(id)).header;
+        let base = base_of(self.addr_bases.as_slice(), entries, id);
+        address_of_value(entries.sections(), header, base, value)
     }
 }

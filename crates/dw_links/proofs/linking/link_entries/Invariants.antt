@@ -15,5 +15,5 @@ invariant-loop-number l = record {
   strings : NoneBelow l.entries (FailsByText l.entries) l.number;
   references : NoneBelow l.entries (FailsByTarget l.entries) l.number;
   types : l.types.items ≡ map (type_target (all_entries l.entries.scanned) (all_units l.entries.scanned)) (take l.number (all_entries l.entries.scanned));
-  kept : KeepsDeclared l.entries l.declared;
+  kept : KeepsDeclared l.entries l.declared.items;
 }

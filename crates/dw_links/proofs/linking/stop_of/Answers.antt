@@ -1,14 +1,25 @@
-use Rattle.std.proofs.Common.{rules, sym, subst}
+use Rattle.std.proofs.Common.{inl, sym, subst}
 use Rattle.dw_entries.specs.Failures.{IsFirst}
 use Rattle.dw_entries.specs.Scanned.{units_of}
+use Rattle.dw_entries.specs.Views.{sections_of}
 use Rattle.dw_links.specs.References.{ReferenceFailures}
+use Rattle.dw_links.specs.Strings.{StringFailures}
+use Rattle.dw_links.proofs.RuleGroups.{string_first, reference_first}
 use Rattle.dw_links.proofs.linking.stop_of.Goals as goal
 
-pub returns-in-String : goal.returns-in-String
-returns-in-String c = search (rules)
+pub returns-then-is_string_rule : goal.returns-then-is_string_rule
+returns-then-is_string_rule c =
+    let s = sections_of c.args.entries.now in
+    let us = units_of c.args.entries.now.scanned in
+    record {
+      holds = inl (subst (IsFirst (StringFailures s us)) (sym c.into_fault.ensures.holds) (string_first s us c.args.broken c.requires (sym c.if-is_string_rule.ensures)));
+      cycle = c.into_fault.ensures.cycle;
+    }
 
 pub strings_first-requires : goal.strings_first-requires
-strings_first-requires c = record {
-  holds = subst (IsFirst (ReferenceFailures (units_of c.args.entries.now.scanned))) (sym c.into_fault-in-Reference.ensures.holds) (rw c.in-Reference.is at c.requires);
-  cycle = c.into_fault-in-Reference.ensures.cycle;
-}
+strings_first-requires c =
+    let us = units_of c.args.entries.now.scanned in
+    record {
+      holds = subst (IsFirst (ReferenceFailures us)) (sym c.into_fault-2.ensures.holds) (reference_first (sections_of c.args.entries.now) us c.args.broken c.requires (sym c.if-is_string_rule.ensures));
+      cycle = c.into_fault-2.ensures.cycle;
+    }

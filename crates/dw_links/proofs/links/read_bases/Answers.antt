@@ -1,8 +1,8 @@
-use Rattle.std.proofs.Common.{◌≡◌, arith}
+use Rattle.std.proofs.Common.{arith}
 use Rattle.dw_entries.specs.Entries.{entries_of, placed}
 use Rattle.dw_entries.specs.Scanned.{units_of}
 use Rattle.dw_entries.proofs.EntryFacts.{length-placed_from}
-use Rattle.dw_links.specs.Bases.{bases_in}
+use Rattle.dw_links.specs.Bases.{base_in}
 use Rattle.dw_links.proofs.Skips.{there}
 use Rattle.dw_links.proofs.TableLaws.{map_one_more, map_all}
 use Rattle.dw_links.proofs.links.read_bases.Goals as goal
@@ -11,10 +11,9 @@ pub loop-number-preserved : goal.loop-number-preserved
 loop-number-preserved c =
     let us = units_of c.args.entries.now.scanned in
     let (p, is) = there (placed us) c.loop-number.number (omega (arith, c.loop-number-test.true, c.unit_count-count.ensures, length-placed_from 0 0 us)) in
-    let here : c.unit_bases.result ≡ bases_in (entries_of us) p = rw is at c.unit_bases.ensures in
-    rw c.in_ok-push.ensures.items (map_one_more (bases_in (entries_of us)) (placed us) c.loop-number.bases.items c.loop-number.number p c.unit_bases.result is c.loop-number.invariant here)
+    rw c.in_ok-push.ensures.items (map_one_more (λ u. base_in (entries_of us) u c.args.attribute) (placed us) c.loop-number.bases.items c.loop-number.number p c.base_in_unit.result is c.loop-number.invariant (c.base_in_unit.ensures p is))
 
 pub returns : goal.returns
 returns c =
     let us = units_of c.args.entries.now.scanned in
-    map_all (bases_in (entries_of us)) (placed us) c.loop-number.bases.items c.loop-number.number (omega (arith, c.loop-number-test.false, c.unit_count-count.ensures, length-placed_from 0 0 us)) c.loop-number.invariant
+    map_all (λ u. base_in (entries_of us) u c.args.attribute) (placed us) c.loop-number.bases.items c.loop-number.number (omega (arith, c.loop-number-test.false, c.unit_count-count.ensures, length-placed_from 0 0 us)) c.loop-number.invariant

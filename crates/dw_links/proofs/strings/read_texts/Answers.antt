@@ -30,5 +30,6 @@ returns-clause-texts c =
       place = p;
       in_unit = is;
       head = told;
-      bases = rw is at c.unit_bases-bases.ensures;
+      str_base = c.base_in_unit-str_base.ensures p is;
+      addr_base = c.base_in_unit-addr_base.ensures p is;
     }

@@ -15,7 +15,9 @@ pub link_next-requires-clause-may : goal.link_next-requires-clause-may
 link_next-requires-clause-may c = search (rules, found)
 
 pub returns-in_err-attribute-clause-err : goal.returns-in_err-attribute-clause-err
-returns-in_err-attribute-clause-err c = search (rules, err_from_is_err_and, fails_so_far)
+returns-in_err-attribute-clause-err c =
+    let p = err_from_is_err_and c.from_residual.result c.from_residual.ensures.1 in
+    rw (p.1, p.2) (λ e is. fails_so_far (entries_in c.args.self.now) e (leading_left c.loop-form.leading) c.loop-form.kept (c.loop-form.invariant.so_far e is) c.head-head.result (rw is at c.head-head.ensures) _ c.in_err-attribute.ensures.err)
 
 pub loop-form-preserved : goal.loop-form-preserved
 loop-form-preserved c = record {

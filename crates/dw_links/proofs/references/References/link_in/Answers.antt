@@ -1,9 +1,13 @@
 use Rattle.std.proofs.Common.{rules}
+use Rattle.dw_links.proofs.TargetLaws.{reach_within}
 use Rattle.dw_links.proofs.Transfers.{least_by_texts}
 use Rattle.dw_links.proofs.references.References.link_in.Goals as goal
 
-pub returns-in-Some-clause-err : goal.returns-in-Some-clause-err
-returns-in-Some-clause-err c = search (rules, least_by_texts)
+pub number_of-target-requires : goal.number_of-target-requires
+number_of-target-requires c = search (rules, reach_within)
 
-pub returns-in-Ok-clause-ok : goal.returns-in-Ok-clause-ok
-returns-in-Ok-clause-ok c = search (rules, least_by_texts)
+pub returns-in-None-clause-ok : goal.returns-in-None-clause-ok
+returns-in-None-clause-ok c = search (rules, least_by_texts)
+
+pub returns-in-Some-ask-clause-err : goal.returns-in-Some-ask-clause-err
+returns-in-Some-ask-clause-err c = search (rules, least_by_texts)
