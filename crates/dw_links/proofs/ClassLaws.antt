@@ -83,23 +83,10 @@ module _ (sections : Sections) (header : UnitHeader) (strings addresses : Option
   Fails v = StringFailsIn sections header strings addresses head a v rule
 
   no_text : (version size : ℕ) (f : Form) (bytes : List ℕ) (v : Datum) → may_lead_out f ≡ false → ((a ≡ DW_AT_str_offsets_base) ⊎ (a ≡ DW_AT_addr_base) → ⊥) → Val version f size bytes v → Fails v → ⊥
-  no_text version size form.Strp bytes v none no_base p fails = let both : true ≡ false = none in cc
-  no_text version size form.LineStrp bytes v none no_base p fails = let both : true ≡ false = none in cc
-  no_text version size form.Strx bytes v none no_base p fails = let both : true ≡ false = none in cc
-  no_text version size form.Strx1 bytes v none no_base p fails = let both : true ≡ false = none in cc
-  no_text version size form.Strx2 bytes v none no_base p fails = let both : true ≡ false = none in cc
-  no_text version size form.Strx3 bytes v none no_base p fails = let both : true ≡ false = none in cc
-  no_text version size form.Strx4 bytes v none no_base p fails = let both : true ≡ false = none in cc
-  no_text version size form.Addrx bytes v none no_base p fails = let both : true ≡ false = none in cc
-  no_text version size form.Addrx1 bytes v none no_base p fails = let both : true ≡ false = none in cc
-  no_text version size form.Addrx2 bytes v none no_base p fails = let both : true ≡ false = none in cc
-  no_text version size form.Addrx3 bytes v none no_base p fails = let both : true ≡ false = none in cc
-  no_text version size form.Addrx4 bytes v none no_base p fails = let both : true ≡ false = none in cc
-  no_text version size form.Indirect bytes v none no_base p fails = let both : true ≡ false = none in cc
   no_text version size form.SecOffset bytes v none no_base p fails = elim (subst Fails p.2 fails).2 [ inl str ↦ no_base (inl str.0) | inr addr ↦ no_base (inr addr.0) ]
   no_text version size form.FlagPresent bytes v none no_base p fails = subst Fails p.1 fails
   no_text version size (form.ImplicitConst number) bytes v none no_base p fails = subst Fails p.1 fails
-  no_text version size _ bytes v none no_base p fails = subst Fails p.2 fails
+  no_text version size _ bytes v none no_base p fails = search rules
 
 pub passes_texts : (entries : Entries) (spec : AttributeSpec) → DoesNotLead spec → Passes (FailsByText entries) spec
 passes_texts entries spec not x a is head rule fails =

@@ -11,10 +11,8 @@ use Rattle.dw_entries.specs.declared.fault.Rule.{Rule}
 use Rattle.dw_entries.specs.declared.fault.Rule.TheVariants.{SignatureTwice, BadTypeOffset}
 use Rattle.dw_entries.specs.declared.fault.Broken.{Broken}
 use Rattle.dw_entries.specs.declared.header.HeaderKind.{HeaderKind}
-use Rattle.dw_entries.specs.declared.header.HeaderKind.TheVariants.{Version4, CompileUnit, PartialUnit, TypeUnit}
-use Rattle.dw_entries.specs.Header.{header_size, header_bytes}
-use Rattle.dw_entries.specs.HeaderLaws.{length-header}
-use Rattle.dw_entries.specs.Units.{DebugUnit, unit_bytes, body_bytes}
+use Rattle.dw_entries.specs.declared.header.HeaderKind.TheVariants.{TypeUnit}
+use Rattle.dw_entries.specs.Units.{DebugUnit, unit_bytes}
 use Rattle.dw_entries.specs.Places.{at_header, at_attribute}
 use Rattle.dw_entries.specs.Failures.{Failure, Precedes, Names, HasNone, IsFirst, IsLeast}
 use Rattle.dw_entries.specs.Asked.{OffsetsRise, AtPlace}
@@ -22,6 +20,7 @@ use Rattle.dw_entries.proofs.FirstPlaces.{header_precedes_le, first_at_place, no
 use Rattle.dw_entries.specs.Runs.{IsEntryIn}
 use Rattle.dw_entries.proofs.RunLaws.{one_at, in_is_at}
 use Rattle.dw_entries.proofs.NumberOrder.{three_ways}
+use Rattle.dw_entries.proofs.ScanLaws.{few_units}
 use Rattle.dw_links.specs.References.{IsSignedBefore, HasType, TypeUnitFails, HeaderFails, AtHeader, HeaderFailures, AttributeFailures}
 use Rattle.dw_links.specs.Signatures.{type_in, HasSignature, AreDistinct}
 use Rattle.dw_links.specs.SignedTypes.{IsSignedType, AreSignedBelow}
@@ -140,39 +139,24 @@ header_passes entries units number at signature t o is least =
     subst P (sym is) (none_at_place (at_header at) (HeaderFails entries units number at (Some (signature, t))) least)
 
 -- units stand in rising offset
-placed_from_rise : (at first : ℕ) (us : List DebugUnit) (i j : ℕ) (a b : PlacedUnit) → i < j → slice_get (placed_from at first us) i ≡ Some a → slice_get (placed_from at first us) j ≡ Some b → (at ≤ a.at) × (a.at < b.at)
+placed_least : (at first : ℕ) (us : List DebugUnit) (j : ℕ) (b : PlacedUnit) → slice_get (placed_from at first us) j ≡ Some b → at ≤ b.at
+placed_least at first [] j b is = absurd cc
+placed_least at first (u ∷ us) zero b is = search (rules)
+placed_least at first (u ∷ us) (suc j) b is = omega (arith, placed_least (at + length (unit_bytes u)) (first + node_count u.root) us j b is)
+
+some_bytes : (u : DebugUnit) → 0 < length (unit_bytes u)
+some_bytes u = omega (arith, few_units (u ∷ []), length-append (unit_bytes u) [])
+
+placed_from_rise : (at first : ℕ) (us : List DebugUnit) (i j : ℕ) (a b : PlacedUnit) → i < j → slice_get (placed_from at first us) i ≡ Some a → slice_get (placed_from at first us) j ≡ Some b → a.at < b.at
 placed_from_rise at first [] i j a b lt is_a is_b = absurd cc
 placed_from_rise at first (u ∷ us) i zero a b lt is_a is_b = absurd (omega arith)
 placed_from_rise at first (u ∷ us) zero (suc j) a b lt is_a is_b =
-    let e : ◌≡◌ {A = Option PlacedUnit} (Some (record { at = at; first = first; unit = u })) (Some a) = is_a in
-    let same : ◌≡◌ {A = PlacedUnit} (record { at = at; first = first; unit = u }) a = cc in
-    let here : at ≡ a.at = ap (λ (x : PlacedUnit). x.at) same in
-    let least = placed_least (at + length (unit_bytes u)) (first + node_count u.root) us j b is_b in
-    let some = unit_some u in
-    (omega (arith, here), omega (arith, here, least, some))
-  where
-    unit_some : (u : DebugUnit) → 0 < length (unit_bytes u)
-    unit_some u = omega (arith, length-append (header_bytes u.header) (body_bytes u), length-header u.header, size_some u.header.kind)
-      where
-        size_some : (k : HeaderKind) → 0 < header_size k
-        size_some Version4 = omega arith
-        size_some CompileUnit = omega arith
-        size_some PartialUnit = omega arith
-        size_some (TypeUnit s t) = omega arith
-
-    placed_least : (at first : ℕ) (us : List DebugUnit) (j : ℕ) (b : PlacedUnit) → slice_get (placed_from at first us) j ≡ Some b → at ≤ b.at
-    placed_least at first [] j b is = absurd cc
-    placed_least at first (u ∷ us) zero b is =
-        let e : ◌≡◌ {A = Option PlacedUnit} (Some (record { at = at; first = first; unit = u })) (Some b) = is in
-        let same : ◌≡◌ {A = PlacedUnit} (record { at = at; first = first; unit = u }) b = cc in
-        let here : at ≡ b.at = ap (λ (x : PlacedUnit). x.at) same in omega (arith, here)
-    placed_least at first (u ∷ us) (suc j) b is = let more = placed_least (at + length (unit_bytes u)) (first + node_count u.root) us j b is in omega (arith, more)
-placed_from_rise at first (u ∷ us) (suc i) (suc j) a b lt is_a is_b =
-    let more = placed_from_rise (at + length (unit_bytes u)) (first + node_count u.root) us i j a b (omega arith) is_a is_b in
-    (omega (arith, more.0), more.1)
+    let here : at ≡ a.at = search (rules) in
+    omega (arith, here, placed_least (at + length (unit_bytes u)) (first + node_count u.root) us j b is_b, some_bytes u)
+placed_from_rise at first (u ∷ us) (suc i) (suc j) a b lt is_a is_b = placed_from_rise (at + length (unit_bytes u)) (first + node_count u.root) us i j a b (omega arith) is_a is_b
 
 pub placed_rise : (us : List DebugUnit) → UnitsRise (placed us)
-placed_rise us i j a b lt is_a is_b = (placed_from_rise 0 0 us i j a b lt is_a is_b).1
+placed_rise = placed_from_rise 0 0
 
 -- no type begins there, and no earlier unit has the signature
 pub least_type_offset : (entries : List Entry) (units : List PlacedUnit) (number at signature t : ℕ) → (IsSignedBefore units number signature → ⊥) → (HasType entries number (at + t) → ⊥)

@@ -1,7 +1,6 @@
 -- Where no rule on strings, addresses and references fails, values lead somewhere.
-use Rattle.std.proofs.Common.{rules, ◌≡◌, ℕ, List, Option, Some, None, IsSome, refl, sym, ◌+◌, ◌==◌, Bool, true, false, ap, ◌∙◌, inl, inr, eq-eqb}
+use Rattle.std.proofs.Common.{rules, arith, ◌≡◌, ℕ, List, Option, Some, None, IsSome, refl, sym, ◌+◌, Bool, true, false, ap, ◌∙◌, inl, inr}
 use Rattle.std.specs.Prelude.{slice_get}
-use Rattle.std.proofs.lemmas.Bool.{eqb-true}
 use Rattle.dw_elf.specs.declared.sections.Sections.{Sections}
 use Rattle.dw_forms.specs.Codes.{DW_AT_str_offsets_base, DW_AT_addr_base, is_type_tag}
 use Rattle.dw_forms.specs.Value.{Datum, address, text, str, line_str, str_index, ref_info, ref_unit, ref_sig, addr_index}
@@ -13,8 +12,7 @@ use Rattle.dw_entries.specs.Failures.{HasNone}
 use Rattle.dw_entries.specs.Lookups.{value_at_entry, entry_head}
 use Rattle.dw_entries.specs.declared.fault.Rule.{Rule}
 use Rattle.dw_entries.specs.Places.{at_header, at_attribute}
-use Rattle.dw_entries.specs.Asked.{OffsetsRise}
-use Rattle.dw_entries.specs.Runs.{IsEntryIn, ReachesInUnit}
+use Rattle.dw_entries.specs.Asked.{OffsetsRise, values_of}
 use Rattle.dw_entries.proofs.EntryFacts.{entries_rise}
 use Rattle.dw_links.specs.declared.class.Class.TheVariants.{Address, String, Reference}
 use Rattle.dw_links.specs.Classes.{class_of}
@@ -24,7 +22,7 @@ use Rattle.dw_links.specs.ValueTexts.{text_of, address_of, indexed_text, indexed
 use Rattle.dw_links.specs.AttributeTexts.{text_at, address_at}
 use Rattle.dw_links.specs.LinkLaws.{HaveTexts, HaveAddresses, HaveTargets, HaveTypes}
 use Rattle.dw_links.proofs.TableLaws.{unit_of_entry}
-use Rattle.dw_links.proofs.SlotLaws.{passes_string, stands_at}
+use Rattle.dw_links.proofs.SlotLaws.{passes_string, found_value}
 use Rattle.dw_links.specs.References.{permits, permits_form, IsOtherThan, is_reference_value, ReferenceFailsBy, TypeUnitFails, ReferenceFailures}
 use Rattle.dw_links.specs.Signatures.{type_in, HasSignature, first_signed}
 use Rattle.dw_links.specs.Targets.{entry_at, reach_in_unit, reach_of, target_of}
@@ -85,13 +83,13 @@ reference_value _ is = absurd cc
 pub passes_reference : (us : List DebugUnit) (id : ℕ) (e : Entry) (attribute : ℕ) (v : Datum) → HasNone (ReferenceFailures us) → slice_get (entries_of us) id ≡ Some e → value_at_entry e attribute ≡ Some v → is_reference_value v ≡ true
     → (rule : Rule) → ReferenceFailsBy (entries_of us) (placed us) (entry_head e) attribute v rule → ⊥
 passes_reference us id e attribute v none is value reference rule fails =
-    let stands = stands_at e attribute v value in
-    none (record { rule = rule; place = at_attribute e.at stands.position; attribute = attribute })
+    let (position, here) = found_value (values_of e.head) attribute v value in
+    none (record { rule = rule; place = at_attribute e.at position; attribute = attribute })
     (inr (record {
       number = id;
       item = e;
       is_item = is;
-      fails = record { position = stands.position; value = v; has = stands.here; place = refl; fails = (reference, fails) };
+      fails = record { position = position; value = v; has = here; place = refl; fails = (reference, fails) };
     }))
 
 -- nor at the header of a type unit
@@ -109,16 +107,13 @@ passes_header us number signature type_offset p none is kind rule fails =
 no_answer : (o : Option ℕ) (k : ℕ) → o ≡ None → o ≡ Some k → ⊥
 no_answer o k none some = let both : ◌≡◌ {A = Option ℕ} None (Some k) = sym none ∙ some in cc
 
-in_the_unit : (es : List Entry) (us : List PlacedUnit) (number type_offset : ℕ) (p : PlacedUnit) (id : ℕ) → slice_get us number ≡ Some p → IsEntryIn es number (p.at + type_offset) id → ReachesInUnit es us number type_offset id
-in_the_unit es us number type_offset p id is found = record { unit = p; is_unit = is; target = found }
-
 -- the type of a type unit
 type_reached : (us : List DebugUnit) (number signature type_offset : ℕ) (p : PlacedUnit) → OffsetsRise (entries_of us) → HasNone (ReferenceFailures us) → slice_get (placed us) number ≡ Some p → type_in p.unit.header.kind ≡ Some (signature, type_offset)
     → (id : ℕ) × (reach_in_unit (entries_of us) (placed us) number type_offset ≡ Some id)
 type_reached us number signature type_offset p rise none is kind =
     is_told (reach_in_unit (entries_of us) (placed us) number type_offset) (λ nowhere. passes_header us number signature type_offset p none is kind BadTypeOffset (inr (
       refl,
-      λ has. no_answer (reach_in_unit (entries_of us) (placed us) number type_offset) has.id nowhere (reach_in_unit_is (entries_of us) (placed us) number type_offset has.id rise (in_the_unit (entries_of us) (placed us) number type_offset p has.id is has.is_type)),
+      λ has. no_answer (reach_in_unit (entries_of us) (placed us) number type_offset) has.id nowhere (reach_in_unit_is (entries_of us) (placed us) number type_offset has.id rise (record { unit = p; is_unit = is; target = has.is_type })),
     )))
 
 -- ---- each reference reaches an entry
@@ -145,7 +140,7 @@ reached us id e attribute (ref_sig signature) rise none is value class =
     by_signature us e signature (first_signed (placed us) signature) refl rise none (λ unsigned. passes_reference us id e attribute (ref_sig signature) none is value refl NoSignature unsigned)
 reached us id e attribute _ rise none is value class = absurd cc
 
-true_unless : (b : Bool) → (b ≡ false → ⊥) → b ≡ true
+pub true_unless : (b : Bool) → (b ≡ false → ⊥) → b ≡ true
 true_unless true never = refl
 true_unless false never = absurd (never refl)
 
@@ -153,8 +148,8 @@ true_unless false never = absurd (never refl)
 the_next : (next reached : Option ℕ) (id : ℕ) → reached ≡ Some id → (IsOtherThan next reached → ⊥) → next ≡ Some id
 the_next None reached id here never = absurd (never tt)
 the_next (Some n) reached id here never =
-    let same : (id == n) ≡ true = true_unless (id == n) (λ other. never (id, here, λ e. let both : true ≡ false = sym (rw e (eq-eqb n n refl)) ∙ other in cc)) in
-    ap Some (sym (eqb-true id n same))
+    let two : (id ≡ n → ⊥) → ⊥ = λ other. never (id, here, other) in
+    ap Some (grind (arith, two))
 
 pub have_targets : («abbrev» info : List ℕ) (us : List DebugUnit) → Spells «abbrev» us info → HasNone (ReferenceFailures us) → HaveTargets us
 unfolding target_of

@@ -1,6 +1,6 @@
 -- Entries by their offsets, from the start of .debug_info and from headers.
-use Rattle.std.proofs.Common.{rules, ◌≡◌, ℕ, ◌<◌, List, Option, Some, None, ◌∙◌, length, ◌+◌, arith}
-use Rattle.std.specs.Prelude.{slice_get, IfSome, All, ◌≢◌, IfNone}
+use Rattle.std.proofs.Common.{rules, ◌≡◌, ℕ, ◌<◌, List, Some, ◌∙◌, length, ◌+◌, arith}
+use Rattle.std.specs.Prelude.{slice_get, IfSome, All, ◌≢◌}
 use Rattle.std.proofs.lemmas.Option.{slice_get_within, get_or_from_slice_get}
 use Rattle.std.proofs.lemmas.Bool.{ltb-true}
 use Rattle.dw_entries.specs.Entries.{Entry, PlacedUnit}
@@ -10,17 +10,13 @@ use Rattle.dw_entries.proofs.Firsts.{same_some}
 use Rattle.dw_links.proofs.Skips.{there}
 
 -- the entry that was found at an offset
-found_entry : (entries : List Entry) (offset id : ℕ) → IfSome (slice_get entries id) (λ e. e.at ≡ offset) → id < length entries → IsEntryAt entries offset id
+pub found_entry : (entries : List Entry) (offset id : ℕ) → IfSome (slice_get entries id) (λ e. e.at ≡ offset) → id < length entries → IsEntryAt entries offset id
 found_entry entries offset id found within =
     let (e, is) = there entries id within in
     record { entry = e; is_entry = is; begins = rw is at found }
 
 pub no_entry : (entries : List Entry) (offset : ℕ) → All (λ e. e.at ≢ offset) entries → (id : ℕ) → IsEntryAt entries offset id → ⊥
 no_entry entries offset nowhere id found = search (rules, slice_get_within, get_or_from_slice_get)
-
-pub found_some : (entries : List Entry) (offset : ℕ) (o : Option ℕ) → IfSome o (λ id. IfSome (slice_get entries id) (λ e. e.at ≡ offset)) → IfSome o (λ id. id < length entries) → IfSome o (IsEntryAt entries offset)
-found_some entries offset None found within = tt
-found_some entries offset (Some id) found within = found_entry entries offset id found within
 
 at_offset : (entries : List Entry) (n a b id : ℕ) → a ≡ b → IsEntryIn entries n a id → IsEntryIn entries n b id
 at_offset entries n a b id same found = record { entry = found.entry; is_entry = found.is_entry; begins = found.begins ∙ same; in_unit = found.in_unit }
@@ -31,10 +27,6 @@ in_unit entries units n offset at id u is same found = record { unit = u; is_uni
 
 pub in_unit_back : (entries : List Entry) (units : List PlacedUnit) (n offset at id : ℕ) (u : PlacedUnit) → slice_get units n ≡ Some u → at ≡ offset + u.at → ReachesInUnit entries units n offset id → IsEntryIn entries n at id
 in_unit_back entries units n offset at id u is same reached = search (rules, same_some, at_offset)
-
-pub none_map : (o : Option ℕ) (A B : Type 0) → (A → B) → IfNone o A → IfNone o B
-none_map None A B over h = over h
-none_map (Some n) A B over h = h
 
 pub in_place : (entries : List Entry) (units : List PlacedUnit) (n t : ℕ) (p : PlacedUnit) (id : ℕ) → slice_get units n ≡ Some p → ReachesInUnit entries units n t id → IsEntryIn entries n (p.at + t) id
 in_place entries units n t p id is reached = in_unit_back entries units n t (p.at + t) id p is (let e : p.at + t ≡ t + p.at = omega arith in e) reached

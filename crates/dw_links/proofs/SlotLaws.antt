@@ -1,8 +1,8 @@
 -- Where no rule on strings and addresses fails, texts and addresses lie within their sections.
-use Rattle.std.proofs.Common.{rules, ◌≡◌, ◌≢◌, ℕ, suc, ◌+◌, ◌*◌, ◌<◌, ◌≤◌, ◌==◌, ◌⊎◌, Bool, true, false, cond, List, [], ◌∷◌, length, find, Option, Some, None, IfSome, option_map, refl, sym, ap, ◌∙◌, subst, arith, inl, inr}
+use Rattle.std.proofs.Common.{rules, ◌≡◌, ◌≢◌, ℕ, suc, ◌+◌, ◌*◌, ◌<◌, ◌≤◌, ◌==◌, ◌⊎◌, Bool, true, false, List, [], ◌∷◌, length, Option, Some, None, IfSome, refl, sym, ap, ◌∙◌, subst, arith, inl, inr}
 use Rattle.std.specs.Prelude.{slice_get}
 use Rattle.std.proofs.lemmas.Option.{option_and_then_some}
-use Rattle.std.proofs.lemmas.Bool.{eqb-true}
+use Rattle.std.proofs.lemmas.Bool.Decides.{nat_tests}
 use Rattle.dw_elf.specs.declared.sections.Sections.{Sections}
 use Rattle.dw_forms.specs.Codes.{DW_AT_str_offsets_base, DW_AT_addr_base}
 use Rattle.dw_forms.specs.Value.{Datum, str, line_str, str_index, sec_offset, addr_index}
@@ -14,7 +14,7 @@ use Rattle.dw_entries.specs.Units.{DebugUnit}
 use Rattle.dw_entries.specs.Entries.{Entry, PlacedUnit, entries_of, placed}
 use Rattle.dw_entries.specs.Places.{at_attribute}
 use Rattle.dw_entries.specs.Failures.{HasNone}
-use Rattle.dw_entries.specs.Asked.{values_of}
+use Rattle.dw_entries.specs.Asked.{values_of, HasAttribute}
 use Rattle.dw_entries.specs.Lookups.{entry_head, value_in, value_at_entry}
 use Rattle.dw_entries.proofs.EntryFacts.{first_entry}
 use Rattle.dw_entries.proofs.Firsts.{same_some}
@@ -25,42 +25,43 @@ use Rattle.dw_links.specs.Slots.{IsTextSlot, TextLies, IsAddressSlot, AddressLie
 
 -- ---- the attribute that a value is found at
 
--- the position of an attribute with this code and value
-pub record Stands (values : List (ℕ × Datum)) (attribute : ℕ) (v : Datum) : Type 0 where
-  pub position : ℕ
-  pub here : slice_get values position ≡ Some (attribute, v)
+-- at a position is an attribute with this code and value
+abbrev pub At : List (ℕ × Datum) → ℕ → Datum → Type 0
+At values attribute v = (position : ℕ) × (slice_get values position ≡ Some (attribute, v))
 
-found_value : (values : List (ℕ × Datum)) (attribute : ℕ) (v : Datum) → value_in values attribute ≡ Some v → Stands values attribute v
+found_here : (x : ℕ × Datum) (xs : List (ℕ × Datum)) (attribute : ℕ) (v : Datum) → value_in (x ∷ xs) attribute ≡ Some v → (value_in xs attribute ≡ Some v → At xs attribute v)
+    → (b : Bool) → (x.0 == attribute) ≡ b → At (x ∷ xs) attribute v
+found_here x xs attribute v is more true here = search (rules, nat_tests)
+found_here x xs attribute v is more false here =
+    let behind = more (rw here at is) in
+    (suc behind.0, behind.1)
+
+-- an attribute that has a value is at a position
+pub found_value : (values : List (ℕ × Datum)) (attribute : ℕ) (v : Datum) → value_in values attribute ≡ Some v → At values attribute v
 found_value [] attribute v is = absurd cc
-found_value ((code, value) ∷ values) attribute v is = go (code == attribute) refl is (found_value values attribute v)
-  where
-    go : (b : Bool) → (code == attribute) ≡ b → option_map (λ (a : ℕ × Datum). a.1) (cond b (Some (code, value)) (find (λ (a : ℕ × Datum). a.0 == attribute) values)) ≡ Some v → (value_in values attribute ≡ Some v → Stands values attribute v)
-        → Stands ((code, value) ∷ values) attribute v
-    go true passes e more =
-        let same : code ≡ attribute = eqb-true code attribute passes in
-        let one : value ≡ v = same_some (Some value) value v refl e in
-        record { position = 0; here = rw (same, one) refl }
-    go false fails e more = let rest = more e in record { position = suc rest.position; here = rest.here }
-
--- an attribute of an entry is at a position
-pub stands_at : (e : Entry) (attribute : ℕ) (v : Datum) → value_at_entry e attribute ≡ Some v → Stands (values_of e.head) attribute v
-stands_at e = found_value (values_of e.head)
+found_value (x ∷ values) attribute v is = found_here x values attribute v is (found_value values attribute v) (x.0 == attribute) refl
 
 -- ---- what no failure says
 
--- no rule fails at the attribute
-pub passes_string : (sections : Sections) (us : List DebugUnit) (id : ℕ) (e : Entry) (p : PlacedUnit) (attribute : ℕ) (v : Datum) → HasNone (StringFailures sections us) → slice_get (entries_of us) id ≡ Some e → slice_get (placed us) e.unit ≡ Some p
-    → value_at_entry e attribute ≡ Some v → (rule : Rule)
+-- no rule fails at an attribute
+pub passes_at : (sections : Sections) (us : List DebugUnit) (id : ℕ) (e : Entry) (p : PlacedUnit) (position attribute : ℕ) (v : Datum) → HasNone (StringFailures sections us) → slice_get (entries_of us) id ≡ Some e → slice_get (placed us) e.unit ≡ Some p
+    → HasAttribute e position attribute v → (rule : Rule)
     → StringFailsIn sections p.unit.header (base_in (entries_of us) p DW_AT_str_offsets_base) (base_in (entries_of us) p DW_AT_addr_base) (entry_head e) attribute v rule → ⊥
-passes_string sections us id e p attribute v none is is_unit value rule fails =
-    let stands = stands_at e attribute v value in
-    none (record { rule = rule; place = at_attribute e.at stands.position; attribute = attribute })
+passes_at sections us id e p position attribute v none is is_unit has rule fails =
+    none (record { rule = rule; place = at_attribute e.at position; attribute = attribute })
     (record {
       number = id;
       item = e;
       is_item = is;
-      fails = record { position = stands.position; value = v; has = stands.here; place = refl; fails = record { unit = p; in_unit = is_unit; fails = fails } };
+      fails = record { position = position; value = v; has = has; place = refl; fails = record { unit = p; in_unit = is_unit; fails = fails } };
     })
+
+pub passes_string : (sections : Sections) (us : List DebugUnit) (id : ℕ) (e : Entry) (p : PlacedUnit) (attribute : ℕ) (v : Datum) → HasNone (StringFailures sections us) → slice_get (entries_of us) id ≡ Some e → slice_get (placed us) e.unit ≡ Some p
+    → value_at_entry e attribute ≡ Some v → (rule : Rule)
+    → StringFailsIn sections p.unit.header (base_in (entries_of us) p DW_AT_str_offsets_base) (base_in (entries_of us) p DW_AT_addr_base) (entry_head e) attribute v rule → ⊥
+passes_string sections us id e p attribute v none is is_unit value =
+    let (position, here) = found_value (values_of e.head) attribute v value in
+    passes_at sections us id e p position attribute v none is is_unit here
 
 -- a base is what the first entry of a unit of version 5 says
 pub record SaysBase (es : List Entry) (p : PlacedUnit) (attribute base : ℕ) : Type 0 where
@@ -77,7 +78,7 @@ base_said : (es : List Entry) (p : PlacedUnit) (attribute base : ℕ) → base_i
 base_said es p attribute base is = search (rules, option_and_then_some, offset_said)
 
 -- so no rule on bases fails at it
-sound : (sections : Sections) (us : List DebugUnit) (k : ℕ) (p : PlacedUnit) (attribute base : ℕ) (rule : Rule) → HasNone (StringFailures sections us) → slice_get (placed us) k ≡ Some p → base_in (entries_of us) p attribute ≡ Some base
+pub sound : (sections : Sections) (us : List DebugUnit) (k : ℕ) (p : PlacedUnit) (attribute base : ℕ) (rule : Rule) → HasNone (StringFailures sections us) → slice_get (placed us) k ≡ Some p → base_in (entries_of us) p attribute ≡ Some base
     → BaseFails sections p.unit.header attribute base rule → ⊥
 sound sections us k p attribute base rule none is said fails =
     let says = base_said (entries_of us) p attribute base said in

@@ -1,6 +1,7 @@
 -- The first item of a list that passes a test, and the entry that a value reaches.
 use Rattle.std.proofs.Common.{rules, ltb, get_or, ◌≤◌, ◌≡◌, ℕ, ◌+◌, ◌<◌, Bool, true, false, cond, List, Option, Some, None, IfSome, IfNone, refl, sym, ap, ◌∙◌, arith, ◌==◌, ◌&&◌, length, IsSome, option_and_then, subst, eq-eqb, ne_eqb}
-use Rattle.std.specs.Prelude.{slice_get}
+use Rattle.std.specs.Prelude.{slice_get, All, ◌≢◌}
+use Rattle.std.proofs.Math.Bool.{and-false}
 use Rattle.std.specs.List.{position_from, position_or_len}
 use Rattle.std.proofs.lemmas.Option.{slice_get_within, slice_get-get_or, get_or_from_slice_get, option_and_then_some}
 use Rattle.std.proofs.lemmas.Bool.{eqb-true, ltb-true, ltb-false, lt-ltb}
@@ -11,6 +12,7 @@ use Rattle.dw_entries.proofs.Firsts.{same_some}
 use Rattle.dw_entries.specs.Asked.{OffsetsRise}
 use Rattle.dw_entries.specs.Entries.{Entry, PlacedUnit}
 use Rattle.dw_entries.specs.Runs.{IsEntryAt, IsEntryIn, ReachesInUnit}
+use Rattle.dw_links.proofs.Reached.{found_entry, no_entry}
 use Rattle.dw_links.proofs.Skips.{there}
 use Rattle.dw_links.specs.LinkLaws.{ReachesBySignature}
 use Rattle.dw_links.specs.Signatures.{type_in, HasSignature, is_signature_of, first_signed, AreDistinct}
@@ -89,15 +91,6 @@ at_entry_at entries offset id is =
     let first = place_is (λ (e : Entry). e.at == offset) entries id is in
     record { entry = first.item; is_entry = first.is_item; begins = eqb-true first.item.at offset first.passes }
 
-both_true : (a b : Bool) → a ≡ true → b ≡ true → (a && b) ≡ true
-both_true true true p q = refl
-both_true true false p q = q
-both_true false b p q = p
-
-second_false : (a b : Bool) → b ≡ false → (a && b) ≡ false
-second_false true b is = is
-second_false false b is = refl
-
 each_true : (a b : Bool) → (a && b) ≡ true → (a ≡ true) × (b ≡ true)
 each_true true b is = (refl, is)
 each_true false b is = absurd cc
@@ -110,8 +103,8 @@ entry_in_is entries unit offset id rise found =
     (record {
       item = found.entry;
       is_item = found.is_entry;
-      passes = both_true (found.entry.unit == unit) (found.entry.at == offset) (eq-eqb found.entry.unit unit found.in_unit) (eq-eqb found.entry.at offset begins);
-      before = λ j d lt at. second_false (d.unit == unit) (d.at == offset) (ne_eqb d.at offset (λ same. omega (arith, rise j id d found.entry lt at found.is_entry, same, begins)));
+      passes = rw (eq-eqb found.entry.unit unit found.in_unit, eq-eqb found.entry.at offset begins) refl;
+      before = λ j d lt at. rw (ne_eqb d.at offset (λ same. omega (arith, rise j id d found.entry lt at found.is_entry, same, begins))) (and-false (d.unit == unit));
     })
 
 pub at_entry_in : (entries : List Entry) (unit offset id : ℕ) → entry_in entries unit offset ≡ Some id → IsEntryIn entries unit offset id
@@ -122,8 +115,13 @@ at_entry_in entries unit offset id is =
     record { entry = first.item; is_entry = first.is_item; begins = eqb-true first.item.at offset both.1; in_unit = eqb-true first.item.unit unit both.0 }
 
 -- what a search by offset answers
-pub entry_at_answer : (entries : List Entry) (offset : ℕ) (answer : Option ℕ) → OffsetsRise entries → IfSome answer (IsEntryAt entries offset) → IfNone answer ((id : ℕ) → IsEntryAt entries offset id → ⊥) → answer ≡ entry_at entries offset
+entry_at_answer : (entries : List Entry) (offset : ℕ) (answer : Option ℕ) → OffsetsRise entries → IfSome answer (IsEntryAt entries offset) → IfNone answer ((id : ℕ) → IsEntryAt entries offset id → ⊥) → answer ≡ entry_at entries offset
 entry_at_answer entries offset answer rise = answer_is (IsEntryAt entries offset) (entry_at entries offset) answer (at_entry_at entries offset) (λ id. entry_at_is entries offset id rise)
+
+pub entry_found : (entries : List Entry) (offset : ℕ) (answer : Option ℕ) → OffsetsRise entries → IfSome answer (λ id. IfSome (slice_get entries id) (λ e. e.at ≡ offset)) → IfSome answer (λ id. id < length entries)
+    → IfNone answer (All (λ e. e.at ≢ offset) entries) → answer ≡ entry_at entries offset
+entry_found entries offset None rise found within none = entry_at_answer entries offset None rise tt (no_entry entries offset none)
+entry_found entries offset (Some id) rise found within none = entry_at_answer entries offset (Some id) rise (found_entry entries offset id found within) tt
 
 -- ---- entries by their offsets from a header
 
