@@ -1,6 +1,6 @@
 -- The children of an entry, in the words of the look-ups and by the facts of entries, and a loop over them.
 use Rattle.std.proofs.lemmas.Grind.{common_steps}
-use Rattle.std.proofs.Common.{rules, ◌≡◌, ℕ, zero, suc, ◌+◌, ◌<◌, ◌≤◌, true, false, if◌then◌else◌, List, [], ◌∷◌, length, Option, Some, None, IfSome, refl, sym, ap, subst, ◌∙◌, arith, eqb-true, ◌-◌, drop, inl, inr, length-drop, ◌++◌, append_assoc}
+use Rattle.std.proofs.Common.{rules, ◌≡◌, ℕ, zero, suc, ◌+◌, ◌<◌, ◌≤◌, false, if◌then◌else◌, List, [], ◌∷◌, length, Option, Some, None, IfSome, refl, sym, ap, subst, ◌∙◌, arith, ◌-◌, drop, inl, inr, length-drop, ◌++◌, append_assoc}
 use Rattle.std.specs.Prelude.{slice_get, option_map}
 use Rattle.std.proofs.lemmas.Option.{slice_get_within, slice_get_cases}
 use Rattle.std.specs.List.{filter, range_with_len}
@@ -44,18 +44,14 @@ pub first_of_behind : (us : List DebugUnit) (id k : ℕ) → k ≡ id + 1 → si
 unfolding children_of
 first_of_behind us id k is = ap (λ n. siblings_from (entries_of us) id (Some n)) (let e : k ≡ suc id = omega (arith, is) in e) ∙ first_behind us id
 
-number_is : (p : ℕ) (above : Option ℕ) → is_number p above ≡ true → above ≡ Some p
-number_is p None is = absurd cc
-number_is p (Some q) is = ap Some (eqb-true q p is)
-
-pub linked_of_behind : (us : List DebugUnit) (id k : ℕ) → k < length (entries_of us) → IfSome (slice_get (entries_of us) k) (λ e. true ≡ is_number id e.parent) → IsChild (entries_of us) id (Some k)
-linked_of_behind us id k lt says = search (rules, slice_get_none, linked_there, number_is)
+pub linked_of_behind : (us : List DebugUnit) (id k : ℕ) (above : Option ℕ) → k < length (entries_of us) → IfSome (slice_get (entries_of us) k) (λ e. above ≡ e.parent) → above ≡ Some id → IsChild (entries_of us) id (Some k)
+linked_of_behind us id k above lt says is = search (rules, slice_get_none, linked_there)
 
 -- the entry behind is no child, or there is none
-pub none_of_behind : (us : List DebugUnit) (id k : ℕ) → k ≡ id + 1 → id < length (entries_of us) → k < length (entries_of us) → IfSome (slice_get (entries_of us) k) (λ e. false ≡ is_number id e.parent)
-    → children_of (entries_of us) id ≡ []
+pub none_of_behind : (us : List DebugUnit) (id k : ℕ) (above : Option ℕ) → k ≡ id + 1 → id < length (entries_of us) → k < length (entries_of us) → IfSome (slice_get (entries_of us) k) (λ e. above ≡ e.parent)
+    → is_number id above ≡ false → children_of (entries_of us) id ≡ []
 unfolding children_of
-none_of_behind us id k is here lt says = search (rules, slice_get_none, no_first)
+none_of_behind us id k above is here lt says isnt = search (rules, slice_get_none, no_first)
 
 pub none_past : (us : List DebugUnit) (id k : ℕ) → k ≡ id + 1 → length (entries_of us) ≤ k → children_of (entries_of us) id ≡ []
 unfolding children_of
@@ -65,10 +61,6 @@ none_past us id k is le = none_behind us id (omega (arith, is, le))
 
 pub fewer_left : (m : ℕ) (old new : List ℕ) → old ≡ m ∷ new → length new < length old
 fewer_left m old new is = let same : length old ≡ suc (length new) = ap length is in omega (arith, same)
-
-parent-number : (above : Option ℕ) (p : ℕ) → is_parent above p ≡ is_number p above
-parent-number None p = refl
-parent-number (Some q) p = refl
 
 -- the facts of these entries stand from number k on
 abbrev AreFactsFrom : List Facts → ℕ → List Entry → Type 0
@@ -83,7 +75,7 @@ children-here facts p k (e ∷ es) are =
     let first : k ≡ k + 0 = omega arith in
     let next : k + 1 ≡ suc k = omega arith in
     let above : (entry_of facts k).parent ≡ e.parent = ap (λ (n : ℕ). (entry_of facts n).parent) first ∙ are 0 e refl in
-    let test : is_child facts p k ≡ is_number p e.parent = ap (λ (o : Option ℕ). is_parent o p) above ∙ parent-number e.parent p in
+    let test : is_child facts p k ≡ is_number p e.parent = ap (λ (o : Option ℕ). is_parent o p) above in
     let more : filter (is_child facts p) (range_with_len (k + 1) (length es)) ≡ children_from es p (suc k) = children-here facts p (k + 1) es (rest-are facts k e es are) ∙ ap (children_from es p) next in
     rw test (ap (λ (rest : List ℕ). if is_number p e.parent then k ∷ rest else rest) more)
 

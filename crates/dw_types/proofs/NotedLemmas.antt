@@ -40,6 +40,11 @@ module _ (entries : List Facts) (rise : OffsetsRise entries) where
 pub none-of_entries : (entries : List Facts) (fails : ℕ → Rule → Bool) → PassAll entries fails → HasNone (EntryFailures entries fails)
 none-of_entries entries fails pass f failing = pass failing.number (slice_get_within entries failing.number failing.item failing.is_item) f.rule failing.fails.fails
 
+-- rules that fail in the same way have one least rule
+pub least-same : (P Q : Rule → Bool) → ((r : Rule) → P r ≡ Q r) → (rule : Option Rule) → IsLeast (λ r. P r ≡ true) rule → IsLeast (λ r. Q r ≡ true) rule
+least-same P Q same None none = λ r breaks. none r (same r ∙ breaks)
+least-same P Q same (Some rule) least = (sym (same rule) ∙ least.0, λ r breaks lower. least.1 r (same r ∙ breaks) lower)
+
 module _ (fails : ℕ → Rule → Bool) (Seen : ℕ → Type 0) where
   -- other entries that pass may be seen too
   pub noted-pass : (More : ℕ → Type 0) (found : Option (ℕ × Rule)) → ((k : ℕ) → More k → PassesAt fails k) → IsNoted fails Seen found → IsNoted fails (λ k. Seen k ⊎ More k) found

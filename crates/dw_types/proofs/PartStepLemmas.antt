@@ -1,5 +1,5 @@
 -- The steps of an entry through its children, one after another.
-use Rattle.std.proofs.Common.{rules, ◌≡◌, ℕ, ◌-◌, ◌<◌, Bool, true, false, not, List, [], ◌∷◌, ◌++◌, Option, length, get_or, inl, inr, refl, sym, ap, arith, append-nil, append_assoc, nat_eq, length-append}
+use Rattle.std.proofs.Common.{rules, ◌≡◌, ℕ, ◌-◌, ◌<◌, Bool, true, false, List, [], ◌∷◌, ◌++◌, Option, length, get_or, inl, inr, refl, sym, ap, arith, append-nil, append_assoc, length-append}
 use Rattle.std.specs.List.{filter, flat_map}
 use Rattle.std.specs.Option.{option_to_list}
 use Rattle.std.proofs.lemmas.Bool.{and_right, cases_lt}
@@ -7,12 +7,12 @@ use Rattle.std.proofs.lemmas.List.{get_or_append_left}
 use Rattle.std.proofs.Math.Seq.{get_or-append_right}
 use Rattle.std.proofs.lemmas.List.Concat.{flat_map-append}
 use Rattle.std.proofs.lemmas.List.Elements.{Contains-get_or}
-use Rattle.dw_forms.specs.Codes.{DW_TAG_member, is_type_tag}
+use Rattle.dw_forms.specs.Codes.{is_type_tag}
 use Rattle.dw_types.specs.Entries.{entry_of, is_child, children, TargetsAreEntries, Facts}
 use Rattle.dw_types.specs.Kinds.{has_members, is_declared_type, passes_type_on, Members}
 use Rattle.dw_types.specs.Packing.{LeadsBelow}
 use Rattle.dw_types.specs.Shapes.{is_plain}
-use Rattle.dw_types.specs.Steps.{is_plain_member, member_step, part_step, steps_by_value, targets_if}
+use Rattle.dw_types.specs.Steps.{member_step, part_step, steps_by_value, targets_if}
 use Rattle.dw_types.proofs.StepLemmas.{flat_map-none, no-signature_step, step-to_entry, steps-from}
 use Rattle.dw_types.proofs.RoleLemmas.{untyped-declared, untyped-members, untyped-passes}
 

@@ -18,7 +18,7 @@ use Rattle.dw_types.specs.Noted.{IsNoted, Passed}
 use Rattle.dw_types.specs.Shapes.{breaks_shape, has_bad_count, fails_shape, ShapeFailures}
 use Rattle.dw_types.specs.ShapesSeen.{has_parts, HasSeenShapes, array, part}
 use Rattle.dw_types.specs.TypeFailures.{PassesAt}
-use Rattle.dw_types.proofs.NotedLemmas.{broken_at, first-of_entries, none-of_entries, noted-first, noted-none, noted-pass, noted-same}
+use Rattle.dw_types.proofs.NotedLemmas.{broken_at, first-of_entries, least-same, none-of_entries, noted-first, noted-none, noted-pass, noted-same}
 use Rattle.dw_types.proofs.RoleLemmas.{child-in, counted-other, other-role, plain-other, untyped-array, untyped-members}
 
 -- the least rule that fails
@@ -32,10 +32,6 @@ array-same : (entry : Facts) (role second : Role) → is_array entry ≡ true �
 array-same entry role second is MissingType = rw is refl
 array-same entry role second is BadCount = let tag : entry.tag ≡ DW_TAG_array_type = eqb-true entry.tag DW_TAG_array_type is in rw tag refl
 array-same entry role second is _ = refl
-
-least-same : (P Q : Rule → Bool) → ((r : Rule) → P r ≡ Q r) → (rule : Option Rule) → IsLeast (λ r. P r ≡ true) rule → IsLeast (λ r. Q r ≡ true) rule
-least-same P Q same None none = λ r breaks. none r (same r ∙ breaks)
-least-same P Q same (Some rule) least = (sym (same rule) ∙ least.0, λ r breaks lower. least.1 r (same r ∙ breaks) lower)
 
 pub array-least : (entries : List Facts) (node : ℕ) (rule : Option Rule) → is_array (entry_of entries node) ≡ true → IsLeast (λ r. breaks_shape Other (entry_of entries node) r ≡ true) rule
     → IsLeast (λ r. fails_shape entries node r ≡ true) rule

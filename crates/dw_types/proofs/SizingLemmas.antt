@@ -1,6 +1,6 @@
 -- The rules on sizes at an entry and at its members: which entries are checked there, and what is noted.
 use Rattle.std.proofs.lemmas.Grind.{common_steps}
-use Rattle.std.proofs.Common.{rules, ◌≡◌, ℕ, ◌^◌, ◌<◌, Bool, true, false, ◌||◌, not, if◌then◌else◌, List, [], ◌∷◌, ◌++◌, Option, Some, None, length, set, nat_eq, ◌⊎◌, inl, inr, refl, sym, ap, ◌∙◌, arith}
+use Rattle.std.proofs.Common.{rules, ◌≡◌, ℕ, ◌^◌, ◌<◌, Bool, true, false, not, if◌then◌else◌, List, [], ◌∷◌, ◌++◌, Option, Some, None, length, set, nat_eq, ◌⊎◌, inl, inr, refl, sym, ap, ◌∙◌, arith}
 use Rattle.std.specs.Option.{option_map_or}
 use Rattle.std.proofs.lemmas.Bool.{and_parts, cases_lt, eqb-true, eq-eqb, false_from_ne_true, false≢true}
 use Rattle.std.proofs.lemmas.List.{get_or_past, set-get_or}
@@ -19,7 +19,7 @@ use Rattle.dw_types.specs.Sizes.{size_of_kind, size_to}
 use Rattle.dw_types.specs.TypeFailures.{PassesAt}
 use Rattle.dw_types.proofs.RoleLemmas.{child-in, members-role, parent-true, plain-other, untyped-enumeration, untyped-kind, untyped-members, untyped-size_none}
 use Rattle.dw_types.proofs.ListLemmas.{at_set}
-use Rattle.dw_types.proofs.NotedLemmas.{noted-child, noted-more, noted-pass, noted-same, noted-skipped}
+use Rattle.dw_types.proofs.NotedLemmas.{least-same, noted-child, noted-more, noted-pass, noted-same, noted-skipped}
 use Rattle.dw_types.proofs.SizeLineLemmas.{capped_line}
 
 -- where the rules are checked at an entry
@@ -50,6 +50,9 @@ member-untyped tag is = let same : tag ≡ DW_TAG_member = eqb-true tag DW_TAG_m
 
 pub type-unmember : (tag : ℕ) → is_type_tag tag ≡ true → nat_eq tag DW_TAG_member ≡ false
 type-unmember tag is = false_from_ne_true (nat_eq tag DW_TAG_member) (λ member. false≢true (sym (member-untyped tag member) ∙ is))
+
+pub members-unmember : (entry : Facts) → has_members entry ≡ true → nat_eq entry.tag DW_TAG_member ≡ false
+members-unmember entry is = grind arith
 
 unmember-plain : (role : Role) (entry : Facts) → nat_eq entry.tag DW_TAG_member ≡ false → is_plain role entry ≡ false
 unmember-plain role entry is = rw is refl
@@ -85,10 +88,6 @@ module _ (entries : List Facts) (table : ℕ → Size) where
   pub untyped-asked : OnlyTypesAreSized entries table → (node : ℕ) → is_type_tag (entry_of entries node).tag ≡ false → has_members (entry_of entries node) ≡ false → (k : ℕ) → asked_at entries k ≡ node → PassesAt (fails_size entries table) k
   untyped-asked sized node untyped not k is rule breaks =
       search (rules, asked-of, untyped-passes, unmember-plain, alone-plain)
-
-  least-same : (f g : Rule → Bool) → ((r : Rule) → f r ≡ g r) → (rule : Option Rule) → IsLeast (λ r. f r ≡ true) rule → IsLeast (λ r. g r ≡ true) rule
-  least-same f g same None none = λ r breaks. none r (same r ∙ breaks)
-  least-same f g same (Some least) is = (sym (same least) ∙ is.0, λ r breaks lower. is.1 r (same r ∙ breaks) lower)
 
   -- a type is no member
   type-same : (node : ℕ) (size : Size) → is_type_tag (entry_of entries node).tag ≡ true → table node ≡ size → (rule : Rule)
@@ -160,36 +159,6 @@ pub asked-noted : (entries : List Facts) (fails : ℕ → Rule → Bool) (Seen :
     → IsNoted fails (λ k. (Seen k ⊎ (k ≡ node)) ⊎ (is_member_of entries node k ≡ true)) found → IsNoted fails (λ k. Seen k ⊎ (asked_at entries k ≡ node)) found
 asked-noted entries fails Seen node found plain h =
     search (rules, noted-same, asked-itself, and_parts, asked-member, parent-true, asked-of, eq-eqb)
-
--- the same, where the members are noted after the others
-
-either-of : (a b : Bool) → (a || b) ≡ true → (a ≡ true) ⊎ (b ≡ true)
-either-of true b is = inl refl
-either-of false b is = inr is
-
-or-left : (a b : Bool) → a ≡ true → (a || b) ≡ true
-or-left true b is = refl
-or-left false b is = absurd (false≢true is)
-
-or-right : (a b : Bool) → b ≡ true → (a || b) ≡ true
-or-right true b is = refl
-or-right false b is = is
-
-pub holder-noted : (entries : List Facts) (fails : ℕ → Rule → Bool) (seen : ℕ → Bool) (node : ℕ) (found new : Option (ℕ × Rule)) → nat_eq (entry_of entries node).tag DW_TAG_member ≡ false
-    → ((other : ℕ → Bool) → IsNoted fails (λ k. other k ≡ true) found → IsNoted fails (λ k. (other k ≡ true) ⊎ (is_member_of entries node k ≡ true)) new)
-    → IsNoted fails (λ k. (seen k ≡ true) ⊎ (k ≡ node)) found → IsNoted fails (λ k. (seen k ≡ true) ⊎ (asked_at entries k ≡ node)) new
-holder-noted entries fails seen node found new plain more h =
-    let both : ℕ → Bool = λ k. seen k || nat_eq k node in
-    let to : (k : ℕ) → (seen k ≡ true) ⊎ (k ≡ node) → both k ≡ true = λ k is. elim is [
-      | inl old ↦ or-left (seen k) (nat_eq k node) old
-      | inr here ↦ or-right (seen k) (nat_eq k node) (eq-eqb k node here)
-    ] in
-    let back : (k : ℕ) → both k ≡ true → (seen k ≡ true) ⊎ (k ≡ node) = λ k is. elim (either-of (seen k) (nat_eq k node) is) [ inl old ↦ inl old | inr here ↦ inr (eqb-true k node here) ] in
-    let after = more both (noted-same fails (λ k. (seen k ≡ true) ⊎ (k ≡ node)) (λ k. both k ≡ true) found to back h) in
-    asked-noted entries fails (λ k. seen k ≡ true) node new plain
-    (noted-same fails (λ k. (both k ≡ true) ⊎ (is_member_of entries node k ≡ true)) (λ k. ((seen k ≡ true) ⊎ (k ≡ node)) ⊎ (is_member_of entries node k ≡ true)) new
-    (λ k is. elim is [ inl before ↦ inl (back k before) | inr member ↦ inr member ])
-    (λ k is. elim is [ inl before ↦ inl (to k before) | inr member ↦ inr member ]) after)
 
 -- a type without plain members was noted: all that is checked at it
 pub alone-noted : (entries : List Facts) (table : ℕ → Size) (Seen : ℕ → Type 0) (node : ℕ) (found : Option (ℕ × Rule)) → OnlyTypesAreSized entries table → has_members (entry_of entries node) ≡ false

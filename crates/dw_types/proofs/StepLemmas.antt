@@ -80,9 +80,7 @@ steps-to entries from to (by_member member below plain is) =
     Contains-append_left _ (targets_if (is_declared_type (entry_of entries from)) (entry_of entries from).signature_target) to
     (Contains-append_right own (flat_map (member_step entries from) (entry_numbers entries)) to
     (in-flat_map (member_step entries from) (entry_numbers entries) member to (omega arith) (rw at.1 here)))
-steps-to entries from to (by_signature declared is) =
-    let own = targets_if (passes_type_on (entry_of entries from)) (entry_of entries from).type_target in
-    Contains-append_right (own ++ flat_map (member_step entries from) (entry_numbers entries)) _ to (in-targets _ _ to declared is)
+steps-to entries from to (by_signature declared is) = search (rules, Contains-append_right, in-targets)
 
 -- only an entry has a step by value
 step-inside : (entries : List Facts) (from to : ℕ) → length entries ≤ from → IsStepByValue entries from to → ⊥

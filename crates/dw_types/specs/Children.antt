@@ -1,15 +1,14 @@
 -- Chapter: the children of an entry, by the entries and by their facts, and those from one child on (DWARF 5, 2.3).
-use Rattle.std.specs.Prelude.{◌≡◌, ℕ, suc, ◌-◌, ◌<◌, ◌==◌, false, Bool, if◌then◌else◌, List, [], ◌∷◌, drop, filter}
+use Rattle.std.specs.Prelude.{◌≡◌, ℕ, suc, ◌-◌, ◌<◌, Bool, if◌then◌else◌, List, [], ◌∷◌, drop, filter}
 use Rattle.std.specs.Prelude.{length, Option, None, Some, option_map, slice_get}
 use Rattle.std.specs.Option.{ForSome}
 use Rattle.std.specs.List.{range_with_len}
 use Rattle.dw_entries.specs.Entries.{Entry}
-use Rattle.dw_types.specs.Entries.{entry_of, is_child, Facts}
+use Rattle.dw_types.specs.Entries.{entry_of, is_child, is_parent, Facts}
 
 -- whether a parent is the entry with this number
 abbrev pub is_number : ℕ → Option ℕ → Bool
-is_number id None = false
-is_number id (Some p) = p == id
+is_number id above = is_parent above id
 
 -- the numbers of those of these entries, numbered from k on, whose parent is the entry with this number
 abbrev pub children_from : List Entry → ℕ → ℕ → List ℕ

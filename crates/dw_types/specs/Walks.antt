@@ -1,5 +1,5 @@
 -- State: what holds of the state of a walk over a graph before and after each turn.
-use Rattle.std.specs.Prelude.{◌≡◌, ◌≢◌, ℕ, ◌+◌, ◌-◌, ◌*◌, ◌^◌, ◌<◌, ◌≤◌, ◌⊎◌, Bool, true, false, length, slice_index}
+use Rattle.std.specs.Prelude.{◌≡◌, ◌≢◌, ℕ, ◌+◌, ◌-◌, ◌*◌, ◌^◌, ◌<◌, ◌≤◌, ◌⊎◌, Bool, true, false, [], length, slice_index}
 use Rattle.std.specs.Prelude.{Option, Some, None, sum, count_by}
 use Rattle.dw_types.specs.Cycles.{ReachesCycle}
 use Rattle.dw_types.specs.declared.walk.Mark.{Mark}
@@ -125,3 +125,10 @@ pub record HasFollowed (graph : Graph) (old new : State) (stop : Option ℕ) : T
   pub taken : KeepsTaken old new
   pub gave_up : new.gave_up ≡ old.gave_up
   pub less : work_left graph new < work_left graph old
+
+-- a fresh node was taken up: each node that was taken up from there has its rank, or a step goes to an open node
+pub record HasWalked (graph : Graph) (old : State) (start : ℕ) (new : State) (stop : Option ℕ) : Type 0 where
+  pub comes : ComesTo graph new stop
+  pub empty : stop ≡ None → new.stack ≡ []
+  pub taken : KeepsTaken (taken_up old start) new
+  pub gave_up : new.gave_up ≡ old.gave_up

@@ -17,7 +17,6 @@ ghost use Rattle.dw_types.specs.Noted.{IsNoted};
 ghost use Rattle.dw_types.specs.ShapesSeen.{HasSeenArray, HasSeenShapes};
 ghost use Rattle.dw_types.specs.Steps.{by_value, part_step, steps_by_value, targets_if, IsStepByValue};
 
-use crate::count::Constant;
 use crate::facts::{FactsAt, FactsList, languages_of};
 use crate::graph::{Packed, StepGraph};
 use crate::numbers::Numbers;
@@ -47,11 +46,10 @@ impl FactsAt<'_, '_> {
 
     /// Whether it is a subrange with a known count below 0.
     #[inline(always)]
-    fn has_bad_count(&self, language: Constant) -> bool
-        requires { language ≡ self.now.language }
+    fn has_bad_count(&self) -> bool
         ensures { result ≡ has_bad_count Dimensions self.now }
     {
-        self.is_subrange() && matches!(self.known_count(language), Some(n) if n < 0)
+        self.is_subrange() && matches!(self.known_count(), Some(n) if n < 0)
     }
 
     /// The rule on shapes that the entry violates if it is an array.
@@ -82,18 +80,15 @@ impl FactsAt<'_, '_> {
 
     /// The rule on shapes that a child of an array violates.
     #[inline(always)]
-    fn broken_dimension(&self, language: Constant) -> Option<Rule>
-        requires { language ≡ self.now.language }
+    fn broken_dimension(&self) -> Option<Rule>
         ensures { IsLeast (λ rule. breaks_shape Dimensions self.now rule ≡ true) result }
     {
-        if self.has_bad_count(language) {
+        if self.has_bad_count() {
             return Some(Rule::BadCount);
         }
         self.broken_array()
     }
-}
 
-impl FactsAt<'_, '_> {
     /// The step that the entry makes to its type.
     #[inline(always)]
     fn type_step(&self) -> Option<usize>
@@ -171,8 +166,7 @@ fn note_dimensions(entries: &mut FactsList<'_, '_>, least: &mut LeastFault, node
     let mut next = entries.first_child(node);
     while let Some(child) = next {
         let dimension = entries.at(child);
-        let language = entries.language(child);
-        note(least, child, dimension.broken_dimension(language));
+        note(least, child, dimension.broken_dimension());
         next = entries.next_sibling(child);
     }
 }
@@ -247,7 +241,7 @@ impl ByValue {
         let mut least: LeastFault = None;
         let mut types = 0;
         for node in 0..count {
-            if entries.is_type(node) {
+            if entries.at(node).is_type() {
                 types += 1;
                 push_row(&mut entries, &mut steps, &mut least, node)?;
             }

@@ -171,15 +171,14 @@ fn known_natural(count: Option<i128>) -> Option<u128>
 }
 
 impl FactsAt<'_, '_> {
-    /// The count of a dimension in a unit of this language. It may be below 0.
+    /// The count of a dimension. It may be below 0.
     #[inline(always)]
-    pub(crate) fn known_count(&self, language: Constant) -> Option<i128>
-        requires { language ≡ self.now.language }
+    pub(crate) fn known_count(&self) -> Option<i128>
         ensures { result ≡ count_of self.now }
     {
         count_from(
             self.constant(DW_AT_count),
-            language,
+            self.language(),
             self.constant(DW_AT_upper_bound),
             self.constant(DW_AT_lower_bound),
         )
@@ -188,8 +187,7 @@ impl FactsAt<'_, '_> {
     /// By how much the entry, a child of an array, multiplies the number of elements. An index of another kind, and a
     /// stride on a dimension, leave it unknown. 2^63 represents each factor that is no smaller.
     #[inline(always)]
-    fn capped_factor(&self, language: Constant) -> Option<u64>
-        requires { language ≡ self.now.language }
+    fn capped_factor(&self) -> Option<u64>
         ensures { result ≡ cap_size (2 ^ 63) (factor_of self.now) }
     {
         match self.tag() {
@@ -200,33 +198,12 @@ impl FactsAt<'_, '_> {
                 {
                     return None;
                 }
-                capped_count(known_natural(self.known_count(language)))
+                let count = known_natural(self.known_count())?;
+                Some(count.min(1 << 63) as u64)
             }
             _ => Some(1),
         }
     }
-}
-
-/// A count, where 2^63 represents each that is no smaller.
-fn capped_count(count: Option<u128>) -> Option<u64>
-    ensures { result ≡ cap_size (2 ^ 63) count }
-{
-    match count {
-        Some(n) => Some(n.min(1 << 63) as u64),
-        None => None,
-    }
-}
-
-fn is_array_tag(tag: Tag) -> bool
-    ensures { result ≡ is_array_tag tag }
-{
-    matches!(tag, DW_TAG_array_type)
-}
-
-fn is_subrange_tag(tag: Tag) -> bool
-    ensures { result ≡ is_subrange_tag tag }
-{
-    matches!(tag, DW_TAG_subrange_type)
 }
 
 /// Whether the parent of an entry, if it has one, is an array.
@@ -235,7 +212,7 @@ fn is_in_array(entries: &Entries<'_>, parent: Option<EntryId>) -> bool
     ensures { result ≡ is_dimensions (role_in (facts_in (units_of entries.now.scanned)) parent) }
 {
     match parent {
-        Some(id) => is_array_tag(entries.tag(id)),
+        Some(id) => entries.tag(id) == DW_TAG_array_type,
         None => false,
     }
 }
@@ -247,7 +224,7 @@ fn is_dimension(entries: &Entries<'_>, id: EntryId, entry: &EntryAt<'_, '_>) -> 
     ensures { result ≡ is_dimension (parent_role (facts_in (units_of entries.now.scanned)) id)
         (entry_of (facts_in (units_of entries.now.scanned)) id) }
 {
-    is_subrange_tag(entry.tag()) && is_in_array(entries, entry.parent())
+    entry.tag() == DW_TAG_subrange_type && is_in_array(entries, entry.parent())
 }
 
 /// The known count of a dimension, by the languages of the units, and none for any other entry.
@@ -288,8 +265,7 @@ pub(crate) fn count_elements(entries: &mut FactsList<'_, '_>, node: usize) -> Op
     let mut next = entries.first_child(node);
     while let Some(child) = next {
         let entry = entries.at(child);
-        let language = entries.language(child);
-        product = capped_times(product, entry.capped_factor(language));
+        product = capped_times(product, entry.capped_factor());
         has_dimension |= entry.is_subrange();
         next = entries.next_sibling(child);
     }

@@ -39,14 +39,6 @@ fn number_of(id: Option<EntryId>) -> Option<usize>
     }
 }
 
-/// DW_AT_language of the first entry of the unit with a number.
-fn language_of(entries: &Entries<'_>, unit: usize) -> Constant
-    requires { unit < length (units_of entries.now.scanned) }
-    ensures { IfSome (slice_get (all_units entries.now.scanned) unit) (λ u. result ≡ language_of u) }
-{
-    Constant::read(&entries.at(entries.unit(unit).first), DW_AT_language)
-}
-
 /// DW_AT_language of the first entry of each unit, in their order. Each is read once: it may come after many values.
 pub fn languages_of(alloc: Global, entries: &Entries<'_>) -> Result<Vec<Constant>, AllocError>
     ensures { IfOk result (λ languages. languages.items ≡ languages_in (units_of entries.now.scanned)) }
@@ -54,7 +46,8 @@ pub fn languages_of(alloc: Global, entries: &Entries<'_>) -> Result<Vec<Constant
     let count = entries.unit_count();
     let mut languages = Vec::with_capacity(alloc, count)?;
     for number in 0..count {
-        languages.push(language_of(entries, number))?;
+        let first = entries.at(entries.unit(number).first);
+        languages.push(Constant::read(&first, DW_AT_language))?;
     }
     Ok(languages)
 }
@@ -74,20 +67,24 @@ pub(crate) fn language_at(languages: &[Constant], number: usize) -> Constant
 pub(crate) struct FactsAt<'e, 'a> {
     entry: EntryAt<'e, 'a>,
     links: &'e Links<'e, 'a>,
+    /// The language of each unit.
+    languages: &'e [Constant],
     id: EntryId,
 }
 
 impl<'e, 'a> Model for FactsAt<'e, 'a> {
     ghost use Rattle.std.specs.Prelude.{◌≡◌, ◌<◌, length, slice_get};
     ghost use Rattle.dw_types.specs.Entries.{Facts, entry_of};
-    ghost use Rattle.dw_types.specs.Held.{all_facts, entries_held};
+    ghost use Rattle.dw_types.specs.FactsOf.{languages_in};
+    ghost use Rattle.dw_types.specs.Held.{all_facts, entries_held, units_held};
 
     ghost Value = { Facts };
 
     ghost view = { λ it. entry_of (all_facts it.links.now) it.id };
 
     ghost invariant = { λ it. (it.id < length (entries_held it.links.now))
-        × (it.entry ≡ slice_get (entries_held it.links.now) it.id) };
+        × (it.entry ≡ slice_get (entries_held it.links.now) it.id)
+        × (it.languages.now ≡ languages_in (units_held it.links.now)) };
 }
 
 impl FactsAt<'_, '_> {
@@ -146,6 +143,14 @@ impl FactsAt<'_, '_> {
         let number = self.entry.unit();
         self.links.entries.unit(number).header.address_size
     }
+
+    /// DW_AT_language of the first entry of its unit.
+    #[inline(always)]
+    pub(crate) fn language(&self) -> Constant
+        ensures { result ≡ self.now.language }
+    {
+        language_at(self.languages, self.entry.unit())
+    }
 }
 
 /// The entries of .debug_info by rising offset, each with its facts. Of entries that are looked up one after another,
@@ -199,19 +204,8 @@ impl<'r, 'a> FactsList<'r, 'a> {
         requires { node < length self.now }
         ensures { result ≡ (entry_of self.now node).offset }
     {
-        let entries = self.entries();
+        let entries = self.links.entries;
         entries.offset(entries.id(node))
-    }
-
-    /// Whether the entry with a number is a type. Nothing is read of it but its declaration.
-    #[inline(always)]
-    pub(crate) fn is_type(&mut self, node: usize) -> bool
-        requires { node < length self.old }
-        ensures same { self.new ≡ self.old }
-        ensures is { result ≡ is_type_tag (entry_of self.old node).tag }
-    {
-        let id = self.cursor.entries.id(node);
-        self.cursor.at(id).is_type()
     }
 
     /// The entry with a number.
@@ -221,31 +215,13 @@ impl<'r, 'a> FactsList<'r, 'a> {
         ensures same { self.new ≡ self.old }
         ensures found { result ≡ entry_of self.old node }
     {
-        let id = self.cursor.entries.id(node);
+        let id = self.links.entries.id(node);
         FactsAt {
             entry: self.cursor.at(id),
             links: self.links,
+            languages: self.languages,
             id,
         }
-    }
-
-    /// DW_AT_language of the first entry of the unit of the entry with a number.
-    #[inline(always)]
-    pub(crate) fn language(&mut self, node: usize) -> Constant
-        requires { node < length self.old }
-        ensures same { self.new ≡ self.old }
-        ensures is { result ≡ (entry_of self.old node).language }
-    {
-        let id = self.cursor.entries.id(node);
-        language_at(self.languages, self.cursor.at(id).unit())
-    }
-
-    /// The entries without their facts.
-    #[inline(always)]
-    fn entries(&self) -> &'r Entries<'a>
-        ensures { facts_in (units_of result.now.scanned) ≡ self.now }
-    {
-        self.cursor.entries
     }
 
     /// The first child of an entry.
@@ -255,7 +231,7 @@ impl<'r, 'a> FactsList<'r, 'a> {
         ensures children { rest_of_children self.now node result ≡ children self.now node }
         ensures child { IfSome result (IsChildOf self.now node) }
     {
-        let entries = self.entries();
+        let entries = self.links.entries;
         number_of(first_child(entries, entries.id(node)))
     }
 
@@ -268,20 +244,8 @@ impl<'r, 'a> FactsList<'r, 'a> {
         ensures child { (parent : ℕ) → (entry_of self.now child).parent ≡ Some parent
             → IfSome result (IsChildOf self.now parent) }
     {
-        let entries = self.entries();
+        let entries = self.links.entries;
         number_of(entries.next_sibling(entries.id(child)))
-    }
-}
-
-/// Whether an entry is a child of another.
-#[inline(always)]
-fn is_child(entries: &Entries<'_>, id: EntryId, parent: EntryId) -> bool
-    requires { id < length (all_entries entries.now.scanned) }
-    ensures { IfSome (slice_get (all_entries entries.now.scanned) id) (λ e. result ≡ is_number parent e.parent) }
-{
-    match entries.parent(id) {
-        Some(above) => above == parent,
-        None => false,
     }
 }
 
@@ -298,9 +262,8 @@ pub fn first_child(entries: &Entries<'_>, id: EntryId) -> Option<EntryId>
         return None;
     }
     let behind = entries.id(number);
-    if is_child(entries, behind, id) {
-        Some(behind)
-    } else {
-        None
+    match entries.parent(behind) {
+        Some(above) if above == id => Some(behind),
+        _ => None,
     }
 }

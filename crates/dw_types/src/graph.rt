@@ -115,9 +115,9 @@ impl StepGraph for Packed {
 /// The ranks of a graph's nodes, from 0: each step leads to a node of smaller rank.
 #[derive(Drop)]
 pub struct Order {
-    nodes: usize,
-    by_rank: Numbers,
-    turns: u128,
+    pub(crate) nodes: usize,
+    pub(crate) by_rank: Numbers,
+    pub(crate) turns: u128,
 }
 
 impl Model for Order {
@@ -130,22 +130,18 @@ impl Model for Order {
 }
 
 impl Order {
-    pub(crate) fn new(nodes: usize, by_rank: Numbers, turns: u128) -> Self
-        ensures { result ≡ record { ranks = ranks_listed nodes by_rank; by_rank = by_rank; turns = turns } }
-    {
-        Order {
-            nodes,
-            by_rank,
-            turns,
-        }
-    }
-
     /// The rank of a node. It is searched, since the nodes alone are kept, in the order of their ranks.
     pub fn rank(&self, node: usize) -> usize
         requires { node < length self.now.ranks }
         ensures { result ≡ slice_index self.now.ranks node }
     {
-        rank_in(&self.by_rank, self.nodes, node)
+        let mut rank = 0;
+        for place in 0..self.by_rank.len() {
+            if self.by_rank.get(place) == node {
+                rank = place;
+            }
+        }
+        rank
     }
 
     /// How many turns the walk took. A turn is one node taken up or one step looked at.
@@ -169,18 +165,4 @@ impl Order {
     {
         self.by_rank.get(rank)
     }
-}
-
-/// The rank of one of so many nodes, by those that have one, in the order of their ranks.
-fn rank_in(by_rank: &Numbers, nodes: usize, node: usize) -> usize
-    requires { node < nodes }
-    ensures { result ≡ slice_index (ranks_listed nodes by_rank.now) node }
-{
-    let mut rank = 0;
-    for place in 0..by_rank.len() {
-        if by_rank.get(place) == node {
-            rank = place;
-        }
-    }
-    rank
 }

@@ -44,25 +44,7 @@ impl FactsAt<'_, '_> {
             DW_TAG_enumeration_type => Kind::Enumeration,
             DW_TAG_array_type => Kind::Array,
             DW_TAG_subroutine_type => Kind::Subroutine,
-            DW_TAG_base_type
-            | DW_TAG_structure_type
-            | DW_TAG_union_type
-            | DW_TAG_unspecified_type
-            | DW_TAG_class_type
-            | DW_TAG_reference_type
-            | DW_TAG_string_type
-            | DW_TAG_ptr_to_member_type
-            | DW_TAG_set_type
-            | DW_TAG_subrange_type
-            | DW_TAG_file_type
-            | DW_TAG_packed_type
-            | DW_TAG_interface_type
-            | DW_TAG_shared_type
-            | DW_TAG_rvalue_reference_type
-            | DW_TAG_template_alias
-            | DW_TAG_coarray_type
-            | DW_TAG_dynamic_type
-            | DW_TAG_immutable_type => Kind::OwnSized,
+            _ if self.is_type() => Kind::OwnSized,
             _ => Kind::NoType,
         }
     }

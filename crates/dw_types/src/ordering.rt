@@ -7,8 +7,8 @@ ghost use Rattle.dw_types.specs.Graphs.{steps_of, step_at, FollowsSteps, IsStep,
 ghost use Rattle.dw_types.specs.LongestRows.{AreLongest, IsAbove};
 ghost use Rattle.dw_types.specs.OrderFaults.{IsFaultOf};
 ghost use Rattle.dw_types.specs.Orders.{IsOrderOf};
-ghost use Rattle.dw_types.specs.Walks.{ComesTo, HasFollowed, HasNext, IsMet, IsWalk, KeepsTaken};
-ghost use Rattle.dw_types.specs.WalkStates.{mark_of, taken_up};
+ghost use Rattle.dw_types.specs.Walks.{HasFollowed, HasNext, HasWalked, IsMet, IsWalk};
+ghost use Rattle.dw_types.specs.WalkStates.{mark_of};
 ghost use Rattle.dw_types.specs.declared.ordering.OrderFault.TheVariants.{Memory};
 ghost use Rattle.dw_types.specs.declared.walk.Mark.TheVariants.{Fresh};
 
@@ -131,10 +131,7 @@ fn walk_from<G: StepGraph>(
     requires empty { walk.old.stack ≡ [] }
     requires start { start < length (G.graph graph.now) }
     requires fresh { mark_of walk.old start ≡ Fresh }
-    ensures comes { IfOk result (λ stop. ComesTo (G.graph graph.now) walk.new stop) }
-    ensures empty { IfOk result (λ stop. stop ≡ None → walk.new.stack ≡ []) }
-    ensures taken { OnOk result (KeepsTaken (taken_up walk.old start) walk.new) }
-    ensures gave_up { OnOk result (walk.new.gave_up ≡ walk.old.gave_up) }
+    ensures { IfOk result (HasWalked (G.graph graph.now) walk.old start walk.new) }
 {
     meet_fresh(graph, walk, start)?;
     while let Some(node) = walk.top() {

@@ -142,16 +142,6 @@ impl Kind {
     }
 }
 
-/// Whether a size is 2^63 or more.
-fn is_too_great(size: Option<u64>) -> bool
-    ensures { result ≡ is_too_great size }
-{
-    match size {
-        Some(size) => size >= 1 << 63,
-        None => false,
-    }
-}
-
 /// Whether two sizes are known and not the same.
 fn differ(a: Option<u64>, b: Option<u64>) -> bool
     ensures { result ≡ differ a b }
@@ -213,7 +203,7 @@ impl FactsAt<'_, '_> {
         if size.is_none() && self.has_no_size() {
             return Some(Rule::NoSize);
         }
-        if is_too_great(size) {
+        if matches!(size, Some(size) if size >= 1 << 63) {
             return Some(Rule::SizeTooGreat);
         }
         if self.has_wrong_size(sizes) {

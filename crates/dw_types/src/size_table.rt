@@ -10,7 +10,7 @@ ghost use Rattle.dw_types.specs.StoredSizes.{size_in, sizes_in};
 ghost use Rattle.dw_types.specs.Entries.{entry_of};
 ghost use Rattle.dw_types.specs.Kinds.{has_members};
 ghost use Rattle.dw_types.specs.Held.{all_facts, entries_held};
-ghost use Rattle.dw_types.specs.Noted.{asked_at, is_member_of, IsNoted};
+ghost use Rattle.dw_types.specs.Noted.{asked_at, IsNoted};
 ghost use Rattle.dw_types.specs.Orders.{IsOrderOf};
 ghost use Rattle.dw_types.specs.SizeFaults.{IsFirstSizeFault, SizeFailures, fails_size};
 ghost use Rattle.dw_types.specs.Steps.{by_value};
@@ -95,8 +95,7 @@ impl SizeTable {
         requires small { IfSome size (λ n. n ≤ 2 ^ 63) }
         ensures { OnOk result (self.new ≡ slice_set self.old node size) }
     {
-        self.sizes.set(alloc, node, stored(size))?;
-        Ok(())
+        self.sizes.set(alloc, node, stored(size))
     }
 }
 
@@ -193,9 +192,9 @@ fn note_members(
     requires untyped { OnlyTypesAreSized entries.old (size_at sizes.now) }
     ensures same { entries.new ≡ entries.old }
     ensures noted { (seen : ℕ → Bool)
-        → IsNoted (fails_size entries.old (size_at sizes.now)) (λ k. seen k ≡ true) least.old
+        → IsNoted (fails_size entries.old (size_at sizes.now)) (λ k. (seen k ≡ true) ⊎ (k ≡ node)) least.old
         → IsNoted (fails_size entries.old (size_at sizes.now))
-        (λ k. (seen k ≡ true) ⊎ (is_member_of entries.old node k ≡ true)) least.new }
+        (λ k. (seen k ≡ true) ⊎ (asked_at entries.old k ≡ node)) least.new }
 {
     let mut next = entries.first_child(node);
     while let Some(child) = next {
@@ -250,13 +249,8 @@ pub fn sizes(alloc: Global, links: &Links<'_, '_>, order: &Order) -> Result<Size
     let mut sizes = SizeTable::none(alloc, entries.count())?;
     let mut least: LeastFault = None;
     for rank in 0..order.count() {
-        measure(
-            alloc,
-            &mut entries,
-            &mut sizes,
-            &mut least,
-            order.node(rank),
-        )?;
+        let node = order.node(rank);
+        measure(alloc, &mut entries, &mut sizes, &mut least, node)?;
     }
     check(alloc, &entries, least)?;
     Ok(sizes)

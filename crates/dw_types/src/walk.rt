@@ -172,6 +172,10 @@ impl Walk {
     pub(crate) fn into_order(self) -> Order
         ensures { result ≡ record { ranks = self.ranks; by_rank = self.by_rank; turns = self.turns } }
     {
-        Order::new(self.nodes, self.by_rank, self.turns)
+        Order {
+            nodes: self.nodes,
+            by_rank: self.by_rank,
+            turns: self.turns,
+        }
     }
 }

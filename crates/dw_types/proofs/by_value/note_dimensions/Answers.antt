@@ -24,17 +24,14 @@ loop-next-preserved c =
     let R : List ℕ → Type 0 = λ visited. IsNoted fails (Passed (HasSeenArray entries node) (IsChildOf entries node) visited) c.note.new.least in
     let found = rw c.loop-next.invariant.1 at c.at-dimension.ensures.found in
     let h : HasPassed entries node Q (Some child) = subst (HasPassed entries node Q) c.in-Some.is c.loop-next.invariant.0 in
-    let rest = rw (c.language-language.ensures.same, c.at-dimension.ensures.same, c.loop-next.invariant.1) at c.next_sibling-next.ensures.children node in
-    let is = rw (c.language-language.ensures.same, c.at-dimension.ensures.same, c.loop-next.invariant.1) at c.next_sibling-next.ensures.child node in
+    let rest = rw (c.at-dimension.ensures.same, c.loop-next.invariant.1) at c.next_sibling-next.ensures.children node in
+    let is = rw (c.at-dimension.ensures.same, c.loop-next.invariant.1) at c.next_sibling-next.ensures.child node in
     let none = array-no_members (entry_of entries node) c.requires.array in
     let least = part-least entries node child Dimensions c.broken_dimension.result (dimensions-role (entry_of entries node) none c.requires.array) h.next_is (rw found at c.broken_dimension.ensures) in (
       passed-more entries node Q R child c.next_sibling-next.result h (rest h.next_is.parent_is) (is h.next_is.parent_is)
           (λ visited q. rw c.note.ensures (noted-child fails (HasSeenArray entries node) (IsChildOf entries node) visited child c.loop-next.least c.broken_dimension.result h.next_is least q)),
-      c.language-language.ensures.same ∙ c.at-dimension.ensures.same ∙ c.loop-next.invariant.1,
+      c.at-dimension.ensures.same ∙ c.loop-next.invariant.1,
     )
-
-pub broken_dimension-requires : goal.broken_dimension-requires
-broken_dimension-requires c = rw c.at-dimension.ensures.found (rw c.at-dimension.ensures.same at c.language-language.ensures.is)
 
 pub returns-clause-noted : goal.returns-clause-noted
 returns-clause-noted c =

@@ -6,6 +6,3 @@ use Rattle.dw_types.proofs.count.count_elements.Goals as goal
 
 pub loop-next-preserved : goal.loop-next-preserved
 loop-next-preserved c = search (rules, passed-more, map_push, cap-both, factors-push, subranges-push)
-
-pub capped_factor-requires : goal.capped_factor-requires
-capped_factor-requires c = rw c.at-entry.ensures.found (rw c.at-entry.ensures.same at c.language-language.ensures.is)

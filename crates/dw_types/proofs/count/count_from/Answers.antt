@@ -1,8 +1,7 @@
-use Rattle.std.proofs.Common.{rules, ◌≡◌, true, false, Some, ℤ, pos, ◌+ℤ◌, ◌-ℤ◌, FitsSigned, arith, refl, sym, ◌∙◌}
+use Rattle.std.proofs.Common.{rules, ◌≡◌, true, ℤ, pos, ◌+ℤ◌, ◌-ℤ◌, FitsSigned, arith, sym, ◌∙◌}
 use Rattle.std.proofs.lemmas.Int.{ints, to_z-of_z}
 use mir.Syntax.{w128}
 use Rattle.dw_types.specs.Constants.{IsOf64Bits, is_present}
-use Rattle.dw_types.specs.Counts.{lower_of, reads_bounds, upper_of}
 use Rattle.dw_types.proofs.count.count_from.Goals as goal
 
 -- numbers of 64 bits, their difference and one more fit 128 bits
@@ -34,20 +33,4 @@ pub overflow_add-result : goal.overflow_add-result
 overflow_add-result c = search (rules, to_z-of_z, wide, wide-difference, wide-count)
 
 pub returns : goal.returns
-returns c =
-    let upper = c.in_ok-upper.ensures.range in
-    let lower = c.in_ok-lower.ensures.range in
-    let given : is_present c.args.count ≡ false = sym c.is_present.ensures ∙ c.if-is_present.false in
-    let read : reads_bounds c.args.language ≡ true = sym c.reads_bounds.ensures ∙ c.if-not-reads_bounds.false in
-    let above : upper_of c.args.upper ≡ Some c.in_ok-upper.upper = sym c.upper.ensures.value ∙ c.in_ok-upper.was in
-    let below : lower_of c.args.lower ≡ Some c.in_ok-lower.lower = sym c.lower.ensures.value ∙ c.in_ok-lower.was in
-    rw (
-      given,
-      read,
-      above,
-      below,
-      to_z-of_z w128 c.in_ok-upper.upper (wide c.in_ok-upper.upper upper),
-      to_z-of_z w128 c.in_ok-lower.lower (wide c.in_ok-lower.lower lower),
-      to_z-of_z w128 (c.in_ok-upper.upper -ℤ c.in_ok-lower.lower) (wide-difference c.in_ok-upper.upper c.in_ok-lower.lower upper lower),
-      to_z-of_z w128 ((c.in_ok-upper.upper -ℤ c.in_ok-lower.lower) +ℤ pos 1) (wide-count c.in_ok-upper.upper c.in_ok-lower.lower upper lower),
-    ) refl
+returns c = search (rules, to_z-of_z, wide, wide-difference, wide-count)

@@ -12,4 +12,4 @@ returns-in-Some c =
     let us = units_of c.args.entries.now.scanned in
     let id = c.in-Some.id in
     let tag = known us id _ refl (rw c.in-Some.is at c.requires) (λ (facts : Facts). c.tag.result ≡ facts.tag) c.tag.ensures in
-    rw c.in-Some.is (c.is_array_tag.ensures ∙ ap is_array_tag tag ∙ sym (dimensions-role (entry_of (facts_in us) id)))
+    rw c.in-Some.is (c.eq.ensures ∙ ap is_array_tag tag ∙ sym (dimensions-role (entry_of (facts_in us) id)))

@@ -1,4 +1,4 @@
-use Rattle.std.proofs.Common.{rules, ◌≡◌, length, slice_index, arith}
+use Rattle.std.proofs.Common.{rules, ◌≡◌, length, slice_index, arith, ◌∙◌}
 use Rattle.dw_types.specs.Graphs.{steps_of}
 use Rattle.dw_types.proofs.RankLemmas.{met-gave_up, met-keeps, met-walk, done-walk, done-keeps_taken}
 use Rattle.dw_types.specs.Walks.{IsTop}
@@ -37,3 +37,13 @@ loop-node-preserved g c =
       λ a fresh. c.loop-node.invariant.1 a (done-keeps_taken graph s node sound top all a fresh),
       c.loop-node.invariant.2,
     )
+
+pub returns-in-Some-2 : goal.returns-in-Some-2
+returns-in-Some-2 g c =
+    let followed = rw c.in-Some-2.is at c.in_ok-to.ensures in
+    record {
+      comes = followed.comes;
+      empty = λ none. absurd cc;
+      taken = λ a fresh. c.loop-node.invariant.1 a (followed.taken a fresh);
+      gave_up = followed.gave_up ∙ c.loop-node.invariant.2;
+    }

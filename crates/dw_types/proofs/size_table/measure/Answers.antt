@@ -1,13 +1,12 @@
-use Rattle.std.proofs.Common.{rules, ◌≡◌, ◌<◌, ℕ, Bool, true, false, None, length, set, sym, ◌∙◌, length-set, get_or-set_same, arith}
+use Rattle.std.proofs.Common.{rules, ◌≡◌, ◌<◌, true, false, None, length, set, sym, ◌∙◌, length-set, get_or-set_same, arith}
 use Rattle.std.specs.Prelude.{IfSome}
-use Rattle.dw_entries.specs.declared.fault.Rule.{Rule}
 use Rattle.dw_types.specs.Entries.{entry_of}
 use Rattle.dw_types.specs.Noted.{with_rule}
-use Rattle.dw_types.specs.SizeFaults.{fails_size, has_no_size}
+use Rattle.dw_types.specs.SizeFaults.{has_no_size}
 use Rattle.dw_types.specs.SizeTables.{size_at, OnlyTypesAreSized}
 use Rattle.dw_types.proofs.SizeFaultLemmas.{sized-line}
 use Rattle.dw_types.proofs.SizeLineLemmas.{type-in}
-use Rattle.dw_types.proofs.SizingLemmas.{alone-noted, holder-noted, type-noted, type-unmember, typed-set, untyped-noted, untyped-set}
+use Rattle.dw_types.proofs.SizingLemmas.{alone-noted, type-noted, type-unmember, typed-set, untyped-noted, untyped-set}
 use Rattle.dw_types.proofs.size_table.measure.Goals as goal
 
 pub returns-then-not-is_type-clause-size : goal.returns-then-not-is_type-clause-size
@@ -66,12 +65,11 @@ returns-clause-noted c =
     let entries = c.args.entries.now in
     let node = c.args.node in
     let size = c.capped_size-size.result in
-    let fails : ℕ → Rule → Bool = fails_size entries (size_at c.set.new.self) in
     let inside : node < length c.args.sizes.now = let p = c.requires.places in omega arith in
     let is = rw c.at-entry.ensures.found at (sym c.is_type.ensures ∙ c.if-not-is_type.false) in
     let least = rw c.at-entry.ensures.found at c.broken_size.ensures in
     let sized : size_at c.set.new.self node ≡ size = rw c.in_ok-set.ensures (get_or-set_same c.args.sizes.now node size None inside) in
     let more = rw (c.capped_size-size.ensures.same, c.at-entry.ensures.same, c.note.ensures) at c.note_members.ensures.noted in
     λ seen old.
-    holder-noted entries fails seen node (with_rule c.args.least.now node c.broken_size.result) c.note_members.new.least (type-unmember (entry_of entries node).tag is) more
+    more seen
     (type-noted entries (size_at c.set.new.self) (λ k. seen k ≡ true) node size c.args.least.now c.broken_size.result is sized least old)

@@ -11,7 +11,7 @@ pub measure-requires-clause-places : goal.measure-requires-clause-places
 measure-requires-clause-places c =
     let us = units_held c.args.links.now in
     let below : c.loop-rank.rank < length c.args.order.now.by_rank = rw (← c.count-rank-end.ensures) c.loop-rank-test.true in
-    rw (c.loop-rank.invariant.1, c.node.ensures) record {
+    rw (c.loop-rank.invariant.1, c.node-node.ensures) record {
       node_in = node-in (all_facts c.args.links.now) (facts-parents_first us) (facts-targets us) c.args.order.now c.requires.order c.loop-rank.rank below;
       long = c.loop-rank.invariant.0;
       targets = facts-targets us;
@@ -30,8 +30,8 @@ loop-rank-preserved c =
     let below : rank < length order.by_rank = rw (← c.count-rank-end.ensures) c.loop-rank-test.true in
     let long = c.loop-rank.invariant.0 in
     let typed = c.loop-rank.invariant.3 in
-    let size : c.measure.new.sizes ≡ next_sizes entries parents targets order h sizes rank below long typed = rw (c.loop-rank.invariant.1, c.node.ensures) at c.in_ok-measure.ensures.size in
-    let more = rw (size, c.loop-rank.invariant.1, c.node.ensures) at c.in_ok-measure.ensures.noted in
+    let size : c.measure.new.sizes ≡ next_sizes entries parents targets order h sizes rank below long typed = rw (c.loop-rank.invariant.1, c.node-node.ensures) at c.in_ok-measure.ensures.size in
+    let more = rw (size, c.loop-rank.invariant.1, c.node-node.ensures) at c.in_ok-measure.ensures.noted in
     rw size (
       length-set sizes node (capped_line entries (size_at sizes) node) ∙ long,
       c.in_ok-measure.ensures.same ∙ c.loop-rank.invariant.1,

@@ -1,17 +1,17 @@
 use Rattle.std.proofs.Common.{◌≡◌, refl}
-use Rattle.dw_entries.specs.Scanned.{units_of}
 use Rattle.dw_types.specs.Entries.{Facts}
+use Rattle.dw_types.specs.Held.{units_held}
 use Rattle.dw_types.proofs.FactsLemmas.{facts-below, known}
 use Rattle.dw_types.proofs.facts.FactsList.offset.Goals as goal
 
 pub id-requires : goal.id-requires
-id-requires c = facts-below (units_of c.entries-entries.result.now.scanned) c.args.self.now c.entries-entries.ensures c.args.node c.requires
+id-requires c = facts-below (units_held c.self.inside.links.now) c.args.self.now c.self.view_is c.args.node c.requires
 
 pub offset-requires : goal.offset-requires
-offset-requires c = rw c.id.ensures (facts-below (units_of c.entries-entries.result.now.scanned) c.args.self.now c.entries-entries.ensures c.args.node c.requires)
+offset-requires c = rw c.id.ensures (facts-below (units_held c.self.inside.links.now) c.args.self.now c.self.view_is c.args.node c.requires)
 
 pub returns : goal.returns
 returns c =
-    let us = units_of c.entries-entries.result.now.scanned in
-    let below = facts-below us c.args.self.now c.entries-entries.ensures c.args.node c.requires in
-    rw (← c.entries-entries.ensures) (known us c.args.node _ refl below (λ (facts : Facts). c.offset.result ≡ facts.offset) (rw c.id.ensures at c.offset.ensures))
+    let us = units_held c.self.inside.links.now in
+    let below = facts-below us c.args.self.now c.self.view_is c.args.node c.requires in
+    rw (← c.self.view_is) (known us c.args.node _ refl below (λ (facts : Facts). c.offset.result ≡ facts.offset) (rw c.id.ensures at c.offset.ensures))

@@ -1,6 +1,5 @@
 use Rattle.std.proofs.Common.{rules}
-use Rattle.std.proofs.Common.{◌<◌, ◌≤◌, length, get_or, arith}
-use Rattle.dw_types.specs.Packing.{begin_of}
+use Rattle.std.proofs.Common.{arith}
 use Rattle.dw_types.specs.PackingLaws.{length-cut, cut-length}
 use Rattle.dw_types.proofs.graph.PackedStepGraph.steps.Goals as goal
 
@@ -14,9 +13,4 @@ pub overflow_sub-result : goal.overflow_sub-result
 overflow_sub-result c = search (rules, length-cut)
 
 pub returns : goal.returns
-returns c =
-    let p = c.args.self.now in
-    let all = length-cut p.steps 0 p.ends in
-    let below : c.args.node < length p.ends = omega (arith, c.requires) in
-    let count = cut-length p.steps p.ends c.args.node p.in_order below in
-    omega (arith, c.begin.ensures, c.get.ensures)
+returns c = search (rules, length-cut, cut-length)
