@@ -9,7 +9,8 @@ use Rattle.dw_cprint.specs.Declarations.{is_cut_short, is_miscounted, is_misplac
 use Rattle.dw_cprint.specs.Shapes.{Parameter, TypeAt, ShapeOf, array, qualified, function, body, SubjectOf, typedef_subject, variable_subject, tag_subject, view_enumerator}
 use Rattle.dw_cprint.specs.declared.shape.Enumerator.{Enumerator}
 use Rattle.dw_cprint.specs.Steps.{parameter_types, types_declared, types_reached}
-use Rattle.dw_cprint.specs.Summaries.{IsBase, Knows, Summaries, base_known, is_own_unspeakable, is_unspeakable, is_wrong_base, kind_known}
+use Rattle.dw_cprint.specs.Summaries.{IsBase, Knows, base_known, is_own_unspeakable, is_unspeakable, is_wrong_base, kind_known}
+use Rattle.dw_cprint.specs.declared.survey.Survey.{Survey}
 use Rattle.dw_cprint.specs.Wrong.{TypeKind, kind_at, StandsUnder, nothing, itself, below, IsVoidLike, has_bad_name, has_own_bad_name, is_declared_enumeration, is_void, is_wrong, is_wrong_row, is_wrong_enumeration, lacks_value, object_types, IsUnspeakable, wrong, void_object, row, IsOwnUnspeakable, void_variable, unspeakable, declared_enumeration}
 use Rattle.dw_cprint.proofs.KindLemmas.{first-of, names-alike, others-of, own-names-alike, wrong-alike}
 use Rattle.dw_cprint.proofs.OptionLemmas.{or_left, or_right}
@@ -70,7 +71,7 @@ objects-of P (function at (Some ps)) all = others-of P at (parameter_types ps) a
 objects-of P (body word odd ms) all = all
 objects-of P _ all = All-nil P
 
-module _ (shapes : ℕ → ShapeOf) (s : Summaries) where
+module _ (shapes : ℕ → ShapeOf) (s : Survey) where
   kinds-known : (types : List TypeAt) → All (Knows shapes s) types → All (λ at. kind_known s at ≡ kind_at shapes at) types
   kinds-known types all = All-weaker (Knows shapes s) (λ at. kind_known s at ≡ kind_at shapes at) (λ at known. known.is_kind) types all
 

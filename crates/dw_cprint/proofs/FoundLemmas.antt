@@ -5,7 +5,8 @@ use Rattle.std.specs.Prelude.{IsTrue, All, ◌↔◌, Contains}
 use Rattle.std.proofs.lemmas.List.Elements.{Contains-append_left, Contains-append_right, Contains-append_cases}
 use Rattle.dw_cprint.specs.Shapes.{TypeAt, ShapeOf, SubjectOf}
 use Rattle.dw_cprint.specs.Steps.{types_declared, types_reached, entries_of, steps_reached, IsReachedFrom, root, further, HasPathFrom}
-use Rattle.dw_cprint.specs.Summaries.{IsSummary, Knows, Summaries, is_own_unspeakable, is_unspeakable, kind_known, Findings, Summary, ReachesOne, IsForeign, AreFound, AreFoundOf, IsDepth, IsEither, IsOwn}
+use Rattle.dw_cprint.specs.Summaries.{IsSummary, Knows, is_own_unspeakable, is_unspeakable, kind_known, Findings, Summary, ReachesOne, IsForeign, AreFound, AreFoundOf, IsDepth, IsEither, IsOwn}
+use Rattle.dw_cprint.specs.declared.survey.Survey.{Survey}
 use Rattle.dw_cprint.specs.Wrong.{has_bad_name, has_own_bad_name, IsUnspeakable, HasBadName, is_foreign, is_own_foreign}
 use Rattle.dw_cprint.specs.Refusals.{Holds, own_name, name_reached, own_child, foreign_reached, own_shape, shape_reached, deep, TooLong, HoldsNoneBelow}
 use Rattle.dw_cprint.proofs.ReachLemmas.{entries-append}
@@ -145,7 +146,7 @@ module _ (shapes : ℕ → ShapeOf) where
   }
 
   -- of an entry, by its own shape and by what is known of the types that it names
-  pub found-shape : (known : Summaries) (first : ℕ) (s : ShapeOf) (own under all : Findings) (bytes : ℕ) → shapes first ≡ s
+  pub found-shape : (known : Survey) (first : ℕ) (s : ShapeOf) (own under all : Findings) (bytes : ℕ) → shapes first ≡ s
       → All (Knows shapes known) (types_reached s) → IsOwn (has_bad_name (kind_known known) s) (is_foreign s) (is_unspeakable known s) bytes own
       → AreFound shapes (types_reached s) under → IsEither own under all → all.depth ≡ min (under.depth + 1) 4294967295
       → AreFound shapes (Some first ∷ []) all
@@ -163,7 +164,7 @@ module _ (shapes : ℕ → ShapeOf) where
         deep = depth-entry shapes first under.depth all.depth depth rest.deep;
       }
 
-  pub found-subject : (known : Summaries) (subject : SubjectOf) (own under all : Findings) (bytes : ℕ)
+  pub found-subject : (known : Survey) (subject : SubjectOf) (own under all : Findings) (bytes : ℕ)
       → All (Knows shapes known) (types_declared subject)
       → IsOwn (has_own_bad_name (kind_known known) subject) (is_own_foreign subject) (is_own_unspeakable known subject) bytes own
       → AreFound shapes (types_declared subject) under → IsEither own under all → all.depth ≡ under.depth

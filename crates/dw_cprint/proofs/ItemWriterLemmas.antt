@@ -4,16 +4,16 @@ use Rattle.std.proofs.Common.{arith, rules, ◌≡◌, ℕ, ℤ, ◌+◌, ◌<�
 use Rattle.std.specs.Prelude.{option_map, if◌then◌else◌}
 use Rattle.std.proofs.lemmas.Option.{same_Some}
 use Rattle.std.proofs.lemmas.List.{drop_more}
-use Rattle.dw_cprint.specs.Declarations.{bits_of, is_misplaced, is_cut_short, has_more, constants_of, parameters_by, members_by}
+use Rattle.dw_cprint.specs.Declarations.{is_cut_short, has_more, constants_of, parameters_by, members_by}
 use Rattle.dw_cprint.specs.Declarators.{body_tokens, enumeration_tokens}
 use Rattle.dw_cprint.specs.Drafts.{appended}
-use Rattle.dw_cprint.specs.Kept.{Writes, WritesParameter, kept_term}
+use Rattle.dw_cprint.specs.Kept.{Writes, WritesParameter, WritesParameters, kept_term}
 use Rattle.dw_cprint.specs.Shapes.{Parameter, Typed, More, Name, TypeAt, MemberOf, EnumeratorOf}
-use Rattle.dw_cprint.specs.Terms.{Constant, Valued, Term, Prototyped, Parameters, Parameter as ParameterTerm, Members, Member as MemberTerm}
+use Rattle.dw_cprint.specs.Terms.{Constant, Valued, Term, Parameters, Parameter as ParameterTerm, Members, Member as MemberTerm}
 use Rattle.dw_cprint.specs.Tokens.{Token, Blank, LeftBrace, RightBrace, Semicolon, Comma, Dot, text_of}
-use Rattle.dw_cprint.specs.Writing.{spell, name_tokens, bits_tokens, ellipsis, constant, more_constants, signature_tokens, more_parameters, members_tokens, written}
+use Rattle.dw_cprint.specs.Writing.{spell, name_tokens, bits_tokens, ellipsis, constant, more_constants, more_parameters, members_tokens, written}
 use Rattle.dw_cprint.specs.declared.survey.Survey.{Survey}
-use Rattle.dw_cprint.proofs.OptionLemmas.{map_inverted, then_inverted, unless_inverted}
+use Rattle.dw_cprint.proofs.OptionLemmas.{both_hold, map_holds, map_inverted, then_inverted, unless_holds}
 use Rattle.dw_cprint.proofs.DraftLemmas.{appended-nil, appended-twice, over-before}
 use Rattle.dw_cprint.proofs.WriterLemmas.{both, text-append}
 
@@ -63,13 +63,12 @@ member-tokens name t bits us = search (rules, append_assoc)
 
 pub members_next : (term : TypeAt → Option Term) (all : List MemberOf) (m : MemberOf) (left : List MemberOf)
     (old out out' : Option (List ℕ)) → IsLeft (members_left term) all old (m ∷ left) out
-    → ((t : Term) → term m.type_at ≡ Some t → Writes (spell [] t (name_tokens m.name) ++ (bits_tokens (bits_of m.bits) ++ Semicolon ∷ Blank ∷ [])) out out')
+    → ((t : Term) → term m.type_at ≡ Some t → Writes (spell [] t (name_tokens m.name) ++ (bits_tokens m.bits ++ Semicolon ∷ Blank ∷ [])) out out')
     → IsLeft (members_left term) all old left out'
-members_next term all m left old out out' so_far written = left-next (members_left term) all old m left out out' so_far (λ us e.
-    let all_left = map_inverted members_tokens (members_by term (m ∷ left)) us e in
-    let first = then_inverted (λ (t : Term). option_map (MemberTerm m.name t (bits_of m.bits)) (members_by term left)) (term m.type_at) all_left.0 all_left.1 in
-    let others = map_inverted (MemberTerm m.name first.0 (bits_of m.bits)) (members_by term left) all_left.0 first.2 in
-    (_, members_tokens others.0, ap (option_map members_tokens) others.1, member-tokens m.name first.0 (bits_of m.bits) others.0 ∙ ap members_tokens others.2 ∙ all_left.2, written first.0 first.1))
+members_next term all m left old out out' so_far written = left-next (members_left term) all old m left out out' so_far
+    (map_holds (λ (us : List Token). IsSplit (members_left term) left us out out') members_tokens (members_by term (m ∷ left))
+    (both_hold (λ (ms : Members). IsSplit (members_left term) left (members_tokens ms) out out') (λ (t : Term). MemberTerm m.name t m.bits) (term m.type_at) (members_by term left)
+    (λ t is us are. (_, members_tokens us, ap (option_map members_tokens) are, member-tokens m.name t m.bits us, written t is))))
 
 -- the members, in braces
 pub members_done : (term : TypeAt → Option Term) (all : List MemberOf) (begin old out new : Option (List ℕ)) → Writes (LeftBrace ∷ Blank ∷ []) begin old
@@ -104,11 +103,11 @@ WritesOne x old new = (name : List ℕ) (value : ℤ) → x.name ≡ Some name �
 pub enumerators_next : (all : List EnumeratorOf) (x : EnumeratorOf) (left : List EnumeratorOf)
     (old out mid out' : Option (List ℕ)) → IsLeft enumerators_left all old (x ∷ left) out → Writes (Comma ∷ Blank ∷ []) out mid
     → WritesOne x mid out' → IsLeft enumerators_left all old left out'
-enumerators_next all x left old out mid out' so_far comma written = left-next enumerators_left all old x left out out' so_far (λ us e.
-    let all_left = map_inverted more_constants (constants_of (x ∷ left)) us e in
-    let m = more-constants x left all_left.0 all_left.1 in
+enumerators_next all x left old out mid out' so_far comma written = left-next enumerators_left all old x left out out' so_far
+    (map_holds (λ (us : List Token). IsSplit enumerators_left left us out out') more_constants (constants_of (x ∷ left)) (λ cs e.
+    let m = more-constants x left cs e in
     let c = constant (Valued m.name m.value) in
-    (Comma ∷ Blank ∷ c, more_constants m.others, ap (option_map more_constants) m.are_others, ap more_constants m.is ∙ all_left.2, both (Comma ∷ Blank ∷ []) c out mid out' comma (written m.name m.value m.is_name m.is_value)))
+    (Comma ∷ Blank ∷ c, more_constants m.others, ap (option_map more_constants) m.are_others, ap more_constants m.is, both (Comma ∷ Blank ∷ []) c out mid out' comma (written m.name m.value m.is_name m.is_value))))
 
 pub enumerators_done : (x : EnumeratorOf) (others : List EnumeratorOf) (begin mid old out new : Option (List ℕ))
     → Writes (LeftBrace ∷ Blank ∷ []) begin mid → WritesOne x mid old → IsLeft enumerators_left others old [] out
@@ -135,42 +134,30 @@ parameters_left term ps = if is_cut_short ps then None else option_map (λ (us :
 parameters-are : (term : TypeAt → Option Term) (ps : List Parameter) (us : Parameters) → is_cut_short ps ≡ false → parameters_by term ps ≡ Some us → parameters_left term ps ≡ Some (following us ps)
 parameters-are term ps us placed e = rw (placed, e) refl
 
--- a parameter is written
-abbrev WritesItem : (TypeAt → Option Term) → Parameter → Option (List ℕ) → Option (List ℕ) → Type 0
-WritesItem term (Typed at) old new = (t : Term) → term at ≡ Some t → Writes (spell [] t []) old new
-WritesItem term More old new = Writes (Dot ∷ Dot ∷ Dot ∷ []) old new
-
-pub parameters_next : (term : TypeAt → Option Term) (all : List Parameter) (p : Parameter) (left : List Parameter)
-    (old out mid out' : Option (List ℕ)) → IsLeft (parameters_left term) all old (p ∷ left) out → Writes (Comma ∷ Blank ∷ []) out mid
-    → WritesItem term p mid out' → IsLeft (parameters_left term) all old left out'
-parameters_next term all p left old out mid out' so_far comma written = left-next (parameters_left term) all old p left out out' so_far (split p left written)
+pub parameters_next : (s : Survey) (k : ℕ) (all : List Parameter) (p : Parameter) (left : List Parameter)
+    (old out mid out' : Option (List ℕ)) → IsLeft (parameters_left (kept_term s k)) all old (p ∷ left) out → Writes (Comma ∷ Blank ∷ []) out mid
+    → WritesParameter s k p mid out' → IsLeft (parameters_left (kept_term s k)) all old left out'
+parameters_next s k all p left old out mid out' so_far comma written = left-next (parameters_left term) all old p left out out' so_far (split p left written)
   where
-    split : (p : Parameter) (left : List Parameter) → WritesItem term p mid out' → (us : List Token) → parameters_left term (p ∷ left) ≡ Some us → IsSplit (parameters_left term) left us out out'
+    term : TypeAt → Option Term
+    term = kept_term s k
+
+    split : (p : Parameter) (left : List Parameter) → WritesParameter s k p mid out' → (us : List Token) → parameters_left term (p ∷ left) ≡ Some us → IsSplit (parameters_left term) left us out out'
     split (Typed at) left writes us e =
-        let whole = unless_inverted (is_cut_short left) _ us e in
-        let all_left = map_inverted (λ (us : Parameters). following us left) (parameters_by term (Typed at ∷ left)) us whole.1 in
-        let first = then_inverted (λ (t : Term). option_map (ParameterTerm t) (parameters_by term left)) (term at) all_left.0 all_left.1 in
-        let others = map_inverted (ParameterTerm first.0) (parameters_by term left) all_left.0 first.2 in
-        let s = spell [] first.0 [] in (
-          Comma ∷ Blank ∷ s,
-          following others.0 left,
-          parameters-are term left others.0 whole.0 others.1,
-          ap (λ (u : List Token). Comma ∷ Blank ∷ u) (sym (append_assoc s (more_parameters others.0) (ellipsis (has_more left)))) ∙ ap (λ (u : Parameters). following u left) others.2 ∙ all_left.2,
-          both (Comma ∷ Blank ∷ []) s out mid out' comma (writes first.0 first.1),
-        )
+        let Split : List Token → Type 0 = λ us. IsSplit (parameters_left term) left us out out' in
+        unless_holds Split (is_cut_short left) _ (λ placed. map_holds Split (λ (ps : Parameters). following ps left) (parameters_by term (Typed at ∷ left))
+        (both_hold (λ (ps : Parameters). Split (following ps left)) ParameterTerm (term at) (parameters_by term left) (λ t is ps are. (
+          Comma ∷ Blank ∷ spell [] t [],
+          following ps left,
+          parameters-are term left ps placed are,
+          ap (λ (u : List Token). Comma ∷ Blank ∷ u) (sym (append_assoc (spell [] t []) (more_parameters ps) (ellipsis (has_more left)))),
+          both (Comma ∷ Blank ∷ []) (spell [] t []) out mid out' comma (writes t is),
+        )))) us e
     split More [] writes us e = (Comma ∷ Blank ∷ Dot ∷ Dot ∷ Dot ∷ [], [], refl, same_Some _ us e, both (Comma ∷ Blank ∷ []) (Dot ∷ Dot ∷ Dot ∷ []) out mid out' comma writes)
     split More (another ∷ left) writes us e = absurd (cc)
 
-pub parameters_done : (term : TypeAt → Option Term) (p : Parameter) (others : List Parameter) (begin old new : Option (List ℕ))
-    → WritesItem term p begin old → IsLeft (parameters_left term) others old [] new
-    → is_misplaced (p ∷ others) ≡ false → (us : Parameters) → parameters_by term (p ∷ others) ≡ Some us
-    → Writes (signature_tokens (Prototyped us (has_more (p ∷ others)))) begin new
-parameters_done term More others begin old new first left placed us e = absurd (cc)
-parameters_done term (Typed at) others begin old new first left placed us e =
+pub parameters_done : (s : Survey) (k : ℕ) (p : Parameter) (others : List Parameter) (begin old new : Option (List ℕ))
+    → WritesParameter s k p begin old → IsLeft (parameters_left (kept_term s k)) others old [] new → WritesParameters s k (p ∷ others) begin new
+parameters_done s k More others begin old new first left placed us e = absurd (cc)
+parameters_done s k (Typed at) others begin old new first left placed us e =
     search (rules, then_inverted, map_inverted, left-done, parameters-are, both)
-
--- a parameter is written
-pub item-of : (s : Survey) (k : ℕ) (p : Parameter) (old new : Option (List ℕ)) → WritesParameter s k p old new
-    → WritesItem (kept_term s k) p old new
-item-of s k (Typed at) old new h = h
-item-of s k More old new h = h

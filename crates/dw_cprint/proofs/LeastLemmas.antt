@@ -4,7 +4,7 @@ use Rattle.std.proofs.lemmas.Grind.{common_steps, flat_map-append}
 use Rattle.std.specs.Prelude.{All, option_map, sum_by}
 use Rattle.std.proofs.lemmas.List.Sums.{sum_by-cons}
 use Rattle.dw_types.specs.Sizes.{has_elements}
-use Rattle.dw_cprint.specs.Declarations.{arrays, bits_of, constants_of, declaration_by, has_more, is_miscounted, members_by, parameters_by, term_by}
+use Rattle.dw_cprint.specs.Declarations.{arrays, constants_of, declaration_by, has_more, is_miscounted, members_by, parameters_by, term_by}
 use Rattle.dw_cprint.specs.Declarators.{gap, opened, closed, pointer_row, before, after, core}
 use Rattle.dw_cprint.specs.Least.{byte_count, IsLeast, name_size, least_in, least_declared}
 use Rattle.dw_cprint.specs.Shapes.{Parameter, Typed, More, Name, TypeAt, MemberOf, EnumeratorOf, ShapeOf, base, typedef, qualified, pointer, array, function, tagged, body, enumeration, SubjectOf, typedef_subject, variable_subject, tag_subject}
@@ -15,7 +15,7 @@ use Rattle.dw_cprint.specs.Writing.{spell, qualifying, bits_tokens, constant, co
 use Rattle.dw_cprint.proofs.DeclaratorLemmas.{in_parts}
 use Rattle.dw_cprint.proofs.ItemWriterLemmas.{more-constants}
 use Rattle.dw_cprint.proofs.KindLemmas.{first-of, others-of}
-use Rattle.dw_cprint.proofs.OptionLemmas.{map_inverted, then_inverted, unless_inverted}
+use Rattle.dw_cprint.proofs.OptionLemmas.{map_holds, map_inverted, then_inverted, unless_holds}
 use Rattle.dw_cprint.proofs.WriterLemmas.{IsSpecifier, specifier-of, base-core, function-parts}
 
 -- ---- counts
@@ -46,14 +46,14 @@ module _ (term : TypeAt → Option Term) (n : TypeAt → ℕ) where
       → sum_by (λ (m : MemberOf). name_size m.name + 2) ms + sum_by n (member_types ms) ≤ byte_count (members_tokens us)
   members-least [] us all e = omega arith
   members-least (m ∷ ms) us all e =
-      let first = then_inverted (λ (t : Term). option_map (MemberTerm m.name t (bits_of m.bits)) (members_by term ms)) (term m.type_at) us e in
-      let rest = map_inverted (MemberTerm m.name first.0 (bits_of m.bits)) (members_by term ms) us first.2 in
+      let first = then_inverted (λ (t : Term). option_map (MemberTerm m.name t m.bits) (members_by term ms)) (term m.type_at) us e in
+      let rest = map_inverted (MemberTerm m.name first.0 m.bits) (members_by term ms) us first.2 in
       let t = first.0 in
       let inner = members-least ms rest.0 (others-of (Counts term n) m.type_at (member_types ms) all) rest.1 in
       let own = spell-least t (name_tokens m.name) (n m.type_at) (first-of (Counts term n) m.type_at (member_types ms) all t first.1) in
       let named = name-count m.name in
-      let a = count-append (spell [] t (name_tokens m.name)) (bits_tokens (bits_of m.bits) ++ Semicolon ∷ Blank ∷ members_tokens rest.0) in
-      let b = count-append (bits_tokens (bits_of m.bits)) (Semicolon ∷ Blank ∷ members_tokens rest.0) in
+      let a = count-append (spell [] t (name_tokens m.name)) (bits_tokens m.bits ++ Semicolon ∷ Blank ∷ members_tokens rest.0) in
+      let b = count-append (bits_tokens m.bits) (Semicolon ∷ Blank ∷ members_tokens rest.0) in
       let names = sum_by-cons (λ (m : MemberOf). name_size m.name + 2) m ms in
       let types = sum_by-cons n m.type_at (member_types ms) in
       omega (arith, ap (λ (u : Members). byte_count (members_tokens u)) rest.2, count-cons Semicolon (Blank ∷ members_tokens rest.0), count-cons Blank (members_tokens rest.0))
@@ -149,15 +149,11 @@ module _ (term : TypeAt → Option Term) (n : TypeAt → ℕ) where
   shape-least (typedef (Some name)) t all e = search (rules, core-least, specifier-of, count-cons)
   shape-least (qualified q at) t all e = search (rules, map_inverted, first-of, of-one)
   shape-least (pointer at) t all e =
-      let u = map_inverted Pointer (term at) t e in
-      let P : Term → Type 0 = λ x. IsLeast x (n at) in
-      of-one at t (subst P u.2 (pointer-least u.0 (n at) (first-of (Counts term n) at [] all u.0 u.1)))
+      of-one at t (map_holds (λ (x : Term). IsLeast x (n at)) Pointer (term at) (λ u is. pointer-least u (n at) (first-of (Counts term n) at [] all u is)) t e)
   shape-least (array (c ∷ cs) strange at) t all e =
-      let there = unless_inverted (is_miscounted (c ∷ cs)) (option_map (arrays (c ∷ cs)) (term at)) t e in
-      let u = map_inverted (arrays (c ∷ cs)) (term at) t there.1 in
       let P : Term → Type 0 = λ x. IsLeast x (length (c ∷ cs) + n at) in
       fewer-least t (length (c ∷ cs) + n at) (length (c ∷ cs) + sum_by n (at ∷ [])) (omega (arith, sum_by-cons n at []))
-      (subst P u.2 (array-least c cs u.0 (n at) (first-of (Counts term n) at [] all u.0 u.1)))
+      (unless_holds P (is_miscounted (c ∷ cs)) _ (λ placed. map_holds P (arrays (c ∷ cs)) (term at) (λ u is. array-least c cs u (n at) (first-of (Counts term n) at [] all u is))) t e)
   shape-least (function at None) t all e = search (rules, map_inverted, of-one, bare-least, first-of)
   shape-least (function at (Some ps)) t all e =
       let f = function-parts term at ps t e in

@@ -1,22 +1,24 @@
 -- The term of an entry that is not wrong can be read back from its text.
-use Rattle.std.proofs.Common.{rules, ◌≡◌, ℕ, zero, suc, ℤ, Bool, true, false, List, [], ◌∷◌, Option, Some, None, refl, sym, ◌∙◌, ap, subst, arith}
+use Rattle.std.proofs.Common.{rules, ◌≡◌, ℕ, zero, suc, Bool, true, false, List, [], ◌∷◌, Option, Some, None, refl, sym, ◌∙◌, ap, subst, arith}
 use Rattle.std.specs.Prelude.{option_map, option_and_then, Any, Contains, IsSome, not}
 use Rattle.std.specs.List.{list_any}
-use Rattle.dw_cprint.specs.Declarations.{is_miscounted, is_misplaced, arrays, bits_of, constants_of, has_more, parameters_by, members_by, term_by, term_at, declaration_by}
+use Rattle.std.proofs.lemmas.Option.{same_Some}
+use Rattle.dw_cprint.specs.Declarations.{is_miscounted, is_misplaced, arrays, constants_of, has_more, parameters_by, members_by, term_by, term_at, declaration_by}
 use Rattle.dw_cprint.specs.Legible.{is_identifier, IsIdentifier, IsName, AreConstants, IsQualifiable, IsPresent, IsLegible, IsSignature, AreParameters, AreMembers, IsDeclaration}
 use Rattle.dw_cprint.specs.Regular.{IsRegular, IsRegularSubject}
-use Rattle.dw_cprint.specs.Shapes.{Parameter, Typed, More, Name, TypeAt, MemberOf, EnumeratorOf, ShapeOf, base, typedef, Bits, Qualifier, Restrict, qualified, pointer, array, function, tagged, body, enumeration, nameless, SubjectOf, typedef_subject, variable_subject, tag_subject}
+use Rattle.dw_cprint.specs.Shapes.{Parameter, Typed, More, Name, TypeAt, MemberOf, EnumeratorOf, ShapeOf, base, typedef, Qualifier, Restrict, qualified, pointer, array, function, tagged, body, enumeration, nameless, SubjectOf, typedef_subject, variable_subject, tag_subject}
 use Rattle.dw_cprint.specs.Steps.{entries_of, parameter_types, member_types, types_reached, first_steps, root, further, IsReached, HasPath}
-use Rattle.dw_cprint.specs.Terms.{Constant, Valued, Term, Void, Named, Tagged, Body, Enumeration, Qualified, Pointer, Function, Unprototyped, Prototyped, Parameters, NoParameter, Parameter as ParameterTerm, Members, NoMember, Member as MemberTerm, Declaration, Typedef, Variable, Aggregate, Constants, Declared}
+use Rattle.dw_cprint.specs.Terms.{Constant, Term, Void, Named, Tagged, Body, Enumeration, Qualified, Pointer, Function, Unprototyped, Prototyped, Parameters, NoParameter, Parameter as ParameterTerm, Members, NoMember, Member as MemberTerm, Declaration, Typedef, Variable, Aggregate, Constants, Declared}
 use Rattle.dw_cprint.specs.Wrong.{TypeKind, StandsUnder, nothing, itself, IsVoidLike, is_bracketed, is_wrong_row, kind_at, kind_in, lacks_member_name, row, void_object, has_own_bad_name, lacks_name, unspeakable, wrong}
 use Rattle.dw_cprint.specs.Refusals.{other_kind, own_name, own_child, own_shape, name_reached, foreign_reached, shape_reached, HoldsNoneBelow, NotPrintable, BadName, Foreign, Unspeakable}
 use Rattle.dw_cprint.specs.declared.refusals.TypeKind.TheVariants as kind
-use Rattle.dw_cprint.proofs.OptionLemmas.{map_inverted, then_inverted, unless_inverted, not_refuted, or_left, or_right, map_some}
+use Rattle.dw_cprint.proofs.OptionLemmas.{both_hold, map_holds, map_inverted, then_inverted, unless_holds, unless_inverted, not_refuted, or_left, or_right, map_some}
+use Rattle.dw_cprint.proofs.ItemWriterLemmas.{more-constants}
 use Rattle.dw_cprint.proofs.HasTermLemmas.{AreKept, IsBaseTerm, IsFine, among_here, among_there, any_here, base_is, head_of, name_there, nameless_at, rest_of, HasTerm, constants_some, entry_some, members_some, unvalued}
 
 -- ---- an entry that is not wrong is legible
 
-member_legible : (k : TypeKind) (bits : Bits) (name : Name) → (lacks_member_name k bits name ≡ true → ⊥) → IsName name
+member_legible : (k : TypeKind) (bits : Option ℕ) (name : Name) → (lacks_member_name k bits name ≡ true → ⊥) → IsName name
 member_legible k bits None h = tt
 member_legible k bits (Some n) h = not_refuted (is_identifier n) h
 
@@ -28,15 +30,11 @@ pub constants_legible : (es : List EnumeratorOf) → (list_any nameless_at es �
     → (cs : List Constant) → constants_of es ≡ Some cs → AreConstants cs
 constants_legible [] named cs e = let same : [] ≡ cs = cc in subst AreConstants same tt
 constants_legible (x ∷ es) named cs e =
-    let rest = constants_of es in
-    let name = then_inverted (λ (name : List ℕ). option_and_then (λ (value : ℤ). option_map (λ (cs : List Constant). Valued name value ∷ cs) rest) x.value) x.name cs e in
-    let value = then_inverted (λ (value : ℤ). option_map (λ (cs : List Constant). Valued name.0 value ∷ cs) rest) x.value cs name.2 in
-    let others = map_inverted (λ (cs : List Constant). Valued name.0 value.0 ∷ cs) rest cs value.2 in
+    let m = more-constants x es cs e in
     let there = name_there x.name (λ w. named (or_left (nameless_at x) (list_any nameless_at es) w)) in
-    let same : there.0 ≡ name.0 = cc in
-    subst AreConstants others.2 (
-      subst IsIdentifier same there.2,
-      constants_legible es (λ w. named (or_right (nameless_at x) (list_any nameless_at es) w)) others.0 others.1,
+    subst AreConstants m.is (
+      subst IsIdentifier (same_Some there.0 m.name (sym there.1 ∙ m.is_name)) there.2,
+      constants_legible es (λ w. named (or_right (nameless_at x) (list_any nameless_at es) w)) m.others m.are_others,
     )
 
 module _ (term : TypeAt → Option Term) where
@@ -50,10 +48,8 @@ module _ (term : TypeAt → Option Term) where
         → parameters_by term ps ≡ Some us → AreParameters us
     parameters_legible [] h us e = let same : NoParameter ≡ us = cc in subst AreParameters same tt
     parameters_legible (Typed at ∷ ps) h us e =
-        let first = then_inverted (λ (t : Term). option_map (ParameterTerm t) (parameters_by term ps)) (term at) us e in
-        let others = map_inverted (ParameterTerm first.0) (parameters_by term ps) us first.2 in
-        subst AreParameters others.2
-        (head_of ReadsAt void at (parameter_types ps) h first.0 first.1, parameters_legible ps (rest_of ReadsAt void at (parameter_types ps) h) others.0 others.1)
+        both_hold AreParameters ParameterTerm (term at) (parameters_by term ps)
+        (λ t is vs are. (head_of ReadsAt void at (parameter_types ps) h t is, parameters_legible ps (rest_of ReadsAt void at (parameter_types ps) h) vs are)) us e
     parameters_legible (More ∷ ps) h us e = parameters_legible ps h us e
 
     signature_legible : (shapes : ℕ → ShapeOf) (ps : List Parameter)
@@ -67,28 +63,20 @@ module _ (term : TypeAt → Option Term) where
     signature_legible shapes (More ∷ ps) voids placed there h us e = absurd (cc)
     signature_legible shapes (Typed None ∷ ps) voids placed there h us e = absurd (voids (any_here (IsVoidLike shapes) None (parameter_types ps) nothing))
     signature_legible shapes (Typed (Some n) ∷ ps) voids placed there h us e =
-        let first = then_inverted (λ (t : Term). option_map (ParameterTerm t) (parameters_by term ps)) (term (Some n)) us e in
-        let others = map_inverted (ParameterTerm first.0) (parameters_by term ps) us first.2 in
-        let P : Parameters → Type 0 = λ vs. IsSignature (Prototyped vs (has_more ps)) in
         let here = among_here n (entries_of (parameter_types ps)) in
-        subst P others.2 (
-          there n here first.0 first.1,
-          h n here first.0 first.1,
-          parameters_legible ps (rest_of ReadsAt void (Some n) (parameter_types ps) h) others.0 others.1,
-        )
+        both_hold (λ (vs : Parameters). IsSignature (Prototyped vs (has_more ps))) ParameterTerm (term (Some n)) (parameters_by term ps)
+        (λ t is vs are. (there n here t is, h n here t is, parameters_legible ps (rest_of ReadsAt void (Some n) (parameter_types ps) h) vs are)) us e
 
     pub members_legible : (shapes : ℕ → ShapeOf) (ms : List MemberOf) → (list_any (nameless_member shapes) ms ≡ true → ⊥)
         → ((n : ℕ) → Contains (entries_of (member_types ms)) n → ReadsAt (Some n)) → (us : Members)
         → members_by term ms ≡ Some us → AreMembers us
     members_legible shapes [] named h us e = let same : NoMember ≡ us = cc in subst AreMembers same tt
     members_legible shapes (m ∷ ms) named h us e =
-        let first = then_inverted (λ (t : Term). option_map (MemberTerm m.name t (bits_of m.bits)) (members_by term ms)) (term m.type_at) us e in
-        let others = map_inverted (MemberTerm m.name first.0 (bits_of m.bits)) (members_by term ms) us first.2 in
-        subst AreMembers others.2 (
+        both_hold AreMembers (λ (t : Term). MemberTerm m.name t m.bits) (term m.type_at) (members_by term ms) (λ t is vs are. (
           member_legible (kind_at shapes m.type_at) m.bits m.name (λ w. named (or_left (nameless_member shapes m) (list_any (nameless_member shapes) ms) w)),
-          head_of ReadsAt void m.type_at (member_types ms) h first.0 first.1,
-          members_legible shapes ms (λ w. named (or_right (nameless_member shapes m) (list_any (nameless_member shapes) ms) w)) (rest_of ReadsAt void m.type_at (member_types ms) h) others.0 others.1,
-        )
+          head_of ReadsAt void m.type_at (member_types ms) h t is,
+          members_legible shapes ms (λ w. named (or_right (nameless_member shapes m) (list_any (nameless_member shapes) ms) w)) (rest_of ReadsAt void m.type_at (member_types ms) h) vs are,
+        )) us e
 
 arrays_legible : (counts : List (Option ℕ)) (t : Term) → IsLegible t → IsLegible (arrays counts t)
 arrays_legible [] t h = h
@@ -102,15 +90,14 @@ IsHead s t = IsPresent t × ((is_bracketed (kind_in (Some s)) ≡ true → ⊥) 
 head_is : (term : TypeAt → Option Term) (s : ShapeOf) (t : Term) → term_by term s ≡ Some t → IsHead s t
 head_is term (base (Some n)) t e = (IsBaseTerm.present (base_is n t e), λ a. IsBaseTerm.qualifiable (base_is n t e))
 head_is term (typedef (Some n)) t e = let same : Named n ≡ t = cc in subst (IsHead (typedef (Some n))) same (tt, λ a. tt)
-head_is term (qualified q at) t e = let f = map_inverted (Qualified q) (term at) t e in subst (IsHead (qualified q at)) f.2 (tt, λ a. tt)
-head_is term (pointer at) t e = let f = map_inverted Pointer (term at) t e in subst (IsHead (pointer at)) f.2 (tt, λ a. tt)
+head_is term (qualified q at) t e = map_holds (IsHead (qualified q at)) (Qualified q) (term at) (λ u is. (tt, λ a. tt)) t e
+head_is term (pointer at) t e = map_holds (IsHead (pointer at)) Pointer (term at) (λ u is. (tt, λ a. tt)) t e
 head_is term (array (c ∷ cs) strange at) t e = search (rules, unless_inverted, map_inverted)
-head_is term (function at None) t e =
-    let f = map_inverted (λ (t : Term). Function t Unprototyped) (term at) t e in subst (IsHead (function at None)) f.2 (tt, λ a. absurd (a refl))
+head_is term (function at None) t e = map_holds (IsHead (function at None)) (λ (t : Term). Function t Unprototyped) (term at) (λ u is. (tt, λ a. absurd (a refl))) t e
 head_is term (function at (Some ps)) t e = search (rules, unless_inverted, then_inverted, map_inverted)
 head_is term (tagged word name) t e = let same : Tagged word name ≡ t = cc in subst (IsHead (tagged word name)) same (tt, λ a. tt)
-head_is term (body word odd ms) t e = let f = map_inverted (Body word) (members_by term ms) t e in subst (IsHead (body word odd ms)) f.2 (tt, λ a. tt)
-head_is term (enumeration odd es) t e = let f = map_inverted Enumeration (constants_of es) t e in subst (IsHead (enumeration odd es)) f.2 (tt, λ a. tt)
+head_is term (body word odd ms) t e = map_holds (IsHead (body word odd ms)) (Body word) (members_by term ms) (λ us are. (tt, λ a. tt)) t e
+head_is term (enumeration odd es) t e = map_holds (IsHead (enumeration odd es)) Enumeration (constants_of es) (λ cs are. (tt, λ a. tt)) t e
 head_is term _ t e = absurd (cc)
 
 -- what a qualifier stands over is no array and no function
@@ -145,32 +132,26 @@ module _ (shapes : ℕ → ShapeOf) (k : ℕ) where
   shape_legible (base (Some n)) fine fit there h t e = IsBaseTerm.legible (base_is n t e)
   shape_legible (typedef (Some n)) fine fit there h t e = let same : Named n ≡ t = cc in subst IsLegible same (not_refuted (is_identifier n) fine.named)
   shape_legible (qualified q at) fine fit there h t e =
-      let f = map_inverted (Qualified q) (term_at k shapes at) t e in
-      subst IsLegible f.2 (
-        qualifiable shapes k at (λ under stands w. fine.speakable (row under stands (bracketed_row q (kind_at shapes under) w))) f.0 f.1,
-        head_of (ReadsAt (term_at k shapes)) (void_legible k shapes) at [] h f.0 f.1,
-      )
+      map_holds IsLegible (Qualified q) (term_at k shapes at) (λ u is. (
+        qualifiable shapes k at (λ under stands w. fine.speakable (row under stands (bracketed_row q (kind_at shapes under) w))) u is,
+        head_of (ReadsAt (term_at k shapes)) (void_legible k shapes) at [] h u is,
+      )) t e
   shape_legible (pointer at) fine fit there h t e =
-      let f = map_inverted Pointer (term_at k shapes at) t e in subst IsLegible f.2 (head_of (ReadsAt (term_at k shapes)) (void_legible k shapes) at [] h f.0 f.1)
+      map_holds IsLegible Pointer (term_at k shapes at) (λ u is. head_of (ReadsAt (term_at k shapes)) (void_legible k shapes) at [] h u is) t e
   shape_legible (array counts strange at) fine fit there h t e =
-      let u = unless_inverted (is_miscounted counts) (option_map (arrays counts) (term_at k shapes at)) t e in
-      let f = map_inverted (arrays counts) (term_at k shapes at) t u.1 in
-      subst IsLegible f.2 (arrays_legible counts f.0 (head_of (ReadsAt (term_at k shapes)) (void_legible k shapes) at [] h f.0 f.1))
+      unless_holds IsLegible (is_miscounted counts) (option_map (arrays counts) (term_at k shapes at)) (λ placed. map_holds IsLegible (arrays counts) (term_at k shapes at)
+      (λ u is. arrays_legible counts u (head_of (ReadsAt (term_at k shapes)) (void_legible k shapes) at [] h u is))) t e
   shape_legible (function at None) fine fit there h t e =
-      let f = map_inverted (λ (t : Term). Function t Unprototyped) (term_at k shapes at) t e in
-      subst IsLegible f.2 (head_of (ReadsAt (term_at k shapes)) (void_legible k shapes) at [] h f.0 f.1, tt)
+      map_holds IsLegible (λ (t : Term). Function t Unprototyped) (term_at k shapes at) (λ u is. (head_of (ReadsAt (term_at k shapes)) (void_legible k shapes) at [] h u is, tt)) t e
   shape_legible (function at (Some ps)) fine fit there h t e =
       let term = term_at k shapes in
-      let called : Term → Option Term = λ (t : Term). option_map (λ (us : Parameters). Function t (Prototyped us (has_more ps))) (parameters_by term ps) in
-      let u = unless_inverted (is_misplaced ps) (option_and_then called (term at)) t e in
-      let r = then_inverted called (term at) t u.1 in
-      let f = map_inverted (λ (us : Parameters). Function r.0 (Prototyped us (has_more ps))) (parameters_by term ps) t r.2 in
-      subst IsLegible f.2 (
-        head_of (ReadsAt term) (void_legible k shapes) at (parameter_types ps) h r.0 r.1,
-        signature_legible term (void_legible k shapes) shapes ps (λ w. fine.speakable (void_object w)) u.0
+      let called : Term → Parameters → Term = λ t us. Function t (Prototyped us (has_more ps)) in
+      unless_holds IsLegible (is_misplaced ps) (option_and_then (λ (t : Term). option_map (called t) (parameters_by term ps)) (term at)) (λ placed. both_hold IsLegible called (term at) (parameters_by term ps) (λ r is us are. (
+        head_of (ReadsAt term) (void_legible k shapes) at (parameter_types ps) h r is,
+        signature_legible term (void_legible k shapes) shapes ps (λ w. fine.speakable (void_object w)) placed
             (λ n among. there n (further_in at (parameter_types ps) n among))
-            (rest_of (ReadsAt term) (void_legible k shapes) at (parameter_types ps) h) f.0 f.1,
-      )
+            (rest_of (ReadsAt term) (void_legible k shapes) at (parameter_types ps) h) us are,
+      ))) t e
     where
       further_in : (at : TypeAt) (ats : List TypeAt) (n : ℕ) → Contains (entries_of ats) n
           → Contains (entries_of (at ∷ ats)) n
@@ -178,10 +159,8 @@ module _ (shapes : ℕ → ShapeOf) (k : ℕ) where
       further_in (Some m) ats n c = among_there m n (entries_of ats) c
   shape_legible (tagged word name) fine fit there h t e = let same : Tagged word name ≡ t = cc in subst IsLegible same (not_refuted (is_identifier name) fine.named)
   shape_legible (body word odd ms) fine fit there h t e =
-      let f = map_inverted (Body word) (members_by (term_at k shapes) ms) t e in
-      subst IsLegible f.2 (fit, members_legible (term_at k shapes) (void_legible k shapes) shapes ms fine.named h f.0 f.1)
-  shape_legible (enumeration odd es) fine fit there h t e =
-      let f = map_inverted Enumeration (constants_of es) t e in subst IsLegible f.2 (constants_legible es fine.named f.0 f.1)
+      map_holds IsLegible (Body word) (members_by (term_at k shapes) ms) (λ us are. (fit, members_legible (term_at k shapes) (void_legible k shapes) shapes ms fine.named h us are)) t e
+  shape_legible (enumeration odd es) fine fit there h t e = map_holds IsLegible Enumeration (constants_of es) (λ cs are. constants_legible es fine.named cs are) t e
   shape_legible _ fine fit there h t e = absurd (cc)
 
 entry_present : (shapes : ℕ → ShapeOf) (k n : ℕ) (t : Term) → term_at k shapes (Some n) ≡ Some t → IsPresent t
@@ -247,24 +226,22 @@ subject_legible k shapes subject none own fit d e =
 
     by_subject : (s : SubjectOf) → HoldsNoneBelow 5 shapes s → IsRegularSubject s → ((n : ℕ) → Contains (first_steps s) n → ReadsAt (term_at k shapes) (Some n)) → declaration_by (term_at k shapes) s ≡ Some d → IsDeclaration d
     by_subject (typedef_subject (Some n) at) none own h e =
-        let f = map_inverted (Typedef n) (term_at k shapes at) d e in
-        subst IsDeclaration f.2 (identifier (typedef_subject (Some n) at) n none (λ w. w), head_of (ReadsAt (term_at k shapes)) (void_legible k shapes) at [] h f.0 f.1)
+        map_holds IsDeclaration (Typedef n) (term_at k shapes at)
+        (λ u is. (identifier (typedef_subject (Some n) at) n none (λ w. w), head_of (ReadsAt (term_at k shapes)) (void_legible k shapes) at [] h u is)) d e
     by_subject (variable_subject (Some n) at) none own h e =
-        let f = map_inverted (Variable n) (term_at k shapes at) d e in
-        subst IsDeclaration f.2 (identifier (variable_subject (Some n) at) n none (λ w. w), head_of (ReadsAt (term_at k shapes)) (void_legible k shapes) at [] h f.0 f.1)
+        map_holds IsDeclaration (Variable n) (term_at k shapes at)
+        (λ u is. (identifier (variable_subject (Some n) at) n none (λ w. w), head_of (ReadsAt (term_at k shapes)) (void_legible k shapes) at [] h u is)) d e
     by_subject (tag_subject (Some n) (body word odd ms)) none own h e =
-        let f = map_inverted (Aggregate word n) (members_by (term_at k shapes) ms) d e in
-        subst IsDeclaration f.2 (
+        map_holds IsDeclaration (Aggregate word n) (members_by (term_at k shapes) ms) (λ us are. (
           own,
           identifier (tag_subject (Some n) (body word odd ms)) n none (λ w. or_left _ _ w),
-          members_legible (term_at k shapes) (void_legible k shapes) shapes ms (own_fine shapes (Some n) (body word odd ms) none).named h f.0 f.1,
-        )
+          members_legible (term_at k shapes) (void_legible k shapes) shapes ms (own_fine shapes (Some n) (body word odd ms) none).named h us are,
+        )) d e
     by_subject (tag_subject (Some n) (enumeration odd es)) none own h e =
-        let f = map_inverted (Constants n) (constants_of es) d e in
-        subst IsDeclaration f.2 (
+        map_holds IsDeclaration (Constants n) (constants_of es) (λ cs are. (
           identifier (tag_subject (Some n) (enumeration odd es)) n none (λ w. or_left _ _ w),
-          constants_legible es (own_fine shapes (Some n) (enumeration odd es) none).named f.0 f.1,
-        )
+          constants_legible es (own_fine shapes (Some n) (enumeration odd es) none).named cs are,
+        )) d e
     by_subject (tag_subject (Some n) (tagged word tag)) none own h e =
         let same : Declared word tag ≡ d = cc in
         subst IsDeclaration same (not_refuted (is_identifier tag) (own_fine shapes (Some n) (tagged word tag) none).named)

@@ -1,7 +1,11 @@
 -- The steps by value of an image: each entry has a level, and the order of a listing by them.
-use Rattle.std.proofs.Common.{rules, ◌≡◌, ℕ, zero, suc, ◌+◌, ◌<◌, List, [], ◌∷◌, length, get_or, inl, inr, arith, refl, sym, ◌-◌, ap}
+use Rattle.std.proofs.Common.{rules, ◌≡◌, ℕ, zero, suc, ◌+◌, ◌<◌, List, [], ◌∷◌, length, get_or, inl, inr, arith, refl, sym, ◌∙◌, ◌-◌, ap, true, false}
 use Rattle.std.specs.Prelude.{◌⊎◌, Contains, AllPairs}
-use Rattle.std.proofs.lemmas.Bool.{cases_eq}
+use Rattle.std.specs.List.{list_any}
+use Rattle.std.proofs.lemmas.Bool.{cases_Bool, eqb-true, eq-eqb}
+use Rattle.std.proofs.lemmas.List.Folds.{list_any-from_Any}
+use Rattle.std.proofs.lemmas.Map.Views.{Contains-from_any}
+use lib.Dec.{eqb}
 use Rattle.std.proofs.lemmas.List.Elements.{Contains-get_or}
 use Rattle.dw_entries.proofs.FindLaws.{entries_counted}
 use Rattle.dw_entries.proofs.OrderLaws.{scanned_few}
@@ -17,18 +21,10 @@ use Rattle.dw_cprint.specs.Refusals.{PrintFault}
 
 -- a list has a number or not
 pub has-or-not : (xs : List ℕ) (x : ℕ) → Contains xs x ⊎ (Contains xs x → ⊥)
-has-or-not [] x = inr (λ (k, w, e). absurd (omega arith))
-has-or-not (y ∷ xs) x = elim (cases_eq y x) [
-  | inl same ↦ inl (0, (omega arith), same)
-  | inr other ↦ elim (has-or-not xs x) [
-    | inl (k, w, e) ↦ inl (suc k, (omega arith), e)
-    | inr none ↦ inr (not-there other none)
-  ]
+has-or-not xs x = elim (cases_Bool (list_any (eqb x) xs)) [
+  | inl t ↦ inl (Contains-from_any {eq = eqb} eqb-true x xs t)
+  | inr f ↦ inr (λ (k, w, e). (let t : true ≡ false = sym (list_any-from_Any (eqb x) xs (k, x, w, e, eq-eqb x x refl)) ∙ f in absurd (cc)))
 ]
-  where
-    not-there : (y ≡ x → ⊥) → (Contains xs x → ⊥) → Contains (y ∷ xs) x → ⊥
-    not-there other none (zero, w, e) = other e
-    not-there other none (suc k, w, e) = none (k, (omega arith), e)
 
 -- ---- one row for each entry
 

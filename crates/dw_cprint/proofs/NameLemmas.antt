@@ -1,6 +1,6 @@
 -- The words of a base type's name, and its text.
 use Rattle.std.proofs.Common.{rules, ◌≡◌, ℕ, zero, suc, ◌+◌, ◌*◌, ◌<◌, ◌≤◌, Bool, true, false, List, [], ◌∷◌, ◌++◌, Option, Some, None, refl, sym, ◌∙◌, ap, subst, length, take, drop, append-nil, arith, ◌-◌, ◌/◌, ◌%◌, get_or, inl, inr}
-use Rattle.std.specs.Prelude.{◌==◌, ◌&&◌, ◌||◌, ◌-◌, count_by, position, bytes_eq, option_map, is_some, if◌then◌else◌, ◌⊎◌, slice_get}
+use Rattle.std.specs.Prelude.{◌==◌, ◌&&◌, ◌||◌, ◌-◌, count_by, position, bytes_eq, is_some, if◌then◌else◌, ◌⊎◌, slice_get}
 use Rattle.std.specs.List.{list_any, slice_split, position_or_len, join_with_byte, before_first, list_all}
 use Rattle.std.proofs.lemmas.Bool.Decides.{nat_tests}
 use Rattle.std.proofs.lemmas.Option.{cond_some, get_or_from_slice_get, slice_get-get_or, slice_get_within}
@@ -19,7 +19,7 @@ use Rattle.dw_cprint.specs.Tokens.{type_word_spelling, text_of}
 use Rattle.dw_cprint.specs.Writing.{basic}
 use Rattle.dw_cprint.specs.StringSpans.{AreSpans, IsSpan}
 use Rattle.dw_cprint.specs.declared.source.Span.{Span}
-use Rattle.dw_cprint.proofs.OptionLemmas.{map_inverted, then_inverted}
+use Rattle.dw_cprint.proofs.OptionLemmas.{both_hold}
 
 -- a keyword is one of the short ones or one of the longest
 pub keyword_parts : (word : List ℕ) → is_keyword word ≡ (list_any (λ k. bytes_eq word k.now) KEYWORDS || list_any (λ k. bytes_eq word k.now) LONG_KEYWORDS)
@@ -73,9 +73,8 @@ pub words-length : (most : ℕ) (parts : List (List ℕ)) (ws : List TypeWord) �
 words-length most [] ws e = let same : [] ≡ ws = cc in ap length (sym same)
 words-length zero (part ∷ parts) ws e = absurd (cc)
 words-length (suc most) (part ∷ parts) ws e =
-    let first = then_inverted (λ (w : TypeWord). option_map (λ (us : List TypeWord). w ∷ us) (words_of most parts)) (word_of part) ws e in
-    let others = map_inverted (λ (us : List TypeWord). first.0 ∷ us) (words_of most parts) ws first.2 in
-    sym (ap length others.2) ∙ ap suc (words-length most parts others.0 others.1)
+    both_hold (λ (vs : List TypeWord). length vs ≡ suc (length parts)) (λ (w : TypeWord) (us : List TypeWord). w ∷ us) (word_of part) (words_of most parts)
+    (λ w is us are. ap suc (words-length most parts us are)) ws e
 
 -- one word before others, of which there are as many as parts
 word-before : (w : TypeWord) (us : List TypeWord) (part : List ℕ) (parts : List (List ℕ)) → type_word_spelling w ≡ part → length us ≡ length parts → text_of (basic us) ≡ join_with_byte 32 parts
@@ -90,10 +89,8 @@ words-joined : (most : ℕ) (parts : List (List ℕ)) (ws : List TypeWord) → w
 words-joined most [] ws e = let same : [] ≡ ws = cc in ap (λ (us : List TypeWord). text_of (basic us)) (sym same)
 words-joined zero (part ∷ parts) ws e = absurd (cc)
 words-joined (suc most) (part ∷ parts) ws e =
-    let first = then_inverted (λ (w : TypeWord). option_map (λ (us : List TypeWord). w ∷ us) (words_of most parts)) (word_of part) ws e in
-    let others = map_inverted (λ (us : List TypeWord). first.0 ∷ us) (words_of most parts) ws first.2 in
-    ap (λ (us : List TypeWord). text_of (basic us)) (sym others.2)
-    ∙ word-before first.0 others.0 part parts (spelled part first.0 first.1) (words-length most parts others.0 others.1) (words-joined most parts others.0 others.1)
+    both_hold (λ (vs : List TypeWord). text_of (basic vs) ≡ join_with_byte 32 (part ∷ parts)) (λ (w : TypeWord) (us : List TypeWord). w ∷ us) (word_of part) (words_of most parts)
+    (λ w is us are. word-before w us part parts (spelled part w is) (words-length most parts us are) (words-joined most parts us are)) ws e
 
 -- the text of a name of type words is the name
 pub words-text : (name : List ℕ) (ws : List TypeWord) → words_of 4 (parts_of name) ≡ Some ws → text_of (basic ws) ≡ name
@@ -115,9 +112,8 @@ words-few : (most : ℕ) (parts : List (List ℕ)) (ws : List TypeWord) → word
 words-few most [] ws e = let same : [] ≡ ws = cc in let none = ap length same in omega arith
 words-few zero (part ∷ parts) ws e = absurd (cc)
 words-few (suc most) (part ∷ parts) ws e =
-    let first = then_inverted (λ (w : TypeWord). option_map (λ (us : List TypeWord). w ∷ us) (words_of most parts)) (word_of part) ws e in
-    let others = map_inverted (λ (us : List TypeWord). first.0 ∷ us) (words_of most parts) ws first.2 in
-    omega (arith, words-few most parts others.0 others.1, ap length others.2)
+    both_hold (λ (vs : List TypeWord). length vs ≤ suc most) (λ (w : TypeWord) (us : List TypeWord). w ∷ us) (word_of part) (words_of most parts)
+    (λ w is us are. omega (arith, words-few most parts us are)) ws e
 
 -- a name of more bytes is not type words
 pub no_words : (name : List ℕ) → 36 < length name → is_some (words_of 4 (parts_of name)) ≡ false

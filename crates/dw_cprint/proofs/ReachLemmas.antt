@@ -1,22 +1,25 @@
 -- Finding what is reached: the loop over the entries that are found.
 use Rattle.std.proofs.lemmas.Grind.{common_steps}
-use Rattle.std.proofs.Common.{rules, ◌≡◌, ◌≢◌, ℕ, zero, suc, ◌+◌, ◌<◌, ◌≤◌, List, [], ◌∷◌, ◌++◌, Option, Some, None, refl, sym, ◌∙◌, ap, subst, inl, inr, length, get_or, arith, length-append, set, length-set, get_or-set_other, get_or-set_same, take, map, append-nil, append_assoc, true, false}
+use Rattle.std.proofs.Common.{rules, ◌≡◌, ◌≢◌, ℕ, zero, suc, ◌+◌, ◌<◌, ◌≤◌, List, [], ◌∷◌, ◌++◌, Option, Some, None, refl, sym, ◌∙◌, ap, subst, inl, inr, length, get_or, arith, length-append, set, length-set, get_or-set_other, get_or-set_same, take, map, append-nil, append_assoc}
 use Rattle.std.specs.Prelude.{Contains, option_map}
-use Rattle.std.specs.List.{IsDistinct, AllByRecursion, cons_option, list_any}
-use Rattle.std.proofs.lemmas.List.{get_or-map, length-map, map-append, get_or_append_left, take_more, get_or-append_right, get_or_push, take_all, take-append-le}
-use Rattle.std.proofs.lemmas.List.Elements.{Contains-get_or, Contains-append_left, Contains-append_right, Contains-append_cases}
+use Rattle.std.specs.List.{cons_option}
+use Rattle.std.proofs.lemmas.List.{get_or_default, get_or-map, length-map, map-append, get_or_append_left, take_more, get_or-append_right, get_or_push, take_all, take-append-le}
+use Rattle.std.proofs.lemmas.List.Elements.{All-contains, Contains-get_or, Contains-append_left, Contains-append_right, Contains-append_cases}
 use Rattle.std.proofs.Math.Seq.{get_or-append_seam}
 use Rattle.std.proofs.lemmas.Bool.{cases_lt}
 use Rattle.std.proofs.lemmas.Option.{same_Some}
 use Rattle.std.proofs.lemmas.Map.Steps.{length-le_from_distinct_below}
-use Rattle.std.proofs.lemmas.Bool.Decides.{eqb_tells}
+use Rattle.std.proofs.lemmas.Map.Made.{IsDistinct-from_AllPairs}
+use Rattle.std.proofs.lemmas.Map.Views.{Contains-from_any}
+use Rattle.std.proofs.lemmas.Bool.{eqb-true, eq-eqb}
 use Rattle.dw_types.specs.Graphs.{Graph, steps_of}
 use Rattle.dw_types.specs.Packing.{cut, LeadsBelow}
 use Rattle.dw_types.specs.PackingLaws.{cut-more}
 use Rattle.dw_types.proofs.PackingLemmas.{AreEnds, ends-more}
 use Rattle.dw_cprint.specs.Steps.{entries_of, member_types, steps_reached, IsReachedFrom, root, further}
-use Rattle.dw_cprint.specs.Reach.{ArePlaces, Grows, IsRow, FindsAll, IsReachOf}
-use Rattle.dw_cprint.specs.Shapes.{MemberOf, ShapeOf}
+use Rattle.dw_cprint.specs.Reach.{ArePlaces, Grows, IsRow, FindsAll, HasReached}
+use Rattle.dw_cprint.specs.Shapes.{MemberOf, ShapeOf, view_shape}
+use Rattle.dw_cprint.specs.declared.survey.Survey.{Survey}
 use lib.Dec.{eqb}
 
 -- an element of a mapped list comes from one of the list
@@ -168,12 +171,9 @@ module _ (shapes : ℕ → ShapeOf) (roots places places' found found' : List �
                 subst Goal (sym (get_or_push rows r [] node (sym e))) (moved node (omega arith) r (subst P (sym e) f.is_row))
           ]
 
-pub so_far-done : (shapes : ℕ → ShapeOf) (roots places found : List ℕ) (rows : Graph) (read : List ShapeOf) → IsSoFar shapes roots places found rows read → length found ≤ length rows → IsReachOf shapes roots places found rows
-so_far-done shapes roots places found rows read s over = search (rules)
-
--- the shapes of all that is found are read
-pub read-done : (shapes : ℕ → ShapeOf) (roots places found : List ℕ) (rows : Graph) (read : List ShapeOf) → IsSoFar shapes roots places found rows read → length found ≤ length rows → read ≡ map shapes found
-read-done shapes roots places found rows read s over = s.shapes_are ∙ ap (map shapes) (take_all (length rows) found over)
+pub so_far-done : (shapes : ℕ → ShapeOf) (roots : List ℕ) (s : Survey) (found : List ℕ) (rows : Graph) → IsSoFar shapes roots s.places.items found rows (map view_shape s.shapes.items)
+    → length found ≤ length rows → HasReached shapes roots s rows
+so_far-done shapes roots s found rows h over = record { found = found; reach = search (rules); are_shapes = h.shapes_are ∙ ap (map shapes) (take_all (length rows) found over) }
 
 -- ---- the rows in one list
 
@@ -194,31 +194,14 @@ packed-more reached places places' found found' steps ends row h f =
 pub rows-more : (found steps ends row : List ℕ) → ArePacked found steps ends → cut (steps ++ row) 0 (ends ++ length (steps ++ row) ∷ []) ≡ cut steps 0 ends ++ row ∷ []
 rows-more found steps ends row h = cut-more steps row ends h.are_ends.in_order h.are_ends.last
 
--- ROOM
-
-distinct : (back : ℕ → ℕ) (from : ℕ) (xs : List ℕ) → ((k : ℕ) → k < length xs → back (get_or xs k 0) ≡ from + k) → IsDistinct eqb xs
-unfolding IsDistinct
-distinct back from [] h = tt
-distinct back from (x ∷ xs) h =
-    (others xs 0 (λ k w. (let e = h (suc k) (omega arith) in omega arith)), distinct back (suc from) xs (λ k w. (let e = h (suc k) (omega arith) in omega arith)))
-  where
-    differ : (y : ℕ) → back y ≢ back x → eqb x y ≡ false
-    differ y ne = elim (eqb_tells x y) [ inl (t, e) ↦ absurd (ne (ap back (sym e))) | inr (f, e) ↦ f ]
-
-    others : (ys : List ℕ) (low : ℕ) → ((k : ℕ) → k < length ys → from + (low + suc k) ≡ back (get_or ys k 0)) → AllByRecursion (λ y. eqb x y ≡ false) ys
-    others [] low f = tt
-    others (y ∷ ys) low f = (differ y (λ same. (let e = f 0 (omega arith) in let z = h 0 (omega arith) in omega arith)), others ys (suc low) (λ k w. (let e = f (suc k) (omega arith) in omega arith)))
-
-among_below : (q n : ℕ) (xs : List ℕ) → ((k : ℕ) → k < length xs → get_or xs k 0 < n) → list_any (eqb q) xs ≡ true → q < n
-among_below q n [] h has = absurd (cc)
-among_below q n (x ∷ xs) h has = elim (eqb_tells q x) [
-  | inl (t, e) ↦ (let less = h 0 (omega arith) in omega arith)
-  | inr (f, ne) ↦ (let rest : list_any (eqb q) xs ≡ true = rw f at has in among_below q n xs (λ k w. h (suc k) (omega arith)) rest)
-]
-
+-- no more entries are found than there are places
 pub room : (places found : List ℕ) → ArePlaces places found → length found ≤ length places
 room places found placed =
-    length-le_from_distinct_below found (length places) (distinct (λ x. get_or places x 0) 0 found (λ k w. (let e = placed.back k w in omega arith))) (λ q h. among_below q (length places) found (λ k w. placed.below k 0 w) h)
+    length-le_from_distinct_below found (length places)
+    (IsDistinct-from_AllPairs (λ a b. (eqb-true a b, eq-eqb a b)) found (λ i j d less w same.
+    let at = ap (λ x. get_or places x 0) (get_or_default found i 0 d (omega arith) ∙ same ∙ get_or_default found j d 0 w) in
+    omega (arith, at, placed.back i (omega arith), placed.back j w)))
+    (λ q h. All-contains (λ x. x < length places) found q placed.below (Contains-from_any {eq = eqb} eqb-true q found h))
 
 -- ---- the types of members
 

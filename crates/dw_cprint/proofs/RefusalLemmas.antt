@@ -1,14 +1,14 @@
 -- The least refusal that holds, by the tests of each.
-use Rattle.std.proofs.Common.{rules, ◌≡◌, ℕ, zero, suc, ◌<◌, ◌≤◌, true, false, List, [], Option, Some, refl, sym, ◌∙◌, ap, arith}
+use Rattle.std.proofs.Common.{rules, ◌≡◌, ℕ, suc, ◌<◌, ◌≤◌, true, false, List, [], Option, Some, sym, ◌∙◌, ap, arith}
 use Rattle.std.specs.Prelude.{All, is_none}
 use Rattle.std.proofs.lemmas.Bool.{cases_lt}
 use Rattle.dw_cprint.specs.Declarations.{declaration_by, declaration_of, term_at}
 use Rattle.dw_cprint.specs.Drafts.{appended}
 use Rattle.dw_cprint.specs.Kept.{WritesDeclaration}
-use Rattle.dw_cprint.specs.Refusals.{PrintFault, NotPrintable, BadName, Foreign, Unspeakable, TooDeep, TooLong, Memory, IsLonger, Holds, other_kind, cycle, deep, long, HoldsNoneBelow, Refuses, IsPrinted, number_of}
+use Rattle.dw_cprint.specs.Refusals.{PrintFault, NotPrintable, TooDeep, TooLong, Memory, IsLonger, Holds, other_kind, cycle, deep, long, HoldsNoneBelow, Refuses, IsPrinted, number_of}
 use Rattle.dw_cprint.specs.Shapes.{ShapeOf, SubjectOf}
 use Rattle.dw_cprint.specs.Steps.{first_steps, types_declared, ReachACycle}
-use Rattle.dw_cprint.specs.Summaries.{Knows, Summaries, least_known}
+use Rattle.dw_cprint.specs.Summaries.{Knows, least_known}
 use Rattle.dw_cprint.specs.Surveys.{AreAmong, IsSurveyOf}
 use Rattle.dw_cprint.specs.Terms.{Declaration}
 use Rattle.dw_cprint.specs.Writing.{written}
@@ -24,22 +24,8 @@ use Rattle.dw_cprint.proofs.SummaryLemmas.{knows-counts}
 
 -- ---- one refusal
 
-rule_of : ℕ → PrintFault
-rule_of (suc zero) = NotPrintable
-rule_of (suc (suc zero)) = BadName
-rule_of (suc (suc (suc zero))) = Foreign
-rule_of (suc (suc (suc (suc zero)))) = Unspeakable
-rule_of (suc (suc (suc (suc (suc zero))))) = TooDeep
-rule_of (suc (suc (suc (suc (suc (suc zero)))))) = TooLong
-rule_of _ = Memory
-
-rule-back : (a : PrintFault) → rule_of (number_of a) ≡ a
-unfolding rule_of
-rule-back NotPrintable = refl
-rule-back _ = refl
-
 one-number : (a b : PrintFault) → number_of a ≡ number_of b → a ≡ b
-one-number a b same = sym (rule-back a) ∙ (ap rule_of same ∙ rule-back b)
+one-number a b same = grind arith
 
 module _ (shapes : ℕ → ShapeOf) (subject : SubjectOf) where
   -- no declaration is refused for want of memory
@@ -88,7 +74,7 @@ module _ (shapes : ℕ → ShapeOf) (subject : SubjectOf) where
   -- ---- the length of its text
 
   -- it is too long, if it has at least a number of bytes that is greater than the limit
-  pub long-by-least : (s : Summaries) (n : ℕ) → All (Knows shapes s) (types_declared subject) → n ≤ least_declared (least_known s) subject → 65536 < n
+  pub long-by-least : (s : Survey) (n : ℕ) → All (Knows shapes s) (types_declared subject) → n ≤ least_declared (least_known s) subject → 65536 < n
       → HoldsNoneBelow 6 shapes subject → Holds shapes subject TooLong
   unfolding declaration_of
   long-by-least s n known under over none =

@@ -6,9 +6,9 @@ use Rattle.dw_cprint.specs.Declarations.{arrays, is_miscounted, parameters_by, m
 use Rattle.dw_cprint.specs.Refusals.{PrintFault, Holds, other_kind, cycle, own_name, name_reached, own_child, foreign_reached, own_shape, shape_reached, deep, long, number_of, HoldsNoneBelow, Refuses, HasOneReading, IsPrinted}
 use Rattle.dw_cprint.specs.SameShapes.{AreSameFor}
 use Rattle.dw_cprint.specs.Shapes.{Parameter, Typed, More, TypeAt, MemberOf, ShapeOf, base, typedef, qualified, pointer, array, function, body, SubjectOf, typedef_subject, variable_subject, tag_subject}
-use Rattle.dw_cprint.specs.Steps.{entries_of, parameter_types, member_types, types_reached, types_declared, steps_reached, first_steps, IsReachedFrom, root, further, IsReached, Leads}
+use Rattle.dw_cprint.specs.Steps.{entries_of, parameter_types, member_types, types_reached, types_declared, first_steps, root, further, IsReached, Leads}
 use Rattle.dw_cprint.specs.Terms.{Term, Qualified, Pointer, Function, Unprototyped, Body, Typedef, Variable, Aggregate}
-use Rattle.dw_cprint.specs.Wrong.{shape_of, StandsUnder, nothing, itself, below, HasBadName, has_own_bad_name, is_foreign, is_wrong_row, kind_at, kind_in, object_types, IsVoidLike, IsUnspeakable, wrong, void_object, row, IsOwnUnspeakable, void_variable, unspeakable, declared_enumeration}
+use Rattle.dw_cprint.specs.Wrong.{shape_of, StandsUnder, nothing, itself, below, HasBadName, is_foreign, is_wrong_row, kind_at, kind_in, object_types, IsVoidLike, IsUnspeakable, wrong, void_object, row, IsOwnUnspeakable, void_variable, unspeakable, declared_enumeration}
 use Rattle.dw_cprint.specs.Kept.{kept}
 use Rattle.dw_cprint.specs.Regular.{AreRegular}
 use Rattle.dw_cprint.specs.Surveys.{AreAmong, IsSurveyOf}
@@ -19,17 +19,15 @@ use Rattle.dw_cprint.proofs.LegibleLemmas.{subject_legible}
 use Rattle.dw_cprint.proofs.FoundLemmas.{reached-wider}
 use Rattle.dw_cprint.proofs.TextLaws.{one_text}
 
--- some entries, each the same in both, with those that its steps lead to
-pub record AreSame (shapes others : ℕ → ShapeOf) (Good : ℕ → Type 0) : Type 0 where
-  pub same : (entry : ℕ) → Good entry → shapes entry ≡ others entry
-  pub on : (from to : ℕ) → Good from → Contains (steps_reached shapes from) to → Good to
+module _ (shapes others : ℕ → ShapeOf) (subject : SubjectOf) (same : AreSameFor shapes others subject) where
+  abbrev Good : ℕ → Type 0
+  Good = IsReached shapes subject
 
-module _ (shapes others : ℕ → ShapeOf) (Good : ℕ → Type 0) (s : AreSame shapes others Good) where
   abbrev GoodAt : TypeAt → Type 0
   GoodAt None = Unit {0}
   GoodAt (Some entry) = Good entry
 
-  -- each entry among the types of a shape is one of them
+  -- each entry among the types of a shape is reached
   abbrev GoodAmong : List TypeAt → Type 0
   GoodAmong ats = (n : ℕ) → Contains (entries_of ats) n → Good n
 
@@ -43,20 +41,20 @@ module _ (shapes others : ℕ → ShapeOf) (Good : ℕ → Type 0) (s : AreSame 
   leads-same zero from to good e = e
   leads-same (suc k) from to good (next, c, path) =
       let P : ShapeOf → Type 0 = λ shape. Contains (entries_of (types_reached shape)) next in
-      (next, subst P (s.same from good) c, leads-same k next to (s.on from next good c) path)
+      (next, subst P (same from good) c, leads-same k next to (further good c) path)
 
   shape-same : (at : TypeAt) → GoodAt at → shape_of shapes at ≡ shape_of others at
   shape-same None good = refl
-  shape-same (Some entry) good = ap Some (s.same entry good)
+  shape-same (Some entry) good = ap Some (same entry good)
 
   stands-same : {at under : TypeAt} → StandsUnder shapes at under → GoodAt at → StandsUnder others at under × GoodAt under
   stands-same nothing good = (nothing, tt)
-  stands-same (itself {entry} free) good = (itself (λ q at e. free q at (s.same entry good ∙ e)), good)
+  stands-same (itself {entry} free) good = (itself (λ q at e. free q at (same entry good ∙ e)), good)
   stands-same (below {entry} q at e rest) good =
       let P : ShapeOf → Type 0 = λ shape. GoodAmong (types_reached shape) in
-      let goods : GoodAmong (at ∷ []) = subst P e (λ n c. s.on entry n good c) in
+      let goods : GoodAmong (at ∷ []) = subst P e (λ n c. further good c) in
       let inner = stands-same rest (good-first at [] goods) in
-      (below q at (sym (s.same entry good) ∙ e) inner.0, inner.1)
+      (below q at (sym (same entry good) ∙ e) inner.0, inner.1)
 
   any-types : (P Q : TypeAt → Type 0) (ats : List TypeAt) → GoodAmong ats → ((at : TypeAt) → GoodAt at → P at → Q at) → Any P ats → Any Q ats
   any-types P Q [] goods f (k, x, w, e, p) = absurd (omega arith)
@@ -136,74 +134,52 @@ module _ (shapes others : ℕ → ShapeOf) (Good : ℕ → Type 0) (s : AreSame 
   entry-same : (k entry : ℕ) → Good entry → term_at k shapes (Some entry) ≡ term_at k others (Some entry)
   entry-same zero entry good = refl
   entry-same (suc k) entry good =
-      by-shape-same (term_at k shapes) (term_at k others) (void-term k) (shapes entry) (λ n leads. entry-same k n (s.on entry n good leads))
-      ∙ ap (term_by (term_at k others)) (s.same entry good)
+      by-shape-same (term_at k shapes) (term_at k others) (void-term k) (shapes entry) (λ n leads. entry-same k n (further good leads))
+      ∙ ap (term_by (term_at k others)) (same entry good)
 
--- ---- the declared entry
+  -- ---- the declared entry
 
-all-reached : (shapes others : ℕ → ShapeOf) (start : SubjectOf) → AreSameFor shapes others start → AreSame shapes others (IsReached shapes start)
-all-reached shapes others start same = record { same = same; on = λ from to reached leads. further reached leads }
-
-module _ (shapes others : ℕ → ShapeOf) (roots : List ℕ) (same : (entry : ℕ) → IsReachedFrom shapes roots entry → shapes entry ≡ others entry) where
-  reached-there : (entry : ℕ) → IsReachedFrom shapes roots entry → IsReachedFrom others roots entry
-  reached-there entry (root c) = root c
-  reached-there entry (further {from} r c) =
+  reached-there : {entry : ℕ} → Good entry → IsReached others subject entry
+  reached-there (root c) = root c
+  reached-there {entry} (further {from} r c) =
       let P : ShapeOf → Type 0 = λ shape. Contains (entries_of (types_reached shape)) entry in
-      further (reached-there from r) (subst P (same from r) c)
+      further (reached-there r) (subst P (same from r) c)
 
-  reached-back : (entry : ℕ) → IsReachedFrom others roots entry → IsReachedFrom shapes roots entry
-  reached-back entry (root c) = root c
-  reached-back entry (further {from} r c) =
+  reached-back : {entry : ℕ} → IsReached others subject entry → Good entry
+  reached-back (root c) = root c
+  reached-back {entry} (further {from} r c) =
       let P : ShapeOf → Type 0 = λ shape. Contains (entries_of (types_reached shape)) entry in
-      let first = reached-back from r in
+      let first = reached-back r in
       further first (subst P (sym (same from first)) c)
 
-module _ (shapes others : ℕ → ShapeOf) (subject : SubjectOf) (same : AreSameFor shapes others subject) where
-  pub same-back : AreSameFor others shapes subject
-  same-back entry reached = sym (same entry (reached-back shapes others (first_steps subject) same entry reached))
+  same-back : AreSameFor others shapes subject
+  same-back entry reached = sym (same entry (reached-back reached))
 
   pub declaration-same : declaration_of shapes subject ≡ declaration_of others subject
   unfolding declaration_of
-  declaration-same =
-      by-subject-same shapes others (IsReached shapes subject) (all-reached shapes others subject same) (term_at 65 shapes) (term_at 65 others) refl subject
-      (λ n leads. entry-same shapes others (IsReached shapes subject) (all-reached shapes others subject same) 65 n (root leads))
+  declaration-same = by-subject-same (term_at 65 shapes) (term_at 65 others) refl subject (λ n leads. entry-same 65 n (root leads))
 
-  own-names-same : (s : SubjectOf) → GoodAmong shapes others (IsReached shapes subject) (all-reached shapes others subject same) (types_declared s) → has_own_bad_name (kind_at shapes) s ≡ true → has_own_bad_name (kind_at others) s ≡ true
-  own-names-same s goods h =
-      sym (own-names-alike (kind_at shapes) (kind_at others) s (kinds-same shapes others (IsReached shapes subject) (all-reached shapes others subject same) (types_declared s) goods)) ∙ h
-
-  own-unspeakable-same : (s : SubjectOf) → GoodAmong shapes others (IsReached shapes subject) (all-reached shapes others subject same) (types_declared s) → IsOwnUnspeakable shapes s → IsOwnUnspeakable others s
+  own-unspeakable-same : (s : SubjectOf) → GoodAmong (types_declared s) → IsOwnUnspeakable shapes s → IsOwnUnspeakable others s
   own-unspeakable-same (typedef_subject name at) goods h = elim h [ ]
-  own-unspeakable-same (variable_subject name at) goods (void_variable h) =
-      void_variable (void-same shapes others (IsReached shapes subject) (all-reached shapes others subject same) at
-      (good-first shapes others (IsReached shapes subject) (all-reached shapes others subject same) at [] goods) h)
-  own-unspeakable-same (tag_subject name shape) goods (unspeakable h) =
-      unspeakable (unspeakable-same shapes others (IsReached shapes subject) (all-reached shapes others subject same) shape goods h)
+  own-unspeakable-same (variable_subject name at) goods (void_variable h) = void_variable (void-same at (good-first at [] goods) h)
+  own-unspeakable-same (tag_subject name shape) goods (unspeakable h) = unspeakable (unspeakable-same shape goods h)
   own-unspeakable-same (tag_subject name shape) goods (declared_enumeration h) = declared_enumeration h
 
-  pub holds-same : (rule : PrintFault) → Holds shapes subject rule → Holds others subject rule
+  holds-same : (rule : PrintFault) → Holds shapes subject rule → Holds others subject rule
   holds-same rule (other_kind e) = other_kind e
-  holds-same rule (cycle entry r (k, path)) =
-      cycle entry (reached-there shapes others (first_steps subject) same entry r)
-      (k, leads-same shapes others (IsReached shapes subject) (all-reached shapes others subject same) (suc k) entry entry r path)
-  holds-same rule (own_name h) = own_name (own-names-same subject (λ n c. root c) h)
+  holds-same rule (cycle entry r (k, path)) = cycle entry (reached-there r) (k, leads-same (suc k) entry entry r path)
+  holds-same rule (own_name h) =
+      own_name (sym (own-names-alike (kind_at shapes) (kind_at others) subject (kinds-same (types_declared subject) (λ n c. root c))) ∙ h)
   holds-same rule (name_reached entry r h) =
-      let s = all-reached shapes others subject same in
-      let P : ShapeOf → Type 0 = λ shape. HasBadName others shape in
-      name_reached entry (reached-there shapes others (first_steps subject) same entry r)
-      (subst P (same entry r) (bad-same shapes others (IsReached shapes subject) s (shapes entry) (λ n c. further r c) h))
+      name_reached entry (reached-there r) (subst (HasBadName others) (same entry r) (bad-same (shapes entry) (λ n c. further r c) h))
   holds-same rule (own_child h) = own_child h
   holds-same rule (foreign_reached entry r h) =
       let P : ShapeOf → Type 0 = λ shape. is_foreign shape ≡ true in
-      foreign_reached entry (reached-there shapes others (first_steps subject) same entry r) (subst P (same entry r) h)
+      foreign_reached entry (reached-there r) (subst P (same entry r) h)
   holds-same rule (own_shape h) = own_shape (own-unspeakable-same subject (λ n c. root c) h)
   holds-same rule (shape_reached entry r h) =
-      let s = all-reached shapes others subject same in
-      let P : ShapeOf → Type 0 = λ shape. IsUnspeakable others shape in
-      shape_reached entry (reached-there shapes others (first_steps subject) same entry r)
-      (subst P (same entry r) (unspeakable-same shapes others (IsReached shapes subject) s (shapes entry) (λ n c. further r c) h))
-  holds-same rule (deep (next, to, c, path)) =
-      deep (next, to, c, leads-same shapes others (IsReached shapes subject) (all-reached shapes others subject same) 64 next to (root c) path)
+      shape_reached entry (reached-there r) (subst (IsUnspeakable others) (same entry r) (unspeakable-same (shapes entry) (λ n c. further r c) h))
+  holds-same rule (deep (next, to, c, path)) = deep (next, to, c, leads-same 64 next to (root c) path)
   holds-same rule (long (d, e, more)) = long (d, sym declaration-same ∙ e, more)
 
 -- ---- what the public calls say

@@ -1,15 +1,17 @@
 -- Summaries: of void, of one entry by those of the types that it names, and of all nodes in turn.
-use Rattle.std.proofs.Common.{◌≡◌, ℕ, zero, suc, ◌+◌, ◌<◌, false, List, [], ◌∷◌, ◌++◌, Option, Some, None, refl, sym, ap, subst, ◌∙◌, ◌⊎◌, inl, inr, length, get_or, set, take, arith}
+use Rattle.std.proofs.Common.{◌≡◌, ℕ, zero, suc, ◌+◌, ◌<◌, false, List, [], ◌∷◌, ◌++◌, Option, Some, None, refl, sym, ap, subst, ◌∙◌, ◌⊎◌, inl, inr, length, length-set, get_or, set, take, arith}
 use Rattle.std.specs.Prelude.{All, Contains, ◌↔◌, slice_get, is_none, option_and_then, unwrap_or}
 use Rattle.std.proofs.lemmas.Bool.{cases_eq}
+use Rattle.std.proofs.lemmas.Option.{slice_get-get_or}
 use Rattle.std.proofs.lemmas.List.{take_more, get_or-set_same, get_or-set_other}
 use Rattle.std.proofs.lemmas.List.Elements.{Contains-push, Contains-append_left, Contains-push_cases, All-weaker}
 use Rattle.dw_cprint.specs.Declarations.{term_at, term_by}
 use Rattle.dw_cprint.specs.Shapes.{Qualifier, TypeAt, ShapeOf, qualified, view_shape}
 use Rattle.dw_cprint.specs.Steps.{entries_of, types_reached}
 use Rattle.dw_cprint.specs.Least.{IsLeast}
-use Rattle.dw_cprint.specs.Summaries.{TypeKind, Summary, AreFound, IsBase, IsSummary, least_known, Summaries, Knows, AreNodes, HaveSummaries, summary_at}
+use Rattle.dw_cprint.specs.Summaries.{TypeKind, Summary, AreFound, IsBase, IsSummary, least_known, Knows, AreNodes, HaveSummaries, summary_at}
 use Rattle.dw_cprint.specs.Terms.{Term, Void}
+use Rattle.dw_cprint.specs.declared.survey.Survey.{Survey}
 use Rattle.dw_cprint.specs.Wrong.{kind_in, nothing, itself, below}
 use Rattle.dw_cprint.specs.declared.shape.Shape.{Shape}
 use Rattle.dw_cprint.specs.declared.shape.Shape.TheVariants as shape
@@ -69,15 +71,13 @@ entry_summary shapes entry s known is kind base found least =
     of_term (suc k) t e = least k t (ap (term_by (term_at k shapes)) (sym is) ∙ e)
 
 -- what is counted for some types is right
-pub knows-counts : (shapes : ℕ → ShapeOf) (s : Summaries) (k : ℕ) (types : List TypeAt) → All (Knows shapes s) types → All (Counts (term_at k shapes) (least_known s)) types
+pub knows-counts : (shapes : ℕ → ShapeOf) (s : Survey) (k : ℕ) (types : List TypeAt) → All (Knows shapes s) types → All (Counts (term_at k shapes) (least_known s)) types
 knows-counts shapes s k types all = All-weaker (Knows shapes s) (Counts (term_at k shapes) (least_known s)) (λ at known t is. known.is_least k t is) types all
 
 -- ---- all nodes
 
 get-set-same : {X : Type 0} (xs : List X) (i : ℕ) (x : X) → i < length xs → slice_get (set xs i x) i ≡ Some x
-get-set-same [] i x within = absurd (omega arith)
-get-set-same (y ∷ xs) zero x within = refl
-get-set-same (y ∷ xs) (suc i) x within = get-set-same xs i x (omega arith)
+get-set-same xs i x within = slice_get-get_or (set xs i x) i x (omega (arith, length-set xs i x)) ∙ ap Some (get_or-set_same xs i x x within)
 
 get-set-other : {X : Type 0} (xs : List X) (i j : ℕ) (x : X) → (i ≡ j → ⊥) → slice_get (set xs i x) j ≡ slice_get xs j
 get-set-other [] zero j x apart = refl

@@ -119,11 +119,11 @@ module _ (shapes : ℕ → ShapeOf) (roots places found : List ℕ) (graph : Gra
           let (j, less, is) = sorted.ordered i k v u in
           (j, less, ap (λ (n : ℕ). get_or found n 0) (is ∙ at) ∙ e)
 
-  module _ (s : Survey) (same : s.summaries.places.items ≡ places) where
-    placed-at : (node entry : ℕ) → node < length found → get_or found node 0 ≡ entry → slice_get s.summaries.places.items entry ≡ Some node
+  module _ (s : Survey) (same : s.places.items ≡ places) where
+    placed-at : (node entry : ℕ) → node < length found → get_or found node 0 ≡ entry → slice_get s.places.items entry ≡ Some node
     placed-at node entry w e = ap (λ (ps : List ℕ). slice_get ps entry) same ∙ place-of node entry w e
 
-    at-node : {X : Type 0} (xs : List X) (node entry : ℕ) → node < length found → get_or found node 0 ≡ entry → found_at s.summaries.places.items xs entry ≡ slice_get xs node
+    at-node : {X : Type 0} (xs : List X) (node entry : ℕ) → node < length found → get_or found node 0 ≡ entry → found_at s.places.items xs entry ≡ slice_get xs node
     at-node {X = X} xs node entry w e = ap (λ (o : Option ℕ). option_and_then (slice_get xs) o) (placed-at node entry w e)
 
     -- the shape of each entry that is reached
@@ -136,13 +136,13 @@ module _ (shapes : ℕ → ShapeOf) (roots places found : List ℕ) (graph : Gra
         ∙ ap (option_map shapes) (slice_get-get_or found node 0 w) ∙ ap (λ (n : ℕ). Some (shapes n)) e in
         ap (λ (o : Option Shape). option_map_or view_shape o other) (at-node s.shapes.items node entry w e) ∙ mapped view_shape (slice_get s.shapes.items node) (shapes entry) other seen
 
-    module _ (clear : List ℕ) (summarized : HaveSummaries clear s.summaries.nodes.items) where
-      summary-same : (node entry : ℕ) → node < length found → get_or found node 0 ≡ entry → lacks_summary s (Some entry) ≡ is_none (get_or s.summaries.nodes.items node None)
+    module _ (clear : List ℕ) (summarized : HaveSummaries clear s.summaries.items) where
+      summary-same : (node entry : ℕ) → node < length found → get_or found node 0 ≡ entry → lacks_summary s (Some entry) ≡ is_none (get_or s.summaries.items node None)
       summary-same node entry w e =
-          ap (λ (o : Option (Option Summary)). is_none (option_and_then (λ (x : Option Summary). x) o)) (at-node s.summaries.nodes.items node entry w e) ∙ flattened s.summaries.nodes.items node
+          ap (λ (o : Option (Option Summary)). is_none (option_and_then (λ (x : Option Summary). x) o)) (at-node s.summaries.items node entry w e) ∙ flattened s.summaries.items node
 
       -- what a survey tells of these entries
-      pub survey-done : map view_shape s.shapes.items ≡ map shapes found → AreRight shapes found clear s.summaries → AreClear graph clear
+      pub survey-done : map view_shape s.shapes.items ≡ map shapes found → AreRight shapes found clear s → AreClear graph clear
           → IsSurveyOf shapes roots s
       survey-done read right sorted = record { keeps = keeps-shapes read; clear = clear-of; known = known-of }
         where
@@ -158,12 +158,12 @@ module _ (shapes : ℕ → ShapeOf) (roots places found : List ℕ) (graph : Gra
                 λ cycle. true_from_ne_false (lacks_summary s (Some entry)) (λ there. clear-free graph clear sorted node (clear-node node entry w e there) (entry-cycle node w (subst C (sym e) cycle))),
               )
 
-          known-of : (entry : ℕ) → IsReachedFrom shapes roots entry → lacks_summary s (Some entry) ≡ false → Knows shapes s.summaries (Some entry)
+          known-of : (entry : ℕ) → IsReachedFrom shapes roots entry → lacks_summary s (Some entry) ≡ false → Knows shapes s (Some entry)
           known-of entry r summarized_here =
               let (node, w, e) = found-all r in
               let (i, v, at) = clear-node node entry w e summarized_here in
-              let P : ℕ → Type 0 = λ n. Knows shapes s.summaries (Some (get_or found n 0)) in
-              let Q : ℕ → Type 0 = λ x. Knows shapes s.summaries (Some x) in
+              let P : ℕ → Type 0 = λ n. Knows shapes s (Some (get_or found n 0)) in
+              let Q : ℕ → Type 0 = λ x. Knows shapes s (Some x) in
               subst Q e (subst P (get_or_default clear i 0 node v ∙ at) (right i v))
 
 -- ---- what is reached from some entries
@@ -220,5 +220,5 @@ module _ (shapes : ℕ → ShapeOf) (roots : List ℕ) (s : Survey) (survey : Is
   clear-there entry has none = false_from_ne_true (lacks_summary s (Some entry)) (λ lacks. none (cycle-from entry has lacks))
 
   -- what is known of each of the types, if they reach no cycle
-  pub types-known : (ReachACycle shapes (entries_of types) → ⊥) → All (Knows shapes s.summaries) types
-  types-known none = all-types (Knows shapes s.summaries) (void_summary shapes) types (λ to has. survey.known to (root (among to has)) (clear-there to has none))
+  pub types-known : (ReachACycle shapes (entries_of types) → ⊥) → All (Knows shapes s) types
+  types-known none = all-types (Knows shapes s) (void_summary shapes) types (λ to has. survey.known to (root (among to has)) (clear-there to has none))

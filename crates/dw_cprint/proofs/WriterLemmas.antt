@@ -17,7 +17,7 @@ use Rattle.dw_cprint.specs.declared.shape.Shape.TheVariants as shape
 use Rattle.dw_cprint.proofs.DraftLemmas.{appended-twice}
 use Rattle.dw_cprint.proofs.DeclaratorLemmas.{in_parts}
 use Rattle.dw_cprint.proofs.NameLemmas.{words-text}
-use Rattle.dw_cprint.proofs.OptionLemmas.{map_inverted, then_inverted, unless_inverted}
+use Rattle.dw_cprint.proofs.OptionLemmas.{map_holds, map_inverted, then_inverted, unless_holds, unless_inverted}
 
 -- ---- texts
 
@@ -119,10 +119,9 @@ module _ (term : TypeAt → Option Term) (o : Option Term) (old new : Option (Li
   pub array_after : (mid : Option (List ℕ)) (counts : List (Option ℕ)) (strange : Bool) (at : TypeAt) → o ≡ term_by term (array counts strange at) → Writes (flat_map count_tokens counts) old mid
       → ((t : Term) → term at ≡ Some t → Writes (after t) mid new) → (t : Term) → o ≡ Some t → Writes (after t) old new
   array_after mid counts strange at step brackets inner t e =
-      let u = unless_inverted (is_miscounted counts) (option_map (arrays counts) (term at)) t (sym step ∙ e) in
-      let f = map_inverted (arrays counts) (term at) t u.1 in
       let P : Term → Type 0 = λ u. Writes (after u) old new in
-      subst P f.2 (as_tokens (flat_map count_tokens counts ++ after f.0) (after (arrays counts f.0)) old new (after-arrays counts f.0) (both (flat_map count_tokens counts) (after f.0) old mid new brackets (inner f.0 f.1)))
+      unless_holds P (is_miscounted counts) _ (λ placed. map_holds P (arrays counts) (term at) (λ u is. as_tokens (flat_map count_tokens counts ++ after u) (after (arrays counts u)) old new (after-arrays counts u)
+      (both (flat_map count_tokens counts) (after u) old mid new brackets (inner u is)))) t (sym step ∙ e)
 
   pub pointer_after : (mid : Option (List ℕ)) (at : TypeAt) → o ≡ term_by term (pointer at) → ((t : Term) → term at ≡ Some t → Writes (closed t) old mid)
       → ((t : Term) → term at ≡ Some t → Writes (after t) mid new) → (t : Term) → o ≡ Some t → Writes (after t) old new
@@ -162,10 +161,8 @@ module _ (term : TypeAt → Option Term) (old new : Option (List ℕ)) where
   pub body_core : (mid mid2 : Option (List ℕ)) (word : TagKeyword) (odd : Bool) (ms : List MemberOf) → Writes (TagWord word ∷ []) old mid → Writes (Blank ∷ []) mid mid2
       → ((us : Members) → members_by term ms ≡ Some us → Writes (body_tokens us) mid2 new) → (t : Term) → term_by term (body word odd ms) ≡ Some t → Writes (core t) old new
   body_core mid mid2 word odd ms tag blank inner t e =
-      let f = map_inverted (Body word) (members_by term ms) t e in
-      let P : Term → Type 0 = λ u. Writes (core u) old new in
-      subst P f.2
-      (both (TagWord word ∷ []) (Blank ∷ body_tokens f.0) old mid new tag (both (Blank ∷ []) (body_tokens f.0) mid mid2 new blank (inner f.0 f.1)))
+      map_holds (λ (u : Term). Writes (core u) old new) (Body word) (members_by term ms)
+      (λ us are. both (TagWord word ∷ []) (Blank ∷ body_tokens us) old mid new tag (both (Blank ∷ []) (body_tokens us) mid mid2 new blank (inner us are))) t e
 
   pub enumeration_core : (mid : Option (List ℕ)) (odd : Bool) (es : List EnumeratorOf) → Writes (TagWord Enum ∷ Blank ∷ []) old mid
       → ((cs : List Constant) → constants_of es ≡ Some cs → Writes (enumeration_tokens cs) mid new) → (t : Term) → term_by term (enumeration odd es) ≡ Some t → Writes (core t) old new
@@ -189,15 +186,13 @@ module _ (term : TypeAt → Option Term) (old mid mid2 new : Option (List ℕ)) 
       → (d : Declaration) → declaration_by term (tag_subject name (body word odd ms)) ≡ Some d → new ≡ appended old (written d)
   aggregate_done mid3 word None odd ms first gap inner last d e = absurd (cc)
   aggregate_done mid3 word (Some name) odd ms first gap inner last d e =
-      let f = map_inverted (Aggregate word name) (members_by term ms) d e in
       let tag = TagWord word ∷ Blank ∷ Identifier name ∷ [] in
-      let body = body_tokens f.0 in
-      let same : body ++ Semicolon ∷ [] ≡ LeftBrace ∷ Blank ∷ (members_tokens f.0 ++ RightBrace ∷ Semicolon ∷ []) =
-      ap (λ (u : List Token). LeftBrace ∷ Blank ∷ u) (append_assoc (members_tokens f.0) (RightBrace ∷ []) (Semicolon ∷ [])) in
-      let P : Declaration → Type 0 = λ d. new ≡ appended old (written d) in
-      subst P f.2
-      (as_tokens (tag ++ Blank ∷ (body ++ Semicolon ∷ [])) (declaration_tokens (Aggregate word name f.0)) old new (ap (λ (u : List Token). tag ++ Blank ∷ u) same)
-      (both tag (Blank ∷ (body ++ Semicolon ∷ [])) old mid new first (both (Blank ∷ []) (body ++ Semicolon ∷ []) mid mid2 new gap (both body (Semicolon ∷ []) mid2 mid3 new (inner f.0 f.1) last))))
+      map_holds (λ (d : Declaration). new ≡ appended old (written d)) (Aggregate word name) (members_by term ms) (λ us are.
+      let body = body_tokens us in
+      let same : body ++ Semicolon ∷ [] ≡ LeftBrace ∷ Blank ∷ (members_tokens us ++ RightBrace ∷ Semicolon ∷ []) =
+      ap (λ (u : List Token). LeftBrace ∷ Blank ∷ u) (append_assoc (members_tokens us) (RightBrace ∷ []) (Semicolon ∷ [])) in
+      as_tokens (tag ++ Blank ∷ (body ++ Semicolon ∷ [])) (declaration_tokens (Aggregate word name us)) old new (ap (λ (u : List Token). tag ++ Blank ∷ u) same)
+      (both tag (Blank ∷ (body ++ Semicolon ∷ [])) old mid new first (both (Blank ∷ []) (body ++ Semicolon ∷ []) mid mid2 new gap (both body (Semicolon ∷ []) mid2 mid3 new (inner us are) last)))) d e
 
   pub constants_done : (mid3 : Option (List ℕ)) (name : Name) (odd : Bool) (es : List EnumeratorOf) → Writes (TagWord Enum ∷ Blank ∷ name_tokens name) old mid → Writes (Blank ∷ []) mid mid2
       → ((cs : List Constant) → constants_of es ≡ Some cs → Writes (enumeration_tokens cs) mid2 mid3) → Writes (Semicolon ∷ []) mid3 new

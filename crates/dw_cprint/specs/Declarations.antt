@@ -8,7 +8,7 @@ use Rattle.dw_cprint.specs.Terms.{Constant, Valued, Term, Void, Named, Basic, Ta
 use Rattle.dw_cprint.specs.Terms.{Pointer, Array as ArrayTerm, Function, Unprototyped, Prototyped, Parameters}
 use Rattle.dw_cprint.specs.Terms.{NoParameter, Parameter as ParameterTerm, Members, NoMember, Member as MemberTerm}
 use Rattle.dw_cprint.specs.Terms.{Declaration, Typedef, Variable, Aggregate, Constants, Declared}
-use Rattle.dw_cprint.specs.Shapes.{Bits, Number, Parameter, Typed, More, TypeAt, MemberOf, EnumeratorOf, ShapeOf, base}
+use Rattle.dw_cprint.specs.Shapes.{Parameter, Typed, More, TypeAt, MemberOf, EnumeratorOf, ShapeOf, base}
 use Rattle.dw_cprint.specs.Shapes.{typedef, qualified, pointer, array, function, tagged, body, enumeration, SubjectOf}
 use Rattle.dw_cprint.specs.Shapes.{typedef_subject, variable_subject, tag_subject}
 
@@ -56,11 +56,6 @@ abbrev pub is_miscounted : List (Option ℕ) → Bool
 is_miscounted [] = true
 is_miscounted (count ∷ counts) = list_any (λ (c : Option ℕ). not (is_some c)) counts
 
--- the bit size of a member, if it is a number
-abbrev pub bits_of : Bits → Option ℕ
-bits_of (Number n) = Some n
-bits_of _ = None
-
 -- the enumerators, where each has a name and a number
 abbrev pub constants_of : List EnumeratorOf → Option (List Constant)
 constants_of [] = Some []
@@ -103,7 +98,7 @@ module _ (term : TypeAt → Option Term) where
   abbrev pub members_by : List MemberOf → Option Members
   members_by [] = Some NoMember
   members_by (m ∷ ms) =
-      option_and_then (λ (t : Term). option_map (MemberTerm m.name t (bits_of m.bits)) (members_by ms)) (term m.type_at)
+      option_and_then (λ (t : Term). option_map (MemberTerm m.name t m.bits) (members_by ms)) (term m.type_at)
 
   -- the term of an entry that is reached, by its shape, if it has one
   abbrev pub term_by : ShapeOf → Option Term

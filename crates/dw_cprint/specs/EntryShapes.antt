@@ -1,5 +1,5 @@
 -- Chapter: the shape of each entry of an image, by its tag, its attributes and its children (DWARF 5, chapter 5).
-use Rattle.std.specs.Prelude.{ℕ, pos, zero, suc, Bool, ◌==◌, ◌&&◌, ◌||◌, not, List, Option, Some, None}
+use Rattle.std.specs.Prelude.{ℕ, pos, Bool, ◌==◌, ◌&&◌, ◌||◌, not, List, Option, Some, None}
 use Rattle.std.specs.Prelude.{if◌then◌else◌}
 use Rattle.std.specs.List.{list_any, filter_map}
 use Rattle.dw_forms.specs.Codes.{DW_AT_bit_size, DW_AT_bit_stride, DW_AT_byte_stride, DW_AT_const_value}
@@ -14,8 +14,8 @@ use Rattle.dw_forms.specs.Value.{Datum, unsigned, signed}
 use Rattle.dw_image.specs.declared.image.Image.{Image}
 use Rattle.dw_cprint.specs.LookUps.{tag_at, value_at, name_at, type_at, children_at, count_in, has_at, flag_at}
 use Rattle.dw_cprint.specs.LookUps.{declared_at, integer_at}
-use Rattle.dw_cprint.specs.Shapes.{Const, Volatile, Restrict, Atomic, TagKeyword, Struct, Union, Enum, Bits, Absent}
-use Rattle.dw_cprint.specs.Shapes.{Number, Wrong, Parameter, Typed, More, Name, MemberOf, EnumeratorOf, ShapeOf, base}
+use Rattle.dw_cprint.specs.Shapes.{Const, Volatile, Restrict, Atomic, TagKeyword, Struct, Union, Enum}
+use Rattle.dw_cprint.specs.Shapes.{Parameter, Typed, More, Name, MemberOf, EnumeratorOf, ShapeOf, base}
 use Rattle.dw_cprint.specs.Shapes.{typedef, qualified, pointer, array, function, tagged, nameless, body, enumeration}
 use Rattle.dw_cprint.specs.Shapes.{foreign, other, SubjectOf, typedef_subject, variable_subject, tag_subject}
 
@@ -76,14 +76,12 @@ parameters_in image id =
 
 -- ---- structures and unions (DWARF 5, 5.7)
 
--- a size in bits: a number of 1 or more, or a wrong one
-abbrev pub bits_in : Option Datum → Bits
-bits_in None = Absent
-bits_in (Some (unsigned zero)) = Wrong
-bits_in (Some (unsigned (suc n))) = Number (suc n)
-bits_in (Some (signed (pos zero))) = Wrong
-bits_in (Some (signed (pos (suc n)))) = Number (suc n)
-bits_in (Some _) = Wrong
+-- a size in bits, if there is one; 0 if it is no number of 1 or more
+abbrev pub bits_in : Option Datum → Option ℕ
+bits_in None = None
+bits_in (Some (unsigned n)) = Some n
+bits_in (Some (signed (pos n))) = Some n
+bits_in (Some _) = Some 0
 
 -- a child that is a member and not declared: its name, its type and its bit size
 abbrev pub member_at : Image → ℕ → Option MemberOf

@@ -2,7 +2,7 @@
 use Rattle.std.specs.Prelude.{◌≡◌, ℕ, ℤ, Bool, false, List, [], ◌∷◌, ◌++◌, Option, Some, None, slice_get}
 use Rattle.std.specs.Prelude.{option_and_then}
 use Rattle.std.specs.Option.{option_map_or}
-use Rattle.dw_cprint.specs.Declarations.{term_at, members_by, parameters_by, term_by, has_more, is_misplaced, bits_of}
+use Rattle.dw_cprint.specs.Declarations.{term_at, members_by, parameters_by, term_by, has_more, is_misplaced}
 use Rattle.dw_cprint.specs.Declarations.{constants_of, declaration_of}
 use Rattle.dw_cprint.specs.Declarators.{before, after, core, opened, closed, body_tokens, enumeration_tokens}
 use Rattle.dw_cprint.specs.Drafts.{appended}
@@ -17,7 +17,7 @@ use Rattle.dw_cprint.specs.declared.survey.Survey.{Survey}
 unfoldable pub kept : Survey → ℕ → ShapeOf
 kept s entry =
     option_map_or view_shape
-    (option_and_then (slice_get s.shapes.items) (slice_get s.summaries.places.items entry)) other
+    (option_and_then (slice_get s.shapes.items) (slice_get s.places.items entry)) other
 
 -- the term of a type, by the shapes that are kept
 abbrev pub kept_term : Survey → ℕ → TypeAt → Option Term
@@ -56,7 +56,7 @@ WritesCore s k shape old new = (t : Term) → term_by (kept_term s k) shape ≡ 
 abbrev pub WritesMember : Survey → ℕ → MemberOf → Option (List ℕ) → Option (List ℕ) → Type 0
 WritesMember s k m old new =
     (t : Term) → kept_term s k m.type_at ≡ Some t
-    → Writes (spell [] t (name_tokens m.name) ++ (bits_tokens (bits_of m.bits) ++ Semicolon ∷ Blank ∷ [])) old new
+    → Writes (spell [] t (name_tokens m.name) ++ (bits_tokens m.bits ++ Semicolon ∷ Blank ∷ [])) old new
 
 -- the members were written, in braces
 abbrev pub WritesMembers : Survey → ℕ → List MemberOf → Option (List ℕ) → Option (List ℕ) → Type 0

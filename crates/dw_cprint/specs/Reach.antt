@@ -1,8 +1,9 @@
 -- State: the entries that are reached from some declared ones, and the graph of the steps between them.
 use Rattle.std.specs.Prelude.{◌≡◌, ℕ, ◌<◌, ◌++◌, List, length, map, slice_index, All, Contains}
 use Rattle.dw_types.specs.Graphs.{Graph, steps_of}
-use Rattle.dw_cprint.specs.Shapes.{ShapeOf}
+use Rattle.dw_cprint.specs.Shapes.{ShapeOf, view_shape}
 use Rattle.dw_cprint.specs.Steps.{steps_reached, IsReachedFrom}
+use Rattle.dw_cprint.specs.declared.survey.Survey.{Survey}
 
 -- the place of each entry that is found, by its number
 pub record ArePlaces (places found : List ℕ) : Type 0 where
@@ -40,3 +41,9 @@ pub record IsReachOf (shapes : ℕ → ShapeOf) (roots places found : List ℕ) 
       → IsRow found (steps_reached shapes (slice_index found node)) (steps_of graph node)
   pub roots_found : (to : ℕ) → Contains roots to → Contains found to
   pub reached : (entry : ℕ) → Contains found entry → IsReachedFrom shapes roots entry
+
+-- a survey keeps the places and the shapes of the entries that are reached from some
+pub record HasReached (shapes : ℕ → ShapeOf) (roots : List ℕ) (s : Survey) (graph : Graph) : Type 0 where
+  pub found : List ℕ
+  pub reach : IsReachOf shapes roots s.places.items found graph
+  pub are_shapes : map view_shape s.shapes.items ≡ map shapes found

@@ -6,8 +6,6 @@ pub use Rattle.dw_cprint.specs.declared.words.Qualifier.{Qualifier}
 pub use Rattle.dw_cprint.specs.declared.words.Qualifier.TheVariants.{Const, Volatile, Restrict, Atomic}
 pub use Rattle.dw_cprint.specs.declared.words.TagKeyword.{TagKeyword}
 pub use Rattle.dw_cprint.specs.declared.words.TagKeyword.TheVariants.{Struct, Union, Enum}
-pub use Rattle.dw_cprint.specs.declared.shape.Bits.{Bits}
-pub use Rattle.dw_cprint.specs.declared.shape.Bits.TheVariants.{Absent, Number, Wrong}
 pub use Rattle.dw_cprint.specs.declared.shape.Parameter.{Parameter}
 pub use Rattle.dw_cprint.specs.declared.shape.Parameter.TheVariants.{Typed, More}
 use Rattle.dw_cprint.specs.declared.words.Text.{Text}
@@ -26,11 +24,11 @@ Name = Option (List ℕ)
 abbrev pub TypeAt : Type 0
 TypeAt = Option ℕ
 
--- a plain member
+-- a plain member; its bit size is 0, if that is no number of 1 or more
 pub record MemberOf : Type 0 where
   pub name : Name
   pub type_at : TypeAt
-  pub bits : Bits
+  pub bits : Option ℕ
 
 -- an enumerator, and its value where that is a number
 pub record EnumeratorOf : Type 0 where

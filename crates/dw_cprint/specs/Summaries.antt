@@ -18,7 +18,7 @@ use Rattle.dw_cprint.specs.declared.summary.TheConstants.{VOID}
 pub use Rattle.dw_cprint.specs.Wrong.{TypeKind}
 pub use Rattle.dw_cprint.specs.declared.summary.Findings.{Findings}
 pub use Rattle.dw_cprint.specs.declared.summary.Summary.{Summary}
-pub use Rattle.dw_cprint.specs.declared.summary.Summaries.{Summaries}
+use Rattle.dw_cprint.specs.declared.survey.Survey.{Survey}
 
 -- ---- what is found
 
@@ -91,19 +91,19 @@ summary_at void places nodes None = Some void
 summary_at void places nodes (Some entry) = option_and_then (λ (s : Option Summary). s) (found_at places nodes entry)
 
 -- the same; void's, if there is none
-abbrev pub known_of : Summaries → TypeAt → Summary
-known_of s at = unwrap_or (summary_at VOID s.places.items s.nodes.items at) VOID
+abbrev pub known_of : Survey → TypeAt → Summary
+known_of s at = unwrap_or (summary_at VOID s.places.items s.summaries.items at) VOID
 
--- what the summaries tell of a type is right
-abbrev pub Knows : (ℕ → ShapeOf) → Summaries → TypeAt → Type 0
+-- what a survey tells of a type is right
+abbrev pub Knows : (ℕ → ShapeOf) → Survey → TypeAt → Type 0
 Knows shapes s at = IsSummary shapes at (known_of s at)
 
--- the kind that they tell of a type
-abbrev pub kind_known : Summaries → TypeAt → TypeKind
+-- the kind that it tells of a type
+abbrev pub kind_known : Survey → TypeAt → TypeKind
 kind_known s at = (known_of s at).kind
 
--- the kind that they tell of what is under a type's row of qualifiers
-abbrev pub base_known : Summaries → TypeAt → TypeKind
+-- the kind that it tells of what is under a type's row of qualifiers
+abbrev pub base_known : Survey → TypeAt → TypeKind
 base_known s at = (known_of s at).base
 
 -- the row of qualifiers that begins with a shape is wrong
@@ -111,20 +111,20 @@ abbrev pub is_wrong_base : (TypeAt → TypeKind) → ShapeOf → Bool
 is_wrong_base bases (qualified q at) = is_wrong_row q (bases at)
 is_wrong_base bases _ = false
 
--- the fourth refusal holds for a shape, by what they tell
-abbrev pub is_unspeakable : Summaries → ShapeOf → Bool
+-- the fourth refusal holds for a shape, by what it tells
+abbrev pub is_unspeakable : Survey → ShapeOf → Bool
 is_unspeakable s shape =
     is_wrong (kind_known s) shape
     || (list_any (λ at. is_void (base_known s at)) (object_types shape) || is_wrong_base (base_known s) shape)
 
 -- the same for the declared entry
-abbrev pub is_own_unspeakable : Summaries → SubjectOf → Bool
+abbrev pub is_own_unspeakable : Survey → SubjectOf → Bool
 is_own_unspeakable s (typedef_subject name at) = false
 is_own_unspeakable s (variable_subject name at) = is_void (base_known s at)
 is_own_unspeakable s (tag_subject name shape) = is_unspeakable s shape || is_declared_enumeration shape
 
--- how many bytes they tell the text of a type to have at least
-abbrev pub least_known : Summaries → TypeAt → ℕ
+-- how many bytes it tells the text of a type to have at least
+abbrev pub least_known : Survey → TypeAt → ℕ
 least_known s at = (known_of s at).findings.least
 
 -- nodes, each after those that its steps lead to; the entry of each node; and the shapes that are kept of them
@@ -138,6 +138,6 @@ pub record AreNodes (shapes : ℕ → ShapeOf) (places found : List ℕ) (kept :
       → (j : ℕ) × (j < i) × (slice_index found (slice_index clear j) ≡ to)
 
 -- the summaries of these nodes are right
-abbrev pub AreRight : (ℕ → ShapeOf) → (found clear : List ℕ) → Summaries → Type 0
+abbrev pub AreRight : (ℕ → ShapeOf) → (found clear : List ℕ) → Survey → Type 0
 AreRight shapes found clear s = (i : ℕ) → i < length clear
     → Knows shapes s (Some (slice_index found (slice_index clear i)))

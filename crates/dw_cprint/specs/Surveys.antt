@@ -14,7 +14,7 @@ AreAmong some all = (entry : ℕ) → Contains some entry → Contains all entry
 
 -- a type has no summary
 abbrev pub lacks_summary : Survey → TypeAt → Bool
-lacks_summary s at = is_none (summary_at VOID s.summaries.places.items s.summaries.nodes.items at)
+lacks_summary s at = is_none (summary_at VOID s.places.items s.summaries.items at)
 
 -- a survey of some entries and of all that they reach: their shapes, which of them reach a cycle, and what is known of
 -- the others
@@ -23,7 +23,7 @@ pub record IsSurveyOf (shapes : ℕ → ShapeOf) (roots : List ℕ) (s : Survey)
   pub clear : (entry : ℕ) → IsReachedFrom shapes roots entry
       → (lacks_summary s (Some entry) ≡ true) ↔ ReachesCycle shapes entry
   pub known : (entry : ℕ) → IsReachedFrom shapes roots entry → lacks_summary s (Some entry) ≡ false
-      → Knows shapes s.summaries (Some entry)
+      → Knows shapes s (Some entry)
 
 -- by the shapes of which this is a survey, if some entries are among those that it began with
 abbrev pub BySurvey : Survey → List ℕ → ((ℕ → ShapeOf) → Type 0) → Type 0

@@ -1,12 +1,12 @@
 -- Chapter: what is wrong with one entry, by the second, third and fourth refusal.
 use Rattle.std.specs.Prelude.{◌≡◌, ℕ, Bool, true, false, not, ◌&&◌, ◌||◌, List, [], ◌∷◌, Option, Some, None, Any}
-use Rattle.std.specs.Prelude.{is_some}
+use Rattle.std.specs.Prelude.{zero, suc, is_none, is_some}
 use Rattle.std.specs.List.{list_any}
 use Rattle.dw_cprint.specs.Declarations.{words_of, parts_of}
 pub use Rattle.dw_cprint.specs.Declarations.{is_miscounted, is_misplaced}
 use Rattle.dw_cprint.specs.Legible.{is_identifier}
-use Rattle.dw_cprint.specs.Shapes.{Qualifier, Restrict, Struct, Union, Enum, Bits, Absent}
-use Rattle.dw_cprint.specs.Shapes.{Number, Wrong, Name, TypeAt, MemberOf, EnumeratorOf, ShapeOf, base, typedef}
+use Rattle.dw_cprint.specs.Shapes.{Qualifier, Restrict, Struct, Union, Enum}
+use Rattle.dw_cprint.specs.Shapes.{Name, TypeAt, MemberOf, EnumeratorOf, ShapeOf, base, typedef}
 use Rattle.dw_cprint.specs.Shapes.{qualified, pointer, array, function, tagged, nameless, body, enumeration, foreign}
 use Rattle.dw_cprint.specs.Shapes.{other, SubjectOf, typedef_subject, variable_subject, tag_subject}
 use Rattle.dw_cprint.specs.Steps.{parameter_types, member_types}
@@ -110,14 +110,9 @@ abbrev pub lacks_base_name : Name → Bool
 lacks_base_name None = true
 lacks_base_name (Some name) = not (is_base_name name)
 
--- the member has no bit size
-abbrev pub is_whole : Bits → Bool
-is_whole Absent = true
-is_whole _ = false
-
 -- a member needs a name but where its type is directly a structure or union without one and it has no bit size
-abbrev pub lacks_member_name : TypeKind → Bits → Name → Bool
-lacks_member_name k bits None = not (is_unnamed_aggregate k && is_whole bits)
+abbrev pub lacks_member_name : TypeKind → Option ℕ → Name → Bool
+lacks_member_name k bits None = not (is_unnamed_aggregate k && is_none bits)
 lacks_member_name k bits (Some name) = not (is_identifier name)
 
 -- the second refusal, at an entry that is reached, by the kinds of the types that it names
@@ -169,10 +164,10 @@ is_own_foreign _ = false
 -- ---- what C has no words for
 
 -- bits that are no number of 1 or more, or that come with an array or a pointer
-abbrev pub is_wrong_bits : TypeKind → Bits → Bool
-is_wrong_bits k Absent = false
-is_wrong_bits k (Number n) = is_address k
-is_wrong_bits k Wrong = true
+abbrev pub is_wrong_bits : TypeKind → Option ℕ → Bool
+is_wrong_bits k None = false
+is_wrong_bits k (Some zero) = true
+is_wrong_bits k (Some (suc n)) = is_address k
 
 -- the enumerator has no number as its value
 abbrev pub lacks_value : EnumeratorOf → Bool

@@ -1,7 +1,7 @@
 //! The entries that are reached by spelling steps.
 
 ghost use Rattle.std.specs.Prelude.{◌≡◌, ◌++◌, ◌^◌, ◌<◌, [], ◌∷◌, length, map, flat_map, All, IfOk, OnOk, option_map};
-ghost use Rattle.dw_cprint.specs.Reach.{AddsRow, ArePlaces, FindsAll, IsReachOf};
+ghost use Rattle.dw_cprint.specs.Reach.{AddsRow, ArePlaces, FindsAll, HasReached};
 ghost use Rattle.dw_image.specs.Images.{entries_in};
 ghost use Rattle.dw_cprint.specs.EntryShapes.{member_at, members_in, shape_in, subject_in};
 ghost use Rattle.dw_cprint.specs.Shapes.{view_member, view_shape, view_subject};
@@ -11,23 +11,11 @@ ghost use Rattle.dw_cprint.specs.Steps.{member_types, parameter_types, types_dec
 use crate::shape::{Member, Parameter, Shape, Subject, TypeAt};
 use crate::shape_reader::shape_of;
 use crate::source::{Source, flag_at, tag_at, type_at};
+use crate::survey::Survey;
 use dw_entries::constants::*;
 use dw_image::{EntryId, Image};
 use dw_types::{Numbers, Packed, StepGraph};
 use std::alloc::{AllocError, Global};
-
-/// The entries that are reached, each a node, and the steps between them.
-#[derive(Drop)]
-pub struct Reached<'a> {
-    /// The node of each entry that is found, by the entry's number.
-    pub places: Vec<u32>,
-    /// The entry of each node.
-    pub found: Numbers,
-    /// The shape of each node's entry.
-    pub shapes: Vec<Shape<'a>>,
-    /// The steps between the nodes.
-    pub graph: Packed,
-}
 
 /// The place of an entry, the next one if it was not found before.
 fn place_of(places: &mut Vec<u32>, found: &mut Numbers, entry: usize) -> Result<usize, AllocError>
@@ -196,16 +184,16 @@ pub fn all_types(
     Ok(types)
 }
 
-/// Finds the entries that are reached from some types. Looks at no others.
+/// Finds the entries that are reached from some types, and looks at no others. Of each, the survey keeps the node and
+/// the shape, and no summary yet; the graph has the steps between the nodes.
 pub fn reach<'a>(
     alloc: Global,
     source: &Source<'_, 'a>,
     types: &[TypeAt],
-) -> Result<Reached<'a>, AllocError>
+) -> Result<(Survey<'a>, Packed), AllocError>
     requires { All (λ to. to < length (entries_in source.now.image.now)) (entries_of types.now) }
-    ensures reach { IfOk result (λ r. IsReachOf (shape_in source.now.image.now) (entries_of types.now)
-        r.places.items r.found (⟦<Packed as StepGraph>⟧.graph r.graph)) }
-    ensures shapes { IfOk result (λ r. map view_shape r.shapes.items ≡ map (shape_in source.now.image.now) r.found) }
+    ensures { IfOk result (λ r. HasReached (shape_in source.now.image.now) (entries_of types.now)
+        r.0 (⟦<Packed as StepGraph>⟧.graph r.1)) }
 {
     let mut places = vec![in alloc; 0; source.image.entries()]?;
     let mut found = Numbers::with_room(alloc, 0)?;
@@ -224,11 +212,10 @@ pub fn reach<'a>(
         push_row(&mut places, &mut found, &mut steps, &next)?;
         ends.push(steps.len())?;
     }
-    let graph = Packed::from_rows(steps, ends);
-    Ok(Reached {
+    let survey = Survey {
         places,
-        found,
         shapes,
-        graph,
-    })
+        summaries: Vec::new(alloc),
+    };
+    Ok((survey, Packed::from_rows(steps, ends)))
 }

@@ -10,8 +10,8 @@ ghost use Rattle.dw_cprint.specs.Wrong.{has_bad_name, is_bracketed, is_function,
 ghost use Rattle.dw_cprint.specs.Wrong.{lacks_member_name, lacks_name};
 
 use crate::names::is_base_name;
-use crate::shape::{Bits, Member, Name, Parameter, Shape, TypeAt};
-use crate::summary::Summaries;
+use crate::shape::{Member, Name, Parameter, Shape, TypeAt};
+use crate::survey::Survey;
 use crate::words::{Qualifier, TagKeyword};
 
 /// A kind of type.
@@ -68,22 +68,22 @@ pub fn lacks_name(name: Name<'_>) -> bool
 }
 
 /// Whether a member needs a name and has none, or has one that is no identifier.
-fn lacks_member_name(summaries: &Summaries, member: &Member<'_>) -> bool
+fn lacks_member_name(survey: &Survey<'_>, member: &Member<'_>) -> bool
     ensures { result
-        ≡ lacks_member_name (kind_known summaries.now member.now.type_at) member.now.bits (view_name member.now.name) }
+        ≡ lacks_member_name (kind_known survey.now member.now.type_at) member.now.bits (view_name member.now.name) }
 {
     match member.name {
         Some(name) => !name.is_name,
         None => {
-            let kind = summaries.of(member.type_at).kind;
-            !(matches!(kind, TypeKind::UnnamedAggregate) && matches!(member.bits, Bits::Absent))
+            let kind = survey.known(member.type_at).kind;
+            !(matches!(kind, TypeKind::UnnamedAggregate) && member.bits.is_none())
         }
     }
 }
 
 /// Whether the second refusal holds for an entry that is reached.
-pub fn has_bad_name(summaries: &Summaries, shape: &Shape<'_>) -> bool
-    ensures { result ≡ has_bad_name (kind_known summaries.now) (view_shape shape.now) }
+pub fn has_bad_name(survey: &Survey<'_>, shape: &Shape<'_>) -> bool
+    ensures { result ≡ has_bad_name (kind_known survey.now) (view_shape shape.now) }
 {
     match shape {
         Shape::Base(None) | Shape::Nameless(_) => true,
@@ -92,7 +92,7 @@ pub fn has_bad_name(summaries: &Summaries, shape: &Shape<'_>) -> bool
         Shape::Tagged(_, name) => !name.is_name,
         Shape::Body(_, _, members) => members
             .iter()
-            .any(|member| lacks_member_name(summaries, member)),
+            .any(|member| lacks_member_name(survey, member)),
         Shape::Enumeration(_, enumerators) => enumerators
             .iter()
             .any(|enumerator| lacks_name(enumerator.name)),
@@ -101,24 +101,24 @@ pub fn has_bad_name(summaries: &Summaries, shape: &Shape<'_>) -> bool
 }
 
 /// Whether one of some types is void, or a row of qualifiers over void.
-pub fn has_void(summaries: &Summaries, types: &[TypeAt]) -> bool
-    ensures { result ≡ list_any (λ at. is_void (base_known summaries.now at)) types.now }
+pub fn has_void(survey: &Survey<'_>, types: &[TypeAt]) -> bool
+    ensures { result ≡ list_any (λ at. is_void (base_known survey.now at)) types.now }
 {
     types
         .iter()
-        .any(|at| matches!(summaries.of(*at).base, TypeKind::Void))
+        .any(|at| matches!(survey.known(*at).base, TypeKind::Void))
 }
 
 /// Whether a member is a function, or its size in bits is no number of 1 or more, or that of an array or a pointer.
-fn is_wrong_member(summaries: &Summaries, member: &Member<'_>) -> bool
-    ensures { result ≡ (is_function (kind_known summaries.now member.now.type_at)
-        || is_wrong_bits (kind_known summaries.now member.now.type_at) member.now.bits) }
+fn is_wrong_member(survey: &Survey<'_>, member: &Member<'_>) -> bool
+    ensures { result ≡ (is_function (kind_known survey.now member.now.type_at)
+        || is_wrong_bits (kind_known survey.now member.now.type_at) member.now.bits) }
 {
-    let kind = summaries.of(member.type_at).kind;
+    let kind = survey.known(member.type_at).kind;
     match member.bits {
-        Bits::Absent => matches!(kind, TypeKind::Function),
-        Bits::Number(_) => { kind.is_bracketed() || matches!(kind, TypeKind::Pointer) }
-        Bits::Wrong => true,
+        None => matches!(kind, TypeKind::Function),
+        Some(0) => true,
+        Some(_) => { kind.is_bracketed() || matches!(kind, TypeKind::Pointer) }
     }
 }
 
@@ -151,36 +151,33 @@ fn has_misplaced(parameters: &[Parameter]) -> bool
 }
 
 /// Whether the fourth refusal holds for an entry that is reached. `types` are those that it names.
-pub fn is_unspeakable(summaries: &Summaries, shape: &Shape<'_>, types: &[TypeAt]) -> bool
+pub fn is_unspeakable(survey: &Survey<'_>, shape: &Shape<'_>, types: &[TypeAt]) -> bool
     requires { types.now ≡ types_reached (view_shape shape.now) }
-    ensures { result ≡ is_unspeakable summaries.now (view_shape shape.now) }
+    ensures { result ≡ is_unspeakable survey.now (view_shape shape.now) }
 {
     match shape {
         Shape::Qualified(Qualifier::Restrict, at) => {
             !matches!(
-                summaries.of(*at).base,
+                survey.known(*at).base,
                 TypeKind::Pointer | TypeKind::Typedef
             )
         }
-        Shape::Qualified(_, at) => summaries.of(*at).base.is_bracketed(),
+        Shape::Qualified(_, at) => survey.known(*at).base.is_bracketed(),
         Shape::Array(counts, strange, at) => {
-            let kind = summaries.of(*at).kind;
+            let kind = survey.known(*at).kind;
             *strange
                 || has_wrong_counts(counts)
                 || matches!(kind, TypeKind::Function | TypeKind::Array { open: true })
-                || has_void(summaries, types)
+                || has_void(survey, types)
         }
-        Shape::Function(at, None) => summaries.of(*at).kind.is_bracketed(),
+        Shape::Function(at, None) => survey.known(*at).kind.is_bracketed(),
         Shape::Function(at, Some(parameters)) => {
-            summaries.of(*at).kind.is_bracketed()
+            survey.known(*at).kind.is_bracketed()
                 || has_misplaced(parameters)
-                || has_void(summaries, &types[1..])
+                || has_void(survey, &types[1..])
         }
         Shape::Body(_, _, members) => {
-            has_void(summaries, types)
-                || members
-                    .iter()
-                    .any(|member| is_wrong_member(summaries, member))
+            has_void(survey, types) || members.iter().any(|member| is_wrong_member(survey, member))
         }
         Shape::Enumeration(_, enumerators) => {
             enumerators.is_empty()

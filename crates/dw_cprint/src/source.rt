@@ -13,7 +13,7 @@ ghost use Rattle.dw_cprint.specs.StringSpans.{AreSpans, IsSpan};
 ghost use Rattle.dw_cprint.specs.EntryShapes.{bits_in};
 
 use crate::names::are_words;
-use crate::shape::{Bits, Name, TypeAt};
+use crate::shape::{Name, TypeAt};
 use crate::words::Text;
 use dw_entries::constants::*;
 use dw_entries::{Attribute, Tag, Value};
@@ -210,15 +210,15 @@ pub fn integer_at(image: &Image<'_>, id: EntryId, attribute: Attribute) -> Optio
     }
 }
 
-/// The size in bits of a member.
-pub fn bits_at(image: &Image<'_>, id: EntryId) -> Bits
+/// The size in bits of a member, if it has one. One that is no number of 1 or more gives 0.
+pub fn bits_at(image: &Image<'_>, id: EntryId) -> Option<u64>
     requires { id < length (entries_in image.now) }
     ensures { result ≡ bits_in (value_at image.now id DW_AT_bit_size) }
 {
     match value_at(image, id, DW_AT_bit_size) {
-        None => Bits::Absent,
-        Some(Value::Unsigned(n)) if n > 0 => Bits::Number(n),
-        Some(Value::Signed(n)) if n > 0 => Bits::Number(n as u64),
-        Some(_) => Bits::Wrong,
+        None => None,
+        Some(Value::Unsigned(n)) => Some(n),
+        Some(Value::Signed(n)) if n > 0 => Some(n as u64),
+        Some(_) => Some(0),
     }
 }

@@ -9,13 +9,14 @@ ghost use Rattle.dw_cprint.specs.Shapes.{view_subject, view_member, view_name, S
 ghost use Rattle.dw_cprint.specs.Steps.{types_declared, types_reached};
 ghost use Rattle.dw_cprint.specs.Summaries.{AreFound, AreFoundOf, AreNodes, AreRight, HaveSummaries, IsBase, IsEither};
 ghost use Rattle.dw_cprint.specs.Summaries.{IsOwn, IsSummary, Knows, is_own_unspeakable, is_unspeakable, kind_known};
-ghost use Rattle.dw_cprint.specs.Summaries.{known_of, least_known, summary_at};
+ghost use Rattle.dw_cprint.specs.Summaries.{least_known};
 ghost use Rattle.dw_cprint.specs.Wrong.{has_bad_name, has_own_bad_name, is_foreign, is_own_foreign};
 
 use crate::fault::PrintFault;
 use crate::reaching::put_reached_types;
 use crate::refusals::{TypeKind, has_bad_name, has_void, is_unspeakable, kind_of, lacks_name};
 use crate::shape::{Enumerator, Member, Name, Shape, Subject, TypeAt};
+use crate::survey::Survey;
 use crate::text::LIMIT;
 use crate::words::TagKeyword;
 use dw_types::Order;
@@ -105,35 +106,6 @@ pub const VOID: Summary = Summary {
     },
 };
 
-/// The summaries of types, by their entries. Types that reach a cycle have none.
-#[derive(Drop)]
-pub struct Summaries {
-    /// The node of each entry that is found, by the entry's number.
-    pub places: Vec<u32>,
-    /// The summary of each node that reaches no cycle.
-    pub nodes: Vec<Option<Summary>>,
-}
-
-impl Summaries {
-    /// What is known of a type, if it reaches no cycle.
-    pub fn get(&self, at: TypeAt) -> Option<Summary>
-        ensures { result ≡ summary_at VOID self.now.places.items self.now.nodes.items at }
-    {
-        let Some(entry) = at else {
-            return Some(VOID);
-        };
-        let place = self.places.get(entry)?;
-        *self.nodes.get(*place as usize)?
-    }
-
-    /// What is known of a type.
-    pub fn of(&self, at: TypeAt) -> Summary
-        ensures { result ≡ known_of self.now at }
-    {
-        self.get(at).unwrap_or(VOID)
-    }
-}
-
 /// The bytes of a name, if there is one.
 fn name_size(name: Name<'_>) -> usize
     ensures { result ≡ name_size (view_name name.entry) }
@@ -182,29 +154,29 @@ fn own_size(shape: &Shape<'_>) -> usize
 }
 
 /// What is found of an entry itself that is reached. `types` are those that it leads to.
-fn own_findings(summaries: &Summaries, shape: &Shape<'_>, types: &[TypeAt]) -> Findings
+fn own_findings(survey: &Survey<'_>, shape: &Shape<'_>, types: &[TypeAt]) -> Findings
     requires { types.now ≡ types_reached (view_shape shape.now) }
-    ensures { IsOwn (has_bad_name (kind_known summaries.now) (view_shape shape.now))
-        (is_foreign (view_shape shape.now)) (is_unspeakable summaries.now (view_shape shape.now))
+    ensures { IsOwn (has_bad_name (kind_known survey.now) (view_shape shape.now))
+        (is_foreign (view_shape shape.now)) (is_unspeakable survey.now (view_shape shape.now))
         (own_size (view_shape shape.now)) result }
 {
     Findings {
-        bad_name: has_bad_name(summaries, shape),
+        bad_name: has_bad_name(survey, shape),
         foreign: matches!(
             shape,
             Shape::Foreign | Shape::Other | Shape::Body(_, true, _) | Shape::Enumeration(true, _)
         ),
-        unspeakable: is_unspeakable(summaries, shape, types),
+        unspeakable: is_unspeakable(survey, shape, types),
         depth: 0,
         least: own_size(shape).min(LIMIT + 1) as u32,
     }
 }
 
 /// What is found of the declared entry itself. `types` are those that it leads to.
-fn own_findings_declared(summaries: &Summaries, subject: &Subject<'_>, types: &[TypeAt]) -> Findings
+fn own_findings_declared(survey: &Survey<'_>, subject: &Subject<'_>, types: &[TypeAt]) -> Findings
     requires { types.now ≡ types_declared (view_subject subject.now) }
-    ensures { IsOwn (has_own_bad_name (kind_known summaries.now) (view_subject subject.now))
-        (is_own_foreign (view_subject subject.now)) (is_own_unspeakable summaries.now (view_subject subject.now))
+    ensures { IsOwn (has_own_bad_name (kind_known survey.now) (view_subject subject.now))
+        (is_own_foreign (view_subject subject.now)) (is_own_unspeakable survey.now (view_subject subject.now))
         (own_size_declared (view_subject subject.now)) result }
 {
     match subject {
@@ -214,11 +186,11 @@ fn own_findings_declared(summaries: &Summaries, subject: &Subject<'_>, types: &[
         },
         Subject::Variable(name, _) => Findings {
             bad_name: lacks_name(*name),
-            unspeakable: has_void(summaries, types),
+            unspeakable: has_void(survey, types),
             ..NOTHING
         },
         Subject::Tag(name, shape) => {
-            let own = own_findings(summaries, shape, types);
+            let own = own_findings(survey, shape, types);
             Findings {
                 bad_name: lacks_name(*name) || own.bad_name,
                 unspeakable: own.unspeakable
@@ -233,54 +205,50 @@ fn own_findings_declared(summaries: &Summaries, subject: &Subject<'_>, types: &[
 }
 
 /// What is found of some types.
-fn findings_under(summaries: &Summaries, types: &[TypeAt]) -> Findings
-    ensures found { (shapes : ℕ → ShapeOf) → All (Knows shapes summaries.now) types.now
+fn findings_under(survey: &Survey<'_>, types: &[TypeAt]) -> Findings
+    ensures found { (shapes : ℕ → ShapeOf) → All (Knows shapes survey.now) types.now
         → AreFound shapes types.now result }
-    ensures least { result.least ≤ sum_by (least_known summaries.now) types.now }
+    ensures least { result.least ≤ sum_by (least_known survey.now) types.now }
 {
     let mut findings = NOTHING;
     for at in types {
-        findings = findings.with(summaries.of(*at).findings);
+        findings = findings.with(survey.known(*at).findings);
     }
     findings
 }
 
 /// What is found of the declared entry. `types` are those that it leads to.
-pub fn findings_declared(summaries: &Summaries, subject: &Subject<'_>, types: &[TypeAt]) -> Findings
+pub fn findings_declared(survey: &Survey<'_>, subject: &Subject<'_>, types: &[TypeAt]) -> Findings
     requires { types.now ≡ types_declared (view_subject subject.now) }
-    ensures { (shapes : ℕ → ShapeOf) → All (Knows shapes summaries.now) types.now
+    ensures { (shapes : ℕ → ShapeOf) → All (Knows shapes survey.now) types.now
         → AreFoundOf shapes (view_subject subject.now) result }
 {
-    own_findings_declared(summaries, subject, types).with(findings_under(summaries, types))
+    own_findings_declared(survey, subject, types).with(findings_under(survey, types))
 }
 
 /// The kind of the type under the row of qualifiers that begins with this shape.
-fn base_of(summaries: &Summaries, shape: &Shape<'_>) -> TypeKind
+fn base_of(survey: &Survey<'_>, shape: &Shape<'_>) -> TypeKind
     ensures { (shapes : ℕ → ShapeOf) (entry : ℕ) → shapes entry ≡ view_shape shape.now
-        → All (Knows shapes summaries.now) (types_reached (view_shape shape.now)) → IsBase shapes (Some entry) result }
+        → All (Knows shapes survey.now) (types_reached (view_shape shape.now)) → IsBase shapes (Some entry) result }
 {
     match shape {
-        Shape::Qualified(_, at) => summaries.of(*at).base,
+        Shape::Qualified(_, at) => survey.known(*at).base,
         _ => kind_of(shape),
     }
 }
 
 /// The summary of a shape, by those of the types that it names.
-fn summary_of(
-    alloc: Global,
-    summaries: &Summaries,
-    shape: &Shape<'_>,
-) -> Result<Summary, AllocError>
+fn summary_of(alloc: Global, survey: &Survey<'_>, shape: &Shape<'_>) -> Result<Summary, AllocError>
     ensures { IfOk result (λ known. (shapes : ℕ → ShapeOf) (entry : ℕ) → shapes entry ≡ view_shape shape.now
-        → All (Knows shapes summaries.now) (types_reached (view_shape shape.now))
+        → All (Knows shapes survey.now) (types_reached (view_shape shape.now))
         → IsSummary shapes (Some entry) known) }
 {
     let mut types = Vec::new(alloc);
     put_reached_types(&mut types, shape)?;
-    let all = own_findings(summaries, shape, &types).with(findings_under(summaries, &types));
+    let all = own_findings(survey, shape, &types).with(findings_under(survey, &types));
     Ok(Summary {
         kind: kind_of(shape),
-        base: base_of(summaries, shape),
+        base: base_of(survey, shape),
         findings: Findings {
             depth: all.depth.saturating_add(1),
             ..all
@@ -288,27 +256,25 @@ fn summary_of(
     })
 }
 
-/// The summaries of the nodes that reach no cycle. Each is given after those that its steps lead to.
-pub fn summarize(
+/// Adds the summaries of the nodes that reach no cycle. Each is given after those that its steps lead to.
+pub fn summarize<'a>(
     alloc: Global,
-    places: Vec<u32>,
-    shapes: &[Shape<'_>],
+    mut survey: Survey<'a>,
     clear: &Order,
-) -> Result<Summaries, AllocError>
-    requires { All (λ node. node < length shapes.now) clear.now.by_rank }
-    ensures places { IfOk result (λ it. it.places.items ≡ places.items) }
-    ensures clear { IfOk result (λ it. HaveSummaries clear.now.by_rank it.nodes.items) }
+) -> Result<Survey<'a>, AllocError>
+    requires { All (λ node. node < length survey.shapes.items) clear.now.by_rank }
+    ensures places { IfOk result (λ it. it.places.items ≡ survey.entry.places.items) }
+    ensures shapes { IfOk result (λ it. it.shapes.items ≡ survey.entry.shapes.items) }
+    ensures clear { IfOk result (λ it. HaveSummaries clear.now.by_rank it.summaries.items) }
     ensures right { IfOk result (λ it. (all : ℕ → ShapeOf) (found : List ℕ)
-        → AreNodes all places.items found shapes.now clear.now.by_rank → AreRight all found clear.now.by_rank it) }
+        → AreNodes all survey.entry.places.items found survey.entry.shapes.items clear.now.by_rank
+        → AreRight all found clear.now.by_rank it) }
 {
-    let mut summaries = Summaries {
-        places,
-        nodes: vec![in alloc; None; shapes.len()]?,
-    };
+    survey.summaries = vec![in alloc; None; survey.shapes.len()]?;
     for rank in 0..clear.count() {
         let node = clear.node(rank);
-        let summary = summary_of(alloc, &summaries, &shapes[node])?;
-        summaries.nodes[node] = Some(summary);
+        let summary = summary_of(alloc, &survey, &survey.shapes[node])?;
+        survey.summaries[node] = Some(summary);
     }
-    Ok(summaries)
+    Ok(survey)
 }

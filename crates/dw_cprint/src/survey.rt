@@ -8,6 +8,7 @@ ghost use Rattle.dw_cprint.specs.EntryShapes.{shape_in};
 ghost use Rattle.dw_cprint.specs.Judgements.{IsJudgement, IsRefusalBelow};
 ghost use Rattle.dw_cprint.specs.Shapes.{view_subject};
 ghost use Rattle.dw_cprint.specs.Steps.{entries_of, first_steps};
+ghost use Rattle.dw_cprint.specs.Summaries.{known_of, summary_at};
 ghost use Rattle.dw_cprint.specs.Surveys.{BySurvey, IsSurveyOf, lacks_summary};
 ghost use Rattle.dw_cprint.specs.Wrong.{is_other_kind};
 
@@ -15,17 +16,21 @@ use crate::fault::PrintFault;
 use crate::reaching::{put_declared_types, reach};
 use crate::shape::{Shape, Subject, TypeAt};
 use crate::source::Source;
-use crate::summary::{Summaries, findings_declared, summarize};
+use crate::summary::{Summary, VOID, findings_declared, summarize};
 use crate::text::Draft;
 use dw_image::Image;
 use dw_types::clear_nodes;
 use std::alloc::{AllocError, Global};
 
-/// What some declarations need.
+/// What some declarations need. Each entry that they reach is a node.
 #[derive(Drop)]
 pub struct Survey<'a> {
+    /// The node of each entry that is found, by the entry's number.
+    pub places: Vec<u32>,
+    /// The shape of each node's entry.
     pub shapes: Vec<Shape<'a>>,
-    pub summaries: Summaries,
+    /// The summary of each node that reaches no cycle.
+    pub summaries: Vec<Option<Summary>>,
 }
 
 /// Whether the declared entry is no typedef, variable, structure, union or enumeration.
@@ -50,23 +55,37 @@ impl<'a> Survey<'a> {
         requires { All (λ to. to < length (entries_in source.now.image.now)) (entries_of types.items) }
         ensures { IfOk result (IsSurveyOf (shape_in source.now.image.now) (entries_of types.items)) }
     {
-        let reached = reach(alloc, source, &types)?;
+        let (survey, graph) = reach(alloc, source, &types)?;
         drop(types);
-        drop(reached.found);
-        let clear = clear_nodes(alloc, &reached.graph)?;
-        drop(reached.graph);
-        let summaries = summarize(alloc, reached.places, &reached.shapes, &clear)?;
-        Ok(Survey {
-            shapes: reached.shapes,
-            summaries,
-        })
+        let clear = clear_nodes(alloc, &graph)?;
+        drop(graph);
+        let survey = summarize(alloc, survey, &clear)?;
+        Ok(survey)
+    }
+
+    /// What is known of a type, if it reaches no cycle.
+    fn summary(&self, at: TypeAt) -> Option<Summary>
+        ensures { result ≡ summary_at VOID self.now.places.items self.now.summaries.items at }
+    {
+        let Some(entry) = at else {
+            return Some(VOID);
+        };
+        let place = self.places.get(entry)?;
+        *self.summaries.get(*place as usize)?
+    }
+
+    /// What is known of a type.
+    pub fn known(&self, at: TypeAt) -> Summary
+        ensures { result ≡ known_of self.now at }
+    {
+        self.summary(at).unwrap_or(VOID)
     }
 
     /// Whether one of these types reaches a cycle.
     fn reaches_cycle(&self, types: &[TypeAt]) -> bool
         ensures { result ≡ list_any (lacks_summary self.now) types.now }
     {
-        types.iter().any(|at| self.summaries.get(*at).is_none())
+        types.iter().any(|at| self.summary(*at).is_none())
     }
 
     /// Why a declaration is refused, if it is by a rule that does not need its text.
@@ -86,7 +105,7 @@ impl<'a> Survey<'a> {
         if self.reaches_cycle(&types) {
             return Ok(Some(PrintFault::NotPrintable));
         }
-        Ok(findings_declared(&self.summaries, subject, &types).refusal())
+        Ok(findings_declared(self, subject, &types).refusal())
     }
 
     /// Why a declaration is refused, if it is. Otherwise its text is written to the draft.

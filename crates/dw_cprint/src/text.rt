@@ -3,7 +3,6 @@
 ghost use Rattle.std.specs.Prelude.{◌≡◌, ℕ, if◌then◌else◌, List, [], Option, None, Some, IfSome, OnOk, is_none, ◌++◌};
 ghost use Rattle.std.specs.Prelude.{◌∷◌, flat_map, map};
 ghost use Rattle.dw_cprint.specs.Drafts.{appended};
-ghost use Rattle.dw_cprint.specs.Declarations.{bits_of};
 ghost use Rattle.dw_cprint.specs.Declarators.{gap, pointer_row};
 ghost use Rattle.dw_cprint.specs.Digits.{numeral};
 ghost use Rattle.dw_cprint.specs.Kept.{Writes, WritesEnumerator, WritesEnumerators};
@@ -11,7 +10,7 @@ ghost use Rattle.dw_cprint.specs.Shapes.{view_enumerator, view_name};
 ghost use Rattle.dw_cprint.specs.Tokens.{Blank, TagWord};
 ghost use Rattle.dw_cprint.specs.Writing.{count_tokens, qualifying, name_tokens, value_tokens, bits_tokens};
 
-use crate::shape::{Bits, Enumerator, Name};
+use crate::shape::{Enumerator, Name};
 use crate::words::{Qualifier, TagKeyword};
 use std::alloc::{AllocError, Global};
 use std::marker::Model;
@@ -216,15 +215,15 @@ pub fn put_enumerators(out: &mut Draft, enumerators: &[Enumerator<'_>]) -> Resul
     out.put(b" }")
 }
 
-/// The bits of a member.
-pub fn put_bits(out: &mut Draft, bits: Bits) -> Result<(), AllocError>
-    ensures { OnOk result (Writes (bits_tokens (bits_of bits)) out.old out.new) }
+/// The bits of a member, if it has a size in bits.
+pub fn put_bits(out: &mut Draft, bits: Option<u64>) -> Result<(), AllocError>
+    ensures { OnOk result (Writes (bits_tokens bits) out.old out.new) }
 {
     match bits {
-        Bits::Number(n) => {
+        None => Ok(()),
+        Some(n) => {
             out.put(b" : ")?;
             put_number(out, u128::from(n))
         }
-        _ => Ok(()),
     }
 }

@@ -25,7 +25,7 @@ impl<'a> Survey<'a> {
         ensures { MatchOption result (kept self.now entry ≡ other)
             (λ shape. view_shape shape.now ≡ kept self.now entry) }
     {
-        let place = self.summaries.places.get(entry)?;
+        let place = self.places.get(entry)?;
         self.shapes.get(*place as usize)
     }
 

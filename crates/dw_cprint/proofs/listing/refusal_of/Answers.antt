@@ -1,14 +1,11 @@
-use Rattle.std.proofs.Common.{rules, ◌≡◌, ◌<◌, List, Option, length, subst, append-nil}
+use Rattle.std.proofs.Common.{rules, Option, subst, append-nil}
 use Rattle.std.proofs.lemmas.List.Elements.{All-head}
-use Rattle.std.specs.Prelude.{All}
 use Rattle.std.proofs.lemmas.Result.{IfOk-weaker}
-use Rattle.dw_image.specs.Images.{entries_in}
 use Rattle.dw_cprint.specs.EntryShapes.{shape_in, subject_in}
 use Rattle.dw_cprint.specs.Judgements.{IsJudgement}
 use Rattle.dw_cprint.specs.Refusals.{PrintFault}
-use Rattle.dw_cprint.specs.Shapes.{SubjectOf, TypeAt, view_subject}
-use Rattle.dw_cprint.specs.Steps.{entries_of, first_steps, types_declared}
-use Rattle.dw_cprint.specs.Surveys.{IsSurveyOf}
+use Rattle.dw_cprint.specs.Shapes.{SubjectOf}
+use Rattle.dw_cprint.specs.Steps.{first_steps}
 use Rattle.dw_cprint.proofs.WithinLemmas.{subject_within}
 use Rattle.dw_cprint.proofs.listing.refusal_of.Goals as goal
 

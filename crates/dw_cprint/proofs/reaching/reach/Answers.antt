@@ -1,4 +1,4 @@
-use Rattle.std.proofs.Common.{rules, ◌≡◌, ◌<◌, ◌≤◌, ◌++◌, [], ◌∷◌, length, map, ℕ, List, get_or, sym, ap, ◌∙◌, subst, arith, length-append}
+use Rattle.std.proofs.Common.{rules, ◌≡◌, ◌<◌, ◌++◌, [], ◌∷◌, length, map, ℕ, List, get_or, sym, ap, ◌∙◌, subst, arith, length-append}
 use Rattle.std.specs.Prelude.{All}
 use Rattle.std.proofs.lemmas.List.{map-append}
 use Rattle.dw_image.specs.Images.{entries_in}
@@ -9,29 +9,29 @@ use Rattle.dw_cprint.specs.Reach.{FindsAll}
 use Rattle.dw_cprint.specs.Shapes.{ShapeOf, TypeAt, view_shape}
 use Rattle.dw_cprint.specs.Steps.{entries_of, steps_reached, types_reached}
 use Rattle.dw_cprint.proofs.LevelLemmas.{few-entries}
-use Rattle.dw_cprint.proofs.ReachLemmas.{so_far-start, so_far-more, so_far-done, read-done, packed-start, packed-more, rows-more, room}
+use Rattle.dw_cprint.proofs.ReachLemmas.{so_far-start, so_far-more, so_far-done, packed-start, packed-more, rows-more, room}
 use Rattle.dw_cprint.proofs.WithinLemmas.{shape_within}
 use Rattle.dw_cprint.proofs.reaching.reach.Goals as goal
 
 pub push_row-requires-clause-few : goal.push_row-requires-clause-few
 push_row-requires-clause-few c = search (rules, few-entries)
 
-pub push_row-requires-in-loop-alloc-clause-few : goal.push_row-requires-in-loop-alloc-clause-few
-push_row-requires-in-loop-alloc-clause-few c = omega (arith, few-entries c.args.source.now.image.now, c.loop-alloc.invariant.2)
+pub push_row-requires-in-loop-found-clause-few : goal.push_row-requires-in-loop-found-clause-few
+push_row-requires-in-loop-found-clause-few c = omega (arith, few-entries c.args.source.now.image.now, c.loop-found.invariant.2)
 
-pub push_row-requires-in-loop-alloc-clause-within : goal.push_row-requires-in-loop-alloc-clause-within
-push_row-requires-in-loop-alloc-clause-within c =
+pub push_row-requires-in-loop-found-clause-within : goal.push_row-requires-in-loop-found-clause-within
+push_row-requires-in-loop-found-clause-within c =
     let shapes = shape_in c.args.source.now.image.now in
     let next : c.put_reached_types.new.types.items ≡ types_reached (view_shape c.in_ok-shape.shape) =
     c.in_ok-put_reached_types.ensures ∙ ap (λ (types : List TypeAt). types ++ types_reached (view_shape c.in_ok-shape.shape)) c.clear.ensures.items in
     let steps : steps_reached shapes c.get.result ≡ entries_of c.deref.result.now =
     ap (λ (s : ShapeOf). entries_of (types_reached s)) (sym c.in_ok-shape.ensures) ∙ ap entries_of (sym (c.deref.ensures.value ∙ next)) in
     let P : List ℕ → ℕ → Type 0 = λ xs n. All (λ to. to < n) xs in
-    subst (λ (n : ℕ). P (entries_of c.deref.result.now) n) (sym c.loop-alloc.invariant.2)
+    subst (λ (n : ℕ). P (entries_of c.deref.result.now) n) (sym c.loop-found.invariant.2)
     (subst (λ (xs : List ℕ). P xs (length (entries_in c.args.source.now.image.now))) steps (shape_within c.args.source.now.image.now c.get.result).all.all)
 
-pub loop-alloc-init : goal.loop-alloc-init
-loop-alloc-init c =
+pub loop-found-init : goal.loop-found-init
+loop-found-init c =
     let (row, finds, is) = c.in_ok-push_row.ensures.row in
     let found = c.push_row.new.found in
     let P : List ℕ → Type 0 = λ f. FindsAll (entries_of c.args.types.now) c.in_ok-places.places.items c.push_row.new.places.items f found row in
@@ -42,47 +42,40 @@ loop-alloc-init c =
       c.in_ok-push_row.ensures.places ∙ (long ∙ c.entries.ensures),
     )
 
-pub loop-alloc-smaller : goal.loop-alloc-smaller
-loop-alloc-smaller c = search (rules, room, length-append)
+pub loop-found-smaller : goal.loop-found-smaller
+loop-found-smaller c = search (rules, room, length-append)
 
-pub loop-alloc-preserved : goal.loop-alloc-preserved
-loop-alloc-preserved c =
+pub loop-found-preserved : goal.loop-found-preserved
+loop-found-preserved c =
     let shapes = shape_in c.args.source.now.image.now in
-    let found = c.loop-alloc.found in
-    let places = c.loop-alloc.places.items in
-    let steps = c.loop-alloc.steps in
-    let ends = c.loop-alloc.ends in
+    let found = c.loop-found.found in
+    let places = c.loop-found.places.items in
+    let steps = c.loop-found.steps in
+    let ends = c.loop-found.ends in
     let rows = cut steps 0 ends in
-    let read = map view_shape c.loop-alloc.shapes.items in
+    let read = map view_shape c.loop-found.shapes.items in
     let long = length-cut steps 0 ends in
-    let more : length rows < length found = omega (arith, long, c.len.ensures, c.len-in-loop-alloc.ensures, c.loop-alloc-test.true) in
-    let at : c.len-in-loop-alloc-2.result ≡ length rows = c.len-in-loop-alloc-2.ensures ∙ sym long in
+    let more : length rows < length found = omega (arith, long, c.len.ensures, c.len-in-loop-found.ensures, c.loop-found-test.true) in
+    let at : c.len-in-loop-found-2.result ≡ length rows = c.len-in-loop-found-2.ensures ∙ sym long in
     let entry : c.get.result ≡ get_or found (length rows) 0 = c.get.ensures ∙ ap (λ k. get_or found k 0) at in
     let shape : view_shape c.in_ok-shape.shape ≡ shapes (get_or found (length rows) 0) = c.in_ok-shape.ensures ∙ ap shapes entry in
     let seen : map view_shape c.push.new.self.items ≡ read ++ shapes (get_or found (length rows) 0) ∷ [] =
-    ap (map view_shape) c.in_ok-push.ensures.items ∙ map-append view_shape c.loop-alloc.shapes.items (c.in_ok-shape.shape ∷ []) ∙ ap (λ (s : ShapeOf). read ++ s ∷ []) shape in
+    ap (map view_shape) c.in_ok-push.ensures.items ∙ map-append view_shape c.loop-found.shapes.items (c.in_ok-shape.shape ∷ []) ∙ ap (λ (s : ShapeOf). read ++ s ∷ []) shape in
     let next : c.put_reached_types.new.types.items ≡ types_reached (view_shape c.in_ok-shape.shape) =
     c.in_ok-put_reached_types.ensures ∙ ap (λ (types : List TypeAt). types ++ types_reached (view_shape c.in_ok-shape.shape)) c.clear.ensures.items in
     let reached : entries_of c.deref.result.now ≡ steps_reached shapes (get_or found (length rows) 0) =
     ap entries_of (c.deref.ensures.value ∙ next) ∙ ap (λ (s : ShapeOf). entries_of (types_reached s)) shape in
-    let p2 = c.push_row-in-loop-alloc.new.places.items in
-    let f2 = c.push_row-in-loop-alloc.new.found in
+    let p2 = c.push_row-in-loop-found.new.places.items in
+    let f2 = c.push_row-in-loop-found.new.found in
     let (row, finds, all) = c.in_ok-push_row-2.ensures.row in
     let P : List ℕ → Type 0 = λ xs. FindsAll xs places p2 found f2 row in
     let placed = subst P reached finds in
-    let end : c.push-in-loop-alloc.new.self ≡ ends ++ length (steps ++ row) ∷ [] = c.in_ok-push-2.ensures ∙ ap (λ (n : ℕ). ends ++ n ∷ []) (c.len-in-loop-alloc-3.ensures ∙ ap length all) in
-    rw (end, all, seen, rows-more found steps ends row c.loop-alloc.invariant.1) (
-      so_far-more shapes (entries_of c.args.types.now) places p2 found f2 rows read row c.loop-alloc.invariant.0 more placed,
-      packed-more (steps_reached shapes (get_or found (length rows) 0)) places p2 found f2 steps ends row c.loop-alloc.invariant.1 placed,
-      c.in_ok-push_row-2.ensures.places ∙ c.loop-alloc.invariant.2,
+    let end : c.push-in-loop-found.new.self ≡ ends ++ length (steps ++ row) ∷ [] = c.in_ok-push-2.ensures ∙ ap (λ (n : ℕ). ends ++ n ∷ []) (c.len-in-loop-found-3.ensures ∙ ap length all) in
+    rw (end, all, seen, rows-more found steps ends row c.loop-found.invariant.1) (
+      so_far-more shapes (entries_of c.args.types.now) places p2 found f2 rows read row c.loop-found.invariant.0 more placed,
+      packed-more (steps_reached shapes (get_or found (length rows) 0)) places p2 found f2 steps ends row c.loop-found.invariant.1 placed,
+      c.in_ok-push_row-2.ensures.places ∙ c.loop-found.invariant.2,
     )
 
-pub returns-clause-reach : goal.returns-clause-reach
-returns-clause-reach c = search (rules, length-cut, so_far-done)
-
-pub returns-clause-shapes : goal.returns-clause-shapes
-returns-clause-shapes c =
-    let rows = cut c.loop-alloc.steps 0 c.loop-alloc.ends in
-    let long = length-cut c.loop-alloc.steps 0 c.loop-alloc.ends in
-    let over : length c.loop-alloc.found ≤ length rows = omega (arith, long, c.len.ensures, c.len-in-loop-alloc.ensures, c.loop-alloc-test.false) in
-    read-done (shape_in c.args.source.now.image.now) (entries_of c.args.types.now) c.loop-alloc.places.items c.loop-alloc.found rows (map view_shape c.loop-alloc.shapes.items) c.loop-alloc.invariant.0 over
+pub returns : goal.returns
+returns c = search (rules, length-cut, so_far-done)

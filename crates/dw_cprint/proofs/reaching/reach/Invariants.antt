@@ -7,11 +7,11 @@ use Rattle.dw_cprint.specs.Steps.{entries_of}
 use Rattle.dw_cprint.proofs.ReachLemmas.{ArePacked, IsSoFar}
 use Rattle.dw_cprint.proofs.reaching.reach.Given as goal
 
-abbrev pub invariant-loop-alloc : goal.invariant-loop-alloc
-invariant-loop-alloc l =
+abbrev pub invariant-loop-found : goal.invariant-loop-found
+invariant-loop-found l =
     IsSoFar (shape_in l.source.image.now) (entries_of l.fn.types) l.places.items l.found (cut l.steps 0 l.ends) (map view_shape l.shapes.items)
     × ArePacked l.found l.steps l.ends
     × (length l.places.items ≡ length (entries_in l.source.image.now))
 
-abbrev pub decreases-loop-alloc : goal.decreases-loop-alloc
-decreases-loop-alloc l = length (entries_in l.source.image.now) - length l.ends
+abbrev pub decreases-loop-found : goal.decreases-loop-found
+decreases-loop-found l = length (entries_in l.source.image.now) - length l.ends

@@ -19,7 +19,7 @@ alone false void none = rw none refl
 
 pub returns-else-has_void : goal.returns-else-has_void
 returns-else-has_void c =
-    let s = c.args.summaries.now in
+    let s = c.args.survey.now in
     let kinds = kind_known s in
     let test : TypeAt → Bool = λ at. is_void (base_known s at) in
     let P : Shape → Type 0 = λ shape. c.any.result ≡ is_unspeakable s (view_shape shape) in
@@ -32,7 +32,7 @@ returns-else-has_void c =
 pub returns-else-is_empty : goal.returns-else-is_empty
 returns-else-is_empty c =
     let es = c.deref-else-is_empty in
-    let P : Shape → Type 0 = λ s. c.any-else-is_empty.result ≡ is_unspeakable c.args.summaries.now (view_shape s) in
+    let P : Shape → Type 0 = λ s. c.any-else-is_empty.result ≡ is_unspeakable c.args.survey.now (view_shape s) in
     subst P (sym c.in-Enumeration.is)
     (wrong-enumeration es.result.now c.in-Enumeration.enumerators.items _ c.is_empty.result c.any-else-is_empty.result es.ensures.value es.ensures.len c.is_empty.ensures c.if-is_empty.false
     (any_from_yields_List (λ (e : Enumerator). is_none e.value) _ _ _ c.any-else-is_empty.ensures.ran (YieldsList-from_slice es.result.now cc) (λ x b q k. search (rules, tests)))

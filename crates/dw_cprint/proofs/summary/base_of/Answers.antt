@@ -10,9 +10,9 @@ use Rattle.dw_cprint.proofs.summary.base_of.Goals as goal
 
 pub returns-in-Qualified : goal.returns-in-Qualified
 returns-in-Qualified c = λ shapes entry is known.
-    let P : Shape → Type 0 = λ s. All (Knows shapes c.args.summaries.now) (types_reached (view_shape s)) in
-    let mine = same-summary c.of.ensures (subst P c.in-Qualified.is known 0 c.in-Qualified.at (omega arith)) in
-    base_qualified shapes entry _ c.in-Qualified.at c.of.result.base (is ∙ ap view_shape c.in-Qualified.is) mine.is_base
+    let P : Shape → Type 0 = λ s. All (Knows shapes c.args.survey.now) (types_reached (view_shape s)) in
+    let mine = same-summary c.known.ensures (subst P c.in-Qualified.is known 0 c.in-Qualified.at (omega arith)) in
+    base_qualified shapes entry _ c.in-Qualified.at c.known.result.base (is ∙ ap view_shape c.in-Qualified.is) mine.is_base
 
 pub returns-in_default : goal.returns-in_default
 returns-in_default c = λ shapes entry is known. base_itself shapes entry c.args.shape.now c.kind_of.result is c.in_default.not-Qualified c.kind_of.ensures

@@ -8,7 +8,7 @@ use Rattle.dw_cprint.proofs.summary.findings_declared.Goals as goal
 
 pub returns : goal.returns
 returns c = λ shapes known.
-    let s = c.args.summaries.now in
+    let s = c.args.survey.now in
     let subject = view_subject c.args.subject.now in
     let P : List TypeAt → Type 0 = λ ts. All (Knows shapes s) ts in
     let Q : List TypeAt → Type 0 = λ ts. AreFound shapes ts c.findings_under.result in

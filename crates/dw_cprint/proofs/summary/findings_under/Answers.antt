@@ -15,13 +15,13 @@ loop-at-preserved c =
     let i = c.loop-at.at-index in
     record {
       found = λ shapes known.
-          let mine = same-summary c.of.ensures (known i None (omega arith)) in
+          let mine = same-summary c.known.ensures (known i None (omega arith)) in
           let P : List TypeAt → Type 0 = λ ts. AreFound shapes ts c.with-findings.result in
           subst P (sym (take_more types i None (omega arith)))
-          (found-join shapes (take i types) (get_or types i None ∷ []) c.loop-at.findings c.of.result.findings c.with-findings.result (c.loop-at.invariant.found shapes known) mine.are_found c.with-findings.ensures.either c.with-findings.ensures.depth);
+          (found-join shapes (take i types) (get_or types i None ∷ []) c.loop-at.findings c.known.result.findings c.with-findings.result (c.loop-at.invariant.found shapes known) mine.are_found c.with-findings.ensures.either c.with-findings.ensures.depth);
       least =
-          let one = ap (λ (s : Summary). s.findings.least) c.of.ensures in
-          omega (arith, sum_by_more (least_known c.args.summaries.now) types i None (omega arith), c.with-findings.ensures.least, c.loop-at.invariant.least);
+          let one = ap (λ (s : Summary). s.findings.least) c.known.ensures in
+          omega (arith, sum_by_more (least_known c.args.survey.now) types i None (omega arith), c.with-findings.ensures.least, c.loop-at.invariant.least);
     }
 
 pub returns-clause-found : goal.returns-clause-found

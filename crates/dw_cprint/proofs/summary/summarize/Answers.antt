@@ -12,17 +12,19 @@ pub loop-rank-preserved : goal.loop-rank-preserved
 loop-rank-preserved c =
     let i = c.loop-rank.rank in
     let clear = c.args.clear.now.by_rank in
-    let shapes = c.args.shapes.now in
-    let nodes = c.loop-rank.summaries.nodes.items in
+    let shapes = c.args.survey.shapes.items in
+    let places = c.args.survey.places.items in
+    let nodes = c.loop-rank.survey.summaries.items in
     let s = c.in_ok-summary.summary in
     let node = get_or clear i 0 in
-    let shape = c.index-shapes-node.result in
+    let shape = c.index.result.now in
     let below : i < length clear = rw (← c.count-rank-end.ensures) c.loop-rank-test.true in
     let in_shapes : node < length shapes = c.requires i 0 below in
     let there : node < length nodes = omega (arith, c.loop-rank.invariant.len) in
-    let is : slice_get shapes node ≡ Some shape = slice_get_read shapes (length shapes) node shape refl in_shapes (rw c.node-node.ensures at c.index-shapes-node.is) in
+    let is : slice_get shapes node ≡ Some shape = slice_get_read shapes (length shapes) node shape refl in_shapes (rw (c.node-node.ensures, c.loop-rank.invariant.shapes) at c.index.ensures) in
     rw c.node-node.ensures (record {
       places = c.loop-rank.invariant.places;
+      shapes = c.loop-rank.invariant.shapes;
       len = length-set nodes node (Some s) ∙ c.loop-rank.invariant.len;
       have = have_more clear nodes i s below there c.loop-rank.invariant.have;
       right = λ all found are.
@@ -30,9 +32,9 @@ loop-rank-preserved c =
           let says = are.says node shape is in
           let right = c.loop-rank.invariant.right all found are in
           let P : List ℕ → Type 0 = λ ps. All (λ at. IsSummary all at (known_by ps nodes at)) (types_reached (all entry)) in
-          let Q : ShapeOf → Type 0 = λ x. All (Knows all c.loop-rank.summaries) (types_reached x) in
-          let known = subst Q (sym says) (subst P (sym c.loop-rank.invariant.places) (all_known all c.args.places.items found shapes clear are nodes i below right)) in
-          right_more all c.args.places.items found shapes clear are nodes i s below there right (c.in_ok-summary.ensures all entry (sym says) known);
+          let Q : ShapeOf → Type 0 = λ x. All (Knows all c.loop-rank.survey) (types_reached x) in
+          let known = subst Q (sym says) (subst P (sym c.loop-rank.invariant.places) (all_known all places found shapes clear are nodes i below right)) in
+          right_more all places found shapes clear are nodes i s below there right (c.in_ok-summary.ensures all entry (sym says) known);
     })
 
 pub returns-clause-clear : goal.returns-clause-clear
@@ -42,5 +44,5 @@ pub returns-clause-right : goal.returns-clause-right
 returns-clause-right c = λ all found are i lower.
     let entry = get_or found (get_or c.args.clear.now.by_rank i 0) 0 in
     let over : length c.args.clear.now.by_rank ≤ c.loop-rank.rank = rw (← c.count-rank-end.ensures) c.loop-rank-test.false in
-    let P : List ℕ → Type 0 = λ ps. IsSummary all (Some entry) (known_by ps c.loop-rank.summaries.nodes.items (Some entry)) in
+    let P : List ℕ → Type 0 = λ ps. IsSummary all (Some entry) (known_by ps c.loop-rank.survey.summaries.items (Some entry)) in
     subst P (sym c.loop-rank.invariant.places) (c.loop-rank.invariant.right all found are i (omega arith))

@@ -6,8 +6,10 @@ use Rattle.dw_cprint.proofs.summary.summarize.Given as goal
 
 abbrev pub invariant-loop-rank : goal.invariant-loop-rank
 invariant-loop-rank l = record {
-  places : l.summaries.places.items ≡ l.fn.places.items;
-  len : length l.summaries.nodes.items ≡ length l.shapes;
-  have : HaveSummaries (take l.rank l.clear.by_rank) l.summaries.nodes.items;
-  right : (all : ℕ → ShapeOf) (found : List ℕ) → AreNodes all l.fn.places.items found l.shapes l.clear.by_rank → RightBefore all found l.clear.by_rank l.fn.places.items l.summaries.nodes.items l.rank;
+  places : l.survey.places.items ≡ l.fn.survey.places.items;
+  shapes : l.survey.shapes.items ≡ l.fn.survey.shapes.items;
+  len : length l.survey.summaries.items ≡ length l.fn.survey.shapes.items;
+  have : HaveSummaries (take l.rank l.clear.by_rank) l.survey.summaries.items;
+  right : (all : ℕ → ShapeOf) (found : List ℕ) → AreNodes all l.fn.survey.places.items found l.fn.survey.shapes.items l.clear.by_rank
+      → RightBefore all found l.clear.by_rank l.fn.survey.places.items l.survey.summaries.items l.rank;
 }

@@ -12,7 +12,7 @@ use Rattle.dw_cprint.proofs.summary.summary_of.Goals as goal
 
 pub returns : goal.returns
 returns c = λ shapes entry is known.
-    let s = c.args.summaries.now in
+    let s = c.args.survey.now in
     let shape = view_shape c.args.shape.now in
     let n = least_known s in
     let same : c.deref-2.result.now ≡ types_reached shape = search rules in

@@ -13,7 +13,7 @@ use Rattle.dw_cprint.specs.Tokens.{VoidWord, TagWord, RightBrace, spelling, text
 use Rattle.dw_cprint.specs.Writing.{count_tokens, qualifying}
 use Rattle.dw_cprint.proofs.OptionLemmas.{ok_then}
 use Rattle.dw_cprint.proofs.WriterLemmas.{both, as_tokens, step-at, void-at, pointer_before, array_before, specifier_before, array_after, prototype_after, named_written, base_core, body_core, enumeration_core, pointer_after, specifier-shape, some-mapped}
-use Rattle.dw_cprint.proofs.ItemWriterLemmas.{IsLeft, next-of, left-over, members_left, members_next, parameters_left, parameters_next, parameters_done, item-of, members_done}
+use Rattle.dw_cprint.proofs.ItemWriterLemmas.{IsLeft, next-of, left-over, members_left, members_next, parameters_left, parameters_next, parameters_done, members_done}
 use Rattle.dw_cprint.proofs.DraftLemmas.{none-is, over-stays}
 use Rattle.dw_cprint.proofs.survey.Survey.+writing.Goals as goal
 
@@ -113,13 +113,11 @@ put_members-loop-member-preserved t c = search (rules, members_left, members_nex
 
 pub put_parameters-loop-parameter-preserved : goal.put_parameters-loop-parameter-preserved
 put_parameters-loop-parameter-preserved t c =
-    let term = term_at c.args.depth (kept c.args.self.now) in
     let others = c.in-Some.others.now in
     let i = c.loop-parameter.parameter-index in
-    let P : List Parameter → Type 0 = λ left. IsLeft (parameters_left term) others c.put_parameter.new.out left c.loop-parameter.out in
-    parameters_next term _ (get_or others i (Typed None)) _ _ _ _ _
-    (subst P (drop_more others i (Typed None) c.loop-parameter-test.true) c.loop-parameter.invariant) c.in_ok-put.ensures
-    (item-of c.args.self.now c.args.depth _ _ _ c.in_ok-put_parameter-2.ensures)
+    let P : List Parameter → Type 0 = λ left. IsLeft (parameters_left (term_at c.args.depth (kept c.args.self.now))) others c.put_parameter.new.out left c.loop-parameter.out in
+    parameters_next c.args.self.now c.args.depth _ (get_or others i (Typed None)) _ _ _ _ _
+    (subst P (drop_more others i (Typed None) c.loop-parameter-test.true) c.loop-parameter.invariant) c.in_ok-put.ensures c.in_ok-put_parameter-2.ensures
 
 pub put_parameters-returns : goal.put_parameters-returns
 put_parameters-returns t c =
@@ -128,7 +126,7 @@ put_parameters-returns t c =
     let P : List Parameter → Type 0 = λ left. IsLeft (parameters_left (term_at c.args.depth (kept s))) others c.put_parameter.new.out left c.loop-parameter.out in
     let Q : List Parameter → Type 0 = λ ps. WritesParameters s c.args.depth ps c.args.out.now c.loop-parameter.out in
     subst Q (sym c.in-Some.ensures.cases.0)
-    (parameters_done _ c.in-Some.first.now others _ _ _ (item-of s c.args.depth _ _ _ c.in_ok-put_parameter.ensures)
+    (parameters_done s c.args.depth c.in-Some.first.now others _ _ _ c.in_ok-put_parameter.ensures
     (subst P (drop_all c.loop-parameter.parameter-index others c.loop-parameter-test.false) c.loop-parameter.invariant))
 
 pub put_members-returns-then-is_over : goal.put_members-returns-then-is_over
@@ -151,4 +149,4 @@ put_parameters-returns-then-is_over t c =
     let is = none-is out (sym c.is_over.ensures ∙ c.if-is_over.true) in
     let Q : List Parameter → Type 0 = λ ps. WritesParameters s c.args.depth ps c.args.out.now out in
     subst Q (sym c.in-Some.ensures.cases.0)
-    (parameters_done _ c.in-Some.first.now c.in-Some.others.now _ _ _ (item-of s c.args.depth _ _ _ c.in_ok-put_parameter.ensures) (left-over _ _ _ _ out refl is c.loop-parameter.invariant))
+    (parameters_done s c.args.depth c.in-Some.first.now c.in-Some.others.now _ _ _ c.in_ok-put_parameter.ensures (left-over _ _ _ _ out refl is c.loop-parameter.invariant))

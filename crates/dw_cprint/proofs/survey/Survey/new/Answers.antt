@@ -1,39 +1,28 @@
-use Rattle.std.proofs.Common.{ℕ, List, length, ap, sym, subst, arith}
+use Rattle.std.proofs.Common.{ℕ, List, length, map, ap, subst, ◌∙◌, arith}
 use Rattle.std.proofs.lemmas.List.{get_or_default, length-map}
 use Rattle.dw_types.specs.Packing.{cut}
 use Rattle.dw_cprint.specs.EntryShapes.{shape_in}
-use Rattle.dw_cprint.specs.Reach.{IsReachOf}
+use Rattle.dw_cprint.specs.Reach.{HasReached}
 use Rattle.dw_cprint.specs.Shapes.{view_shape}
 use Rattle.dw_cprint.specs.Steps.{entries_of}
-use Rattle.dw_cprint.specs.Summaries.{AreNodes}
-use Rattle.dw_cprint.specs.declared.shape.Shape.{Shape}
-use Rattle.dw_cprint.specs.declared.survey.Survey.{Survey}
 use Rattle.dw_cprint.proofs.SurveyLemmas.{survey-done, nodes-of}
 use Rattle.dw_cprint.proofs.survey.Survey.new.Goals as goal
 
 pub summarize-requires : goal.summarize-requires
-summarize-requires c =
+summarize-requires c = λ k d below.
+    let r = c.in_ok-survey.ensures in
     let shapes = shape_in c.args.source.now.image.now in
-    λ k d below.
-    let within = c.in_ok-clear.ensures.within k below in
-    let same = get_or_default c.in_ok-clear.clear.by_rank k d 0 below in
-    let long = ap length c.in_ok-reached.ensures.shapes in
-    let kept = ap length c.deref-2.ensures.value in
-    omega (arith, within, same, c.in_ok-reached.ensures.reach.nodes, long, kept, length-map c.in_ok-reached.reached.shapes.items view_shape, length-map c.in_ok-reached.reached.found shapes)
+    omega (arith, c.in_ok-clear.ensures.within k below, get_or_default c.in_ok-clear.clear.by_rank k d 0 below, ap length r.are_shapes, r.reach.nodes, length-map c.in_ok-survey.survey.shapes.items view_shape, length-map r.found shapes)
 
 pub returns : goal.returns
 returns c =
     let shapes = shape_in c.args.source.now.image.now in
     let roots = entries_of c.args.types.items in
-    let r = c.in_ok-reached.reached in
-    let graph = cut r.graph.steps 0 r.graph.ends in
-    let clear = c.in_ok-clear.clear.by_rank in
-    let summaries = c.in_ok-summaries.summaries in
-    let s : Survey = record { shapes = r.shapes; summaries = summaries } in
-    let R : List ℕ → Type 0 = λ xs. IsReachOf shapes xs r.places.items r.found graph in
-    let reach = subst R (ap entries_of c.deref.ensures.value) c.in_ok-reached.ensures.reach in
-    let N : List Shape → Type 0 = λ kept. AreNodes shapes r.places.items r.found kept clear in
-    let nodes = nodes-of shapes roots r.places.items r.found graph reach r.shapes.items clear c.in_ok-reached.ensures.shapes c.in_ok-clear.ensures in
-    let right = c.in_ok-summaries.ensures.right shapes r.found (subst N (sym c.deref-2.ensures.value) nodes) in
-    survey-done shapes roots r.places.items r.found graph reach s c.in_ok-summaries.ensures.places clear c.in_ok-summaries.ensures.clear
-    c.in_ok-reached.ensures.shapes right c.in_ok-clear.ensures
+    let graph = cut c.in_ok-survey.graph.steps 0 c.in_ok-survey.graph.ends in
+    let sorted = c.in_ok-clear.ensures in
+    let done = c.in_ok-survey-2.ensures in
+    let R : List ℕ → Type 0 = λ xs. HasReached shapes xs c.in_ok-survey.survey graph in
+    let r = subst R (ap entries_of c.deref.ensures.value) c.in_ok-survey.ensures in
+    survey-done shapes roots c.in_ok-survey.survey.places.items r.found graph r.reach c.in_ok-survey-2.survey done.places c.in_ok-clear.clear.by_rank done.clear
+    (ap (map view_shape) done.shapes ∙ r.are_shapes)
+    (done.right shapes r.found (nodes-of shapes roots c.in_ok-survey.survey.places.items r.found graph r.reach c.in_ok-survey.survey.shapes.items c.in_ok-clear.clear.by_rank r.are_shapes sorted)) sorted
