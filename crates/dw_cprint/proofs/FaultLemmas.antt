@@ -118,18 +118,11 @@ module _ (shapes : ℕ → ShapeOf) (s : Survey) where
   pub own-unspeakable-known : (subject : SubjectOf) → All (Knows shapes s) (types_declared subject) → IsTrue (is_own_unspeakable s subject) ↔ IsOwnUnspeakable shapes subject
   own-unspeakable-known (typedef_subject name at) all = (λ h. absurd (cc), λ h. elim h [ ])
   own-unspeakable-known (variable_subject name at) all =
-      let void = void-known at (first-of (Knows shapes s) at [] all) in (λ h. void_variable (void.0 h), back)
-    where
-      back : IsOwnUnspeakable shapes (variable_subject name at) → is_void (base_known s at) ≡ true
-      back (void_variable v) = (void-known at (first-of (Knows shapes s) at [] all)).1 v
-  own-unspeakable-known (tag_subject name shape) all = (forth, back)
-    where
-      forth : (is_unspeakable s shape || is_declared_enumeration shape) ≡ true → IsOwnUnspeakable shapes (tag_subject name shape)
-      forth h = elim (or_cases (is_unspeakable s shape) _ h) [ inl t ↦ unspeakable (unspeakable-told shape all t) | inr t ↦ declared_enumeration t ]
-
-      back : IsOwnUnspeakable shapes (tag_subject name shape) → (is_unspeakable s shape || is_declared_enumeration shape) ≡ true
-      back (unspeakable h) = or_left _ _ (unspeakable-tells shape all h)
-      back (declared_enumeration h) = or_right _ _ h
+      let void = void-known at (first-of (Knows shapes s) at [] all) in (λ h. void_variable (void.0 h), λ h. elim h [ void_variable v ↦ void.1 v ])
+  own-unspeakable-known (tag_subject name shape) all = (
+    λ h. elim (or_cases (is_unspeakable s shape) _ h) [ inl t ↦ unspeakable (unspeakable-told shape all t) | inr t ↦ declared_enumeration t ],
+    λ h. elim h [ unspeakable t ↦ or_left _ _ (unspeakable-tells shape all t) | declared_enumeration t ↦ or_right _ _ t ],
+  )
 
 -- ---- parameters, counts and enumerators
 

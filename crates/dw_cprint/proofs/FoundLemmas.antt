@@ -179,12 +179,9 @@ module _ (shapes : ℕ → ShapeOf) where
     deep =
         let few : 65 ≤ 65 = omega arith in
         let far = rest.deep 65 few in
-        (λ over. deep (far.1 (omega (arith, depth, over))), λ h. elim h [ deep path ↦ deeper (far.0 path) ]);
+        (λ over. deep (far.1 (omega (arith, depth, over))), λ h. elim h [ deep path ↦ omega (arith, depth, far.0 path) ]);
     long = long;
   }
-    where
-      deeper : 65 ≤ under.depth → 64 < all.depth
-      deeper over = omega (arith, depth)
 
 pub same-summary : {shapes : ℕ → ShapeOf} {at : TypeAt} {s known : Summary} → s ≡ known → IsSummary shapes at known
     → IsSummary shapes at s

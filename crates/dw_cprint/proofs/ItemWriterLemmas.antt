@@ -7,7 +7,7 @@ use Rattle.std.proofs.lemmas.List.{drop_more}
 use Rattle.dw_cprint.specs.Declarations.{is_cut_short, has_more, constants_of, parameters_by, members_by}
 use Rattle.dw_cprint.specs.Declarators.{body_tokens, enumeration_tokens}
 use Rattle.dw_cprint.specs.Drafts.{appended}
-use Rattle.dw_cprint.specs.Kept.{Writes, WritesParameter, WritesParameters, kept_term}
+use Rattle.dw_cprint.specs.Kept.{Writes, WritesEnumerator, WritesEnumerators, WritesParameter, WritesParameters, kept_term}
 use Rattle.dw_cprint.specs.Shapes.{Parameter, Typed, More, Name, TypeAt, MemberOf, EnumeratorOf}
 use Rattle.dw_cprint.specs.Terms.{Constant, Valued, Term, Parameters, Parameter as ParameterTerm, Members, Member as MemberTerm}
 use Rattle.dw_cprint.specs.Tokens.{Token, Blank, LeftBrace, RightBrace, Semicolon, Comma, Dot, text_of}
@@ -96,13 +96,9 @@ pub more-constants : (x : EnumeratorOf) (es : List EnumeratorOf) (cs : List Cons
     → IsMoreConstants x es cs
 more-constants x es cs e = search (rules, then_inverted, map_inverted)
 
--- an enumerator is written
-abbrev WritesOne : EnumeratorOf → Option (List ℕ) → Option (List ℕ) → Type 0
-WritesOne x old new = (name : List ℕ) (value : ℤ) → x.name ≡ Some name → x.value ≡ Some value → Writes (constant (Valued name value)) old new
-
 pub enumerators_next : (all : List EnumeratorOf) (x : EnumeratorOf) (left : List EnumeratorOf)
     (old out mid out' : Option (List ℕ)) → IsLeft enumerators_left all old (x ∷ left) out → Writes (Comma ∷ Blank ∷ []) out mid
-    → WritesOne x mid out' → IsLeft enumerators_left all old left out'
+    → WritesEnumerator x mid out' → IsLeft enumerators_left all old left out'
 enumerators_next all x left old out mid out' so_far comma written = left-next enumerators_left all old x left out out' so_far
     (map_holds (λ (us : List Token). IsSplit enumerators_left left us out out') more_constants (constants_of (x ∷ left)) (λ cs e.
     let m = more-constants x left cs e in
@@ -110,9 +106,8 @@ enumerators_next all x left old out mid out' so_far comma written = left-next en
     (Comma ∷ Blank ∷ c, more_constants m.others, ap (option_map more_constants) m.are_others, ap more_constants m.is, both (Comma ∷ Blank ∷ []) c out mid out' comma (written m.name m.value m.is_name m.is_value))))
 
 pub enumerators_done : (x : EnumeratorOf) (others : List EnumeratorOf) (begin mid old out new : Option (List ℕ))
-    → Writes (LeftBrace ∷ Blank ∷ []) begin mid → WritesOne x mid old → IsLeft enumerators_left others old [] out
-    → Writes (Blank ∷ RightBrace ∷ []) out new → (cs : List Constant) → constants_of (x ∷ others) ≡ Some cs
-    → Writes (enumeration_tokens cs) begin new
+    → Writes (LeftBrace ∷ Blank ∷ []) begin mid → WritesEnumerator x mid old → IsLeft enumerators_left others old [] out
+    → Writes (Blank ∷ RightBrace ∷ []) out new → WritesEnumerators (x ∷ others) begin new
 enumerators_done x others begin mid old out new opens first left closes cs e =
     let m = more-constants x others cs e in
     let c = constant (Valued m.name m.value) in

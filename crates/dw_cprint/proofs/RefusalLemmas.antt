@@ -55,14 +55,7 @@ module _ (shapes : ℕ → ShapeOf) (subject : SubjectOf) where
 
   -- neither another kind of entry nor a cycle that is reached
   pub printable : (is_other_kind subject ≡ true → ⊥) → (ReachACycle shapes (first_steps subject) → ⊥) → HoldsNoneBelow 2 shapes subject
-  printable kind none = none-more NotPrintable none-first neither
-    where
-      neither : Holds shapes subject NotPrintable → ⊥
-      neither (other_kind e) = kind e
-      neither (cycle entry r round) = none (entry, r, round)
-
-  holds-long : Holds shapes subject TooLong → IsLonger 65536 shapes subject
-  holds-long (long far) = far
+  printable kind none = none-more NotPrintable none-first (λ h. elim h [ other_kind e ↦ kind e | cycle entry r round ↦ none (entry, r, round) ])
 
   -- there is a declaration, where none of the first five refusals holds
   there-declared : HoldsNoneBelow 6 shapes subject → (d : Declaration) × (declaration_of shapes subject ≡ Some d)
@@ -98,7 +91,7 @@ module _ (shapes : ℕ → ShapeOf) (subject : SubjectOf) where
         → IsPrinted shapes subject × ((d : Declaration) × (declaration_of shapes subject ≡ Some d) × (new ≡ Some (written d)))
     short-by-draft fits =
         let (d, is) = there-declared none in
-        (none-more TooLong none (λ h. too-long (holds-long h)), (d, is, there-whole new (written d) (own d is) (there-is new fits)))
+        (none-more TooLong none (λ h. elim h [ long far ↦ too-long far ]), (d, is, there-whole new (written d) (own d is) (there-is new fits)))
       where
         too-long : IsLonger 65536 shapes subject → ⊥
         too-long (d, is, far) = there-is new fits (own d is ∙ appended-over [] (written d) (omega arith))
