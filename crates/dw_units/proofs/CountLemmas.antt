@@ -1,16 +1,15 @@
 -- One unit alone among the sections, and one more unit after those so far.
-use Rattle.std.proofs.Common.{rules, ◌≡◌, ℕ, ◌+◌, suc, List, [], ◌∷◌, ◌++◌, length, map, take, drop, Option, Some, None, refl, sym, ap, subst, ◌∙◌, inl, inr, arith, append_assoc, append-nil, length-append, take-append-drop}
+use Rattle.std.proofs.Common.{rules, ◌≡◌, ℕ, ◌+◌, suc, List, [], ◌∷◌, ◌++◌, length, map, take, drop, Option, Some, None, refl, sym, ap, subst, ◌∙◌, arith, append_assoc, append-nil, length-append, take-append-drop}
 use Rattle.std.specs.Prelude.{slice_get, cond}
 use Rattle.std.specs.List.{AllByRecursion, count_by}
 use Rattle.std.proofs.lemmas.List.Sums.{sum_by-append, sum_by-cons}
 use Rattle.std.proofs.lemmas.Grind.{flat_map-append}
 use Rattle.std.proofs.lemmas.List.{length-map}
 use Rattle.dw_elf.specs.declared.sections.Sections.{Sections}
-use Rattle.dw_forms.specs.Value.{Datum, str, line_str, str_index, addr_index, sec_offset}
+use Rattle.dw_forms.specs.Value.{Datum}
 use Rattle.dw_forms.specs.Codes.{DW_AT_str_offsets_base, DW_AT_addr_base}
 use Rattle.dw_entries.specs.declared.header.UnitHeader.{UnitHeader}
 use Rattle.dw_entries.specs.declared.fault.Rule.{Rule}
-use Rattle.dw_entries.specs.declared.fault.Rule.TheVariants.{BadStrBase, StrIndex, StringEnd, BadAddrBase, AddrIndex}
 use Rattle.dw_entries.specs.declared.lookup.EntryHead.{EntryHead}
 use Rattle.dw_entries.specs.Units.{DebugUnit, IsUnit, unit_bytes, units_bytes}
 use Rattle.dw_entries.specs.Header.{header_size}
@@ -19,7 +18,7 @@ use Rattle.dw_entries.specs.Failures.{HasNone}
 use Rattle.dw_entries.proofs.HeadLaws.{all-append}
 use Rattle.dw_links.specs.Bases.{base_in}
 use Rattle.dw_entries.specs.Lookups.{entry_head}
-use Rattle.dw_links.specs.Strings.{StringIndexFails, AddressIndexFails, OffsetFails, BaseFails, StringFailsIn, StringFailures}
+use Rattle.dw_links.specs.Strings.{StringIndexFails, AddressIndexFails, BaseFails, StringFailsIn, StringFailures}
 use Rattle.dw_units.specs.declared.counting.Counts.{Counts}
 use Rattle.dw_image.specs.declared.image.Image.{Image}
 use Rattle.dw_image.specs.Lookups.{is_type_entry}
@@ -83,30 +82,17 @@ pub record Shares (s own : Sections) : Type 0 where
 
 module _ (s own : Sections) (shares : Shares s own) where
   string_index_in : (base : Option ℕ) (index : ℕ) (rule : Rule) → StringIndexFails s base index rule → StringIndexFails own base index rule
-  string_index_in None index BadStrBase fails = tt
-  string_index_in None index rule fails = absurd fails
-  string_index_in (Some base) index StrIndex fails = search (rules)
-  string_index_in (Some base) index StringEnd fails = search (rules)
-  string_index_in (Some base) index rule fails = absurd fails
+  string_index_in base index rule fails = search rules
 
   address_index_in : (header : UnitHeader) (base : Option ℕ) (index : ℕ) (rule : Rule) → AddressIndexFails s header base index rule → AddressIndexFails own header base index rule
-  address_index_in header None index BadAddrBase fails = tt
-  address_index_in header None index rule fails = absurd fails
-  address_index_in header (Some base) index AddrIndex fails = search (rules)
-  address_index_in header (Some base) index rule fails = absurd fails
+  address_index_in header base index rule fails = search rules
 
   base_in_own : (header : UnitHeader) (attribute base : ℕ) (rule : Rule) → BaseFails s header attribute base rule → BaseFails own header attribute base rule
-  base_in_own header attribute base rule (inl (is, only, never)) = search (rules)
-  base_in_own header attribute base rule (inr (is, only, never)) = search (rules)
+  base_in_own header attribute base rule is = search rules
 
   string_in_own : (header : UnitHeader) (strings addresses : Option ℕ) (head : EntryHead) (attribute : ℕ) (v : Datum) (rule : Rule)
       → StringFailsIn s header strings addresses head attribute v rule → StringFailsIn own header strings addresses head attribute v rule
-  string_in_own header strings addresses head attribute (str offset) rule fails = subst (λ (l : List ℕ). OffsetFails l offset rule) (sym shares.str_same) fails
-  string_in_own header strings addresses head attribute (line_str offset) rule fails = subst (λ (l : List ℕ). OffsetFails l offset rule) (sym shares.line_str_same) fails
-  string_in_own header strings addresses head attribute (str_index index) rule fails = string_index_in strings index rule fails
-  string_in_own header strings addresses head attribute (addr_index index) rule fails = address_index_in header addresses index rule fails
-  string_in_own header strings addresses head attribute (sec_offset base) rule (top, version, fails) = (top, version, base_in_own header attribute base rule fails)
-  string_in_own header strings addresses head attribute v rule fails = fails
+  string_in_own header strings addresses head attribute v rule fails = search (rules, string_index_in, address_index_in, base_in_own)
 
   strings_own : (us : List DebugUnit) → HasNone (StringFailures own us) → HasNone (StringFailures s us)
   strings_own us none f fails =

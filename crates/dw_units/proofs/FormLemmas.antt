@@ -1,9 +1,8 @@
 -- Values that leave no unit, by the forms of the declarations.
-use Rattle.std.proofs.Common.{◌≡◌, ℕ, Bool, true, false, List, Some, refl, sym, ap, ◌∙◌}
+use Rattle.std.proofs.Common.{rules, ◌≡◌, ℕ, Bool, true, false, List, Some, refl, sym, ◌∙◌}
 use Rattle.std.specs.Prelude.{slice_get, All, Contains}
 use mathlib.Core.Logic.{∥∥₁_elim}
 use Rattle.dw_forms.specs.declared.form.Form.{Form}
-use Rattle.dw_forms.specs.declared.form.Form.TheVariants as form
 use Rattle.dw_forms.specs.declared.decl.AttributeSpec.{AttributeSpec}
 use Rattle.dw_forms.specs.Value.{Datum, Val}
 use Rattle.dw_entries.specs.declared.fault.Rule.TheVariants.{WrongClass}
@@ -16,46 +15,7 @@ use Rattle.dw_links.proofs.Skips.{none_concerned}
 use Rattle.dw_units.specs.Alone.{leads_out, StaysInside, may_leave, Leaves}
 
 stays_by_form : (version size : ℕ) (f : Form) (bytes : List ℕ) (v : Datum) → may_leave f ≡ false → Val version f size bytes v → leads_out v ≡ false
-stays_by_form version size form.Addr bytes v is p = ap leads_out p.2
-stays_by_form version size form.Block2 bytes v is p = ap leads_out p.2
-stays_by_form version size form.Block4 bytes v is p = ap leads_out p.2
-stays_by_form version size form.Data2 bytes v is p = ap leads_out p.2
-stays_by_form version size form.Data4 bytes v is p = ap leads_out p.2
-stays_by_form version size form.Data8 bytes v is p = ap leads_out p.2
-stays_by_form version size form.Text bytes v is p = ap leads_out p.2
-stays_by_form version size form.Block bytes v is p = ap leads_out p.2
-stays_by_form version size form.Block1 bytes v is p = ap leads_out p.2
-stays_by_form version size form.Data1 bytes v is p = ap leads_out p.2
-stays_by_form version size form.Flag bytes v is p = ap leads_out p.2
-stays_by_form version size form.Sdata bytes v is p = ap leads_out p.2
-stays_by_form version size form.Strp bytes v is p = ap leads_out p.2
-stays_by_form version size form.Udata bytes v is p = ap leads_out p.2
-stays_by_form version size form.RefAddr bytes v is p = absurd cc
-stays_by_form version size form.Ref1 bytes v is p = ap leads_out p.2
-stays_by_form version size form.Ref2 bytes v is p = ap leads_out p.2
-stays_by_form version size form.Ref4 bytes v is p = ap leads_out p.2
-stays_by_form version size form.Ref8 bytes v is p = ap leads_out p.2
-stays_by_form version size form.RefUdata bytes v is p = ap leads_out p.2
-stays_by_form version size form.Indirect bytes v is p = absurd cc
-stays_by_form version size form.SecOffset bytes v is p = ap leads_out p.2
-stays_by_form version size form.Exprloc bytes v is p = ap leads_out p.2
-stays_by_form version size form.FlagPresent bytes v is p = ap leads_out p.1
-stays_by_form version size form.Strx bytes v is p = ap leads_out p.2
-stays_by_form version size form.Addrx bytes v is p = ap leads_out p.2
-stays_by_form version size form.Data16 bytes v is p = ap leads_out p.2
-stays_by_form version size form.LineStrp bytes v is p = ap leads_out p.2
-stays_by_form version size form.RefSig8 bytes v is p = absurd cc
-stays_by_form version size (form.ImplicitConst number) bytes v is p = ap leads_out p.1
-stays_by_form version size form.Loclistx bytes v is p = ap leads_out p.2
-stays_by_form version size form.Rnglistx bytes v is p = ap leads_out p.2
-stays_by_form version size form.Strx1 bytes v is p = ap leads_out p.2
-stays_by_form version size form.Strx2 bytes v is p = ap leads_out p.2
-stays_by_form version size form.Strx3 bytes v is p = ap leads_out p.2
-stays_by_form version size form.Strx4 bytes v is p = ap leads_out p.2
-stays_by_form version size form.Addrx1 bytes v is p = ap leads_out p.2
-stays_by_form version size form.Addrx2 bytes v is p = ap leads_out p.2
-stays_by_form version size form.Addrx3 bytes v is p = ap leads_out p.2
-stays_by_form version size form.Addrx4 bytes v is p = ap leads_out p.2
+stays_by_form version size f bytes v is p = search rules
 
 -- no value under such a declaration leaves its unit
 pub form_passes : (spec : AttributeSpec) → may_leave spec.form ≡ false → Passes Leaves spec

@@ -18,8 +18,7 @@ moved_number first None = None
 moved_number first (Some id) = Some (first + id)
 
 pub none_moved : (first : ℕ) (o : Option ℕ) → moved_number first o ≡ None → o ≡ None
-none_moved first None is = refl
-none_moved first (Some id) is = absurd cc
+none_moved first o is = search rules
 
 -- an entry of the unit alone, in the place of the unit with this number, first entry and offset
 abbrev pub moved : (number first at : ℕ) → Entry → Entry
@@ -42,8 +41,7 @@ moved_facts first at f = record f {
 }
 
 first_moved : (ns : Nodes) (first id to : ℕ) → to ≡ first + id → first_id ns to ≡ moved_number first (first_id ns id)
-first_moved none first id to is = refl
-first_moved (n then ns) first id to is = ap Some is
+first_moved ns first id to is = search rules
 
 module _ (number first at : ℕ) where
   head_moved : (above next above_to next_to : Option ℕ) (depth pos to : ℕ) (h : Head) → to ≡ at + pos
@@ -88,8 +86,7 @@ unit_moved number first at u =
     ∙ ap (map (moved number first at)) (sym (append-nil (node_entries 0 None 0 None 0 (0 + header_size u.header.kind) u.root)))
 
 map_some : {X Y : Type 0} (f : X → Y) (o : Option X) (y : Y) → option_map f o ≡ Some y → (x : X) × (o ≡ Some x) × (f x ≡ y)
-map_some f None y is = absurd cc
-map_some f (Some x) y is = (x, refl, cc)
+map_some f o y is = search rules
 
 -- an entry of the unit is one of the unit alone
 front_get : (number first at : ℕ) (u : DebugUnit) (more : List Entry) (i : ℕ) (e : Entry) → i < node_count u.root

@@ -1,7 +1,7 @@
 -- References inside a unit: what is reached in the unit's place, and the rules on references.
 use Rattle.std.proofs.Common.{rules, ◌≡◌, ℕ, ◌+◌, false, List, [], ◌∷◌, Option, Some, None, refl, sym, ap, subst, ◌∙◌, arith}
 use Rattle.std.specs.Prelude.{slice_get}
-use Rattle.dw_forms.specs.Value.{Datum, ref_unit, ref_info, ref_sig, address, block, unsigned, signed, wide, text, flag, str, line_str, str_index, sec_offset, expr, addr_index, loc_index, rng_index}
+use Rattle.dw_forms.specs.Value.{Datum}
 use Rattle.dw_entries.specs.Units.{DebugUnit}
 use Rattle.dw_entries.specs.Entries.{Entry, entries_of, PlacedUnit, placed}
 use Rattle.dw_entries.specs.Asked.{OffsetsRise}
@@ -84,21 +84,4 @@ module _ (us : List DebugUnit) (rise : OffsetsRise (entries_of us)) (number : �
   -- what a value that stays inside reaches
   pub reach_moved : (v : Datum) → leads_out v ≡ false → reach_of (entries_of us) (placed us) number v
       ≡ moved_number p.first (reach_of (entries_of (p.unit ∷ [])) (placed (p.unit ∷ [])) 0 v)
-  reach_moved (ref_unit offset) stays = in_unit_moved offset
-  reach_moved (ref_info offset) stays = absurd cc
-  reach_moved (ref_sig signature) stays = absurd cc
-  reach_moved (address n) stays = refl
-  reach_moved (block bytes) stays = refl
-  reach_moved (unsigned n) stays = refl
-  reach_moved (signed n) stays = refl
-  reach_moved (wide bytes) stays = refl
-  reach_moved (text bytes) stays = refl
-  reach_moved (flag b) stays = refl
-  reach_moved (str offset) stays = refl
-  reach_moved (line_str offset) stays = refl
-  reach_moved (str_index index) stays = refl
-  reach_moved (sec_offset offset) stays = refl
-  reach_moved (expr bytes) stays = refl
-  reach_moved (addr_index index) stays = refl
-  reach_moved (loc_index index) stays = refl
-  reach_moved (rng_index index) stays = refl
+  reach_moved v stays = search (rules, in_unit_moved)

@@ -1,5 +1,5 @@
 -- The rules on references: none fails.
-use Rattle.std.proofs.Common.{rules, ◌≡◌, ℕ, ◌+◌, ◌<◌, ◌==◌, true, false, List, [], ◌∷◌, length, Option, Some, None, refl, sym, ap, subst, ◌∙◌, inl, inr, eq-eqb}
+use Rattle.std.proofs.Common.{rules, ◌≡◌, ℕ, ◌+◌, ◌<◌, ◌==◌, true, false, List, [], ◌∷◌, length, Option, Some, sym, ap, subst, ◌∙◌, inl, inr, eq-eqb, arith}
 use Rattle.std.proofs.lemmas.Grind.{common_steps}
 use Rattle.std.proofs.lemmas.Bool.{eqb-true}
 use Rattle.std.specs.Prelude.{slice_get}
@@ -7,7 +7,6 @@ use Rattle.std.specs.List.{AllByRecursion}
 use Rattle.dw_elf.specs.declared.sections.Sections.{Sections}
 use Rattle.dw_forms.specs.Value.{Datum, ref_unit, ref_info, ref_sig}
 use Rattle.dw_entries.specs.declared.fault.Rule.{Rule}
-use Rattle.dw_entries.specs.declared.fault.Rule.TheVariants.{NoEntry, WrongKind, NotNextSibling, NoSignature}
 use Rattle.dw_entries.specs.Units.{DebugUnit, AreUnits}
 use Rattle.dw_entries.specs.Lookups.{entry_head}
 use Rattle.dw_entries.specs.Entries.{Entry, entries_of, PlacedUnit, placed}
@@ -26,8 +25,7 @@ use Rattle.dw_units.proofs.TextLemmas.{unit_zero, alone_at, heads_join}
 use Rattle.dw_units.proofs.ReachLemmas.{reach_moved}
 
 pub some_moved : (first : ℕ) (o : Option ℕ) (id : ℕ) → moved_number first o ≡ Some id → (k : ℕ) × (o ≡ Some k) × (first + k ≡ id)
-some_moved first None id is = absurd cc
-some_moved first (Some k) id is = (k, refl, cc)
+some_moved first o id is = search rules
 
 pub eqb_moved : (at a b : ℕ) → (at + a == at + b) ≡ (a == b)
 eqb_moved at a b = search (rules, eqb-true, eq-eqb)
@@ -46,12 +44,10 @@ reached_below entries units unit (ref_sig signature) k stays is = let no : true 
 reached_below entries units unit v k stays is = absurd cc
 
 no_signature : (units : List PlacedUnit) (v : Datum) → leads_out v ≡ false → NoSignatureThere units v → ⊥
-no_signature units (ref_sig signature) stays fails = let no : true ≡ false = stays in cc
-no_signature units v stays fails = fails
+no_signature units v stays fails = search rules
 
 other_alone : (first : ℕ) (next alone : Option ℕ) → IsOtherThan (moved_number first next) (moved_number first alone) → IsOtherThan next alone
-other_alone first None alone other = tt
-other_alone first (Some n) alone (id, reached, apart) = search (rules, some_moved)
+other_alone first next alone other = search (rules, some_moved)
 
 module _ (us : List DebugUnit) (rise : OffsetsRise (entries_of us)) (number : ℕ) (p : PlacedUnit) (is : slice_get (placed us) number ≡ Some p)
     (alone_rise : OffsetsRise (entries_of (p.unit ∷ []))) where
@@ -77,13 +73,8 @@ module _ (us : List DebugUnit) (rise : OffsetsRise (entries_of us)) (number : �
       → reach_of (entries_of us) (placed us) number v ≡ moved_number p.first (reach_of (entries_of (p.unit ∷ [])) (placed (p.unit ∷ [])) e.unit v)
       → ReferenceFailsBy (entries_of us) (placed us) (entry_head (moved number p.first p.at e)) attribute v rule
       → ReferenceFailsBy (entries_of (p.unit ∷ [])) (placed (p.unit ∷ [])) (entry_head e) attribute v rule
-  by_alone e attribute v NoEntry stays reached (by_offset, none) = search (rules, none_moved)
-  by_alone e attribute v WrongKind stays reached (inl form) = inl form
-  by_alone e attribute v WrongKind stays reached (inr wrong) =
-      search (rules, common_steps, wrong_alone, reached_below, moved)
-  by_alone e attribute v NotNextSibling stays reached (sibling, other) = search (rules, other_alone, moved_number)
-  by_alone e attribute v NoSignature stays reached fails = absurd (no_signature (placed us) v stays fails)
-  by_alone e attribute v rule stays reached fails = absurd fails
+  by_alone e attribute v rule stays reached fails =
+      grind (arith, common_steps, moved, moved_number, none_moved, reached_below, no_signature, other_alone, wrong_alone)
 
   pub reference_alone : (e : Entry) → e.unit ≡ 0 → (attribute : ℕ) (v : Datum) (rule : Rule) → leads_out v ≡ false
       → ReferenceFails (entries_of us) (placed us) (entry_head (moved number p.first p.at e)) attribute v rule

@@ -4,7 +4,7 @@ use Rattle.std.specs.Prelude.{slice_get, if◌then◌else◌, ◌==◌, option_a
 use Rattle.std.proofs.lemmas.Option.{slice_get_within}
 use Rattle.std.specs.List.{AllByRecursion}
 use Rattle.dw_elf.specs.declared.sections.Sections.{Sections}
-use Rattle.dw_forms.specs.Value.{Datum, sec_offset}
+use Rattle.dw_forms.specs.Value.{Datum}
 use Rattle.dw_forms.specs.Codes.{DW_AT_str_offsets_base, DW_AT_addr_base}
 use Rattle.dw_entries.specs.declared.fault.Rule.{Rule}
 use Rattle.dw_entries.specs.Header.{version_of, header_size}
@@ -126,9 +126,7 @@ base_same us number p attribute is =
 strings_in : (s : Sections) (header : UnitHeader) (strings addresses : Option ℕ) (number first at : ℕ) (e : Entry) (attribute : ℕ) (v : Datum)
     (rule : Rule) → StringFailsIn s header strings addresses (entry_head (moved number first at e)) attribute v rule
     → StringFailsIn s header strings addresses (entry_head e) attribute v rule
-strings_in s header strings addresses number first at e attribute (sec_offset base) rule (parent, version, fails) =
-    search (rules, none_moved)
-strings_in s header strings addresses number first at e attribute v rule fails = fails
+strings_in s header strings addresses number first at e attribute v rule is = search (rules, none_moved)
 
 string_alone : (s : Sections) (us : List DebugUnit) (number : ℕ) (p : PlacedUnit) → slice_get (placed us) number ≡ Some p → (e : Entry)
     → e.unit ≡ 0 → (attribute : ℕ) (v : Datum) (rule : Rule)

@@ -1,12 +1,11 @@
 -- The facts of a unit among all, as a window: shapes and steps there are those of the unit alone.
-use Rattle.std.proofs.Common.{rules, ◌≡◌, ℕ, ◌+◌, ◌-◌, zero, suc, ◌<◌, ◌≤◌, true, List, [], ◌∷◌, length, map, Option, Some, None, refl, sym, ap, subst, ◌∙◌, arith}
+use Rattle.std.proofs.Common.{rules, ◌≡◌, ℕ, ◌+◌, ◌-◌, zero, suc, ◌<◌, ◌≤◌, true, List, [], ◌∷◌, length, map, Option, Some, refl, sym, ap, subst, ◌∙◌, arith}
 use Rattle.std.proofs.lemmas.Bool.{and_parts, eqb-true}
 use Rattle.std.specs.Prelude.{slice_index, is_some, nat_eq, not}
 use Rattle.dw_entries.specs.declared.fault.Rule.{Rule}
-use Rattle.dw_entries.specs.declared.fault.Rule.TheVariants.{MissingType, BadCount}
 use Rattle.dw_types.specs.Entries.{entry_of, is_parent, ParentsComeFirst, TargetsAreEntries, Facts}
 use Rattle.dw_types.specs.Graphs.{IsStep, IsClosed}
-use Rattle.dw_types.specs.Kinds.{role_of, role_in, parent_role, has_members, passes_type_on, is_declared_type, Role}
+use Rattle.dw_types.specs.Kinds.{role_in, parent_role, has_members, passes_type_on, is_declared_type, Role}
 use Rattle.dw_forms.specs.Codes.{DW_TAG_member}
 use Rattle.std.proofs.lemmas.List.{length-map}
 use Rattle.dw_types.specs.Shapes.{breaks_shape, fails_shape}
@@ -25,29 +24,23 @@ pub record IsWindow (all alone : List Facts) (first at : ℕ) : Type 0 where
   pub targets : TargetsAreEntries alone
 
 pub some_of_moved : (first : ℕ) (o : Option ℕ) → is_some (moved_number first o) ≡ is_some o
-some_of_moved first None = refl
-some_of_moved first (Some k) = refl
+some_of_moved first o = search rules
 
 pub parent_of_moved : (first : ℕ) (o : Option ℕ) (node : ℕ) → is_parent (moved_number first o) (first + node) ≡ is_parent o node
-parent_of_moved first None node = refl
-parent_of_moved first (Some k) node = eqb_moved first k node
+parent_of_moved first o node = search (rules, eqb_moved)
 
 pub parent_is : (o : Option ℕ) (node : ℕ) → is_parent o node ≡ true → o ≡ Some node
-parent_is None node is = absurd cc
-parent_is (Some k) node is = ap Some (eqb-true k node is)
+parent_is o node is = search (rules, eqb-true)
 
 module _ (all alone : List Facts) (first at : ℕ) (w : IsWindow all alone first at) where
   role_moved : (o : Option ℕ) → ((k : ℕ) → o ≡ Some k → k < length alone) → role_in all (moved_number first o) ≡ role_in alone o
-  role_moved None below = refl
-  role_moved (Some k) below = ap role_of (w.facts k (below k refl))
+  role_moved o below = search rules
 
   pub role_same : (inner : ℕ) → inner < length alone → parent_role all (first + inner) ≡ parent_role alone inner
   role_same inner inside = search (rules, role_moved)
 
   shape_moved : (role : Role) (f : Facts) (rule : Rule) → breaks_shape role (moved_facts first at f) rule ≡ breaks_shape role f rule
-  shape_moved role f MissingType = search (rules, some_of_moved)
-  shape_moved role f BadCount = refl
-  shape_moved role f rule = refl
+  shape_moved role f rule = search (rules, some_of_moved)
 
   pub shape_same : (inner : ℕ) → inner < length alone → (rule : Rule) → fails_shape all (first + inner) rule ≡ fails_shape alone inner rule
   shape_same inner inside rule = search (rules, role_same, shape_moved)

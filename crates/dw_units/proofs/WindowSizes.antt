@@ -1,6 +1,6 @@
 -- Children and sizes in a window are those of the entries alone.
 use Rattle.std.proofs.Common.{rules, ◌≡◌, ℕ, ◌+◌, ◌-◌, zero, suc, ◌<◌, ◌≤◌, Bool, true, false, List, [], ◌∷◌, ◌++◌, length, map, filter, Option, Some, None, refl, ap, ◌∙◌, arith, append-nil}
-use Rattle.std.specs.Prelude.{if◌then◌else◌, nat_eq, not, ◌&&◌, ◌||◌}
+use Rattle.std.specs.Prelude.{if◌then◌else◌, not, ◌&&◌, ◌||◌}
 use Rattle.std.specs.List.{AllByRecursion, list_any, range_with_len}
 use Rattle.std.proofs.lemmas.List.Elements.{filter-append}
 use Rattle.dw_entries.specs.declared.fault.Rule.{Rule}
@@ -8,12 +8,11 @@ use Rattle.dw_entries.specs.declared.fault.Rule.TheVariants.{MemberOutside, Enum
 use Rattle.dw_types.specs.declared.kind.Kind.{Kind}
 use Rattle.dw_types.specs.declared.kind.Kind.TheVariants.{Declared, OwnSized, Pointer, Alias, Enumeration, Array, Subroutine, NoType}
 use Rattle.dw_types.specs.Constants.{is_present, natural_of}
-use Rattle.dw_types.specs.Entries.{entry_of, is_parent, is_child, children, entry_numbers, Facts, byte_size, constant}
+use Rattle.dw_types.specs.Entries.{entry_of, is_child, children, entry_numbers, Facts, byte_size}
 use Rattle.dw_types.specs.Kinds.{kind_of, parent_role, is_enumeration, Role}
 use Rattle.dw_types.specs.Shapes.{stands_alone}
-use Rattle.dw_forms.specs.Codes.{DW_AT_bit_stride, DW_AT_byte_stride}
 use Rattle.dw_types.specs.SizeTables.{Size}
-use Rattle.dw_types.specs.Sizes.{is_subrange, times, product_of, factor_of, element_count, parts_of, size_to, constant_or, array_size, size_of_kind, size_line}
+use Rattle.dw_types.specs.Sizes.{is_subrange, product_of, factor_of, element_count, parts_of, size_to, constant_or, array_size, size_of_kind, size_line}
 use Rattle.dw_types.specs.SizeFaults.{breaks_size, fails_size, differ}
 use Rattle.dw_units.proofs.MovedEntries.{moved_number, moved_facts}
 use Rattle.dw_units.proofs.WindowLemmas.{IsWindow, role_same, parent_of_moved, parent_is, some_of_moved}
@@ -106,10 +105,7 @@ module _ (all alone : List Facts) (first at : ℕ) (w : IsWindow all alone first
   facts_moved (k ∷ ks) (one, more) = λ i. w.facts k one i ∷ facts_moved ks more i
 
   elements_same : (inner : ℕ) → inner < length alone → element_count (parts_of all (first + inner)) ≡ element_count (parts_of alone inner)
-  elements_same inner inside =
-      ap (λ (ks : List ℕ). element_count (map (entry_of all) ks)) (children_moved inner inside)
-      ∙ ap element_count (facts_moved (children alone inner) (children_below inner))
-      ∙ elements_moved first at (parts_of alone inner)
+  elements_same inner inside = search (rules, elements_moved, children_moved, children_below, facts_moved)
 
   -- ---- sizes, by a table of all and one of the entries alone that agree
 
