@@ -11,7 +11,7 @@ use Rattle.dw_cprint.specs.declared.shape.Enumerator.{Enumerator}
 use Rattle.dw_cprint.specs.Steps.{parameter_types, types_declared, types_reached}
 use Rattle.dw_cprint.specs.Summaries.{IsBase, Knows, base_known, is_own_unspeakable, is_unspeakable, is_wrong_base, kind_known}
 use Rattle.dw_cprint.specs.declared.survey.Survey.{Survey}
-use Rattle.dw_cprint.specs.Wrong.{TypeKind, kind_at, StandsUnder, nothing, itself, below, IsVoidLike, has_bad_name, has_own_bad_name, is_declared_enumeration, is_void, is_wrong, is_wrong_row, is_wrong_enumeration, lacks_value, object_types, IsUnspeakable, wrong, void_object, row, IsOwnUnspeakable, void_variable, unspeakable, declared_enumeration}
+use Rattle.dw_cprint.specs.Wrong.{TypeKind, kind_at, StandsUnder, nothing, itself, below, IsVoidLike, has_bad_name, has_own_bad_name, is_void, is_wrong, is_wrong_row, is_wrong_enumeration, lacks_value, object_types, IsUnspeakable, wrong, void_object, row, IsOwnUnspeakable, void_variable, unspeakable, declared_enumeration}
 use Rattle.dw_cprint.proofs.KindLemmas.{first-of, names-alike, others-of, own-names-alike, wrong-alike}
 use Rattle.dw_cprint.proofs.OptionLemmas.{or_left, or_right}
 
@@ -28,11 +28,7 @@ either a b all one other is joins = search (rules, or_cases, or_left, or_right)
 
 -- a test of each element, that says whether a fact holds of it
 any-iff : {X : Type 0} (P : X → Type 0) (p : X → Bool) (xs : List X) → All (λ x. IsTrue (p x) ↔ P x) xs → IsTrue (list_any p xs) ↔ Any P xs
-any-iff {X = X} P p xs same =
-    let Q : X → Type 0 = λ y. IsTrue (p y) ↔ P y in (
-      λ t. (let (k, x, w, e, h) = Any-from_list_any p xs t in (k, x, w, e, (subst Q e (same k x w)).0 h)),
-      λ some. (let (k, x, w, e, h) = some in list_any-from_Any p xs (k, x, w, e, (subst Q e (same k x w)).1 h)),
-    )
+any-iff P p xs same = search (rules, Any-from_list_any, list_any-from_Any)
 
 -- a test of what is seen of each element
 pub any_seen : {X Y : Type 0} (p : Y → Bool) (f : X → Y) (xs : List X) → list_any p (map f xs) ≡ list_any (λ x. p (f x)) xs

@@ -1,7 +1,7 @@
 -- The text of a type has at least as many bytes as are counted for it.
 use Rattle.std.proofs.Common.{rules, ◌≡◌, ℕ, ◌+◌, ◌≤◌, Bool, true, List, [], ◌∷◌, ◌++◌, Option, Some, None, refl, ap, subst, ◌∙◌, length, length-append, arith}
 use Rattle.std.proofs.lemmas.Grind.{common_steps, flat_map-append}
-use Rattle.std.specs.Prelude.{All, option_map, sum_by}
+use Rattle.std.specs.Prelude.{All, sum_by}
 use Rattle.std.proofs.lemmas.List.Sums.{sum_by-cons}
 use Rattle.dw_types.specs.Sizes.{has_elements}
 use Rattle.dw_cprint.specs.Declarations.{arrays, constants_of, declaration_by, has_more, is_miscounted, members_by, parameters_by, term_by}
@@ -15,7 +15,7 @@ use Rattle.dw_cprint.specs.Writing.{spell, qualifying, bits_tokens, constant, co
 use Rattle.dw_cprint.proofs.DeclaratorLemmas.{in_parts}
 use Rattle.dw_cprint.proofs.ItemWriterLemmas.{more-constants}
 use Rattle.dw_cprint.proofs.KindLemmas.{first-of, others-of}
-use Rattle.dw_cprint.proofs.OptionLemmas.{map_holds, map_inverted, then_inverted, unless_holds}
+use Rattle.dw_cprint.proofs.OptionLemmas.{both_hold, map_holds, map_inverted, unless_holds}
 use Rattle.dw_cprint.proofs.WriterLemmas.{IsSpecifier, specifier-of, base-core, function-parts}
 
 -- ---- counts
@@ -46,30 +46,23 @@ module _ (term : TypeAt → Option Term) (n : TypeAt → ℕ) where
       → sum_by (λ (m : MemberOf). name_size m.name + 2) ms + sum_by n (member_types ms) ≤ byte_count (members_tokens us)
   members-least [] us all e = omega arith
   members-least (m ∷ ms) us all e =
-      let first = then_inverted (λ (t : Term). option_map (MemberTerm m.name t m.bits) (members_by term ms)) (term m.type_at) us e in
-      let rest = map_inverted (MemberTerm m.name first.0 m.bits) (members_by term ms) us first.2 in
-      let t = first.0 in
-      let inner = members-least ms rest.0 (others-of (Counts term n) m.type_at (member_types ms) all) rest.1 in
-      let own = spell-least t (name_tokens m.name) (n m.type_at) (first-of (Counts term n) m.type_at (member_types ms) all t first.1) in
-      let named = name-count m.name in
-      let a = count-append (spell [] t (name_tokens m.name)) (bits_tokens m.bits ++ Semicolon ∷ Blank ∷ members_tokens rest.0) in
-      let b = count-append (bits_tokens m.bits) (Semicolon ∷ Blank ∷ members_tokens rest.0) in
-      let names = sum_by-cons (λ (m : MemberOf). name_size m.name + 2) m ms in
-      let types = sum_by-cons n m.type_at (member_types ms) in
-      omega (arith, ap (λ (u : Members). byte_count (members_tokens u)) rest.2, count-cons Semicolon (Blank ∷ members_tokens rest.0), count-cons Blank (members_tokens rest.0))
+      let own : MemberOf → ℕ = λ m. name_size m.name + 2 in
+      both_hold (λ (us : Members). sum_by own (m ∷ ms) + sum_by n (member_types (m ∷ ms)) ≤ byte_count (members_tokens us))
+      (λ (t : Term). MemberTerm m.name t m.bits) (term m.type_at) (members_by term ms) (λ t is vs are.
+      let inner = members-least ms vs (others-of (Counts term n) m.type_at (member_types ms) all) are in
+      let here = spell-least t (name_tokens m.name) (n m.type_at) (first-of (Counts term n) m.type_at (member_types ms) all t is) in
+      let a = count-append (spell [] t (name_tokens m.name)) (bits_tokens m.bits ++ Semicolon ∷ Blank ∷ members_tokens vs) in
+      let b = count-append (bits_tokens m.bits) (Semicolon ∷ Blank ∷ members_tokens vs) in
+      omega (arith, name-count m.name, sum_by-cons own m ms, sum_by-cons n m.type_at (member_types ms), count-cons Semicolon (Blank ∷ members_tokens vs), count-cons Blank (members_tokens vs))) us e
 
   parameters-least : (ps : List Parameter) (us : Parameters) → All (Counts term n) (parameter_types ps) → parameters_by term ps ≡ Some us → sum_by n (parameter_types ps) ≤ byte_count (more_parameters us)
   parameters-least [] us all e = omega arith
   parameters-least (Typed at ∷ ps) us all e =
-      let first = then_inverted (λ (t : Term). option_map (ParameterTerm t) (parameters_by term ps)) (term at) us e in
-      let rest = map_inverted (ParameterTerm first.0) (parameters_by term ps) us first.2 in
-      let t = first.0 in
-      let inner = parameters-least ps rest.0 (others-of (Counts term n) at (parameter_types ps) all) rest.1 in
-      let own = spell-least t [] (n at) (first-of (Counts term n) at (parameter_types ps) all t first.1) in
-      let whole = ap (λ (u : Parameters). byte_count (more_parameters u)) rest.2 in
-      let a = count-cons Comma (Blank ∷ (spell [] t [] ++ more_parameters rest.0)) in
-      let types = sum_by-cons n at (parameter_types ps) in
-      omega (arith, count-cons Blank (spell [] t [] ++ more_parameters rest.0), count-append (spell [] t []) (more_parameters rest.0))
+      both_hold (λ (us : Parameters). sum_by n (at ∷ parameter_types ps) ≤ byte_count (more_parameters us)) ParameterTerm (term at) (parameters_by term ps) (λ t is vs are.
+      let inner = parameters-least ps vs (others-of (Counts term n) at (parameter_types ps) all) are in
+      let own = spell-least t [] (n at) (first-of (Counts term n) at (parameter_types ps) all t is) in
+      let a = count-cons Comma (Blank ∷ (spell [] t [] ++ more_parameters vs)) in
+      omega (arith, sum_by-cons n at (parameter_types ps), count-cons Blank (spell [] t [] ++ more_parameters vs), count-append (spell [] t []) (more_parameters vs))) us e
   parameters-least (More ∷ ps) us all e = parameters-least ps us all e
 
 -- the parentheses make up for the comma and the space that are not before the first parameter
@@ -182,29 +175,23 @@ module _ (term : TypeAt → Option Term) (n : TypeAt → ℕ) where
   -- and for a declaration
   pub declared-least : (subject : SubjectOf) (d : Declaration) → All (Counts term n) (types_declared subject) → declaration_by term subject ≡ Some d → least_declared n subject ≤ length (written d)
   declared-least (typedef_subject (Some name) at) d all e =
-      let f = map_inverted (Typedef name) (term at) d e in
-      let own = spell-least f.0 (Identifier name ∷ []) (n at) (first-of (Counts term n) at [] all f.0 f.1) in
-      let whole = ap (λ (x : Declaration). length (written x)) f.2 in
-      let a = count-append (TypedefWord ∷ Blank ∷ []) (spell [] f.0 (Identifier name ∷ []) ++ Semicolon ∷ []) in
-      omega (arith, sum_by-cons n at [], count-append (spell [] f.0 (Identifier name ∷ [])) (Semicolon ∷ []))
+      map_holds (λ (d : Declaration). least_declared n (typedef_subject (Some name) at) ≤ length (written d)) (Typedef name) (term at) (λ t is.
+      let own = spell-least t (Identifier name ∷ []) (n at) (first-of (Counts term n) at [] all t is) in
+      let a = count-append (TypedefWord ∷ Blank ∷ []) (spell [] t (Identifier name ∷ []) ++ Semicolon ∷ []) in
+      omega (arith, sum_by-cons n at [], count-append (spell [] t (Identifier name ∷ [])) (Semicolon ∷ []))) d e
   declared-least (variable_subject (Some name) at) d all e =
-      let f = map_inverted (Variable name) (term at) d e in
-      let own = spell-least f.0 (Identifier name ∷ []) (n at) (first-of (Counts term n) at [] all f.0 f.1) in
-      omega (arith, sum_by-cons n at [], ap (λ (x : Declaration). length (written x)) f.2, count-append (spell [] f.0 (Identifier name ∷ [])) (Semicolon ∷ []))
+      map_holds (λ (d : Declaration). least_declared n (variable_subject (Some name) at) ≤ length (written d)) (Variable name) (term at) (λ t is.
+      let own = spell-least t (Identifier name ∷ []) (n at) (first-of (Counts term n) at [] all t is) in
+      omega (arith, sum_by-cons n at [], count-append (spell [] t (Identifier name ∷ [])) (Semicolon ∷ []))) d e
   declared-least (tag_subject (Some name) (body word odd ms)) d all e =
-      let f = map_inverted (Aggregate word name) (members_by term ms) d e in
-      let inner = members-least term n ms f.0 all f.1 in
-      let whole = ap (λ (x : Declaration). length (written x)) f.2 in
-      let a = count-cons (TagWord word) (Blank ∷ Identifier name ∷ Blank ∷ LeftBrace ∷ Blank ∷ (members_tokens f.0 ++ RightBrace ∷ Semicolon ∷ [])) in
-      let b = count-cons (Identifier name) (Blank ∷ LeftBrace ∷ Blank ∷ (members_tokens f.0 ++ RightBrace ∷ Semicolon ∷ [])) in
-      omega (arith, count-append (members_tokens f.0) (RightBrace ∷ Semicolon ∷ []))
+      map_holds (λ (d : Declaration). least_declared n (tag_subject (Some name) (body word odd ms)) ≤ length (written d)) (Aggregate word name) (members_by term ms) (λ us are.
+      let rest = Blank ∷ LeftBrace ∷ Blank ∷ (members_tokens us ++ RightBrace ∷ Semicolon ∷ []) in
+      let a = count-cons (TagWord word) (Blank ∷ Identifier name ∷ rest) in
+      omega (arith, members-least term n ms us all are, count-cons (Identifier name) rest, count-append (members_tokens us) (RightBrace ∷ Semicolon ∷ []))) d e
   declared-least (tag_subject (Some name) (enumeration odd es)) d all e =
-      let f = map_inverted (Constants name) (constants_of es) d e in
-      let inner = constants-least es f.0 f.1 in
-      let most = more-least f.0 in
-      let whole = ap (λ (x : Declaration). length (written x)) f.2 in
-      let a = count-cons (TagWord Enum) (Blank ∷ Identifier name ∷ Blank ∷ LeftBrace ∷ Blank ∷ (constants f.0 ++ Blank ∷ RightBrace ∷ Semicolon ∷ [])) in
-      let b = count-cons (Identifier name) (Blank ∷ LeftBrace ∷ Blank ∷ (constants f.0 ++ Blank ∷ RightBrace ∷ Semicolon ∷ [])) in
-      omega (arith, count-append (constants f.0) (Blank ∷ RightBrace ∷ Semicolon ∷ []))
+      map_holds (λ (d : Declaration). least_declared n (tag_subject (Some name) (enumeration odd es)) ≤ length (written d)) (Constants name) (constants_of es) (λ cs are.
+      let rest = Blank ∷ LeftBrace ∷ Blank ∷ (constants cs ++ Blank ∷ RightBrace ∷ Semicolon ∷ []) in
+      let a = count-cons (TagWord Enum) (Blank ∷ Identifier name ∷ rest) in
+      omega (arith, constants-least es cs are, more-least cs, count-cons (Identifier name) rest, count-append (constants cs) (Blank ∷ RightBrace ∷ Semicolon ∷ []))) d e
   declared-least (tag_subject (Some name) (tagged word tag)) d all e = grind (arith, common_steps, count-cons)
   declared-least _ d all e = absurd (cc)

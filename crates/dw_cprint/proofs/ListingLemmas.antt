@@ -1,13 +1,14 @@
 -- The listing: the named types in order, judged one after another, and those that are refused, sorted by offset.
-use Rattle.std.proofs.Common.{rules, ◌≡◌, ◌≢◌, ℕ, zero, suc, ◌+◌, ◌<◌, ◌≤◌, Bool, true, false, not, cond, List, [], ◌∷◌, ◌++◌, refl, sym, ◌∙◌, ap, subst, inl, inr, length, get_or, arith, append_assoc, drop, Some, None}
+use Rattle.std.proofs.Common.{rules, ◌≡◌, ◌≢◌, ℕ, zero, suc, ◌+◌, ◌<◌, ◌≤◌, Bool, true, not, List, [], ◌∷◌, ◌++◌, refl, sym, ◌∙◌, ap, subst, inl, inr, length, get_or, arith, append_assoc, drop, take, Some, None}
 use Rattle.std.specs.Prelude.{◌⊎◌, ◌&&◌, All, Contains, AllPairs, IsPermutation, filter, flat_map, nat_lt, if◌then◌else◌}
 use Rattle.std.specs.List.Sorted.{IsNonDecreasingBy, IsStableByKey, ties}
 use Rattle.std.specs.Ordering.{nat_cmp, is_lt}
 use Rattle.std.specs.List.{range_with_len, filter_map}
 use Rattle.std.proofs.lemmas.Bool.{and_parts, cases_lt}
 use Rattle.std.proofs.lemmas.Bool.Decides.{nat_tests}
-use Rattle.std.proofs.lemmas.List.{get_or_default, drop_more, flat_map_more}
-use Rattle.std.proofs.lemmas.List.Elements.{All-contains, Contains-append_left, Contains-append_right, Contains-get_or, Contains-push, Contains-push_cases, filter_passes}
+use Rattle.std.proofs.lemmas.List.{get_or_append_left, get_or_default, get_or-take, drop_more, flat_map_more, length-append, length-take-le, take-append-drop}
+use Rattle.std.proofs.Math.Seq.{get_or-append_seam}
+use Rattle.std.proofs.lemmas.List.Elements.{All-contains, Contains-append_left, Contains-append_right, Contains-get_or, Contains-push, Contains-push_cases, filter-append, filter_passes}
 use Rattle.std.proofs.lemmas.List.Kept.{AllPairs-filter}
 use Rattle.std.proofs.lemmas.List.Quantifiers.{all_pairs_push}
 use Rattle.std.proofs.lemmas.List.Sorted.{IsPermutation-sym, Contains-permutation}
@@ -24,32 +25,32 @@ use Rattle.dw_cprint.proofs.RefusalLemmas.{one-rule, printed-or-refused}
 
 -- ---- sorting
 
+-- those that pass a test, by one of them
+kept-split : {X : Type 0} (p : X → Bool) (ys : List X) (k : ℕ) (d : X) → k < length ys → p (get_or ys k d) ≡ true
+    → filter p ys ≡ filter p (take k ys) ++ get_or ys k d ∷ filter p (drop (k + 1) ys)
+kept-split {X = X} p ys k d w is =
+    let rest : filter p (drop k ys) ≡ get_or ys k d ∷ filter p (drop (k + 1) ys) = rw (drop_more ys k d w, is) refl in
+    ap (filter p) (sym (take-append-drop k ys)) ∙ filter-append p (take k ys) (drop k ys) ∙ ap (λ (zs : List X). filter p (take k ys) ++ zs) rest
+
 -- an element that passes a test is one of those that do
 pub kept-there : {X : Type 0} (p : X → Bool) (ys : List X) (k : ℕ) (d : X) → k < length ys → p (get_or ys k d) ≡ true → Contains (filter p ys) (get_or ys k d)
-kept-there p [] k d w is = absurd (omega arith)
-kept-there {X = X} p (y ∷ ys) zero d w is =
-    let P : Bool → Type 0 = λ t. Contains (cond t (y ∷ filter p ys) (filter p ys)) y in
-    subst P (sym is) (0, (omega arith), refl)
-kept-there p (y ∷ ys) (suc k) d w is = more (p y) (kept-there p ys k d (omega arith) is)
-  where
-    more : (t : Bool) → Contains (filter p ys) (get_or ys k d) → Contains (cond t (y ∷ filter p ys) (filter p ys)) (get_or ys k d)
-    more true there = Contains-append_right (y ∷ []) (filter p ys) (get_or ys k d) there
-    more false there = there
+kept-there p ys k d w is =
+    rw (kept-split p ys k d w is) (Contains-append_right (filter p (take k ys)) (get_or ys k d ∷ filter p (drop (k + 1) ys)) (get_or ys k d) (0, omega arith, refl))
 
 -- what holds of each two of those that pass a test
 pairs-kept : {X : Type 0} (R : X → X → Type 0) (p : X → Bool) (ys : List X) → AllPairs R (filter p ys) → (i j : ℕ) (d : X) → i < j → j < length ys
     → p (get_or ys i d) ≡ true → p (get_or ys j d) ≡ true → R (get_or ys i d) (get_or ys j d)
-pairs-kept R p [] all i j d less w a b = absurd (omega arith)
-pairs-kept R p (y ∷ ys) all i zero d less w a b = absurd (omega arith)
-pairs-kept R p (y ∷ ys) all zero (suc j) d less w a b =
-    let P : Bool → Type 0 = λ t. AllPairs R (cond t (y ∷ filter p ys) (filter p ys)) in
-    let here = subst P a all in
-    All-contains (R y) (filter p ys) (get_or ys j d) (λ k e v. here zero (suc k) e (omega arith) (omega arith)) (kept-there p ys j d (omega arith) b)
-pairs-kept R p (y ∷ ys) all (suc i) (suc j) d less w a b = pairs-kept R p ys (rest (p y) all) i j d (omega arith) (omega arith) a b
-  where
-    rest : (t : Bool) → AllPairs R (cond t (y ∷ filter p ys) (filter p ys)) → AllPairs R (filter p ys)
-    rest true h = λ k l e less' v. h (suc k) (suc l) e (omega arith) (omega arith)
-    rest false h = h
+pairs-kept {X = X} R p ys all i j d less w a b =
+    let front = filter p (take j ys) in
+    let rest = get_or ys j d ∷ filter p (drop (j + 1) ys) in
+    let P : List X → Type 0 = λ zs. AllPairs R zs in
+    let same = get_or-take j ys i d less in
+    let (k, v, e) = kept-there p (take j ys) i d (omega (arith, length-take-le j ys (omega arith))) (ap p same ∙ a) in
+    let here = get_or_append_left front rest d k v ∙ get_or_default front k d (get_or (take j ys) i d) v ∙ e ∙ same in
+    let there = get_or-append_seam front (get_or ys j d) (filter p (drop (j + 1) ys)) d in
+    let whole : AllPairs R (front ++ rest) = subst P (kept-split p ys j d w b) all in
+    let pair = whole k (length front) d v (omega (arith, length-append front rest)) in
+    rw (here, there) at pair
 
 tie-same : (a b : ℕ) → a ≡ b → (not (is_lt (nat_cmp a b)) && not (is_lt (nat_cmp b a))) ≡ true
 tie-same a b same = grind (arith, nat_tests)

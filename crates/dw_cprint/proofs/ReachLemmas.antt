@@ -140,19 +140,11 @@ module _ (shapes : ℕ → ShapeOf) (roots places places' found found' : List �
       steps : List ℕ
       steps = steps_reached shapes (get_or found (length rows) 0)
 
-      seen : List ShapeOf
-      seen = read ++ shapes (get_or found (length rows) 0) ∷ []
-
-      shapes_are : seen ≡ map shapes (take (length (rows ++ r ∷ [])) found')
+      shapes_are : read ++ shapes (get_or found (length rows) 0) ∷ [] ≡ map shapes (take (length (rows ++ r ∷ [])) found')
       shapes_are =
-          let n = length rows in
-          let long : n + 1 ≡ length (rows ++ r ∷ []) = omega (arith, length-append rows (r ∷ [])) in
-          let P : ℕ → Type 0 = λ m. seen ≡ map shapes (take m found') in
-          let front : take (n + 1) found' ≡ take n found ++ get_or found (length rows) 0 ∷ [] =
-          ap (take (n + 1)) f.grows.is ∙ take-append-le (n + 1) found f.grows.more (omega arith) ∙ take_more found n 0 more in
-          let all : map shapes (take (n + 1) found') ≡ seen =
-          ap (map shapes) front ∙ map-append shapes (take n found) (get_or found (length rows) 0 ∷ []) ∙ ap (λ (xs : List ShapeOf). xs ++ shapes (get_or found (length rows) 0) ∷ []) (sym s.shapes_are) in
-          subst P long (sym all)
+          let front : take (length rows + 1) found' ≡ take (length rows) found ++ get_or found (length rows) 0 ∷ [] =
+          ap (take (length rows + 1)) f.grows.is ∙ take-append-le (length rows + 1) found f.grows.more (omega arith) ∙ take_more found (length rows) 0 more in
+          rw (s.shapes_are, length-append rows (r ∷ []), front) (sym (map-append shapes (take (length rows) found) (get_or found (length rows) 0 ∷ [])))
 
       moved : (node : ℕ) → node < length found → (row : List ℕ) → IsRow found' (steps_reached shapes (get_or found node 0)) row → IsRow found' (steps_reached shapes (get_or found' node 0)) row
       moved node w row i = let P : ℕ → Type 0 = λ x. IsRow found' (steps_reached shapes x) row in subst P (sym (keeps-places steps found found' f.grows node w)) i

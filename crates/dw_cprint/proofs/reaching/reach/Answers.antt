@@ -1,13 +1,11 @@
 use Rattle.std.proofs.Common.{rules, ◌≡◌, ◌<◌, ◌++◌, [], ◌∷◌, length, map, ℕ, List, get_or, sym, ap, ◌∙◌, subst, arith, length-append}
-use Rattle.std.specs.Prelude.{All}
 use Rattle.std.proofs.lemmas.List.{map-append}
-use Rattle.dw_image.specs.Images.{entries_in}
 use Rattle.dw_types.specs.Packing.{cut}
 use Rattle.dw_types.specs.PackingLaws.{length-cut}
 use Rattle.dw_cprint.specs.EntryShapes.{shape_in}
 use Rattle.dw_cprint.specs.Reach.{FindsAll}
-use Rattle.dw_cprint.specs.Shapes.{ShapeOf, TypeAt, view_shape}
-use Rattle.dw_cprint.specs.Steps.{entries_of, steps_reached, types_reached}
+use Rattle.dw_cprint.specs.Shapes.{ShapeOf, view_shape}
+use Rattle.dw_cprint.specs.Steps.{entries_of, steps_reached}
 use Rattle.dw_cprint.proofs.LevelLemmas.{few-entries}
 use Rattle.dw_cprint.proofs.ReachLemmas.{so_far-start, so_far-more, so_far-done, packed-start, packed-more, rows-more, room}
 use Rattle.dw_cprint.proofs.WithinLemmas.{shape_within}
@@ -21,14 +19,8 @@ push_row-requires-in-loop-found-clause-few c = omega (arith, few-entries c.args.
 
 pub push_row-requires-in-loop-found-clause-within : goal.push_row-requires-in-loop-found-clause-within
 push_row-requires-in-loop-found-clause-within c =
-    let shapes = shape_in c.args.source.now.image.now in
-    let next : c.put_reached_types.new.types.items ≡ types_reached (view_shape c.in_ok-shape.shape) =
-    c.in_ok-put_reached_types.ensures ∙ ap (λ (types : List TypeAt). types ++ types_reached (view_shape c.in_ok-shape.shape)) c.clear.ensures.items in
-    let steps : steps_reached shapes c.get.result ≡ entries_of c.deref.result.now =
-    ap (λ (s : ShapeOf). entries_of (types_reached s)) (sym c.in_ok-shape.ensures) ∙ ap entries_of (sym (c.deref.ensures.value ∙ next)) in
-    let P : List ℕ → ℕ → Type 0 = λ xs n. All (λ to. to < n) xs in
-    subst (λ (n : ℕ). P (entries_of c.deref.result.now) n) (sym c.loop-found.invariant.2)
-    (subst (λ (xs : List ℕ). P xs (length (entries_in c.args.source.now.image.now))) steps (shape_within c.args.source.now.image.now c.get.result).all.all)
+    let steps : entries_of c.deref.result.now ≡ steps_reached (shape_in c.args.source.now.image.now) c.get.result = search rules in
+    rw (steps, c.loop-found.invariant.2) (shape_within c.args.source.now.image.now c.get.result).all.all
 
 pub loop-found-init : goal.loop-found-init
 loop-found-init c =
@@ -61,15 +53,12 @@ loop-found-preserved c =
     let shape : view_shape c.in_ok-shape.shape ≡ shapes (get_or found (length rows) 0) = c.in_ok-shape.ensures ∙ ap shapes entry in
     let seen : map view_shape c.push.new.self.items ≡ read ++ shapes (get_or found (length rows) 0) ∷ [] =
     ap (map view_shape) c.in_ok-push.ensures.items ∙ map-append view_shape c.loop-found.shapes.items (c.in_ok-shape.shape ∷ []) ∙ ap (λ (s : ShapeOf). read ++ s ∷ []) shape in
-    let next : c.put_reached_types.new.types.items ≡ types_reached (view_shape c.in_ok-shape.shape) =
-    c.in_ok-put_reached_types.ensures ∙ ap (λ (types : List TypeAt). types ++ types_reached (view_shape c.in_ok-shape.shape)) c.clear.ensures.items in
-    let reached : entries_of c.deref.result.now ≡ steps_reached shapes (get_or found (length rows) 0) =
-    ap entries_of (c.deref.ensures.value ∙ next) ∙ ap (λ (s : ShapeOf). entries_of (types_reached s)) shape in
+    let reached : entries_of c.deref.result.now ≡ steps_reached shapes c.get.result = search rules in
     let p2 = c.push_row-in-loop-found.new.places.items in
     let f2 = c.push_row-in-loop-found.new.found in
     let (row, finds, all) = c.in_ok-push_row-2.ensures.row in
     let P : List ℕ → Type 0 = λ xs. FindsAll xs places p2 found f2 row in
-    let placed = subst P reached finds in
+    let placed = subst P (reached ∙ ap (steps_reached shapes) entry) finds in
     let end : c.push-in-loop-found.new.self ≡ ends ++ length (steps ++ row) ∷ [] = c.in_ok-push-2.ensures ∙ ap (λ (n : ℕ). ends ++ n ∷ []) (c.len-in-loop-found-3.ensures ∙ ap length all) in
     rw (end, all, seen, rows-more found steps ends row c.loop-found.invariant.1) (
       so_far-more shapes (entries_of c.args.types.now) places p2 found f2 rows read row c.loop-found.invariant.0 more placed,
