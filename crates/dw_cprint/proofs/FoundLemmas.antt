@@ -146,23 +146,16 @@ module _ (shapes : ℕ → ShapeOf) where
   }
 
   -- of an entry, by its own shape and by what is known of the types that it names
-  pub found-shape : (known : Survey) (first : ℕ) (s : ShapeOf) (own under all : Findings) (bytes : ℕ) → shapes first ≡ s
-      → All (Knows shapes known) (types_reached s) → IsOwn (has_bad_name (kind_known known) s) (is_foreign s) (is_unspeakable known s) bytes own
-      → AreFound shapes (types_reached s) under → IsEither own under all → all.depth ≡ min (under.depth + 1) 4294967295
+  pub found-shape : (known : Survey) (first : ℕ) (own under all : Findings) (bytes : ℕ) → All (Knows shapes known) (types_reached (shapes first))
+      → IsOwn (has_bad_name (kind_known known) (shapes first)) (is_foreign (shapes first)) (is_unspeakable known (shapes first)) bytes own
+      → AreFound shapes (types_reached (shapes first)) under → IsEither own under all → all.depth ≡ min (under.depth + 1) 4294967295
       → AreFound shapes (Some first ∷ []) all
-  found-shape known first s own under all bytes is knows mine rest both depth = subst Goal is found knows mine rest
-    where
-      Goal : ShapeOf → Type 0
-      Goal x = All (Knows shapes known) (types_reached x) → IsOwn (has_bad_name (kind_known known) x) (is_foreign x) (is_unspeakable known x) bytes own
-          → AreFound shapes (types_reached x) under → AreFound shapes (Some first ∷ []) all
-
-      found : Goal (shapes first)
-      found knows mine rest = record {
-        bad_name = either own.bad_name under.bad_name all.bad_name (test-itself own.bad_name _ (mine.bad_name ∙ names-known shapes known (shapes first) knows)) rest.bad_name both.bad_name (one-entry (HasBadName shapes) shapes first);
-        foreign_type = either own.foreign under.foreign all.foreign (test-itself own.foreign _ mine.foreign_type) rest.foreign_type both.foreign_type (one-entry IsForeign shapes first);
-        unspeakable = either own.unspeakable under.unspeakable all.unspeakable (test-same own.unspeakable _ mine.unspeakable (unspeakable-known shapes known (shapes first) knows)) rest.unspeakable both.unspeakable (one-entry (IsUnspeakable shapes) shapes first);
-        deep = depth-entry shapes first under.depth all.depth depth rest.deep;
-      }
+  found-shape known first own under all bytes knows mine rest both depth = record {
+    bad_name = either own.bad_name under.bad_name all.bad_name (test-itself own.bad_name _ (mine.bad_name ∙ names-known shapes known (shapes first) knows)) rest.bad_name both.bad_name (one-entry (HasBadName shapes) shapes first);
+    foreign_type = either own.foreign under.foreign all.foreign (test-itself own.foreign _ mine.foreign_type) rest.foreign_type both.foreign_type (one-entry IsForeign shapes first);
+    unspeakable = either own.unspeakable under.unspeakable all.unspeakable (test-same own.unspeakable _ mine.unspeakable (unspeakable-known shapes known (shapes first) knows)) rest.unspeakable both.unspeakable (one-entry (IsUnspeakable shapes) shapes first);
+    deep = depth-entry shapes first under.depth all.depth depth rest.deep;
+  }
 
   pub found-subject : (known : Survey) (subject : SubjectOf) (own under all : Findings) (bytes : ℕ)
       → All (Knows shapes known) (types_declared subject)

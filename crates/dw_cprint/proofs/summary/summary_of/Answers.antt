@@ -17,10 +17,11 @@ returns c = λ shapes entry is known.
     let n = least_known s in
     let same : c.deref-2.result.now ≡ types_reached shape = search rules in
     let P : List TypeAt → Type 0 = λ ts. All (Knows shapes s) ts → AreFound shapes ts c.findings_under.result in
+    let rest : AreFound shapes (types_reached shape) c.findings_under.result = subst P same (c.findings_under.ensures.found shapes) known in
     let both = c.with-all.ensures.either in
     let sum = ap (λ (ts : List TypeAt). sum_by n ts) same in
     entry_summary shapes entry shape _ is c.kind_of.ensures (c.base_of.ensures shapes entry is known)
-    (found-shape shapes s entry shape c.own_findings.result c.findings_under.result _ _ is known c.own_findings.ensures (subst P same (c.findings_under.ensures.found shapes) known)
+    (found-shape shapes s entry c.own_findings.result c.findings_under.result _ _ (rw (← is) at known) (rw (← is) at c.own_findings.ensures) (rw (← is) at rest)
     (record { bad_name = both.bad_name; foreign_type = both.foreign_type; unspeakable = both.unspeakable })
     (omega (arith, c.own_findings.ensures.shallow, c.with-all.ensures.depth, c.saturating_add.ensures)))
     (λ k t e. fewer-least t (least_in n shape) c.with-all.result.least (omega (arith, sum, c.own_findings.ensures.short, c.with-all.ensures.least, c.findings_under.ensures.least))
