@@ -40,8 +40,7 @@ module _ (shapes others : ℕ → ShapeOf) (subject : SubjectOf) (same : AreSame
   leads-same : (k from to : ℕ) → Good from → Leads shapes k from to → Leads others k from to
   leads-same zero from to good e = e
   leads-same (suc k) from to good (next, c, path) =
-      let P : ShapeOf → Type 0 = λ shape. Contains (entries_of (types_reached shape)) next in
-      (next, subst P (same from good) c, leads-same k next to (further good c) path)
+      (next, rw (same from good) at c, leads-same k next to (further good c) path)
 
   shape-same : (at : TypeAt) → GoodAt at → shape_of shapes at ≡ shape_of others at
   shape-same None good = refl
@@ -141,16 +140,11 @@ module _ (shapes others : ℕ → ShapeOf) (subject : SubjectOf) (same : AreSame
 
   reached-there : {entry : ℕ} → Good entry → IsReached others subject entry
   reached-there (root c) = root c
-  reached-there {entry} (further {from} r c) =
-      let P : ShapeOf → Type 0 = λ shape. Contains (entries_of (types_reached shape)) entry in
-      further (reached-there r) (subst P (same from r) c)
+  reached-there (further {from} r c) = further (reached-there r) (rw (same from r) at c)
 
   reached-back : {entry : ℕ} → IsReached others subject entry → Good entry
   reached-back (root c) = root c
-  reached-back {entry} (further {from} r c) =
-      let P : ShapeOf → Type 0 = λ shape. Contains (entries_of (types_reached shape)) entry in
-      let first = reached-back r in
-      further first (subst P (sym (same from first)) c)
+  reached-back (further {from} r c) = further (reached-back r) (rw (← same from (reached-back r)) at c)
 
   same-back : AreSameFor others shapes subject
   same-back entry reached = sym (same entry (reached-back reached))
@@ -174,8 +168,7 @@ module _ (shapes others : ℕ → ShapeOf) (subject : SubjectOf) (same : AreSame
       name_reached entry (reached-there r) (subst (HasBadName others) (same entry r) (bad-same (shapes entry) (λ n c. further r c) h))
   holds-same rule (own_child h) = own_child h
   holds-same rule (foreign_reached entry r h) =
-      let P : ShapeOf → Type 0 = λ shape. is_foreign shape ≡ true in
-      foreign_reached entry (reached-there r) (subst P (same entry r) h)
+      foreign_reached entry (reached-there r) (rw (same entry r) at h)
   holds-same rule (own_shape h) = own_shape (own-unspeakable-same subject (λ n c. root c) h)
   holds-same rule (shape_reached entry r h) =
       shape_reached entry (reached-there r) (subst (IsUnspeakable others) (same entry r) (unspeakable-same (shapes entry) (λ n c. further r c) h))

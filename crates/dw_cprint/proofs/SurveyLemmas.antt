@@ -57,8 +57,7 @@ module _ (shapes : ℕ → ShapeOf) (roots places found : List ℕ) (graph : Gra
   found-all (root {to} c) = let (k, w, e) = h.roots_found to c in (k, w, (get_or_default found k 0 to w ∙ e))
   found-all (further {from} {to} r c) =
       let (n, w, e) = found-all r in
-      let P : ℕ → Type 0 = λ x. Contains (steps_reached shapes x) to in
-      let (m, v, f, s) = step-node n to w (subst P (sym e) c) in
+      let (m, v, f, s) = step-node n to w (rw (← e) at c) in
       (m, v, f)
 
   -- steps between nodes are steps between their entries
@@ -74,8 +73,7 @@ module _ (shapes : ℕ → ShapeOf) (roots places found : List ℕ) (graph : Gra
   entries-lead zero node to w same = (node, w, same, refl)
   entries-lead (suc n) node to w (next, c, l) =
       let (m, v, f, s) = step-node node next w c in
-      let P : ℕ → Type 0 = λ x. Leads shapes n x to in
-      let (last, u, e, led) = entries-lead n m to v (subst P (sym f) l) in
+      let (last, u, e, led) = entries-lead n m to v (rw (← f) at l) in
       (last, u, e, (m, s, led))
 
   -- cycles
@@ -88,10 +86,8 @@ module _ (shapes : ℕ → ShapeOf) (roots places found : List ℕ) (graph : Gra
   pub entry-cycle : (node : ℕ) → node < length found → ReachesCycle shapes (get_or found node 0) → NodeReachesCycle graph node
   entry-cycle node w (k, to, l, (n, around)) =
       let (m, v, e, led) = entries-lead k node to w l in
-      let P : ℕ → Type 0 = λ x. Leads shapes (suc n) x x in
-      let (last, u, f, back) = entries-lead (suc n) m (get_or found m 0) v (subst P (sym e) around) in
-      let Q : ℕ → Type 0 = λ x. NodeLeads graph (suc n) m x in
-      (k, m, led, (n, subst Q (one-place last m u v f) back))
+      let (last, u, f, back) = entries-lead (suc n) m (get_or found m 0) v (rw (← e) at around) in
+      (k, m, led, (n, rw (one-place last m u v f) at back))
 
   -- ---- what a survey keeps
 
@@ -162,9 +158,8 @@ module _ (shapes : ℕ → ShapeOf) (roots places found : List ℕ) (graph : Gra
           known-of entry r summarized_here =
               let (node, w, e) = found-all r in
               let (i, v, at) = clear-node node entry w e summarized_here in
-              let P : ℕ → Type 0 = λ n. Knows shapes s (Some (get_or found n 0)) in
-              let Q : ℕ → Type 0 = λ x. Knows shapes s (Some x) in
-              subst Q e (subst P (get_or_default clear i 0 node v ∙ at) (right i v))
+              let knows = right i v in
+              rw (get_or_default clear i 0 node v ∙ at, e) at knows
 
 -- ---- what is reached from some entries
 
