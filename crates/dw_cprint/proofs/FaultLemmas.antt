@@ -47,8 +47,7 @@ one-base (itself plain) (below q at is under) = absurd (plain q at is)
 one-base (below q at is under) (itself plain) = absurd (plain q at is)
 one-base {shapes = shapes} {other = other} (below q at is under) (below r to is' under') =
     let same : to ≡ at = (let both : qualified q at ≡ qualified r to = sym is ∙ is' in cc) in
-    let P : TypeAt → Type 0 = λ x. StandsUnder shapes x other in
-    one-base under (subst P same under')
+    one-base under (rw same at under')
 
 module _ (shapes : ℕ → ShapeOf) (at : TypeAt) (k : TypeKind) (known : IsBase shapes at k) where
   -- its kind is the one that is known

@@ -43,12 +43,11 @@ pairs-kept : {X : Type 0} (R : X → X → Type 0) (p : X → Bool) (ys : List X
 pairs-kept {X = X} R p ys all i j d less w a b =
     let front = filter p (take j ys) in
     let rest = get_or ys j d ∷ filter p (drop (j + 1) ys) in
-    let P : List X → Type 0 = λ zs. AllPairs R zs in
     let same = get_or-take j ys i d less in
     let (k, v, e) = kept-there p (take j ys) i d (omega (arith, length-take-le j ys (omega arith))) (ap p same ∙ a) in
     let here = get_or_append_left front rest d k v ∙ get_or_default front k d (get_or (take j ys) i d) v ∙ e ∙ same in
     let there = get_or-append_seam front (get_or ys j d) (filter p (drop (j + 1) ys)) d in
-    let whole : AllPairs R (front ++ rest) = subst P (kept-split p ys j d w b) all in
+    let whole : AllPairs R (front ++ rest) = rw (kept-split p ys j d w b) at all in
     let pair = whole k (length front) d v (omega (arith, length-append front rest)) in
     rw (here, there) at pair
 
@@ -61,8 +60,7 @@ still-pairs : {X : Type 0} (key : X → ℕ) (R : X → X → Type 0) (xs ys : L
 still-pairs {X = X} key R xs ys all stable i j d less w same =
     let x = get_or ys i d in
     let tied : X → Bool = ties (λ a b. is_lt (nat_cmp (key a) (key b))) x in
-    let P : List X → Type 0 = λ zs. AllPairs R zs in
-    pairs-kept R tied ys (subst P (sym (stable x)) (AllPairs-filter R tied xs all)) i j d less w (tie-same (key x) (key x) refl) (tie-same (key x) (key (get_or ys j d)) same)
+    pairs-kept R tied ys (rw (stable x) (AllPairs-filter R tied xs all)) i j d less w (tie-same (key x) (key x) refl) (tie-same (key x) (key (get_or ys j d)) same)
 
 -- entries in rising offset, sorted by level
 pub by-level : (level : ℕ → ℕ) (named sorted : List ℕ) → AllPairs (λ a b. a < b) named → IsNonDecreasingBy level sorted

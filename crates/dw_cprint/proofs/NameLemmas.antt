@@ -184,8 +184,7 @@ span-before section bytes k spans last known below is =
     let place : length section - (k + 1) * 64 + 64 ≡ length section - 64 * k = omega arith in
     let same : drop 64 bytes ≡ drop (length section - 64 * k) section =
     ap (drop 64) is ∙ drop-drop 64 (length section - (k + 1) * 64) section ∙ ap (λ (n : ℕ). drop n section) place in
-    let P : List ℕ → Type 0 = λ xs. IsSpan xs last in
-    subst P (sym same) known.newest
+    rw same known.newest
 
 -- one block more
 pub spans-more : (section bytes : List ℕ) (k : ℕ) (spans more : List Span) (last span : Span) → SpansTo section k spans last

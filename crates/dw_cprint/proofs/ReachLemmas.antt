@@ -29,10 +29,8 @@ from-map found row steps x e has = search (rules, length-map, get_or-map)
 -- and the other way
 pub into-map : (found row steps : List ℕ) (k : ℕ) → map (λ n. get_or found n 0) row ≡ steps → k < length row → Contains steps (get_or found (get_or row k 0) 0)
 into-map found row steps k e w =
-    let P : List ℕ → Type 0 = λ xs. Contains xs (get_or found (get_or row k 0) 0) in
-    let Q : ℕ → Type 0 = λ x. Contains (map (λ n. get_or found n 0) row) x in
-    let inside : k < length (map (λ n. get_or found n 0) row) = omega (arith, length-map row (λ n. get_or found n 0)) in
-    subst P e (subst Q (get_or-map (λ n. get_or found n 0) row k 0 0 w) (Contains-get_or (map (λ n. get_or found n 0) row) k 0 inside))
+    let has = Contains-get_or (map (λ n. get_or found n 0) row) k 0 (omega (arith, length-map row (λ n. get_or found n 0))) in
+    rw (get_or-map (λ n. get_or found n 0) row k 0 0 w, e) at has
 
 -- ---- more entries are found
 

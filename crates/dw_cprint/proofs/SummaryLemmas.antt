@@ -93,8 +93,7 @@ Has nodes node = is_none (get_or nodes node None) ≡ false
 pub have_more : (clear : List ℕ) (nodes : List (Option Summary)) (i : ℕ) (s : Summary) → i < length clear → get_or clear i 0 < length nodes → HaveSummaries (take i clear) nodes
     → HaveSummaries (take (i + 1) clear) (set nodes (get_or clear i 0) (Some s))
 have_more clear nodes i s within there have node =
-    let P : List ℕ → Type 0 = λ ns. Contains ns node ↔ Has (set nodes (get_or clear i 0) (Some s)) node in
-    subst P (sym (take_more clear i 0 within)) (by_node (cases_eq (get_or clear i 0) node))
+    rw (take_more clear i 0 within) (by_node (cases_eq (get_or clear i 0) node))
   where
     by_node : ((get_or clear i 0 ≡ node) ⊎ (get_or clear i 0 ≡ node → ⊥)) → Contains (take i clear ++ get_or clear i 0 ∷ []) node ↔ Has (set nodes (get_or clear i 0) (Some s)) node
     by_node (inl same) =

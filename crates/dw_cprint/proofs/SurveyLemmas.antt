@@ -49,8 +49,7 @@ module _ (shapes : ℕ → ShapeOf) (roots places found : List ℕ) (graph : Gra
   node-step : (node to : ℕ) → node < length found → IsStep graph node to → Contains (steps_reached shapes (get_or found node 0)) (get_or found to 0) × (to < length found)
   node-step node to w (k, v, e) =
       let row = h.rows node w in
-      let P : ℕ → Type 0 = λ n. Contains (steps_reached shapes (get_or found node 0)) (get_or found n 0) × (n < length found) in
-      subst P e (into-map found (steps_of graph node) (steps_reached shapes (get_or found node 0)) k row.leads v, row.below k 0 v)
+      rw (← e) (into-map found (steps_of graph node) (steps_reached shapes (get_or found node 0)) k row.leads v, row.below k 0 v)
 
   -- each entry that is reached is found
   pub found-all : {entry : ℕ} → IsReachedFrom shapes roots entry → (node : ℕ) × (node < length found) × (get_or found node 0 ≡ entry)
