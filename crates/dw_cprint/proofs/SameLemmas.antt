@@ -1,5 +1,5 @@
 -- Shapes that are the same at each entry that is reached: the same declaration, and the same refusals.
-use Rattle.std.proofs.Common.{◌≡◌, ℕ, zero, suc, true, List, [], ◌∷◌, Option, Some, None, refl, sym, ◌∙◌, ap, subst, arith}
+use Rattle.std.proofs.Common.{◌≡◌, ℕ, zero, suc, List, [], ◌∷◌, Option, Some, None, refl, sym, ◌∙◌, ap, subst, arith}
 use Rattle.std.specs.Prelude.{option_map, All, Any, Contains, if◌then◌else◌}
 use Rattle.std.proofs.lemmas.List.Elements.{All-nil, All-cons}
 use Rattle.dw_cprint.specs.Declarations.{arrays, is_miscounted, parameters_by, members_by, term_by, declaration_by, term_at, declaration_of}
@@ -8,7 +8,7 @@ use Rattle.dw_cprint.specs.SameShapes.{AreSameFor}
 use Rattle.dw_cprint.specs.Shapes.{Parameter, Typed, More, TypeAt, MemberOf, ShapeOf, base, typedef, qualified, pointer, array, function, body, SubjectOf, typedef_subject, variable_subject, tag_subject}
 use Rattle.dw_cprint.specs.Steps.{entries_of, parameter_types, member_types, types_reached, types_declared, first_steps, root, further, IsReached, Leads}
 use Rattle.dw_cprint.specs.Terms.{Term, Qualified, Pointer, Function, Unprototyped, Body, Typedef, Variable, Aggregate}
-use Rattle.dw_cprint.specs.Wrong.{shape_of, StandsUnder, nothing, itself, below, HasBadName, is_foreign, is_wrong_row, kind_at, kind_in, object_types, IsVoidLike, IsUnspeakable, wrong, void_object, row, IsOwnUnspeakable, void_variable, unspeakable, declared_enumeration}
+use Rattle.dw_cprint.specs.Wrong.{shape_of, StandsUnder, nothing, itself, below, HasBadName, is_wrong_row, kind_at, kind_in, object_types, IsVoidLike, IsUnspeakable, wrong, void_object, row, IsOwnUnspeakable, void_variable, unspeakable, declared_enumeration}
 use Rattle.dw_cprint.specs.Kept.{kept}
 use Rattle.dw_cprint.specs.Regular.{AreRegular}
 use Rattle.dw_cprint.specs.Surveys.{AreAmong, IsSurveyOf}
