@@ -120,6 +120,13 @@ module _ (us : List DebugUnit) where
             (ap (λ (x : Facts). x.parent) (sym (facts-get (entries_of us) (placed us) m here.0 here.2)) ∙ is)
       ]
 
+  -- a child and its next sibling, by the facts of entries
+  pub next-facts : (parent child : ℕ) (next : Option ℕ) → child < length (entries_of us) → (entry_of (facts_in us) child).parent ≡ Some parent → IfSome (slice_get (entries_of us) child) (λ e. next ≡ e.next)
+      → (rest_of_children (facts_in us) parent (Some child) ≡ child ∷ rest_of_children (facts_in us) parent next) × IfSome next (IsChildOf (facts_in us) parent)
+  next-facts parent child next inside above says =
+      let steps = next_of_linked us parent child next (linked-child parent child inside above) says in
+      (rw (rest-same parent (Some child), rest-same parent next) steps.left, child-linked parent next steps.linked)
+
 -- the children that were passed and those that are left are the children, and something is true of those that were passed
 pub record HasPassed (entries : List Facts) (parent : ℕ) (Q : List ℕ → Type 0) (next : Option ℕ) : Type 0 where
   pub visited : List ℕ

@@ -14,7 +14,7 @@ use Rattle.dw_types.specs.WalkStates.{State, mark_of, taken_up, given_up}
 use Rattle.dw_types.proofs.ListLemmas.{at_set}
 use Rattle.dw_types.proofs.WalkLemmas.{in-graph}
 
-get_or-same : {X : Type 0} (n k : ℕ) (x : X) → get_or (replicate n x) k x ≡ x
+pub get_or-same : {X : Type 0} (n k : ℕ) (x : X) → get_or (replicate n x) k x ≡ x
 get_or-same n k x = elim (cases_lt k n) [ inl below ↦ get_or-replicate n k x x below | inr above ↦ get_or_past (replicate n x) k x (let e = length-replicate n x in omega arith) ]
 
 pub sum-zeros : (n : ℕ) → sum (replicate n 0) ≡ 0

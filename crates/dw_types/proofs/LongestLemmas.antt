@@ -3,6 +3,7 @@ use Rattle.std.proofs.Common.{rules, ◌≡◌, ℕ, zero, suc, ◌+◌, ◌<◌
 use Rattle.std.specs.Prelude.{◌⊎◌, Contains}
 use Rattle.std.proofs.lemmas.Bool.{cases_eq, cases_lt}
 use Rattle.std.proofs.lemmas.List.{get_or_default}
+use Rattle.dw_types.proofs.ListLemmas.{at_set}
 use Rattle.dw_types.specs.Cycles.{AreClear, Leads, IsOnCycle, ReachesCycle}
 use Rattle.dw_types.specs.Graphs.{Graph, steps_of, step_at}
 use Rattle.dw_types.specs.LongestRows.{HasRow, IsLongest, AreLongest, IsAbove}
@@ -28,65 +29,54 @@ module _ (graph : Graph) (counts : List ℕ) (node : ℕ) where
           let W : ℕ → Type 0 = λ n. HasRow graph n k in
           omega (arith, (known step.0 step.1).none_longer k (subst W (sym step.2) w), above.above step.0 step.1)
 
--- a node has one longest row
-longest-one : (graph : Graph) (node a b : ℕ) → IsLongest graph node a → IsLongest graph node b → a ≡ b
-longest-one graph node a b x y = let p = x.none_longer b y.has_row in let q = y.none_longer a x.has_row in omega arith
-
--- the longest rows from the first nodes are known, and none has more steps than nodes before it
+-- the longest rows from the first nodes are known
 abbrev pub KnownUpTo : Graph → List ℕ → List ℕ → ℕ → Type 0
-KnownUpTo graph clear counts place = (k : ℕ) → k < place
-    → IsLongest graph (get_or clear k 0) (get_or counts (get_or clear k 0) 0) × (get_or counts (get_or clear k 0) 0 ≤ k)
+KnownUpTo graph clear counts place = (k : ℕ) → k < place → IsLongest graph (get_or clear k 0) (get_or counts (get_or clear k 0) 0)
+
+-- no row has more steps than there are nodes before a place
+abbrev pub AreFew : List ℕ → ℕ → Type 0
+AreFew counts place = (node : ℕ) → get_or counts node 0 ≤ place
 
 module _ (graph : Graph) (clear : List ℕ) (h : AreClear graph clear) (counts : List ℕ) (place : ℕ) where
   -- what is known at the steps of the node at this place
-  pub known-step : KnownUpTo graph clear counts place → place < length clear → (k : ℕ) → k < length (steps_of graph (get_or clear place 0))
+  known-step : KnownUpTo graph clear counts place → place < length clear → (k : ℕ) → k < length (steps_of graph (get_or clear place 0))
       → IsLongest graph (step_at graph (get_or clear place 0) k) (get_or counts (step_at graph (get_or clear place 0) k) 0)
-      × (get_or counts (step_at graph (get_or clear place 0) k) 0 < place)
   known-step known below k within =
       let (before, less, same) = h.ordered place k below within in
-      let P : ℕ → Type 0 = λ n. IsLongest graph n (get_or counts n 0) × (get_or counts n 0 ≤ before) in
-      let moved = subst P same (known before less) in
-      (moved.0, omega (arith, moved.1))
+      let P : ℕ → Type 0 = λ n. IsLongest graph n (get_or counts n 0) in
+      subst P same (known before less)
+
+  in-counts : length counts ≡ length graph → place < length clear → get_or clear place 0 < length counts
+  in-counts long below = search (rules)
 
   pub known-more : (count : ℕ) → length counts ≡ length graph → place < length clear → KnownUpTo graph clear counts place
       → IsAbove graph counts (get_or clear place 0) count → KnownUpTo graph clear (set counts (get_or clear place 0) count) (place + 1)
   known-more count long below known above k within = elim (cases_eq (get_or clear k 0) node) [
     | inl same ↦
-        let Q : ℕ → Type 0 = λ n. IsLongest graph n (get_or (set counts node count) n 0) × (get_or (set counts node count) n 0 ≤ k) in
-        let P : ℕ → Type 0 = λ n. IsLongest graph node n × (n ≤ k) in
-        subst Q (sym same) (subst P (sym (get_or-set_same counts node count 0 in_counts)) (here, few same))
+        let P : ℕ → Type 0 = λ n. IsLongest graph n (get_or (set counts node count) n 0) in
+        subst P (sym same) (rw (get_or-set_same counts node count 0 (in-counts long below)) (longest-above graph counts node count above (known-step known below)))
     | inr other ↦ search (rules, cases_lt, get_or-set_other)
   ]
     where
       node : ℕ
       node = get_or clear place 0
 
-      in_counts : node < length counts
-      in_counts = search (rules)
+  few-above : (node count : ℕ) → AreFew counts place → (count ≡ 0) ⊎ ((k : ℕ) × (k < length (steps_of graph node)) × (count ≡ get_or counts (step_at graph node k) 0 + 1)) → count ≤ place + 1
+  few-above node count few (inl e) = omega arith
+  few-above node count few (inr (k, within, e)) = omega (arith, few (step_at graph node k), e)
 
-      here : IsLongest graph node count
-      here = longest-above graph counts node count above (λ m w. (known-step known below m w).0)
-
-      low : (count ≡ 0) ⊎ ((k : ℕ) × (k < length (steps_of graph node)) × (count ≡ get_or counts (step_at graph node k) 0 + 1)) → count ≤ place
-      low (inl e) = omega arith
-      low (inr (m, w, e)) = let less = known-step known below m w in omega (arith, less.1)
-
-      few : get_or clear k 0 ≡ node → count ≤ k
-      few same = elim (cases_lt k place) [
-        | inl before ↦
-            let fact = known k before in
-            let P : ℕ → Type 0 = λ n. IsLongest graph n (get_or counts n 0) × (get_or counts n 0 ≤ k) in
-            let moved = subst P same fact in
-            let one = longest-one graph node count (get_or counts node 0) here moved.0 in
-            omega (arith, one, moved.1)
-        | inr last ↦ (let less = low above.tight in omega arith)
-      ]
+  pub few-more : (count : ℕ) → length counts ≡ length graph → place < length clear → AreFew counts place → IsAbove graph counts (get_or clear place 0) count
+      → AreFew (set counts (get_or clear place 0) count) (place + 1)
+  few-more count long below few above n = elim (at_set counts (get_or clear place 0) n count 0 (in-counts long below)) [
+    | inl same ↦ omega (arith, same.1, few-above (get_or clear place 0) count few above.tight)
+    | inr other ↦ omega (arith, other.1, few n)
+  ]
 
   pub known-all : length clear ≤ place → KnownUpTo graph clear counts place → AreLongest graph clear (λ node. get_or counts node 0)
   known-all over known node (k, w, e) =
       let same : get_or clear k 0 ≡ node = get_or_default clear k 0 node w ∙ e in
       let P : ℕ → Type 0 = λ n. IsLongest graph n (get_or counts n 0) in
-      subst P same (known k (omega arith)).0
+      subst P same (known k (omega arith))
 
 -- a row that goes on where some steps lead
 pub row-after : (graph : Graph) (k n from to : ℕ) → Leads graph k from to → HasRow graph to n → HasRow graph from (k + n)

@@ -162,17 +162,8 @@ times-some : (a b : Size) (n : ℕ) → times a b ≡ Some n → (m : ℕ) × (a
 times-some None b n is = absurd cc
 times-some (Some a) b n is = (a, refl)
 
-declared-wants : (entry : Facts) → kind_of entry ≡ Declared → wants_own entry ≡ false
-declared-wants entry is = search (rules)
-
-pointer-wants : (entry : Facts) → kind_of entry ≡ Pointer → wants_own entry ≡ false
-pointer-wants entry is = search (rules)
-
-enumeration-wants : (entry : Facts) → kind_of entry ≡ Enumeration → wants_own entry ≡ false
-enumeration-wants entry is = search (rules)
-
-alias-wants : (entry : Facts) → kind_of entry ≡ Alias → wants_own entry ≡ false
-alias-wants entry is = search (rules)
+kind-wants : (entry : Facts) → (kind_of entry ≡ OwnSized → ⊥) → (kind_of entry ≡ Array → ⊥) → wants_own entry ≡ false
+kind-wants entry own array = search (rules)
 
 array-wants : (entry : Facts) → kind_of entry ≡ Array → is_negative (constant entry DW_AT_byte_stride) ≡ false → wants_own entry ≡ false
 array-wants entry is stride = search (rules)
@@ -183,11 +174,11 @@ own-part entry other n is wants = search (rules)
 
 sized-kind : (entries : List Facts) (table : ℕ → Size) (node : ℕ) (kind : Kind) → kind_of (entry_of entries node) ≡ kind → (n : ℕ) → size_of_kind kind entries table node ≡ Some n
     → has_no_size (entry_of entries node) ≡ false
-sized-kind entries table node Declared is n sized = search (rules, declared-wants)
+sized-kind entries table node Declared is n sized = search (rules, kind-wants)
 sized-kind entries table node OwnSized is n sized = search (rules, natural-own)
-sized-kind entries table node Pointer is n sized = search (rules, own-part, pointer-wants)
-sized-kind entries table node Alias is n sized = search (rules, alias-wants)
-sized-kind entries table node Enumeration is n sized = search (rules, own-part, enumeration-wants)
+sized-kind entries table node Pointer is n sized = search (rules, own-part, kind-wants)
+sized-kind entries table node Alias is n sized = search (rules, kind-wants)
+sized-kind entries table node Enumeration is n sized = search (rules, own-part, kind-wants)
 sized-kind entries table node Array is n sized =
     search (rules, own-part, if-some, times-some, array-wants, not-negative)
 sized-kind entries table node Subroutine is n sized = absurd cc

@@ -91,6 +91,29 @@ fn end_past(bytes: u64, start: i128, size: u64) -> bool
     u128::from(bytes) * 8 < start as u128 + u128::from(size) * 8
 }
 
+impl Kind {
+    /// Whether the size of such an entry reads its own byte size.
+    #[inline(always)]
+    fn reads_own(self) -> bool
+        ensures { result ≡ reads_own self }
+    {
+        matches!(
+            self,
+            Kind::OwnSized | Kind::Pointer | Kind::Enumeration | Kind::Array
+        )
+    }
+}
+
+/// Whether two sizes are known and not the same.
+fn differ(a: Option<u64>, b: Option<u64>) -> bool
+    ensures { result ≡ differ a b }
+{
+    match (a, b) {
+        (Some(a), Some(b)) => a != b,
+        _ => false,
+    }
+}
+
 impl FactsAt<'_, '_> {
     /// The bit at which a member starts, if it is known.
     #[inline(always)]
@@ -127,32 +150,7 @@ impl FactsAt<'_, '_> {
             _ => false,
         }
     }
-}
 
-impl Kind {
-    /// Whether the size of such an entry reads its own byte size.
-    #[inline(always)]
-    fn reads_own(self) -> bool
-        ensures { result ≡ reads_own self }
-    {
-        matches!(
-            self,
-            Kind::OwnSized | Kind::Pointer | Kind::Enumeration | Kind::Array
-        )
-    }
-}
-
-/// Whether two sizes are known and not the same.
-fn differ(a: Option<u64>, b: Option<u64>) -> bool
-    ensures { result ≡ differ a b }
-{
-    match (a, b) {
-        (Some(a), Some(b)) => a != b,
-        _ => false,
-    }
-}
-
-impl FactsAt<'_, '_> {
     /// Whether something is wrong where the byte size is absent.
     #[inline(always)]
     fn wants_own(&self) -> bool

@@ -29,8 +29,4 @@ loop-start-preserved g c =
     ]
 
 pub returns : goal.returns
-returns g c =
-    let graph = g.G.StepGraph.graph c.args.graph.now in
-    let s = c.loop-start.walk in
-    let over = rw c.nodes-nodes.ensures at c.loop-start-test.false in
-    rw c.into_order.ensures (clear-at_end graph s c.loop-start.invariant.0 c.loop-start.invariant.1 (λ node below. c.loop-start.invariant.2 node (omega arith)))
+returns g c = search (rules, clear-at_end)
