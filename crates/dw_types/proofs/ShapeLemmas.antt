@@ -21,6 +21,10 @@ use Rattle.dw_types.specs.TypeFailures.{PassesAt}
 use Rattle.dw_types.proofs.NotedLemmas.{broken_at, first-of_entries, least-same, none-of_entries, noted-first, noted-none, noted-pass, noted-same}
 use Rattle.dw_types.proofs.RoleLemmas.{child-in, counted-other, other-role, plain-other, untyped-array, untyped-members}
 
+-- an entry that was seen, or the one that comes next
+abbrev pub HasSeenArray : List Facts → ℕ → ℕ → Type 0
+HasSeenArray entries count node = HasSeenShapes entries count node ⊎ (node ≡ count)
+
 -- the least rule that fails
 
 pub part-least : (entries : List Facts) (node child : ℕ) (role : Role) (rule : Option Rule) → role_of (entry_of entries node) ≡ role → IsChildOf entries node child → IsLeast (λ r. breaks_shape role (entry_of entries child) r ≡ true) rule
@@ -58,7 +62,7 @@ other-passes entries node isnt role = λ rule breaks. other-shape (entry_of entr
 
 -- an array has no members
 
-pub array-no_members : (entry : Facts) → is_array entry ≡ true → has_members entry ≡ false
+array-no_members : (entry : Facts) → is_array entry ≡ true → has_members entry ≡ false
 array-no_members entry is = let tag : entry.tag ≡ DW_TAG_array_type = eqb-true entry.tag DW_TAG_array_type is in rw tag refl
 
 pub members-no_array : (entry : Facts) → has_members entry ≡ true → is_array entry ≡ true → ⊥

@@ -1,6 +1,6 @@
 -- State: the entries whose shapes a pass over entries has seen: arrays, and the children of those that have members or
 -- dimensions.
-use Rattle.std.specs.Prelude.{◌≡◌, ℕ, ◌<◌, ◌⊎◌, Bool, true, ◌||◌, List}
+use Rattle.std.specs.Prelude.{◌≡◌, ℕ, ◌<◌, Bool, true, ◌||◌, List}
 use Rattle.dw_types.specs.Children.{IsChildOf}
 use Rattle.dw_types.specs.Entries.{entry_of, Facts}
 use Rattle.dw_types.specs.Kinds.{has_members, is_array}
@@ -14,7 +14,3 @@ pub data HasSeenShapes (entries : List Facts) (count node : ℕ) : Type 0 where
   array : node < count → is_array (entry_of entries node) ≡ true → HasSeenShapes entries count node
   part : (parent : ℕ) → parent < count → has_parts (entry_of entries parent) ≡ true → IsChildOf entries parent node
       → HasSeenShapes entries count node
-
--- the same, or the entry that comes next
-abbrev pub HasSeenArray : List Facts → ℕ → ℕ → Type 0
-HasSeenArray entries count node = HasSeenShapes entries count node ⊎ (node ≡ count)

@@ -14,7 +14,7 @@ ghost use Rattle.dw_types.specs.Held.{all_facts};
 ghost use Rattle.dw_types.specs.Kinds.{has_members, is_array, is_declared_type, passes_type_on, type_count};
 ghost use Rattle.dw_types.specs.Kinds.{Dimensions, Members, Other};
 ghost use Rattle.dw_types.specs.Noted.{IsNoted};
-ghost use Rattle.dw_types.specs.ShapesSeen.{HasSeenArray, HasSeenShapes};
+ghost use Rattle.dw_types.specs.ShapesSeen.{HasSeenShapes};
 ghost use Rattle.dw_types.specs.Steps.{by_value, part_step, steps_by_value, targets_if, IsStepByValue};
 
 use crate::facts::{FactsAt, FactsList, languages_of};
@@ -155,22 +155,6 @@ fn push_members(
     Ok(())
 }
 
-/// Notes the dimensions of an array whose shapes fail.
-fn note_dimensions(entries: &mut FactsList<'_, '_>, least: &mut LeastFault, node: usize)
-    requires node { node < length entries.old }
-    requires array { is_array (entry_of entries.old node) ≡ true }
-    requires noted { IsNoted (fails_shape entries.old) (HasSeenArray entries.old node) least.old }
-    ensures same { entries.new ≡ entries.old }
-    ensures noted { IsNoted (fails_shape entries.old) (HasSeenShapes entries.old (node + 1)) least.new }
-{
-    let mut next = entries.first_child(node);
-    while let Some(child) = next {
-        let dimension = entries.at(child);
-        note(least, child, dimension.broken_dimension());
-        next = entries.next_sibling(child);
-    }
-}
-
 /// Notes the shape of an array and those of its dimensions, as far as they fail.
 fn note_array(
     entries: &mut FactsList<'_, '_>,
@@ -189,7 +173,12 @@ fn note_array(
         return;
     }
     note(least, node, entry.broken_array());
-    note_dimensions(entries, least, node);
+    let mut next = entries.first_child(node);
+    while let Some(child) = next {
+        let dimension = entries.at(child);
+        note(least, child, dimension.broken_dimension());
+        next = entries.next_sibling(child);
+    }
 }
 
 /// Adds the steps of an entry, and notes its shape and those of its members or dimensions, as far as they fail.

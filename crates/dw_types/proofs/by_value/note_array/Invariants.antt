@@ -2,9 +2,9 @@ use Rattle.std.proofs.Common.{◌≡◌, length}
 use Rattle.dw_types.specs.Children.{rest_of_children, IsChildOf}
 use Rattle.dw_types.specs.Noted.{IsNoted, Passed}
 use Rattle.dw_types.specs.Shapes.{fails_shape}
-use Rattle.dw_types.specs.ShapesSeen.{HasSeenArray}
+use Rattle.dw_types.proofs.ShapeLemmas.{HasSeenArray}
 use Rattle.dw_types.proofs.ChildSteps.{HasPassed}
-use Rattle.dw_types.proofs.by_value.note_dimensions.Given as goal
+use Rattle.dw_types.proofs.by_value.note_array.Given as goal
 
 abbrev pub invariant-loop-next : goal.invariant-loop-next
 invariant-loop-next l =
