@@ -11,7 +11,6 @@ use Rattle.dw_forms.specs.declared.form.Form.{Form}
 use Rattle.dw_forms.specs.declared.form.Form.TheVariants as form
 use Rattle.dw_forms.specs.FormCodes.{may_lead_out, may_refer}
 use Rattle.dw_forms.specs.Value.{Datum, Val}
-use Rattle.dw_forms.specs.Walks.{may_lead}
 use Rattle.dw_forms.specs.Plans.{not_flags, not_constants, stops_in}
 use Rattle.dw_entries.specs.declared.lookup.EntryHead.{EntryHead}
 use Rattle.dw_entries.specs.declared.fault.Rule.{Rule}
@@ -43,14 +42,9 @@ use Rattle.dw_links.proofs.Skips.{there}
 
 -- ---- its class
 
-the_same : (a c : Class) → Some a ≡ Some c → a ≡ c
-the_same a c is = cc
-
 pub class_by_form : (version size : ℕ) (f : Form) (bytes : List ℕ) (v : Datum) (c : Class) → form_class f ≡ Some c → Val version f size bytes v → class_of v ≡ c
-class_by_form version size form.Indirect bytes v c is p = absurd cc
-class_by_form version size form.FlagPresent bytes v c is p = ap class_of p.1 ∙ the_same Flag c is
-class_by_form version size (form.ImplicitConst number) bytes v c is p = ap class_of p.1 ∙ the_same Constant c is
-class_by_form version size _ bytes v c is p = ap class_of p.2 ∙ the_same _ c is
+class_by_form version size form.FlagPresent bytes v c is p = search rules
+class_by_form version size _ bytes v c is p = search rules
 
 -- ---- that it does not lead elsewhere
 
@@ -67,12 +61,7 @@ pub record Leads (spec : AttributeSpec) : Type 0 where
   pub no_addr_base : (spec.attribute == DW_AT_addr_base) ≡ false
 
 pub leads : (spec : AttributeSpec) → DoesNotLead spec → Leads spec
-leads spec not =
-    let first = neither (may_lead spec.form || spec.attribute == DW_AT_type || spec.attribute == DW_AT_str_offsets_base) (spec.attribute == DW_AT_addr_base) not in
-    let second = neither (may_lead spec.form || spec.attribute == DW_AT_type) (spec.attribute == DW_AT_str_offsets_base) first.0 in
-    let third = neither (may_lead spec.form) (spec.attribute == DW_AT_type) second.0 in
-    let form = neither (may_lead_out spec.form) (may_refer spec.form) third.0 in
-    record { no_way_out = form.0; no_reference = form.1; no_type = third.1; no_str_base = second.1; no_addr_base = first.1 }
+leads spec not = search (rules, neither)
 
 other_code : (a b : ℕ) → (a == b) ≡ false → a ≡ b → ⊥
 other_code a b not same = let both : (a == b) ≡ true = ap (λ (n : ℕ). n == b) same ∙ eq-eqb b b refl in let no : true ≡ false = sym both ∙ not in cc
@@ -84,8 +73,6 @@ module _ (sections : Sections) (header : UnitHeader) (strings addresses : Option
 
   no_text : (version size : ℕ) (f : Form) (bytes : List ℕ) (v : Datum) → may_lead_out f ≡ false → ((a ≡ DW_AT_str_offsets_base) ⊎ (a ≡ DW_AT_addr_base) → ⊥) → Val version f size bytes v → Fails v → ⊥
   no_text version size form.SecOffset bytes v none no_base p fails = elim (subst Fails p.2 fails).2 [ inl str ↦ no_base (inl str.0) | inr addr ↦ no_base (inr addr.0) ]
-  no_text version size form.FlagPresent bytes v none no_base p fails = subst Fails p.1 fails
-  no_text version size (form.ImplicitConst number) bytes v none no_base p fails = subst Fails p.1 fails
   no_text version size _ bytes v none no_base p fails = search rules
 
 pub passes_texts : (entries : Entries) (spec : AttributeSpec) → DoesNotLead spec → Passes (FailsByText entries) spec
@@ -98,10 +85,8 @@ passes_texts entries spec not x a is head rule fails =
 
 -- it is no reference
 no_reference : (version size : ℕ) (f : Form) (bytes : List ℕ) (v : Datum) → may_refer f ≡ false → Val version f size bytes v → is_reference_value v ≡ false
-no_reference version size form.Indirect bytes v none p = absurd (let both : true ≡ false = none in cc)
 no_reference version size form.FlagPresent bytes v none p = ap is_reference_value p.1
-no_reference version size (form.ImplicitConst number) bytes v none p = ap is_reference_value p.1
-no_reference version size _ bytes v none p = ap is_reference_value p.2 ∙ none
+no_reference version size _ bytes v none p = search rules
 
 pub passes_targets : (entries : Entries) (spec : AttributeSpec) → DoesNotLead spec → Passes (FailsByTarget entries) spec
 passes_targets entries spec not x a is head rule fails =

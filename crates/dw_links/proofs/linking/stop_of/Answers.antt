@@ -1,20 +1,13 @@
-use Rattle.std.proofs.Common.{inl, sym, subst}
+use Rattle.std.proofs.Common.{rules, sym, subst}
 use Rattle.dw_entries.specs.Failures.{IsFirst}
 use Rattle.dw_entries.specs.Scanned.{units_of}
 use Rattle.dw_entries.specs.Views.{sections_of}
 use Rattle.dw_links.specs.References.{ReferenceFailures}
-use Rattle.dw_links.specs.Strings.{StringFailures}
 use Rattle.dw_links.proofs.RuleGroups.{string_first, reference_first}
 use Rattle.dw_links.proofs.linking.stop_of.Goals as goal
 
 pub returns-then-is_string_rule : goal.returns-then-is_string_rule
-returns-then-is_string_rule c =
-    let s = sections_of c.args.entries.now in
-    let us = units_of c.args.entries.now.scanned in
-    record {
-      holds = inl (subst (IsFirst (StringFailures s us)) (sym c.into_fault.ensures.holds) (string_first s us c.args.broken c.requires (sym c.if-is_string_rule.ensures)));
-      cycle = c.into_fault.ensures.cycle;
-    }
+returns-then-is_string_rule c = search (rules, string_first)
 
 pub strings_first-requires : goal.strings_first-requires
 strings_first-requires c =
