@@ -1,6 +1,6 @@
 -- The groups of rules join: valid sections have no fault, and others have one; and the groups in their order, as they
 -- are asked.
-use Rattle.std.proofs.Common.{rules, ◌≡◌, ◌<◌, List, sym, ap, ◌∙◌, subst, inl, inr, arith}
+use Rattle.std.proofs.Common.{rules, ◌≡◌, ◌<◌, List, sym, ap, ◌∙◌, subst, inl, inr}
 use Rattle.dw_elf.specs.declared.sections.Sections.{Sections}
 use Rattle.dw_entries.specs.declared.fault.Fault.{Fault}
 use Rattle.dw_entries.specs.declared.fault.Broken.{Broken}
@@ -50,12 +50,8 @@ none_first : (Fails : Failure → Type 0) (fault : Fault) → HasNone Fails → 
 none_first Fails fault none first = none first.holds.failure first.holds.fails
 
 none_named : (s : Sections) (units : List DebugUnit) (group : Group) (fault : Fault) → HasNone (failures_of s units group) → IsFirstIn s units group fault → ⊥
-none_named s units classes fault none first = none_first (failures_of s units classes) fault none first
-none_named s units strings fault none first = none_first (failures_of s units strings) fault none first
-none_named s units references fault none first = none_first (failures_of s units references) fault none first
-none_named s units shapes fault none first = none_first (failures_of s units shapes) fault none first
 none_named s units cycles fault none first = none (cycle_failure (facts_in units) first.nodes) (cycle_fails (facts_in units) first.nodes first.is_cycle)
-none_named s units sizes fault none first = none_first (failures_of s units sizes) fault none first
+none_named s units _ fault none first = none_first _ fault none first
 
 -- valid sections have no fault
 pub no_fault_of : (s : Sections) (fault : Fault) → IsValid s → IsFirstFault s fault → ⊥
@@ -75,12 +71,8 @@ one_of_group s units group fault other spelled p q =
     })
 
 one_named : (s : Sections) (units : List DebugUnit) (group : Group) (fault other : Fault) → SpellsInfo s units → IsFirstIn s units group fault → IsFirstIn s units group other → IsOneFault fault other
-one_named s units classes fault other spelled p q = one_of_group s units classes fault other spelled p q
-one_named s units strings fault other spelled p q = one_of_group s units strings fault other spelled p q
-one_named s units references fault other spelled p q = one_of_group s units references fault other spelled p q
-one_named s units shapes fault other spelled p q = one_of_group s units shapes fault other spelled p q
 one_named s units cycles fault other spelled p q = inr (record { one = ap (λ (b : Broken). b.rule) p.named; two = ap (λ (b : Broken). b.rule) q.named })
-one_named s units sizes fault other spelled p q = one_of_group s units sizes fault other spelled p q
+one_named s units group fault other spelled p q = one_of_group s units group fault other spelled p q
 
 one_in_group : (s : Sections) (group : Group) (fault other : Fault) → FailsInGroup s group fault → FailsInGroup s group other → IsOneFault fault other
 one_in_group s group fault other p q = search (rules, one_list_of, one_named)
@@ -147,9 +139,6 @@ faulty s entries group fault same before first =
     fault_of s fault (subst (λ t. IsFirstFault t fault) same
     (in_group group (record { units = entries.scanned.0; spelled = entries.scanned.1.spells; before = before; first = first })))
 
-wrong_class : (s : Sections) (entries : Entries) (fault : Fault) → entries.sections ≡ s → IsPlainFault (IsFirst (ClassFailures (units_of entries.scanned))) fault → IsFaultOf s fault
-wrong_class s entries fault same first = faulty s entries classes fault same (none_before (sections_of entries) (units_of entries.scanned)) first
-
 -- classes hold
 abbrev ClassesHold : Entries → Type 0
 ClassesHold entries = HasNone (ClassFailures (units_of entries.scanned))
@@ -167,32 +156,19 @@ before_references entries none nor = one_more (sections_of entries) (units_of en
 before_types : (entries : Entries) → ClassesHold entries → StringsHold entries → HasNone (ReferenceFailures (units_of entries.scanned)) → HoldBefore (sections_of entries) (units_of entries.scanned) 5
 before_types entries none nor neither = one_more (sections_of entries) (units_of entries.scanned) references (before_references entries none nor) neither
 
-wrong_string : (s : Sections) (entries : Entries) (fault : Fault) → entries.sections ≡ s → ClassesHold entries
-    → IsPlainFault (IsFirst (StringFailures (sections_of entries) (units_of entries.scanned))) fault → IsFaultOf s fault
-wrong_string s entries fault same none first = faulty s entries strings fault same (before_strings entries none) first
-
-wrong_reference : (s : Sections) (entries : Entries) (fault : Fault) → entries.sections ≡ s → ClassesHold entries → StringsHold entries
-    → IsPlainFault (IsFirst (ReferenceFailures (units_of entries.scanned))) fault → IsFaultOf s fault
-wrong_reference s entries fault same none nor first = faulty s entries references fault same (before_references entries none nor) first
-
 -- of the groups on the values of attributes the first that fails
 pub wrong_link : (s : Sections) (entries : Entries) (fault : Fault) → entries.sections ≡ s → IsPlainFault (IsFirstOfLinks (sections_of entries) (units_of entries.scanned)) fault → IsFaultOf s fault
 wrong_link s entries fault same first =
     elim first.holds [
-      | inl class ↦ wrong_class s entries fault same (record { holds = class; cycle = first.cycle })
+      | inl class ↦ faulty s entries classes fault same (none_before (sections_of entries) (units_of entries.scanned)) (record { holds = class; cycle = first.cycle })
       | inr targets ↦ elim targets.1 [
-        | inl string ↦ wrong_string s entries fault same targets.0 (record { holds = string; cycle = first.cycle })
-        | inr reference ↦ wrong_reference s entries fault same targets.0 reference.0 (record { holds = reference.1; cycle = first.cycle })
+        | inl string ↦ faulty s entries strings fault same (before_strings entries targets.0) (record { holds = string; cycle = first.cycle })
+        | inr reference ↦ faulty s entries references fault same (before_references entries targets.0 reference.0) (record { holds = reference.1; cycle = first.cycle })
       ]
     ]
 
 pub wrong_type : (s : Sections) (entries : Entries) (fault : Fault) → entries.sections ≡ s → ClassesHold entries → StringsHold entries → HasNone (ReferenceFailures (units_of entries.scanned))
     → FailsInTypes (sections_of entries) (units_of entries.scanned) fault → IsFaultOf s fault
 wrong_type s entries fault same none nor neither fails =
-    faulty s entries fails.group fault same
-    (λ earlier less. elim (three_ways 4 (turn_of earlier)) [
-      | inl (inl late) ↦ fails.before earlier late less
-      | inl (inr here) ↦ before_types entries none nor neither earlier (omega (arith, here))
-      | inr early ↦ before_types entries none nor neither earlier (omega (arith, early))
-    ])
-    fails.first
+    let before = before_types entries none nor neither in
+    faulty s entries fails.group fault same (λ earlier less. search (rules, three_ways, before)) fails.first

@@ -25,7 +25,7 @@ use Rattle.dw_types.specs.Entries.{entry_of, ParentsComeFirst, TargetsAreEntries
 use Rattle.dw_types.specs.SizeTables.{Size}
 use Rattle.dw_types.specs.Sizes.{IsSizeTable, size_to}
 use Rattle.dw_types.specs.SizeFaults.{fails_size, SizeFailures, IsFirstSizeFault}
-use Rattle.dw_image.specs.First.{offset_at, ContainsItselfAt, FailsBySize, Group, classes, strings, references, shapes, cycles, sizes, turn_of, failures_of, NamesCycle}
+use Rattle.dw_image.specs.First.{offset_at, ContainsItselfAt, FailsBySize, Group, shapes, cycles, sizes, turn_of, failures_of, NamesCycle}
 use Rattle.dw_image.specs.Headline.{HoldsNoneOfItself}
 use Rattle.dw_image.specs.Measures.{FailsInTypes}
 
@@ -49,17 +49,14 @@ from_below : (graph : Graph) (from to : ℕ) → IsStep graph from to → from <
 from_below graph from to step = search (rules, get_or_past)
 
 pub node_below : (graph : Graph) (nodes : List ℕ) → IsCycle graph nodes → (k : ℕ) → k < length nodes → slice_index nodes k < length graph
-node_below graph nodes cycle k within = go two_ways
-  where
-    two_ways : (k + 1 < length nodes) ⊎ (k ≡ length nodes - 1)
-    two_ways = grind (arith, within)
-
-    go : (k + 1 < length nodes) ⊎ (k ≡ length nodes - 1) → slice_index nodes k < length graph
-    go (inl more) = from_below graph (slice_index nodes k) (slice_index nodes (k + 1)) (cycle.closed.steps k more)
-    go (inr last) =
-        let two = cycle.closed.two in
-        let first = from_below graph (slice_index nodes 0) (slice_index nodes 1) (cycle.closed.steps 0 (omega (arith, two))) in
-        subst (λ n. n < length graph) (cycle.closed.closed ∙ ap (slice_index nodes) (sym last)) first
+node_below graph nodes cycle k within =
+    let two = cycle.closed.two in
+    let two_ways : (k + 1 < length nodes) ⊎ (k ≡ length nodes - 1) = grind (arith, within) in
+    let first = from_below graph (slice_index nodes 0) (slice_index nodes 1) (cycle.closed.steps 0 (omega (arith, two))) in
+    elim two_ways [
+      | inl more ↦ from_below graph (slice_index nodes k) (slice_index nodes (k + 1)) (cycle.closed.steps k more)
+      | inr last ↦ subst (λ n. n < length graph) (cycle.closed.closed ∙ ap (slice_index nodes) (sym last)) first
+    ]
 
 pub entry_below : (units : List DebugUnit) (nodes : List ℕ) → IsCycle (by_value (facts_in units)) nodes → (k : ℕ) → k < length nodes → slice_index nodes k < length (entries_of units)
 entry_below units nodes cycle k within = search (rules, node_below, length-by_value, length-facts_of)
@@ -109,20 +106,13 @@ none_late : (s : Sections) (us : List DebugUnit) (earlier : Group) → 4 < turn_
 none_late s us earlier late less = absurd (omega (arith, late, less))
 
 shapes_late : (s : Sections) (us : List DebugUnit) → HasNone (ShapeFailures (facts_in us)) → (earlier : Group) → 4 < turn_of earlier → turn_of earlier < 6 → HasNone (failures_of s us earlier)
-shapes_late s us none classes late less = absurd (omega (arith, late))
-shapes_late s us none strings late less = absurd (omega (arith, late))
-shapes_late s us none references late less = absurd (omega (arith, late))
 shapes_late s us none shapes late less = none
-shapes_late s us none cycles late less = absurd (omega (arith, less))
-shapes_late s us none sizes late less = absurd (omega (arith, less))
+shapes_late s us none _ late less = absurd (omega (arith, late, less))
 
 cycles_late : (s : Sections) (us : List DebugUnit) → HasNone (ShapeFailures (facts_in us)) → HasNoCycle (by_value (facts_in us)) → (earlier : Group) → 4 < turn_of earlier → turn_of earlier < 7 → HasNone (failures_of s us earlier)
-cycles_late s us none nor classes late less = absurd (omega (arith, late))
-cycles_late s us none nor strings late less = absurd (omega (arith, late))
-cycles_late s us none nor references late less = absurd (omega (arith, late))
 cycles_late s us none nor shapes late less = none
 cycles_late s us none nor cycles late less = no_cycle_holds (facts_in us) nor
-cycles_late s us none nor sizes late less = absurd (omega (arith, less))
+cycles_late s us none nor _ late less = absurd (omega (arith, late, less))
 
 pub wrong_shape : (s : Sections) (us : List DebugUnit) (fault : Fault) → IsPlainFault (IsFirst (ShapeFailures (facts_in us))) fault → FailsInTypes s us fault
 wrong_shape s us fault first = record { group = shapes; late = omega arith; before = none_late s us; first = first }

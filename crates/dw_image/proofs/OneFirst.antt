@@ -1,5 +1,5 @@
 -- There is one first failure at most.
-use Rattle.std.proofs.Common.{rules, ◌≡◌, ℕ, ◌⊎◌, List, Option, Some, ap, arith, inl, inr}
+use Rattle.std.proofs.Common.{rules, ◌≡◌, ℕ, ◌⊎◌, List, Some}
 use Rattle.std.specs.Prelude.{slice_get}
 use Rattle.dw_forms.specs.Value.{Datum}
 use Rattle.dw_entries.specs.declared.fault.Rule.{Rule}
@@ -7,28 +7,19 @@ use Rattle.dw_entries.specs.declared.fault.Section.{Section}
 use Rattle.dw_entries.specs.declared.fault.Broken.{Broken}
 use Rattle.dw_entries.specs.Rules.{number_of}
 use Rattle.dw_entries.specs.Entries.{Entry}
-use Rattle.dw_entries.specs.Places.{Place, at_header, at_entry, at_attribute, IsBefore}
+use Rattle.dw_entries.specs.Places.{Place, at_header, IsBefore}
 use Rattle.dw_entries.specs.Failures.{Failure, Names, IsFirst}
 use Rattle.dw_entries.specs.Asked.{OffsetsRise, AtAttributes, AtEntries}
+use Rattle.dw_entries.proofs.Firsts.{same_some}
 use Rattle.dw_entries.proofs.NumberOrder.{three_ways}
 
 -- two places are one, or one of them comes first
 abbrev Compared : Place → Place → Type 0
 Compared p q = (IsBefore p q ⊎ (p ≡ q)) ⊎ IsBefore q p
 
-attributes_compared : (a j b k : ℕ) → Compared (at_attribute a j) (at_attribute b k)
-attributes_compared a j b k = search (rules, three_ways)
-
 compared : (p q : Place) → Compared p q
-compared (at_header a) (at_header b) = elim (three_ways a b) [ inl (inl less) ↦ inl (inl less) | inl (inr same) ↦ inl (inr (ap at_header same)) | inr more ↦ inr more ]
-compared (at_header a) (at_entry b) = inl (inl tt)
-compared (at_header a) (at_attribute b k) = inl (inl tt)
-compared (at_entry a) (at_header b) = inr tt
-compared (at_entry a) (at_entry b) = elim (three_ways a b) [ inl (inl less) ↦ inl (inl less) | inl (inr same) ↦ inl (inr (ap at_entry same)) | inr more ↦ inr more ]
-compared (at_entry a) (at_attribute b k) = elim (three_ways a b) [ inl (inl less) ↦ inl (inl (omega arith)) | inl (inr same) ↦ inl (inl (omega (arith, same))) | inr more ↦ inr more ]
-compared (at_attribute a j) (at_header b) = inr tt
-compared (at_attribute a j) (at_entry b) = elim (three_ways a b) [ inl (inl less) ↦ inl (inl less) | inl (inr same) ↦ inr (omega (arith, same)) | inr more ↦ inr (omega arith) ]
-compared (at_attribute a j) (at_attribute b k) = attributes_compared a j b k
+compared (at_header a) (at_header b) = search (rules, three_ways)
+compared _ _ = search (rules, three_ways)
 
 named : Rule → Section → (at attribute : ℕ) → Broken
 named rule section at attribute = record { rule = rule; section = section; at = at; attribute = attribute }
@@ -48,9 +39,6 @@ AreOneAtPlace Fails = (f g : Failure) → Fails f → Fails g → f.place ≡ g.
 -- THE law of the first: two first failures of one group are named alike
 pub one_first : (Fails : Failure → Type 0) (a b : Broken) → AreOneAtPlace Fails → IsFirst Fails a → IsFirst Fails b → a ≡ b
 one_first Fails a b one p q = search (rules, compared, three_ways, one_name, named)
-
-same_some : {X : Type 0} (o : Option X) (x y : X) → o ≡ Some x → o ≡ Some y → x ≡ y
-same_some o x y p q = cc
 
 -- where entries are in rising offset, one entry is at an offset
 one_number : (entries : List Entry) → OffsetsRise entries → (i j : ℕ) (d e : Entry) → slice_get entries i ≡ Some d → slice_get entries j ≡ Some e → d.at ≡ e.at → i ≡ j

@@ -68,10 +68,8 @@ impl Image<'_> {
         ensures exact { IfSome (slice_get (entries_in self.now) id) (λ e. result ≡ type_in self.now e) }
         ensures within { IfSome result (λ it. it < length (entries_in self.now)) }
     {
-        match self.tables.target(&self.entries, id, DW_AT_type) {
-            Some(to) => self.type_at(to),
-            None => None,
-        }
+        let to = self.tables.target(&self.entries, id, DW_AT_type)?;
+        self.type_at(to)
     }
 
     /// The size of a type in bytes, below 2^63. None if its size is not known.
