@@ -3,7 +3,7 @@ use Rattle.std.proofs.Common.{rules, arith, ◌≡◌, ℕ, List, Option, Some, 
 use Rattle.std.specs.Prelude.{slice_get}
 use Rattle.dw_elf.specs.declared.sections.Sections.{Sections}
 use Rattle.dw_forms.specs.Codes.{DW_AT_str_offsets_base, DW_AT_addr_base, is_type_tag}
-use Rattle.dw_forms.specs.Value.{Datum, address, text, str, line_str, str_index, ref_info, ref_unit, ref_sig, addr_index}
+use Rattle.dw_forms.specs.Value.{Datum, str_index, ref_info, ref_unit, ref_sig, addr_index}
 use Rattle.dw_entries.specs.declared.fault.Rule.TheVariants.{BadStrBase, BadAddrBase, NoEntry, WrongKind, NotNextSibling, NoSignature, BadTypeOffset}
 use Rattle.dw_entries.specs.declared.header.UnitHeader.{UnitHeader}
 use Rattle.dw_entries.specs.Units.{DebugUnit, Spells}
@@ -45,19 +45,15 @@ told_address sections header (Some base) index never = refl
 
 has_text : (sections : Sections) (us : List DebugUnit) (id : ℕ) (e : Entry) (p : PlacedUnit) (attribute : ℕ) (v : Datum) → HasNone (StringFailures sections us) → slice_get (entries_of us) id ≡ Some e → slice_get (placed us) e.unit ≡ Some p
     → value_at_entry e attribute ≡ Some v → class_of v ≡ String → IsSome (text_of sections (base_in (entries_of us) p DW_AT_str_offsets_base) v)
-has_text sections us id e p attribute (text bytes) none is is_unit value class = refl
-has_text sections us id e p attribute (str offset) none is is_unit value class = refl
-has_text sections us id e p attribute (line_str offset) none is is_unit value class = refl
 has_text sections us id e p attribute (str_index index) none is is_unit value class =
     told_text sections (base_in (entries_of us) p DW_AT_str_offsets_base) index (passes_string sections us id e p attribute (str_index index) none is is_unit value BadStrBase)
-has_text sections us id e p attribute _ none is is_unit value class = absurd cc
+has_text sections us id e p attribute _ none is is_unit value class = search rules
 
 has_address : (sections : Sections) (us : List DebugUnit) (id : ℕ) (e : Entry) (p : PlacedUnit) (attribute : ℕ) (v : Datum) → HasNone (StringFailures sections us) → slice_get (entries_of us) id ≡ Some e → slice_get (placed us) e.unit ≡ Some p
     → value_at_entry e attribute ≡ Some v → class_of v ≡ Address → IsSome (address_of sections p.unit.header (base_in (entries_of us) p DW_AT_addr_base) v)
-has_address sections us id e p attribute (address n) none is is_unit value class = refl
 has_address sections us id e p attribute (addr_index index) none is is_unit value class =
     told_address sections p.unit.header (base_in (entries_of us) p DW_AT_addr_base) index (passes_string sections us id e p attribute (addr_index index) none is is_unit value BadAddrBase)
-has_address sections us id e p attribute _ none is is_unit value class = absurd cc
+has_address sections us id e p attribute _ none is is_unit value class = search rules
 
 pub have_texts : (sections : Sections) (us : List DebugUnit) → Spells sections.«abbrev».now us sections.info.now → HasNone (StringFailures sections us) → HaveTexts sections us
 unfolding text_at
@@ -73,9 +69,7 @@ have_addresses sections us spells none id e is attribute v value class =
 
 reference_value : (v : Datum) → class_of v ≡ Reference → is_reference_value v ≡ true
 reference_value (ref_info n) is = refl
-reference_value (ref_unit n) is = refl
-reference_value (ref_sig n) is = refl
-reference_value _ is = absurd cc
+reference_value _ is = search rules
 
 -- ---- what no failure says
 
