@@ -24,7 +24,7 @@ use Rattle.dw_types.proofs.FactsLemmas.{facts-parents_first, facts-targets}
 use Rattle.dw_image.specs.declared.image.Image.{Image}
 use Rattle.dw_image.specs.Images.{sections_in, units_in, size_table_in}
 use Rattle.dw_image.specs.Valid.{SpellsInfo, HasSizes, IsValidBy, IsValid}
-use Rattle.dw_image.specs.First.{Group, classes, strings, references, shapes, cycles, sizes, turn_of, failures_of, FailsInTrees, IsFirstIn, FailsInGroup, IsFirstFault, in_trees, in_group, IsOneFault}
+use Rattle.dw_image.specs.First.{Group, classes, strings, references, cycles, sizes, turn_of, failures_of, FailsInTrees, IsFirstIn, FailsInGroup, IsFirstFault, in_trees, in_group, IsOneFault}
 use Rattle.dw_image.specs.Headline.{IsSpelled, IsSoundBy, IsImageOf, IsFaultOf}
 use Rattle.dw_image.proofs.OneFirst.{one_first}
 use Rattle.dw_image.proofs.GroupLaws.{one_group, one_at_place, HoldBefore, none_before, one_more}
@@ -38,12 +38,9 @@ one_list_of s units others p q = one_list s.«abbrev».now s.info.now units othe
 
 -- the rules of each group hold of valid sections
 holds_of : (s : Sections) (units : List DebugUnit) → IsValidBy s units → (group : Group) → HasNone (failures_of s units group)
-holds_of s units valid classes = valid.classes
-holds_of s units valid strings = valid.strings
-holds_of s units valid references = valid.references
-holds_of s units valid shapes = valid.shapes
 holds_of s units valid cycles = no_cycle_holds (facts_in units) valid.contained
 holds_of s units valid sizes = none_by_size (facts_in units) (facts-parents_first units) (facts-targets units) valid.sizes.0 valid.sizes.1.one valid.sizes.1.none
+holds_of s units valid _ = search rules
 
 -- a group where no rule fails has no first failure
 none_first : (Fails : Failure → Type 0) (fault : Fault) → HasNone Fails → IsPlainFault (IsFirst Fails) fault → ⊥
