@@ -39,7 +39,8 @@ unfoldable pub list_from : {X : Type 0} {E : Type 0} → (List X → List ℕ �
     → List ℕ → Result (List X × List ℕ) E
 list_from next cut zero earlier bytes = Err cut
 list_from next cut (suc bound) earlier bytes =
-    next earlier bytes >>= λ p. on_option p.0 (Ok (earlier, p.1)) (λ x. list_from next cut bound (earlier ++ x ∷ []) p.1)
+    next earlier bytes >>= λ p. on_option p.0 (Ok (earlier, p.1))
+    (λ x. list_from next cut bound (earlier ++ x ∷ []) p.1)
 
 -- a list up to its end
 abbrev pub list_of : {X : Type 0} {E : Type 0} → (List X → List ℕ → Result (Option X × List ℕ) E) → E → List ℕ

@@ -1,5 +1,6 @@
 -- State: what begins at which offset of a section. What begins there is numbered from 1.
-use Rattle.std.specs.Prelude.{◌≡◌, ℕ, ◌<◌, ◌≤◌, ◌-◌, true, nat_eq, List, [], ◌∷◌, ◌++◌, length, get_or, slice_get, Some, All}
+use Rattle.std.specs.Prelude.{◌≡◌, ℕ, ◌<◌, ◌≤◌, ◌-◌, true, nat_eq, List, [], ◌∷◌, ◌++◌, length, get_or, slice_get}
+use Rattle.std.specs.Prelude.{Some, All}
 use Rattle.std.specs.List.{IsDistinct, list_any}
 use Rattle.dw_forms.specs.declared.offsets.Placed.{Placed}
 
