@@ -1,19 +1,18 @@
 -- The words of a base type's name, and its text.
 use Rattle.std.proofs.Common.{rules, ◌≡◌, ℕ, zero, suc, ◌+◌, ◌*◌, ◌<◌, ◌≤◌, Bool, true, false, List, [], ◌∷◌, ◌++◌, Option, Some, None, refl, sym, ◌∙◌, ap, subst, length, take, drop, append-nil, arith, ◌-◌, ◌/◌, ◌%◌, get_or, inl, inr}
-use Rattle.std.specs.Prelude.{◌==◌, ◌&&◌, ◌||◌, ◌-◌, count_by, position, bytes_eq, is_some, if◌then◌else◌, ◌⊎◌, slice_get}
+use Rattle.std.specs.Prelude.{◌==◌, ◌&&◌, ◌||◌, ◌-◌, count_by, position, bytes_eq, is_some, if◌then◌else◌, cond, filter, ◌⊎◌, slice_get}
 use Rattle.std.specs.List.{list_any, slice_split, position_or_len, join_with_byte, before_first, list_all}
 use Rattle.std.proofs.lemmas.Bool.Decides.{nat_tests}
 use Rattle.std.proofs.lemmas.Option.{cond_some, get_or_from_slice_get, slice_get-get_or, slice_get_within}
 use Rattle.std.proofs.lemmas.List.{length-append, take-append-drop, length-take-le, length-drop, length_push, drop-drop, get_or_append_left, get_or_push}
 use Rattle.std.proofs.lemmas.Slice.Eq.{bytes_eq-Decides}
 use Rattle.std.proofs.lemmas.List.Splits.{slice_split_first, slice_split-cons_no, length-slice_split, join_with_byte-slice_split}
-use Rattle.std.proofs.lemmas.List.Folds.{list_any-append, list_all-append}
+use Rattle.std.proofs.lemmas.List.Folds.{list_all-append}
 use Rattle.std.proofs.Math.Nat.{div-add-mod}
 use Rattle.std.proofs.lemmas.Bool.{cases_lt}
 use Rattle.dw_image.specs.Contributions.{string_at}
 use Rattle.dw_cprint.specs.Declarations.{parts_of, word_of, words_of}
-use Rattle.dw_cprint.specs.Legible.{is_keyword, is_word_byte}
-use Rattle.dw_cprint.specs.declared.names.TheConstants.{KEYWORDS, LONG_KEYWORDS}
+use Rattle.dw_cprint.specs.Legible.{is_word_byte}
 use Rattle.dw_cprint.specs.Terms.{TypeWord}
 use Rattle.dw_cprint.specs.Tokens.{type_word_spelling, text_of}
 use Rattle.dw_cprint.specs.Writing.{basic}
@@ -21,10 +20,20 @@ use Rattle.dw_cprint.specs.StringSpans.{AreSpans, IsSpan}
 use Rattle.dw_cprint.specs.declared.source.Span.{Span}
 use Rattle.dw_cprint.proofs.OptionLemmas.{both_hold}
 
--- a keyword is one of the short ones or one of the longest
-pub keyword_parts : (word : List ℕ) → is_keyword word ≡ (list_any (λ k. bytes_eq word k.now) KEYWORDS || list_any (λ k. bytes_eq word k.now) LONG_KEYWORDS)
-unfolding is_keyword
-keyword_parts word = list_any-append (λ k. bytes_eq word k.now) KEYWORDS LONG_KEYWORDS
+-- a text is one of these if it is one of those whose length passes a test that its own length passes
+pub by_length : (p : ℕ → Bool) (word : List ℕ) (ks : List (List ℕ)) → p (length word) ≡ true → list_any (bytes_eq word) ks ≡ list_any (bytes_eq word) (filter (λ k. p (length k)) ks)
+by_length p word [] is = refl
+by_length p word (k ∷ ks) is = by_tests (bytes_eq word k) (p (length k)) refl refl (by_length p word ks is)
+  where
+    by_tests : (same there : Bool) → bytes_eq word k ≡ same → p (length k) ≡ there → list_any (bytes_eq word) ks ≡ list_any (bytes_eq word) (filter (λ k. p (length k)) ks)
+        → (same || list_any (bytes_eq word) ks) ≡ list_any (bytes_eq word) (cond there (k ∷ filter (λ k. p (length k)) ks) (filter (λ k. p (length k)) ks))
+    by_tests true true e f rest = rw e refl
+    by_tests true false e f rest =
+        let same : word ≡ k = search (rules, bytes_eq-Decides) in
+        let no : true ≡ false = sym is ∙ ap (λ (w : List ℕ). p (length w)) same ∙ f in
+        absurd (cc)
+    by_tests false true e f rest = rw e rest
+    by_tests false false e f rest = rest
 
 module _ {X : Type 0} (p : X → Bool) where
   split-whole : (xs : List X) → length xs ≤ position_or_len p xs → slice_split p xs ≡ xs ∷ []

@@ -23,5 +23,5 @@ pub use laws::{
     text_in_parts, types_are_entries,
 };
 pub use listing::{Listing, declare, declare_all};
-pub use source::{Source, Strings};
+pub use source::Source;
 pub use words::{Text, digit_of, put_eight_digits};

@@ -19,7 +19,7 @@ use crate::fault::PrintFault;
 use crate::reaching::all_types;
 use crate::shape::{Name, Shape, Subject};
 use crate::shape_reader::subject_of;
-use crate::source::{Source, Strings, flag_at, has_name, tag_at};
+use crate::source::{Source, flag_at, has_name, tag_at};
 use crate::survey::Survey;
 use crate::text::{Draft, put_enumerators, put_tag};
 use crate::words::{TagKeyword, put_eight_digits};
@@ -126,10 +126,7 @@ pub fn declare(
     ensures refused { (rule : PrintFaultOf) → rule ≢ Memory → result ≡ Err rule
         → Refuses (shape_in image.now) (subject_in image.now id) rule }
 {
-    let source = Source {
-        image,
-        strings: Strings::read(alloc, image)?,
-    };
+    let source = Source::read(alloc, image)?;
     let mut draft = Draft::new(alloc);
     if let Some(fault) = refusal_of(alloc, &source, id, &mut draft)? {
         return Err(fault);
@@ -266,10 +263,7 @@ pub fn declare_all(alloc: Global, image: &Image<'_>) -> Result<Listing, NoMemory
     let levels = levels_of(alloc, image)?;
     sort_by_level(&mut named, &levels)?;
     drop(levels);
-    let source = Source {
-        image,
-        strings: Strings::read(alloc, image)?,
-    };
+    let source = Source::read(alloc, image)?;
     let types = all_types(alloc, image, &named)?;
     let survey = Survey::new(alloc, &source, types)?;
     let mut listing = Listing {

@@ -8,24 +8,45 @@ ghost use Rattle.dw_cprint.specs.Wrong.{is_base_name};
 
 use crate::words::Text;
 
-/// The keywords of C11, except the longest.
-const KEYWORDS: [&str; 40] = [
-    "auto", "break", "case", "char", "const", "continue", "default", "do", "double", "else",
-    "enum", "extern", "float", "for", "goto", "if", "inline", "int", "long", "register",
-    "restrict", "return", "short", "signed", "sizeof", "static", "struct", "switch", "typedef",
-    "union", "unsigned", "void", "volatile", "while", "_Alignas", "_Alignof", "_Atomic", "_Bool",
-    "_Complex", "_Generic",
-];
-
-/// The longest keywords of C11.
-const LONG_KEYWORDS: [&str; 4] = ["_Imaginary", "_Noreturn", "_Static_assert", "_Thread_local"];
-
-/// Whether the text is a keyword of C.
-#[tactic(auto, using(crate::proofs::NameLemmas::keyword_parts))]
+/// Whether the text is a keyword of C11. It is compared with those that have as many bytes.
 fn is_keyword_text(word: &[u8]) -> bool
     ensures { result ≡ is_keyword word.now }
 {
-    is_one_of(word, &KEYWORDS) || is_one_of(word, &LONG_KEYWORDS)
+    match word.len() {
+        2 => is_one_of(word, &["do", "if"]),
+        3 => is_one_of(word, &["for", "int"]),
+        4 => is_one_of(
+            word,
+            &[
+                "auto", "case", "char", "else", "enum", "goto", "long", "void",
+            ],
+        ),
+        5 => is_one_of(
+            word,
+            &[
+                "break", "const", "float", "short", "union", "while", "_Bool",
+            ],
+        ),
+        6 => is_one_of(
+            word,
+            &[
+                "double", "extern", "inline", "return", "signed", "sizeof", "static", "struct",
+                "switch",
+            ],
+        ),
+        7 => is_one_of(word, &["default", "typedef", "_Atomic"]),
+        8 => is_one_of(
+            word,
+            &[
+                "continue", "register", "restrict", "unsigned", "volatile", "_Alignas", "_Alignof",
+                "_Complex", "_Generic",
+            ],
+        ),
+        _ => is_one_of(
+            word,
+            &["_Imaginary", "_Noreturn", "_Static_assert", "_Thread_local"],
+        ),
+    }
 }
 
 /// Whether the text is one of these.

@@ -94,38 +94,33 @@ impl<'a> StringTable<'a> {
     }
 }
 
-/// The strings of an image that entries share.
+/// An image and the strings that its entries share, in which names are found without being read to their ends.
 #[derive(Drop)]
-pub struct Strings<'a> {
-    /// Those of .debug_str.
+pub struct Source<'i, 'a> {
+    pub image: &'i Image<'a>,
+    /// The strings of .debug_str.
     str: StringTable<'a>,
     /// Those of .debug_line_str.
     line_str: StringTable<'a>,
+    ghost same_str: { str.section ≡ (sections_in image.now).str },
+    ghost same_line_str: { line_str.section ≡ (sections_in image.now).line_str },
 }
 
-impl<'a> Strings<'a> {
-    /// The strings of an image, whose two sections are read once.
-    pub fn read(alloc: Global, image: &Image<'a>) -> Result<Strings<'a>, AllocError>
-        ensures str { IfOk result (λ it. it.str.section ≡ (sections_in image.now).str) }
-        ensures line_str { IfOk result (λ it. it.line_str.section ≡ (sections_in image.now).line_str) }
+impl<'i, 'a> Source<'i, 'a> {
+    /// An image, whose two sections of strings are read once.
+    pub fn read(alloc: Global, image: &'i Image<'a>) -> Result<Source<'i, 'a>, AllocError>
+        ensures { IfOk result (λ it. it.image ≡ image.entry) }
     {
         let sections = image.sections();
         let str = StringTable::new(alloc, sections.str)?;
         let line_str = StringTable::new(alloc, sections.line_str)?;
-        Ok(Strings { str, line_str })
+        Ok(Source {
+            image,
+            str,
+            line_str,
+        })
     }
-}
 
-/// An image and its strings, in which names are found without being read to their ends.
-#[derive(Drop)]
-pub struct Source<'i, 'a> {
-    pub image: &'i Image<'a>,
-    pub strings: Strings<'a>,
-    ghost same_str: { strings.str.section ≡ (sections_in image.now).str },
-    ghost same_line_str: { strings.line_str.section ≡ (sections_in image.now).line_str },
-}
-
-impl<'i, 'a> Source<'i, 'a> {
     /// The text at a place. One in .debug_info is read to its end.
     pub fn text(&self, place: TextPlace) -> Text<'a>
         requires { IsPlace (sections_in self.now.image.now) place }
@@ -136,8 +131,8 @@ impl<'i, 'a> Source<'i, 'a> {
                 let bytes = string_from(self.image.sections().info, offset);
                 Text::new(bytes, are_words(bytes))
             }
-            TextPlace::Str(offset) => self.strings.str.text(offset),
-            TextPlace::LineStr(offset) => self.strings.line_str.text(offset),
+            TextPlace::Str(offset) => self.str.text(offset),
+            TextPlace::LineStr(offset) => self.line_str.text(offset),
         }
     }
 

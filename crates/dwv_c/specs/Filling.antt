@@ -1,9 +1,7 @@
 -- State: what is known of an entry before its row is written.
 use Rattle.std.specs.Prelude.{◌≡◌, ℕ, suc, List, length, min, slice_get, Option, None, Some, option_map}
-use Rattle.dw_elf.specs.declared.sections.Sections.{Sections}
 use Rattle.dw_elf.specs.Sections.{IsAt}
 use Rattle.dwv_c.specs.declared.rows.NamePlace.{NamePlace}
-use Rattle.dwv_c.specs.declared.rows.Starts.{Starts}
 use Rattle.dwv_c.specs.declared.rows.EntryRow.{EntryRow}
 use Rattle.dwv_c.specs.Rows.{greatest}
 
@@ -11,12 +9,6 @@ use Rattle.dwv_c.specs.Rows.{greatest}
 abbrev pub depth_under : List EntryRow → Option ℕ → Option ℕ
 depth_under rows None = Some 0
 depth_under rows (Some p) = option_map (λ (r : EntryRow). min (suc r.depth) greatest) (slice_get rows p)
-
--- where the sections that have texts start in the file
-pub record AreStarts (file : List ℕ) (s : Sections) (starts : Starts) : Type 0 where
-  pub info_at : IsAt file starts.info s.info.now
-  pub str_at : IsAt file starts.str s.str.now
-  pub line_str_at : IsAt file starts.line_str s.line_str.now
 
 -- a name's bytes are in the file at this place, or neither is there
 abbrev pub IsNamePlace : (file : List ℕ) → Option (List ℕ) → Option NamePlace → Type 0

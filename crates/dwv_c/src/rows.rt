@@ -8,10 +8,10 @@ ghost use Rattle.dw_image.specs.Slots.{IsPlace};
 ghost use Rattle.dw_image.specs.ValueTexts.{text_there};
 ghost use Rattle.dwv_c.specs.Verdicts.{IsSoundFile, of_image};
 ghost use Rattle.dwv_c.specs.Rows.{HasSize, HaveRows, IsRow, PutsRows};
-ghost use Rattle.dwv_c.specs.Filling.{AreStarts, HasPlace, IsNamePlace, depth_under};
+ghost use Rattle.dwv_c.specs.Filling.{HasPlace, IsNamePlace, depth_under};
 
 use crate::verdict::{NO_MEMORY, SOUND, TOO_SHORT, Verdict, verdict_of_counts};
-use dw_cprint::{Source, Strings};
+use dw_cprint::Source;
 use dw_elf::{DebugSection, section_start};
 use dw_image::{EntryId, Image, Tag, TextPlace};
 use dw_report::size_of_entry;
@@ -27,22 +27,19 @@ pub struct NamePlace {
     pub length: u32,
 }
 
-/// Where the sections that have texts start in the file.
-#[derive(Clone, Copy, Debug)]
-pub struct Starts {
-    pub info: usize,
-    pub str: usize,
-    pub line_str: usize,
-}
-
 /// The names of the entries of a file, by where they are in its bytes.
 #[derive(Drop)]
 pub struct Names<'i, 'a> {
     /// The bytes of the file.
     pub file: &'a [u8],
     pub source: Source<'i, 'a>,
-    starts: Starts,
-    ghost started: { AreStarts file.now (sections_in source.image.now) starts },
+    /// Where .debug_info starts in the file, .debug_str and .debug_line_str.
+    info_start: usize,
+    str_start: usize,
+    line_str_start: usize,
+    ghost info_at: { IsAt file.now info_start (sections_in source.image.now).info.now },
+    ghost str_at: { IsAt file.now str_start (sections_in source.image.now).str.now },
+    ghost line_str_at: { IsAt file.now line_str_start (sections_in source.image.now).line_str.now },
 }
 
 impl<'i, 'a> Names<'i, 'a> {
@@ -57,15 +54,13 @@ impl<'i, 'a> Names<'i, 'a> {
         ensures file { IfOk result (λ it. it.file ≡ file.entry) }
         ensures image { IfOk result (λ it. it.source.image ≡ image.entry) }
     {
-        let strings = Strings::read(alloc, image)?;
+        let source = Source::read(alloc, image)?;
         Ok(Names {
             file,
-            source: Source { image, strings },
-            starts: Starts {
-                info: section_start(file, DebugSection::Info),
-                str: section_start(file, DebugSection::Str),
-                line_str: section_start(file, DebugSection::LineStr),
-            },
+            source,
+            info_start: section_start(file, DebugSection::Info),
+            str_start: section_start(file, DebugSection::Str),
+            line_str_start: section_start(file, DebugSection::LineStr),
         })
     }
 
@@ -75,9 +70,9 @@ impl<'i, 'a> Names<'i, 'a> {
         ensures { IsAt self.now.file.now result (text_there (sections_in self.now.source.image.now) place) }
     {
         match place {
-            TextPlace::Info(offset) => self.starts.info + offset,
-            TextPlace::Str(offset) => self.starts.str + offset,
-            TextPlace::LineStr(offset) => self.starts.line_str + offset,
+            TextPlace::Info(offset) => self.info_start + offset,
+            TextPlace::Str(offset) => self.str_start + offset,
+            TextPlace::LineStr(offset) => self.line_str_start + offset,
         }
     }
 

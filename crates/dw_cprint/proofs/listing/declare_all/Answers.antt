@@ -20,14 +20,14 @@ all_types-requires c = search (rules, named-within)
 pub new-requires : goal.new-requires
 new-requires c =
     let R : List ℕ → Type 0 = λ roots. All (λ to. to < length (entries_in c.args.image.now)) roots in
-    subst R (sym c.in_ok-types.ensures) (roots_within c.args.image.now c.deref.result.now)
+    rw c.in_ok-source.ensures (subst R (sym c.in_ok-types.ensures) (roots_within c.args.image.now c.deref.result.now))
 
 pub subject_of-requires : goal.subject_of-requires
 subject_of-requires c =
     let named = c.sort_by_level.new.entries.items in
     let within : c.loop-place.place < length named = (let test = c.loop-place-test.true in let end = c.len-place-end.ensures in omega arith) in
     let at = get_or_read named c.loop-place.place c.index-id.result.now within c.index-id.ensures 0 in
-    rw at (named-within c.args.image.now c.in_ok-named.named.items named c.in_ok-named.ensures c.in_ok-sort_by_level.ensures.permutation c.loop-place.place 0 within)
+    rw (c.in_ok-source.ensures, at) (named-within c.args.image.now c.in_ok-named.named.items named c.in_ok-named.ensures c.in_ok-sort_by_level.ensures.permutation c.loop-place.place 0 within)
 
 pub loop-place-preserved : goal.loop-place-preserved
 loop-place-preserved c =
@@ -41,7 +41,7 @@ loop-place-preserved c =
     let roots = c.in_ok-types.ensures ∙ ap (flat_map f) c.deref.ensures.value in
     let among : AreAmong (f entry) (entries_of c.in_ok-types.types.items) = rw (at, roots) (steps-among f named place within) in
     let B : SubjectOf → Type 0 = λ s. BySurvey c.in_ok-survey.survey (first_steps s) (λ shapes. IsAdded shapes entry s c.loop-place.listing c.add.new.self) in
-    let added = subst B c.in_ok-subject.ensures c.in_ok-add.ensures (shape_in image) (entries_of c.in_ok-types.types.items) c.in_ok-survey.ensures among in
+    let added = subst B (rw c.in_ok-source.ensures at c.in_ok-subject.ensures) c.in_ok-add.ensures (shape_in image) (entries_of c.in_ok-types.types.items) (rw c.in_ok-source.ensures at c.in_ok-survey.ensures) among in
     judged-more image named place entry c.loop-place.listing c.add.new.self within (sym at) added c.loop-place.invariant
 
 pub put_all_refused-requires : goal.put_all_refused-requires
