@@ -2,9 +2,10 @@
 
 ghost use Rattle.std.specs.Prelude.{◌≡◌, ◌+◌, ◌≤◌, ◌⊎◌, length, drop, IfOk};
 ghost use Rattle.dw_forms.specs.Value.{counted as counted_layout, leb_counted as leb_layout, block as block_datum};
+ghost use Rattle.dw_forms.specs.Value.{signed_leb, signed};
 ghost use Rattle.dw_forms.specs.ValueReading.{Gives, GivesIn, fixed_at, block_at, counted_at, leb_counted_at, ended_at};
 
-use crate::leb::read_uleb;
+use crate::leb::{read_sleb, read_uleb};
 use crate::value::{Value, ValueFault};
 use byteorder::{ByteOrder, LittleEndian};
 use memchr::memchr;
@@ -117,4 +118,14 @@ pub(crate) fn leb_block(bytes: &[u8]) -> Result<(Value<'_>, usize), ValueFault>
 {
     let (content, len) = leb_counted(bytes)?;
     Ok((Value::Block(content), len))
+}
+
+/// A signed LEB128 number.
+#[tactic(auto, unfolding(crate::specs::ValueReading::layout_at, crate::specs::ValueReading::sleb_then))]
+pub(crate) fn leb_signed(bytes: &[u8]) -> Result<(Value<'_>, usize), ValueFault>
+    ensures within { IfOk result (λ x. x.1 ≤ length bytes.now) }
+    ensures exact { GivesIn (signed_leb signed) bytes.now result }
+{
+    let (number, len) = read_sleb(bytes)?;
+    Ok((Value::Signed(number), len))
 }

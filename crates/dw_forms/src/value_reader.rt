@@ -10,14 +10,14 @@ ghost use Rattle.dw_forms.specs.ValueReading.{Gives, GivesIn, named_at, value_at
 
 use crate::form::Form;
 use crate::layout_reader::{
-    address, block, counted, counted_block, fixed, leb_block, leb_counted, offset, text,
+    address, block, counted, counted_block, fixed, leb_block, leb_counted, leb_signed, offset, text,
 };
 use crate::leb::{read_sleb, read_uleb};
 use crate::value::{Value, ValueFault};
 
 /// The value of a form that names no other form, and how many bytes it has.
 #[inline(never)]
-#[tactic(auto, unfolding(crate::specs::ValueReading::layout_at, crate::specs::ValueReading::uleb_then, crate::specs::ValueReading::sleb_then))]
+#[tactic(auto, unfolding(crate::specs::ValueReading::layout_at, crate::specs::ValueReading::uleb_then))]
 fn plain(form: Form, address_size: u8, bytes: &[u8]) -> Result<(Value<'_>, usize), ValueFault>
     requires { (address_size ≡ 4) ⊎ (address_size ≡ 8) }
     ensures within { IfOk result (λ x. x.1 ≤ length bytes.now) }
@@ -41,10 +41,7 @@ fn plain(form: Form, address_size: u8, bytes: &[u8]) -> Result<(Value<'_>, usize
         Form::Block1 => counted_block(bytes, 1),
         Form::Data1 => Ok((Value::Unsigned(fixed(bytes, 1)?), 1)),
         Form::Flag => Ok((Value::Flag(fixed(bytes, 1)? != 0), 1)),
-        Form::Sdata => {
-            let (number, len) = read_sleb(bytes)?;
-            Ok((Value::Signed(number), len))
-        }
+        Form::Sdata => leb_signed(bytes),
         Form::Strp => Ok((Value::Str(offset(bytes)?), 4)),
         Form::Udata => {
             let (number, len) = read_uleb(bytes)?;
