@@ -7,7 +7,8 @@ use Rattle.std.proofs.lemmas.Option.{slice_get_cases}
 use Rattle.std.proofs.lemmas.List.Elements.{All-nil, All-cons, All-head, All-tail}
 use Rattle.dw_entries.specs.Entries.{Entry}
 use Rattle.dw_cprint.specs.Children.{AreKept}
-use Rattle.dw_image.specs.Lookups.{is_number, children_from, children_of}
+use Rattle.dw_image.specs.Lookups.{children_from, children_of}
+use Rattle.dw_types.specs.Entries.{is_parent}
 
 none_past : (es : List Entry) (i : ℕ) → slice_get es i ≡ None → length es ≤ i
 none_past es i gone = search (rules, slice_get_cases)
@@ -22,7 +23,7 @@ within_one false k n ids below all = all
 
 within_from : (es : List Entry) (id k n : ℕ) → k + length es ≤ n → All (λ child. child < n) (children_from es id k)
 within_from [] id k n fits = All-nil (λ child. child < n)
-within_from (e ∷ es) id k n fits = within_one (is_number id e.parent) k n (children_from es id (suc k)) (omega arith) (within_from es id (suc k) n (omega arith))
+within_from (e ∷ es) id k n fits = within_one (is_parent e.parent id) k n (children_from es id (suc k)) (omega arith) (within_from es id (suc k) n (omega arith))
 
 -- the children of an entry are entries
 pub children_within : (es : List Entry) (id : ℕ) → All (λ child. child < length es) (children_of es id)

@@ -1,37 +1,45 @@
--- The attributes that are passed, up to the next one that is asked for.
-use Rattle.std.proofs.Common.{rules, ◌≡◌, ℕ, zero, suc, List, [], ◌∷◌, ◌++◌, map, length, take, drop, Option, Some, None, sym, ap, ◌∙◌, subst, append-nil}
-use Rattle.std.specs.Prelude.{IfSome, IfNone, MatchOption}
+-- The attributes that are passed, up to the first one that a test holds for.
+use Rattle.std.proofs.Common.{rules, ◌≡◌, ℕ, zero, suc, false, List, [], ◌∷◌, ◌++◌, map, length, take, drop, Option, Some, None, sym, ap, ◌∙◌, subst, append-nil}
+use Rattle.std.specs.Prelude.{Bool, IfSome, IfNone, MatchOption}
+use Rattle.std.specs.List.{list_any}
+use Rattle.std.proofs.lemmas.Bool.{or_parts}
 use Rattle.std.proofs.lemmas.List.{take-append-drop, length-map}
 use Rattle.dw_forms.specs.declared.attributes.Attributes.{Attributes}
 use Rattle.dw_forms.specs.declared.decl.AttributeSpec.{AttributeSpec}
 use Rattle.dw_forms.specs.declared.value.Value.{Value}
-use Rattle.dw_forms.specs.Suffixes.{specs_in}
+use Rattle.dw_forms.specs.Chains.{items_of}
+use Rattle.dw_forms.specs.Suffixes.{specs_in, IsFrom}
 use Rattle.dw_forms.specs.Value.{Datum}
-use Rattle.dw_forms.proofs.SuffixLaws.{specs_ends}
+use Rattle.dw_forms.proofs.SuffixLaws.{specs_ends, follow}
 use Rattle.dw_entries.specs.Grammar.{Context, Attribute, AreAttributes}
 use Rattle.dw_entries.specs.Asked.{value_of}
-use Rattle.dw_entries.specs.Chosen.{AreUnasked, IsNextAsked, ArePassed, IsNextOf}
+use Rattle.dw_entries.specs.Chosen.{ArePassed, IsNextOf}
 use Rattle.dw_entries.specs.ValuesLeft.{viewed}
 
--- attributes are passed where their specifications are not asked for
-pub front_passed : (Passes : AttributeSpec → Type 0) (x : Context) (front back : List AttributeSpec) (bs : List Attribute) → AreAttributes x (front ++ back) bs → AreUnasked Passes front → ArePassed Passes (take (length front) (map value_of bs))
-front_passed Passes x [] back bs are unasked j item is = absurd cc
-front_passed Passes x (s ∷ front) back [] are unasked j item is = absurd are
-front_passed Passes x (s ∷ front) back (b ∷ bs) are unasked zero item is = search (rules)
-front_passed Passes x (s ∷ front) back (b ∷ bs) are unasked (suc j) item is = front_passed Passes x front back bs are.1 unasked.1 j item is
+module _ (test : AttributeSpec → Bool) (x : Context) where
+  -- it fails for an attribute that is declared so
+  abbrev Fails : AttributeSpec → Type 0
+  Fails spec = test spec ≡ false
 
--- where no specification is asked for, all are passed
-pub all_passed : (Passes : AttributeSpec → Type 0) (x : Context) (specs : List AttributeSpec) (bs : List Attribute) → AreAttributes x specs bs → AreUnasked Passes specs → ArePassed Passes (map value_of bs)
-all_passed Passes x [] [] are unasked j item is = absurd cc
-all_passed Passes x [] (b ∷ bs) are unasked j item is = absurd are
-all_passed Passes x (s ∷ specs) [] are unasked j item is = absurd are
-all_passed Passes x (s ∷ specs) (b ∷ bs) are unasked zero item is = search (rules)
-all_passed Passes x (s ∷ specs) (b ∷ bs) are unasked (suc j) item is = all_passed Passes x specs bs are.1 unasked.1 j item is
+  -- attributes are passed where the test fails for all of them
+  pub front_passed : (front back : List AttributeSpec) (bs : List Attribute) → AreAttributes x (front ++ back) bs → list_any test front ≡ false → ArePassed Fails (take (length front) (map value_of bs))
+  front_passed [] back bs are none j item is = absurd cc
+  front_passed (s ∷ front) back [] are none j item is = absurd are
+  front_passed (s ∷ front) back (b ∷ bs) are none zero item is = search (rules, or_parts)
+  front_passed (s ∷ front) back (b ∷ bs) are none (suc j) item is = front_passed front back bs are.1 (or_parts (test s) (list_any test front) none).1 j item is
 
--- those before the next one that is asked for
-pub before_passed : (Passes : AttributeSpec → Type 0) (x : Context) (all others : Attributes) (bs : List Attribute) (next : IsNextAsked Passes all others) → AreAttributes x (specs_in all) bs
-    → ArePassed Passes (take (length next.before) (map value_of bs))
-before_passed Passes x all others bs next are = search (rules, specs_ends, length-map, front_passed)
+  pub all_passed : (specs : List AttributeSpec) (bs : List Attribute) → AreAttributes x specs bs → list_any test specs ≡ false → ArePassed Fails (map value_of bs)
+  all_passed [] [] are none j item is = absurd cc
+  all_passed [] (b ∷ bs) are none j item is = absurd are
+  all_passed (s ∷ specs) [] are none j item is = absurd are
+  all_passed (s ∷ specs) (b ∷ bs) are none zero item is = search (rules, or_parts)
+  all_passed (s ∷ specs) (b ∷ bs) are none (suc j) item is = all_passed specs bs are.1 (or_parts (test s) (list_any test specs) none).1 j item is
+
+  -- those before the first one that it holds for
+  pub before_passed : (all found : Attributes) (is : IsFrom test all found) (bs : List Attribute) → AreAttributes x (specs_in all) bs → ArePassed Fails (take (length (follow test all found is).before) (map value_of bs))
+  before_passed all found is bs are =
+      let f = follow test all found is in
+      search (rules, specs_ends, length-map, front_passed)
 
 -- the next one that is given is after those that are passed
 pub next_found : (X : Type 0) (Passes : AttributeSpec → Type 0) (items left behind : List (ℕ × Datum)) (k : ℕ) (r : Option (ℕ × Value)) → MatchOption r X (λ y. left ≡ viewed y ∷ behind) → left ≡ drop k items → ArePassed Passes (take k items)

@@ -11,7 +11,7 @@ use Rattle.dw_entries.specs.Header.{header_size}
 use Rattle.dw_entries.specs.Tree.{Node, Nodes, leaf, parent, none, ◌then◌, node_bytes}
 use Rattle.dw_entries.specs.Units.{DebugUnit, unit_bytes}
 use Rattle.dw_entries.specs.Entries.{Entry, node_count, first_id, node_entries, nodes_entries, entries_from, entries_of}
-use Rattle.dw_entries.specs.Scanned.{Scanned, units_of}
+use Rattle.dw_entries.specs.Scanned.{found_units, Scanned}
 use Rattle.dw_entries.proofs.EntryFacts.{length-node_entries, kept_get}
 use Rattle.dw_entries.proofs.FindLaws.{entries_counted}
 use Rattle.dw_entries.proofs.KeptLaws.{kept_entry, one_some}
@@ -177,10 +177,10 @@ height (Some p) = suc p
 
 module _ (a info : List ℕ) (tables : Tables) (rs : List UnitRecord) (records : List Record) (s : Scanned a info tables rs records) where
   -- the record of an entry has its parent
-  parent_kept : (id : ℕ) (r : Record) (e : Entry) → slice_get records id ≡ Some r → slice_get (entries_of (units_of s)) id ≡ Some e → r.parent ≡ e.parent
+  parent_kept : (id : ℕ) (r : Record) (e : Entry) → slice_get records id ≡ Some r → slice_get (entries_of (found_units s)) id ≡ Some e → r.parent ≡ e.parent
   parent_kept id r e read is = search (rules, kept_get, one_some)
 
-  pub starts : (id : ℕ) (r : Record) → id < length (entries_of (units_of s)) → slice_get records id ≡ Some r → Climbs (entries_of (units_of s)) id 0 r.parent
+  pub starts : (id : ℕ) (r : Record) → id < length (entries_of (found_units s)) → slice_get records id ≡ Some r → Climbs (entries_of (found_units s)) id 0 r.parent
   starts id r within read =
       let k = kept_entry a info tables rs records s id within in
       record {
@@ -194,15 +194,15 @@ module _ (a info : List ℕ) (tables : Tables) (rs : List UnitRecord) (records :
         fewer = omega arith;
       }
 
-  module _ (id depth p : ℕ) (c : Climbs (entries_of (units_of s)) id depth (Some p)) where
+  module _ (id depth p : ℕ) (c : Climbs (entries_of (found_units s)) id depth (Some p)) where
     pub above_within : p < length records
     above_within =
-        let (above, is, deeper, less) = one_deeper (units_of s) c.place p c.here c.is_here c.parent in
-        omega (arith, slice_get_within (entries_of (units_of s)) p above is, entries_counted a info tables rs records s)
+        let (above, is, deeper, less) = one_deeper (found_units s) c.place p c.here c.is_here c.parent in
+        omega (arith, slice_get_within (entries_of (found_units s)) p above is, entries_counted a info tables rs records s)
 
     pub depth_less : depth < id
     depth_less =
-        let (above, is, deeper, less) = one_deeper (units_of s) c.place p c.here c.is_here c.parent in
+        let (above, is, deeper, less) = one_deeper (found_units s) c.place p c.here c.is_here c.parent in
         let fewer = c.fewer in
         omega (arith, less, fewer)
 
@@ -210,9 +210,9 @@ module _ (a info : List ℕ) (tables : Tables) (rs : List UnitRecord) (records :
       stands : slice_get records p ≡ Some r
       stands = slice_get-get_or records p r above_within ∙ ap (λ (x : Record). Some x) (sym read)
 
-      pub climbs : Climbs (entries_of (units_of s)) id (depth + 1) r.parent
+      pub climbs : Climbs (entries_of (found_units s)) id (depth + 1) r.parent
       climbs =
-          let (above, is, deeper, less) = one_deeper (units_of s) c.place p c.here c.is_here c.parent in
+          let (above, is, deeper, less) = one_deeper (found_units s) c.place p c.here c.is_here c.parent in
           let sum = c.sum in
           let fewer = c.fewer in
           record {
@@ -232,9 +232,9 @@ module _ (a info : List ℕ) (tables : Tables) (rs : List UnitRecord) (records :
           go : (o : Option ℕ) → r.parent ≡ o → height o < suc p
           go None at = omega arith
           go (Some q) at =
-              let (above, is, deeper, less) = one_deeper (units_of s) c.place p c.here c.is_here c.parent in
-              let (more, there, far, before) = one_deeper (units_of s) p q above is (sym (parent_kept p r above stands is) ∙ at) in
+              let (above, is, deeper, less) = one_deeper (found_units s) c.place p c.here c.is_here c.parent in
+              let (more, there, far, before) = one_deeper (found_units s) p q above is (sym (parent_kept p r above stands is) ∙ at) in
               omega (arith, before)
 
-  pub is_deep : (id depth : ℕ) → Climbs (entries_of (units_of s)) id depth None → IfSome (slice_get (entries_of (units_of s)) id) (λ e. depth ≡ e.depth)
+  pub is_deep : (id depth : ℕ) → Climbs (entries_of (found_units s)) id depth None → IfSome (slice_get (entries_of (found_units s)) id) (λ e. depth ≡ e.depth)
   is_deep id depth c = search (rules, no_depth)

@@ -8,7 +8,7 @@ use Rattle.dw_forms.specs.KeptDecls.{Tables}
 use Rattle.dw_entries.specs.declared.walk.Record.{Record}
 use Rattle.dw_entries.specs.declared.walk.UnitRecord.{UnitRecord}
 use Rattle.dw_entries.specs.Entries.{entries_of}
-use Rattle.dw_entries.specs.Scanned.{numbers_of, record_of, Scanned, units_of}
+use Rattle.dw_entries.specs.Scanned.{found_units, numbers_of, record_of, Scanned}
 use Rattle.dw_entries.specs.Runs.{IsEntryAt}
 use Rattle.dw_entries.proofs.NumberOrder.{three_ways}
 use Rattle.dw_entries.proofs.EntryFacts.{kept_get, entries_rise}
@@ -23,12 +23,12 @@ read_at : (records : List Record) (i : ℕ) (r : Record) → slice_get records i
 read_at records i r is = search (rules, slice_get-get_or, slice_get_within)
 
 module _ (a info : List ℕ) (tables : Tables) (rs : List UnitRecord) (records : List Record) (s : Scanned a info tables rs records) where
-  pub entries_counted : length records ≡ length (entries_of (units_of s))
-  entries_counted = ap length s.1.entries ∙ length-map (entries_of (units_of s)) (record_of (numbers_of tables rs))
+  pub entries_counted : length records ≡ length (entries_of (found_units s))
+  entries_counted = ap length s.1.entries ∙ length-map (entries_of (found_units s)) (record_of (numbers_of tables rs))
 
   -- the record of an entry
-  stands_at : (id : ℕ) {offset : ℕ} (found : IsEntryAt (entries_of (units_of s)) offset id) → slice_get records id ≡ Some (record_of (numbers_of tables rs) found.entry)
-  stands_at id found = ap (λ (xs : List Record). slice_get xs id) s.1.entries ∙ kept_get (numbers_of tables rs) (units_of s) id found.entry found.is_entry
+  stands_at : (id : ℕ) {offset : ℕ} (found : IsEntryAt (entries_of (found_units s)) offset id) → slice_get records id ≡ Some (record_of (numbers_of tables rs) found.entry)
+  stands_at id found = ap (λ (xs : List Record). slice_get xs id) s.1.entries ∙ kept_get (numbers_of tables rs) (found_units s) id found.entry found.is_entry
 
   -- records stand in rising offset
   pub records_rise : IsNonDecreasingBy (λ (r : Record). r.at) records
@@ -53,7 +53,7 @@ module _ (a info : List ℕ) (tables : Tables) (rs : List UnitRecord) (records :
         subst P (read_at records number r is) (first.1 number r (omega arith) (slice_get_within records number r is))
 
     -- where all records stand below the offset, no entry begins there
-    pub none_from_end : length records ≤ number → (id : ℕ) → IsEntryAt (entries_of (units_of s)) offset id → ⊥
+    pub none_from_end : length records ≤ number → (id : ℕ) → IsEntryAt (entries_of (found_units s)) offset id → ⊥
     none_from_end end id found =
         let at = found.begins in
         let is = stands_at id found in
@@ -69,10 +69,10 @@ module _ (a info : List ℕ) (tables : Tables) (rs : List UnitRecord) (records :
           let stands : slice_get records number ≡ Some r = slice_get-get_or records number r within ∙ ap (λ (x : Record). Some x) (sym read) in
           ap (λ (q : Record). q.at) (record_is here r stands)
 
-      pub found_first : r.at ≡ offset → IsEntryAt (entries_of (units_of s)) offset number
+      pub found_first : r.at ≡ offset → IsEntryAt (entries_of (found_units s)) offset number
       found_first same = record { entry = here.entry; is_entry = here.is_entry; begins = sym at_is ∙ same }
 
-      pub none_from : (r.at ≡ offset → ⊥) → (id : ℕ) → IsEntryAt (entries_of (units_of s)) offset id → ⊥
+      pub none_from : (r.at ≡ offset → ⊥) → (id : ℕ) → IsEntryAt (entries_of (found_units s)) offset id → ⊥
       none_from other id found =
           let at = found.begins in
           let is = stands_at id found in
@@ -85,6 +85,6 @@ module _ (a info : List ℕ) (tables : Tables) (rs : List UnitRecord) (records :
             | inr more ↦
                 let stands : slice_get records number ≡ Some r = slice_get-get_or records number r within ∙ ap (λ (x : Record). Some x) (sym read) in
                 let low = behind r stands in
-                let rise = entries_rise a (units_of s) s.1.spells.are number id here.entry found.entry more here.is_entry found.is_entry in
+                let rise = entries_rise a (found_units s) s.1.spells.are number id here.entry found.entry more here.is_entry found.is_entry in
                 omega (arith, at, at_is, low, rise)
           ]

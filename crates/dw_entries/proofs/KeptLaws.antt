@@ -26,7 +26,7 @@ use Rattle.dw_entries.specs.Reading.{seen, code_at}
 use Rattle.dw_entries.specs.ReadingLaws.{ok_pair}
 use Rattle.dw_entries.specs.Units.{DebugUnit, head_of}
 use Rattle.dw_entries.specs.Entries.{Entry, entries_of, PlacedUnit, placed}
-use Rattle.dw_entries.specs.Scanned.{tables_among, table_of, numbers_of, record_of, IsKept, Scanned, units_of}
+use Rattle.dw_entries.specs.Scanned.{found_units, tables_among, table_of, numbers_of, record_of, IsKept, Scanned}
 use Rattle.dw_entries.specs.Lookups.{IsKeptIn, HasSpecsIn, unit_head}
 use Rattle.dw_entries.proofs.ScanLaws.{rest_of}
 use Rattle.dw_entries.proofs.HeadLaws.{Stands, head_stands, stands_code, stands_within}
@@ -56,27 +56,27 @@ unit_kept tables rs ps zip k p is =
 -- an entry of this number, with its unit and what is kept of both
 pub record KeptEntry (a info : List ℕ) (tables : Tables) (rs : List UnitRecord) (records : List Record) (s : Scanned a info tables rs records) (id : ℕ) : Type 0 where
   pub entry : Entry
-  pub is_entry : slice_get (entries_of (units_of s)) id ≡ Some entry
+  pub is_entry : slice_get (entries_of (found_units s)) id ≡ Some entry
   pub is_record : slice_get records id ≡ Some (record_of (numbers_of tables rs) entry)
-  pub stands : Stands (units_of s) info entry
+  pub stands : Stands (found_units s) info entry
   pub unit_record : UnitRecord
   pub is_unit_record : slice_get rs entry.unit ≡ Some unit_record
   pub header : unit_record.header ≡ stands.unit.header
   pub table : items_of (chain_in tables unit_record.table) ≡ stands.unit.table
 
 pub kept_entry : (a info : List ℕ) (tables : Tables) (rs : List UnitRecord) (records : List Record) (s : Scanned a info tables rs records) (id : ℕ)
-    → id < length (entries_of (units_of s)) → KeptEntry a info tables rs records s id
-kept_entry a info tables rs records s id within = elim (slice_get_cases (entries_of (units_of s)) id).1 [
+    → id < length (entries_of (found_units s)) → KeptEntry a info tables rs records s id
+kept_entry a info tables rs records s id within = elim (slice_get_cases (entries_of (found_units s)) id).1 [
   | inr past ↦ absurd (omega (arith, past.0, within))
   | inl it ↦
       let e : Entry = it.0 in
-      let stands = head_stands a info (units_of s) id e s.1.spells it.2 in
-      let (p, is_p, same) = placed_get 0 0 (units_of s) e.unit stands.unit stands.is_unit in
-      let (r, is_r, kept) = unit_kept tables rs (placed (units_of s)) s.1.kept e.unit p is_p in
+      let stands = head_stands a info (found_units s) id e s.1.spells it.2 in
+      let (p, is_p, same) = placed_get 0 0 (found_units s) e.unit stands.unit stands.is_unit in
+      let (r, is_r, kept) = unit_kept tables rs (placed (found_units s)) s.1.kept e.unit p is_p in
       record {
         entry = e;
         is_entry = it.2;
-        is_record = ap (λ (xs : List Record). slice_get xs id) s.1.entries ∙ kept_get (numbers_of tables rs) (units_of s) id e it.2;
+        is_record = ap (λ (xs : List Record). slice_get xs id) s.1.entries ∙ kept_get (numbers_of tables rs) (found_units s) id e it.2;
         stands = stands;
         unit_record = r;
         is_unit_record = is_r;
@@ -91,10 +91,10 @@ read_is xs k x y is read = read ∙ get_or_from_slice_get xs k x y is
 
 module _ {a info : List ℕ} {tables : Tables} {rs : List UnitRecord} {records : List Record} {s : Scanned a info tables rs records} {id : ℕ} (k : KeptEntry a info tables rs records s id) where
   -- a fact of the entry of this number
-  pub of_entry : (P : Entry → Type 0) → P k.entry → IfSome (slice_get (entries_of (units_of s)) id) P
+  pub of_entry : (P : Entry → Type 0) → P k.entry → IfSome (slice_get (entries_of (found_units s)) id) P
   of_entry P p = rw k.is_entry p
 
-  pub from_entry : (P : Entry → Type 0) → IfSome (slice_get (entries_of (units_of s)) id) P → P k.entry
+  pub from_entry : (P : Entry → Type 0) → IfSome (slice_get (entries_of (found_units s)) id) P → P k.entry
   from_entry P p = rw k.is_entry at p
 
   module _ (r : Record) (read : slice_get records id ≡ Some r) where
@@ -102,7 +102,7 @@ module _ {a info : List ℕ} {tables : Tables} {rs : List UnitRecord} {records :
     record_is = one_some (slice_get records id) r (record_of (numbers_of tables rs) k.entry) read k.is_record
 
     pub at_within : r.at < length info
-    at_within = let e : r.at ≡ k.entry.at = ap (λ (q : Record). q.at) record_is in let w = stands_within (units_of s) info k.entry k.stands in omega (arith, e, w)
+    at_within = let e : r.at ≡ k.entry.at = ap (λ (q : Record). q.at) record_is in let w = stands_within (found_units s) info k.entry k.stands in omega (arith, e, w)
 
     -- its code is read at its offset, and its values follow
     code_read : seen (λ c. c.number) (code_at (take (length info - r.at) (drop r.at info))) ≡ Ok (k.entry.head.decl.code, flat_map attribute_bytes k.entry.head.attributes ++ k.stands.after)
@@ -110,7 +110,7 @@ module _ {a info : List ℕ} {tables : Tables} {rs : List UnitRecord} {records :
         let e : r.at ≡ k.entry.at = ap (λ (q : Record). q.at) record_is in
         let w = at_within in
         ap (λ (b : List ℕ). seen (λ c. c.number) (code_at b)) (rest_of r.at info (omega (arith, w)) ∙ ap (λ (n : ℕ). drop n info) e)
-        ∙ stands_code (units_of s) info k.entry k.stands
+        ∙ stands_code (found_units s) info k.entry k.stands
 
     pub never_unread : (f : Failing) → seen (λ c. c.number) (code_at (take (length info - r.at) (drop r.at info))) ≡ Err f → ⊥
     never_unread f failed = let ok = code_read in cc
@@ -120,7 +120,7 @@ module _ {a info : List ℕ} {tables : Tables} {rs : List UnitRecord} {records :
     values_are n rest got = (ok_pair {E = Failing} n k.entry.head.decl.code rest (flat_map attribute_bytes k.entry.head.attributes ++ k.stands.after) (sym got ∙ code_read)).1
 
     pub values_follow : (n : ℕ) (rest : List ℕ) → seen (λ c. c.number) (code_at (take (length info - r.at) (drop r.at info))) ≡ Ok (n, rest)
-        → IfSome (slice_get (entries_of (units_of s)) id) (λ e. (behind : List ℕ) × (rest ≡ flat_map attribute_bytes e.head.attributes ++ behind))
+        → IfSome (slice_get (entries_of (found_units s)) id) (λ e. (behind : List ℕ) × (rest ≡ flat_map attribute_bytes e.head.attributes ++ behind))
     values_follow n rest got = of_entry (λ e. (behind : List ℕ) × (rest ≡ flat_map attribute_bytes e.head.attributes ++ behind)) (k.stands.after, values_are n rest got)
 
     -- the entry is at the front of the bytes from its offset on
@@ -132,7 +132,7 @@ module _ {a info : List ℕ} {tables : Tables} {rs : List UnitRecord} {records :
 
   -- the header of a unit that has the number of the entry's
   pub header_is : (number : ℕ) (u : UnitRecord) → number ≡ k.entry.unit → u ≡ get_or rs number u
-      → IfSome (slice_get (entries_of (units_of s)) id) (λ e. IfSome (slice_get (units_of s) e.unit) (λ v. u.header ≡ v.header))
+      → IfSome (slice_get (entries_of (found_units s)) id) (λ e. IfSome (slice_get (found_units s) e.unit) (λ v. u.header ≡ v.header))
   header_is number u same read = search (rules, read_is, of_entry)
 
 -- the declaration of an entry is the one of its number
@@ -159,21 +159,21 @@ module _ (decls : Decls) {a info : List ℕ} {rs : List UnitRecord} {records : L
         let within = item_within (decls_of nodes kept) r.decl k.entry.head.decl decl_stands in
         omega (arith, within, length-map {B = Declaration × ℕ} kept (λ (x : KeptDecl). (kept_view nodes x, x.rest)))
 
-    pub decl_is : (d : Declaration) → decl_of nodes kept r.decl ≡ Some d → IfSome (slice_get (entries_of (units_of s)) id) (λ e. d ≡ e.head.decl)
+    pub decl_is : (d : Declaration) → decl_of nodes kept r.decl ≡ Some d → IfSome (slice_get (entries_of (found_units s)) id) (λ e. d ≡ e.head.decl)
     decl_is d found = of_entry k (λ e. d ≡ e.head.decl) (one_some (decl_of nodes kept r.decl) d k.entry.head.decl found decl_stands)
 
 -- an entry's declaration is one of those that are kept
 pub declared_among : (a info : List ℕ) (decls : Decls) (rs : List UnitRecord) (records : List Record) (s : Scanned a info (tables_among decls) rs records) (id : ℕ) (e : Entry)
-    → slice_get (entries_of (units_of s)) id ≡ Some e → IsKeptIn decls e.head.decl
+    → slice_get (entries_of (found_units s)) id ≡ Some e → IsKeptIn decls e.head.decl
 declared_among a info decls rs records s id e is =
-    let k = kept_entry a info (tables_among decls) rs records s id (slice_get_within (entries_of (units_of s)) id e is) in
-    let same : k.entry ≡ e = one_some (slice_get (entries_of (units_of s)) id) k.entry e k.is_entry is in
+    let k = kept_entry a info (tables_among decls) rs records s id (slice_get_within (entries_of (found_units s)) id e is) in
+    let same : k.entry ≡ e = one_some (slice_get (entries_of (found_units s)) id) k.entry e k.is_entry is in
     let P : Entry → Type 0 = λ x. IsKeptIn decls x.head.decl in
     subst P same (numbers_of (tables_among decls) rs k.entry.unit k.entry.head.decl.code, entry_decl decls k)
 
 -- and each of its attributes is one of those that are kept
 pub specs_among : (a info : List ℕ) (decls : Decls) (rs : List UnitRecord) (records : List Record) (s : Scanned a info (tables_among decls) rs records) (id : ℕ) (e : Entry)
-    → slice_get (entries_of (units_of s)) id ≡ Some e → HasSpecsIn decls e.head.decl
+    → slice_get (entries_of (found_units s)) id ≡ Some e → HasSpecsIn decls e.head.decl
 specs_among a info decls rs records s id e is =
     let (number, found) = declared_among a info decls rs records s id e is in
     decl_specs decls.lists.nodes.items decls.kept.items number e.head.decl found
@@ -182,15 +182,15 @@ specs_among a info decls rs records s id e is =
 
 pub record KeptUnit (a info : List ℕ) (tables : Tables) (rs : List UnitRecord) (records : List Record) (s : Scanned a info tables rs records) (number : ℕ) : Type 0 where
   pub place : PlacedUnit
-  pub is_place : slice_get (placed (units_of s)) number ≡ Some place
+  pub is_place : slice_get (placed (found_units s)) number ≡ Some place
   pub unit_record : UnitRecord
   pub is_unit_record : slice_get rs number ≡ Some unit_record
   pub kept : IsKept tables unit_record place
-  pub first : HasFirst (entries_of (units_of s)) place.first number place
+  pub first : HasFirst (entries_of (found_units s)) place.first number place
 
-pub kept_unit : (a info : List ℕ) (tables : Tables) (rs : List UnitRecord) (records : List Record) (s : Scanned a info tables rs records) (number : ℕ) → number < length (units_of s) → KeptUnit a info tables rs records s number
-kept_unit a info tables rs records s number within = elim (slice_get_cases (placed (units_of s)) number).1 [
-  | inr past ↦ absurd (omega (arith, past.0, within, length-placed_from 0 0 (units_of s)))
+pub kept_unit : (a info : List ℕ) (tables : Tables) (rs : List UnitRecord) (records : List Record) (s : Scanned a info tables rs records) (number : ℕ) → number < length (found_units s) → KeptUnit a info tables rs records s number
+kept_unit a info tables rs records s number within = elim (slice_get_cases (placed (found_units s)) number).1 [
+  | inr past ↦ absurd (omega (arith, past.0, within, length-placed_from 0 0 (found_units s)))
   | inl it ↦ search (rules, unit_kept, first_entry)
 ]
 
@@ -205,16 +205,16 @@ module _ {a info : List ℕ} {tables : Tables} {rs : List UnitRecord} {records :
     pub kept_is : IsKept tables u k.place
     kept_is = let P : UnitRecord → Type 0 = λ q. IsKept tables q k.place in subst P (sym (read_is rs number k.unit_record u k.is_unit_record read)) k.kept
 
-    first_is : slice_get (entries_of (units_of s)) u.first ≡ Some k.first.entry
-    first_is = ap (slice_get (entries_of (units_of s))) kept_is.first ∙ k.first.is_entry
+    first_is : slice_get (entries_of (found_units s)) u.first ≡ Some k.first.entry
+    first_is = ap (slice_get (entries_of (found_units s))) kept_is.first ∙ k.first.is_entry
 
-    pub first_within : u.first < length (entries_of (units_of s))
-    first_within = slice_get_within (entries_of (units_of s)) u.first k.first.entry first_is
+    pub first_within : u.first < length (entries_of (found_units s))
+    first_within = slice_get_within (entries_of (found_units s)) u.first k.first.entry first_is
 
-    pub unit_told : (first : ℕ) (d : Declaration) (t : UnitType) → first ≡ u.first → IfSome (slice_get (entries_of (units_of s)) first) (λ e. d ≡ e.head.decl) → t ≡ type_of u.header.kind d.tag
-        → IfSome (slice_get (placed (units_of s)) number) (λ p. told u.at u.header t first ≡ unit_head p)
+    pub unit_told : (first : ℕ) (d : Declaration) (t : UnitType) → first ≡ u.first → IfSome (slice_get (entries_of (found_units s)) first) (λ e. d ≡ e.head.decl) → t ≡ type_of u.header.kind d.tag
+        → IfSome (slice_get (placed (found_units s)) number) (λ p. told u.at u.header t first ≡ unit_head p)
     unit_told first d t same declared typed =
-        let of_first = rw (ap (slice_get (entries_of (units_of s))) same ∙ first_is) at declared in
+        let of_first = rw (ap (slice_get (entries_of (found_units s))) same ∙ first_is) at declared in
         let tag : d.tag ≡ (head_of k.place.unit.root).decl.tag = ap (λ (c : Declaration). c.tag) of_first ∙ ap (λ (h : Head). h.decl.tag) k.first.is_first.head in
         let type_is : t ≡ type_of k.place.unit.header.kind (head_of k.place.unit.root).decl.tag =
         typed ∙ ap (λ (h : UnitHeader). type_of h.kind d.tag) kept_is.header ∙ ap (type_of k.place.unit.header.kind) tag in
@@ -222,5 +222,5 @@ module _ {a info : List ℕ} {tables : Tables} {rs : List UnitRecord} {records :
         rw k.is_place (λ i. told (kept_is.at i) (kept_is.header i) (type_is i) (number_is i))
 
 -- as many records as units
-pub units_counted : (a info : List ℕ) (tables : Tables) (rs : List UnitRecord) (records : List Record) (s : Scanned a info tables rs records) → length rs ≡ length (units_of s)
-units_counted a info tables rs records s = sym (AllZip-long (IsKept tables) rs (placed (units_of s)) s.1.kept) ∙ length-placed_from 0 0 (units_of s)
+pub units_counted : (a info : List ℕ) (tables : Tables) (rs : List UnitRecord) (records : List Record) (s : Scanned a info tables rs records) → length rs ≡ length (found_units s)
+units_counted a info tables rs records s = sym (AllZip-long (IsKept tables) rs (placed (found_units s)) s.1.kept) ∙ length-placed_from 0 0 (found_units s)

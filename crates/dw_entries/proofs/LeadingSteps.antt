@@ -1,8 +1,7 @@
 -- One step of a walk over the values that may lead elsewhere.
 use Rattle.std.proofs.Common.{rules, ◌≡◌, ℕ, zero, suc, ◌-◌, ◌≤◌, ◌⊎◌, true, false, List, [], ◌∷◌, ◌++◌, length, take, drop, map, Some, None, Ok, Err, refl, sym, ap, subst, ◌∙◌, arith}
 use Rattle.std.specs.Prelude.{slice_get, option_map}
-use Rattle.std.specs.List.{list_any}
-use Rattle.std.proofs.lemmas.Bool.{ltb-false, or_parts}
+use Rattle.std.proofs.lemmas.Bool.{ltb-false}
 use Rattle.std.proofs.lemmas.List.{take-append-drop}
 use Rattle.dw_forms.specs.declared.attributes.Attributes.{Attributes}
 use Rattle.dw_forms.specs.declared.decl.AttributeSpec.{AttributeSpec}
@@ -24,7 +23,7 @@ use Rattle.dw_forms.proofs.PassSteps.{run, items_append}
 use Rattle.dw_forms.proofs.SuffixLaws.{first_specs}
 use Rattle.dw_forms.proofs.WalkSteps.{GoesTo, goes_to, step_none, step_within, skip_is}
 use Rattle.dw_entries.specs.Asked.{value_of}
-use Rattle.dw_entries.specs.Chosen.{AreUnasked, ArePassed, IsNextOf}
+use Rattle.dw_entries.specs.Chosen.{ArePassed, IsNextOf}
 use Rattle.dw_entries.specs.Grammar.{Context, AreAttributes}
 use Rattle.dw_entries.specs.Leading.{DoesNotLead}
 use Rattle.dw_entries.specs.declared.values.Values.{Values}
@@ -37,13 +36,6 @@ use Rattle.dw_entries.proofs.ValueSteps.{left_goes, never_fails, next_left, read
 -- what was cut off
 cut_is : (len : ℕ) (bytes rest : List ℕ) → cut_at len bytes ≡ Ok rest → (len ≤ length bytes) × (rest ≡ drop len bytes)
 cut_is len bytes rest e = search (rules, ltb-false)
-
--- attributes that lead nowhere are not asked for
-lead_nowhere : (specs : List AttributeSpec) → list_any does_lead specs ≡ false → AreUnasked DoesNotLead specs
-lead_nowhere [] none = tt
-lead_nowhere (s ∷ specs) none =
-    let p = or_parts (does_lead s) (list_any does_lead specs) none in
-    (p.0, lead_nowhere specs p.1)
 
 -- ---- the attribute that a step goes to
 
@@ -79,7 +71,7 @@ module _ (a : Attributes) (step : Step) (is : IsStep (numbered a) step) (there :
           absurd (not_first _ _ (nodes_of a) known.begins refl none)
 
   pub lead_none : (x : Context) (bytes : List ℕ) (l : Left x (specs_in a) bytes) → specs_in there ≡ [] → ArePassed DoesNotLead (map value_of l.0.0)
-  lead_none x bytes l none = all_passed DoesNotLead x (specs_in a) l.0.0 l.1.are (lead_nowhere (specs_in a) (step_none (nodes_of a) a.lists.now.known a.first a.within step is (step_zero none)))
+  lead_none x bytes l none = all_passed does_lead x (specs_in a) l.0.0 l.1.are (step_none (nodes_of a) a.lists.now.known a.first a.within step is (step_zero none))
 
   -- the step does not go nowhere
   pub goes_there : (spec : AttributeSpec) (rest : Attributes) → Ends there rest (record { number = there.first; item = spec } ∷ []) → GoesTo (nodes_of a) a.first step.to
@@ -154,5 +146,5 @@ module _ (v : Values) (step : Step) (skip : ℕ) (is : IsStep (numbered v.attrib
         record {
           passed = take k values;
           parts = sym (take-append-drop k values) ∙ ap (λ (xs : List (ℕ × Datum)). take k values ++ xs) (sym here.values ∙ next);
-          are_passed = front_passed DoesNotLead x (items_of g.before) (spec ∷ specs_in rest) v.left.0.0 (subst (λ (ss : List AttributeSpec). AreAttributes x ss v.left.0.0) parts v.left.1.are) (lead_nowhere (items_of g.before) g.none_leads);
+          are_passed = front_passed does_lead x (items_of g.before) (spec ∷ specs_in rest) v.left.0.0 (subst (λ (ss : List AttributeSpec). AreAttributes x ss v.left.0.0) parts v.left.1.are) g.none_leads;
         }

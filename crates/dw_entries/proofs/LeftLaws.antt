@@ -14,7 +14,7 @@ use Rattle.dw_entries.specs.Grammar.{AreAttributes, attribute_bytes}
 use Rattle.dw_entries.specs.Header.{version_of, IsSize}
 use Rattle.dw_entries.specs.Units.{context_of}
 use Rattle.dw_entries.specs.Entries.{entries_of}
-use Rattle.dw_entries.specs.Scanned.{Scanned, units_of}
+use Rattle.dw_entries.specs.Scanned.{found_units, Scanned}
 use Rattle.dw_entries.specs.Asked.{value_of, values_of}
 use Rattle.dw_entries.specs.Values.{value_context, Left}
 use Rattle.dw_entries.specs.ValueLaws.{left_unique, without_table}
@@ -25,12 +25,12 @@ use Rattle.dw_entries.proofs.ValueSteps.{value_of_none}
 
 module _ {a info : List ℕ} {tables : Tables} {rs : List UnitRecord} {records : List Record} {s : Scanned a info tables rs records} {id : ℕ} (k : KeptEntry a info tables rs records s id)
     (header : UnitHeader) (specs : List AttributeSpec) (bytes : List ℕ) (version : ℕ)
-    (of_unit : IfSome (slice_get (entries_of (units_of s)) id) (λ e. IfSome (slice_get (units_of s) e.unit) (λ v. header ≡ v.header)))
-    (of_specs : IfSome (slice_get (entries_of (units_of s)) id) (λ e. specs ≡ e.head.decl.attributes))
-    (of_bytes : IfSome (slice_get (entries_of (units_of s)) id) (λ e. (behind : List ℕ) × (bytes ≡ flat_map attribute_bytes e.head.attributes ++ behind)))
+    (of_unit : IfSome (slice_get (entries_of (found_units s)) id) (λ e. IfSome (slice_get (found_units s) e.unit) (λ v. header ≡ v.header)))
+    (of_specs : IfSome (slice_get (entries_of (found_units s)) id) (λ e. specs ≡ e.head.decl.attributes))
+    (of_bytes : IfSome (slice_get (entries_of (found_units s)) id) (λ e. (behind : List ℕ) × (bytes ≡ flat_map attribute_bytes e.head.attributes ++ behind)))
     (version_is : version ≡ version_of header.kind) where
   header_same : header ≡ k.stands.unit.header
-  header_same = rw k.stands.is_unit at (from_entry k (λ e. IfSome (slice_get (units_of s) e.unit) (λ v. header ≡ v.header)) of_unit)
+  header_same = rw k.stands.is_unit at (from_entry k (λ e. IfSome (slice_get (found_units s) e.unit) (λ v. header ≡ v.header)) of_unit)
 
   pub sized_here : IsSize header.address_size
   sized_here = search (rules, all_get, header_same)
@@ -47,7 +47,7 @@ module _ {a info : List ℕ} {tables : Tables} {rs : List UnitRecord} {records :
       ((k.entry.head.attributes, b.0), record { are = are_here; spelled = b.1 })
 
   -- whatever is known to be left is that
-  pub values_here : (m : Left (value_context version header.address_size) specs bytes) → IfSome (slice_get (entries_of (units_of s)) id) (λ e. map value_of m.0.0 ≡ values_of e.head)
+  pub values_here : (m : Left (value_context version header.address_size) specs bytes) → IfSome (slice_get (entries_of (found_units s)) id) (λ e. map value_of m.0.0 ≡ values_of e.head)
   unfolding left_here
   values_here m =
       let same : m.0.0 ≡ k.entry.head.attributes = ap (λ (z : Left (value_context version header.address_size) specs bytes). z.0.0) (left_unique (value_context version header.address_size) specs bytes m left_here) in
@@ -55,14 +55,14 @@ module _ {a info : List ℕ} {tables : Tables} {rs : List UnitRecord} {records :
 
 -- the attributes of the declaration of an entry
 pub specs_here : {a info : List ℕ} {tables : Tables} {rs : List UnitRecord} {records : List Record} {s : Scanned a info tables rs records} {id : ℕ} (k : KeptEntry a info tables rs records s id) (d : Declaration) (specs : List AttributeSpec)
-    → IfSome (slice_get (entries_of (units_of s)) id) (λ e. d ≡ e.head.decl) → specs ≡ d.attributes → IfSome (slice_get (entries_of (units_of s)) id) (λ e. specs ≡ e.head.decl.attributes)
+    → IfSome (slice_get (entries_of (found_units s)) id) (λ e. d ≡ e.head.decl) → specs ≡ d.attributes → IfSome (slice_get (entries_of (found_units s)) id) (λ e. specs ≡ e.head.decl.attributes)
 specs_here k d specs of_decl are = of_entry k (λ e. specs ≡ e.head.decl.attributes) (are ∙ ap (λ (c : Declaration). c.attributes) (from_entry k (λ e. d ≡ e.head.decl) of_decl))
 
 -- ---- the value of one attribute
 
 -- an attribute that is not declared has no value
 pub undeclared : {a info : List ℕ} {tables : Tables} {rs : List UnitRecord} {records : List Record} {s : Scanned a info tables rs records} {id : ℕ} (k : KeptEntry a info tables rs records s id) (specs : List AttributeSpec) (attribute : ℕ)
-    → IfSome (slice_get (entries_of (units_of s)) id) (λ e. specs ≡ e.head.decl.attributes) → declares specs attribute ≡ false → IfSome (slice_get (entries_of (units_of s)) id) (λ e. None ≡ value_at_entry e attribute)
+    → IfSome (slice_get (entries_of (found_units s)) id) (λ e. specs ≡ e.head.decl.attributes) → declares specs attribute ≡ false → IfSome (slice_get (entries_of (found_units s)) id) (λ e. None ≡ value_at_entry e attribute)
 undeclared {s = s} {id = id} k specs attribute of_specs none =
     let same : specs ≡ k.entry.head.decl.attributes = from_entry k (λ e. specs ≡ e.head.decl.attributes) of_specs in
     of_entry k (λ e. None ≡ value_at_entry e attribute)

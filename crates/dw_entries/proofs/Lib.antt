@@ -19,7 +19,6 @@ pub mod HeadLaws
 pub mod ValueSteps
 pub mod PassLaws
 pub mod ChosenSteps
-pub mod StopSteps
 pub mod LeadingSteps
 pub mod EntryFacts
 pub mod KeptLaws

@@ -5,7 +5,7 @@ use Rattle.dw_forms.specs.KeptDecls.{Tables}
 use Rattle.dw_entries.specs.declared.walk.Record.{Record}
 use Rattle.dw_entries.specs.declared.walk.UnitRecord.{UnitRecord}
 use Rattle.dw_entries.specs.Entries.{Entry, entries_of, PlacedUnit, placed}
-use Rattle.dw_entries.specs.Scanned.{Scanned, units_of}
+use Rattle.dw_entries.specs.Scanned.{found_units, Scanned}
 use Rattle.dw_entries.specs.Runs.{IsEntryAt, IsEntryIn, ReachesInUnit}
 use Rattle.dw_entries.specs.Asked.{OffsetsRise}
 use Rattle.dw_entries.proofs.NumberOrder.{three_ways}
@@ -36,17 +36,17 @@ never_other entries units number offset at id p e rise is sum found is_e other j
 
 -- where no entry begins at the offset, none of the unit does
 pub never_there : (a info : List ℕ) (tables : Tables) (rs : List UnitRecord) (records : List Record) (s : Scanned a info tables rs records) (number offset at : ℕ) (k : KeptUnit a info tables rs records s number) (u : UnitRecord)
-    → u ≡ get_or rs number u → at ≡ offset + u.at → ((id : ℕ) → IsEntryAt (entries_of (units_of s)) at id → ⊥)
-    → (j : ℕ) → ReachesInUnit (entries_of (units_of s)) (placed (units_of s)) number offset j → ⊥
+    → u ≡ get_or rs number u → at ≡ offset + u.at → ((id : ℕ) → IsEntryAt (entries_of (found_units s)) at id → ⊥)
+    → (j : ℕ) → ReachesInUnit (entries_of (found_units s)) (placed (found_units s)) number offset j → ⊥
 never_there a info tables rs records s number offset at k u read sum nowhere j reached =
     let place = (kept_is k u read).at in
-    nowhere j (in_is_at (entries_of (units_of s)) number at j (reached_at (entries_of (units_of s)) (placed (units_of s)) number offset at j k.place k.is_place (omega (arith, sum, place)) reached))
+    nowhere j (in_is_at (entries_of (found_units s)) number at j (reached_at (entries_of (found_units s)) (placed (found_units s)) number offset at j k.place k.is_place (omega (arith, sum, place)) reached))
 
 pub never_far : (a info : List ℕ) (tables : Tables) (rs : List UnitRecord) (records : List Record) (s : Scanned a info tables rs records) (number offset : ℕ) (k : KeptUnit a info tables rs records s number) (u : UnitRecord)
-    → u ≡ get_or rs number u → length info < 2 ^ 64 → 2 ^ 64 ≤ offset + u.at → (j : ℕ) → ReachesInUnit (entries_of (units_of s)) (placed (units_of s)) number offset j → ⊥
+    → u ≡ get_or rs number u → length info < 2 ^ 64 → 2 ^ 64 ≤ offset + u.at → (j : ℕ) → ReachesInUnit (entries_of (found_units s)) (placed (found_units s)) number offset j → ⊥
 never_far a info tables rs records s number offset k u read few far j reached =
     let place = (kept_is k u read).at in
-    let inside = reached_at (entries_of (units_of s)) (placed (units_of s)) number offset (offset + k.place.at) j k.place k.is_place refl reached in
+    let inside = reached_at (entries_of (found_units s)) (placed (found_units s)) number offset (offset + k.place.at) j k.place k.is_place refl reached in
     let at = inside.begins in
-    let stands = stands_within (units_of s) info inside.entry (head_stands a info (units_of s) j inside.entry s.1.spells inside.is_entry) in
+    let stands = stands_within (found_units s) info inside.entry (head_stands a info (found_units s) j inside.entry s.1.spells inside.is_entry) in
     omega (arith, place, at, stands, few, far)

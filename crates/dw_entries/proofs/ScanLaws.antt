@@ -7,7 +7,7 @@ use Rattle.dw_entries.specs.declared.walk.UnitRecord.{UnitRecord}
 use Rattle.dw_entries.specs.declared.walk.Kept.{Kept}
 use Rattle.dw_forms.specs.AbbrevTables.{tables_in, AreTablesOf}
 use Rattle.dw_forms.specs.Chains.{chain_in}
-use Rattle.dw_forms.specs.KeptDecls.{Tables, number_in}
+use Rattle.dw_forms.specs.KeptDecls.{Tables, decl_number_in}
 use Rattle.dw_forms.specs.TableStarts.{Stay}
 use Rattle.dw_forms.proofs.StartLaws.{table_stays}
 use Rattle.dw_entries.specs.declared.fault.Broken.{Broken}
@@ -78,8 +78,8 @@ numbers_stay : (old new : Tables) (rs : List UnitRecord) (ps : List PlacedUnit) 
     → numbers_of old rs n ≡ numbers_of new (rs ++ r ∷ []) n
 numbers_stay old new rs ps r n stay k less = search (rules, table_stays, table_within, table_of-push)
 
-numbers_last : (tables : Tables) (rs : List UnitRecord) (r : UnitRecord) (n : ℕ) → n ≡ length rs → number_in (chain_in tables r.table) ≡ numbers_of tables (rs ++ r ∷ []) n
-numbers_last tables rs r n e = ap (λ (t : ℕ). number_in (chain_in tables t)) (sym (ap (table_of (rs ++ r ∷ [])) e ∙ table_of-last rs r))
+numbers_last : (tables : Tables) (rs : List UnitRecord) (r : UnitRecord) (n : ℕ) → n ≡ length rs → decl_number_in (chain_in tables r.table) ≡ numbers_of tables (rs ++ r ∷ []) n
+numbers_last tables rs r n e = ap (λ (t : ℕ). decl_number_in (chain_in tables t)) (sym (ap (table_of (rs ++ r ∷ [])) e ∙ table_of-last rs r))
 
 AllKept-push : (old new : Tables) (rs : List UnitRecord) (ps : List PlacedUnit) (r : UnitRecord) (p : PlacedUnit) → Stay old new → AllZip (IsKept old) rs ps → IsKept new r p
     → AllZip (IsKept new) (rs ++ r ∷ []) (ps ++ p ∷ [])

@@ -28,7 +28,7 @@ use Rattle.dw_entries.specs.Values.{value_context}
 use Rattle.dw_entries.specs.declared.walk.Record.{Record}
 use Rattle.dw_entries.specs.declared.walk.UnitRecord.{UnitRecord}
 use Rattle.dw_entries.specs.Entries.{entries_of}
-use Rattle.dw_entries.specs.Scanned.{Scanned, units_of}
+use Rattle.dw_entries.specs.Scanned.{found_units, Scanned}
 use Rattle.dw_forms.specs.KeptDecls.{Tables}
 use Rattle.dw_entries.proofs.KeptLaws.{KeptEntry, kept_entry, from_entry, of_entry, entry_parts, values_are, values_follow}
 use Rattle.dw_entries.proofs.LeftLaws.{are_here}
@@ -163,13 +163,13 @@ module _ (h : Head) (t rest after : List ℕ) (has : HasText h.attributes t rest
 -- the text that is the value of an attribute of an entry, by the bytes after it
 module _ {a info : List ℕ} {tables : Tables} {rs : List UnitRecord} {records : List Record} {s : Scanned a info tables rs records} {id : ℕ} (k : KeptEntry a info tables rs records s id)
     (r : Record) (read : slice_get records id ≡ Some r) (header : UnitHeader) (version number : ℕ) (all found others : Attributes) (spec : AttributeSpec) (values after t : List ℕ) (attribute : ℕ)
-    (of_unit : IfSome (slice_get (entries_of (units_of s)) id) (λ e. IfSome (slice_get (units_of s) e.unit) (λ u. header ≡ u.header)))
-    (of_specs : IfSome (slice_get (entries_of (units_of s)) id) (λ e. specs_in all ≡ e.head.decl.attributes))
+    (of_unit : IfSome (slice_get (entries_of (found_units s)) id) (λ e. IfSome (slice_get (found_units s) e.unit) (λ u. header ≡ u.header)))
+    (of_specs : IfSome (slice_get (entries_of (found_units s)) id) (λ e. specs_in all ≡ e.head.decl.attributes))
     (version_is : version ≡ version_of header.kind)
     (got : seen (λ c. c.number) (code_at (take (length info - r.at) (drop r.at info))) ≡ Ok (number, values))
     (is : IsFrom (has_this attribute) all found)
     (first : Ends found others (record { number = found.first; item = spec } ∷ []))
-    (value : IfSome (slice_get (entries_of (units_of s)) id) (λ e. value_at_entry e attribute ≡ Some (text t)))
+    (value : IfSome (slice_get (entries_of (found_units s)) id) (λ e. value_at_entry e attribute ≡ Some (text t)))
     (ends : (before : List (Numbered AttributeSpec)) → Ends all others before → values_end version header.address_size (items_of before) values ≡ Ok after) where
   text_here : HasText k.entry.head.attributes t k.stands.after after
   text_here =
@@ -187,7 +187,7 @@ module _ {a info : List ℕ} {tables : Tables} {rs : List UnitRecord} {records :
   pub room_here : length t + suc (length after) ≤ length (take (length info - r.at) (drop r.at info))
   room_here = has_room k.entry.head t k.stands.after after text_here (take (length info - r.at) (drop r.at info)) (entry_parts k r read)
 
-  pub starts_here : IfSome (slice_get (entries_of (units_of s)) id) (λ e. IsTextAt (head_bytes e.head) (length (take (length info - r.at) (drop r.at info)) - (length after + 1 + length t)) t)
+  pub starts_here : IfSome (slice_get (entries_of (found_units s)) id) (λ e. IsTextAt (head_bytes e.head) (length (take (length info - r.at) (drop r.at info)) - (length after + 1 + length t)) t)
   starts_here =
       of_entry k (λ e. IsTextAt (head_bytes e.head) (length (take (length info - r.at) (drop r.at info)) - (length after + 1 + length t)) t)
       (text_in_head k.entry.head t k.stands.after after text_here (take (length info - r.at) (drop r.at info)) (entry_parts k r read))
@@ -208,8 +208,8 @@ text_in_info info at h after n t parts is =
     }
 
 -- so of an entry that is looked up
-pub text_at_entry : (a info : List ℕ) (tables : Tables) (rs : List UnitRecord) (records : List Record) (s : Scanned a info tables rs records) (id : ℕ) → id < length (entries_of (units_of s)) → (at n : ℕ) (t : List ℕ)
-    → IfSome (slice_get (entries_of (units_of s)) id) (λ e. at ≡ e.at) → IfSome (slice_get (entries_of (units_of s)) id) (λ e. IsTextAt (head_bytes e.head) n t) → IsTextAt info (at + n) t
+pub text_at_entry : (a info : List ℕ) (tables : Tables) (rs : List UnitRecord) (records : List Record) (s : Scanned a info tables rs records) (id : ℕ) → id < length (entries_of (found_units s)) → (at n : ℕ) (t : List ℕ)
+    → IfSome (slice_get (entries_of (found_units s)) id) (λ e. at ≡ e.at) → IfSome (slice_get (entries_of (found_units s)) id) (λ e. IsTextAt (head_bytes e.head) n t) → IsTextAt info (at + n) t
 text_at_entry a info tables rs records s id within at n t is_at is =
     let k = kept_entry a info tables rs records s id within in
     let same : at ≡ k.entry.at = from_entry k (λ e. at ≡ e.at) is_at in

@@ -12,7 +12,7 @@ use Rattle.dw_entries.specs.Header.{header_size}
 use Rattle.dw_entries.specs.Tree.{Node, Nodes, leaf, parent, none, ◌then◌, node_bytes}
 use Rattle.dw_entries.specs.Units.{DebugUnit, unit_bytes}
 use Rattle.dw_entries.specs.Entries.{Entry, node_count, first_id, node_entries, nodes_entries, entries_from, entries_of, PlacedUnit, placed_from, placed}
-use Rattle.dw_entries.specs.Scanned.{Scanned, units_of}
+use Rattle.dw_entries.specs.Scanned.{found_units, Scanned}
 use Rattle.dw_entries.proofs.EntryFacts.{length-node_entries}
 use Rattle.dw_entries.proofs.FindLaws.{entries_counted}
 use Rattle.dw_entries.proofs.HeadLaws.{all-append, all_get}
@@ -137,7 +137,7 @@ firsts_from at first (u ∷ us) (suc i) (suc j) p q le is_p is_q =
 
 module _ (a info : List ℕ) (tables : Tables) (rs : List UnitRecord) (records : List Record) (s : Scanned a info tables rs records) where
   -- what is kept of a unit says where its first entry is
-  kept_first : (n : ℕ) (u : UnitRecord) → slice_get rs n ≡ Some u → (p : PlacedUnit) × (slice_get (placed (units_of s)) n ≡ Some p) × (u.first ≡ p.first)
+  kept_first : (n : ℕ) (u : UnitRecord) → slice_get rs n ≡ Some u → (p : PlacedUnit) × (slice_get (placed (found_units s)) n ≡ Some p) × (u.first ≡ p.first)
   kept_first n u is =
       let within = slice_get_within rs n u is in
       let k = kept_unit a info tables rs records s n (omega (arith, within, units_counted a info tables rs records s)) in
@@ -146,34 +146,34 @@ module _ (a info : List ℕ) (tables : Tables) (rs : List UnitRecord) (records :
 
   -- the entries of a unit that is kept, up to its end
   pub its_entries : (n end : ℕ) (u : UnitRecord) → slice_get rs n ≡ Some u
-      → IfSome (slice_get (placed (units_of s)) n) (λ p. end ≡ p.first + node_count p.unit.root)
-      → (id : ℕ) (e : Entry) → slice_get (entries_of (units_of s)) id ≡ Some e → u.first ≤ id → id < end → n ≡ e.unit
+      → IfSome (slice_get (placed (found_units s)) n) (λ p. end ≡ p.first + node_count p.unit.root)
+      → (id : ℕ) (e : Entry) → slice_get (entries_of (found_units s)) id ≡ Some e → u.first ≤ id → id < end → n ≡ e.unit
   its_entries n end u is ends id e is_e low high = search (rules, kept_first, unit_in_range)
 
   -- a unit ends where the next one begins
   pub ends_with_next : (n : ℕ) (next : UnitRecord) → slice_get rs (n + 1) ≡ Some next
-      → IfSome (slice_get (placed (units_of s)) n) (λ p. next.first ≡ p.first + node_count p.unit.root)
+      → IfSome (slice_get (placed (found_units s)) n) (λ p. next.first ≡ p.first + node_count p.unit.root)
   ends_with_next n next is = search (rules, kept_first, next_first)
 
   -- the last one ends with the last entry
-  pub ends_with_all : (n : ℕ) → n < length (units_of s) → length rs ≤ n + 1
-      → IfSome (slice_get (placed (units_of s)) n) (λ p. length records ≡ p.first + node_count p.unit.root)
-  ends_with_all n within past = go (slice_get (placed (units_of s)) n) refl
+  pub ends_with_all : (n : ℕ) → n < length (found_units s) → length rs ≤ n + 1
+      → IfSome (slice_get (placed (found_units s)) n) (λ p. length records ≡ p.first + node_count p.unit.root)
+  ends_with_all n within past = go (slice_get (placed (found_units s)) n) refl
     where
-      last : suc n ≡ length (units_of s)
+      last : suc n ≡ length (found_units s)
       last = search (rules, units_counted)
 
-      go : (o : Option PlacedUnit) → slice_get (placed (units_of s)) n ≡ o → IfSome o (λ p. length records ≡ p.first + node_count p.unit.root)
+      go : (o : Option PlacedUnit) → slice_get (placed (found_units s)) n ≡ o → IfSome o (λ p. length records ≡ p.first + node_count p.unit.root)
       go None at = tt
-      go (Some p) at = entries_counted a info tables rs records s ∙ last_ends (units_of s) n p at last
+      go (Some p) at = entries_counted a info tables rs records s ∙ last_ends (found_units s) n p at last
 
   pub units_rise : IsNonDecreasingBy (λ (u : UnitRecord). u.first) rs
   units_rise i j d le lt = search (rules, kept_first, slice_get-get_or, firsts_from)
 
   pub few_records : length rs ≤ length info
-  few_records = omega (arith, units_counted a info tables rs records s, few_units (units_of s), ap length s.1.spells.parts)
+  few_records = omega (arith, units_counted a info tables rs records s, few_units (found_units s), ap length s.1.spells.parts)
 
-  module _ (id : ℕ) (within : id < length (entries_of (units_of s))) (n : ℕ)
+  module _ (id : ℕ) (within : id < length (entries_of (found_units s))) (n : ℕ)
       (point : IsPartitionPoint (λ (u : UnitRecord). u.first ≤ id) (λ (u : UnitRecord). id < u.first) rs n) where
     -- an entry is of a unit
     pub some_unit : 0 < length rs
@@ -196,8 +196,8 @@ module _ (a info : List ℕ) (tables : Tables) (rs : List UnitRecord) (records :
       | inr more ↦ more
     ]
       where
-        least : (p : PlacedUnit) → slice_get (placed (units_of s)) 0 ≡ Some p → p.first ≡ 0
-        least p is = go (units_of s) is
+        least : (p : PlacedUnit) → slice_get (placed (found_units s)) 0 ≡ Some p → p.first ≡ 0
+        least p is = go (found_units s) is
           where
             go : (us : List DebugUnit) → slice_get (placed us) 0 ≡ Some p → p.first ≡ 0
             go [] gone = absurd cc
@@ -210,29 +210,29 @@ module _ (a info : List ℕ) (tables : Tables) (rs : List UnitRecord) (records :
     point_within le = omega (arith, le, some_before)
 
     -- the last unit that begins with this entry or an earlier one has it
-    pub unit_found : n ≤ length rs → IfSome (slice_get (entries_of (units_of s)) id) (λ e. n - 1 ≡ e.unit)
+    pub unit_found : n ≤ length rs → IfSome (slice_get (entries_of (found_units s)) id) (λ e. n - 1 ≡ e.unit)
     unit_found le =
         let k = kept_entry a info tables rs records s id within in
         let u = get_or rs (n - 1) k.unit_record in
         let (p, is_p, first) = kept_first (n - 1) u (slice_get-get_or rs (n - 1) k.unit_record (point_within le)) in
         let low : u.first ≤ id = point.0 (n - 1) k.unit_record (omega arith) (omega (arith, some_before)) in
-        of_entry k (λ e. n - 1 ≡ e.unit) (sym (unit_in_range (units_of s) (n - 1) p id k.entry is_p k.is_entry (omega (arith, low, first)) (high p is_p)))
+        of_entry k (λ e. n - 1 ≡ e.unit) (sym (unit_in_range (found_units s) (n - 1) p id k.entry is_p k.is_entry (omega (arith, low, first)) (high p is_p)))
       where
         behind : n ≡ suc (n - 1)
         behind = omega (arith, some_before)
 
-        high : (p : PlacedUnit) → slice_get (placed (units_of s)) (n - 1) ≡ Some p → id < p.first + node_count p.unit.root
+        high : (p : PlacedUnit) → slice_get (placed (found_units s)) (n - 1) ≡ Some p → id < p.first + node_count p.unit.root
         high p is_p =
             elim (slice_get_cases rs n).1 [
               | inl it ↦
                   let Q : UnitRecord → Type 0 = λ v. id < v.first in
                   let above : id < it.0.first = subst Q it.3 (point.1 n it.0 (omega arith) it.1) in
                   let (q, is_q, first) = kept_first n it.0 it.2 in
-                  let next = next_first (units_of s) (n - 1) p q is_p (rw (← behind) is_q) in
+                  let next = next_first (found_units s) (n - 1) p q is_p (rw (← behind) is_q) in
                   omega (arith, above, next, first)
               | inr it ↦
                   let past = it.0 in
                   let counted = units_counted a info tables rs records s in
-                  let all = last_ends (units_of s) (n - 1) p is_p (omega (arith, past, le, behind, counted)) in
+                  let all = last_ends (found_units s) (n - 1) p is_p (omega (arith, past, le, behind, counted)) in
                   omega (arith, all, within)
             ]

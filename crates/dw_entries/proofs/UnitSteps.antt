@@ -5,7 +5,7 @@ use Rattle.dw_entries.specs.declared.walk.UnitRecord.{UnitRecord}
 use Rattle.dw_entries.specs.declared.walk.Kept.{Kept}
 use Rattle.dw_forms.specs.AbbrevTables.{tables_in, AreTablesOf}
 use Rattle.dw_forms.specs.Chains.{chain_in}
-use Rattle.dw_forms.specs.KeptDecls.{table_in, number_in}
+use Rattle.dw_forms.specs.KeptDecls.{table_in, decl_number_in}
 use Rattle.dw_forms.specs.TableStarts.{IsTableIn, Stay}
 use Rattle.dw_entries.specs.declared.header.UnitHeader.{UnitHeader}
 use Rattle.dw_entries.specs.Header.{IsSize, header_size, header_bytes, header_fields, header_at}
@@ -37,12 +37,12 @@ module _ (a rest : List ℕ) (h : UnitHeader) (body : List ℕ) (bytes : AreByte
       → IsTableIn a (tables_in new.tables) h.abbrev_offset number
       → AreTablesOf a new.tables → Stay (tables_in old.tables) (tables_in new.tables)
       → new.units.items ≡ old.units.items ++ unit_record at h number first ∷ []
-      → TreeOf (context_by h (table_in (tables_in new.tables) number)) (number_in (chain_in (tables_in new.tables) number)) h.kind body [] start old.records.items new.records.items
+      → TreeOf (context_by h (table_in (tables_in new.tables) number)) (decl_number_in (chain_in (tables_in new.tables) number)) h.kind body [] start old.records.items new.records.items
       → UnitTaken a rest at old new (4 + h.unit_length)
   unit_taken at start number first old new s few there tables stay units tree =
       let r = header_takes (length a) rest h body bytes read in
       let table : List Declaration = table_in (tables_in new.tables) number in
-      let numbers : ℕ → ℕ = number_in (chain_in (tables_in new.tables) number) in
+      let numbers : ℕ → ℕ = decl_number_in (chain_in (tables_in new.tables) number) in
       let u : DebugUnit = record { header = h; table = table; root = tree.root; nulls = tree.nulls } in
       let whole : body ≡ body_bytes u = tree.parts ∙ append-nil (body_bytes u) in
       record {

@@ -14,7 +14,6 @@ pub mod Places
 pub mod Failures
 pub mod Asked
 pub mod Lookups
-pub mod Views
 -- Laws.
 pub mod Choices
 pub mod Joined
@@ -26,6 +25,7 @@ pub mod Props
 pub mod ValueLaws
 -- State.
 pub mod Scanned
+pub mod Views
 pub mod Records
 pub mod Walk
 pub mod NamedDecls

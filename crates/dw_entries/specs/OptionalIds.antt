@@ -9,13 +9,13 @@ abbrev pub option_of : ℕ → Option ℕ
 option_of n = if n == 0xffffffff then None else Some n
 
 -- the number that encodes it
-abbrev pub number_of : Option ℕ → ℕ
-number_of None = 0xffffffff
-number_of (Some n) = n
+abbrev pub encoded : Option ℕ → ℕ
+encoded None = 0xffffffff
+encoded (Some n) = n
 
-number_of-option_of : (n : ℕ) → number_of (option_of n) ≡ n
+number_of-option_of : (n : ℕ) → encoded (option_of n) ≡ n
 number_of-option_of n = elim (n == 0xffffffff) as
-    (λ b. b ≡ (n == 0xffffffff) → number_of (if b then None else Some n) ≡ n) [
+    (λ b. b ≡ (n == 0xffffffff) → encoded (if b then None else Some n) ≡ n) [
       | true ↦ λ e. sym (eqb-true n 0xffffffff (sym e))
       | false ↦ λ e. refl
     ] refl
@@ -25,5 +25,5 @@ abbrev inside : ℕ → Inside
 inside n = record { number = n }
 
 -- the number comes back
-pub back : (i : Inside) → inside (number_of (option_of i.number)) ≡ i
+pub back : (i : Inside) → inside (encoded (option_of i.number)) ≡ i
 back i = ap inside (number_of-option_of i.number)

@@ -5,7 +5,7 @@ use Rattle.dw_entries.specs.declared.walk.Record.{Record}
 use Rattle.dw_entries.specs.declared.walk.UnitRecord.{UnitRecord}
 use Rattle.dw_forms.specs.Chains.{chain_in}
 use Rattle.dw_forms.specs.declared.decl.Decls.{Decls}
-use Rattle.dw_forms.specs.KeptDecls.{Tables, table_in, tables_of, number_in}
+use Rattle.dw_forms.specs.KeptDecls.{Tables, table_in, tables_of, decl_number_in}
 use Rattle.dw_entries.specs.Units.{DebugUnit, Spells}
 use Rattle.dw_entries.specs.Entries.{Entry, entries_of, PlacedUnit, placed}
 
@@ -21,7 +21,7 @@ table_of (u ∷ us) (suc n) = table_of us n
 
 -- the numbers of declarations, by units and codes
 abbrev pub numbers_of : Tables → List UnitRecord → ℕ → ℕ → ℕ
-numbers_of tables units unit = number_in (chain_in tables (table_of units unit))
+numbers_of tables units unit = decl_number_in (chain_in tables (table_of units unit))
 
 -- what is kept of an entry: where it is, and the number of its declaration
 abbrev pub record_of : (ℕ → ℕ → ℕ) → Entry → Record
@@ -57,16 +57,6 @@ Scanned «abbrev» info tables unit_records records = (units : List DebugUnit)
     × Holds «abbrev» info tables unit_records records units
 
 -- the units that a scan found
-abbrev pub units_of : {a : List ℕ} {info : List ℕ} {tables : Tables} {unit_records : List UnitRecord}
+abbrev pub found_units : {a : List ℕ} {info : List ℕ} {tables : Tables} {unit_records : List UnitRecord}
     {records : List Record} → Scanned a info tables unit_records records → List DebugUnit
-units_of s = s.0
-
--- the entries that a scan found, by rising offset
-abbrev pub all_entries : {a info : List ℕ} {tables : Tables} {unit_records : List UnitRecord}
-    {records : List Record} → Scanned a info tables unit_records records → List Entry
-all_entries s = entries_of (units_of s)
-
--- the units that a scan found, each with its place
-abbrev pub all_units : {a info : List ℕ} {tables : Tables} {unit_records : List UnitRecord}
-    {records : List Record} → Scanned a info tables unit_records records → List PlacedUnit
-all_units s = placed (units_of s)
+found_units s = s.0

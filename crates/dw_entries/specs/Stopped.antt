@@ -9,7 +9,7 @@ use Rattle.dw_entries.specs.declared.walk.Kept.{Kept}
 use Rattle.dw_forms.specs.declared.abbrev_tables.AbbrevTables.{AbbrevTables}
 use Rattle.dw_forms.specs.AbbrevTables.{tables_in, AreTablesOf}
 use Rattle.dw_forms.specs.Chains.{chain_in}
-use Rattle.dw_forms.specs.KeptDecls.{number_in}
+use Rattle.dw_forms.specs.KeptDecls.{decl_number_in}
 use Rattle.dw_forms.specs.TableStarts.{Stay}
 use Rattle.dw_entries.specs.Scanned.{IsKept}
 use Rattle.dw_entries.specs.Failures.{IsPlainFault}
@@ -80,7 +80,7 @@ pub record UnitTaken («abbrev» rest : List ℕ) (at : ℕ) (old new : Kept) (l
       (record { at = at; first = length old.records.items; unit = taken })
   pub units : new.units.items ≡ old.units.items ++ record_is ∷ []
   pub records : new.records.items ≡ old.records.items
-      ++ node_records (number_in (chain_in (tables_in new.tables) record_is.table))
+      ++ node_records (decl_number_in (chain_in (tables_in new.tables) record_is.table))
       None None (length old.records.items) (at + header_size taken.header.kind) taken.root
   pub tables : AreTablesOf «abbrev» new.tables
   pub stay : Stay (tables_in old.tables) (tables_in new.tables)

@@ -5,7 +5,7 @@ use Rattle.dw_forms.specs.Abbrev.{Declaration}
 use Rattle.dw_forms.specs.AbbrevReading.{table_at}
 use Rattle.dw_forms.specs.AbbrevTables.{tables_in}
 use Rattle.dw_forms.specs.Chains.{chain_in}
-use Rattle.dw_forms.specs.KeptDecls.{table_in, number_in}
+use Rattle.dw_forms.specs.KeptDecls.{table_in, decl_number_in}
 use Rattle.dw_entries.specs.declared.header.UnitHeader.{UnitHeader}
 use Rattle.dw_entries.specs.declared.context.UnitContext.{UnitContext}
 use Rattle.dw_entries.specs.Grammar.{Context, Head, IsNull}
@@ -34,7 +34,7 @@ context_in c = record {
 
 -- the numbers of the declarations that it goes by, by their codes
 abbrev pub numbers_in : UnitContext → ℕ → ℕ
-numbers_in c = number_in (chain_in (tables_in c.tables.now) c.table)
+numbers_in c = decl_number_in (chain_in (tables_in c.tables.now) c.table)
 
 -- what the bytes of a unit are read by
 abbrev pub context_of : DebugUnit → Context

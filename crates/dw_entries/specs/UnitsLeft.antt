@@ -2,9 +2,9 @@
 use Rattle.std.specs.Prelude.{List, map, drop}
 use Rattle.dw_entries.specs.declared.lookup.UnitHead.{UnitHead}
 use Rattle.dw_entries.specs.declared.lookup.Units.{Units}
-use Rattle.dw_entries.specs.Scanned.{all_units}
+use Rattle.dw_entries.specs.Views.{all_units}
 use Rattle.dw_entries.specs.Lookups.{unit_head}
 
 -- the units from its number on
 abbrev pub units_left : Units → List UnitHead
-units_left it = map unit_head (drop it.number (all_units it.entries.now.scanned))
+units_left it = map unit_head (drop it.number (all_units it.entries.now))

@@ -4,7 +4,7 @@ ghost use Rattle.std.specs.Prelude.{◌≡◌, ◌+◌, ◌<◌, ◌≤◌, leng
 ghost use Rattle.std.specs.List.Sorted.{IsNonDecreasingBy, IsPartitionPoint};
 ghost use Rattle.dw_entries.specs.Cursors.{HasEntries};
 ghost use Rattle.dw_entries.specs.Entries.{node_count};
-ghost use Rattle.dw_entries.specs.Scanned.{all_entries, all_units, units_of};
+ghost use Rattle.dw_entries.specs.Views.{all_entries, all_units, units_of};
 
 use crate::entries::Entries;
 use crate::entry_at::EntryAt;
@@ -13,9 +13,8 @@ use crate::walk::UnitRecord;
 
 /// The number of the entry after the last one of a unit.
 fn end_of(entries: &Entries<'_>, number: usize) -> usize
-    requires { number < length (units_of entries.now.scanned) }
-    ensures { IfSome (slice_get (all_units entries.now.scanned) number)
-        (λ p. result ≡ p.first + node_count p.unit.root) }
+    requires { number < length (units_of entries.now) }
+    ensures { IfSome (slice_get (all_units entries.now) number) (λ p. result ≡ p.first + node_count p.unit.root) }
 {
     let next = number + 1;
     if next < entries.units.len() {
@@ -36,9 +35,9 @@ fn units_up_to(units: &[UnitRecord], id: EntryId) -> usize
 
 /// The number of an entry's unit.
 pub fn unit_number(entries: &Entries<'_>, id: EntryId) -> usize
-    requires { id < length (all_entries entries.now.scanned) }
-    ensures within { result < length (units_of entries.now.scanned) }
-    ensures number { IfSome (slice_get (all_entries entries.now.scanned) id) (λ e. result ≡ e.unit) }
+    requires { id < length (all_entries entries.now) }
+    ensures within { result < length (units_of entries.now) }
+    ensures number { IfSome (slice_get (all_entries entries.now) id) (λ e. result ≡ e.unit) }
 {
     units_up_to(&entries.units, id) - 1
 }
@@ -53,7 +52,7 @@ pub struct Cursor<'e, 'a> {
     unit: usize,
     first: usize,
     end: usize,
-    ghost its: { HasEntries (all_entries entries.now.scanned) unit first end },
+    ghost its: { HasEntries (all_entries entries.now) unit first end },
 }
 
 impl<'a> Entries<'a> {
@@ -74,8 +73,8 @@ impl<'e, 'a> Cursor<'e, 'a> {
     /// The entry with this number, if it is one of the unit at hand.
     #[inline(always)]
     pub fn beside(&self, id: EntryId) -> Option<EntryAt<'e, 'a>>
-        requires { id < length (all_entries self.now.entries.now.scanned) }
-        ensures { IfSome result (λ entry. entry ≡ slice_get (all_entries self.now.entries.now.scanned) id) }
+        requires { id < length (all_entries self.now.entries.now) }
+        ensures { IfSome result (λ entry. entry ≡ slice_get (all_entries self.now.entries.now) id) }
     {
         if self.first <= id.number() && id.number() < self.end {
             Some(EntryAt::new(self.entries, id, self.unit))
@@ -87,9 +86,9 @@ impl<'e, 'a> Cursor<'e, 'a> {
     /// The entry with this number. Its declaration is looked up once.
     #[inline(always)]
     pub fn at(&mut self, id: EntryId) -> EntryAt<'e, 'a>
-        requires { id < length (all_entries self.old.entries.now.scanned) }
+        requires { id < length (all_entries self.old.entries.now) }
         ensures same { self.new.entries.now ≡ self.old.entries.now }
-        ensures found { result ≡ slice_get (all_entries self.old.entries.now.scanned) id }
+        ensures found { result ≡ slice_get (all_entries self.old.entries.now) id }
     {
         let number = id.number();
         if self.first <= number && number < self.end {

@@ -3,7 +3,7 @@
 ghost use Rattle.std.specs.Prelude.{◌^◌, ◌<◌, length, ◌≡◌, ℕ, slice_get, IfSome, IfNone, ◌+◌, ◌≤◌, List, IfOk, IfErr};
 ghost use Rattle.std.specs.Prelude.{OnOk};
 ghost use Rattle.std.specs.List.Sorted.{IsNonDecreasingBy, IsPartitionPoint};
-ghost use Rattle.dw_entries.specs.Scanned.{all_entries, all_units, units_of, tables_among, Scanned};
+ghost use Rattle.dw_entries.specs.Scanned.{tables_among, Scanned};
 ghost use Rattle.dw_entries.specs.Runs.{ReachesInUnit};
 ghost use Rattle.dw_entries.specs.Units.{DebugUnit, Spells};
 ghost use Rattle.dw_entries.specs.Faults.{Fails};
@@ -16,41 +16,16 @@ use dw_elf::Sections;
 use dw_forms::Decls;
 use std::alloc::{AllocError, Global};
 
-/// How many bytes of .debug_info have one hint.
-const BLOCK: usize = 64;
-
-/// Which entries start in a block.
-#[derive(Clone, Copy, Debug)]
-struct Hint {
-    /// The number of the first entry that starts in the block.
-    first: u32,
-    /// A bit for each byte of the block: whether an entry starts there.
-    starts: u64,
-}
-
-impl Hint {
-    /// The number of the entry that starts at an offset of the block, if one does, and some number otherwise.
-    #[inline(always)]
-    fn guess(self, offset: u64) -> u64 {
-        let before = self.starts & ((1 << (offset % BLOCK as u64)) - 1);
-        u64::from(self.first) + u64::from(before.count_ones())
-    }
-
-    /// Notes that an entry starts at an offset of the block.
-    #[inline(always)]
-    fn note(&mut self, offset: usize, number: u32) {
-        if self.starts == 0 {
-            self.first = number;
-        }
-        self.starts |= 1 << (offset % BLOCK);
-    }
-}
+/// How many bytes of .debug_info a block has.
+const BLOCK: usize = 32;
 
 /// Which entries start in each block of .debug_info. Nothing is proved of them: whoever goes by a guess looks at where
 /// that entry starts.
 #[derive(Drop)]
 pub struct Hints {
-    blocks: Vec<Hint>,
+    /// Of each block: the low half has a bit for each byte, whether an entry starts there, and the high half is the
+    /// number of the first of these entries.
+    blocks: Vec<u64>,
 }
 
 impl Hints {
@@ -61,22 +36,27 @@ impl Hints {
         if block >= self.blocks.len() {
             return None;
         }
-        Some(self.blocks[block].guess(offset) as usize)
+        let hint = self.blocks[block];
+        let before = hint & ((1 << (offset % BLOCK as u64)) - 1);
+        Some((hint >> BLOCK) as usize + before.count_ones() as usize)
     }
 }
 
 impl Entries<'_> {
+    ghost use Rattle.dw_entries.specs.Views.{all_entries, all_units, units_of};
+
     /// Hints at where entries start.
     pub fn hints(&self, alloc: Global) -> Result<Hints, AllocError> {
         let count = self.sections.info.len() / BLOCK + 1;
-        let mut blocks = vec![in alloc; Hint {
-            first: 0,
-            starts: 0
-        }; count]?;
+        let mut blocks = vec![in alloc; 0u64; count]?;
         for number in 0..self.records.len() {
             let at = self.records[number].at as usize;
-            if at / BLOCK < blocks.len() {
-                blocks[at / BLOCK].note(at, number as u32);
+            let block = at / BLOCK;
+            if block < blocks.len() {
+                if blocks[block] == 0 {
+                    blocks[block] = (number as u64) << BLOCK;
+                }
+                blocks[block] |= 1 << (at % BLOCK);
             }
         }
         Ok(Hints { blocks })
@@ -85,7 +65,7 @@ impl Entries<'_> {
     /// The entry with this number.
     #[inline(always)]
     pub fn id(&self, number: usize) -> EntryId
-        requires { number < length (all_entries self.now.scanned) }
+        requires { number < length (all_entries self.now) }
         ensures { result ≡ number }
     {
         EntryId::new(number as u32)
@@ -94,16 +74,16 @@ impl Entries<'_> {
     /// The number of an entry's unit.
     #[inline(always)]
     pub fn unit_of(&self, id: EntryId) -> usize
-        requires { id < length (all_entries self.now.scanned) }
-        ensures { IfSome (slice_get (all_entries self.now.scanned) id) (λ e. result ≡ e.unit) }
+        requires { id < length (all_entries self.now) }
+        ensures { IfSome (slice_get (all_entries self.now) id) (λ e. result ≡ e.unit) }
     {
         unit_number(self, id)
     }
 
     /// How many entries are above an entry. Each of them is looked at.
     pub(crate) fn depth(&self, id: EntryId) -> usize
-        requires { id < length (all_entries self.now.scanned) }
-        ensures { IfSome (slice_get (all_entries self.now.scanned) id) (λ e. result ≡ e.depth) }
+        requires { id < length (all_entries self.now) }
+        ensures { IfSome (slice_get (all_entries self.now) id) (λ e. result ≡ e.depth) }
     {
         let mut depth = 0;
         let mut above = self.record(id).parent.get();
@@ -117,11 +97,10 @@ impl Entries<'_> {
     /// The entry of a unit that begins so far after the first byte of the unit's header.
     #[inline(always)]
     pub fn find_in_unit(&self, unit: usize, offset: u64) -> Option<EntryId>
-        requires { unit < length (units_of self.now.scanned) }
-        ensures found { IfSome result
-            (ReachesInUnit (all_entries self.now.scanned) (all_units self.now.scanned) unit offset) }
+        requires { unit < length (units_of self.now) }
+        ensures found { IfSome result (ReachesInUnit (all_entries self.now) (all_units self.now) unit offset) }
         ensures none { IfNone result ((id : ℕ)
-            → ReachesInUnit (all_entries self.now.scanned) (all_units self.now.scanned) unit offset id → ⊥) }
+            → ReachesInUnit (all_entries self.now) (all_units self.now) unit offset id → ⊥) }
     {
         let Some(at) = offset.checked_add(self.units[unit].at as u64) else {
             return None;
@@ -161,7 +140,7 @@ fn first_from(records: &[Record], offset: u64) -> usize
 impl<'a> Entries<'a> {
     ghost use Rattle.std.specs.Prelude.{◌≢◌, ℕ, All, slice_get, IfSome, IfNone, Some};
     ghost use Rattle.dw_entries.specs.Runs.{IsEntryAt};
-    ghost use Rattle.dw_entries.specs.Views.{sections_of};
+    ghost use Rattle.dw_entries.specs.Views.{all_entries, sections_of};
 
     /// The sections that were scanned.
     pub fn sections(&self) -> &Sections<'a>
@@ -172,7 +151,7 @@ impl<'a> Entries<'a> {
 
     /// How many entries there are.
     pub fn count(&self) -> usize
-        ensures { result ≡ length (all_entries self.now.scanned) }
+        ensures { result ≡ length (all_entries self.now) }
     {
         self.records.len()
     }
@@ -180,7 +159,7 @@ impl<'a> Entries<'a> {
     /// What is kept of an entry.
     #[inline(always)]
     pub(crate) fn record(&self, id: EntryId) -> Record
-        requires { id < length (all_entries self.now.scanned) }
+        requires { id < length (all_entries self.now) }
         ensures { slice_get self.now.records.items id ≡ Some result }
     {
         self.records[id.number()]
@@ -188,8 +167,8 @@ impl<'a> Entries<'a> {
 
     /// The entry that starts at an offset of .debug_info.
     pub(crate) fn find_at(&self, offset: u64) -> Option<EntryId>
-        ensures found { IfSome result (IsEntryAt (all_entries self.now.scanned) offset) }
-        ensures none { IfNone result ((id : ℕ) → IsEntryAt (all_entries self.now.scanned) offset id → ⊥) }
+        ensures found { IfSome result (IsEntryAt (all_entries self.now) offset) }
+        ensures none { IfNone result ((id : ℕ) → IsEntryAt (all_entries self.now) offset id → ⊥) }
     {
         let number = first_from(&self.records, offset);
         if number >= self.records.len() {
@@ -204,10 +183,9 @@ impl<'a> Entries<'a> {
 
     /// The entry whose first byte is at this offset of .debug_info.
     pub fn find(&self, offset: u32) -> Option<EntryId>
-        ensures found { IfSome result
-            (λ id. IfSome (slice_get (all_entries self.now.scanned) id) (λ e. e.at ≡ offset)) }
-        ensures within { IfSome result (λ id. id < length (all_entries self.now.scanned)) }
-        ensures none { IfNone result (All (λ e. e.at ≢ offset) (all_entries self.now.scanned)) }
+        ensures found { IfSome result (λ id. IfSome (slice_get (all_entries self.now) id) (λ e. e.at ≡ offset)) }
+        ensures within { IfSome result (λ id. id < length (all_entries self.now)) }
+        ensures none { IfNone result (All (λ e. e.at ≢ offset) (all_entries self.now)) }
     {
         self.find_at(offset as u64)
     }

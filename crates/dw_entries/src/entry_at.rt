@@ -3,13 +3,13 @@
 ghost use Rattle.std.specs.Prelude.{◌≡◌, ◌<◌, ◌++◌, ℕ, List, false, Some, Option, length, slice_get, IfSome};
 ghost use Rattle.std.specs.Prelude.{option_map};
 ghost use Rattle.std.specs.List.{flat_map};
-ghost use Rattle.dw_forms.specs.KeptDecls.{view as decl_view};
+ghost use Rattle.dw_forms.specs.KeptDecls.{decl_view};
 ghost use Rattle.dw_forms.specs.Suffixes.{specs_in, numbered};
 ghost use Rattle.dw_forms.specs.Codes.{is_type_tag};
 ghost use Rattle.dw_forms.specs.Value.{text, view};
 ghost use Rattle.dw_entries.specs.Grammar.{attribute_bytes, head_bytes};
 ghost use Rattle.dw_entries.specs.Entries.{Entry};
-ghost use Rattle.dw_entries.specs.Scanned.{all_entries, units_of};
+ghost use Rattle.dw_entries.specs.Views.{all_entries, units_of};
 ghost use Rattle.dw_entries.specs.Asked.{values_of};
 ghost use Rattle.dw_entries.specs.ValuesLeft.{values_left};
 ghost use Rattle.dw_entries.specs.Leading.{leading_left};
@@ -51,23 +51,23 @@ pub struct EntryAt<'e, 'a> {
 impl<'e, 'a> Model for EntryAt<'e, 'a> {
     ghost Value = { Option Entry };
 
-    ghost view = { λ it. slice_get (all_entries it.entries.now.scanned) it.id };
+    ghost view = { λ it. slice_get (all_entries it.entries.now) it.id };
 
-    ghost invariant = { λ it. (it.id < length (all_entries it.entries.now.scanned))
+    ghost invariant = { λ it. (it.id < length (all_entries it.entries.now))
         × (slice_get it.entries.now.records.items it.id ≡ Some it.kept)
-        × IfSome (slice_get (all_entries it.entries.now.scanned) it.id)
+        × IfSome (slice_get (all_entries it.entries.now) it.id)
         (λ e. decl_view it.decl ≡ e.head.decl)
-        × IfSome (slice_get (all_entries it.entries.now.scanned) it.id)
-        (λ e. IfSome (slice_get (units_of it.entries.now.scanned) e.unit) (λ u. it.header ≡ u.header))
-        × IfSome (slice_get (all_entries it.entries.now.scanned) it.id) (λ e. it.unit ≡ e.unit) };
+        × IfSome (slice_get (all_entries it.entries.now) it.id)
+        (λ e. IfSome (slice_get (units_of it.entries.now) e.unit) (λ u. it.header ≡ u.header))
+        × IfSome (slice_get (all_entries it.entries.now) it.id) (λ e. it.unit ≡ e.unit) };
 }
 
 impl<'a> Entries<'a> {
     /// The entry with this number. Its declaration and its unit are looked up once.
     #[inline(always)]
     pub fn at(&self, id: EntryId) -> EntryAt<'_, 'a>
-        requires { id < length (all_entries self.now.scanned) }
-        ensures { result ≡ slice_get (all_entries self.now.scanned) id }
+        requires { id < length (all_entries self.now) }
+        ensures { result ≡ slice_get (all_entries self.now) id }
     {
         EntryAt::new(self, id, unit_number(self, id))
     }
@@ -75,8 +75,8 @@ impl<'a> Entries<'a> {
     /// The parent of an entry. None at the first entry of a unit. Its unit is not looked up.
     #[inline(always)]
     pub fn parent(&self, id: EntryId) -> Option<EntryId>
-        requires { id < length (all_entries self.now.scanned) }
-        ensures { IfSome (slice_get (all_entries self.now.scanned) id) (λ e. result ≡ e.parent) }
+        requires { id < length (all_entries self.now) }
+        ensures { IfSome (slice_get (all_entries self.now) id) (λ e. result ≡ e.parent) }
     {
         id_of(self.record(id).parent)
     }
@@ -84,8 +84,8 @@ impl<'a> Entries<'a> {
     /// The next sibling of an entry. Its unit is not looked up.
     #[inline(always)]
     pub fn next_sibling(&self, id: EntryId) -> Option<EntryId>
-        requires { id < length (all_entries self.now.scanned) }
-        ensures { IfSome (slice_get (all_entries self.now.scanned) id) (λ e. result ≡ e.next) }
+        requires { id < length (all_entries self.now) }
+        ensures { IfSome (slice_get (all_entries self.now) id) (λ e. result ≡ e.next) }
     {
         id_of(self.record(id).next)
     }
@@ -95,9 +95,9 @@ impl<'e, 'a> EntryAt<'e, 'a> {
     /// An entry of the unit with this number.
     #[inline(always)]
     pub(crate) fn new(entries: &'e Entries<'a>, id: EntryId, unit: usize) -> EntryAt<'e, 'a>
-        requires id { id < length (all_entries entries.now.scanned) }
-        requires unit { IfSome (slice_get (all_entries entries.now.scanned) id) (λ e. unit ≡ e.unit) }
-        ensures { result ≡ slice_get (all_entries entries.now.scanned) id }
+        requires id { id < length (all_entries entries.now) }
+        requires unit { IfSome (slice_get (all_entries entries.now) id) (λ e. unit ≡ e.unit) }
+        ensures { result ≡ slice_get (all_entries entries.now) id }
     {
         let kept = entries.record(id);
         EntryAt {

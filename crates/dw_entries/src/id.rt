@@ -44,13 +44,13 @@ pub struct OptionalId {
 
 impl Model for OptionalId {
     ghost use Rattle.std.specs.Prelude.{ℕ, Option};
-    ghost use Rattle.dw_entries.specs.OptionalIds.{option_of, number_of, back};
+    ghost use Rattle.dw_entries.specs.OptionalIds.{option_of, encoded, back};
 
     ghost Value = { Option ℕ };
 
     ghost view = { λ id. option_of id.number };
 
-    ghost inverse = { λ id. record { number = number_of id } };
+    ghost inverse = { λ id. record { number = encoded id } };
 
     ghost inverse_ok = { λ inside _. back inside };
 }

@@ -26,4 +26,4 @@ pub use id::{EntryId, OptionalId};
 pub use laws::{no_list, offsets_rise, one_fault, one_list};
 pub use lookup::{EntryHead, Head, UnitHead, Units};
 pub use scanning::scan;
-pub use values::{Choice, Leading, Values};
+pub use values::{Leading, Values};

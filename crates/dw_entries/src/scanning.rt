@@ -5,7 +5,7 @@ ghost use Rattle.dw_elf.specs.declared.TheConstants.{SECTION_LIMIT};
 ghost use Rattle.dw_forms.specs.AbbrevReading.{table_at};
 ghost use Rattle.dw_forms.specs.AbbrevTables.{tables_in, AreTablesOf, AreSearchable};
 ghost use Rattle.dw_forms.specs.TableStarts.{IsTableIn};
-ghost use Rattle.dw_forms.specs.KeptDecls.{view};
+ghost use Rattle.dw_forms.specs.KeptDecls.{decl_view};
 ghost use Rattle.dw_forms.specs.Suffixes.{specs_in};
 ghost use Rattle.dw_forms.specs.ValueReading.{Gives};
 ghost use Rattle.dw_entries.specs.Faults.{rule_of, Fails};
@@ -18,8 +18,8 @@ ghost use Rattle.dw_entries.specs.Reading.{seen, after, code_at, value_rule as r
 ghost use Rattle.dw_entries.specs.Reading.{attributes_at, item_at, first_at};
 ghost use Rattle.dw_entries.specs.NamedDecls.{declared_view};
 ghost use Rattle.dw_entries.specs.Units.{context_in, numbers_in, DebugUnit, Spells};
-ghost use Rattle.dw_entries.specs.Scanned.{Scanned, units_of};
-ghost use Rattle.dw_entries.specs.Views.{sections_of};
+ghost use Rattle.dw_entries.specs.Scanned.{Scanned};
+ghost use Rattle.dw_entries.specs.Views.{sections_of, units_of};
 
 use crate::context::UnitContext;
 use crate::entries::Entries;
@@ -74,13 +74,6 @@ pub fn unit_table(
             attribute: broken.attribute,
         })),
     }
-}
-
-/// A declaration, and its number.
-#[derive(Clone, Copy)]
-pub struct Declared<'a> {
-    pub number: u32,
-    pub decl: Decl<'a>,
 }
 
 impl From<NumberFault> for Failing {
@@ -177,7 +170,7 @@ fn skip_attributes<'b>(
     bytes: &'b [u8],
 ) -> Result<&'b [u8], Failing>
     ensures { Gives (λ rest. rest.now) result
-        (after (attributes_at (context_in context.entry) (view decl.entry).attributes bytes.now)) }
+        (after (attributes_at (context_in context.entry) (decl_view decl.entry).attributes bytes.now)) }
 {
     let version = context.version;
     if decl.allows(version) {
@@ -191,17 +184,17 @@ fn skip_attributes<'b>(
     skip_each(context, decl.attributes(), bytes)
 }
 
-/// The declaration with this code.
+/// The declaration with this code, and its number.
 #[inline(always)]
 #[tactic(auto, unfolding(crate::specs::Grammar::declared_in))]
-fn find_decl(context: UnitContext<'_>, code: u64) -> Result<Declared<'_>, Failing>
-    ensures found { IfOk result (λ d. Some (view d.decl) ≡ declared_in (context_in context.entry).table code) }
-    ensures number { IfOk result (λ d. d.number ≡ numbers_in context.entry (view d.decl).code) }
+fn find_decl(context: UnitContext<'_>, code: u64) -> Result<(u32, Decl<'_>), Failing>
+    ensures found { IfOk result (λ d. Some (decl_view d.1) ≡ declared_in (context_in context.entry).table code) }
+    ensures number { IfOk result (λ d. d.0 ≡ numbers_in context.entry (decl_view d.1).code) }
     ensures none { IfErr result (λ f. None ≡ declared_in (context_in context.entry).table code) }
     ensures rule { IfErr result (λ f. f ≡ record { rule = UndeclaredCode; attribute = 0 }) }
 {
     match context.tables.get(context.table, code) {
-        Some((number, decl)) => Ok(Declared { number, decl }),
+        Some(declared) => Ok(declared),
         None => Err(Failing {
             rule: Rule::UndeclaredCode,
             attribute: 0,
@@ -209,13 +202,13 @@ fn find_decl(context: UnitContext<'_>, code: u64) -> Result<Declared<'_>, Failin
     }
 }
 
-/// The declaration of the entry at the front, or none at a null, and the bytes after it.
+/// The number and the declaration of the entry at the front, or none at a null, and the bytes after it.
 #[inline(always)]
 #[tactic(auto, unfolding(crate::specs::Reading::item_at, crate::specs::Reading::entry_by))]
 pub fn read_item<'a, 'b>(
     context: UnitContext<'a>,
     bytes: &'b [u8],
-) -> Result<(Option<Declared<'a>>, &'b [u8]), Failing>
+) -> Result<(Option<(u32, Decl<'a>)>, &'b [u8]), Failing>
     ensures { Gives (λ x. (option_map declared_view x.0, x.1.now)) result
         (seen (numbered_decl (numbers_in context.entry)) (item_at (context_in context.entry) bytes.now)) }
 {
@@ -223,18 +216,18 @@ pub fn read_item<'a, 'b>(
     if code == 0 {
         return Ok((None, rest));
     }
-    let declared = find_decl(context, code)?;
-    let rest = skip_attributes(context, declared.decl, rest)?;
-    Ok((Some(declared), rest))
+    let (number, decl) = find_decl(context, code)?;
+    let rest = skip_attributes(context, decl, rest)?;
+    Ok((Some((number, decl)), rest))
 }
 
-/// The first entry of a unit, and the bytes after it.
+/// The number and the declaration of a unit's first entry, and the bytes after it.
 #[tactic(auto, unfolding(crate::specs::Reading::first_at, crate::specs::Reading::entry_by))]
 pub fn read_first<'a, 'b>(
     context: UnitContext<'a>,
     kind: HeaderKind,
     bytes: &'b [u8],
-) -> Result<(Declared<'a>, &'b [u8]), Failing>
+) -> Result<((u32, Decl<'a>), &'b [u8]), Failing>
     ensures { Gives (λ x. (Some (declared_view x.0), x.1.now)) result
         (seen (numbered_decl (numbers_in context.entry)) (first_at (context_in context.entry) kind bytes.now)) }
 {
@@ -249,15 +242,15 @@ pub fn read_first<'a, 'b>(
     if code == 0 {
         return Err(missing);
     }
-    let declared = find_decl(context, code)?;
-    if !kind.fits(declared.decl.tag()) {
+    let (number, decl) = find_decl(context, code)?;
+    if !kind.fits(decl.tag()) {
         return Err(Failing {
             rule: Rule::WrongUnitTag,
             attribute: 0,
         });
     }
-    let rest = skip_attributes(context, declared.decl, rest)?;
-    Ok((declared, rest))
+    let rest = skip_attributes(context, decl, rest)?;
+    Ok(((number, decl), rest))
 }
 
 /// What is kept of the units that .debug_info is.
@@ -286,7 +279,7 @@ pub fn scan<'a>(alloc: Global, sections: &Sections<'a>) -> Result<Entries<'a>, S
     ensures same { IfOk result (λ e. sections_of e ≡ sections.now) }
     ensures only { IfOk result
         (λ e. (units : List DebugUnit) → Spells sections.now.«abbrev».now units sections.now.info.now
-        → units ≡ units_of e.scanned) }
+        → units ≡ units_of e) }
     ensures fault { IfErr result (IfPlainFault (Fails sections.now.«abbrev».now sections.now.info.now)) }
     ensures none { IfErr result (IfPlainFault
         (λ _. (units : List DebugUnit) → Spells sections.now.«abbrev».now units sections.now.info.now → ⊥)) }

@@ -1,18 +1,16 @@
 //! The attributes of an entry, each value decoded on demand.
 
 ghost use Rattle.std.specs.Prelude.{◌≡◌, Some, IfNone, List, drop, length, IfSome};
-ghost use Rattle.std.specs.Bool.{OnFalse};
 ghost use Rattle.dw_forms.specs.Suffixes.{numbered, specs_in, Ends};
 ghost use Rattle.dw_forms.specs.Walks.{IsStep};
 ghost use Rattle.dw_forms.specs.declared.decl.AttributeSpec.{AttributeSpec as SpecData};
 ghost use Rattle.dw_forms.specs.Chains.{Numbered};
-ghost use Rattle.dw_entries.specs.Chosen.{OthersPass, AreUnasked, IsNextAsked};
 ghost use Rattle.dw_entries.specs.Header.{IsSize};
 ghost use Rattle.dw_entries.specs.Values.{value_context, Left, form_there};
 ghost use Rattle.dw_entries.specs.Choices.{size_unique};
 ghost use Rattle.dw_entries.specs.ValueLaws.{left_unique};
 
-use dw_forms::{Attribute, AttributeSpec, Attributes, Form, Step, Value, read_value};
+use dw_forms::{Attribute, Attributes, Form, Step, Value, read_value};
 
 /// A walk over the values of an entry, up to the last that may lead elsewhere. It reads these, and before the last one
 /// those whose forms have no one size.
@@ -65,44 +63,13 @@ pub struct Values<'e, 'a> {
         bytes.now } by { left_unique (value_context version address_size) (specs_in attributes) bytes.now },
 }
 
-/// Which attributes are asked for, by how they are declared.
-pub trait Choice {
-    /// What holds of a specification that is not asked for.
-    ghost passes: { Self → SpecData → Type 0 };
-
-    /// Whether attributes that are declared so are asked for.
-    fn asks(&self, spec: &AttributeSpec) -> bool
-        ensures { OnFalse result (passes self.now spec.now) };
-
-    /// All that are asked for are among those at which a search stops, so that the others need not be looked at.
-    fn keeps_to_stops(&self)
-        ensures { OthersPass (passes self.now) };
-}
-
-/// The attributes from the next one on that is asked for. Only attributes at which a search stops are looked at.
-#[inline(always)]
-fn next_asked<'e, C: Choice>(choice: &C, attributes: Attributes<'e>) -> Option<Attributes<'e>>
-    ensures found { IfSome result (IsNextAsked (C.passes choice.now) attributes.entry) }
-    ensures none { IfNone result (AreUnasked (C.passes choice.now) (specs_in attributes.entry)) }
-{
-    choice.keeps_to_stops();
-    let mut left = attributes.next_stop();
-    while let Some((spec, after)) = left.split_first() {
-        if choice.asks(&spec) {
-            return Some(left);
-        }
-        left = after.next_stop();
-    }
-    None
-}
-
 impl<'e, 'a> Values<'e, 'a> {
     ghost use Rattle.std.specs.Prelude.{option_map};
     ghost use Rattle.dw_forms.specs.Value.{view};
     ghost use Rattle.dw_entries.specs.ValuesLeft.{viewed, values_left};
     ghost use Rattle.dw_entries.specs.Leading.{DoesNotLead};
     ghost use Rattle.dw_entries.specs.Lookups.{value_in};
-    ghost use Rattle.dw_entries.specs.Chosen.{ArePassed, IsNextOf};
+    ghost use Rattle.dw_entries.specs.Chosen.{DoesNotStop, ArePassed, IsNextOf};
 
     /// The value of the first attribute with this code, if one is left.
     #[inline(always)]
@@ -164,21 +131,16 @@ impl<'e, 'a> Values<'e, 'a> {
         }
     }
 
-    /// The next attribute that is asked for. Values before it are skipped, and where none is asked for, nothing is
-    /// read.
+    /// The next attribute at which a search stops. Values before it, which take no bytes, are skipped.
     #[inline(always)]
-    pub fn next_by<C: Choice>(&mut self, choice: &C) -> Option<(Attribute, Value<'a>)>
+    pub fn next_stop(&mut self) -> Option<(Attribute, Value<'a>)>
         ensures some { IfSome result
-            (λ found. IsNextOf (C.passes choice.now) (values_left self.old) (viewed found) (values_left self.new)) }
-        ensures none { IfNone result (ArePassed (C.passes choice.now) (values_left self.old)) }
+            (λ found. IsNextOf DoesNotStop (values_left self.old) (viewed found) (values_left self.new)) }
+        ensures none { IfNone result (ArePassed DoesNotStop (values_left self.old)) }
     {
-        match next_asked(choice, self.attributes) {
-            Some(asked) => {
-                self.pass(asked);
-                self.next()
-            }
-            None => None,
-        }
+        let from = self.attributes.next_stop();
+        self.pass(from);
+        self.next()
     }
 }
 

@@ -16,8 +16,8 @@ use crate::context::UnitContext;
 use crate::fault::{Broken, Failing, Rule, Section};
 use crate::header::UnitHeader;
 use crate::id::OptionalId;
-use crate::scanning::{Declared, read_code, read_first, read_item};
-use dw_forms::{AbbrevTables, Stop};
+use crate::scanning::{read_code, read_first, read_item};
+use dw_forms::{AbbrevTables, Decl, Stop};
 use std::alloc::{AllocError, Global};
 
 /// Where a unit is, and what its header says. Units are numbered in rising offset.
@@ -77,7 +77,7 @@ fn enter(
     records: &mut Vec<Record>,
     levels: &mut Vec<Level>,
     at: u32,
-    declared: Declared<'_>,
+    declared: (u32, Decl<'_>),
 ) -> Result<(), AllocError>
     requires few_entries { length records.old.items < 0xffffffff }
     requires few_levels { length levels.old.items < 2 ^ 32 }
@@ -98,11 +98,11 @@ fn enter(
     }
     records.push(Record {
         at,
-        decl: declared.number,
+        decl: declared.0,
         parent,
         next: OptionalId::none(),
     })?;
-    if declared.decl.has_children() {
+    if declared.1.has_children() {
         levels.push(Level {
             parent: OptionalId::some(id),
             last: OptionalId::none(),

@@ -11,7 +11,7 @@ use Rattle.dw_forms.specs.declared.fault.DeclFault.{DeclFault}
 use Rattle.dw_forms.specs.declared.fault.Stop.{Stop}
 use Rattle.dw_forms.specs.declared.fault.Stop.TheVariants as stops
 use Rattle.dw_forms.specs.Steps.{◌>>=◌}
-use Rattle.dw_forms.specs.Abbrev.{Declaration, view, views}
+use Rattle.dw_forms.specs.Abbrev.{Declaration, table_view, views}
 use Rattle.dw_forms.specs.AbbrevReading.{on_option, unsigned_at, form_at, has_attribute, new_form_of, begun_at, pair_at, attributes_of, has_code, tagged_at, decl_at}
 use Rattle.dw_forms.specs.declared.fault.AbbrevFault.{AbbrevFault}
 use Rattle.dw_forms.specs.Stops.{FailsOrMemory}
@@ -20,12 +20,12 @@ pub has_code_views : (code : ℕ) (ds : List TableDecl) → has_code code (views
 has_code_views code [] = refl
 has_code_views code (d ∷ ds) = ap (λ b. (d.code == code) || b) (has_code_views code ds)
 
-find_views_on : (code : ℕ) (d : TableDecl) (ds : List TableDecl) (b : Bool) → find (λ e. e.code == code) (views ds) ≡ option_map view (find (λ e. e.code == code) ds)
-    → cond b (Some (view d)) (find (λ e. e.code == code) (views ds)) ≡ option_map view (cond b (Some d) (find (λ e. e.code == code) ds))
+find_views_on : (code : ℕ) (d : TableDecl) (ds : List TableDecl) (b : Bool) → find (λ e. e.code == code) (views ds) ≡ option_map table_view (find (λ e. e.code == code) ds)
+    → cond b (Some (table_view d)) (find (λ e. e.code == code) (views ds)) ≡ option_map table_view (cond b (Some d) (find (λ e. e.code == code) ds))
 find_views_on code d ds true e = refl
 find_views_on code d ds false e = e
 
-pub find_views : (code : ℕ) (ds : List TableDecl) → find (λ d. d.code == code) (views ds) ≡ option_map view (find (λ d. d.code == code) ds)
+pub find_views : (code : ℕ) (ds : List TableDecl) → find (λ d. d.code == code) (views ds) ≡ option_map table_view (find (λ d. d.code == code) ds)
 find_views code [] = refl
 find_views code (d ∷ ds) = find_views_on code d ds (d.code == code) (find_views code ds)
 

@@ -14,9 +14,9 @@ use Rattle.dw_forms.specs.Front.{BeginsWith, Takes}
 use Rattle.dw_forms.specs.FormCodes.{code_of, form_of}
 use Rattle.dw_forms.specs.Leb.{Uleb, Sleb, UlebFails, SlebFails}
 use Rattle.dw_forms.specs.LebReading.{uleb_at, sleb_at}
-use Rattle.dw_forms.specs.AbbrevFaults.{fault_of}
+use Rattle.dw_forms.specs.AbbrevFaults.{decl_fault_of}
 use Rattle.dw_forms.specs.Abbrev.{SpellsPair, SpellsConstant, SpellsAttribute, IsCode16, broken, NumberFails, ConstantFails, IsBadPair, PairFails, attribute_number, form_number, bad_pair, unknown_form, attribute_twice, constant_number}
-use Rattle.dw_forms.specs.AbbrevReading.{on_option, with_rest, unsigned_at, signed_at, form_at, has_attribute, new_form_of, pair_at}
+use Rattle.dw_forms.specs.AbbrevReading.{on_option, number_and_rest, unsigned_at, signed_at, form_at, has_attribute, new_form_of, pair_at}
 use Rattle.dw_forms.specs.Says.{bind_says, cond_says}
 use Rattle.dw_forms.specs.Readers.{IsReader}
 use Rattle.dw_forms.proofs.Keys.{Lacks, lacks_from, lacks_test, any_from}
@@ -28,7 +28,7 @@ use Rattle.dw_forms.specs.LebLaws.{uleb_says, uleb_again, sleb_says, sleb_again}
 
 with_rest_says : {V : Type 0} (Spells : List ℕ → V → Type 0) (Fails : List ℕ → NumberFault → Type 0) (bytes : List ℕ) (r : Result (V × ℕ) NumberFault)
     → MatchResult r (λ (x : V × ℕ). BeginsWith Spells bytes x.0 x.1) (Fails bytes)
-    → MatchResult (with_rest bytes r) (λ (x : V × List ℕ). Takes Spells bytes x.0 x.1) (λ f. (g : NumberFault) × Fails bytes g × (f ≡ fault_of g))
+    → MatchResult (number_and_rest bytes r) (λ (x : V × List ℕ). Takes Spells bytes x.0 x.1) (λ f. (g : NumberFault) × Fails bytes g × (f ≡ decl_fault_of g))
 with_rest_says Spells Fails bytes (Ok r) h = record { text = take r.1 bytes; parts = sym (take-append-drop r.1 bytes); spelled = h.spelled }
 with_rest_says Spells Fails bytes (Err g) h = (g, h, refl)
 

@@ -9,7 +9,7 @@ use Rattle.dw_forms.specs.declared.decl.KeptDecl.{KeptDecl}
 use Rattle.dw_forms.specs.Abbrev.{Declaration}
 use Rattle.dw_forms.specs.AbbrevReading.{has_code}
 use Rattle.dw_forms.specs.Chains.{Numbered, items_of, chain_in, chains_of, number_where, AreNumbered, codes_of, codes_in, number_in as code_number}
-use Rattle.dw_forms.specs.KeptDecls.{kept_view, decls_of, tables_of, table_in, decl_of, number_in, AreWithin, AreCoded}
+use Rattle.dw_forms.specs.KeptDecls.{kept_view, decls_of, tables_of, table_in, decl_of, decl_number_in, AreWithin, HaveDeclCodes}
 use Rattle.dw_forms.specs.AttributeLists.{HasList}
 use Rattle.dw_forms.specs.Offsets.{Stay}
 use Rattle.dw_forms.proofs.ChainLaws.{chain_map, where_map, chains_long, chain_none, chains_more, are_numbered, item_read, none_has, some_has}
@@ -60,16 +60,16 @@ codes_parts : (nodes : List Node) (kept : List KeptDecl) → map {B = ℕ × ℕ
 codes_parts nodes [] = refl
 codes_parts nodes (k ∷ kept) = ap (λ (rest : List (ℕ × ℕ)). (k.code, k.rest) ∷ rest) (codes_parts nodes kept)
 
-pub code_is : (links : List Link) (nodes : List Node) (kept : List KeptDecl) (table code : ℕ) → AreCoded links kept → code_number (codes_in links table) code ≡ number_in (chain_in (tables_of nodes kept) table) code
+pub code_is : (links : List Link) (nodes : List Node) (kept : List KeptDecl) (table code : ℕ) → HaveDeclCodes links kept → code_number (codes_in links table) code ≡ decl_number_in (chain_in (tables_of nodes kept) table) code
 code_is links nodes kept table code are =
     ap (λ (items : List (ℕ × ℕ)). code_number (chain_in (chains_of items) table) code) (are ∙ codes_parts nodes kept)
     ∙ ap (λ (chain : List (Numbered ℕ)). code_number chain code) (chain_map (λ (d : Declaration). d.code) (decls_of nodes kept) table)
     ∙ where_map (λ c. c == code) (λ (d : Declaration). d.code) (chain_in (tables_of nodes kept) table)
 
-pub links_long : (links : List Link) (kept : List KeptDecl) → AreCoded links kept → length links ≡ length kept
+pub links_long : (links : List Link) (kept : List KeptDecl) → HaveDeclCodes links kept → length links ≡ length kept
 links_long links kept are = sym (codes_long links) ∙ ap length are ∙ length-map {B = ℕ × ℕ} kept (λ (k : KeptDecl). (k.code, k.rest))
 
-pub coded_more : (old new : List Link) (kept : List KeptDecl) (k : KeptDecl) → AreCoded old kept → codes_of new ≡ codes_of old ++ (k.code, k.rest) ∷ [] → AreCoded new (kept ++ k ∷ [])
+pub coded_more : (old new : List Link) (kept : List KeptDecl) (k : KeptDecl) → HaveDeclCodes old kept → codes_of new ≡ codes_of old ++ (k.code, k.rest) ∷ [] → HaveDeclCodes new (kept ++ k ∷ [])
 coded_more old new kept k are more = more ∙ ap (λ (items : List (ℕ × ℕ)). items ++ (k.code, k.rest) ∷ []) are ∙ sym (map-append (λ (x : KeptDecl). (x.code, x.rest)) kept (k ∷ []))
 
 -- ---- the declaration of a code
@@ -80,7 +80,7 @@ found_first nodes kept n more found true is rest = is
 found_first nodes kept n more found false is rest = rest
 
 pub numbers_find : (nodes : List Node) (kept : List KeptDecl) (table : List (Numbered Declaration)) (code : ℕ) → AreNumbered (decls_of nodes kept) table
-    → decl_of nodes kept (number_in table code) ≡ find (λ d. d.code == code) (items_of table)
+    → decl_of nodes kept (decl_number_in table code) ≡ find (λ d. d.code == code) (items_of table)
 unfolding number_where
 numbers_find nodes kept [] code are = refl
 numbers_find nodes kept (n ∷ table) code are = search (rules, found_first, (numbers_find nodes kept table code are.1))
@@ -88,19 +88,19 @@ numbers_find nodes kept (n ∷ table) code are = search (rules, found_first, (nu
 pub own_numbers : (nodes : List Node) (kept : List KeptDecl) (table : ℕ) → AreNumbered (decls_of nodes kept) (chain_in (tables_of nodes kept) table)
 own_numbers nodes kept table = are_numbered (decls_of nodes kept) table
 
-pub none_code : (nodes : List Node) (kept : List KeptDecl) (table code : ℕ) → number_in (chain_in (tables_of nodes kept) table) code ≡ 0 → has_code code (table_in (tables_of nodes kept) table) ≡ false
+pub none_code : (nodes : List Node) (kept : List KeptDecl) (table code : ℕ) → decl_number_in (chain_in (tables_of nodes kept) table) code ≡ 0 → has_code code (table_in (tables_of nodes kept) table) ≡ false
 none_code nodes kept table code none = none_has (λ (d : Declaration). d.code == code) (decls_of nodes kept) (chain_in (tables_of nodes kept) table) (own_numbers nodes kept table) none
 
-pub some_code : (nodes : List Node) (kept : List KeptDecl) (table code : ℕ) → 0 < number_in (chain_in (tables_of nodes kept) table) code → has_code code (table_in (tables_of nodes kept) table) ≡ true
+pub some_code : (nodes : List Node) (kept : List KeptDecl) (table code : ℕ) → 0 < decl_number_in (chain_in (tables_of nodes kept) table) code → has_code code (table_in (tables_of nodes kept) table) ≡ true
 some_code nodes kept table code some = some_has (λ (d : Declaration). d.code == code) (chain_in (tables_of nodes kept) table) (λ none. omega (arith, some, none))
 
 -- the declaration that is found by its code
-pub found_by : (links : List Link) (nodes : List Node) (kept : List KeptDecl) (table code : ℕ) → AreCoded links kept
+pub found_by : (links : List Link) (nodes : List Node) (kept : List KeptDecl) (table code : ℕ) → HaveDeclCodes links kept
     → decl_of nodes kept (code_number (codes_in links table) code) ≡ find (λ d. d.code == code) (table_in (tables_of nodes kept) table)
 found_by links nodes kept table code are =
     ap (decl_of nodes kept) (code_is links nodes kept table code are) ∙ numbers_find nodes kept (chain_in (tables_of nodes kept) table) code (own_numbers nodes kept table)
 
-pub found_within : (links : List Link) (kept : List KeptDecl) (table code : ℕ) → AreCoded links kept → code_number (codes_in links table) code ≤ length kept
+pub found_within : (links : List Link) (kept : List KeptDecl) (table code : ℕ) → HaveDeclCodes links kept → code_number (codes_in links table) code ≤ length kept
 found_within links kept table code are = omega (arith, number_within links table code, links_long links kept are)
 
 -- the declaration that is read at the place before a number

@@ -8,7 +8,7 @@ use Rattle.std.proofs.lemmas.Bool.{eq-eqb, cases_lt}
 use Rattle.std.proofs.lemmas.List.{get_or_append_left, get_or_at, length-append}
 use Rattle.std.proofs.lemmas.List.Elements.{All-map}
 use Rattle.dw_forms.specs.declared.abbrev.TableDecl.{TableDecl}
-use Rattle.dw_forms.specs.Abbrev.{view, views}
+use Rattle.dw_forms.specs.Abbrev.{table_view, views}
 use Rattle.dw_forms.specs.AbbrevReading.{has_code}
 use Rattle.dw_forms.specs.Places.{IsIndex, IsPlace, StandsAt}
 use Rattle.dw_forms.proofs.AbbrevSteps.{has_code_views, find_views}
@@ -26,10 +26,10 @@ index_pushed ds m d index lacks here =
 
 -- ---- what is found
 
-pub found_view : (ds : List TableDecl) (code i : ℕ) (d e : TableDecl) → Apart code_of_decl ds → IsPlace ds code (Some i) → e ≡ get_or ds i d → Some (view e) ≡ find (λ d. d.code == code) (views ds)
+pub found_view : (ds : List TableDecl) (code i : ℕ) (d e : TableDecl) → Apart code_of_decl ds → IsPlace ds code (Some i) → e ≡ get_or ds i d → Some (table_view e) ≡ find (λ d. d.code == code) (views ds)
 found_view ds code i d e apart place is =
-    let whole : find (λ d. d.code == code) (views ds) ≡ Some (view (get_or ds i d)) = rw (find_views code ds, find_at code_of_decl code ds i d apart place.0 (place.1 d)) refl in
-    ap (λ (x : TableDecl). Some (view x)) is ∙ sym whole
+    let whole : find (λ d. d.code == code) (views ds) ≡ Some (table_view (get_or ds i d)) = rw (find_views code ds, find_at code_of_decl code ds i d apart place.0 (place.1 d)) refl in
+    ap (λ (x : TableDecl). Some (table_view x)) is ∙ sym whole
 
 pub none_view : (ds : List TableDecl) (code : ℕ) → IsPlace ds code None → None ≡ find (λ d. d.code == code) (views ds)
 none_view ds code lacks =
@@ -57,7 +57,7 @@ has_place ds code None lacks = sym (has_code_views code ds ∙ any_none ds code 
 
 -- ---- the place that is found
 
-slice_views : (ds : List TableDecl) (i : ℕ) (d : TableDecl) → i < length ds → slice_get (views ds) i ≡ Some (view (get_or ds i d))
+slice_views : (ds : List TableDecl) (i : ℕ) (d : TableDecl) → i < length ds → slice_get (views ds) i ≡ Some (table_view (get_or ds i d))
 slice_views [] i d lt = absurd (omega arith)
 slice_views (e ∷ ds) zero d lt = refl
 slice_views (e ∷ ds) (suc i) d lt = slice_views ds i d (omega arith)
@@ -65,10 +65,10 @@ slice_views (e ∷ ds) (suc i) d lt = slice_views ds i d (omega arith)
 pub stands_at : (ds : List TableDecl) (code : ℕ) (o : Option ℕ) → IsPlace ds code o → IfSome o (λ place. StandsAt (views ds) place code)
 stands_at ds code None lacks = tt
 stands_at [] code (Some i) place = absurd (omega (arith, place.0))
-stands_at (d ∷ ds) code (Some i) place = (view (get_or (d ∷ ds) i d), slice_views (d ∷ ds) i d place.0, place.1 d)
+stands_at (d ∷ ds) code (Some i) place = (table_view (get_or (d ∷ ds) i d), slice_views (d ∷ ds) i d place.0, place.1 d)
 
 pub none_stands : (ds : List TableDecl) (code : ℕ) (o : Option ℕ) → IsPlace ds code o → IfNone o (All (λ d. d.code ≢ code) (views ds))
-none_stands ds code None lacks = All-map (λ d. d.code ≢ code) view ds lacks
+none_stands ds code None lacks = All-map (λ d. d.code ≢ code) table_view ds lacks
 none_stands ds code (Some i) place = tt
 
 pub find_place : (ds : List TableDecl) (code : ℕ) (o : Option ℕ) → Apart code_of_decl ds → IsPlace ds code o → find (λ d. d.code == code) (views ds) ≡ option_and_then (slice_get (views ds)) o

@@ -11,7 +11,7 @@ use Rattle.dw_forms.specs.Chains.{Numbered, items_of, chain_in}
 use Rattle.dw_forms.specs.AbbrevReading.{has_code}
 use Rattle.dw_forms.specs.KeptDecls.{Tables, kept_view, table_in, tables_of}
 use Rattle.dw_forms.specs.Offsets.{NothingAt, AreAlong, AreNew}
-use Rattle.dw_forms.specs.TableStarts.{IsTableIn, AreStarts, Stay, NoTable, IsDeclAt, GoesOn, Added}
+use Rattle.dw_forms.specs.TableStarts.{IsTableIn, AreStarts, Stay, NoTable, IsDeclAt, GoesOn, IsAddedTable}
 use Rattle.dw_forms.proofs.Keys.{Lacks, lacks_from, lacks_test}
 use Rattle.dw_forms.proofs.DeclLaws.{code_of_decl}
 use Rattle.dw_forms.proofs.KeptLaws.{tables_long, table_none}
@@ -51,7 +51,7 @@ module _ {section : List ℕ} {nodes : List Node} {old : Tables} {offset rest : 
   pub start_less : s.at < length section
   start_less = let e = popped.1 in omega (arith, e.rises, e.fits)
 
-  pub turn_none : (new : Tables) → Added (kept_view nodes s.item) rest old new None → NoTable section offset
+  pub turn_none : (new : Tables) → IsAddedTable (kept_view nodes s.item) rest old new None → NoTable section offset
   turn_none new added =
       none_along section nodes left offset s.at popped.0
       (twice_none section s.at leads.next (kept_view nodes s.item) (table_in old rest) popped.1.is leads.table.table (code_twice s.item.code (table_in old rest) added.0))
@@ -59,7 +59,7 @@ module _ {section : List ℕ} {nodes : List Node} {old : Tables} {offset rest : 
   pub turn_new : (starts : List ℕ) → AreNew starts all → NothingAt starts s.at × AreNew (starts ++ s.at ∷ []) left
   turn_new starts are = search (rules, new_pop, new_stay, popped)
 
-  module _ (new : Tables) (number : ℕ) (added : Added (kept_view nodes s.item) rest old new (Some number)) where
+  module _ (new : Tables) (number : ℕ) (added : IsAddedTable (kept_view nodes s.item) rest old new (Some number)) where
     pub turn_stay : Stay old new
     turn_stay = (_, added.2)
 

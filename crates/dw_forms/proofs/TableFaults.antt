@@ -16,7 +16,7 @@ use Rattle.dw_forms.specs.AbbrevFaults.{fault_at}
 use Rattle.dw_forms.specs.FormCodes.{code_of, form_of}
 use Rattle.dw_forms.specs.Leb.{Uleb}
 use Rattle.dw_forms.specs.Abbrev.{Declaration, SpellsPair, IsCode16, IsNewCode, broken, NumberFails, ConstantFails, IsBadPair, PairFails, attribute_number, form_number, bad_pair, unknown_form, attribute_twice, constant_number, AttributesFail, Decls, DeclFails, code_number, code_twice, tag_number, bad_tag, children_cut, bad_children, attributes_fail, TableFails}
-use Rattle.dw_forms.specs.AbbrevReading.{unsigned_at, signed_at, children_at, new_form_of, pair_at, attributes_of, has_code, decl_at, decls_of, table_at}
+use Rattle.dw_forms.specs.AbbrevReading.{unsigned_at, signed_at, children_at, new_form_of, pair_at, attributes_of, has_code, decl_at, decls_at, table_at}
 use Rattle.dw_forms.specs.TableGrammar.{IsTableAt, IsReadByGrammar}
 use Rattle.dw_forms.proofs.Keys.{lacks_test}
 use Rattle.dw_forms.specs.FormLaws.{FormIs, form_of_says, form_of-code_of, code_some}
@@ -155,7 +155,7 @@ module _ (section : List ℕ) (offset : ℕ) where
       let text = take len (drop offset section) in
       let rest = drop len (drop offset section) in
       let parts : text ++ rest ≡ drop offset section = take-append-drop len (drop offset section) in
-      rw (sym (ap (decls_of (length section)) parts) ∙ (decls_reader (length section)).again text rest ds b.spelled) refl
+      rw (sym (ap (decls_at (length section)) parts) ∙ (decls_reader (length section)).again text rest ds b.spelled) refl
 
   -- where no table is spelled, a fault is read
   fault_read : (r : Result (List Declaration) AbbrevFault) → table_at section offset ≡ r → BeginsWithNone Decls (drop offset section) → (fault : AbbrevFault) × (table_at section offset ≡ Err fault)

@@ -12,7 +12,7 @@ use Rattle.dw_forms.specs.Steps.{◌>>=◌}
 use Rattle.dw_forms.specs.Front.{BeginsWith, BeginsWithNone, Takes}
 use Rattle.dw_forms.specs.Leb.{Uleb}
 use Rattle.dw_forms.specs.Abbrev.{Declaration, SpellsDecl, IsDeclaration, DeclFails, Decls, FailsAfter, TableFails}
-use Rattle.dw_forms.specs.AbbrevReading.{decl_at, placed, placed_decl_at, decls_of, table_at}
+use Rattle.dw_forms.specs.AbbrevReading.{decl_at, placed, placed_decl_at, decls_at, table_at}
 use Rattle.dw_forms.specs.Readers.{IsReader, read_is, not_both, reader_begins, reader_none, reader_fails}
 use Rattle.dw_forms.specs.Stops.{IfFault, GivesOrMemory}
 use Rattle.dw_forms.proofs.AttributesLaws.{uleb_some}
@@ -41,7 +41,7 @@ reads_decls len = record {
 abbrev pub DeclsFail : ℕ → List ℕ → AbbrevFault → Type 0
 DeclsFail len = FailsAfter SpellsDecl IsDeclaration code_of_decl (PlacedFails len) []
 
-pub decls_reader : (len : ℕ) → IsReader (decls_of len) Decls (DeclsFail len)
+pub decls_reader : (len : ℕ) → IsReader (decls_at len) Decls (DeclsFail len)
 decls_reader len = list_reader (reads_decls len)
 
 fault_is : {A : Type 0} {f g : AbbrevFault} → ◌≡◌ {A = Result A AbbrevFault} (Err f) (Err g) → f ≡ g
@@ -65,14 +65,14 @@ module _ (section : List ℕ) (offset : ℕ) where
 
   pub table_found : (ds : List Declaration) → table_at section offset ≡ Ok ds → (len : ℕ) × BeginsWith Decls (drop offset section) ds len
   table_found ds e =
-      let r = table_result (decls_of (length section) (drop offset section)) ds e in
-      (length (drop offset section) - length r.0, reader_begins (decls_of (length section)) Decls (DeclsFail (length section)) (decls_reader (length section)) (drop offset section) ds r.0 r.1)
+      let r = table_result (decls_at (length section) (drop offset section)) ds e in
+      (length (drop offset section) - length r.0, reader_begins (decls_at (length section)) Decls (DeclsFail (length section)) (decls_reader (length section)) (drop offset section) ds r.0 r.1)
 
   pub table_none : (fault : AbbrevFault) → table_at section offset ≡ Err fault → BeginsWithNone Decls (drop offset section)
-  table_none fault e = reader_none (decls_of (length section)) Decls (DeclsFail (length section)) (decls_reader (length section)) (drop offset section) fault (table_error (decls_of (length section) (drop offset section)) fault e)
+  table_none fault e = reader_none (decls_at (length section)) Decls (DeclsFail (length section)) (decls_reader (length section)) (drop offset section) fault (table_error (decls_at (length section) (drop offset section)) fault e)
 
   pub table_fails : offset ≤ length section → (fault : AbbrevFault) → table_at section offset ≡ Err fault → TableFails section offset fault
-  table_fails within fault e = fails_at within fault (reader_fails (decls_of (length section)) Decls (DeclsFail (length section)) (decls_reader (length section)) (drop offset section) fault (table_error (decls_of (length section) (drop offset section)) fault e))
+  table_fails within fault e = fails_at within fault (reader_fails (decls_at (length section)) Decls (DeclsFail (length section)) (decls_reader (length section)) (drop offset section) fault (table_error (decls_at (length section) (drop offset section)) fault e))
 
   -- ---- the clauses of the call
 

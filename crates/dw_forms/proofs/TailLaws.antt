@@ -10,7 +10,7 @@ use Rattle.dw_forms.specs.declared.fault.Stop.TheVariants as stops
 use Rattle.dw_forms.specs.AbbrevFaults.{fault_at}
 use Rattle.dw_forms.specs.Leb.{Uleb}
 use Rattle.dw_forms.specs.Abbrev.{Declaration, AreDeclarations, TableFails}
-use Rattle.dw_forms.specs.AbbrevReading.{decl_at, placed_decl_at, decls_of, table_at}
+use Rattle.dw_forms.specs.AbbrevReading.{decl_at, placed_decl_at, decls_at, table_at}
 use Rattle.dw_forms.specs.declared.attribute_lists.Node.{Node}
 use Rattle.dw_forms.specs.KeptDecls.{kept_view}
 use Rattle.dw_forms.specs.TableStarts.{NoTable, IsDeclAt, IfNoDecl}
@@ -29,7 +29,7 @@ module _ (section : List ℕ) where
   no_list offset none ds rest is = none ds (rw is refl)
 
   no_table : (offset : ℕ) → NoList (reads_decls (length section)) (drop offset section) → NoTable section offset
-  no_table offset none ds is = let r = table_result section offset (decls_of (length section) (drop offset section)) ds is in none ds r.0 r.1
+  no_table offset none ds is = let r = table_result section offset (decls_at (length section) (drop offset section)) ds is in none ds r.0 r.1
 
   next_is : (offset : ℕ) (o : Option Declaration) (after : List ℕ) → decl_at [] (drop offset section) ≡ Ok (o, after) → placed_decl_at (length section) [] (drop offset section) ≡ Ok (o, after)
   next_is offset o after e = rw e refl
@@ -38,7 +38,7 @@ module _ (section : List ℕ) where
   pub table_more : (offset next : ℕ) (d : Declaration) (ds : List Declaration) → decl_at [] (drop offset section) ≡ Ok (Some d, drop next section) → table_at section next ≡ Ok ds
       → Lacks code_of_decl d.code ds → table_at section offset ≡ Ok (d ∷ ds)
   table_more offset next d ds e is lacks =
-      let r = table_result section next (decls_of (length section) (drop next section)) ds is in
+      let r = table_result section next (decls_at (length section) (drop next section)) ds is in
       rw (list_more (reads_decls (length section)) (drop offset section) (drop next section) r.0 d ds (next_is offset (Some d) (drop next section) e) r.1 lacks) refl
 
   -- at the code 0 the table is empty
@@ -57,7 +57,7 @@ module _ (section : List ℕ) where
   pub twice_none : (offset next : ℕ) (d : Declaration) (ds : List Declaration) → decl_at [] (drop offset section) ≡ Ok (Some d, drop next section) → table_at section next ≡ Ok ds
       → (Lacks code_of_decl d.code ds → ⊥) → NoTable section offset
   twice_none offset next d ds e is twice =
-      let r = table_result section next (decls_of (length section) (drop next section)) ds is in
+      let r = table_result section next (decls_at (length section) (drop next section)) ds is in
       no_table offset (none_twice (reads_decls (length section)) (drop offset section) (drop next section) r.0 d ds (next_is offset (Some d) (drop next section) e) r.1 twice)
 
   -- ---- some declarations

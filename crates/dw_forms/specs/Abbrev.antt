@@ -11,7 +11,7 @@ use Rattle.dw_forms.specs.declared.fault.AbbrevRule.TheVariants.{AbbrevCut, Code
 use Rattle.dw_forms.specs.declared.fault.AbbrevRule.TheVariants.{BadPair, UnknownForm, AttributeTwice}
 use Rattle.dw_forms.specs.declared.fault.DeclFault.{DeclFault}
 use Rattle.dw_forms.specs.declared.fault.AbbrevFault.{AbbrevFault}
-use Rattle.dw_forms.specs.AbbrevFaults.{fault_of, fault_at}
+use Rattle.dw_forms.specs.AbbrevFaults.{decl_fault_of, fault_at}
 use Rattle.dw_forms.specs.FormCodes.{code_of}
 use Rattle.dw_forms.specs.Front.{Takes}
 use Rattle.dw_forms.specs.Leb.{Uleb, Sleb, UlebFails, SlebFails}
@@ -24,12 +24,12 @@ pub record Declaration : Type 0 where
   pub attributes : List AttributeSpec
 
 -- the declaration, as it is seen
-abbrev pub view : TableDecl → Declaration
-view d = record { code = d.code; tag = d.tag; has_children = d.has_children; attributes = d.attributes.items }
+abbrev pub table_view : TableDecl → Declaration
+table_view d = record { code = d.code; tag = d.tag; has_children = d.has_children; attributes = d.attributes.items }
 
 -- the declarations, as they are seen
 abbrev pub views : List TableDecl → List Declaration
-views ds = map view ds
+views ds = map table_view ds
 
 -- ---- the spelling
 
@@ -122,11 +122,11 @@ broken rule attribute = record { rule = rule; attribute = attribute }
 
 -- the bytes begin with no accepted number
 abbrev pub NumberFails : List ℕ → DeclFault → Type 0
-NumberFails bytes fault = (g : NumberFault) × UlebFails bytes g × (fault ≡ fault_of g)
+NumberFails bytes fault = (g : NumberFault) × UlebFails bytes g × (fault ≡ decl_fault_of g)
 
 -- the bytes begin with no accepted signed number
 abbrev pub ConstantFails : List ℕ → DeclFault → Type 0
-ConstantFails bytes fault = (g : NumberFault) × SlebFails bytes g × (fault ≡ fault_of g)
+ConstantFails bytes fault = (g : NumberFault) × SlebFails bytes g × (fault ≡ decl_fault_of g)
 
 -- one of the pair alone is 0, or the attribute is above 0xffff
 abbrev pub IsBadPair : ℕ → ℕ → Type 0

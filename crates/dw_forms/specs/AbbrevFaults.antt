@@ -9,9 +9,9 @@ use Rattle.dw_forms.specs.declared.fault.Stop.{Stop}
 use Rattle.dw_forms.specs.declared.fault.Stop.TheVariants as stops
 
 -- the rule that a number's fault breaks
-abbrev pub fault_of : NumberFault → DeclFault
-fault_of Cut = record { rule = AbbrevCut; attribute = 0 }
-fault_of BadNumber = record { rule = AbbrevNumber; attribute = 0 }
+abbrev pub decl_fault_of : NumberFault → DeclFault
+decl_fault_of Cut = record { rule = AbbrevCut; attribute = 0 }
+decl_fault_of BadNumber = record { rule = AbbrevNumber; attribute = 0 }
 
 -- the fault of a declaration whose first byte is at this place
 abbrev pub fault_at : ℕ → DeclFault → AbbrevFault

@@ -14,20 +14,20 @@ use Rattle.dw_forms.specs.declared.fault.AbbrevFault.{AbbrevFault}
 use Rattle.dw_forms.specs.Abbrev.{Declaration}
 use Rattle.dw_forms.specs.FormCodes.{form_of}
 use Rattle.dw_forms.specs.LebReading.{uleb_at, sleb_at}
-use Rattle.dw_forms.specs.AbbrevFaults.{fault_of, fault_at}
+use Rattle.dw_forms.specs.AbbrevFaults.{decl_fault_of, fault_at}
 
 -- a number and the bytes after it
-abbrev pub with_rest : {V : Type 0} → List ℕ → Result (V × ℕ) NumberFault → Result (V × List ℕ) DeclFault
-with_rest bytes (Ok r) = Ok (r.0, drop r.1 bytes)
-with_rest bytes (Err f) = Err (fault_of f)
+abbrev pub number_and_rest : {V : Type 0} → List ℕ → Result (V × ℕ) NumberFault → Result (V × List ℕ) DeclFault
+number_and_rest bytes (Ok r) = Ok (r.0, drop r.1 bytes)
+number_and_rest bytes (Err f) = Err (decl_fault_of f)
 
 -- an unsigned number
 abbrev pub unsigned_at : List ℕ → Result (ℕ × List ℕ) DeclFault
-unsigned_at bytes = with_rest bytes (uleb_at bytes)
+unsigned_at bytes = number_and_rest bytes (uleb_at bytes)
 
 -- a signed number
 abbrev pub signed_at : List ℕ → Result (ℤ × List ℕ) DeclFault
-signed_at bytes = with_rest bytes (sleb_at bytes)
+signed_at bytes = number_and_rest bytes (sleb_at bytes)
 
 -- one answer for none, another for some
 abbrev pub on_option : {A : Type 0} {B : Type 0} → Option A → B → (A → B) → B
@@ -133,9 +133,9 @@ abbrev pub placed_decl_at : ℕ → List Declaration → List ℕ → Result (Op
 placed_decl_at len earlier bytes = placed (len - length bytes) (decl_at earlier bytes)
 
 -- all declarations up to the code 0, at the front of the end of a section of this length
-abbrev pub decls_of : ℕ → List ℕ → Result (List Declaration × List ℕ) AbbrevFault
-decls_of len = list_of (placed_decl_at len) (record { rule = AbbrevCut; at = len; attribute = 0 })
+abbrev pub decls_at : ℕ → List ℕ → Result (List Declaration × List ℕ) AbbrevFault
+decls_at len = list_of (placed_decl_at len) (record { rule = AbbrevCut; at = len; attribute = 0 })
 
 -- the table that begins at an offset of the section
 abbrev pub table_at : List ℕ → ℕ → Result (List Declaration) AbbrevFault
-table_at section offset = decls_of (length section) (drop offset section) >>= λ x. Ok x.0
+table_at section offset = decls_at (length section) (drop offset section) >>= λ x. Ok x.0

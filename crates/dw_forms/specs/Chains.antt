@@ -86,5 +86,5 @@ AreFound branches links =
     (k : ℕ) (l : Link) → k < length links → l ≡ get_or links k l → IsFoundBy branches links (suc k) l
 
 -- the code and the chain of this number are a new chain
-abbrev pub Added : ℕ → ℕ → List Link → List Link → ℕ → Type 0
-Added code rest old new number = (number ≡ suc (length old)) × (codes_of new ≡ codes_of old ++ (code, rest) ∷ [])
+abbrev pub IsAddedChain : ℕ → ℕ → List Link → List Link → ℕ → Type 0
+IsAddedChain code rest old new number = (number ≡ suc (length old)) × (codes_of new ≡ codes_of old ++ (code, rest) ∷ [])

@@ -18,8 +18,8 @@ kept_view nodes k = record {
 }
 
 -- the declaration, as it is seen
-abbrev pub view : Decl → Declaration
-view d = kept_view d.lists.now.nodes.items d.kept.now
+abbrev pub decl_view : Decl → Declaration
+decl_view d = kept_view d.lists.now.nodes.items d.kept.now
 
 -- declarations with their numbers, one table for each number
 abbrev pub Tables : Type 0
@@ -42,18 +42,18 @@ abbrev pub decl_of : List Node → List KeptDecl → ℕ → Option Declaration
 decl_of nodes kept number = item_of (decls_of nodes kept) number
 
 -- the number of the table's declaration with this code, or 0
-abbrev pub number_in : List (Numbered Declaration) → ℕ → ℕ
-number_in table code = number_where (λ (d : Declaration). d.code == code) table
+abbrev pub decl_number_in : List (Numbered Declaration) → ℕ → ℕ
+decl_number_in table code = number_where (λ (d : Declaration). d.code == code) table
 
 -- each declaration has a list of attributes that is kept
 abbrev pub AreWithin : List Node → List KeptDecl → Type 0
 AreWithin nodes kept = All (λ (k : KeptDecl). HasList nodes k.first k.step) kept
 
 -- the links have the codes of the declarations
-abbrev pub AreCoded : List Link → List KeptDecl → Type 0
-AreCoded links kept = codes_of links ≡ map (λ (k : KeptDecl). (k.code, k.rest)) kept
+abbrev pub HaveDeclCodes : List Link → List KeptDecl → Type 0
+HaveDeclCodes links kept = codes_of links ≡ map (λ (k : KeptDecl). (k.code, k.rest)) kept
 
 -- codes are found in the tables by the links, and attributes in the declarations by the nodes
 pub record AreReadable (links : List Link) (nodes : List Node) (kept : List KeptDecl) : Type 0 where
-  pub coded : AreCoded links kept
+  pub coded : HaveDeclCodes links kept
   pub within : AreWithin nodes kept

@@ -54,16 +54,16 @@ pub record IsFront (section : List ℕ) (nodes : List Node) (starts : List ℕ) 
   pub goes_on : GoesOn section starts end rest
 
 -- the declaration and the table of this number are a new table, unless the code is in that table
-abbrev pub Added : Declaration → ℕ → Tables → Tables → Option ℕ → Type 0
-Added d rest old new (Some number) =
+abbrev pub IsAddedTable : Declaration → ℕ → Tables → Tables → Option ℕ → Type 0
+IsAddedTable d rest old new (Some number) =
     (has_code d.code (table_in old rest) ≡ false) × (number ≡ length old)
     × (new ≡ old ++ (record { number = number; item = d } ∷ chain_in old rest) ∷ [])
-Added d rest old new None = (has_code d.code (table_in old rest) ≡ true) × (new ≡ old)
+IsAddedTable d rest old new None = (has_code d.code (table_in old rest) ≡ true) × (new ≡ old)
 
 -- the table at the offset has the number that is returned, or there is none
-abbrev pub IsWhole : List ℕ → Tables → ℕ → Option ℕ → Type 0
-IsWhole section tables offset (Some number) = IsTableIn section tables offset number
-IsWhole section tables offset None = NoTable section offset
+abbrev pub IsTableRead : List ℕ → Tables → ℕ → Option ℕ → Type 0
+IsTableRead section tables offset (Some number) = IsTableIn section tables offset number
+IsTableRead section tables offset None = NoTable section offset
 
 -- no declaration and no code 0 is at this offset of the section
 abbrev pub IfNoDecl : List ℕ → ℕ → Type 0

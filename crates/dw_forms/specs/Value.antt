@@ -8,7 +8,7 @@ use Rattle.dw_forms.specs.declared.value.Value.TheVariants as value
 use Rattle.dw_forms.specs.declared.leb.NumberFault.{NumberFault}
 use Rattle.dw_forms.specs.declared.value.ValueFault.{ValueFault}
 use Rattle.dw_forms.specs.declared.value.ValueFault.TheVariants.{Cut, BadIndirect}
-use Rattle.dw_forms.specs.ValueFaults.{fault_of}
+use Rattle.dw_forms.specs.ValueFaults.{value_fault_of}
 use Rattle.dw_forms.specs.Leb.{Uleb, Sleb, UlebFails, SlebFails}
 use Rattle.dw_forms.specs.FormCodes.{code_of, is_allowed}
 use Rattle.dw_forms.specs.Front.{Takes}
@@ -193,11 +193,11 @@ IsTooShort size bytes f = (length bytes < size) × (f ≡ Cut)
 
 -- the bytes begin with no accepted unsigned or signed LEB128 number
 abbrev pub LebFails : List ℕ → ValueFault → Type 0
-LebFails bytes f = (g : NumberFault) × UlebFails bytes g × (f ≡ fault_of g)
+LebFails bytes f = (g : NumberFault) × UlebFails bytes g × (f ≡ value_fault_of g)
 
 -- the bytes begin with no accepted signed LEB128 number
 abbrev pub SignedFails : List ℕ → ValueFault → Type 0
-SignedFails bytes f = (g : NumberFault) × SlebFails bytes g × (f ≡ fault_of g)
+SignedFails bytes f = (g : NumberFault) × SlebFails bytes g × (f ≡ value_fault_of g)
 
 -- the first part of the layout, from the left, that the bytes don't hold
 abbrev pub PlainFails : Layout → List ℕ → ValueFault → Type 0

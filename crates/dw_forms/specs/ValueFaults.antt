@@ -5,6 +5,6 @@ use Rattle.dw_forms.specs.declared.value.ValueFault.{ValueFault}
 use Rattle.dw_forms.specs.declared.value.ValueFault.TheVariants.{Cut, BadNumber}
 
 -- a cut number is a cut value, a bad one a bad number
-abbrev pub fault_of : NumberFault → ValueFault
-fault_of number.Cut = Cut
-fault_of number.BadNumber = BadNumber
+abbrev pub value_fault_of : NumberFault → ValueFault
+value_fault_of number.Cut = Cut
+value_fault_of number.BadNumber = BadNumber

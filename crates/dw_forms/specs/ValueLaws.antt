@@ -18,7 +18,7 @@ use Rattle.dw_forms.specs.Front.{BeginsWith, BeginsWithNone, Takes}
 use Rattle.dw_forms.specs.FormCodes.{code_of, form_of}
 use Rattle.dw_forms.specs.Leb.{Uleb, Sleb, UlebFails, SlebFails}
 use Rattle.dw_forms.specs.LebReading.{uleb_at, sleb_at}
-use Rattle.dw_forms.specs.ValueFaults.{fault_of}
+use Rattle.dw_forms.specs.ValueFaults.{value_fault_of}
 use Rattle.dw_forms.specs.Value.{Datum, Layout, layout_of, fixed, leb, signed_leb, counted, leb_counted, ended, exactly}
 use Rattle.dw_forms.specs.Value.{nothing, named, may_be_named, Fixed, Makes, Counted, Ended, Exactly, Named}
 use Rattle.dw_forms.specs.Value.{SpellsPlain, Val, MayBeNamed, IsTooShort, LebFails, SignedFails, PlainFails, FailsIn}
@@ -94,7 +94,7 @@ with_rest_says : {V : Type 0} (Spells : List ℕ → V → Type 0) (Fails : List
     (r : Result (V × ℕ) NumberFault)
     → MatchResult r (λ (x : V × ℕ). BeginsWith Spells bytes x.0 x.1) (Fails bytes)
     → MatchResult (with_rest bytes r) (λ (x : V × List ℕ). Takes Spells bytes x.0 x.1)
-    (λ f. (g : NumberFault) × Fails bytes g × (f ≡ fault_of g))
+    (λ f. (g : NumberFault) × Fails bytes g × (f ≡ value_fault_of g))
 with_rest_says Spells Fails bytes (Ok r) h = taken_of Spells bytes r.0 r.1 h
 with_rest_says Spells Fails bytes (Err g) h = (g, h, refl)
 

@@ -13,7 +13,7 @@ use Rattle.dw_forms.specs.FormCodes.{form_of}
 use Rattle.dw_forms.specs.LebReading.{uleb_at, sleb_at}
 use Rattle.dw_forms.specs.Value.{Datum, view, Layout, layout_of, fixed, leb, signed_leb, counted, leb_counted, ended}
 use Rattle.dw_forms.specs.Value.{exactly, nothing, named, may_be_named}
-use Rattle.dw_forms.specs.ValueFaults.{fault_of}
+use Rattle.dw_forms.specs.ValueFaults.{value_fault_of}
 
 -- what a function returned, seen by view, is what reading gives
 abbrev pub Gives : {X Y E : Type 0} → (X → Y) → Result X E → Result Y E → Type 0
@@ -28,7 +28,7 @@ fixed_at size bytes =
 -- a number and the bytes after it
 abbrev pub with_rest : {V : Type 0} → List ℕ → Result (V × ℕ) NumberFault → Result (V × List ℕ) ValueFault
 with_rest bytes (Ok r) = Ok (r.0, drop r.1 bytes)
-with_rest bytes (Err f) = Err (fault_of f)
+with_rest bytes (Err f) = Err (value_fault_of f)
 
 -- an unsigned LEB128 number
 unfoldable pub uleb_then : List ℕ → Result (ℕ × List ℕ) ValueFault

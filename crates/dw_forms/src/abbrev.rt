@@ -4,7 +4,7 @@ ghost use Rattle.std.specs.Prelude.{◌≡◌, ◌==◌, ◌<◌, [], ◌∷◌,
 ghost use Rattle.std.specs.Prelude.{option_and_then, slice_get, IfSome, IfNone, OnOk, All, ◌≢◌, ◌+◌, Some};
 ghost use Rattle.std.specs.Ordering.{nat_cmp};
 ghost use Rattle.std.specs.BTreeMap.{get};
-ghost use Rattle.dw_forms.specs.Abbrev.{view};
+ghost use Rattle.dw_forms.specs.Abbrev.{table_view};
 ghost use Rattle.dw_forms.specs.Places.{IsIndex, IsPlace, StandsAt};
 ghost use Rattle.dw_forms.specs.AbbrevReading.{has_code};
 
@@ -106,7 +106,7 @@ impl AbbrevTable {
     /// Adds a declaration with a new code.
     pub(crate) fn push(&mut self, decl: TableDecl) -> Result<(), AllocError>
         requires { has_code decl.code self.old ≡ false }
-        ensures { OnOk result (self.new ≡ self.old ++ view decl ∷ []) }
+        ensures { OnOk result (self.new ≡ self.old ++ table_view decl ∷ []) }
     {
         make_room(&self.decls, &mut self.elsewhere, decl.code)?;
         self.decls.push(decl)?;
@@ -134,14 +134,14 @@ impl AbbrevTable {
     /// The declaration at this place, from 0.
     pub fn decl(&self, place: usize) -> &TableDecl
         requires { place < length self.now }
-        ensures { slice_get self.now place ≡ Some (view result.now) }
+        ensures { slice_get self.now place ≡ Some (table_view result.now) }
     {
         &self.decls[place]
     }
 
     /// The declaration with this code.
     pub fn get(&self, code: u64) -> Option<&TableDecl>
-        ensures { option_map view (option_copied result) ≡ find (λ d. d.code == code) self.now }
+        ensures { option_map table_view (option_copied result) ≡ find (λ d. d.code == code) self.now }
     {
         match self.place(code) {
             Some(place) => Some(self.decl(place)),

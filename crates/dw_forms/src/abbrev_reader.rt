@@ -3,7 +3,7 @@
 ghost use Rattle.std.specs.Prelude.{◌≡◌, ◌<◌, ◌≤◌, ℕ, [], ◌∷◌, ◌++◌, length, drop, false, option_map};
 ghost use Rattle.std.specs.Prelude.{IfOk, IfErr, IfSome, OnOk};
 ghost use Rattle.dw_forms.specs.Front.{BeginsWith, BeginsWithNone};
-ghost use Rattle.dw_forms.specs.Abbrev.{view, Decls, IsCode16, TableFails};
+ghost use Rattle.dw_forms.specs.Abbrev.{table_view, Decls, IsCode16, TableFails};
 ghost use Rattle.dw_forms.specs.Marks.{AreMarks};
 ghost use Rattle.dw_forms.specs.AbbrevReading.{has_attribute, has_code, unsigned_at, signed_at};
 ghost use Rattle.dw_forms.specs.AbbrevReading.{form_at, begun_at, pair_at, tagged_at, attributes_of, children_at};
@@ -214,7 +214,7 @@ fn next_decl<'a>(
 ) -> Result<(Option<TableDecl>, &'a [u8]), Stop<DeclFault>>
     requires { AreMarks [] marks.old }
     ensures unmarked { OnOk result (AreMarks [] marks.new) }
-    ensures exact { GivesOrMemory (λ x. (option_map view x.0, x.1.now)) result (decl_at earlier.now bytes.now) }
+    ensures exact { GivesOrMemory (λ x. (option_map table_view x.0, x.1.now)) result (decl_at earlier.now bytes.now) }
     ensures new { IfOk result (λ x. IfSome x.0 (λ d. has_code d.code earlier.now ≡ false)) }
     ensures shorter { IfOk result (λ x. length x.1.now < length bytes.now) }
 {
@@ -250,7 +250,7 @@ fn next_decl_at<'a>(
     requires { AreMarks [] marks.old }
     ensures unmarked { OnOk result (AreMarks [] marks.new) }
     ensures exact { GivesOrMemory
-        (λ x. (option_map view x.0, x.1.now)) result (placed place (decl_at earlier.now bytes.now)) }
+        (λ x. (option_map table_view x.0, x.1.now)) result (placed place (decl_at earlier.now bytes.now)) }
     ensures new { IfOk result (λ x. IfSome x.0 (λ d. has_code d.code earlier.now ≡ false)) }
     ensures shorter { IfOk result (λ x. length x.1.now < length bytes.now) }
 {

@@ -4,10 +4,11 @@ ghost use Rattle.std.specs.Prelude.{◌≡◌, ◌<◌, ◌≤◌, ◌==◌, ℕ
 ghost use Rattle.std.specs.Prelude.{IfOk, IfErr, IfSome, OnOk};
 ghost use Rattle.dw_forms.specs.AbbrevReading.{table_at};
 ghost use Rattle.dw_forms.specs.AttributeLists.{HasList};
-ghost use Rattle.dw_forms.specs.KeptDecls.{kept_view, view, table_in, tables_of, number_in, AreReadable};
+ghost use Rattle.dw_forms.specs.KeptDecls.{kept_view, decl_view, table_in, tables_of, decl_number_in, AreReadable};
 ghost use Rattle.dw_forms.specs.ListOffsets.{AreListsOf, MoreLists};
 ghost use Rattle.dw_forms.specs.Offsets.{AreKnownFrom, IsOffset};
-ghost use Rattle.dw_forms.specs.TableStarts.{NoTable, IfNoDecl, IsNextAt, IsFront, IsTableIn, Stay, Added, IsWhole};
+ghost use Rattle.dw_forms.specs.TableStarts.{NoTable, IfNoDecl, IsNextAt, IsFront, IsTableIn, Stay};
+ghost use Rattle.dw_forms.specs.TableStarts.{IsAddedTable, IsTableRead};
 ghost use Rattle.dw_forms.specs.Abbrev.{AreDeclarations, TableFails};
 ghost use Rattle.dw_forms.specs.AbbrevTables.{tables_in, AreSearchable, AreTablesOf};
 ghost use Rattle.dw_forms.specs.Chains.{chain_in};
@@ -124,7 +125,7 @@ fn push(
     requires kept { AreReadable codes.old.links.items lists.now.nodes.items kept.old.items }
     requires list { HasList lists.now.nodes.items decl.first decl.step }
     ensures kept { OnOk result (AreReadable codes.new.links.items lists.now.nodes.items kept.new.items) }
-    ensures added { IfOk result (Added (kept_view lists.now.nodes.items decl) rest
+    ensures added { IfOk result (IsAddedTable (kept_view lists.now.nodes.items decl) rest
         (tables_of lists.now.nodes.items kept.old.items) (tables_of lists.now.nodes.items kept.new.items)) }
 {
     if codes.find(rest, decl.code) != 0 {
@@ -188,7 +189,7 @@ impl AbbrevTables {
             offset rest }
         ensures tables { OnOk result (AreTablesOf section.now self.new) }
         ensures stay { OnOk result (Stay (tables_in self.old) (tables_in self.new)) }
-        ensures whole { IfOk result (IsWhole section.now (tables_in self.new) offset) }
+        ensures whole { IfOk result (IsTableRead section.now (tables_in self.new) offset) }
     {
         let mut table = rest;
         while let Some(Placed { at, item: decl }) = decls.pop() {
@@ -251,9 +252,9 @@ impl AbbrevTables {
     pub fn get(&self, table: u32, code: u64) -> Option<(u32, Decl<'_>)>
         requires searchable { AreSearchable self.now }
         requires table { table < length (tables_in self.now) }
-        ensures decl { option_map (λ found. view found.1) result ≡ find
+        ensures decl { option_map (λ found. decl_view found.1) result ≡ find
             (λ d. d.code == code) (table_in (tables_in self.now) table) }
-        ensures number { IfSome result (λ found. found.0 ≡ number_in (chain_in (tables_in self.now) table) code) }
+        ensures number { IfSome result (λ found. found.0 ≡ decl_number_in (chain_in (tables_in self.now) table) code) }
     {
         let number = self.codes.find(table, code);
         if number == 0 {

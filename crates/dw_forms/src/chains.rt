@@ -1,7 +1,7 @@
 //! Chains of codes, in which a code is found by its bits.
 
 ghost use Rattle.std.specs.Prelude.{◌≡◌, ◌+◌, ◌-◌, ◌<◌, ◌≤◌, ℕ, [], length, get_or, IfOk, OnOk, OnErr};
-ghost use Rattle.dw_forms.specs.Chains.{codes_in, number_in, AreBranches, AreBelow, AreFound, Added};
+ghost use Rattle.dw_forms.specs.Chains.{codes_in, number_in, AreBranches, AreBelow, AreFound, IsAddedChain};
 
 use std::alloc::{AllocError, Global};
 
@@ -155,7 +155,7 @@ impl Chains {
     pub fn push(&mut self, rest: u32, code: u64) -> Result<u32, AllocError>
         requires rest { rest ≤ length self.old.links.items }
         requires few { length self.old.links.items < 0xffffffff }
-        ensures added { IfOk result (Added code rest self.old.links.items self.new.links.items) }
+        ensures added { IfOk result (IsAddedChain code rest self.old.links.items self.new.links.items) }
         ensures err { OnErr result (self.new.links.items ≡ self.old.links.items) }
     {
         let number = self.links.len() as u32 + 1;

@@ -50,14 +50,14 @@ pub struct Decls {
 }
 
 impl Decls {
-    ghost use Rattle.dw_forms.specs.KeptDecls.{decl_of, view};
+    ghost use Rattle.dw_forms.specs.KeptDecls.{decl_of, decl_view};
 
     /// The declaration of a number.
     #[inline(always)]
     pub fn decl(&self, number: u32) -> Decl<'_>
         requires some { 0 < number }
         requires within { number ≤ length self.now.kept.items }
-        ensures { decl_of self.now.lists.nodes.items self.now.kept.items number ≡ Some (view result) }
+        ensures { decl_of self.now.lists.nodes.items self.now.kept.items number ≡ Some (decl_view result) }
     {
         Decl::new(&self.kept[(number - 1) as usize], &self.lists)
     }
@@ -79,7 +79,7 @@ impl Decls {
 }
 
 impl<'a> Decl<'a> {
-    ghost use Rattle.dw_forms.specs.KeptDecls.{view};
+    ghost use Rattle.dw_forms.specs.KeptDecls.{decl_view};
     ghost use Rattle.dw_forms.specs.Sizes.{are_allowed};
     ghost use Rattle.dw_forms.specs.Suffixes.{numbered, numbered_of, specs_in};
     ghost use Rattle.dw_forms.specs.Walks.{IsStep};
@@ -97,14 +97,14 @@ impl<'a> Decl<'a> {
     /// The number by which entries name the declaration, at least 1.
     #[inline(always)]
     pub fn code(&self) -> u64
-        ensures { result ≡ (view self.now).code }
+        ensures { result ≡ (decl_view self.now).code }
     {
         self.kept.code
     }
 
     #[inline(always)]
     pub fn tag(&self) -> Tag
-        ensures { result ≡ (view self.now).tag }
+        ensures { result ≡ (decl_view self.now).tag }
     {
         self.kept.tag
     }
@@ -112,7 +112,7 @@ impl<'a> Decl<'a> {
     /// Whether a list of children follows each entry.
     #[inline(always)]
     pub fn has_children(&self) -> bool
-        ensures { result ≡ (view self.now).has_children }
+        ensures { result ≡ (decl_view self.now).has_children }
     {
         self.kept.has_children
     }
@@ -120,7 +120,7 @@ impl<'a> Decl<'a> {
     /// In the order of their values in an entry. No attribute is there twice.
     #[inline(always)]
     pub fn attributes(&self) -> Attributes<'a>
-        ensures specs { specs_in result ≡ (view self.now).attributes }
+        ensures specs { specs_in result ≡ (decl_view self.now).attributes }
         ensures numbered { numbered result ≡ numbered_of self.now }
     {
         Attributes::new(self.lists, self.kept.first)
@@ -137,7 +137,7 @@ impl<'a> Decl<'a> {
     /// Whether the entries are types, as `Tag::is_type` says.
     #[inline(always)]
     pub fn is_type(&self) -> bool
-        ensures { result ≡ is_type_tag (view self.now).tag }
+        ensures { result ≡ is_type_tag (decl_view self.now).tag }
     {
         self.kept.is_type
     }
@@ -147,7 +147,7 @@ impl<'a> Decl<'a> {
     #[tactic(auto, using(crate::proofs::AllowedForms::all_allowed))]
     pub fn allows(&self, version: u16) -> bool
         requires { (version ≡ 4) ⊎ (version ≡ 5) }
-        ensures { result ≡ are_allowed version (view self.now).attributes }
+        ensures { result ≡ are_allowed version (decl_view self.now).attributes }
     {
         if version != 4 {
             return true;

@@ -2,7 +2,7 @@
 
 ghost use Rattle.std.specs.Prelude.{◌≡◌};
 ghost use Rattle.dw_forms.specs.declared.fault.Stop.TheVariants.{Memory, Fault};
-ghost use Rattle.dw_forms.specs.AbbrevFaults.{fault_of, error_at};
+ghost use Rattle.dw_forms.specs.AbbrevFaults.{decl_fault_of, error_at};
 
 use crate::leb::NumberFault;
 use std::alloc::{AllocError, AllocFailed};
@@ -87,7 +87,7 @@ impl Stop<DeclFault> {
 }
 
 impl From<NumberFault> for Stop<DeclFault> {
-    ghost from_gives = { λ f e. e ≡ Fault (fault_of f) };
+    ghost from_gives = { λ f e. e ≡ Fault (decl_fault_of f) };
 
     fn from(fault: NumberFault) -> Stop<DeclFault> {
         let rule = match fault {

@@ -58,9 +58,9 @@ pub enum ValueFault {
 }
 
 impl From<NumberFault> for ValueFault {
-    ghost use Rattle.dw_forms.specs.ValueFaults.{fault_of};
+    ghost use Rattle.dw_forms.specs.ValueFaults.{value_fault_of};
 
-    ghost from_gives = { λ f e. e ≡ fault_of f };
+    ghost from_gives = { λ f e. e ≡ value_fault_of f };
 
     fn from(fault: NumberFault) -> ValueFault {
         match fault {

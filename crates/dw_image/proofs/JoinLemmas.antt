@@ -13,8 +13,7 @@ use Rattle.dw_entries.proofs.FaultLaws.{no_list, one_fault}
 use Rattle.dw_entries.proofs.HeadLaws.{head_stands}
 use Rattle.dw_entries.proofs.NumberOrder.{three_ways}
 use Rattle.dw_entries.specs.declared.entries.Entries.{Entries}
-use Rattle.dw_entries.specs.Scanned.{units_of}
-use Rattle.dw_entries.specs.Views.{sections_of}
+use Rattle.dw_entries.specs.Views.{sections_of, units_of}
 use Rattle.dw_links.specs.Classes.{ClassFailures}
 use Rattle.dw_links.specs.LinkFaults.{IsFirstOfLinks}
 use Rattle.dw_links.specs.Strings.{StringFailures}
@@ -130,42 +129,42 @@ fault_of s fault first = record { first = first; invalid = λ valid. no_fault_of
 
 -- the first failure of a group, over the entries that a scan found
 faulty : (s : Sections) (entries : Entries) (group : Group) (fault : Fault) → entries.sections ≡ s
-    → HoldBefore (sections_of entries) (units_of entries.scanned) (turn_of group)
-    → IsFirstIn (sections_of entries) (units_of entries.scanned) group fault → IsFaultOf s fault
+    → HoldBefore (sections_of entries) (units_of entries) (turn_of group)
+    → IsFirstIn (sections_of entries) (units_of entries) group fault → IsFaultOf s fault
 faulty s entries group fault same before first =
     fault_of s fault (subst (λ t. IsFirstFault t fault) same
     (in_group group (record { units = entries.scanned.0; spelled = entries.scanned.1.spells; before = before; first = first })))
 
 -- classes hold
 abbrev ClassesHold : Entries → Type 0
-ClassesHold entries = HasNone (ClassFailures (units_of entries.scanned))
+ClassesHold entries = HasNone (ClassFailures (units_of entries))
 
 -- strings hold
 abbrev StringsHold : Entries → Type 0
-StringsHold entries = HasNone (StringFailures (sections_of entries) (units_of entries.scanned))
+StringsHold entries = HasNone (StringFailures (sections_of entries) (units_of entries))
 
-before_strings : (entries : Entries) → ClassesHold entries → HoldBefore (sections_of entries) (units_of entries.scanned) 3
-before_strings entries none = one_more (sections_of entries) (units_of entries.scanned) classes (none_before (sections_of entries) (units_of entries.scanned)) none
+before_strings : (entries : Entries) → ClassesHold entries → HoldBefore (sections_of entries) (units_of entries) 3
+before_strings entries none = one_more (sections_of entries) (units_of entries) classes (none_before (sections_of entries) (units_of entries)) none
 
-before_references : (entries : Entries) → ClassesHold entries → StringsHold entries → HoldBefore (sections_of entries) (units_of entries.scanned) 4
-before_references entries none nor = one_more (sections_of entries) (units_of entries.scanned) strings (before_strings entries none) nor
+before_references : (entries : Entries) → ClassesHold entries → StringsHold entries → HoldBefore (sections_of entries) (units_of entries) 4
+before_references entries none nor = one_more (sections_of entries) (units_of entries) strings (before_strings entries none) nor
 
-before_types : (entries : Entries) → ClassesHold entries → StringsHold entries → HasNone (ReferenceFailures (units_of entries.scanned)) → HoldBefore (sections_of entries) (units_of entries.scanned) 5
-before_types entries none nor neither = one_more (sections_of entries) (units_of entries.scanned) references (before_references entries none nor) neither
+before_types : (entries : Entries) → ClassesHold entries → StringsHold entries → HasNone (ReferenceFailures (units_of entries)) → HoldBefore (sections_of entries) (units_of entries) 5
+before_types entries none nor neither = one_more (sections_of entries) (units_of entries) references (before_references entries none nor) neither
 
 -- of the groups on the values of attributes the first that fails
-pub wrong_link : (s : Sections) (entries : Entries) (fault : Fault) → entries.sections ≡ s → IsPlainFault (IsFirstOfLinks (sections_of entries) (units_of entries.scanned)) fault → IsFaultOf s fault
+pub wrong_link : (s : Sections) (entries : Entries) (fault : Fault) → entries.sections ≡ s → IsPlainFault (IsFirstOfLinks (sections_of entries) (units_of entries)) fault → IsFaultOf s fault
 wrong_link s entries fault same first =
     elim first.holds [
-      | inl class ↦ faulty s entries classes fault same (none_before (sections_of entries) (units_of entries.scanned)) (record { holds = class; cycle = first.cycle })
+      | inl class ↦ faulty s entries classes fault same (none_before (sections_of entries) (units_of entries)) (record { holds = class; cycle = first.cycle })
       | inr targets ↦ elim targets.1 [
         | inl string ↦ faulty s entries strings fault same (before_strings entries targets.0) (record { holds = string; cycle = first.cycle })
         | inr reference ↦ faulty s entries references fault same (before_references entries targets.0 reference.0) (record { holds = reference.1; cycle = first.cycle })
       ]
     ]
 
-pub wrong_type : (s : Sections) (entries : Entries) (fault : Fault) → entries.sections ≡ s → ClassesHold entries → StringsHold entries → HasNone (ReferenceFailures (units_of entries.scanned))
-    → FailsInTypes (sections_of entries) (units_of entries.scanned) fault → IsFaultOf s fault
+pub wrong_type : (s : Sections) (entries : Entries) (fault : Fault) → entries.sections ≡ s → ClassesHold entries → StringsHold entries → HasNone (ReferenceFailures (units_of entries))
+    → FailsInTypes (sections_of entries) (units_of entries) fault → IsFaultOf s fault
 wrong_type s entries fault same none nor neither fails =
     let before = before_types entries none nor neither in
     faulty s entries fails.group fault same (λ earlier less. search (rules, three_ways, before)) fails.first

@@ -5,8 +5,7 @@ use Rattle.dw_elf.specs.declared.sections.Sections.{Sections}
 use Rattle.dw_entries.specs.Units.{DebugUnit}
 use Rattle.dw_forms.specs.Codes.{DW_AT_name, DW_AT_type}
 use Rattle.dw_entries.specs.Entries.{Entry, entries_of, placed}
-use Rattle.dw_entries.specs.Scanned.{units_of}
-use Rattle.dw_entries.specs.Views.{sections_of}
+use Rattle.dw_entries.specs.Views.{sections_of, units_of}
 use Rattle.dw_links.specs.AttributeTexts.{text_at}
 use Rattle.dw_links.specs.Targets.{target_of}
 use Rattle.dw_types.specs.FactsOf.{facts_in}
@@ -22,7 +21,7 @@ sections_in i = sections_of i.entries
 
 -- the units of .debug_info, in order
 unfoldable pub units_in : Image → List DebugUnit
-units_in i = units_of i.entries.scanned
+units_in i = units_of i.entries
 
 -- the entries of the units, numbered from 0 in rising offset
 abbrev pub entries_in : Image → List Entry

@@ -5,7 +5,7 @@ use Rattle.dw_forms.specs.Codes.{is_type_tag}
 use Rattle.dw_entries.specs.Entries.{Entry}
 -- the number of the entry that begins at an offset of .debug_info
 unfoldable pub use Rattle.dw_links.specs.Targets.{entry_at}
-pub use Rattle.dw_types.specs.Children.{is_number, children_from}
+pub use Rattle.dw_types.specs.Children.{children_from}
 -- the numbers of an entry's children, in rising offset
 unfoldable pub use Rattle.dw_types.specs.Children.{children_of}
 

@@ -1,9 +1,8 @@
 //! The image of valid sections, how much it holds, and look-ups of its entries.
 
 ghost use Rattle.std.specs.Prelude.{◌≡◌, ◌<◌, length, slice_get, IfSome, option_map, option_copied};
-ghost use Rattle.dw_entries.specs.Scanned.{units_of, all_entries};
 ghost use Rattle.dw_entries.specs.Failures.{HasNone};
-ghost use Rattle.dw_entries.specs.Views.{sections_of};
+ghost use Rattle.dw_entries.specs.Views.{sections_of, units_of, all_entries};
 ghost use Rattle.dw_links.specs.Classes.{ClassFailures};
 ghost use Rattle.dw_links.specs.Strings.{StringFailures};
 ghost use Rattle.dw_links.specs.References.{ReferenceFailures};
@@ -35,12 +34,12 @@ pub struct Image<'a> {
     pub(crate) steps: ByValue,
     pub(crate) sizes: SizeTable,
     ghost linked: { AreTables entries tables },
-    ghost classes: { HasNone (ClassFailures (units_of entries.scanned)) },
-    ghost strings: { HasNone (StringFailures (sections_of entries) (units_of entries.scanned)) },
-    ghost references: { HasNone (ReferenceFailures (units_of entries.scanned)) },
-    ghost languages_read: { languages.items ≡ languages_in (units_of entries.scanned) },
-    ghost stepped: { AreSteps (facts_in (units_of entries.scanned)) steps },
-    ghost measured: { AreMeasures (facts_in (units_of entries.scanned)) sizes },
+    ghost classes: { HasNone (ClassFailures (units_of entries)) },
+    ghost strings: { HasNone (StringFailures (sections_of entries) (units_of entries)) },
+    ghost references: { HasNone (ReferenceFailures (units_of entries)) },
+    ghost languages_read: { languages.items ≡ languages_in (units_of entries) },
+    ghost stepped: { AreSteps (facts_in (units_of entries)) steps },
+    ghost measured: { AreMeasures (facts_in (units_of entries)) sizes },
 }
 
 impl<'a> Image<'a> {
@@ -191,7 +190,7 @@ pub struct Children<'i, 'a> {
     entries: &'i Entries<'a>,
     parent: EntryId,
     next: Option<EntryId>,
-    ghost linked: { IsChild (all_entries entries.now.scanned) parent next },
+    ghost linked: { IsChild (all_entries entries.now) parent next },
 }
 
 impl<'i, 'a> Iterator for Children<'i, 'a> {

@@ -2,9 +2,8 @@
 //! sizes.
 
 ghost use Rattle.std.specs.Prelude.{◌≡◌, ◌<◌, length, map, IfOk, IfErr};
-ghost use Rattle.dw_entries.specs.Scanned.{all_entries, units_of};
 ghost use Rattle.dw_forms.specs.Stops.{IfFault};
-ghost use Rattle.dw_entries.specs.Views.{sections_of};
+ghost use Rattle.dw_entries.specs.Views.{sections_of, all_entries, units_of};
 ghost use Rattle.dw_types.specs.FactsOf.{facts_in};
 ghost use Rattle.dw_types.specs.Graphs.{IsCycle};
 ghost use Rattle.dw_types.specs.Held.{all_facts, units_held};
@@ -31,8 +30,8 @@ pub enum Verdict<'a> {
 
 /// The offset of the entry with a number.
 fn offset_of(entries: &Entries<'_>, number: usize) -> u32
-    requires { number < length (all_entries entries.now.scanned) }
-    ensures { result ≡ offset_at (facts_in (units_of entries.now.scanned)) number }
+    requires { number < length (all_entries entries.now) }
+    ensures { result ≡ offset_at (facts_in (units_of entries.now)) number }
 {
     entries.offset(entries.id(number))
 }
@@ -44,9 +43,8 @@ fn offsets_of(
     entries: &Entries<'_>,
     numbers: &[usize],
 ) -> Result<Vec<u32>, AllocError>
-    requires { IsCycle (by_value (facts_in (units_of entries.now.scanned))) numbers.now }
-    ensures { IfOk result (λ offsets. offsets.items
-        ≡ map (offset_at (facts_in (units_of entries.now.scanned))) numbers.now) }
+    requires { IsCycle (by_value (facts_in (units_of entries.now))) numbers.now }
+    ensures { IfOk result (λ offsets. offsets.items ≡ map (offset_at (facts_in (units_of entries.now))) numbers.now) }
 {
     let mut offsets = Vec::with_capacity(alloc, numbers.len())?;
     for k in 0..numbers.len() {
@@ -58,8 +56,8 @@ fn offsets_of(
 /// The fault that names a cycle of steps by value.
 #[tactic(auto, using(crate::proofs::MeasureLemmas::entry_below))]
 fn cycle_fault(alloc: Global, entries: &Entries<'_>, numbers: &[usize]) -> Result<Fault, AllocError>
-    requires { IsCycle (by_value (facts_in (units_of entries.now.scanned))) numbers.now }
-    ensures { IfOk result (NamesCycle (facts_in (units_of entries.now.scanned))) }
+    requires { IsCycle (by_value (facts_in (units_of entries.now))) numbers.now }
+    ensures { IfOk result (NamesCycle (facts_in (units_of entries.now))) }
 {
     let at = offset_of(entries, numbers[0]);
     let cycle = offsets_of(alloc, entries, numbers)?;

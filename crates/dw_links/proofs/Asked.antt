@@ -8,7 +8,7 @@ use Rattle.dw_entries.specs.declared.fault.Rule.TheVariants as rule
 use Rattle.dw_entries.specs.declared.lookup.EntryHead.{EntryHead}
 use Rattle.dw_entries.specs.Entries.{Entry, PlacedUnit}
 use Rattle.dw_entries.specs.declared.entries.Entries.{Entries}
-use Rattle.dw_entries.specs.Scanned.{all_entries, all_units}
+use Rattle.dw_entries.specs.Views.{all_entries, all_units}
 use Rattle.dw_entries.specs.Rules.{number_of}
 use Rattle.dw_entries.proofs.Firsts.{same_some}
 use Rattle.dw_links.specs.References.{permits, permits_form, is_signature, is_reference_value, NoEntryThere, IsWrongKind, IsOtherThan, NoSignatureThere, ReferenceFails}
@@ -26,7 +26,7 @@ none_of None is = refl
 none_of (Some n) is = absurd cc
 
 -- a signature that reaches no entry is no unit's
-pub no_signature : (entries : Entries) (unit : ℕ) (v : Datum) → AreTyped entries → is_signature v ≡ true → reach_of (all_entries entries.scanned) (all_units entries.scanned) unit v ≡ None → NoSignatureThere (all_units entries.scanned) v
+pub no_signature : (entries : Entries) (unit : ℕ) (v : Datum) → AreTyped entries → is_signature v ≡ true → reach_of (all_entries entries) (all_units entries) unit v ≡ None → NoSignatureThere (all_units entries) v
 no_signature entries unit (ref_sig s) typed is nowhere = λ number has. let some : IsSome {T = ℕ} None = subst (λ (o : Option ℕ). IsSome o) nowhere (typed s number has) in cc
 no_signature entries unit _ typed is nowhere = absurd cc
 

@@ -22,7 +22,7 @@ use Rattle.dw_entries.specs.Header.{version_of}
 use Rattle.dw_entries.specs.Units.{DebugUnit, Spells}
 use Rattle.dw_entries.specs.Lookups.{unit_head}
 use Rattle.dw_entries.specs.Failures.{IsLeast}
-use Rattle.dw_entries.specs.Chosen.{OthersPass}
+use Rattle.dw_entries.specs.Chosen.{DoesNotStop}
 use Rattle.dw_entries.proofs.HeadLaws.{head_stands}
 use Rattle.dw_entries.proofs.EntryFacts.{length-placed_from}
 use Rattle.dw_links.specs.declared.class.Class.{Class}
@@ -30,8 +30,7 @@ use Rattle.dw_links.specs.declared.class.Class.TheVariants.{Constant, Flag}
 use Rattle.dw_elf.specs.declared.sections.Sections.{Sections}
 use Rattle.dw_entries.specs.declared.entries.Entries.{Entries}
 use Rattle.dw_entries.specs.declared.header.UnitHeader.{UnitHeader}
-use Rattle.dw_entries.specs.Scanned.{all_entries}
-use Rattle.dw_entries.specs.Views.{sections_of}
+use Rattle.dw_entries.specs.Views.{sections_of, all_entries}
 use Rattle.dw_links.specs.Bases.{base_in}
 use Rattle.dw_links.specs.Linkable.{FailsByText, FailsByTarget}
 use Rattle.dw_links.specs.Strings.{StringFailsIn}
@@ -80,7 +79,7 @@ passes_texts entries spec not x a is head rule fails =
     let l = leads spec not in
     let unit = fails.unit in
     ∥∥₁_elim is.value (λ p q. absurd p)
-    (λ v. no_text (sections_of entries) unit.unit.header (base_in (all_entries entries.scanned) unit DW_AT_str_offsets_base) (base_in (all_entries entries.scanned) unit DW_AT_addr_base) head a.code rule x.version x.address_size spec.form a.bytes a.value l.no_way_out
+    (λ v. no_text (sections_of entries) unit.unit.header (base_in (all_entries entries) unit DW_AT_str_offsets_base) (base_in (all_entries entries) unit DW_AT_addr_base) head a.code rule x.version x.address_size spec.form a.bytes a.value l.no_way_out
     (λ base. elim base [ inl str ↦ other_code _ _ l.no_str_base (sym is.code ∙ str) | inr addr ↦ other_code _ _ l.no_addr_base (sym is.code ∙ addr) ]) v fails.fails)
 
 -- it is no reference
@@ -140,7 +139,7 @@ byteless_class form.FlagPresent a is = (Flag, refl, allows_flag a is)
 byteless_class (form.ImplicitConst number) a is = (Constant, refl, allows_constant a is)
 byteless_class f a is = absurd (let both : true ≡ false = is in cc)
 
-pub others_pass : OthersPass (λ spec. (units : List PlacedUnit) → Passes (ClassFails units) spec)
+pub others_pass : (spec : AttributeSpec) → DoesNotStop spec → (units : List PlacedUnit) → Passes (ClassFails units) spec
 others_pass spec is units =
     let (c, class, ok) = byteless_class spec.form spec.attribute is in
     class_passes units spec c class ok

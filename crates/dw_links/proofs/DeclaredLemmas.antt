@@ -5,7 +5,7 @@ use Rattle.std.proofs.Math.Seq.{take-append_seam}
 use Rattle.std.proofs.lemmas.List.{length-set, length-replicate}
 use Rattle.std.proofs.lemmas.Option.{slice_get-get_or}
 use Rattle.dw_entries.specs.declared.entries.Entries.{Entries}
-use Rattle.dw_entries.specs.Scanned.{all_entries}
+use Rattle.dw_entries.specs.Views.{all_entries}
 use Rattle.dw_links.proofs.Skips.{there}
 use Rattle.dw_links.specs.References.{is_declared}
 use Rattle.dw_links.specs.DeclaredEntries.{KeepsDeclared}
@@ -19,13 +19,13 @@ set_get (z ∷ xs) (suc i) zero x y is = inr is
 set_get (z ∷ xs) (suc i) (suc j) x y is = elim (set_get xs i j x y is) [ inl here ↦ inl (ap suc here.0, here.1) | inr there ↦ inr there ]
 
 -- one entry more is known
-pub one_more_known : (entries : Entries) (kept new : List (Option Bool)) (id number : ℕ) (declared : Bool) → KeepsDeclared entries kept → id < length (all_entries entries.scanned) → number ≡ id
-    → IfSome (slice_get (all_entries entries.scanned) id) (λ e. declared ≡ is_declared e) → new ≡ set kept number (Some declared) → KeepsDeclared entries new
+pub one_more_known : (entries : Entries) (kept new : List (Option Bool)) (id number : ℕ) (declared : Bool) → KeepsDeclared entries kept → id < length (all_entries entries) → number ≡ id
+    → IfSome (slice_get (all_entries entries) id) (λ e. declared ≡ is_declared e) → new ≡ set kept number (Some declared) → KeepsDeclared entries new
 one_more_known entries kept new id number declared keeps below is read same = search (rules, length-set, set_get, there)
 
 -- what is known of an entry is true of it
-pub known_right : (entries : Entries) (kept : List (Option Bool)) (id number : ℕ) (declared : Bool) → KeepsDeclared entries kept → id < length (all_entries entries.scanned) → number ≡ id
-    → get_or kept number None ≡ Some declared → IfSome (slice_get (all_entries entries.scanned) id) (λ e. declared ≡ is_declared e)
+pub known_right : (entries : Entries) (kept : List (Option Bool)) (id number : ℕ) (declared : Bool) → KeepsDeclared entries kept → id < length (all_entries entries) → number ≡ id
+    → get_or kept number None ≡ Some declared → IfSome (slice_get (all_entries entries) id) (λ e. declared ≡ is_declared e)
 known_right entries kept id number declared keeps below is read = search (rules, there, slice_get-get_or)
 
 -- none is known of any entry
@@ -34,7 +34,7 @@ none_known zero j known is = absurd cc
 none_known (suc n) zero known is = absurd cc
 none_known (suc n) (suc j) known is = none_known n j known is
 
-pub keeps_none : (entries : Entries) (kept : List (Option Bool)) (n : ℕ) → n ≡ length (all_entries entries.scanned) → kept ≡ replicate n None → KeepsDeclared entries kept
+pub keeps_none : (entries : Entries) (kept : List (Option Bool)) (n : ℕ) → n ≡ length (all_entries entries) → kept ≡ replicate n None → KeepsDeclared entries kept
 keeps_none entries kept n all same = search (rules, length-replicate, none_known)
 
 -- the list after its slice has changed

@@ -34,7 +34,7 @@ passed_value [] passed = refl
 passed_value (x ∷ items) passed =
     let p = passed 0 x refl in
     let code : p.spec.attribute ≡ x.0 = sym p.is_attribute.code ∙ ap (λ (y : ℕ × Datum). y.0) p.is_item in
-    let other : (x.0 == DW_AT_type) ≡ false = ap (λ (n : ℕ). n == DW_AT_type) (sym code) ∙ (leads p.spec p.not_asked).no_type in
+    let other : (x.0 == DW_AT_type) ≡ false = ap (λ (n : ℕ). n == DW_AT_type) (sym code) ∙ (leads p.spec p.passes).no_type in
     rw other (passed_value items (λ k y is. passed (suc k) y is))
 
 -- this is kept of the first type of what was read, and these are left

@@ -63,7 +63,7 @@ module _ (Fails : Rules) (Pass : AttributeSpec → Type 0) (over : (spec : Attri
   passed_none : (head : EntryHead) (items : List (ℕ × Datum)) → ArePassed Pass items → NoneFails Fails head items
   passed_none head items passed k item is r fails =
       let p = passed k item is in
-      over p.spec p.not_asked p.context p.declared p.is_attribute head r (subst (λ (y : ℕ × Datum). Fails head y.0 y.1 r) (sym p.is_item) fails)
+      over p.spec p.passes p.context p.declared p.is_attribute head r (subst (λ (y : ℕ × Datum). Fails head y.0 y.1 r) (sym p.is_item) fails)
 
   -- at the end no rule fails at the entry
   pub checked_all : (e : Entry) (left : List (ℕ × Datum)) → Checked Fails (entry_head e) (values_of e.head) left → ArePassed Pass left → HasNone (AtHead Fails e)

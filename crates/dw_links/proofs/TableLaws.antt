@@ -9,7 +9,7 @@ use Rattle.dw_forms.specs.declared.value.Value.{Value}
 use Rattle.dw_forms.specs.Value.{view}
 use Rattle.dw_entries.specs.declared.entries.Entries.{Entries}
 use Rattle.dw_entries.specs.Entries.{Entry, PlacedUnit, entries_of, placed}
-use Rattle.dw_entries.specs.Scanned.{all_entries, all_units, units_of}
+use Rattle.dw_entries.specs.Views.{all_entries, all_units, units_of}
 use Rattle.dw_entries.specs.Lookups.{value_at_entry, unit_head}
 use Rattle.dw_entries.specs.Units.{DebugUnit, Spells}
 use Rattle.dw_entries.proofs.EntryFacts.{length-placed_from, placed_get, first_entry}
@@ -39,11 +39,11 @@ mapped {X} {Y} f xs items i x found all is read =
     read ∙ get_or_from_slice_get items i (f x) found kept
 
 -- the target that is kept of an entry's type
-pub kept_target : (entries : Entries) (tables : LinkTables) (id number : ℕ) (found : Option ℕ) → AreTables entries tables → id < length (all_entries entries.scanned) → number ≡ id → found ≡ get_or tables.types.items number found
-    → (e : Entry) × (slice_get (all_entries entries.scanned) id ≡ Some e) × (found ≡ type_target (all_entries entries.scanned) (all_units entries.scanned) e)
+pub kept_target : (entries : Entries) (tables : LinkTables) (id number : ℕ) (found : Option ℕ) → AreTables entries tables → id < length (all_entries entries) → number ≡ id → found ≡ get_or tables.types.items number found
+    → (e : Entry) × (slice_get (all_entries entries) id ≡ Some e) × (found ≡ type_target (all_entries entries) (all_units entries) e)
 kept_target entries tables id number found are below same read =
-    let (e, is) = there (all_entries entries.scanned) id below in
-    (e, is, mapped (type_target (all_entries entries.scanned) (all_units entries.scanned)) (all_entries entries.scanned) tables.types.items id e found are.types is (read ∙ ap (λ (n : ℕ). get_or tables.types.items n found) same))
+    let (e, is) = there (all_entries entries) id below in
+    (e, is, mapped (type_target (all_entries entries) (all_units entries)) (all_entries entries) tables.types.items id e found are.types is (read ∙ ap (λ (n : ℕ). get_or tables.types.items n found) same))
 
 -- the base that is kept of a unit
 pub kept_base : (entries : List Entry) (units : List PlacedUnit) (attribute : ℕ) (bases : List (Option ℕ)) (number : ℕ) (p : PlacedUnit) (found : Option ℕ) → bases ≡ bases_in entries units attribute → slice_get units number ≡ Some p → found ≡ option_and_then (λ base. base) (slice_get bases number)
@@ -68,11 +68,11 @@ pub unit_of_entry : («abbrev» info : List ℕ) (us : List DebugUnit) (id : ℕ
 unit_of_entry «abbrev» info us id e spells is = there (placed us) e.unit (omega (arith, in_units «abbrev» info us id e spells is, length-placed_from 0 0 us))
 
 -- an entry and its unit
-pub entry_unit : (entries : Entries) (id : ℕ) → id < length (all_entries entries.scanned)
-    → (e : Entry) × (p : PlacedUnit) × (slice_get (all_entries entries.scanned) id ≡ Some e) × (slice_get (all_units entries.scanned) e.unit ≡ Some p)
+pub entry_unit : (entries : Entries) (id : ℕ) → id < length (all_entries entries)
+    → (e : Entry) × (p : PlacedUnit) × (slice_get (all_entries entries) id ≡ Some e) × (slice_get (all_units entries) e.unit ≡ Some p)
 entry_unit entries id below =
-    let (e, is) = there (all_entries entries.scanned) id below in
-    let (p, is_p) = unit_of_entry _ _ (units_of entries.scanned) id e entries.scanned.1.spells is in
+    let (e, is) = there (all_entries entries) id below in
+    let (p, is_p) = unit_of_entry _ _ (units_of entries) id e entries.scanned.1.spells is in
     (e, p, is, is_p)
 
 -- the size of an address in a unit

@@ -3,8 +3,7 @@ use Rattle.std.specs.Prelude.{◌≡◌, ℕ, Option}
 use Rattle.dw_forms.specs.Value.{Datum}
 use Rattle.dw_entries.specs.declared.entries.Entries.{Entries}
 use Rattle.dw_entries.specs.declared.lookup.EntryHead.{EntryHead}
-use Rattle.dw_entries.specs.Scanned.{all_entries, all_units}
-use Rattle.dw_entries.specs.Views.{sections_of}
+use Rattle.dw_entries.specs.Views.{sections_of, all_entries, all_units}
 use Rattle.dw_links.specs.declared.references.References.{References}
 use Rattle.dw_links.specs.Concerns.{Rules}
 use Rattle.dw_links.specs.Ready.{AreTexts}
@@ -15,15 +14,15 @@ use Rattle.dw_links.specs.Targets.{reach_in_unit, reach_of}
 
 -- the rules on strings and addresses
 abbrev pub FailsByText : Entries → Rules
-FailsByText entries = StringFails (sections_of entries) (all_entries entries.scanned) (all_units entries.scanned)
+FailsByText entries = StringFails (sections_of entries) (all_entries entries) (all_units entries)
 
 -- the rules on references
 abbrev pub FailsByTarget : Entries → Rules
-FailsByTarget entries = ReferenceFails (all_entries entries.scanned) (all_units entries.scanned)
+FailsByTarget entries = ReferenceFails (all_entries entries) (all_units entries)
 
 -- the target of a value of an entry
 abbrev pub target_by : Entries → EntryHead → Datum → Option ℕ
-target_by entries head v = reach_of (all_entries entries.scanned) (all_units entries.scanned) head.unit v
+target_by entries head v = reach_of (all_entries entries) (all_units entries) head.unit v
 
 -- the entries whose values are followed
 abbrev pub entries_in : References → Entries
@@ -32,7 +31,7 @@ entries_in it = it.cursor.entries.now
 -- the entry of the unit at hand that starts so many bytes after the unit's header
 abbrev pub entry_after : References → (offset : ℕ) → Option ℕ
 entry_after it offset =
-    reach_in_unit (all_entries (entries_in it).scanned) (all_units (entries_in it).scanned) it.texts.unit offset
+    reach_in_unit (all_entries (entries_in it)) (all_units (entries_in it)) it.texts.unit offset
 
 -- the table has the type of each signature, each signature of a type unit has one, and what was read of the unit at
 -- hand is right

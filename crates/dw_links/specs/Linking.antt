@@ -12,9 +12,8 @@ use Rattle.dw_entries.specs.Chosen.{IsNextOf}
 use Rattle.dw_entries.specs.Entries.{Entry}
 use Rattle.dw_entries.specs.Failures.{HasNone, IsFirst, IsLeast}
 use Rattle.dw_entries.specs.Leading.{DoesNotLead}
-use Rattle.dw_entries.specs.Scanned.{all_entries, all_units, units_of}
 use Rattle.dw_entries.specs.Units.{DebugUnit}
-use Rattle.dw_entries.specs.Views.{sections_of}
+use Rattle.dw_entries.specs.Views.{sections_of, all_entries, all_units, units_of}
 use Rattle.dw_links.specs.Concerns.{Rules, AtHead}
 use Rattle.dw_links.specs.Linkable.{FailsByText, FailsByTarget, target_by}
 use Rattle.dw_links.specs.References.{ReferenceFailures}
@@ -54,7 +53,7 @@ HasFailedNext entries head left broken =
 pub record IsLinked (entries : Entries) (e : Entry) (target : Option ℕ) : Type 0 where
   pub strings : HasNone (AtHead (FailsByText entries) e)
   pub references : HasNone (AtHead (FailsByTarget entries) e)
-  pub is_target : target ≡ type_target (all_entries entries.scanned) (all_units entries.scanned) e
+  pub is_target : target ≡ type_target (all_entries entries) (all_units entries) e
 
 -- a failure is the first at an entry, of the rules on strings and addresses or of those on references
 abbrev pub HasFailed : Entries → Entry → Broken → Type 0
@@ -68,7 +67,7 @@ IsFirstOfGroup sections units broken =
 
 -- no rule on strings, addresses and references fails, and these are the targets of the types of all entries
 pub record AreLinked (entries : Entries) (targets : List (Option ℕ)) : Type 0 where
-  pub strings : HasNone (StringFailures (sections_of entries) (units_of entries.scanned))
-  pub references : HasNone (ReferenceFailures (units_of entries.scanned))
-  pub types : targets ≡ map (type_target (all_entries entries.scanned) (all_units entries.scanned))
-      (all_entries entries.scanned)
+  pub strings : HasNone (StringFailures (sections_of entries) (units_of entries))
+  pub references : HasNone (ReferenceFailures (units_of entries))
+  pub types : targets ≡ map (type_target (all_entries entries) (all_units entries))
+      (all_entries entries)

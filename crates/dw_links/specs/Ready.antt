@@ -5,8 +5,7 @@ use Rattle.dw_entries.specs.Header.{IsSize}
 use Rattle.dw_entries.specs.Entries.{Entry, PlacedUnit}
 use Rattle.dw_entries.specs.declared.entries.Entries.{Entries}
 use Rattle.dw_entries.specs.Lookups.{unit_head}
-use Rattle.dw_entries.specs.Scanned.{all_entries, all_units}
-use Rattle.dw_entries.specs.Views.{sections_of}
+use Rattle.dw_entries.specs.Views.{sections_of, all_entries, all_units}
 use Rattle.dw_links.specs.declared.strings.UnitTexts.{UnitTexts}
 use Rattle.dw_links.specs.Concerns.{Rules}
 use Rattle.dw_links.specs.Contributions.{IsCount, IsEndOfStrings}
@@ -31,10 +30,10 @@ pub record AreTexts (entries : Entries) (texts : UnitTexts) : Type 0 where
   pub ready : IsReady texts
   pub same_sections : texts.sections ≡ sections_of entries
   pub place : PlacedUnit
-  pub in_unit : slice_get (all_units entries.scanned) texts.unit ≡ Some place
+  pub in_unit : slice_get (all_units entries) texts.unit ≡ Some place
   pub head : texts.head ≡ unit_head place
-  pub str_base : texts.str_base ≡ base_in (all_entries entries.scanned) place DW_AT_str_offsets_base
-  pub addr_base : texts.addr_base ≡ base_in (all_entries entries.scanned) place DW_AT_addr_base
+  pub str_base : texts.str_base ≡ base_in (all_entries entries) place DW_AT_str_offsets_base
+  pub addr_base : texts.addr_base ≡ base_in (all_entries entries) place DW_AT_addr_base
 
 -- the same, and the entry that was looked up is in that unit
 abbrev pub AreTextsAt : Entries → UnitTexts → Option Entry → Type 0

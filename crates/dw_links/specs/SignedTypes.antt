@@ -4,7 +4,7 @@ use Rattle.std.specs.Ordering.{nat_cmp}
 use Rattle.std.specs.BTreeMap.{BTreeMap, get}
 use Rattle.dw_entries.specs.Entries.{Entry, PlacedUnit}
 use Rattle.dw_entries.specs.declared.entries.Entries.{Entries}
-use Rattle.dw_entries.specs.Scanned.{all_entries, all_units}
+use Rattle.dw_entries.specs.Views.{all_entries, all_units}
 use Rattle.dw_links.specs.Signatures.{HasSignature}
 use Rattle.dw_links.specs.Targets.{type_of_unit, signed_type}
 
@@ -29,9 +29,9 @@ AreSignedBelow entries units below table =
 -- the table has the type of each signature
 abbrev pub HasSignedTypes : Entries → BTreeMap ℕ ℕ → Type 0
 HasSignedTypes entries table = (signature : ℕ) → get nat_cmp table signature
-    ≡ signed_type (all_entries entries.scanned) (all_units entries.scanned) signature
+    ≡ signed_type (all_entries entries) (all_units entries) signature
 
 -- each signature of a type unit has a type
 abbrev pub AreTyped : Entries → Type 0
-AreTyped entries = (signature number : ℕ) → HasSignature (all_units entries.scanned) signature number
-    → IsSome (signed_type (all_entries entries.scanned) (all_units entries.scanned) signature)
+AreTyped entries = (signature number : ℕ) → HasSignature (all_units entries) signature number
+    → IsSome (signed_type (all_entries entries) (all_units entries) signature)

@@ -3,7 +3,7 @@ use Rattle.std.specs.Prelude.{◌≡◌, ℕ, List, map, Option}
 use Rattle.dw_forms.specs.Codes.{DW_AT_type, DW_AT_str_offsets_base, DW_AT_addr_base}
 use Rattle.dw_entries.specs.declared.entries.Entries.{Entries}
 use Rattle.dw_entries.specs.Entries.{Entry, PlacedUnit}
-use Rattle.dw_entries.specs.Scanned.{all_entries, all_units}
+use Rattle.dw_entries.specs.Views.{all_entries, all_units}
 use Rattle.dw_links.specs.declared.links.LinkTables.{LinkTables}
 use Rattle.dw_links.specs.Bases.{bases_in}
 use Rattle.dw_links.specs.SignedTypes.{HasSignedTypes}
@@ -17,8 +17,8 @@ type_target entries units e = target_of entries units e DW_AT_type
 pub record AreTables (entries : Entries) (tables : LinkTables) : Type 0 where
   pub signatures : HasSignedTypes entries tables.signatures
   pub str_bases : tables.str_bases.items
-      ≡ bases_in (all_entries entries.scanned) (all_units entries.scanned) DW_AT_str_offsets_base
+      ≡ bases_in (all_entries entries) (all_units entries) DW_AT_str_offsets_base
   pub addr_bases : tables.addr_bases.items
-      ≡ bases_in (all_entries entries.scanned) (all_units entries.scanned) DW_AT_addr_base
-  pub types : tables.types.items ≡ map (type_target (all_entries entries.scanned) (all_units entries.scanned))
-      (all_entries entries.scanned)
+      ≡ bases_in (all_entries entries) (all_units entries) DW_AT_addr_base
+  pub types : tables.types.items ≡ map (type_target (all_entries entries) (all_units entries))
+      (all_entries entries)

@@ -6,13 +6,13 @@ ghost use Rattle.std.specs.Bool.{OnFalse};
 ghost use Rattle.dw_forms.specs.Value.{view};
 ghost use Rattle.dw_entries.specs.declared.fault.Section.TheVariants.{Info};
 ghost use Rattle.dw_entries.specs.Entries.{PlacedUnit};
-ghost use Rattle.dw_entries.specs.Scanned.{all_entries, all_units, units_of};
+ghost use Rattle.dw_entries.specs.Views.{all_entries, all_units, units_of};
 ghost use Rattle.dw_entries.specs.Failures.{HasNone, IsFirst, IsLeast, IsPlainFault};
 ghost use Rattle.dw_links.specs.Classes.{class_of, form_class, allows, allows_in, ClassFails, ClassFailures};
 ghost use Rattle.dw_links.specs.Concerns.{AtHead, Passes, PassesAt, FailsAt};
 
 use dw_entries::constants::*;
-use dw_entries::{Broken, Choice, Entries, EntryHead, EntryId, Fault, Rule, Section};
+use dw_entries::{Broken, Entries, EntryHead, EntryId, Fault, Rule, Section};
 use dw_forms::{Attribute, AttributeSpec, Form, Value};
 use std::alloc::Global;
 
@@ -167,7 +167,7 @@ fn is_open(spec: &AttributeSpec) -> bool
 
 /// Whether a value of any entry may have none of its classes, by the declarations alone.
 fn leave_open(entries: &Entries<'_>) -> bool
-    ensures { OnFalse result (HasNone (ClassFailures (units_of entries.now.scanned))) }
+    ensures { OnFalse result (HasNone (ClassFailures (units_of entries.now))) }
 {
     let decls = entries.decls();
     for number in 0..decls.spec_count() {
@@ -185,8 +185,8 @@ fn ask_class(
     attribute: Attribute,
     value: &Value<'_>,
 ) -> Option<Rule>
-    requires { head.now.unit < length (units_of entries.now.scanned) }
-    ensures { IsLeast (ClassFails (all_units entries.now.scanned) head.now attribute (view value.now)) result }
+    requires { head.now.unit < length (units_of entries.now) }
+    ensures { IsLeast (ClassFails (all_units entries.now) head.now attribute (view value.now)) result }
 {
     let version = entries.unit(head.unit).header.kind.version();
     if is_allowed_in(version, attribute, class_of_value(value)) {
@@ -196,33 +196,19 @@ fn ask_class(
     }
 }
 
-/// The attributes that are open, by how they are declared.
-#[derive(Drop)]
-struct Open;
-
-impl Choice for Open {
-    ghost passes = { λ _ spec. (units : List PlacedUnit) → Passes (ClassFails units) spec };
-
-    fn asks(&self, spec: &AttributeSpec) -> bool {
-        is_open(spec)
-    }
-
-    // A search stops at values that take no bytes, if `is_allowed` forbids their class.
-    fn keeps_to_stops(&self) {}
-}
-
-/// The first attribute of an entry whose value has none of its classes. Only those that are open are decoded.
+/// The first attribute of an entry whose value has none of its classes. A search stops at each value that takes bytes,
+/// and at others where `is_allowed` forbids their class.
 fn check_entry(entries: &Entries<'_>, id: EntryId) -> Result<(), Broken>
-    requires { id < length (all_entries entries.now.scanned) }
-    ensures ok { OnOk result (PassesAt (slice_get (all_entries entries.now.scanned) id)
-        (AtHead (ClassFails (all_units entries.now.scanned)))) }
-    ensures err { IfErr result (FailsAt (slice_get (all_entries entries.now.scanned) id)
-        (AtHead (ClassFails (all_units entries.now.scanned)))) }
+    requires { id < length (all_entries entries.now) }
+    ensures ok { OnOk result (PassesAt (slice_get (all_entries entries.now) id)
+        (AtHead (ClassFails (all_units entries.now)))) }
+    ensures err { IfErr result (FailsAt (slice_get (all_entries entries.now) id)
+        (AtHead (ClassFails (all_units entries.now)))) }
 {
     let entry = entries.at(id);
     let head = entry.head();
     let mut values = entry.values();
-    while let Some(item) = values.next_by(&Open) {
+    while let Some(item) = values.next_stop() {
         if let Some(rule) = ask_class(entries, &head, item.0, &item.1) {
             return Err(broken_at(&head, item.0, rule));
         }
@@ -233,8 +219,8 @@ fn check_entry(entries: &Entries<'_>, id: EntryId) -> Result<(), Broken>
 /// Finds the first attribute whose value has none of its classes: the fault `WrongClass` at the entry's offset.
 /// Nothing grows, so memory can't run out.
 pub fn check_classes(alloc: Global, entries: &Entries<'_>) -> Result<(), Fault>
-    ensures ok { OnOk result (HasNone (ClassFailures (units_of entries.now.scanned))) }
-    ensures fault { IfErr result (IsPlainFault (IsFirst (ClassFailures (units_of entries.now.scanned)))) }
+    ensures ok { OnOk result (HasNone (ClassFailures (units_of entries.now))) }
+    ensures fault { IfErr result (IsPlainFault (IsFirst (ClassFailures (units_of entries.now)))) }
 {
     if !leave_open(entries) {
         return Ok(());

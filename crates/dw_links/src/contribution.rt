@@ -3,7 +3,7 @@
 ghost use Rattle.std.specs.Prelude.{◌≡◌, ◌+◌, ◌<◌, ◌≤◌, length, Some, slice_get, IfSome};
 ghost use Rattle.dw_elf.specs.Elf.{number_at};
 ghost use Rattle.dw_entries.specs.Entries.{PlacedUnit};
-ghost use Rattle.dw_entries.specs.Scanned.{all_entries, all_units, units_of};
+ghost use Rattle.dw_entries.specs.Views.{all_entries, all_units, units_of};
 ghost use Rattle.dw_links.specs.Bases.{base_in};
 ghost use Rattle.dw_links.specs.Contributions.{IsCount, IsEndOfStrings};
 
@@ -14,9 +14,9 @@ use memchr::memrchr;
 
 /// The base that a unit's first entry gives to its contribution: the offset of the first slot in its section.
 pub fn base_in_unit(entries: &Entries<'_>, number: usize, attribute: Attribute) -> Option<u32>
-    requires { number < length (units_of entries.now.scanned) }
-    ensures { (p : PlacedUnit) → slice_get (all_units entries.now.scanned) number ≡ Some p
-        → result ≡ base_in (all_entries entries.now.scanned) p attribute }
+    requires { number < length (units_of entries.now) }
+    ensures { (p : PlacedUnit) → slice_get (all_units entries.now) number ≡ Some p
+        → result ≡ base_in (all_entries entries.now) p attribute }
 {
     let unit = entries.unit(number);
     if unit.header.kind.version() == 4 {

@@ -3,8 +3,7 @@
 
 ghost use Rattle.std.specs.Prelude.{◌≡◌, ◌==◌, ◌<◌, length, Some, IfSome, IsSome, IfOk, IfErr};
 ghost use Rattle.dw_entries.specs.Entries.{Entry};
-ghost use Rattle.dw_entries.specs.Scanned.{all_entries, all_units, units_of};
-ghost use Rattle.dw_entries.specs.Views.{sections_of};
+ghost use Rattle.dw_entries.specs.Views.{sections_of, all_entries, all_units, units_of};
 ghost use Rattle.dw_entries.specs.Lookups.{entry_head};
 ghost use Rattle.dw_entries.specs.Leading.{next_form, leading_left};
 ghost use Rattle.dw_entries.specs.Failures.{HasNone, IsFirst};
@@ -33,7 +32,7 @@ use std::collections::BTreeMap;
 /// The number of an entry, or none.
 #[inline(always)]
 fn number_of(entries: &Entries<'_>, id: &Option<EntryId>) -> OptionalId
-    requires { IfSome id.now (λ t. t < length (all_entries entries.now.scanned)) }
+    requires { IfSome id.now (λ t. t < length (all_entries entries.now)) }
     ensures { result ≡ id.now }
 {
     match id {
@@ -142,8 +141,8 @@ pub(crate) fn strings_first(
     entries: &Entries<'_>,
     reference: Stop<Fault>,
 ) -> Stop<Fault>
-    requires { IfPlainFault (IsFirst (ReferenceFailures (units_of entries.now.scanned))) reference }
-    ensures { IfPlainFault (IsFirstOfTargets (sections_of entries.now) (units_of entries.now.scanned)) result }
+    requires { IfPlainFault (IsFirst (ReferenceFailures (units_of entries.now))) reference }
+    ensures { IfPlainFault (IsFirstOfTargets (sections_of entries.now) (units_of entries.now)) result }
 {
     match check_strings(alloc, entries) {
         Ok(()) => reference,
@@ -163,8 +162,8 @@ fn is_string_rule(rule: Rule) -> bool
 
 /// The fault of a failure, if it is the first of its group.
 fn stop_of(alloc: Global, entries: &Entries<'_>, broken: Broken) -> Stop<Fault>
-    requires { IsFirstOfGroup (sections_of entries.now) (units_of entries.now.scanned) broken }
-    ensures { IfPlainFault (IsFirstOfTargets (sections_of entries.now) (units_of entries.now.scanned)) result }
+    requires { IsFirstOfGroup (sections_of entries.now) (units_of entries.now) broken }
+    ensures { IfPlainFault (IsFirstOfTargets (sections_of entries.now) (units_of entries.now)) result }
 {
     if is_string_rule(broken.rule) {
         return Stop::Fault(broken.into_fault(alloc));
@@ -182,10 +181,9 @@ pub(crate) fn link_entries<'t>(
 ) -> Result<Vec<OptionalId>, Stop<Fault>>
     requires types { HasSignedTypes entries.now signatures.now }
     requires typed { AreTyped entries.now }
-    requires headers { HasNone (HeaderFailures (all_entries entries.now.scanned) (all_units entries.now.scanned)) }
+    requires headers { HasNone (HeaderFailures (all_entries entries.now) (all_units entries.now)) }
     ensures ok { IfOk result (λ types. AreLinked entries.now types.items) }
-    ensures fault { IfErr result
-        (IfPlainFault (IsFirstOfTargets (sections_of entries.now) (units_of entries.now.scanned))) }
+    ensures fault { IfErr result (IfPlainFault (IsFirstOfTargets (sections_of entries.now) (units_of entries.now))) }
 {
     let mut types = Vec::with_capacity(alloc, entries.count())?;
     if entries.unit_count() == 0 {

@@ -2,8 +2,7 @@
 //! entries refer to.
 
 ghost use Rattle.std.specs.Prelude.{◌≡◌, ◌<◌, length, slice_get, IfSome, IfOk, option_copied, OnOk, IfErr};
-ghost use Rattle.dw_entries.specs.Scanned.{all_entries, all_units, units_of};
-ghost use Rattle.dw_entries.specs.Views.{sections_of};
+ghost use Rattle.dw_entries.specs.Views.{sections_of, all_entries, all_units, units_of};
 ghost use Rattle.dw_entries.specs.Stopped.{IfPlainFault};
 ghost use Rattle.dw_entries.specs.Failures.{HasNone};
 ghost use Rattle.dw_links.specs.Targets.{target_of};
@@ -43,7 +42,7 @@ fn read_bases(
     attribute: Attribute,
 ) -> Result<Vec<Option<u32>>, AllocError>
     ensures { IfOk result (λ bases. bases.items
-        ≡ bases_in (all_entries entries.now.scanned) (all_units entries.now.scanned) attribute) }
+        ≡ bases_in (all_entries entries.now) (all_units entries.now) attribute) }
 {
     let count = entries.unit_count();
     let mut bases = Vec::with_capacity(alloc, count)?;
@@ -56,11 +55,11 @@ fn read_bases(
 impl LinkTables {
     /// The target of an entry's type.
     fn type_of(&self, entries: &Entries<'_>, id: EntryId) -> Option<EntryId>
-        requires id { id < length (all_entries entries.now.scanned) }
+        requires id { id < length (all_entries entries.now) }
         requires tables { AreTables entries.now self.now }
-        ensures exact { IfSome (slice_get (all_entries entries.now.scanned) id)
-            (λ e. result ≡ type_target (all_entries entries.now.scanned) (all_units entries.now.scanned) e) }
-        ensures within { IfSome result (λ t. t < length (all_entries entries.now.scanned)) }
+        ensures exact { IfSome (slice_get (all_entries entries.now) id)
+            (λ e. result ≡ type_target (all_entries entries.now) (all_units entries.now) e) }
+        ensures within { IfSome result (λ t. t < length (all_entries entries.now)) }
     {
         let number = self.types[id.number()].get()?;
         Some(entries.id(number as usize))
@@ -73,11 +72,11 @@ impl LinkTables {
         id: EntryId,
         attribute: Attribute,
     ) -> Option<EntryId>
-        requires id { id < length (all_entries entries.now.scanned) }
+        requires id { id < length (all_entries entries.now) }
         requires tables { AreTables entries.now self.now }
-        ensures exact { IfSome (slice_get (all_entries entries.now.scanned) id)
-            (λ e. result ≡ target_of (all_entries entries.now.scanned) (all_units entries.now.scanned) e attribute) }
-        ensures within { IfSome result (λ t. t < length (all_entries entries.now.scanned)) }
+        ensures exact { IfSome (slice_get (all_entries entries.now) id)
+            (λ e. result ≡ target_of (all_entries entries.now) (all_units entries.now) e attribute) }
+        ensures within { IfSome result (λ t. t < length (all_entries entries.now)) }
     {
         if attribute == DW_AT_type {
             return self.type_of(entries, id);
@@ -92,19 +91,18 @@ pub struct Links<'r, 'a> {
     pub entries: &'r Entries<'a>,
     pub(crate) tables: LinkTables,
     pub ghost tables_are: { AreTables entries.now tables },
-    pub ghost classes: { HasNone (ClassFailures (units_of entries.now.scanned)) },
-    pub ghost strings: { HasNone (StringFailures (sections_of entries.now) (units_of entries.now.scanned)) },
-    pub ghost references: { HasNone (ReferenceFailures (units_of entries.now.scanned)) },
+    pub ghost classes: { HasNone (ClassFailures (units_of entries.now)) },
+    pub ghost strings: { HasNone (StringFailures (sections_of entries.now) (units_of entries.now)) },
+    pub ghost references: { HasNone (ReferenceFailures (units_of entries.now)) },
 }
 
 /// Links entries, or finds the first value whose class is wrong; else the first string or address that is not there;
 /// else the first header of a type unit whose signature or type offset is wrong, or if there is none, the first
 /// reference (DWARF 5, sections 2.3, 7.5.5, 7.26 and 7.27). Runs out of memory if a table cannot grow.
 pub fn link<'r, 'a>(alloc: Global, entries: &'r Entries<'a>) -> Result<Links<'r, 'a>, Stop<Fault>>
-    ensures ok { OnOk result (HasNone (ReferenceFailures (units_of entries.now.scanned))) }
+    ensures ok { OnOk result (HasNone (ReferenceFailures (units_of entries.now))) }
     ensures entries { IfOk result (λ links. links.entries ≡ entries.entry) }
-    ensures fault { IfErr result
-        (IfPlainFault (IsFirstOfLinks (sections_of entries.now) (units_of entries.now.scanned))) }
+    ensures fault { IfErr result (IfPlainFault (IsFirstOfLinks (sections_of entries.now) (units_of entries.now))) }
 {
     check_classes(alloc, entries)?;
     let signatures = match read_signatures(alloc, entries) {
@@ -127,31 +125,31 @@ pub fn link<'r, 'a>(alloc: Global, entries: &'r Entries<'a>) -> Result<Links<'r,
 impl<'a> Links<'_, 'a> {
     /// The target of an entry's attribute. None if the attribute is absent or no reference.
     pub fn target(&self, id: EntryId, attribute: Attribute) -> Option<EntryId>
-        requires { id < length (all_entries self.now.entries.now.scanned) }
-        ensures exact { IfSome (slice_get (all_entries self.now.entries.now.scanned) id)
-            (λ e. result ≡ target_of (all_entries self.now.entries.now.scanned) (all_units self.now.entries.now.scanned)
+        requires { id < length (all_entries self.now.entries.now) }
+        ensures exact { IfSome (slice_get (all_entries self.now.entries.now) id)
+            (λ e. result ≡ target_of (all_entries self.now.entries.now) (all_units self.now.entries.now)
             e attribute) }
-        ensures within { IfSome result (λ t. t < length (all_entries self.now.entries.now.scanned)) }
+        ensures within { IfSome result (λ t. t < length (all_entries self.now.entries.now)) }
     {
         self.tables.target(self.entries, id, attribute)
     }
 
     /// The text of an entry's attribute. None if the attribute is absent or no string.
     pub fn text(&self, id: EntryId, attribute: Attribute) -> Option<&'a [u8]>
-        requires { id < length (all_entries self.now.entries.now.scanned) }
-        ensures { IfSome (slice_get (all_entries self.now.entries.now.scanned) id)
+        requires { id < length (all_entries self.now.entries.now) }
+        ensures { IfSome (slice_get (all_entries self.now.entries.now) id)
             (λ e. option_copied result ≡ text_at (sections_of self.now.entries.now)
-            (all_entries self.now.entries.now.scanned) (all_units self.now.entries.now.scanned) e attribute) }
+            (all_entries self.now.entries.now) (all_units self.now.entries.now) e attribute) }
     {
         self.tables.text(self.entries, id, attribute)
     }
 
     /// The address of an entry's attribute. None if the attribute is absent or no address.
     pub fn address(&self, id: EntryId, attribute: Attribute) -> Option<u64>
-        requires { id < length (all_entries self.now.entries.now.scanned) }
-        ensures { IfSome (slice_get (all_entries self.now.entries.now.scanned) id)
-            (λ e. result ≡ address_at (sections_of self.now.entries.now) (all_entries self.now.entries.now.scanned)
-            (all_units self.now.entries.now.scanned) e attribute) }
+        requires { id < length (all_entries self.now.entries.now) }
+        ensures { IfSome (slice_get (all_entries self.now.entries.now) id)
+            (λ e. result ≡ address_at (sections_of self.now.entries.now) (all_entries self.now.entries.now)
+            (all_units self.now.entries.now) e attribute) }
     {
         self.tables.address(self.entries, id, attribute)
     }

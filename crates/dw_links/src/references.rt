@@ -9,7 +9,7 @@ ghost use Rattle.dw_links.specs.DeclaredEntries.{KeepsDeclared};
 ghost use Rattle.dw_links.specs.Linkable.{entries_in, entry_after, FailsByTarget, target_by, IsLinkable, MayAsk};
 ghost use Rattle.dw_links.specs.References.{is_reference_value, HasType, TypeUnitFails, AtHeader, HeaderFailures};
 ghost use Rattle.dw_entries.specs.Entries.{PlacedUnit};
-ghost use Rattle.dw_entries.specs.Scanned.{all_entries, all_units, units_of};
+ghost use Rattle.dw_entries.specs.Views.{all_entries, all_units, units_of};
 ghost use Rattle.dw_entries.specs.Runs.{ReachesInUnit};
 ghost use Rattle.dw_entries.specs.Stopped.{IfPlainFault};
 ghost use Rattle.dw_links.specs.Signatures.{HasSignature};
@@ -29,13 +29,12 @@ use std::collections::BTreeMap;
 
 /// The type that begins so far after the first byte of a unit's header.
 fn find_type(entries: &Entries<'_>, number: usize, type_offset: u32) -> Option<EntryId>
-    requires { number < length (units_of entries.now.scanned) }
-    ensures found { IfSome result
-        (ReachesInUnit (all_entries entries.now.scanned) (all_units entries.now.scanned) number type_offset) }
-    ensures some { IfSome result (λ _. (p : PlacedUnit) → slice_get (all_units entries.now.scanned) number ≡ Some p
-        → HasType (all_entries entries.now.scanned) number (p.at + type_offset)) }
-    ensures none { IfNone result ((p : PlacedUnit) → slice_get (all_units entries.now.scanned) number ≡ Some p
-        → HasType (all_entries entries.now.scanned) number (p.at + type_offset) → ⊥) }
+    requires { number < length (units_of entries.now) }
+    ensures found { IfSome result (ReachesInUnit (all_entries entries.now) (all_units entries.now) number type_offset) }
+    ensures some { IfSome result (λ _. (p : PlacedUnit) → slice_get (all_units entries.now) number ≡ Some p
+        → HasType (all_entries entries.now) number (p.at + type_offset)) }
+    ensures none { IfNone result ((p : PlacedUnit) → slice_get (all_units entries.now) number ≡ Some p
+        → HasType (all_entries entries.now) number (p.at + type_offset) → ⊥) }
 {
     let Some(id) = entries.find_in_unit(number, type_offset as u64) else {
         return None;
@@ -54,17 +53,15 @@ fn check_type(
     signature: u64,
     type_offset: u32,
 ) -> Result<EntryId, Rule>
-    requires within { number < length (units_of entries.now.scanned) }
-    requires has { HasSignature (all_units entries.now.scanned) signature number }
-    requires before { AreSignedBelow (all_entries entries.now.scanned) (all_units entries.now.scanned) number
-        signatures.now }
-    ensures found { IfOk result
-        (ReachesInUnit (all_entries entries.now.scanned) (all_units entries.now.scanned) number type_offset) }
-    ensures ok { OnOk result ((p : PlacedUnit) → slice_get (all_units entries.now.scanned) number ≡ Some p
-        → IsLeast (TypeUnitFails (all_entries entries.now.scanned) (all_units entries.now.scanned) number p.at signature
+    requires within { number < length (units_of entries.now) }
+    requires has { HasSignature (all_units entries.now) signature number }
+    requires before { AreSignedBelow (all_entries entries.now) (all_units entries.now) number signatures.now }
+    ensures found { IfOk result (ReachesInUnit (all_entries entries.now) (all_units entries.now) number type_offset) }
+    ensures ok { OnOk result ((p : PlacedUnit) → slice_get (all_units entries.now) number ≡ Some p
+        → IsLeast (TypeUnitFails (all_entries entries.now) (all_units entries.now) number p.at signature
         type_offset) None) }
-    ensures err { IfErr result (λ rule. (p : PlacedUnit) → slice_get (all_units entries.now.scanned) number ≡ Some p
-        → IsLeast (TypeUnitFails (all_entries entries.now.scanned) (all_units entries.now.scanned) number p.at signature
+    ensures err { IfErr result (λ rule. (p : PlacedUnit) → slice_get (all_units entries.now) number ≡ Some p
+        → IsLeast (TypeUnitFails (all_entries entries.now) (all_units entries.now) number p.at signature
         type_offset) (Some rule)) }
 {
     if signatures.contains_key(&signature) {
@@ -83,16 +80,15 @@ fn add_type(
     signatures: &mut BTreeMap<u64, EntryId>,
     number: usize,
 ) -> Result<(), Stop<Fault>>
-    requires within { number < length (units_of entries.now.scanned) }
-    requires before { AreSignedBelow (all_entries entries.now.scanned) (all_units entries.now.scanned) number
-        signatures.old }
-    ensures added { OnOk result (AreSignedBelow (all_entries entries.now.scanned) (all_units entries.now.scanned)
+    requires within { number < length (units_of entries.now) }
+    requires before { AreSignedBelow (all_entries entries.now) (all_units entries.now) number signatures.old }
+    ensures added { OnOk result (AreSignedBelow (all_entries entries.now) (all_units entries.now)
         (number + 1) signatures.new) }
-    ensures ok { OnOk result ((p : PlacedUnit) → slice_get (all_units entries.now.scanned) number ≡ Some p
-        → HasNone (AtHeader (all_entries entries.now.scanned) (all_units entries.now.scanned) number p)) }
+    ensures ok { OnOk result ((p : PlacedUnit) → slice_get (all_units entries.now) number ≡ Some p
+        → HasNone (AtHeader (all_entries entries.now) (all_units entries.now) number p)) }
     ensures fault { IfErr result (IfPlainFault
-        (λ broken. (p : PlacedUnit) → slice_get (all_units entries.now.scanned) number ≡ Some p
-        → IsFirst (AtHeader (all_entries entries.now.scanned) (all_units entries.now.scanned) number p) broken)) }
+        (λ broken. (p : PlacedUnit) → slice_get (all_units entries.now) number ≡ Some p
+        → IsFirst (AtHeader (all_entries entries.now) (all_units entries.now) number p) broken)) }
 {
     let unit = entries.unit(number);
     let HeaderKind::TypeUnit {
@@ -126,10 +122,9 @@ pub fn read_signatures(
 ) -> Result<BTreeMap<u64, EntryId>, Stop<Fault>>
     ensures types { IfOk result (HasSignedTypes entries.now) }
     ensures typed { OnOk result (AreTyped entries.now) }
-    ensures ok { OnOk result
-        (HasNone (HeaderFailures (all_entries entries.now.scanned) (all_units entries.now.scanned))) }
+    ensures ok { OnOk result (HasNone (HeaderFailures (all_entries entries.now) (all_units entries.now))) }
     ensures fault { IfErr result
-        (IfPlainFault (IsFirst (HeaderFailures (all_entries entries.now.scanned) (all_units entries.now.scanned)))) }
+        (IfPlainFault (IsFirst (HeaderFailures (all_entries entries.now) (all_units entries.now)))) }
 {
     let mut signatures: BTreeMap<u64, EntryId> = BTreeMap::new(alloc);
     for number in 0..entries.unit_count() {

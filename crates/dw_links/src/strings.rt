@@ -4,8 +4,7 @@
 ghost use Rattle.std.specs.Prelude.{◌≡◌, ◌<◌, length, OnOk, IfErr};
 ghost use Rattle.dw_forms.specs.Value.{view};
 ghost use Rattle.dw_entries.specs.Failures.{HasNone, IsFirst, IsLeast, IsPlainFault};
-ghost use Rattle.dw_entries.specs.Scanned.{units_of};
-ghost use Rattle.dw_entries.specs.Views.{sections_of};
+ghost use Rattle.dw_entries.specs.Views.{sections_of, units_of};
 ghost use Rattle.dw_entries.specs.declared.entries.Entries.{Entries};
 ghost use Rattle.dw_links.specs.Contributions.{IsEndOfStrings};
 ghost use Rattle.dw_links.specs.Strings.{OffsetFails, BaseFails, StringIndexFails, AddressIndexFails, StringFailures};
@@ -145,7 +144,7 @@ pub fn read_texts<'a>(
 ) -> UnitTexts<'a>
     requires str_end { IsEndOfStrings (sections_of entries.now).str.now str_end }
     requires line_str_end { IsEndOfStrings (sections_of entries.now).line_str.now line_str_end }
-    requires number { number < length (units_of entries.now.scanned) }
+    requires number { number < length (units_of entries.now) }
     ensures texts { AreTexts entries.now result }
     ensures unit { result.unit ≡ number }
 {
@@ -169,7 +168,7 @@ pub fn read_texts<'a>(
 
 /// Keeps what was read of a unit, or reads it of the next, if that is another.
 pub fn keep_texts<'a>(texts: &mut UnitTexts<'a>, entries: &Entries<'a>, next: usize)
-    requires next { next < length (units_of entries.now.scanned) }
+    requires next { next < length (units_of entries.now) }
     requires texts { AreTexts entries.now texts.old }
     ensures texts { AreTexts entries.now texts.new }
     ensures unit { texts.new.unit ≡ next }
@@ -202,9 +201,9 @@ fn check_entry(texts: &UnitTexts<'_>, entry: &EntryAt<'_, '_>) -> Result<(), Bro
 /// `BadStrBase`, `StrIndex`, `StringEnd`, `BadAddrBase` and `AddrIndex` at the entry's offset. It allocates nothing, so
 /// it does not run out of memory.
 pub fn check_strings(alloc: Global, entries: &Entries<'_>) -> Result<(), Fault>
-    ensures ok { OnOk result (HasNone (StringFailures (sections_of entries.now) (units_of entries.now.scanned))) }
+    ensures ok { OnOk result (HasNone (StringFailures (sections_of entries.now) (units_of entries.now))) }
     ensures fault { IfErr result
-        (IsPlainFault (IsFirst (StringFailures (sections_of entries.now) (units_of entries.now.scanned)))) }
+        (IsPlainFault (IsFirst (StringFailures (sections_of entries.now) (units_of entries.now)))) }
 {
     if entries.unit_count() == 0 {
         return Ok(());

@@ -3,7 +3,7 @@
 
 ghost use Rattle.std.specs.Prelude.{◌≡◌, ◌<◌, length, slice_get, IfSome, Some};
 ghost use Rattle.dw_forms.specs.Value.{view};
-ghost use Rattle.dw_entries.specs.Scanned.{all_entries, all_units, units_of};
+ghost use Rattle.dw_entries.specs.Views.{all_entries, all_units, units_of};
 ghost use Rattle.dw_entries.specs.Entries.{Entry};
 ghost use Rattle.dw_links.specs.References.{is_declared, is_signed, is_signature, is_reference_value, permits};
 ghost use Rattle.dw_links.specs.References.{permits_form};
@@ -19,8 +19,8 @@ use std::collections::BTreeMap;
 /// The entry that begins so far after the first byte of a unit's header.
 #[inline(always)]
 pub(crate) fn entry_from_header(entries: &Entries<'_>, unit: usize, offset: u64) -> Option<EntryId>
-    requires { unit < length (units_of entries.now.scanned) }
-    ensures { result ≡ reach_in_unit (all_entries entries.now.scanned) (all_units entries.now.scanned) unit offset }
+    requires { unit < length (units_of entries.now) }
+    ensures { result ≡ reach_in_unit (all_entries entries.now) (all_units entries.now) unit offset }
 {
     entries.find_in_unit(unit, offset)
 }
@@ -32,7 +32,7 @@ fn type_by_signature(
     signature: u64,
 ) -> Option<EntryId>
     requires { HasSignedTypes entries.now signatures.now }
-    ensures { result ≡ signed_type (all_entries entries.now.scanned) (all_units entries.now.scanned) signature }
+    ensures { result ≡ signed_type (all_entries entries.now) (all_units entries.now) signature }
 {
     let id = signatures.get(&signature)?;
     Some(*id)
@@ -46,10 +46,9 @@ pub fn reach(
     unit: usize,
     value: &Value<'_>,
 ) -> Option<EntryId>
-    requires unit { unit < length (units_of entries.now.scanned) }
+    requires unit { unit < length (units_of entries.now) }
     requires signatures { HasSignedTypes entries.now signatures.now }
-    ensures { result ≡ reach_of (all_entries entries.now.scanned) (all_units entries.now.scanned) unit
-        (view value.now) }
+    ensures { result ≡ reach_of (all_entries entries.now) (all_units entries.now) unit (view value.now) }
 {
     match *value {
         Value::RefInfo(offset) => entries.find(offset),
@@ -66,11 +65,11 @@ pub(crate) fn find_target(
     id: EntryId,
     attribute: Attribute,
 ) -> Option<EntryId>
-    requires id { id < length (all_entries entries.now.scanned) }
+    requires id { id < length (all_entries entries.now) }
     requires signatures { HasSignedTypes entries.now signatures.now }
-    ensures exact { IfSome (slice_get (all_entries entries.now.scanned) id)
-        (λ e. result ≡ target_of (all_entries entries.now.scanned) (all_units entries.now.scanned) e attribute) }
-    ensures within { IfSome result (λ t. t < length (all_entries entries.now.scanned)) }
+    ensures exact { IfSome (slice_get (all_entries entries.now) id)
+        (λ e. result ≡ target_of (all_entries entries.now) (all_units entries.now) e attribute) }
+    ensures within { IfSome result (λ t. t < length (all_entries entries.now)) }
 {
     let value = entries.value(id, attribute)?;
     reach(entries, signatures, entries.unit_of(id), &value)
@@ -78,8 +77,8 @@ pub(crate) fn find_target(
 
 /// Whether DW_AT_declaration of an entry is true.
 fn read_declared(entries: &Entries<'_>, id: EntryId) -> bool
-    requires { id < length (all_entries entries.now.scanned) }
-    ensures { IfSome (slice_get (all_entries entries.now.scanned) id) (λ e. result ≡ is_declared e) }
+    requires { id < length (all_entries entries.now) }
+    ensures { IfSome (slice_get (all_entries entries.now) id) (λ e. result ≡ is_declared e) }
 {
     matches!(
         entries.value(id, DW_AT_declaration),
@@ -90,9 +89,9 @@ fn read_declared(entries: &Entries<'_>, id: EntryId) -> bool
 /// Whether an entry is declared and not defined. `declared` has this of each entry that was read before, and None of
 /// the others: an entry is read when this is first needed, and the result is kept.
 fn is_declaration(entries: &Entries<'_>, declared: &mut [Option<bool>], id: EntryId) -> bool
-    requires id { id < length (all_entries entries.now.scanned) }
+    requires id { id < length (all_entries entries.now) }
     requires kept { KeepsDeclared entries.now declared.old }
-    ensures exact { IfSome (slice_get (all_entries entries.now.scanned) id) (λ e. result ≡ is_declared e) }
+    ensures exact { IfSome (slice_get (all_entries entries.now) id) (λ e. result ≡ is_declared e) }
     ensures kept { KeepsDeclared entries.now declared.new }
 {
     match declared[id.number()] {
@@ -147,8 +146,8 @@ pub fn is_permitted_form(head: &EntryHead, attribute: Attribute, value: &Value<'
 /// An entry, sooner if it is one of the unit at hand.
 #[inline(always)]
 fn entry_at<'e, 'a>(cursor: &Cursor<'e, 'a>, id: EntryId) -> EntryAt<'e, 'a>
-    requires { id < length (all_entries cursor.now.entries.now.scanned) }
-    ensures { result ≡ slice_get (all_entries cursor.now.entries.now.scanned) id }
+    requires { id < length (all_entries cursor.now.entries.now) }
+    ensures { result ≡ slice_get (all_entries cursor.now.entries.now) id }
 {
     match cursor.beside(id) {
         Some(entry) => entry,
@@ -166,10 +165,10 @@ pub fn is_permitted(
     attribute: Attribute,
     id: EntryId,
 ) -> bool
-    requires id { id < length (all_entries cursor.now.entries.now.scanned) }
+    requires id { id < length (all_entries cursor.now.entries.now) }
     requires kept { KeepsDeclared cursor.now.entries.now declared.old }
     ensures kept { KeepsDeclared cursor.now.entries.now declared.new }
-    ensures exact { (target : Entry) → slice_get (all_entries cursor.now.entries.now.scanned) id ≡ Some target
+    ensures exact { (target : Entry) → slice_get (all_entries cursor.now.entries.now) id ≡ Some target
         → result ≡ permits head.now attribute target }
 {
     let target = entry_at(cursor, id);

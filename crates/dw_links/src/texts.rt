@@ -4,8 +4,7 @@ ghost use Rattle.std.specs.Prelude.{◌≡◌, ◌+◌, ◌*◌, ◌<◌, ◌≤
 ghost use Rattle.std.specs.Prelude.{option_map, option_and_then};
 ghost use Rattle.dw_forms.specs.Value.{view};
 ghost use Rattle.dw_entries.specs.Lookups.{value_at_entry};
-ghost use Rattle.dw_entries.specs.Scanned.{all_entries, all_units, units_of};
-ghost use Rattle.dw_entries.specs.Views.{sections_of};
+ghost use Rattle.dw_entries.specs.Views.{sections_of, all_entries, all_units, units_of};
 ghost use Rattle.dw_entries.specs.Failures.{HasNone};
 ghost use Rattle.dw_links.specs.Contributions.{string_at, slot_at};
 ghost use Rattle.dw_links.specs.Slots.{IsPlace, AddressLies, TextLies};
@@ -77,8 +76,8 @@ fn place_of_value(
     base: Option<u32>,
     value: Value<'_>,
 ) -> Option<TextPlace>
-    requires id { id < length (all_entries entries.now.scanned) }
-    requires value { IfSome (slice_get (all_entries entries.now.scanned) id)
+    requires id { id < length (all_entries entries.now) }
+    requires value { IfSome (slice_get (all_entries entries.now) id)
         (λ e. value_at_entry e attribute ≡ Some (view value)) }
     requires lies { TextLies (sections_of entries.now) base (view value) }
     ensures text { option_map (text_there (sections_of entries.now)) result
@@ -119,8 +118,8 @@ fn address_of_value(
 
 /// The base of an entry's unit, among those of all units.
 fn base_of(bases: &[Option<u32>], entries: &Entries<'_>, id: EntryId) -> Option<u32>
-    requires { id < length (all_entries entries.now.scanned) }
-    ensures { IfSome (slice_get (all_entries entries.now.scanned) id)
+    requires { id < length (all_entries entries.now) }
+    ensures { IfSome (slice_get (all_entries entries.now) id)
         (λ e. result ≡ option_and_then (λ base. base) (slice_get bases.now e.unit)) }
 {
     *bases.get(entries.unit_of(id))?
@@ -134,12 +133,12 @@ impl LinkTables {
         id: EntryId,
         attribute: Attribute,
     ) -> Option<TextPlace>
-        requires id { id < length (all_entries entries.now.scanned) }
+        requires id { id < length (all_entries entries.now) }
         requires tables { AreTables entries.now self.now }
-        requires strings { HasNone (StringFailures (sections_of entries.now) (units_of entries.now.scanned)) }
-        ensures text { IfSome (slice_get (all_entries entries.now.scanned) id)
+        requires strings { HasNone (StringFailures (sections_of entries.now) (units_of entries.now)) }
+        ensures text { IfSome (slice_get (all_entries entries.now) id)
             (λ e. option_map (text_there (sections_of entries.now)) result ≡ text_at (sections_of entries.now)
-            (all_entries entries.now.scanned) (all_units entries.now.scanned) e attribute) }
+            (all_entries entries.now) (all_units entries.now) e attribute) }
         ensures within { IfSome result (IsPlace (sections_of entries.now)) }
     {
         let value = entries.value(id, attribute)?;
@@ -154,12 +153,12 @@ impl LinkTables {
         id: EntryId,
         attribute: Attribute,
     ) -> Option<&'a [u8]>
-        requires id { id < length (all_entries entries.now.scanned) }
+        requires id { id < length (all_entries entries.now) }
         requires tables { AreTables entries.now self.now }
-        requires strings { HasNone (StringFailures (sections_of entries.now) (units_of entries.now.scanned)) }
-        ensures { IfSome (slice_get (all_entries entries.now.scanned) id)
-            (λ e. option_copied result ≡ text_at (sections_of entries.now) (all_entries entries.now.scanned)
-            (all_units entries.now.scanned) e attribute) }
+        requires strings { HasNone (StringFailures (sections_of entries.now) (units_of entries.now)) }
+        ensures { IfSome (slice_get (all_entries entries.now) id)
+            (λ e. option_copied result ≡ text_at (sections_of entries.now) (all_entries entries.now)
+            (all_units entries.now) e attribute) }
     {
         let place = self.text_place(entries, id, attribute)?;
         Some(place.text(entries.sections()))
@@ -167,12 +166,12 @@ impl LinkTables {
 
     /// The address of an entry's attribute. None if the attribute is absent or no address.
     pub fn address(&self, entries: &Entries<'_>, id: EntryId, attribute: Attribute) -> Option<u64>
-        requires id { id < length (all_entries entries.now.scanned) }
+        requires id { id < length (all_entries entries.now) }
         requires tables { AreTables entries.now self.now }
-        requires strings { HasNone (StringFailures (sections_of entries.now) (units_of entries.now.scanned)) }
-        ensures { IfSome (slice_get (all_entries entries.now.scanned) id)
-            (λ e. result ≡ address_at (sections_of entries.now) (all_entries entries.now.scanned)
-            (all_units entries.now.scanned) e attribute) }
+        requires strings { HasNone (StringFailures (sections_of entries.now) (units_of entries.now)) }
+        ensures { IfSome (slice_get (all_entries entries.now) id)
+            (λ e. result ≡ address_at (sections_of entries.now) (all_entries entries.now)
+            (all_units entries.now) e attribute) }
     {
         let value = entries.value(id, attribute)?;
         let header = entries.unit(entries.unit_of(id)).header;

@@ -9,8 +9,9 @@ use Rattle.dw_entries.specs.Header.{header_size}
 use Rattle.dw_entries.specs.Tree.{Node, Nodes, leaf, parent, none, ◌then◌, node_bytes}
 use Rattle.dw_entries.specs.Units.{DebugUnit, unit_bytes}
 use Rattle.dw_entries.specs.Entries.{Entry, node_count, nodes_count, first_id, node_entries, nodes_entries, entries_from, entries_of}
+use Rattle.dw_types.specs.Entries.{is_parent}
 use Rattle.dw_entries.proofs.EntryFacts.{length-nodes_entries}
-use Rattle.dw_types.specs.Children.{is_number, children_from, siblings_from, IsChild}
+use Rattle.dw_types.specs.Children.{children_from, siblings_from, IsChild}
 
 -- ---- children among joined entries
 
@@ -22,7 +23,7 @@ children_from-append : (es fs : List Entry) (p k : ℕ) → children_from (es ++
 children_from-append [] fs p k = ap (children_from fs p) (let e : k ≡ k + 0 = omega arith in e)
 children_from-append (e ∷ es) fs p k =
     let at : suc k + length es ≡ k + suc (length es) = omega arith in
-    join_if (is_number p e.parent) k (children_from es p (suc k)) (children_from fs p (k + suc (length es))) (children_from (es ++ fs) p (suc k))
+    join_if (is_parent e.parent p) k (children_from es p (suc k)) (children_from fs p (k + suc (length es))) (children_from (es ++ fs) p (suc k))
     (children_from-append es fs p (suc k) ∙ ap (λ n. children_from es p (suc k) ++ children_from fs p n) at)
 
 -- none of the joined entries is a child
@@ -30,10 +31,10 @@ no_children-append : (es fs : List Entry) (p k : ℕ) → children_from es p k �
 no_children-append es fs p k x y = children_from-append es fs p k ∙ ap (λ xs. xs ++ children_from fs p (k + length es)) x ∙ y
 
 -- an entry that is no child
-skip_one : (e : Entry) (es : List Entry) (p k : ℕ) → is_number p e.parent ≡ false → children_from (e ∷ es) p k ≡ children_from es p (suc k)
+skip_one : (e : Entry) (es : List Entry) (p k : ℕ) → is_parent e.parent p ≡ false → children_from (e ∷ es) p k ≡ children_from es p (suc k)
 skip_one e es p k isnt = rw isnt refl
 
-take_one : (e : Entry) (es : List Entry) (p k : ℕ) → is_number p e.parent ≡ true → children_from (e ∷ es) p k ≡ k ∷ children_from es p (suc k)
+take_one : (e : Entry) (es : List Entry) (p k : ℕ) → is_parent e.parent p ≡ true → children_from (e ∷ es) p k ≡ k ∷ children_from es p (suc k)
 take_one e es p k is = rw is refl
 
 differs : (p q : ℕ) → p < q → (q == p) ≡ false
@@ -45,7 +46,7 @@ equals p = eq-eqb p p refl
 -- ---- entries of a node are children of its parent or of one another
 
 mutual
-  node_none : (p k unit : ℕ) (above : Option ℕ) (depth : ℕ) (next : Option ℕ) (id at : ℕ) (n : Node) → p < id → is_number p above ≡ false
+  node_none : (p k unit : ℕ) (above : Option ℕ) (depth : ℕ) (next : Option ℕ) (id at : ℕ) (n : Node) → p < id → is_parent above p ≡ false
       → children_from (node_entries unit above depth next id at n) p k ≡ []
   node_none p k unit above depth next id at (leaf h) lt isnt = rw isnt refl
   node_none p k unit above depth next id at (parent h ns z) lt isnt =
@@ -89,7 +90,7 @@ After k es (Some p) (Some m) = IsNext k es p m
 -- the entries behind the one with this number: where the first is no child, none is
 abbrev First : ℕ → List Entry → Type 0
 First id [] = Unit {0}
-First id (e ∷ es) = is_number id e.parent ≡ false → children_from (e ∷ es) id (suc id) ≡ []
+First id (e ∷ es) = is_parent e.parent id ≡ false → children_from (e ∷ es) id (suc id) ≡ []
 
 -- a parent stands before its children
 abbrev Below : ℕ → Option ℕ → Type 0
@@ -249,7 +250,7 @@ next_of_child us p m e there is =
     let es : List Entry = entries_of us in
     let after : After (suc m) (drop (suc m) es) (Some p) e.next = subst (λ above. After (suc m) (drop (suc m) es) above e.next) is (link-at us m e there).after in
     let on = goes_on es p m e.next after in
-    let child : is_number p e.parent ≡ true = ap (is_number p) is ∙ equals p in
+    let child : is_parent e.parent p ≡ true = ap (λ (above : Option ℕ). is_parent above p) is ∙ equals p in
     record {
       left = ap (λ xs. children_from xs p m) (drop_get es m e there) ∙ take_one e (drop (suc m) es) p m child ∙ ap (λ xs. m ∷ xs) on.left;
       linked = on.linked;
@@ -264,7 +265,7 @@ skip_before p (suc n) k (e ∷ es) chained le =
     ∙ skip_before p n (suc k) es chained.1 (omega (arith, le))
     ∙ ap (children_from (drop n es) p) (let z : suc k + n ≡ k + suc n = omega arith in z)
   where
-    not_yet : (above : Option ℕ) → Below k above → is_number p above ≡ false
+    not_yet : (above : Option ℕ) → Below k above → is_parent above p ≡ false
     not_yet None below = refl
     not_yet (Some q) below = ne_eqb q p (λ e. omega (arith, below, le, e))
 
@@ -273,7 +274,7 @@ children_behind us id =
     skip_before id (suc id) 0 (entries_of us) (units_chained 0 0 0 us) (omega arith) ∙ ap (children_from (drop (suc id) (entries_of us)) id) (let z : 0 + suc id ≡ suc id = omega arith in z)
 
 -- the entry behind is no child: there is none
-pub no_first : (us : List DebugUnit) (id : ℕ) (e d : Entry) → slice_get (entries_of us) id ≡ Some e → slice_get (entries_of us) (suc id) ≡ Some d → is_number id d.parent ≡ false
+pub no_first : (us : List DebugUnit) (id : ℕ) (e d : Entry) → slice_get (entries_of us) id ≡ Some e → slice_get (entries_of us) (suc id) ≡ Some d → is_parent d.parent id ≡ false
     → children_from (entries_of us) id 0 ≡ []
 no_first us id e d there behind isnt =
     let es : List Entry = entries_of us in

@@ -7,7 +7,7 @@ use Rattle.std.specs.List.{filter, range_with_len}
 use Rattle.dw_entries.specs.Tree.{◌then◌}
 use Rattle.dw_entries.specs.Units.{DebugUnit}
 use Rattle.dw_entries.specs.Entries.{Entry, entries_of, placed}
-use Rattle.dw_types.specs.Children.{is_number, children_from, children_of, siblings_from, IsChild, rest_of_children, IsChildOf}
+use Rattle.dw_types.specs.Children.{children_from, children_of, siblings_from, IsChild, rest_of_children, IsChildOf}
 use Rattle.dw_types.proofs.ChildLemmas.{get-drop, linked_there, next_of_child, no_first, none_behind, first_behind, Steps}
 use Rattle.dw_types.specs.Entries.{entry_of, is_parent, is_child, children, Facts}
 use Rattle.dw_types.specs.FactsOf.{facts_in}
@@ -49,7 +49,7 @@ linked_of_behind us id k above lt says is = search (rules, slice_get_none, linke
 
 -- the entry behind is no child, or there is none
 pub none_of_behind : (us : List DebugUnit) (id k : ℕ) (above : Option ℕ) → k ≡ id + 1 → id < length (entries_of us) → k < length (entries_of us) → IfSome (slice_get (entries_of us) k) (λ e. above ≡ e.parent)
-    → is_number id above ≡ false → children_of (entries_of us) id ≡ []
+    → is_parent above id ≡ false → children_of (entries_of us) id ≡ []
 unfolding children_of
 none_of_behind us id k above is here lt says isnt = search (rules, slice_get_none, no_first)
 
@@ -75,9 +75,9 @@ children-here facts p k (e ∷ es) are =
     let first : k ≡ k + 0 = omega arith in
     let next : k + 1 ≡ suc k = omega arith in
     let above : (entry_of facts k).parent ≡ e.parent = ap (λ (n : ℕ). (entry_of facts n).parent) first ∙ are 0 e refl in
-    let test : is_child facts p k ≡ is_number p e.parent = ap (λ (o : Option ℕ). is_parent o p) above in
+    let test : is_child facts p k ≡ is_parent e.parent p = ap (λ (o : Option ℕ). is_parent o p) above in
     let more : filter (is_child facts p) (range_with_len (k + 1) (length es)) ≡ children_from es p (suc k) = children-here facts p (k + 1) es (rest-are facts k e es are) ∙ ap (children_from es p) next in
-    rw test (ap (λ (rest : List ℕ). if is_number p e.parent then k ∷ rest else rest) more)
+    rw test (ap (λ (rest : List ℕ). if is_parent e.parent p then k ∷ rest else rest) more)
 
 module _ (us : List DebugUnit) where
   facts-from : (m : ℕ) → AreFactsFrom (facts_in us) m (drop m (entries_of us))

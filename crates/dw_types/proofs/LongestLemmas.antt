@@ -6,11 +6,11 @@ use Rattle.std.proofs.lemmas.List.{get_or_default}
 use Rattle.dw_types.proofs.ListLemmas.{at_set}
 use Rattle.dw_types.specs.Cycles.{AreClear, Leads, IsOnCycle, ReachesCycle}
 use Rattle.dw_types.specs.Graphs.{Graph, steps_of, step_at}
-use Rattle.dw_types.specs.LongestRows.{HasRow, IsLongest, AreLongest, IsAbove}
+use Rattle.dw_types.specs.LongestRows.{HasRow, IsLongest, AreLongest, IsOneMore}
 
 -- a node by the nodes that its steps lead to
 module _ (graph : Graph) (counts : List ℕ) (node : ℕ) where
-  pub longest-above : (count : ℕ) → IsAbove graph counts node count
+  pub longest-above : (count : ℕ) → IsOneMore graph counts node count
       → ((k : ℕ) → k < length (steps_of graph node) → IsLongest graph (step_at graph node k) (get_or counts (step_at graph node k) 0))
       → IsLongest graph node count
   longest-above count above known = record { has_row = has_row above.tight; none_longer = bound }
@@ -50,7 +50,7 @@ module _ (graph : Graph) (clear : List ℕ) (h : AreClear graph clear) (counts :
   in-counts long below = search (rules)
 
   pub known-more : (count : ℕ) → length counts ≡ length graph → place < length clear → KnownUpTo graph clear counts place
-      → IsAbove graph counts (get_or clear place 0) count → KnownUpTo graph clear (set counts (get_or clear place 0) count) (place + 1)
+      → IsOneMore graph counts (get_or clear place 0) count → KnownUpTo graph clear (set counts (get_or clear place 0) count) (place + 1)
   known-more count long below known above k within = elim (cases_eq (get_or clear k 0) node) [
     | inl same ↦
         let P : ℕ → Type 0 = λ n. IsLongest graph n (get_or (set counts node count) n 0) in
@@ -65,7 +65,7 @@ module _ (graph : Graph) (clear : List ℕ) (h : AreClear graph clear) (counts :
   few-above node count few (inl e) = omega arith
   few-above node count few (inr (k, within, e)) = omega (arith, few (step_at graph node k), e)
 
-  pub few-more : (count : ℕ) → length counts ≡ length graph → place < length clear → AreFew counts place → IsAbove graph counts (get_or clear place 0) count
+  pub few-more : (count : ℕ) → length counts ≡ length graph → place < length clear → AreFew counts place → IsOneMore graph counts (get_or clear place 0) count
       → AreFew (set counts (get_or clear place 0) count) (place + 1)
   few-more count long below few above n = elim (at_set counts (get_or clear place 0) n count 0 (in-counts long below)) [
     | inl same ↦ omega (arith, same.1, few-above (get_or clear place 0) count few above.tight)

@@ -6,15 +6,11 @@ use Rattle.std.specs.List.{range_with_len}
 use Rattle.dw_entries.specs.Entries.{Entry}
 use Rattle.dw_types.specs.Entries.{entry_of, is_child, is_parent, Facts}
 
--- whether a parent is the entry with this number
-abbrev pub is_number : ℕ → Option ℕ → Bool
-is_number id above = is_parent above id
-
 -- the numbers of those of these entries, numbered from k on, whose parent is the entry with this number
 abbrev pub children_from : List Entry → ℕ → ℕ → List ℕ
 children_from [] id k = []
 children_from (e ∷ es) id k =
-    if is_number id e.parent then k ∷ children_from es id (suc k) else children_from es id (suc k)
+    if is_parent e.parent id then k ∷ children_from es id (suc k) else children_from es id (suc k)
 
 -- the numbers of an entry's children, in rising offset (DWARF 5, 2.3)
 unfoldable pub children_of : List Entry → ℕ → List ℕ

@@ -17,7 +17,7 @@ abbrev pub AreLongest : Graph → List ℕ → (ℕ → ℕ) → Type 0
 AreLongest graph nodes counts = (node : ℕ) → Contains nodes node → IsLongest graph node (counts node)
 
 -- one more than the largest count at the steps of a node, and 0 if it has none
-pub record IsAbove (graph : Graph) (counts : List ℕ) (node count : ℕ) : Type 0 where
+pub record IsOneMore (graph : Graph) (counts : List ℕ) (node count : ℕ) : Type 0 where
   pub above : (k : ℕ) → k < length (steps_of graph node) → slice_index counts (step_at graph node k) < count
   pub tight : (count ≡ 0)
       ⊎ ((k : ℕ) × (k < length (steps_of graph node)) × (count ≡ slice_index counts (step_at graph node k) + 1))

@@ -3,7 +3,7 @@
 
 ghost use Rattle.std.specs.Prelude.{◌≡◌, ◌≤◌, ◌^◌, ◌<◌, length, option_map, slice_get, IfSome};
 ghost use Rattle.dw_forms.specs.Value.{view};
-ghost use Rattle.dw_entries.specs.Scanned.{all_entries, units_of};
+ghost use Rattle.dw_entries.specs.Views.{all_entries, units_of};
 ghost use Rattle.dw_types.specs.Entries.{entry_of};
 ghost use Rattle.dw_types.specs.Counts.{count_at, count_from, count_of, is_array_tag, is_dimension, is_subrange_tag};
 ghost use Rattle.dw_types.specs.Counts.{known_natural, lower_of, reads_bounds, upper_of};
@@ -208,8 +208,8 @@ impl FactsAt<'_, '_> {
 
 /// Whether the parent of an entry, if it has one, is an array.
 fn is_in_array(entries: &Entries<'_>, parent: Option<EntryId>) -> bool
-    requires { IfSome parent (λ node. node < length (all_entries entries.now.scanned)) }
-    ensures { result ≡ is_dimensions (role_in (facts_in (units_of entries.now.scanned)) parent) }
+    requires { IfSome parent (λ node. node < length (all_entries entries.now)) }
+    ensures { result ≡ is_dimensions (role_in (facts_in (units_of entries.now)) parent) }
 {
     match parent {
         Some(id) => entries.tag(id) == DW_TAG_array_type,
@@ -219,19 +219,19 @@ fn is_in_array(entries: &Entries<'_>, parent: Option<EntryId>) -> bool
 
 /// Whether an entry is a dimension: a subrange that is a child of an array.
 fn is_dimension(entries: &Entries<'_>, id: EntryId, entry: &EntryAt<'_, '_>) -> bool
-    requires id { id < length (all_entries entries.now.scanned) }
-    requires entry { entry.now ≡ slice_get (all_entries entries.now.scanned) id }
-    ensures { result ≡ is_dimension (parent_role (facts_in (units_of entries.now.scanned)) id)
-        (entry_of (facts_in (units_of entries.now.scanned)) id) }
+    requires id { id < length (all_entries entries.now) }
+    requires entry { entry.now ≡ slice_get (all_entries entries.now) id }
+    ensures { result ≡ is_dimension (parent_role (facts_in (units_of entries.now)) id)
+        (entry_of (facts_in (units_of entries.now)) id) }
 {
     entry.tag() == DW_TAG_subrange_type && is_in_array(entries, entry.parent())
 }
 
 /// The known count of a dimension, by the languages of the units, and none for any other entry.
 pub fn count_at(entries: &Entries<'_>, languages: &[Constant], id: EntryId) -> Option<u128>
-    requires id { id < length (all_entries entries.now.scanned) }
-    requires languages { languages.now ≡ languages_in (units_of entries.now.scanned) }
-    ensures { result ≡ count_at (facts_in (units_of entries.now.scanned)) id }
+    requires id { id < length (all_entries entries.now) }
+    requires languages { languages.now ≡ languages_in (units_of entries.now) }
+    ensures { result ≡ count_at (facts_in (units_of entries.now)) id }
 {
     let entry = entries.at(id);
     if !is_dimension(entries, id, &entry) {

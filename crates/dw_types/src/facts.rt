@@ -4,8 +4,8 @@ ghost use Rattle.std.specs.Prelude.{◌≡◌, ◌^◌, ◌<◌, ◌∷◌, ℕ,
 ghost use Rattle.dw_forms.specs.Codes.{is_type_tag};
 ghost use Rattle.dw_forms.specs.Value.{view};
 ghost use Rattle.dw_links.specs.References.{is_true};
-ghost use Rattle.dw_entries.specs.Scanned.{all_entries, all_units, units_of};
-ghost use Rattle.dw_types.specs.Children.{children_of, is_number, rest_of_children, siblings_from, IsChildOf, IsChild};
+ghost use Rattle.dw_entries.specs.Views.{all_entries, units_of};
+ghost use Rattle.dw_types.specs.Children.{children_of, rest_of_children, siblings_from, IsChildOf, IsChild};
 ghost use Rattle.dw_types.specs.Entries.{children, constant, entry_of};
 ghost use Rattle.dw_types.specs.FactsOf.{facts_in, language_of, languages_in};
 ghost use Rattle.dw_types.specs.Held.{all_facts, entries_held, units_held};
@@ -41,7 +41,7 @@ fn number_of(id: Option<EntryId>) -> Option<usize>
 
 /// DW_AT_language of the first entry of each unit, in their order. Each is read once: it may come after many values.
 pub fn languages_of(alloc: Global, entries: &Entries<'_>) -> Result<Vec<Constant>, AllocError>
-    ensures { IfOk result (λ languages. languages.items ≡ languages_in (units_of entries.now.scanned)) }
+    ensures { IfOk result (λ languages. languages.items ≡ languages_in (units_of entries.now)) }
 {
     let count = entries.unit_count();
     let mut languages = Vec::with_capacity(alloc, count)?;
@@ -252,10 +252,9 @@ impl<'r, 'a> FactsList<'r, 'a> {
 /// The first child of an entry: the entry after it, if that is a child.
 #[inline(always)]
 pub fn first_child(entries: &Entries<'_>, id: EntryId) -> Option<EntryId>
-    requires { id < length (all_entries entries.now.scanned) }
-    ensures children { siblings_from (all_entries entries.now.scanned) id result
-        ≡ children_of (all_entries entries.now.scanned) id }
-    ensures linked { IsChild (all_entries entries.now.scanned) id result }
+    requires { id < length (all_entries entries.now) }
+    ensures children { siblings_from (all_entries entries.now) id result ≡ children_of (all_entries entries.now) id }
+    ensures linked { IsChild (all_entries entries.now) id result }
 {
     let number = id.number() + 1;
     if number >= entries.count() {

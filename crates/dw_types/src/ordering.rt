@@ -4,7 +4,7 @@ ghost use Rattle.std.specs.Prelude.{◌≡◌, ◌≢◌, ℕ, ◌+◌, ◌-◌,
 ghost use Rattle.std.specs.Prelude.{slice_index, Contains, IfErr, IfOk, OnOk};
 ghost use Rattle.dw_types.specs.Cycles.{AreClear};
 ghost use Rattle.dw_types.specs.Graphs.{steps_of, step_at, FollowsSteps, IsStep, IsCycle, HasNoCycle};
-ghost use Rattle.dw_types.specs.LongestRows.{AreLongest, IsAbove};
+ghost use Rattle.dw_types.specs.LongestRows.{AreLongest, IsOneMore};
 ghost use Rattle.dw_types.specs.OrderFaults.{IsFaultOf};
 ghost use Rattle.dw_types.specs.Orders.{IsOrderOf};
 ghost use Rattle.dw_types.specs.Walks.{HasFollowed, HasNext, HasWalked, IsMet, IsWalk};
@@ -107,7 +107,7 @@ fn one_above<G: StepGraph>(graph: &G, counts: &Numbers, node: usize) -> usize
     requires counts { length counts.now ≡ length (G.graph graph.now) }
     requires fits { (k : ℕ) → k < length (steps_of (G.graph graph.now) node)
         → slice_index counts.now (step_at (G.graph graph.now) node k) + 1 < 2 ^ 64 }
-    ensures { IsAbove (G.graph graph.now) counts.now node result }
+    ensures { IsOneMore (G.graph graph.now) counts.now node result }
 {
     let mut most = 0;
     for k in 0..graph.steps(node) {

@@ -22,15 +22,14 @@ use Rattle.dw_links.specs.Strings.{StringIndexFails, AddressIndexFails, BaseFail
 use Rattle.dw_units.specs.declared.counting.Counts.{Counts}
 use Rattle.dw_image.specs.declared.image.Image.{Image}
 use Rattle.dw_image.specs.Lookups.{is_type_entry}
-use Rattle.dw_entries.specs.Scanned.{all_entries, units_of}
+use Rattle.dw_entries.specs.Views.{all_entries, units_of}
 use Rattle.dw_entries.specs.declared.entries.Entries.{Entries}
-use Rattle.dw_image.specs.Images.{units_in, entry_count, type_count}
+use Rattle.dw_image.specs.Images.{sections_in, units_in, type_count}
 use Rattle.dw_image.specs.Headline.{IsImageOf}
 use Rattle.dw_image.specs.Valid.{IsValidBy}
 use Rattle.dw_image.proofs.JoinLemmas.{sound_by}
 use Rattle.dw_entries.specs.Asked.{EachEntry}
 use Rattle.dw_links.specs.Signatures.{type_in}
-use Rattle.dw_units.specs.declared.alone.Alone.{Alone}
 use Rattle.dw_units.specs.Alone.{StaysInside, StandsAlone}
 use Rattle.dw_units.specs.Parts.{IsOneAlone, IsAlone}
 use Rattle.dw_units.specs.Counted.{AreCounts}
@@ -59,11 +58,11 @@ one_unit [] is = absurd (omega (arith, is))
 one_unit (u ∷ []) is = (u, refl)
 one_unit (u ∷ v ∷ us) is = absurd (omega (arith, is))
 
-pub one_alone : (entries : Entries) → length (units_of entries.scanned) ≡ 1
-    → ((p : PlacedUnit) → slice_get (placed (units_of entries.scanned)) 0 ≡ Some p → type_in p.unit.header.kind ≡ None)
-    → EachEntry StaysInside (all_entries entries.scanned) → IsOneAlone entries
+pub one_alone : (entries : Entries) → length (units_of entries) ≡ 1
+    → ((p : PlacedUnit) → slice_get (placed (units_of entries)) 0 ≡ Some p → type_in p.unit.header.kind ≡ None)
+    → EachEntry StaysInside (all_entries entries) → IsOneAlone entries
 one_alone entries one kind stays =
-    let (u, is) = one_unit (units_of entries.scanned) one in
+    let (u, is) = one_unit (units_of entries) one in
     record {
       unit = u;
       one = is;
@@ -115,13 +114,15 @@ module _ (s own : Sections) (shares : Shares s own) where
       })
 
   -- the image of one unit as sections of its own
-  pub alone_of : (image : Image) (part : List ℕ) (a : Alone) → own.info.now ≡ part → IsImageOf own image → IsOneAlone image.entries
-      → a.entries ≡ entry_count image → a.types ≡ type_count image → IsAlone s part a
+  pub alone_of : (image : Image) (part : List ℕ) (c : Counts) → own.info.now ≡ part → IsImageOf own image → IsOneAlone image.entries
+      → AreCounts (sections_in image) c → IsAlone s part c
   unfolding type_count units_in
-  alone_of image part a info is one entries_is types_is =
+  alone_of image part c info is one of_image =
       let sound = is.sound in
       let units_same : sound.valid.0 ≡ one.unit ∷ [] = sound.trees.only sound.valid.0 sound.valid.1.trees ∙ one.one in
       let valid = subst (IsValidBy own) units_same sound.valid.1 in
+      let counts = subst (λ (t : Sections). AreCounts t c) is.sections of_image in
+      let units_are : counts.units ≡ one.unit ∷ [] = sound.trees.only counts.units counts.sound.trees.spelled ∙ one.one in
       record {
         unit = one.unit;
         alone = record {
@@ -136,8 +137,9 @@ module _ (s own : Sections) (shares : Shares s own) where
           stays = subst (λ (us : List DebugUnit). EachEntry StaysInside (entries_of us)) one.one one.stays;
         };
         bytes = sym info ∙ valid.trees.parts ∙ append-nil (unit_bytes one.unit);
-        entry_count = entries_is ∙ ap (λ (us : List DebugUnit). length (entries_of us)) one.one;
-        type_count = types_is ∙ ap (λ (us : List DebugUnit). count_by is_type_entry (entries_of us)) one.one;
+        unit_count = counts.unit_count ∙ ap length units_are;
+        entry_count = counts.entry_count ∙ ap (λ (us : List DebugUnit). length (entries_of us)) units_are;
+        type_count = counts.type_count ∙ ap (λ (us : List DebugUnit). count_by is_type_entry (entries_of us)) units_are;
       }
 
 -- ---- one unit more
@@ -158,14 +160,15 @@ pub record AreSoFar (s : Sections) (rest : List ℕ) (units entries types : ℕ)
 pub so_far_first : (s : Sections) → AreSoFar s s.info.now 0 0 0
 so_far_first s = record { so_far = []; alone = tt; bytes = refl; unit_count = refl; entry_count = refl; type_count = refl }
 
-pub so_far_next : (s : Sections) (rest : List ℕ) (size units entries types units_to entries_to types_to : ℕ) (a : Alone)
-    → AreSoFar s rest units entries types → IsAlone s (take size rest) a → units_to ≡ units + 1
+pub so_far_next : (s : Sections) (rest : List ℕ) (size units entries types units_to entries_to types_to : ℕ) (a : Counts)
+    → AreSoFar s rest units entries types → IsAlone s (take size rest) a → units_to ≡ units + a.units
     → entries_to ≡ entries + a.entries → types_to ≡ types + a.types → AreSoFar s (drop size rest) units_to entries_to types_to
 so_far_next s rest size units entries types units_to entries_to types_to a so one p q r =
     let us = so.so_far in
     let u = one.unit in
     let (n, first, place, same) = entries_more 0 0 0 us u in
     let unit_count = so.unit_count in
+    let one_unit = one.unit_count in
     let entry_count = so.entry_count in
     let type_count = so.type_count in
     let one_entries = one.entry_count in
@@ -178,7 +181,7 @@ so_far_next s rest size units entries types units_to entries_to types_to a so on
       alone = all-append (StandsAlone s) us (u ∷ []) so.alone (one.alone, tt);
       bytes = so.bytes ∙ ap (λ (xs : List ℕ). units_bytes us ++ xs) split
           ∙ rw (flat_map-append unit_bytes us (u ∷ []), append-nil (unit_bytes u), append_assoc (units_bytes us) (unit_bytes u) (drop size rest));
-      unit_count = omega (arith, p, unit_count, length-append us (u ∷ []));
+      unit_count = omega (arith, p, unit_count, one_unit, length-append us (u ∷ []));
       entry_count = omega (arith, q, entry_count, one_entries, ap length same, length-append {A = Entry}, length-map (entries_of (u ∷ [])) (moved n first place));
       type_count = omega (arith, r, type_count, one_types, counted, types_moved n first place (entries_of (u ∷ [])));
     }

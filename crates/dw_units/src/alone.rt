@@ -4,10 +4,11 @@ ghost use Rattle.std.specs.Prelude.{◌≡◌, None, IfOk, IfSome, ◌<◌, ◌�
 ghost use Rattle.std.specs.Bool.{OnTrue, OnFalse};
 ghost use Rattle.dw_entries.specs.Asked.{EachEntry};
 ghost use Rattle.dw_links.specs.Signatures.{type_in};
-ghost use Rattle.dw_entries.specs.Scanned.{all_entries};
+ghost use Rattle.dw_entries.specs.Views.{all_entries};
 ghost use Rattle.dw_units.specs.Alone.{may_leave, StaysInside};
 ghost use Rattle.dw_units.specs.Parts.{IsOneAlone, IsAlone};
 
+use crate::counting::Counts;
 use byteorder::{ByteOrder, LittleEndian};
 use dw_elf::Sections;
 use dw_entries::{Entries, HeaderKind};
@@ -142,13 +143,6 @@ pub fn are_apart(sections: &Sections<'_>) -> bool {
     rest.is_empty()
 }
 
-/// What is counted of a unit that is valid alone and refers to no other unit.
-#[derive(Clone, Copy)]
-pub struct Alone {
-    pub entries: usize,
-    pub types: usize,
-}
-
 /// Whether a value in this form may refer to another unit, or its entry names the form.
 pub(crate) fn may_leave(form: Form) -> bool
     ensures { result ≡ may_leave form }
@@ -158,7 +152,7 @@ pub(crate) fn may_leave(form: Form) -> bool
 
 /// Whether no form of the abbreviation tables lets a value refer to another unit.
 fn stays_inside(entries: &Entries<'_>) -> bool
-    ensures { OnTrue result (EachEntry StaysInside (all_entries entries.now.scanned)) }
+    ensures { OnTrue result (EachEntry StaysInside (all_entries entries.now)) }
 {
     let decls = entries.decls();
     for number in 0..decls.spec_count() {
@@ -190,13 +184,13 @@ fn is_one_alone(entries: &Entries<'_>) -> bool
     stays_inside(entries)
 }
 
-/// Verifies the bytes of one unit as the whole .debug_info. None if they are not valid so, or are not one unit, or the
-/// unit is a type unit or may refer to another unit.
+/// Verifies the bytes of one unit as the whole .debug_info, and counts it. None if they are not valid so, or are not
+/// one unit, or the unit is a type unit or may refer to another unit.
 pub fn verify_alone<'a>(
     alloc: Global,
     sections: &Sections<'a>,
     part: &'a [u8],
-) -> Result<Option<Alone>, NoMemory>
+) -> Result<Option<Counts>, NoMemory>
     ensures { IfOk result (λ found. IfSome found (IsAlone sections.now part.now)) }
 {
     let own = match Sections::new(
@@ -216,10 +210,7 @@ pub fn verify_alone<'a>(
             if !is_one_alone(image.scanned()) {
                 return Ok(None);
             }
-            Ok(Some(Alone {
-                entries: image.entries(),
-                types: image.types(),
-            }))
+            Ok(Some(Counts::of(&image)))
         }
     }
 }

@@ -31,15 +31,15 @@ impl Counts {
         }
     }
 
-    /// The counts with one unit more, which has so many entries and types. None if they exceed usize.
-    pub(crate) fn with_unit(self, entries: usize, types: usize) -> Option<Counts>
-        ensures units { IfSome result (λ c. c.units ≡ self.units + 1) }
-        ensures entries { IfSome result (λ c. c.entries ≡ self.entries + entries) }
-        ensures types { IfSome result (λ c. c.types ≡ self.types + types) }
+    /// The sums with the counts of other units. None if they exceed usize.
+    pub(crate) fn plus(self, other: Counts) -> Option<Counts>
+        ensures units { IfSome result (λ c. c.units ≡ self.units + other.units) }
+        ensures entries { IfSome result (λ c. c.entries ≡ self.entries + other.entries) }
+        ensures types { IfSome result (λ c. c.types ≡ self.types + other.types) }
     {
-        let units = self.units.checked_add(1)?;
-        let entries = self.entries.checked_add(entries)?;
-        let types = self.types.checked_add(types)?;
+        let units = self.units.checked_add(other.units)?;
+        let entries = self.entries.checked_add(other.entries)?;
+        let types = self.types.checked_add(other.types)?;
         Some(Counts {
             units,
             entries,
@@ -83,7 +83,7 @@ pub fn count_by_unit<'a>(alloc: Global, sections: &Sections<'a>) -> Result<Optio
             Some(found) => found,
             None => return Ok(None),
         };
-        counts = match counts.with_unit(found.entries, found.types) {
+        counts = match counts.plus(found) {
             Some(counts) => counts,
             None => return Ok(None),
         };

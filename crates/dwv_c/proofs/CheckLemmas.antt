@@ -1,22 +1,33 @@
--- The counts or the error of sections, and those of the file or of the six sections that they are.
+-- The image, the counts or the error of sections, and those of the file or of the six sections that they are.
 use Rattle.std.proofs.Common.{◌≡◌, ℕ, List, Result, Ok, Err, MatchResult}
 use Rattle.dw_elf.specs.declared.sections.Sections.{Sections}
 use Rattle.dw_units.specs.declared.counting.Counts.{Counts}
 use Rattle.dw_units.specs.Counted.{AreCounts}
-use Rattle.dwv_c.specs.declared.exports.CheckError.{CheckError}
-use Rattle.dwv_c.specs.declared.exports.CheckError.TheVariants.{Fault, Memory}
+use Rattle.dw_image.specs.declared.image.Image.{Image}
+use Rattle.dw_image.specs.Headline.{IsImageOf}
+use Rattle.dw_forms.specs.declared.fault.Stop.{Stop}
+use Rattle.dw_forms.specs.declared.fault.Stop.TheVariants.{Fault, Memory}
 use Rattle.dwv_c.specs.declared.verdict.Verdict.{Verdict}
-use Rattle.dwv_c.specs.Verdicts.{AreOfFile, AreCountsOfFile, AreCountsOfSix, Checks, HaveBytes, IsFaultOfFile, IsFaultOfSix, IsFaultOfSections, violates, sound, fault, memory}
+use Rattle.dwv_c.specs.Verdicts.{AreOfFile, IsSoundFile, AreCountsOfFile, AreCountsOfSix, Checks, HaveBytes, IsFaultOfFile, IsFaultOfSix, IsFaultOfSections, violates, sound, fault, memory}
 use Rattle.dwv_c.specs.Checked.{IsErrorOf, status_of, verdict_after}
 
-checked_by : (P Q : Verdict → Type 0) (A B : Counts → Type 0) → ((v : Verdict) → P v → Q v) → ((c : Counts) → A c → B c)
-    → (r : Result Counts CheckError) → MatchResult r A (IsErrorOf P) → MatchResult r B (IsErrorOf Q)
-checked_by P Q A B of_fault of_counts (Ok c) is = of_counts c is
-checked_by P Q A B of_fault of_counts (Err (Fault v)) is = of_fault v is
-checked_by P Q A B of_fault of_counts (Err Memory) is = tt
+checked_by : {X : Type 0} (P Q : Verdict → Type 0) (A B : X → Type 0) → ((v : Verdict) → P v → Q v) → ((x : X) → A x → B x)
+    → (r : Result X (Stop Verdict)) → MatchResult r A (IsErrorOf P) → MatchResult r B (IsErrorOf Q)
+checked_by P Q A B of_fault of_sound (Ok x) is = of_sound x is
+checked_by P Q A B of_fault of_sound (Err (Fault v)) is = of_fault v is
+checked_by P Q A B of_fault of_sound (Err Memory) is = tt
 
 -- of the sections of a file
-pub checked_file : (bytes : List ℕ) (s : Sections) (r : Result Counts CheckError) → AreOfFile bytes s
+pub verified_file : (bytes : List ℕ) (s : Sections) (r : Result Image (Stop Verdict)) → AreOfFile bytes s
+    → MatchResult r (IsImageOf s) (IsErrorOf (IsFaultOfSections s))
+    → MatchResult r (IsSoundFile bytes) (IsErrorOf (IsFaultOfFile bytes))
+verified_file bytes s r of_file =
+    checked_by (IsFaultOfSections s) (IsFaultOfFile bytes) (IsImageOf s) (IsSoundFile bytes)
+    (λ v fault. violates s v of_file fault)
+    (λ i image. record { sections = s; of_file = of_file; image = image }) r
+
+-- the counts
+pub checked_file : (bytes : List ℕ) (s : Sections) (r : Result Counts (Stop Verdict)) → AreOfFile bytes s
     → MatchResult r (AreCounts s) (IsErrorOf (IsFaultOfSections s))
     → MatchResult r (AreCountsOfFile bytes) (IsErrorOf (IsFaultOfFile bytes))
 checked_file bytes s r of_file =
@@ -25,7 +36,7 @@ checked_file bytes s r of_file =
     (λ c counts. record { sections = s; of_file = of_file; counts = counts }) r
 
 -- of six sections
-pub checked_six : (info abbrevs strs line_strs offsets addrs : List ℕ) (s : Sections) (r : Result Counts CheckError)
+pub checked_six : (info abbrevs strs line_strs offsets addrs : List ℕ) (s : Sections) (r : Result Counts (Stop Verdict))
     → HaveBytes s info abbrevs strs line_strs offsets addrs
     → MatchResult r (AreCounts s) (IsErrorOf (IsFaultOfSections s))
     → MatchResult r (AreCountsOfSix info abbrevs strs line_strs offsets addrs)
@@ -37,7 +48,7 @@ checked_six info abbrevs strs line_strs offsets addrs s r have =
     (λ c counts. record { sections = s; bytes = have; counts = counts }) r
 
 -- what is returned and written
-pub told : (IsOfFault : Verdict → Type 0) (AreSound : Counts → Type 0) (r : Result Counts CheckError)
+pub told : (IsOfFault : Verdict → Type 0) (AreSound : Counts → Type 0) (r : Result Counts (Stop Verdict))
     (old new : Verdict) (status : ℕ)
     → status ≡ status_of r → new ≡ verdict_after r old → MatchResult r AreSound (IsErrorOf IsOfFault)
     → Checks IsOfFault AreSound old status new

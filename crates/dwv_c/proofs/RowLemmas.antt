@@ -9,9 +9,8 @@ use Rattle.dw_entries.proofs.DepthLaws.{no_depth, one_deeper}
 use Rattle.dw_image.specs.declared.image.Image.{Image}
 use Rattle.dw_image.specs.Images.{entries_in, entry_count, name_in, units_in}
 use Rattle.dw_image.proofs.LookupLemmas.{slice_get_none}
-use Rattle.dwv_c.specs.declared.exports.CheckError.{CheckError}
-use Rattle.dwv_c.specs.declared.exports.CheckError.TheVariants.{Fault, Memory}
-use Rattle.dwv_c.specs.declared.rows.NamePlace.{NamePlace}
+use Rattle.dw_forms.specs.declared.fault.Stop.{Stop}
+use Rattle.dw_forms.specs.declared.fault.Stop.TheVariants.{Fault, Memory}
 use Rattle.dw_report.specs.Shown.{entry_size}
 use Rattle.dwv_c.specs.declared.rows.EntryRow.{EntryRow}
 use Rattle.dwv_c.specs.declared.verdict.Verdict.{Verdict}
@@ -55,7 +54,7 @@ depth_told file i k e rows d is so_far told = go e.parent refl told
         let (above, at, deeper, less) = one_deeper (units_in i) k p e is under in
         by_row p above (slice_get rows p) deeper (so_far p above less at) told
 
-has_name : (file : List ℕ) (name : Option (List ℕ)) (place : Option NamePlace) (r : EntryRow)
+has_name : (file : List ℕ) (name : Option (List ℕ)) (place : Option (ℕ × ℕ)) (r : EntryRow)
     → IsNamePlace file name place → HasPlace place r → HasName file name r
 has_name file None None r is has = has
 has_name file None (Some place) r is has = absurd is
@@ -66,7 +65,7 @@ has_name file (Some text) (Some place) r is has =
 -- what the look-ups of an entry tell makes its row
 pub row_told : (file : List ℕ) (i : Image) (k : ℕ) (rows : List EntryRow) (found : Option Entry) (offset tag : ℕ)
     (above : Option ℕ) (d : ℕ)
-    (size : Option ℕ) (place : Option NamePlace) (r : EntryRow)
+    (size : Option ℕ) (place : Option (ℕ × ℕ)) (r : EntryRow)
     → slice_get (entries_in i) k ≡ found → HaveRows file i k rows
     → IfSome found (λ e. offset ≡ e.at) → IfSome found (λ e. tag ≡ e.head.decl.tag)
     → IfSome found (λ e. above ≡ e.parent)
@@ -134,7 +133,7 @@ puts_sound bytes rows count v i status rows' count' v' is fills is_count is_verd
     rw (is_count, is_verdict) (sound i status rows' is fills)
 
 -- what is returned for a file that is not sound, or if an allocation failed
-pub puts_error : (bytes : List ℕ) (rows : List EntryRow) (count : ℕ) (v : Verdict) (e : CheckError) (status : ℕ)
+pub puts_error : (bytes : List ℕ) (rows : List EntryRow) (count : ℕ) (v : Verdict) (e : Stop Verdict) (status : ℕ)
     (v' : Verdict) → status ≡ status_of (Err e) → v' ≡ verdict_after (Err e) v → IsErrorOf (IsFaultOfFile bytes) e
     → PutsRows bytes rows count v status rows count v'
 puts_error bytes rows count v (Fault f) status v' is_status is_v is = rw (is_status, is_v) (fault f is)

@@ -1,7 +1,6 @@
 -- State: what is known of an entry before its row is written.
 use Rattle.std.specs.Prelude.{◌≡◌, ℕ, suc, List, length, min, slice_get, Option, None, Some, option_map}
 use Rattle.dw_elf.specs.Sections.{IsAt}
-use Rattle.dwv_c.specs.declared.rows.NamePlace.{NamePlace}
 use Rattle.dwv_c.specs.declared.rows.EntryRow.{EntryRow}
 use Rattle.dwv_c.specs.Rows.{greatest}
 
@@ -10,13 +9,13 @@ abbrev pub depth_under : List EntryRow → Option ℕ → Option ℕ
 depth_under rows None = Some 0
 depth_under rows (Some p) = option_map (λ (r : EntryRow). min (suc r.depth) greatest) (slice_get rows p)
 
--- a name's bytes are in the file at this place, or neither is there
-abbrev pub IsNamePlace : (file : List ℕ) → Option (List ℕ) → Option NamePlace → Type 0
+-- a name's bytes start in the file at this offset and are so many, or neither is there
+abbrev pub IsNamePlace : (file : List ℕ) → Option (List ℕ) → Option (ℕ × ℕ) → Type 0
 IsNamePlace file None None = Unit {0}
-IsNamePlace file (Some text) (Some place) = IsAt file place.start text × (place.length ≡ length text)
+IsNamePlace file (Some text) (Some place) = IsAt file place.0 text × (place.1 ≡ length text)
 IsNamePlace file _ _ = ⊥
 
 -- a row has this place of a name, or none
-abbrev pub HasPlace : Option NamePlace → EntryRow → Type 0
+abbrev pub HasPlace : Option (ℕ × ℕ) → EntryRow → Type 0
 HasPlace None r = (r.name ≡ 0) × (r.name_length ≡ 0) × (r.has_name ≡ 0)
-HasPlace (Some place) r = (r.name ≡ place.start) × (r.name_length ≡ place.length) × (r.has_name ≡ 1)
+HasPlace (Some place) r = (r.name ≡ place.0) × (r.name_length ≡ place.1) × (r.has_name ≡ 1)

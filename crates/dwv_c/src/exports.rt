@@ -7,8 +7,8 @@ ghost use Rattle.dwv_c.specs.Verdicts.{AreOfFile, IsSoundFile, IsFaultOfSections
 ghost use Rattle.dwv_c.specs.Rows.{PutsRows};
 ghost use Rattle.dwv_c.specs.Texts.{PutsReport, request_of};
 ghost use Rattle.dwv_c.specs.Checked.{status_of, verdict_after, IsErrorOf};
+ghost use Rattle.dw_image.specs.Headline.{IsImageOf};
 ghost use Rattle.dw_units.specs.Counted.{AreCounts};
-ghost use Rattle.dwv_c.specs.declared.exports.CheckError.TheVariants.{Memory};
 
 use crate::rows::{EntryRow, put_rows};
 use crate::verdict::{
@@ -16,67 +16,59 @@ use crate::verdict::{
     verdict_of_fault, verdict_of_file_fault, verdict_of_large,
 };
 use dw_elf::{Sections, TooLarge, find};
+use dw_forms::Stop;
 use dw_image::{Image, NoMemory, Verdict as Verified, verify};
 use dw_report::{Request, Status, longest_file, report};
 use dw_units::{Counts, count_by_unit};
 use std::alloc::Global;
 
-/// Why a check does not find a file or six sections sound.
-#[derive(Clone, Copy, Debug)]
-pub enum CheckError {
-    /// They violate a rule.
-    Fault(Verdict),
-    /// An allocation failed.
-    Memory,
-}
-
-impl From<NoMemory> for CheckError {
-    ghost from_gives = { λ _ error. error ≡ Memory };
-
-    fn from(_error: NoMemory) -> CheckError {
-        CheckError::Memory
-    }
-}
-
 /// The sections of a file.
-fn sections_of_file(file: &[u8]) -> Result<Sections<'_>, CheckError>
+fn sections_of_file(file: &[u8]) -> Result<Sections<'_>, Stop<Verdict>>
     ensures { MatchResult result (AreOfFile file.now) (IsErrorOf (IsFaultOfFile file.now)) }
 {
     if file.len() > longest_file() {
-        return Err(CheckError::Fault(verdict_of_large()));
+        return Err(Stop::Fault(verdict_of_large()));
     }
     match find(file) {
         Ok(sections) => Ok(sections),
-        Err(fault) => Err(CheckError::Fault(verdict_of_file_fault(fault))),
+        Err(fault) => Err(Stop::Fault(verdict_of_file_fault(fault))),
+    }
+}
+
+/// The image of sound sections.
+fn verify_sections<'a>(alloc: Global, sections: Sections<'a>) -> Result<Image<'a>, Stop<Verdict>>
+    ensures { MatchResult result (IsImageOf sections.entry) (IsErrorOf (IsFaultOfSections sections.entry)) }
+{
+    match verify(alloc, sections) {
+        Ok(Verified::Sound(image)) => Ok(image),
+        Ok(Verified::Fault(fault)) => Err(Stop::Fault(verdict_of_fault(&fault))),
+        Err(NoMemory) => Err(Stop::Memory),
     }
 }
 
 /// The image of a sound file.
-pub fn verify_file<'a>(alloc: Global, file: &'a [u8]) -> Result<Image<'a>, CheckError>
+pub fn verify_file<'a>(alloc: Global, file: &'a [u8]) -> Result<Image<'a>, Stop<Verdict>>
     ensures { MatchResult result (IsSoundFile file.now) (IsErrorOf (IsFaultOfFile file.now)) }
 {
     let sections = sections_of_file(file)?;
-    match verify(alloc, sections)? {
-        Verified::Sound(image) => Ok(image),
-        Verified::Fault(fault) => Err(CheckError::Fault(verdict_of_fault(&fault))),
-    }
+    verify_sections(alloc, sections)
 }
 
 /// The counts of sound sections. They are counted unit after unit if the units can be checked alone.
-fn count_sections(alloc: Global, sections: Sections<'_>) -> Result<Counts, CheckError>
+fn count_sections(alloc: Global, sections: Sections<'_>) -> Result<Counts, Stop<Verdict>>
     ensures { MatchResult result (AreCounts sections.entry) (IsErrorOf (IsFaultOfSections sections.entry)) }
 {
-    if let Some(counts) = count_by_unit(alloc, &sections)? {
-        return Ok(counts);
+    match count_by_unit(alloc, &sections) {
+        Ok(Some(counts)) => return Ok(counts),
+        Ok(None) => {}
+        Err(NoMemory) => return Err(Stop::Memory),
     }
-    match verify(alloc, sections)? {
-        Verified::Sound(image) => Ok(Counts::of(&image)),
-        Verified::Fault(fault) => Err(CheckError::Fault(verdict_of_fault(&fault))),
-    }
+    let image = verify_sections(alloc, sections)?;
+    Ok(Counts::of(&image))
 }
 
 /// The counts of a sound file.
-pub fn count_file(alloc: Global, file: &[u8]) -> Result<Counts, CheckError>
+pub fn count_file(alloc: Global, file: &[u8]) -> Result<Counts, Stop<Verdict>>
     ensures { MatchResult result (AreCountsOfFile file.now) (IsErrorOf (IsFaultOfFile file.now)) }
 {
     let sections = sections_of_file(file)?;
@@ -92,18 +84,18 @@ pub fn count_six(
     line_str: &[u8],
     str_offsets: &[u8],
     addr: &[u8],
-) -> Result<Counts, CheckError>
+) -> Result<Counts, Stop<Verdict>>
     ensures { MatchResult result (AreCountsOfSix info.now «abbrev».now str.now line_str.now str_offsets.now addr.now)
         (IsErrorOf (IsFaultOfSix info.now «abbrev».now str.now line_str.now str_offsets.now addr.now)) }
 {
     match Sections::new(abbrev, info, str, line_str, str_offsets, addr) {
         Ok(sections) => count_sections(alloc, sections),
-        Err(TooLarge) => Err(CheckError::Fault(verdict_of_large())),
+        Err(TooLarge) => Err(Stop::Fault(verdict_of_large())),
     }
 }
 
 /// Writes the counts or the fault into the struct of the caller.
-fn put_verdict(counts: Result<Counts, CheckError>, verdict: &mut Verdict) -> u32
+fn put_verdict(counts: Result<Counts, Stop<Verdict>>, verdict: &mut Verdict) -> u32
     ensures status { result ≡ status_of counts }
     ensures verdict { verdict.new ≡ verdict_after counts verdict.old }
 {
@@ -112,11 +104,11 @@ fn put_verdict(counts: Result<Counts, CheckError>, verdict: &mut Verdict) -> u32
             *verdict = verdict_of_counts(counts);
             SOUND
         }
-        Err(CheckError::Fault(fault)) => {
+        Err(Stop::Fault(fault)) => {
             *verdict = fault;
             FAULT
         }
-        Err(CheckError::Memory) => NO_MEMORY,
+        Err(Stop::Memory) => NO_MEMORY,
     }
 }
 

@@ -18,15 +18,6 @@ use dw_report::size_of_entry;
 use dw_units::Counts;
 use std::alloc::{AllocError, Global};
 
-/// Where the bytes of a name are.
-#[derive(Clone, Copy, Debug)]
-pub struct NamePlace {
-    /// The offset of the first in the file.
-    pub start: u64,
-    /// How many there are.
-    pub length: u32,
-}
-
 /// The names of the entries of a file, by where they are in its bytes.
 #[derive(Drop)]
 pub struct Names<'i, 'a> {
@@ -76,8 +67,9 @@ impl<'i, 'a> Names<'i, 'a> {
         }
     }
 
-    /// Where the name of an entry is, if it has one. A name in .debug_str or .debug_line_str is not read to its end.
-    fn place(&self, id: EntryId) -> Option<NamePlace>
+    /// Where the name of an entry starts in the file and how many bytes it has, if it has one. A name in .debug_str or
+    /// .debug_line_str is not read to its end.
+    fn place(&self, id: EntryId) -> Option<(u64, u32)>
         requires { id < length (entries_in self.now.source.image.now) }
         ensures { IfSome (slice_get (entries_in self.now.source.image.now) id)
             (λ e. IsNamePlace self.now.file.now (name_in self.now.source.image.now e) result) }
@@ -85,10 +77,7 @@ impl<'i, 'a> Names<'i, 'a> {
         match self.source.image.name_place(id) {
             Some(place) => {
                 let text = self.source.text(place);
-                Some(NamePlace {
-                    start: self.start_of(place) as u64,
-                    length: text.bytes.len() as u32,
-                })
+                Some((self.start_of(place) as u64, text.bytes.len() as u32))
             }
             None => None,
         }
@@ -134,7 +123,7 @@ fn row_with(
     depth: u32,
     tag: Tag,
     size: Option<u64>,
-    name: Option<NamePlace>,
+    name: Option<(u64, u32)>,
 ) -> EntryRow
     ensures offset { result.offset ≡ offset }
     ensures depth { result.depth ≡ depth }
@@ -147,7 +136,7 @@ fn row_with(
         None => (0, 0),
     };
     let (name, name_length, has_name) = match name {
-        Some(place) => (place.start, place.length, 1),
+        Some((start, length)) => (start, length, 1),
         None => (0, 0, 0),
     };
     EntryRow {

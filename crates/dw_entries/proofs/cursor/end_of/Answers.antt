@@ -3,7 +3,7 @@ use Rattle.std.specs.Prelude.{slice_get, IfSome}
 use Rattle.std.proofs.lemmas.Option.{slice_get-get_or}
 use Rattle.dw_entries.specs.declared.walk.UnitRecord.{UnitRecord}
 use Rattle.dw_entries.specs.Entries.{node_count, placed}
-use Rattle.dw_entries.specs.Scanned.{units_of}
+use Rattle.dw_entries.specs.Views.{units_of}
 use Rattle.dw_entries.proofs.KeptLaws.{units_counted}
 use Rattle.dw_entries.proofs.UnitRanges.{few_records, ends_with_next, ends_with_all}
 use Rattle.dw_entries.proofs.cursor.end_of.Goals as goal
@@ -19,6 +19,6 @@ returns-then-next-len c =
 
 pub returns-else-next-len : goal.returns-else-next-len
 returns-else-next-len c =
-    let P : ℕ → Type 0 = λ n. IfSome (slice_get (placed (units_of c.args.entries.now.scanned)) c.args.number) (λ p. n ≡ p.first + node_count p.unit.root) in
+    let P : ℕ → Type 0 = λ n. IfSome (slice_get (placed (units_of c.args.entries.now)) c.args.number) (λ p. n ≡ p.first + node_count p.unit.root) in
     let all : length c.args.entries.now.records.items ≡ c.len-else-next-len.result = omega (arith, c.len-else-next-len.ensures) in
     subst P all (ends_with_all _ _ _ _ _ c.args.entries.now.scanned c.args.number c.requires (omega (arith, c.if-next-len.false, c.len.ensures)))

@@ -1,8 +1,8 @@
 use Rattle.std.proofs.Common.{arith, [], ◌∷◌, refl}
 use Rattle.std.proofs.lemmas.List.{length-append}
-use Rattle.dw_forms.specs.Abbrev.{view}
+use Rattle.dw_forms.specs.Abbrev.{table_view}
 use Rattle.dw_forms.specs.Steps.{◌>>=◌}
-use Rattle.dw_forms.specs.AbbrevReading.{decls_of}
+use Rattle.dw_forms.specs.AbbrevReading.{decls_at}
 use Rattle.dw_forms.proofs.AbbrevSteps.{then_fails}
 use Rattle.dw_forms.proofs.SpelledLists.{goes_to_end, goes_further, goes_wrong}
 use Rattle.dw_forms.proofs.abbrev_reader.table.Goals as goal
@@ -17,8 +17,8 @@ returns-in_default-clause-exact c =
 pub loop-found-preserved : goal.loop-found-preserved
 loop-found-preserved c = record {
   within = omega (arith, c.in-Ok.ensures.shorter);
-  fewer = rw c.in_ok-push.ensures (omega (arith, length-append c.loop-found.table (view c.in-Some.decl ∷ []), c.in-Ok.ensures.shorter, c.loop-found.invariant.fewer));
+  fewer = rw c.in_ok-push.ensures (omega (arith, length-append c.loop-found.table (table_view c.in-Some.decl ∷ []), c.in-Ok.ensures.shorter, c.loop-found.invariant.fewer));
   unmarked = c.in-Ok.ensures.unmarked;
   goes_on = rw c.in_ok-push.ensures
-      (goes_further _ _ _ _ _ (view c.in-Some.decl) _ c.loop-found.invariant.goes_on (rw c.in-Some.is at c.in-Ok.ensures.exact) c.in-Ok.ensures.shorter);
+      (goes_further _ _ _ _ _ (table_view c.in-Some.decl) _ c.loop-found.invariant.goes_on (rw c.in-Some.is at c.in-Ok.ensures.exact) c.in-Ok.ensures.shorter);
 }

@@ -1,7 +1,7 @@
-use Rattle.dw_entries.specs.Scanned.{all_units}
+use Rattle.dw_entries.specs.Views.{all_units}
 use Rattle.dw_links.specs.Classes.{ClassFails}
 use Rattle.dw_links.proofs.Transfers.{NoneBelow}
 use Rattle.dw_links.proofs.class.check_classes.Given as goal
 
 abbrev pub invariant-loop-number : goal.invariant-loop-number
-invariant-loop-number l = NoneBelow l.entries (ClassFails (all_units l.entries.scanned)) l.number
+invariant-loop-number l = NoneBelow l.entries (ClassFails (all_units l.entries)) l.number

@@ -4,7 +4,7 @@ use Rattle.std.proofs.lemmas.Option.{slice_get_within}
 use Rattle.dw_forms.specs.declared.decl.AttributeSpec.{AttributeSpec}
 use Rattle.dw_forms.specs.AttributeLists.{spec_of}
 use Rattle.dw_entries.specs.Entries.{PlacedUnit, placed}
-use Rattle.dw_entries.specs.Scanned.{units_of}
+use Rattle.dw_entries.specs.Views.{units_of}
 use Rattle.dw_links.specs.Classes.{ClassFails}
 use Rattle.dw_links.specs.Concerns.{Passes}
 use Rattle.dw_links.proofs.Skips.{none_concerned, one_more}
@@ -18,6 +18,6 @@ loop-number-preserved c =
 pub returns : goal.returns
 returns c =
     let nodes = c.decls-decls.result.now.lists.nodes.items in
-    let us = units_of c.args.entries.now.scanned in
+    let us = units_of c.args.entries.now in
     none_concerned _ _ us (map spec_of nodes) (ClassFails (placed us)) c.args.entries.now.scanned.1.spells c.decls-decls.ensures.specs
     (λ k spec is. c.loop-number.invariant k spec (omega (arith, slice_get_within (map spec_of nodes) k spec is, length-map nodes spec_of, c.spec_count-number-end.ensures, c.loop-number-test.false)) is (placed us))

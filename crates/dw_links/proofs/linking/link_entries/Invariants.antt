@@ -1,5 +1,5 @@
 use Rattle.std.proofs.Common.{◌≡◌, map, take}
-use Rattle.dw_entries.specs.Scanned.{all_entries, all_units}
+use Rattle.dw_entries.specs.Views.{all_entries, all_units}
 use Rattle.dw_links.specs.DeclaredEntries.{KeepsDeclared}
 use Rattle.dw_links.specs.Linkable.{FailsByText, FailsByTarget}
 use Rattle.dw_links.specs.Ready.{AreTexts}
@@ -14,6 +14,6 @@ invariant-loop-number l = record {
   texts : AreTexts l.entries l.references.texts;
   strings : NoneBelow l.entries (FailsByText l.entries) l.number;
   references : NoneBelow l.entries (FailsByTarget l.entries) l.number;
-  types : l.types.items ≡ map (type_target (all_entries l.entries.scanned) (all_units l.entries.scanned)) (take l.number (all_entries l.entries.scanned));
+  types : l.types.items ≡ map (type_target (all_entries l.entries) (all_units l.entries)) (take l.number (all_entries l.entries));
   kept : KeepsDeclared l.entries l.declared.items;
 }

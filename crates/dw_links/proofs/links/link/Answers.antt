@@ -1,7 +1,7 @@
 use Rattle.std.proofs.Common.{rules, inr}
 use Rattle.std.proofs.lemmas.Result.{err_from_is_err_and}
 use Rattle.dw_entries.specs.Entries.{entries_of, placed}
-use Rattle.dw_entries.specs.Scanned.{units_of}
+use Rattle.dw_entries.specs.Views.{units_of}
 use Rattle.dw_links.proofs.HeaderLaws.{first_by_header}
 use Rattle.dw_links.proofs.Transfers.{if_fault}
 use Rattle.dw_links.proofs.links.link.Goals as goal
@@ -11,7 +11,7 @@ returns-in_err-check_classes-clause-fault c = search (rules, err_from_is_err_and
 
 pub strings_first-requires : goal.strings_first-requires
 strings_first-requires c =
-    let us = units_of c.args.entries.now.scanned in
+    let us = units_of c.args.entries.now in
     if_fault (first_by_header (entries_of us) (placed us)) c.in-Err.stop c.in-Err.ensures.fault
 
 pub returns-in-Err-clause-fault : goal.returns-in-Err-clause-fault

@@ -1,7 +1,7 @@
 use Rattle.std.proofs.Common.{ℕ, ◌≡◌, ◌<◌, Some}
 use Rattle.std.specs.Prelude.{slice_get}
 use Rattle.dw_entries.specs.Entries.{PlacedUnit, entries_of, placed}
-use Rattle.dw_entries.specs.Scanned.{units_of}
+use Rattle.dw_entries.specs.Views.{units_of}
 use Rattle.dw_entries.specs.Failures.{HasNone}
 use Rattle.dw_links.specs.References.{AtHeader}
 use Rattle.dw_links.specs.SignedTypes.{AreSignedBelow}
@@ -9,7 +9,7 @@ use Rattle.dw_links.proofs.references.read_signatures.Given as goal
 
 abbrev pub invariant-loop-number : goal.invariant-loop-number
 invariant-loop-number l = record {
-  none : (j : ℕ) (u : PlacedUnit) → j < l.number → slice_get (placed (units_of l.entries.scanned)) j ≡ Some u
-      → HasNone (AtHeader (entries_of (units_of l.entries.scanned)) (placed (units_of l.entries.scanned)) j u);
-  types : AreSignedBelow (entries_of (units_of l.entries.scanned)) (placed (units_of l.entries.scanned)) l.number l.signatures;
+  none : (j : ℕ) (u : PlacedUnit) → j < l.number → slice_get (placed (units_of l.entries)) j ≡ Some u
+      → HasNone (AtHeader (entries_of (units_of l.entries)) (placed (units_of l.entries)) j u);
+  types : AreSignedBelow (entries_of (units_of l.entries)) (placed (units_of l.entries)) l.number l.signatures;
 }

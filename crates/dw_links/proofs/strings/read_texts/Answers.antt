@@ -1,21 +1,21 @@
 use Rattle.std.proofs.Common.{ap, sym, subst, arith}
 use Rattle.dw_entries.specs.declared.lookup.UnitHead.{UnitHead}
 use Rattle.dw_entries.specs.Header.{IsSize}
-use Rattle.dw_entries.specs.Scanned.{units_of}
+use Rattle.dw_entries.specs.Views.{units_of}
 use Rattle.dw_links.proofs.ClassLaws.{unit_there}
 use Rattle.dw_links.proofs.TableLaws.{sized, size_above}
 use Rattle.dw_links.proofs.strings.read_texts.Goals as goal
 
 pub count_named-requires-2 : goal.count_named-requires-2
 count_named-requires-2 c =
-    let us = units_of c.args.entries.now.scanned in
+    let us = units_of c.args.entries.now in
     let (p, is, told) = unit_there us c.args.number c.unit-head.result c.requires.number c.unit-head.ensures in
     let same = ap (λ (x : UnitHead). x.header.address_size) told in
     omega (arith, same, size_above _ (sized _ _ us c.args.number p c.args.entries.now.scanned.1.spells c.requires.number is))
 
 pub returns-clause-texts : goal.returns-clause-texts
 returns-clause-texts c =
-    let us = units_of c.args.entries.now.scanned in
+    let us = units_of c.args.entries.now in
     let (p, is, told) = unit_there us c.args.number c.unit-head.result c.requires.number c.unit-head.ensures in
     let same = ap (λ (x : UnitHead). x.header.address_size) told in
     record {

@@ -1,5 +1,5 @@
 use Rattle.std.proofs.Common.{rules, refl}
-use Rattle.dw_entries.specs.Scanned.{all_entries}
+use Rattle.dw_entries.specs.Views.{all_entries}
 use Rattle.std.specs.Prelude.{slice_get}
 use Rattle.dw_links.specs.Targets.{target_of}
 use Rattle.dw_links.proofs.Transfers.{unit_below}
@@ -9,7 +9,7 @@ use Rattle.dw_links.proofs.targets.find_target.Goals as goal
 
 pub reach-requires-clause-unit : goal.reach-requires-clause-unit
 reach-requires-clause-unit c =
-    unit_below c.args.entries.now c.args.id c.unit_of.result (slice_get (all_entries c.args.entries.now.scanned) c.args.id) c.requires.id refl c.unit_of.ensures
+    unit_below c.args.entries.now c.args.id c.unit_of.result (slice_get (all_entries c.args.entries.now) c.args.id) c.requires.id refl c.unit_of.ensures
 
 pub returns-clause-exact : goal.returns-clause-exact
 unfolding target_of

@@ -1,6 +1,6 @@
 use Rattle.std.proofs.Common.{◌≡◌, ap, sym, ◌∙◌}
 use Rattle.dw_forms.specs.Codes.{DW_AT_count, DW_AT_lower_bound, DW_AT_upper_bound}
-use Rattle.dw_entries.specs.Scanned.{units_of}
+use Rattle.dw_entries.specs.Scanned.{found_units}
 use Rattle.dw_types.specs.declared.count.Constant.TheVariants.{Absent}
 use Rattle.dw_types.specs.Counts.{count_from, known_natural}
 use Rattle.dw_types.specs.Entries.{Facts, constant}
@@ -12,13 +12,13 @@ use Rattle.dw_types.proofs.count.count_at.Goals as goal
 pub language_at-requires : goal.language_at-requires
 language_at-requires c =
     let scanned = c.args.entries.now.scanned in
-    let us = units_of scanned in
+    let us = found_units scanned in
     rw (c.requires.languages, languages-long us) (unit-below _ _ us scanned.1.spells c.args.id c.requires.id c.at-entry.result c.at-entry.ensures c.unit.result c.unit.ensures)
 
 pub returns : goal.returns
 returns c =
     let scanned = c.args.entries.now.scanned in
-    let us = units_of scanned in
+    let us = found_units scanned in
     let id = c.args.id in
     let at = c.at-entry.ensures in
     let there = language-there us c.unit.result c.language_at.result (rw c.requires.languages at c.language_at.ensures) in

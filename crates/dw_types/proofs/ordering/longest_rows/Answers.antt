@@ -1,6 +1,6 @@
 use Rattle.std.proofs.Common.{rules, ℕ, ◌<◌, ◌≤◌, length, get_or, arith, ap, ◌∙◌, length-set}
 use Rattle.std.proofs.lemmas.List.{length-replicate}
-use Rattle.dw_types.specs.LongestRows.{IsAbove}
+use Rattle.dw_types.specs.LongestRows.{IsOneMore}
 use Rattle.dw_types.proofs.LongestLemmas.{few-more, known-more, known-all}
 use Rattle.dw_types.proofs.EndLemmas.{get_or-same}
 use Rattle.dw_types.specs.Graphs.{step_at}
@@ -29,7 +29,7 @@ loop-rank-preserved g c =
     let rank = c.loop-rank.rank in
     let count = c.one_above-most.result in
     let below : rank < length clear = rw (← c.count-rank-end.ensures) c.loop-rank-test.true in
-    let above : IsAbove graph counts (get_or clear rank 0) count = rw c.node-node.ensures at c.one_above-most.ensures in
+    let above : IsOneMore graph counts (get_or clear rank 0) count = rw c.node-node.ensures at c.one_above-most.ensures in
     rw (c.in_ok-set.ensures, c.node-node.ensures) (
       length-set counts (get_or clear rank 0) count ∙ c.loop-rank.invariant.0,
       known-more graph clear c.requires counts rank count c.loop-rank.invariant.0 below c.loop-rank.invariant.1 above,

@@ -2,7 +2,7 @@ use Rattle.std.proofs.Common.{map, sym, ◌∙◌, arith}
 use Rattle.std.proofs.lemmas.List.{length-map}
 use Rattle.std.proofs.lemmas.Option.{slice_get_within}
 use Rattle.dw_forms.specs.AttributeLists.{spec_of}
-use Rattle.dw_entries.specs.Scanned.{units_of}
+use Rattle.dw_entries.specs.Views.{units_of}
 use Rattle.dw_links.specs.Concerns.{Passes}
 use Rattle.dw_links.proofs.Skips.{one_more}
 use Rattle.dw_units.specs.Alone.{Leaves}
@@ -17,5 +17,5 @@ loop-number-preserved c =
 pub returns : goal.returns
 returns c =
     let nodes = c.decls-decls.result.now.lists.nodes.items in
-    none_leaves _ _ (units_of c.args.entries.now.scanned) (map spec_of nodes) c.args.entries.now.scanned.1.spells c.decls-decls.ensures.specs
+    none_leaves _ _ (units_of c.args.entries.now) (map spec_of nodes) c.args.entries.now.scanned.1.spells c.decls-decls.ensures.specs
     (λ k spec is. c.loop-number.invariant k spec (omega (arith, slice_get_within (map spec_of nodes) k spec is, length-map nodes spec_of, c.spec_count-number-end.ensures, c.loop-number-test.false)) is)

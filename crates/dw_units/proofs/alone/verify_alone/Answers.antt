@@ -14,4 +14,4 @@ returns c =
       addr_same = ap (λ (b : Bor (List ℕ)). b.now) c.in-Ok.ensures.addr;
     })
     c.in-Sound.image c.args.part.now _ (ap (λ (b : Bor (List ℕ)). b.now) c.in-Ok.ensures.info) (rw c.in-Sound.is at c.in_ok-verify.ensures)
-    (subst IsOneAlone c.scanned.ensures (rw c.if-not-is_one_alone.false at c.is_one_alone.ensures)) c.entries.ensures c.types.ensures
+    (subst IsOneAlone c.scanned.ensures (rw c.if-not-is_one_alone.false at c.is_one_alone.ensures)) c.of.ensures

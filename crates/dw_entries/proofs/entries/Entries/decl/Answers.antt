@@ -1,4 +1,4 @@
-use Rattle.dw_forms.specs.KeptDecls.{view}
+use Rattle.dw_forms.specs.KeptDecls.{decl_view}
 use Rattle.dw_entries.proofs.KeptLaws.{kept_entry, decl_numbered, decl_kept, decl_is}
 use Rattle.dw_entries.proofs.entries.Entries.decl.Goals as goal
 
@@ -9,4 +9,4 @@ pub decl-requires-clause-within : goal.decl-requires-clause-within
 decl-requires-clause-within c = decl_kept c.args.self.now.decls (kept_entry _ _ _ _ _ c.args.self.now.scanned c.args.id c.requires) c.record-kept.result c.record-kept.ensures
 
 pub returns : goal.returns
-returns c = decl_is c.args.self.now.decls (kept_entry _ _ _ _ _ c.args.self.now.scanned c.args.id c.requires) c.record-kept.result c.record-kept.ensures (view c.decl.result) c.decl.ensures
+returns c = decl_is c.args.self.now.decls (kept_entry _ _ _ _ _ c.args.self.now.scanned c.args.id c.requires) c.record-kept.result c.record-kept.ensures (decl_view c.decl.result) c.decl.ensures

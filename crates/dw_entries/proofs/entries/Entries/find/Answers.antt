@@ -2,7 +2,7 @@ use Rattle.std.proofs.Common.{ℕ, ◌≢◌, List, Option, Some, None, All}
 use Rattle.std.specs.Prelude.{IfNone}
 use Rattle.std.proofs.lemmas.Option.{slice_get-get_or}
 use Rattle.dw_entries.specs.Entries.{Entry, entries_of}
-use Rattle.dw_entries.specs.Scanned.{units_of}
+use Rattle.dw_entries.specs.Views.{units_of}
 use Rattle.dw_entries.specs.Runs.{IsEntryAt}
 use Rattle.dw_entries.proofs.entries.Entries.find.Goals as goal
 
@@ -11,4 +11,4 @@ all_elsewhere entries offset None nowhere = λ k d lt same. nowhere k (record { 
 all_elsewhere entries offset (Some id) nowhere = tt
 
 pub returns-clause-none : goal.returns-clause-none
-returns-clause-none c = all_elsewhere (entries_of (units_of c.args.self.now.scanned)) c.args.offset c.find_at.result c.find_at.ensures.none
+returns-clause-none c = all_elsewhere (entries_of (units_of c.args.self.now)) c.args.offset c.find_at.result c.find_at.ensures.none

@@ -1,7 +1,7 @@
 use Rattle.std.proofs.Common.{rules, arith, sym, ◌∙◌, ◌≡◌}
 use Rattle.std.proofs.lemmas.Option.{slice_get_within}
 use Rattle.dw_entries.specs.Entries.{entries_of, placed}
-use Rattle.dw_entries.specs.Scanned.{units_of}
+use Rattle.dw_entries.specs.Views.{units_of}
 use Rattle.dw_entries.proofs.KeptLaws.{kept_is, kept_unit, units_counted}
 use Rattle.dw_entries.proofs.EntryFacts.{entries_rise}
 use Rattle.dw_entries.proofs.RunLaws.{reaches, never_other, never_there, never_far}
@@ -29,7 +29,7 @@ returns-then-unit_of-unit-clause-found c =
     let kept = kept_unit _ _ _ _ _ c.args.self.now.scanned c.args.unit c.requires in
     let place = (kept_is kept c.index.result.now c.index.ensures).at in
     let same : c.unit_of.result ≡ found.entry.unit = rw found.is_entry at c.unit_of.ensures in
-    reaches (entries_of (units_of c.args.self.now.scanned)) (placed (units_of c.args.self.now.scanned)) c.args.unit c.args.offset c.in-Some.at c.in-Some-find_at.id kept.place found.entry kept.is_place
+    reaches (entries_of (units_of c.args.self.now)) (placed (units_of c.args.self.now)) c.args.unit c.args.offset c.in-Some.at c.in-Some-find_at.id kept.place found.entry kept.is_place
     (omega (arith, place, c.in-Some.ensures.1)) found found.is_entry (sym same ∙ c.if-unit_of-unit.true)
 
 pub returns-else-unit_of-unit-clause-none : goal.returns-else-unit_of-unit-clause-none
@@ -38,6 +38,6 @@ returns-else-unit_of-unit-clause-none c =
     let kept = kept_unit _ _ _ _ _ c.args.self.now.scanned c.args.unit c.requires in
     let place = (kept_is kept c.index.result.now c.index.ensures).at in
     let same : c.unit_of.result ≡ found.entry.unit = rw found.is_entry at c.unit_of.ensures in
-    never_other (entries_of (units_of c.args.self.now.scanned)) (placed (units_of c.args.self.now.scanned)) c.args.unit c.args.offset c.in-Some.at c.in-Some-find_at.id kept.place found.entry
-    (entries_rise _ (units_of c.args.self.now.scanned) c.args.self.now.scanned.1.spells.are) kept.is_place (omega (arith, place, c.in-Some.ensures.1)) found found.is_entry
+    never_other (entries_of (units_of c.args.self.now)) (placed (units_of c.args.self.now)) c.args.unit c.args.offset c.in-Some.at c.in-Some-find_at.id kept.place found.entry
+    (entries_rise _ (units_of c.args.self.now) c.args.self.now.scanned.1.spells.are) kept.is_place (omega (arith, place, c.in-Some.ensures.1)) found found.is_entry
     (λ here. c.if-unit_of-unit.false (same ∙ here))

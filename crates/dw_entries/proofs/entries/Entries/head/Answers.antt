@@ -3,7 +3,7 @@ use Rattle.std.specs.Prelude.{slice_get}
 use Rattle.dw_entries.specs.declared.lookup.Head.{Head}
 use Rattle.dw_entries.specs.declared.lookup.EntryHead.{EntryHead}
 use Rattle.dw_entries.specs.Entries.{Entry}
-use Rattle.dw_entries.specs.Scanned.{all_entries}
+use Rattle.dw_entries.specs.Views.{all_entries}
 use Rattle.dw_entries.specs.Lookups.{entry_head, full_head}
 use Rattle.dw_entries.proofs.entries.Entries.head.Goals as goal
 
@@ -23,5 +23,5 @@ head_told (Some e) head depth is_head is_depth = ap (λ (h : EntryHead). with_de
 
 pub returns : goal.returns
 returns c =
-    let entries = all_entries c.args.self.now.scanned in
+    let entries = all_entries c.args.self.now in
     head_told (slice_get entries c.args.id) c.head-head.result c.depth.result (rw c.at.ensures at c.head-head.ensures) c.depth.ensures

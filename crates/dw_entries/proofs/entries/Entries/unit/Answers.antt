@@ -1,5 +1,5 @@
 use Rattle.std.proofs.Common.{ap, ◌∙◌, arith}
-use Rattle.dw_forms.specs.KeptDecls.{view}
+use Rattle.dw_forms.specs.KeptDecls.{decl_view}
 use Rattle.dw_entries.specs.Header.{type_of}
 use Rattle.dw_entries.proofs.KeptLaws.{kept_unit, number_within, first_within, unit_told}
 use Rattle.dw_entries.proofs.entries.Entries.unit.Goals as goal
@@ -13,4 +13,4 @@ decl-requires c = omega (arith, c.new-first.ensures, first_within (kept_unit _ _
 pub returns : goal.returns
 returns c =
     unit_told (kept_unit _ _ _ _ _ c.args.self.now.scanned c.args.number c.requires) c.index-unit.result.now c.index-unit.ensures
-    c.new-first.result (view c.decl.result) c.unit_type.result c.new-first.ensures c.decl.ensures (c.unit_type.ensures ∙ ap (type_of c.index-unit.result.now.header.kind) c.tag.ensures)
+    c.new-first.result (decl_view c.decl.result) c.unit_type.result c.new-first.ensures c.decl.ensures (c.unit_type.ensures ∙ ap (type_of c.index-unit.result.now.header.kind) c.tag.ensures)

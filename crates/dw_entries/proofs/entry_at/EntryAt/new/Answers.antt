@@ -1,6 +1,6 @@
 use Rattle.std.proofs.Common.{◌≡◌, arith}
 use Rattle.std.proofs.lemmas.Option.{slice_get_within}
-use Rattle.dw_forms.specs.KeptDecls.{view}
+use Rattle.dw_forms.specs.KeptDecls.{decl_view}
 use Rattle.dw_entries.proofs.KeptLaws.{kept_entry, decl_numbered, decl_kept, decl_is, header_is, from_entry}
 use Rattle.dw_entries.proofs.entry_at.EntryAt.new.Goals as goal
 
@@ -21,7 +21,7 @@ invariant_of-result c =
     let kept = kept_entry _ _ _ _ _ c.args.entries.now.scanned c.args.id c.requires.id in (
       c.requires.id,
       c.record-kept.ensures,
-      decl_is c.args.entries.now.decls kept c.record-kept.result c.record-kept.ensures (view c.decl.result) c.decl.ensures,
+      decl_is c.args.entries.now.decls kept c.record-kept.result c.record-kept.ensures (decl_view c.decl.result) c.decl.ensures,
       header_is kept c.args.unit c.index.result.now (from_entry kept (λ e. c.args.unit ≡ e.unit) c.requires.unit) c.index.ensures,
       c.requires.unit,
     )

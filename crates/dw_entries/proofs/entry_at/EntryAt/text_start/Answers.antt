@@ -1,5 +1,5 @@
 use Rattle.std.proofs.Common.{◌≡◌, ◌∙◌, [], ◌∷◌, ◌++◌, None, Some, arith}
-use Rattle.dw_forms.specs.KeptDecls.{view as decl_view}
+use Rattle.dw_forms.specs.KeptDecls.{decl_view}
 use Rattle.dw_forms.specs.AttributeLists.{has_this}
 use Rattle.dw_forms.specs.declared.decl.AttributeSpec.{AttributeSpec}
 use Rattle.dw_forms.specs.Chains.{Numbered, items_of}

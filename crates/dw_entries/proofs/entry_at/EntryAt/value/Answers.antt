@@ -1,6 +1,6 @@
 use Rattle.std.proofs.Common.{◌≡◌, ◌∙◌, ap}
 use Rattle.std.specs.Prelude.{option_map}
-use Rattle.dw_forms.specs.KeptDecls.{view as decl_view}
+use Rattle.dw_forms.specs.KeptDecls.{decl_view}
 use Rattle.dw_forms.specs.Suffixes.{specs_in}
 use Rattle.dw_forms.specs.Value.{view}
 use Rattle.dw_entries.specs.Asked.{values_of}

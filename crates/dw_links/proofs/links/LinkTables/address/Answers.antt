@@ -2,8 +2,7 @@ use Rattle.std.proofs.Common.{rules, refl, ◌≡◌, Some, sym}
 use Rattle.dw_forms.specs.Codes.{DW_AT_addr_base}
 use Rattle.dw_forms.specs.Value.{view}
 use Rattle.dw_entries.specs.Entries.{entries_of, placed}
-use Rattle.dw_entries.specs.Scanned.{units_of, all_entries}
-use Rattle.dw_entries.specs.Views.{sections_of}
+use Rattle.dw_entries.specs.Views.{sections_of, units_of, all_entries}
 use Rattle.dw_entries.specs.Lookups.{unit_head, value_at_entry}
 use Rattle.dw_links.specs.AttributeTexts.{address_at}
 use Rattle.dw_links.proofs.ClassLaws.{in_units}
@@ -15,11 +14,11 @@ use Rattle.dw_links.proofs.links.LinkTables.address.Goals as goal
 
 pub unit-requires : goal.unit-requires
 unit-requires c =
-    unit_below c.args.entries.now c.args.id c.unit_of.result (slice_get (all_entries c.args.entries.now.scanned) c.args.id) c.requires.id refl c.unit_of.ensures
+    unit_below c.args.entries.now c.args.id c.unit_of.result (slice_get (all_entries c.args.entries.now) c.args.id) c.requires.id refl c.unit_of.ensures
 
 pub address_of_value-requires : goal.address_of_value-requires
 address_of_value-requires c =
-    let us = units_of c.args.entries.now.scanned in
+    let us = units_of c.args.entries.now in
     let (e, p, is, is_p) = entry_unit c.args.entries.now c.args.id c.requires.id in
     let unit : c.unit_of.result ≡ e.unit = rw is at c.unit_of.ensures in
     let told : c.unit.result ≡ unit_head p = rw (unit, is_p) at c.unit.ensures in
@@ -32,7 +31,7 @@ address_of_value-requires c =
 pub returns : goal.returns
 unfolding address_at
 returns c =
-    let us = units_of c.args.entries.now.scanned in
+    let us = units_of c.args.entries.now in
     let (e, p, is, is_p) = entry_unit c.args.entries.now c.args.id c.requires.id in
     let unit : c.unit_of.result ≡ e.unit = rw is at c.unit_of.ensures in
     let told : c.unit.result ≡ unit_head p = rw (unit, is_p) at c.unit.ensures in

@@ -1,6 +1,6 @@
 use Rattle.std.proofs.Common.{◌≡◌, ◌+◌, Some, ap, sym, ◌∙◌, arith}
 use Rattle.dw_entries.specs.Entries.{entries_of, placed}
-use Rattle.dw_entries.specs.Scanned.{units_of}
+use Rattle.dw_entries.specs.Views.{units_of}
 use Rattle.dw_entries.specs.declared.lookup.UnitHead.{UnitHead}
 use Rattle.dw_entries.proofs.EntryFacts.{entries_rise}
 use Rattle.dw_links.proofs.Reached.{in_unit, nth_within}
@@ -9,12 +9,12 @@ use Rattle.dw_links.proofs.TargetLaws.{reach_in_unit_is}
 use Rattle.dw_links.proofs.references.References.guess_in_unit.Goals as goal
 
 pub beside-requires : goal.beside-requires
-beside-requires c = nth_within (entries_of (units_of c.args.self.now.cursor.entries.now.scanned)) c.in_ok-guess.field-0 c.in_ok-id.id (sym c.nth.ensures ∙ c.in_ok-id.was)
+beside-requires c = nth_within (entries_of (units_of c.args.self.now.cursor.entries.now)) c.in_ok-guess.field-0 c.in_ok-id.id (sym c.nth.ensures ∙ c.in_ok-id.was)
 
 pub returns : goal.returns
 returns c =
     let entries = c.args.self.now.cursor.entries.now in
-    let us = units_of entries.scanned in
+    let us = units_of entries in
     let es = entries_of us in
     let texts = c.requires.texts in
     let unit = c.args.self.now.texts.unit in

@@ -3,7 +3,7 @@ use Rattle.std.specs.Prelude.{slice_get, ◌≡◌}
 use Rattle.std.proofs.lemmas.Option.{IfSome_then}
 use Rattle.dw_entries.specs.declared.lookup.UnitHead.{UnitHead}
 use Rattle.dw_entries.specs.Entries.{placed}
-use Rattle.dw_entries.specs.Scanned.{units_of}
+use Rattle.dw_entries.specs.Scanned.{found_units}
 use Rattle.dw_types.specs.Entries.{Facts}
 use Rattle.dw_types.specs.FactsOf.{address_size_of}
 use Rattle.dw_types.proofs.FactsLemmas.{known}
@@ -17,7 +17,7 @@ pub returns : goal.returns
 returns c =
     let it = c.self.inside in
     let scanned = it.links.now.entries.now.scanned in
-    let us = units_of scanned in
+    let us = found_units scanned in
     let size = IfSome_then (slice_get (placed us) c.unit-number.result) c.unit.ensures (λ u h. ap (λ (x : UnitHead). x.header.address_size) h) in
     rw (← c.self.view_is)
     (known _ _ _ c.self.invariant.1 c.self.invariant.0 (λ (facts : Facts). c.unit.result.header.address_size ≡ facts.address_size)
