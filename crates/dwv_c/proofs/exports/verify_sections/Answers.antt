@@ -1,12 +1,7 @@
-use Rattle.dw_image.specs.Headline.{IsFaultOf, IsImageOf}
+use Rattle.dw_image.specs.Headline.{IsFaultOf}
 use Rattle.dwv_c.proofs.exports.verify_sections.Goals as goal
 
-pub returns-in-Sound : goal.returns-in-Sound
-returns-in-Sound c =
-    let verified : IsImageOf c.args.sections c.in-Sound.image = rw c.in-Sound.is at c.in-Ok.ensures in
-    verified
-
-pub returns-in-Fault : goal.returns-in-Fault
-returns-in-Fault c =
-    let verified : IsFaultOf c.args.sections c.in-Fault.fault = rw c.in-Fault.is at c.in-Ok.ensures in
-    (c.in-Fault.fault, verified, c.verdict_of_fault.ensures)
+pub returns-in-Ok-Fault : goal.returns-in-Ok-Fault
+returns-in-Ok-Fault c =
+    let verified : IsFaultOf c.args.sections c.in-Ok-Fault.fault = rw c.in-Ok-Fault.field-0-is at c.in-Ok-Fault.ensures in
+    (c.in-Ok-Fault.fault, verified, c.verdict_of_fault.ensures)
