@@ -3,12 +3,13 @@
 
 usage: bench.py [WORD ..]      only the programs whose names have one of the words, as "Rust" or "1 MB"
 
-All tools are measured in one run. Each is run several times on a program, and the least processor time counts. The
-tables are Markdown; docs/PERFORMANCE.md has them joined into one. gnuplot draws the first into docs/performance.svg, if
-it is installed. The walks with gimli are built by cargo from Debian's librust-gimli-dev and librust-object-dev;
-DEBIAN_CARGO is the folder of such packages, if it is another.
+All tools are measured in one run. On each program they take turns several times, and the least processor time counts.
+The tables are Markdown; docs/PERFORMANCE.md has them joined into one. gnuplot draws the first into
+docs/performance.svg, if it is installed. The walks with gimli are built by cargo from Debian's librust-gimli-dev and
+librust-object-dev; DEBIAN_CARGO is the folder of such packages, if it is another.
 """
 import datetime
+import multiprocessing
 import os
 import pathlib
 import re
@@ -26,7 +27,7 @@ DWV = HERE.parent / "crates/dwv/out/dwv"
 OUT = HERE / "out"
 PICTURE = HERE.parent / "docs/performance.svg"
 # How often a tool is run on a program; no further run starts when these took so many seconds of processor time.
-ROUNDS, ENOUGH = 5, 20
+ROUNDS, ENOUGH = 9, 20
 # The seconds of processor time after which a run is stopped.
 LIMIT = 60
 
@@ -140,20 +141,27 @@ def entries(program):
 
 
 def run(words):
-    """Processor seconds and peak megabytes of the best of several rounds, or None if one is stopped at the limit."""
-    best, spent = None, 0
+    """Processor seconds and peak megabytes of one run, or None if it is stopped at the limit."""
+    child = subprocess.Popen(words, stdout=subprocess.DEVNULL, stderr=subprocess.DEVNULL)
+    resource.prlimit(child.pid, resource.RLIMIT_CPU, (LIMIT, LIMIT + 1))
+    _, status, used = os.wait4(child.pid, 0)
+    if os.WIFSIGNALED(status):
+        if os.WTERMSIG(status) != signal.SIGXCPU:
+            print(f"bench: {' '.join(map(str, words))} crashed", file=sys.stderr)
+        return None
+    return used.ru_utime + used.ru_stime, used.ru_maxrss / 1024
+
+
+def measure(commands):
+    """The best run of each command, or None if a run is stopped at the limit. They take turns."""
+    best, spent = {}, dict.fromkeys(commands, 0)
     for _ in range(ROUNDS):
-        child = subprocess.Popen(words, stdout=subprocess.DEVNULL, stderr=subprocess.DEVNULL)
-        resource.prlimit(child.pid, resource.RLIMIT_CPU, (LIMIT, LIMIT + 1))
-        _, status, used = os.wait4(child.pid, 0)
-        if os.WIFSIGNALED(status):
-            if os.WTERMSIG(status) != signal.SIGXCPU:
-                print(f"bench: {' '.join(map(str, words))} crashed", file=sys.stderr)
-            return None
-        row = (used.ru_utime + used.ru_stime, used.ru_maxrss / 1024)
-        best, spent = min(best or row, row), spent + row[0]
-        if spent > ENOUGH:
-            break
+        for name, words in commands.items():
+            if spent[name] > ENOUGH:
+                continue
+            row = run(words)
+            best[name] = row and min(best.get(name, row), row)
+            spent[name] += row[0] if row else LIMIT
     return best
 
 
@@ -213,7 +221,10 @@ def main():
     if not DWV.exists():
         sys.exit(f"bench: {DWV} is not there: run `make` first")
     tools = installed()
-    programs = {name: build(name) for name in PROGRAMS if any(word in name for word in words)}
+    names = [name for name in PROGRAMS if any(word in name for word in words)]
+    # Another process makes the programs: the peak of a run is not below that of the process that starts it.
+    with multiprocessing.Pool(1) as maker:
+        programs = dict(zip(names, maker.map(build, names)))
     title = f"{machine()}, {datetime.date.today()}"
     print(f"{title}\n")
     print("| program | .debug_info, MB | entries | tool | processor s | ns an entry | peak MB |")
@@ -223,10 +234,9 @@ def main():
         if program is None:
             continue
         counts[name] = count = entries(program)
-        for tool in TOOLS:
-            if tool not in tools:
-                continue
-            times[name, tool] = best = run([*tools[tool], program])
+        measured = measure({tool: [*tools[tool], program] for tool in TOOLS if tool in tools})
+        for tool, best in measured.items():
+            times[name, tool] = best
             row = f"{best[0]:.3f} | {best[0] / count * 1e9:.0f} | {best[1]:.0f}" if best else f"over {LIMIT} | |"
             print(f"| {name.rsplit(',', 1)[0]} | {info(program)[1] / 1e6:.1f} | {count} | {tool} | {row} |", flush=True)
         over[name] = (times[name, CHECK][1] * 2**20 - program.stat().st_size) / count
@@ -235,7 +245,7 @@ def main():
     print("|---" * (len(RATIOS) + 2) + "|")
     for name in counts:
         cells = [ratio(times, name, tool, other) for tool, other in RATIOS]
-        print(f"| {name} | {' | '.join(cells)} | {over[name]:.0f} |")
+        print(f"| {name} | {' | '.join(cells)} | {over[name]:.1f} |")
     print()
     if SMALL in counts and LARGE in counts:
         more = counts[LARGE] / counts[SMALL]
@@ -245,7 +255,8 @@ def main():
     if MIDDLE in counts:
         for copy in faults(programs[MIDDLE]):
             said = subprocess.run([DWV, "check", copy], capture_output=True, text=True).stdout
-            part = run([DWV, "check", copy])[0] / times[MIDDLE, CHECK][0]
+            both = measure({"broken": [DWV, "check", copy], "sound": [DWV, "check", programs[MIDDLE]]})
+            part = both["broken"][0] / both["sound"][0]
             print(f"{MIDDLE}, with `{said.strip()}`: `dwv check` takes {part:.2f} of the time of the sound file.")
             copy.unlink()
     absent = [tool for tool in TOOLS if tool not in tools]
