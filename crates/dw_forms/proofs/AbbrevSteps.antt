@@ -6,7 +6,7 @@ use Rattle.dw_forms.specs.declared.decl.AttributeSpec.{AttributeSpec}
 use Rattle.dw_forms.specs.declared.form.Form.{Form}
 use Rattle.dw_forms.specs.declared.fault.AbbrevRule.TheVariants.{UnknownForm, AttributeTwice}
 use Rattle.dw_forms.specs.FormCodes.{form_of}
-use Rattle.dw_forms.specs.declared.abbrev.TableDecl.{TableDecl}
+use Rattle.dw_forms.specs.declared.abbrev.Decl.{Decl}
 use Rattle.dw_forms.specs.declared.fault.DeclFault.{DeclFault}
 use Rattle.dw_forms.specs.declared.fault.Stop.{Stop}
 use Rattle.dw_forms.specs.declared.fault.Stop.TheVariants as stops
@@ -16,16 +16,16 @@ use Rattle.dw_forms.specs.AbbrevReading.{on_option, unsigned_at, form_at, has_at
 use Rattle.dw_forms.specs.declared.fault.AbbrevFault.{AbbrevFault}
 use Rattle.dw_forms.specs.Stops.{FailsOrMemory}
 
-pub has_code_views : (code : ℕ) (ds : List TableDecl) → has_code code (views ds) ≡ list_any (λ d. d.code == code) ds
+pub has_code_views : (code : ℕ) (ds : List Decl) → has_code code (views ds) ≡ list_any (λ d. d.code == code) ds
 has_code_views code [] = refl
 has_code_views code (d ∷ ds) = ap (λ b. (d.code == code) || b) (has_code_views code ds)
 
-find_views_on : (code : ℕ) (d : TableDecl) (ds : List TableDecl) (b : Bool) → find (λ e. e.code == code) (views ds) ≡ option_map table_view (find (λ e. e.code == code) ds)
+find_views_on : (code : ℕ) (d : Decl) (ds : List Decl) (b : Bool) → find (λ e. e.code == code) (views ds) ≡ option_map table_view (find (λ e. e.code == code) ds)
     → cond b (Some (table_view d)) (find (λ e. e.code == code) (views ds)) ≡ option_map table_view (cond b (Some d) (find (λ e. e.code == code) ds))
 find_views_on code d ds true e = refl
 find_views_on code d ds false e = e
 
-pub find_views : (code : ℕ) (ds : List TableDecl) → find (λ d. d.code == code) (views ds) ≡ option_map table_view (find (λ d. d.code == code) ds)
+pub find_views : (code : ℕ) (ds : List Decl) → find (λ d. d.code == code) (views ds) ≡ option_map table_view (find (λ d. d.code == code) ds)
 find_views code [] = refl
 find_views code (d ∷ ds) = find_views_on code d ds (d.code == code) (find_views code ds)
 

@@ -4,7 +4,6 @@ pub mod AbbrevSteps
 pub mod Texts
 pub mod Keys
 pub mod Places
-pub mod MarkSteps
 pub mod AttributeLaws
 pub mod AttributesLaws
 pub mod SpelledLists

@@ -1,6 +1,6 @@
 -- Where the first step in the list of a number goes to, and what comes before that attribute.
-use Rattle.std.proofs.Common.{rules, ◌≡◌, ℕ, zero, suc, ◌+◌, ◌<◌, ◌≤◌, ◌⊎◌, Bool, true, false, not, List, ◌∷◌, length, refl, sym, ap, subst, ◌∙◌, inl, inr, arith}
-use Rattle.std.specs.Prelude.{◌==◌, ◌&&◌}
+use Rattle.std.proofs.Common.{rules, ◌≡◌, ℕ, zero, suc, ◌+◌, ◌<◌, ◌≤◌, ◌⊎◌, Bool, true, false, not, List, [], ◌∷◌, length, refl, sym, ap, subst, ◌∙◌, inl, inr, arith}
+use Rattle.std.specs.Prelude.{◌==◌, ◌&&◌, ◌||◌}
 use Rattle.std.specs.List.{list_any}
 use Rattle.std.proofs.lemmas.Bool.{ne_eqb, or_parts}
 use Rattle.std.proofs.lemmas.List.Sums.{sum_by-cons}
@@ -37,7 +37,18 @@ never_varies : (next : ℕ) (b : Bool) → (next ≡ 0 → ⊥) → (b && not (n
 never_varies next true some e = absurd (let other : (next == 0) ≡ false = ne_eqb next 0 some in let no : not (next == 0) ≡ true = ap not other in cc)
 never_varies next false some e = refl
 
+-- where a step is made, the value leads elsewhere or varies
+leads_or_varies : (a b c : Bool) → (a || (b && c)) ≡ true → (a || b) ≡ true
+leads_or_varies true b c e = refl
+leads_or_varies false true c e = refl
+leads_or_varies false false c e = e
+
 -- ---- the list of a number
+
+-- the attribute that the list of the found number begins with leads elsewhere or varies
+abbrev pub StopsThere : List Node → ℕ → Type 0
+StopsThere nodes found =
+    (spec : AttributeSpec) (list : List (Numbered AttributeSpec)) → numbered_in nodes found ≡ record { number = found; item = spec } ∷ list → (does_lead spec || does_vary spec.form) ≡ true
 
 -- the values before an attribute have one size each and lead nowhere, and so many bytes are those that are passed
 pub record GoesTo (nodes : List Node) (number found : ℕ) : Type 0 where
@@ -46,6 +57,7 @@ pub record GoesTo (nodes : List Node) (number found : ℕ) : Type 0 where
   pub none_leads : list_any does_lead (items_of before) ≡ false
   pub none_varies : list_any varies (items_of before) ≡ false
   pub skips : (size : ℕ) → skip_in size (numbered_in nodes number) ≡ known_sum size (items_of before)
+  pub stops : StopsThere nodes found
 
 -- no step is made where no value leads elsewhere, or one is made to an attribute
 pub record Walks (nodes : List Node) (number found : ℕ) : Type 0 where
@@ -53,10 +65,31 @@ pub record Walks (nodes : List Node) (number found : ℕ) : Type 0 where
   pub none : found ≡ 0 → list_any does_lead (items_of (numbered_in nodes number)) ≡ false
   pub goes : (found ≡ 0 → ⊥) → GoesTo nodes number found
 
+first_item : (m n : Numbered AttributeSpec) (ms ns : List (Numbered AttributeSpec)) → ◌≡◌ {A = List (Numbered AttributeSpec)} (m ∷ ms) (n ∷ ns) → m.item ≡ n.item
+first_item m n ms ns e = let same : m ≡ n = cc in ap (λ (x : Numbered AttributeSpec). x.item) same
+
 module _ (nodes : List Node) (known : AreKnown nodes) where
   walks_here : (number : ℕ) (n : Node) (b : Bool) → 0 < number → IsKnown nodes number n → stops_at (step_in (numbered_in nodes n.next)) (spec_of n) ≡ b
       → Walks nodes n.next (step_in (numbered_in nodes n.next)) → Walks nodes number (step_in (numbered_in nodes number))
-  walks_here number n true some is stops rest = search (rules, stops_first, skips_none)
+  walks_here number n true some is stops rest =
+      let first : Numbered AttributeSpec = record { number = number; item = spec_of n } in
+      let there : StopsThere nodes number = λ spec list begins.
+      let same : ◌≡◌ {A = List (Numbered AttributeSpec)} (record { number = number; item = spec } ∷ list) (record { number = number; item = spec_of n } ∷ numbered_in nodes n.next) = sym begins ∙ is.begins in
+      ap (λ (s : AttributeSpec). does_lead s || does_vary s.form) (first_item _ _ list (numbered_in nodes n.next) same)
+      ∙ leads_or_varies (does_lead (spec_of n)) (does_vary n.form) (not (step_in (numbered_in nodes n.next) == 0)) stops in
+      let found : step_in (numbered_in nodes number) ≡ number = ap step_in is.begins ∙ stops_first first (numbered_in nodes n.next) stops in
+      rw found (record {
+        within = omega arith;
+        none = λ e. absurd (omega (arith, e, some));
+        goes = λ other. record {
+          before = [];
+          goes = refl;
+          none_leads = refl;
+          none_varies = refl;
+          skips = λ size. ap (skip_in size) is.begins ∙ skips_none size first (numbered_in nodes n.next) stops;
+          stops = there;
+        };
+      })
   walks_here number n false some is stops rest =
       let first : Numbered AttributeSpec = record { number = number; item = spec_of n } in
       let found : step_in (numbered_in nodes number) ≡ step_in (numbered_in nodes n.next) = ap step_in is.begins ∙ stops_later first (numbered_in nodes n.next) stops in
@@ -77,6 +110,7 @@ module _ (nodes : List Node) (known : AreKnown nodes) where
                   let more = sum_by-cons (λ (s : AttributeSpec). known_size size s.form) (spec_of n) (items_of g.before) in
                   let here = ap (skip_in size) is.begins ∙ skips_more size first (numbered_in nodes n.next) stops in
                   omega (arith, here, g.skips size, more);
+              stops = g.stops;
             };
       })
 

@@ -5,7 +5,7 @@ use Rattle.dw_forms.specs.declared.form.Form.{Form}
 use Rattle.dw_forms.specs.declared.form.Form.TheVariants.{ImplicitConst}
 use Rattle.dw_forms.specs.declared.leb.NumberFault.{NumberFault}
 use Rattle.dw_forms.specs.declared.decl.AttributeSpec.{AttributeSpec}
-use Rattle.dw_forms.specs.declared.abbrev.TableDecl.{TableDecl}
+use Rattle.dw_forms.specs.declared.abbrev.Decl.{Decl}
 use Rattle.dw_forms.specs.declared.fault.AbbrevRule.{AbbrevRule}
 use Rattle.dw_forms.specs.declared.fault.AbbrevRule.TheVariants.{AbbrevCut, CodeTwice, BadTag, BadChildren}
 use Rattle.dw_forms.specs.declared.fault.AbbrevRule.TheVariants.{BadPair, UnknownForm, AttributeTwice}
@@ -24,11 +24,11 @@ pub record Declaration : Type 0 where
   pub attributes : List AttributeSpec
 
 -- the declaration, as it is seen
-abbrev pub table_view : TableDecl → Declaration
+abbrev pub table_view : Decl → Declaration
 table_view d = record { code = d.code; tag = d.tag; has_children = d.has_children; attributes = d.attributes.items }
 
 -- the declarations, as they are seen
-abbrev pub views : List TableDecl → List Declaration
+abbrev pub views : List Decl → List Declaration
 views ds = map table_view ds
 
 -- ---- the spelling

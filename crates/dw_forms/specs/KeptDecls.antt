@@ -2,7 +2,7 @@
 use Rattle.std.specs.Prelude.{◌≡◌, ℕ, ◌==◌, List, map, All, Option}
 use Rattle.dw_forms.specs.declared.attribute_lists.Node.{Node}
 use Rattle.dw_forms.specs.declared.chains.Link.{Link}
-use Rattle.dw_forms.specs.declared.decl.Decl.{Decl}
+use Rattle.dw_forms.specs.declared.decl.DeclAt.{DeclAt}
 use Rattle.dw_forms.specs.declared.decl.KeptDecl.{KeptDecl}
 use Rattle.dw_forms.specs.Abbrev.{Declaration}
 use Rattle.dw_forms.specs.AttributeLists.{list_in, HasList}
@@ -18,7 +18,7 @@ kept_view nodes k = record {
 }
 
 -- the declaration, as it is seen
-abbrev pub decl_view : Decl → Declaration
+abbrev pub decl_view : DeclAt → Declaration
 decl_view d = kept_view d.lists.now.nodes.items d.kept.now
 
 -- declarations with their numbers, one table for each number

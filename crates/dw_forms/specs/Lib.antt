@@ -24,7 +24,7 @@ pub mod SizeLaws
 -- State.
 pub mod Stops
 pub mod Sizes
-pub mod Marks
+pub mod Seen
 pub mod Plans
 pub mod Remainders
 pub mod Places

@@ -3,7 +3,7 @@ use Rattle.std.specs.Prelude.{◌≡◌, List, [], ◌∷◌, Bool, Option, Some
 use Rattle.dw_forms.specs.declared.decl.AttributeSpec.{AttributeSpec}
 use Rattle.dw_forms.specs.declared.attribute_lists.Node.{Node}
 use Rattle.dw_forms.specs.declared.attributes.Attributes.{Attributes}
-use Rattle.dw_forms.specs.declared.decl.Decl.{Decl}
+use Rattle.dw_forms.specs.declared.decl.DeclAt.{DeclAt}
 use Rattle.dw_forms.specs.declared.attribute_lists.Step.{Step}
 use Rattle.dw_forms.specs.Chains.{Numbered, items_of, number_where}
 use Rattle.dw_forms.specs.AttributeLists.{numbered_in, EndsWith}
@@ -22,7 +22,7 @@ abbrev pub specs_in : Attributes → List AttributeSpec
 specs_in a = items_of (numbered a)
 
 -- the attributes of a declaration with their numbers
-abbrev pub numbered_of : Decl → List (Numbered AttributeSpec)
+abbrev pub numbered_of : DeclAt → List (Numbered AttributeSpec)
 numbered_of d = numbered_in d.lists.now.nodes.items d.kept.now.first
 
 -- the attributes are these, and then the others

@@ -16,7 +16,7 @@ use std::marker::Model;
 
 /// A declaration as its table has it.
 #[derive(Debug, Drop)]
-pub struct TableDecl {
+pub struct Decl {
     /// The number by which entries name the declaration, at least 1.
     pub code: u64,
     pub tag: Tag,
@@ -29,7 +29,7 @@ pub struct TableDecl {
 /// The declarations of one table, in their order.
 #[derive(Debug, Drop)]
 pub struct AbbrevTable {
-    decls: Vec<TableDecl>,
+    decls: Vec<Decl>,
     /// The places, from 0, of the declarations whose code isn't their place counted from 1.
     elsewhere: BTreeMap<u64, usize>,
 }
@@ -47,7 +47,7 @@ impl Model for AbbrevTable {
 }
 
 /// The place of the declaration with this code: the one that the code itself says, or one from the map.
-fn place_of(decls: &[TableDecl], elsewhere: &BTreeMap<u64, usize>, code: u64) -> Option<usize>
+fn place_of(decls: &[Decl], elsewhere: &BTreeMap<u64, usize>, code: u64) -> Option<usize>
     requires { IsIndex decls.now elsewhere.now }
     ensures { IsPlace decls.now code result }
 {
@@ -69,7 +69,7 @@ fn place_of(decls: &[TableDecl], elsewhere: &BTreeMap<u64, usize>, code: u64) ->
 
 /// Enters the place of the declaration with this new code that will be the next.
 fn make_room(
-    decls: &[TableDecl],
+    decls: &[Decl],
     elsewhere: &mut BTreeMap<u64, usize>,
     code: u64,
 ) -> Result<(), AllocError>
@@ -104,7 +104,7 @@ impl AbbrevTable {
     }
 
     /// Adds a declaration with a new code.
-    pub(crate) fn push(&mut self, decl: TableDecl) -> Result<(), AllocError>
+    pub(crate) fn push(&mut self, decl: Decl) -> Result<(), AllocError>
         requires { has_code decl.code self.old ≡ false }
         ensures { OnOk result (self.new ≡ self.old ++ table_view decl ∷ []) }
     {
@@ -132,7 +132,7 @@ impl AbbrevTable {
     }
 
     /// The declaration at this place, from 0.
-    pub fn decl(&self, place: usize) -> &TableDecl
+    pub fn decl(&self, place: usize) -> &Decl
         requires { place < length self.now }
         ensures { slice_get self.now place ≡ Some (table_view result.now) }
     {
@@ -140,7 +140,7 @@ impl AbbrevTable {
     }
 
     /// The declaration with this code.
-    pub fn get(&self, code: u64) -> Option<&TableDecl>
+    pub fn get(&self, code: u64) -> Option<&Decl>
         ensures { option_map table_view (option_copied result) ≡ find (λ d. d.code == code) self.now }
     {
         match self.place(code) {

@@ -4,19 +4,20 @@ ghost use Rattle.std.specs.Prelude.{◌≡◌, ◌<◌, ◌≤◌, ℕ, [], ◌�
 ghost use Rattle.std.specs.Prelude.{IfOk, IfErr, IfSome, OnOk};
 ghost use Rattle.dw_forms.specs.Front.{BeginsWith, BeginsWithNone};
 ghost use Rattle.dw_forms.specs.Abbrev.{table_view, Decls, IsCode16, TableFails};
-ghost use Rattle.dw_forms.specs.Marks.{AreMarks};
+ghost use Rattle.dw_forms.specs.Seen.{AreSeen};
 ghost use Rattle.dw_forms.specs.AbbrevReading.{has_attribute, has_code, unsigned_at, signed_at};
 ghost use Rattle.dw_forms.specs.AbbrevReading.{form_at, begun_at, pair_at, tagged_at, attributes_of, children_at};
 ghost use Rattle.dw_forms.specs.AbbrevReading.{decl_at, placed, table_at};
 ghost use Rattle.dw_forms.specs.Stops.{IfFault, GivesOrMemory};
 
-use crate::abbrev::{AbbrevTable, TableDecl};
+use crate::abbrev::{AbbrevTable, Decl};
 use crate::constants::{Attribute, Tag};
 use crate::decl::AttributeSpec;
 use crate::fault::{AbbrevFault, AbbrevRule, DeclFault, Stop};
 use crate::form::Form;
 use crate::leb::{read_sleb, read_uleb};
-use std::alloc::Global;
+use std::alloc::{AllocError, Global};
+use std::collections::BTreeSet;
 
 /// An unsigned number, and the bytes after it.
 fn unsigned(bytes: &[u8]) -> Result<(u64, &[u8]), Stop<DeclFault>>
@@ -57,40 +58,26 @@ pub fn form_with_number(form: Form, bytes: &[u8]) -> Result<(Form, &[u8]), Stop<
     }
 }
 
-/// Marks for no attributes, one for each code of 16 bits.
-fn no_marks(alloc: Global) -> Result<Vec<bool>, Stop<AbbrevFault>>
-    ensures marks { IfOk result (λ marks. AreMarks [] marks.items) }
-    ensures err { IfErr result (IfFault (λ _. ⊥)) }
-{
-    let mut marks = Vec::new(alloc);
-    marks.resize(0x10000, false)?;
-    Ok(marks)
-}
-
-/// Sets the mark of an attribute.
-fn mark(earlier: &[AttributeSpec], marks: &mut [bool], attribute: Attribute)
-    requires { AreMarks earlier.now marks.old }
-    ensures { (spec : AttributeSpec) → spec.attribute ≡ attribute → AreMarks (earlier.now ++ spec ∷ []) marks.new }
-{
-    marks[usize::from(attribute.0)] = true;
-}
-
-/// Clears the marks of a declaration.
-fn unmark(specs: &[AttributeSpec], marks: &mut [bool])
-    requires { AreMarks specs.now marks.old }
-    ensures { AreMarks [] marks.new }
-{
-    for spec in specs {
-        marks[usize::from(spec.attribute.0)] = false;
-    }
-}
-
-/// Whether one of the earlier attributes is this one, by its mark.
-fn has_attribute(earlier: &[AttributeSpec], marks: &[bool], attribute: u16) -> bool
-    requires { AreMarks earlier.now marks.now }
+/// Whether one of the earlier attributes, whose codes these are, has this code.
+fn has_attribute(earlier: &[AttributeSpec], seen: &BTreeSet<u16>, attribute: u16) -> bool
+    requires { AreSeen earlier.now seen.now }
     ensures { result ≡ has_attribute attribute earlier.now }
 {
-    marks[usize::from(attribute)]
+    seen.contains(&attribute)
+}
+
+/// Adds the code of an attribute.
+fn add(
+    earlier: &[AttributeSpec],
+    seen: &mut BTreeSet<u16>,
+    attribute: Attribute,
+) -> Result<(), AllocError>
+    requires { AreSeen earlier.now seen.old }
+    ensures { OnOk result ((spec : AttributeSpec) → spec.attribute ≡ attribute
+        → AreSeen (earlier.now ++ spec ∷ []) seen.new) }
+{
+    seen.insert(attribute.0)?;
+    Ok(())
 }
 
 /// The next attribute and its form, without the number of a constant, or none at the pair 0, 0.
@@ -118,10 +105,10 @@ pub fn pair_of(bytes: &[u8]) -> Result<(Option<(u16, Form)>, &[u8]), Stop<DeclFa
 #[tactic(auto, using(crate::proofs::AbbrevSteps::pair_by))]
 fn next_attribute<'a>(
     earlier: &[AttributeSpec],
-    marks: &[bool],
+    seen: &BTreeSet<u16>,
     bytes: &'a [u8],
 ) -> Result<(Option<AttributeSpec>, &'a [u8]), Stop<DeclFault>>
-    requires { AreMarks earlier.now marks.now }
+    requires { AreSeen earlier.now seen.now }
     ensures exact { GivesOrMemory (λ x. (x.0, x.1.now)) result (pair_at earlier.now bytes.now) }
     ensures shorter { IfOk result (λ x. length x.1.now < length bytes.now) }
 {
@@ -129,7 +116,7 @@ fn next_attribute<'a>(
     let Some((attribute, form)) = pair else {
         return Ok((None, rest));
     };
-    if has_attribute(earlier, marks, attribute) {
+    if has_attribute(earlier, seen, attribute) {
         return Err(fault(AbbrevRule::AttributeTwice, attribute));
     }
     let (form, rest) = form_with_number(form, rest)?;
@@ -140,29 +127,26 @@ fn next_attribute<'a>(
     Ok((Some(spec), rest))
 }
 
-/// The pairs of a declaration, up to the pair 0, 0. No attribute is marked before and after.
-fn read_attributes<'a>(
+/// The pairs of a declaration, up to the pair 0, 0.
+fn read_attributes(
     alloc: Global,
-    marks: &mut [bool],
-    bytes: &'a [u8],
-) -> Result<(Vec<AttributeSpec>, &'a [u8]), Stop<DeclFault>>
-    requires { AreMarks [] marks.old }
-    ensures unmarked { OnOk result (AreMarks [] marks.new) }
+    bytes: &[u8],
+) -> Result<(Vec<AttributeSpec>, &[u8]), Stop<DeclFault>>
     ensures exact { GivesOrMemory (λ x. (x.0.items, x.1.now)) result (attributes_of bytes.now) }
     ensures shorter { IfOk result (λ x. length x.1.now < length bytes.now) }
 {
     let mut attributes = Vec::new(alloc);
+    let mut seen = BTreeSet::new(alloc);
     let mut rest = bytes;
     loop {
-        let (next, after) = match next_attribute(&attributes, marks, rest) {
+        let (next, after) = match next_attribute(&attributes, &seen, rest) {
             Ok(found) => found,
             Err(error) => return Err(error),
         };
         let Some(spec) = next else {
-            unmark(&attributes, marks);
             return Ok((attributes, after));
         };
-        mark(&attributes, marks, spec.attribute);
+        add(&attributes, &mut seen, spec.attribute)?;
         attributes.push(spec)?;
         rest = after;
     }
@@ -209,11 +193,8 @@ pub fn tag_and_children(bytes: &[u8]) -> Result<(Tag, bool, &[u8]), Stop<DeclFau
 fn next_decl<'a>(
     alloc: Global,
     earlier: &AbbrevTable,
-    marks: &mut [bool],
     bytes: &'a [u8],
-) -> Result<(Option<TableDecl>, &'a [u8]), Stop<DeclFault>>
-    requires { AreMarks [] marks.old }
-    ensures unmarked { OnOk result (AreMarks [] marks.new) }
+) -> Result<(Option<Decl>, &'a [u8]), Stop<DeclFault>>
     ensures exact { GivesOrMemory (λ x. (option_map table_view x.0, x.1.now)) result (decl_at earlier.now bytes.now) }
     ensures new { IfOk result (λ x. IfSome x.0 (λ d. has_code d.code earlier.now ≡ false)) }
     ensures shorter { IfOk result (λ x. length x.1.now < length bytes.now) }
@@ -229,8 +210,8 @@ fn next_decl<'a>(
         Ok(found) => found,
         Err(error) => return Err(error),
     };
-    let (attributes, rest) = read_attributes(alloc, marks, rest)?;
-    let decl = TableDecl {
+    let (attributes, rest) = read_attributes(alloc, rest)?;
+    let decl = Decl {
         code,
         tag,
         has_children,
@@ -243,18 +224,15 @@ fn next_decl<'a>(
 fn next_decl_at<'a>(
     alloc: Global,
     earlier: &AbbrevTable,
-    marks: &mut [bool],
     bytes: &'a [u8],
     place: usize,
-) -> Result<(Option<TableDecl>, &'a [u8]), Stop<AbbrevFault>>
-    requires { AreMarks [] marks.old }
-    ensures unmarked { OnOk result (AreMarks [] marks.new) }
+) -> Result<(Option<Decl>, &'a [u8]), Stop<AbbrevFault>>
     ensures exact { GivesOrMemory
         (λ x. (option_map table_view x.0, x.1.now)) result (placed place (decl_at earlier.now bytes.now)) }
     ensures new { IfOk result (λ x. IfSome x.0 (λ d. has_code d.code earlier.now ≡ false)) }
     ensures shorter { IfOk result (λ x. length x.1.now < length bytes.now) }
 {
-    match next_decl(alloc, earlier, marks, bytes) {
+    match next_decl(alloc, earlier, bytes) {
         Ok(found) => Ok(found),
         Err(error) => Err(error.at(place)),
     }
@@ -266,13 +244,11 @@ fn table(alloc: Global, section: &[u8], offset: usize) -> Result<AbbrevTable, St
     ensures fewer { IfOk result (λ t. length t < length section.now) }
     ensures exact { GivesOrMemory (λ t. t) result (table_at section.now offset) }
 {
-    let mut no_marks = no_marks(alloc)?;
-    let marks = no_marks.as_mut_slice();
     let mut table = AbbrevTable::new(alloc);
     let mut rest = &section[offset..];
     loop {
         let place = section.len() - rest.len();
-        let (next, after) = match next_decl_at(alloc, &table, marks, rest, place) {
+        let (next, after) = match next_decl_at(alloc, &table, rest, place) {
             Ok(found) => found,
             Err(fault) => return Err(fault),
         };

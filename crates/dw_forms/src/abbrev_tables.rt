@@ -17,7 +17,7 @@ ghost use Rattle.dw_forms.specs.Stops.{IfFault, FailsOrMemory};
 use crate::abbrev_reader::{code_of, read_table, tag_and_children};
 use crate::attribute_lists::AttributeLists;
 use crate::chains::Chains;
-use crate::decl::{Decl, Decls, KeptDecl};
+use crate::decl::{DeclAt, Decls, KeptDecl};
 use crate::fault::{AbbrevFault, DeclFault, Stop};
 use crate::list_reader::KeptLists;
 use crate::offsets::{Offsets, Placed};
@@ -249,7 +249,7 @@ impl AbbrevTables {
 
     /// The declaration of a table that has this code, and its number.
     #[inline(always)]
-    pub fn get(&self, table: u32, code: u64) -> Option<(u32, Decl<'_>)>
+    pub fn get(&self, table: u32, code: u64) -> Option<(u32, DeclAt<'_>)>
         requires searchable { AreSearchable self.now }
         requires table { table < length (tables_in self.now) }
         ensures decl { option_map (λ found. decl_view found.1) result ≡ find
@@ -261,7 +261,7 @@ impl AbbrevTables {
             return None;
         }
         let kept = &self.kept[(number - 1) as usize];
-        Some((number, Decl::new(kept, &self.lists.lists)))
+        Some((number, DeclAt::new(kept, &self.lists.lists)))
     }
 
     /// The declarations of all tables.

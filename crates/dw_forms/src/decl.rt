@@ -35,7 +35,7 @@ pub struct KeptDecl {
 
 /// What the entries with one code have in common.
 #[derive(Clone, Copy, Debug)]
-pub struct Decl<'a> {
+pub struct DeclAt<'a> {
     pub(crate) kept: &'a KeptDecl,
     pub(crate) lists: &'a AttributeLists,
     ghost list: { HasList lists.now.nodes.items kept.now.first kept.now.step },
@@ -54,12 +54,12 @@ impl Decls {
 
     /// The declaration of a number.
     #[inline(always)]
-    pub fn decl(&self, number: u32) -> Decl<'_>
+    pub fn decl(&self, number: u32) -> DeclAt<'_>
         requires some { 0 < number }
         requires within { number ≤ length self.now.kept.items }
         ensures { decl_of self.now.lists.nodes.items self.now.kept.items number ≡ Some (decl_view result) }
     {
-        Decl::new(&self.kept[(number - 1) as usize], &self.lists)
+        DeclAt::new(&self.kept[(number - 1) as usize], &self.lists)
     }
 
     /// How many attributes the declarations have, each counted once.
@@ -78,7 +78,7 @@ impl Decls {
     }
 }
 
-impl<'a> Decl<'a> {
+impl<'a> DeclAt<'a> {
     ghost use Rattle.dw_forms.specs.KeptDecls.{decl_view};
     ghost use Rattle.dw_forms.specs.Sizes.{are_allowed};
     ghost use Rattle.dw_forms.specs.Suffixes.{numbered, numbered_of, specs_in};
@@ -86,12 +86,12 @@ impl<'a> Decl<'a> {
 
     /// A declaration with the lists of its attributes.
     #[inline(always)]
-    pub(crate) fn new(kept: &'a KeptDecl, lists: &'a AttributeLists) -> Decl<'a>
+    pub(crate) fn new(kept: &'a KeptDecl, lists: &'a AttributeLists) -> DeclAt<'a>
         requires { HasList lists.now.nodes.items kept.now.first kept.now.step }
         ensures kept { result.kept.now ≡ kept.now }
         ensures lists { result.lists.now ≡ lists.now }
     {
-        Decl { kept, lists }
+        DeclAt { kept, lists }
     }
 
     /// The number by which entries name the declaration, at least 1.

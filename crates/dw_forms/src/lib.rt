@@ -19,13 +19,13 @@ mod offsets;
 mod value;
 mod value_reader;
 
-pub use abbrev::{AbbrevTable, TableDecl};
+pub use abbrev::{AbbrevTable, Decl};
 pub use abbrev_reader::read_table;
 pub use abbrev_tables::AbbrevTables;
 pub use attribute_lists::{AttributeLists, Node, Step};
 pub use attributes::Attributes;
 pub use constants::{Attribute, Language, Tag};
-pub use decl::{AttributeSpec, Decl, Decls, KeptDecl};
+pub use decl::{AttributeSpec, DeclAt, Decls, KeptDecl};
 pub use fault::{AbbrevFault, AbbrevRule, Stop};
 pub use form::Form;
 pub use laws::{

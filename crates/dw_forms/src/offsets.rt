@@ -1,6 +1,6 @@
 //! What begins at which offset of a section.
 
-ghost use Rattle.std.specs.Prelude.{◌≡◌, ◌<◌, ◌≤◌, ◌∷◌, ◌++◌, ℕ, [], length, get_or, OnOk};
+ghost use Rattle.std.specs.Prelude.{◌≡◌, ◌<◌, ◌≤◌, ◌+◌, ◌⊎◌, ◌∷◌, ◌++◌, ℕ, [], length, get_or, OnOk};
 ghost use Rattle.dw_forms.specs.Offsets.{AreEntered, AreBefore, BeginsAt, AreKnownFrom, NothingAt};
 
 use std::alloc::{AllocError, Global};
@@ -33,6 +33,7 @@ pub struct Offsets {
 fn end_after(end: usize, start: u32) -> usize
     ensures old { end ≤ result }
     ensures new { start < result }
+    ensures least { (result ≡ end) ⊎ (result ≡ start + 1) }
 {
     let start = start as usize;
     if start < end { end } else { start + 1 }
@@ -42,6 +43,8 @@ fn end_after(end: usize, start: u32) -> usize
 fn make_room(numbers: &mut Vec<u32>, end: usize) -> Result<(), AllocError>
     ensures same { (offset : ℕ) → get_or numbers.new.items offset 0 ≡ get_or numbers.old.items offset 0 }
     ensures long { OnOk result (end ≤ length numbers.new.items) }
+    ensures least { OnOk result ((length numbers.new.items ≡ length numbers.old.items)
+        ⊎ (length numbers.new.items ≡ end)) }
 {
     if numbers.len() < end {
         numbers.resize(end, 0)?;

@@ -12,7 +12,7 @@ returns-in_default-clause-exact c =
 pub loop-found-preserved : goal.loop-found-preserved
 loop-found-preserved c = record {
   within = omega (arith, c.in-Ok.ensures.shorter);
-  marked = rw c.in_ok-push.ensures.items (rw c.deref-in-loop-found.ensures.value at (c.mark.ensures c.in-Some.spec refl));
+  seen = rw c.in_ok-push.ensures.items (rw c.deref-in-loop-found.ensures.value at (c.in_ok-add.ensures c.in-Some.spec refl));
   goes_on = rw c.in_ok-push.ensures.items
       (goes_further _ _ _ _ _ c.in-Some.spec _ c.loop-found.invariant.goes_on (rw (c.deref.ensures.value, c.in-Some.is) at c.in-Ok.ensures.exact) c.in-Ok.ensures.shorter);
 }

@@ -1,5 +1,5 @@
 use Rattle.std.proofs.Common.{◌≤◌, length}
-use Rattle.dw_forms.specs.Marks.{AreMarks}
+use Rattle.dw_forms.specs.Seen.{AreSeen}
 use Rattle.dw_forms.specs.declared.fault.AbbrevRule.TheVariants.{AbbrevCut}
 use Rattle.dw_forms.specs.Abbrev.{broken}
 use Rattle.dw_forms.specs.AbbrevReading.{pair_at, attributes_of}
@@ -9,7 +9,7 @@ use Rattle.dw_forms.proofs.abbrev_reader.read_attributes.Given as goal
 abbrev pub invariant-loop-found : goal.invariant-loop-found
 invariant-loop-found l = record {
   within : length l.rest ≤ length l.bytes;
-  marked : AreMarks l.attributes.items l.marks;
+  seen : AreSeen l.attributes.items l.seen;
   goes_on : ReadsOn pair_at (broken AbbrevCut 0) l.attributes.items l.rest (attributes_of l.bytes);
 }
 

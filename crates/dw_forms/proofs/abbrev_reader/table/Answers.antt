@@ -18,7 +18,6 @@ pub loop-found-preserved : goal.loop-found-preserved
 loop-found-preserved c = record {
   within = omega (arith, c.in-Ok.ensures.shorter);
   fewer = rw c.in_ok-push.ensures (omega (arith, length-append c.loop-found.table (table_view c.in-Some.decl ∷ []), c.in-Ok.ensures.shorter, c.loop-found.invariant.fewer));
-  unmarked = c.in-Ok.ensures.unmarked;
   goes_on = rw c.in_ok-push.ensures
       (goes_further _ _ _ _ _ (table_view c.in-Some.decl) _ c.loop-found.invariant.goes_on (rw c.in-Some.is at c.in-Ok.ensures.exact) c.in-Ok.ensures.shorter);
 }

@@ -1,5 +1,4 @@
-use Rattle.std.proofs.Common.{◌≤◌, ◌+◌, [], length, drop}
-use Rattle.dw_forms.specs.Marks.{AreMarks}
+use Rattle.std.proofs.Common.{◌≤◌, ◌+◌, length, drop}
 use Rattle.dw_forms.specs.declared.fault.AbbrevRule.TheVariants.{AbbrevCut}
 use Rattle.dw_forms.specs.AbbrevReading.{placed_decl_at, decls_at}
 use Rattle.dw_forms.proofs.SpelledLists.{ReadsOn}
@@ -8,7 +7,6 @@ use Rattle.dw_forms.proofs.abbrev_reader.table.Given as goal
 abbrev pub invariant-loop-found : goal.invariant-loop-found
 invariant-loop-found l = record {
   within : length l.rest ≤ length l.section;
-  unmarked : AreMarks [] l.marks;
   fewer : length l.table + length l.rest ≤ length l.section;
   goes_on : ReadsOn (placed_decl_at (length l.section)) (record { rule = AbbrevCut; at = length l.section; attribute = 0 }) l.table l.rest (decls_at (length l.section) (drop l.offset l.section));
 }

@@ -1,5 +1,5 @@
 use Rattle.dw_forms.specs.AttributeLists.{list_in, numbered_in}
-use Rattle.dw_forms.proofs.decl.Decl.attributes.Goals as goal
+use Rattle.dw_forms.proofs.decl.DeclAt.attributes.Goals as goal
 
 pub new-requires : goal.new-requires
 new-requires c = c.args.self.now.list.within
