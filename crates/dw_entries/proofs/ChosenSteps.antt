@@ -1,6 +1,6 @@
 -- The attributes that are passed, up to the first one that a test holds for.
 use Rattle.std.proofs.Common.{rules, ◌≡◌, ℕ, zero, suc, false, List, [], ◌∷◌, ◌++◌, map, length, take, drop, Option, Some, None, sym, ap, ◌∙◌, subst, append-nil}
-use Rattle.std.specs.Prelude.{Bool, IfSome, IfNone, MatchOption}
+use Rattle.std.specs.Prelude.{Bool, IfSome, IfNone, OnSome, MatchOption}
 use Rattle.std.specs.List.{list_any}
 use Rattle.std.proofs.lemmas.Bool.{or_parts}
 use Rattle.std.proofs.lemmas.List.{take-append-drop, length-map}
@@ -8,12 +8,12 @@ use Rattle.dw_forms.specs.declared.attributes.Attributes.{Attributes}
 use Rattle.dw_forms.specs.declared.decl.AttributeSpec.{AttributeSpec}
 use Rattle.dw_forms.specs.declared.value.Value.{Value}
 use Rattle.dw_forms.specs.Chains.{items_of}
-use Rattle.dw_forms.specs.Suffixes.{specs_in, IsFrom}
+use Rattle.dw_forms.specs.Suffixes.{specs_in, IsFrom, Ends}
 use Rattle.dw_forms.specs.Value.{Datum}
-use Rattle.dw_forms.proofs.SuffixLaws.{specs_ends, follow}
+use Rattle.dw_forms.proofs.SuffixLaws.{specs_ends, first_specs, follow}
 use Rattle.dw_entries.specs.Grammar.{Context, Attribute, AreAttributes}
 use Rattle.dw_entries.specs.Asked.{value_of}
-use Rattle.dw_entries.specs.Chosen.{ArePassed, IsNextOf}
+use Rattle.dw_entries.specs.Chosen.{ArePassed, IsNextOf, TakesFirst}
 use Rattle.dw_entries.specs.ValuesLeft.{viewed}
 
 module _ (test : AttributeSpec → Bool) (x : Context) where
@@ -54,3 +54,20 @@ none_found X Y Passes items left k (Some y) ends rest are = tt
 none_found X Y Passes items left k None ends rest are =
     let parts : take k items ≡ items = sym (append-nil (take k items)) ∙ ap (λ (xs : List (ℕ × Datum)). take k items ++ xs) (sym ends.0 ∙ rest) ∙ take-append-drop k items in
     subst (ArePassed Passes) parts are
+
+-- the first attribute of those that a search found is taken
+pub stop_taken : (test : AttributeSpec → Bool) (all from mid after : Attributes) → IsFrom test all from → mid ≡ from → (r : Option (ℕ × Value))
+    → OnSome r ((spec : AttributeSpec) × Ends mid after (record { number = mid.first; item = spec } ∷ []))
+    → OnSome r (TakesFirst test (specs_in all) (specs_in after))
+stop_taken test all from mid after is same None first = tt
+stop_taken test all from mid after is same (Some y) first =
+    let f = follow test all from is in
+    let ends : Ends from after (record { number = from.first; item = first.0 } ∷ []) =
+    subst (λ (m : Attributes). Ends m after (record { number = m.first; item = first.0 } ∷ [])) same first.1 in
+    record {
+      passed = items_of f.before;
+      spec = first.0;
+      parts = specs_ends all from f.before f.ends ∙ ap (λ (specs : List AttributeSpec). items_of f.before ++ specs) (first_specs from after first.0 ends);
+      none_passed = f.none;
+      taken = f.passes first.0 after ends;
+    }

@@ -25,7 +25,7 @@ use Rattle.dw_forms.proofs.WalkSteps.{GoesTo, goes_to, step_none, step_within, s
 use Rattle.dw_entries.specs.Asked.{value_of}
 use Rattle.dw_entries.specs.Chosen.{ArePassed, IsNextOf}
 use Rattle.dw_entries.specs.Grammar.{Context, AreAttributes}
-use Rattle.dw_entries.specs.Leading.{DoesNotLead}
+use Rattle.dw_entries.specs.Leading.{DoesNotLead, LeadsIn}
 use Rattle.dw_entries.specs.declared.values.Values.{Values}
 use Rattle.dw_entries.specs.Values.{value_context, Left, form_there}
 use Rattle.dw_entries.proofs.ChosenSteps.{front_passed, all_passed}
@@ -119,6 +119,18 @@ module _ (v : Values) (step : Step) (skip : ℕ) (is : IsStep (numbered v.attrib
 
   same : spec.form ≡ form
   same = form_is v.attributes step is there nodes_are first_is form spec rest asked ends
+
+  -- it leads elsewhere or its value has no one size, and it has the form that was asked
+  pub leads_in : LeadsIn spec.attribute form (specs_in v.attributes) (specs_in rest)
+  leads_in = record {
+    passed = items_of g.before;
+    spec = spec;
+    parts = parts_there v.attributes step is there nodes_are first_is g spec rest ends;
+    none_leads = g.none_leads;
+    stops = g.stops spec (numbered_in (nodes_of there) rest.first) ((λ i. numbered_in (sym nodes_are i) (sym first_is i)) ∙ ends.parts ∙ ap (λ (n : ℕ). record { number = n; item = spec } ∷ numbered_in (nodes_of there) rest.first) first_is);
+    has_code = refl;
+    has_form = same;
+  }
 
   pub allowed : is_allowed v.version form ≡ true
   allowed = rw same at (left_goes x (spec ∷ specs_in rest) spec (specs_in rest) slice left refl).is.allowed

@@ -1,5 +1,5 @@
 -- One attribute of those that are left.
-use Rattle.std.proofs.Common.{rules, ◌≡◌, ℕ, ◌≤◌, ◌<◌, subst, List, [], ◌∷◌, ◌++◌, ◌-◌, length, take, drop, map, None, Result, Ok, Err, refl, sym, ap, ◌∙◌, append_assoc, arith, false}
+use Rattle.std.proofs.Common.{rules, ◌≡◌, ℕ, ◌≤◌, subst, List, [], ◌∷◌, ◌++◌, ◌-◌, length, take, drop, map, None, Result, Ok, Err, refl, sym, ap, ◌∙◌, append_assoc, false}
 use Rattle.std.specs.List.{flat_map}
 use Rattle.dw_forms.specs.declared.decl.AttributeSpec.{AttributeSpec}
 use Rattle.dw_forms.specs.declared.value.ValueFault.{ValueFault}
@@ -49,9 +49,6 @@ module _ (x : Context) (gs : List AttributeSpec) (s : AttributeSpec) (ss : List 
         let same : m.0.0 ≡ left_goes.others = ap (λ (z : Left x ss rest). z.0.0) (left_unique x ss rest m next_left) in
         let one : value_of left_goes.first ≡ (s.attribute, v) = let c : left_goes.first.code ≡ s.attribute = left_goes.is.code in λ i. (c i, value_is.0 i) in
         ap (map value_of) left_goes.parts ∙ ap (λ (b : List Attribute). value_of left_goes.first ∷ map value_of b) (sym same) ∙ ap (λ (b : ℕ × Datum). b ∷ map value_of m.0.0) one
-
-    pub fewer : (m : Left x ss rest) → length (map value_of m.0.0) < length (map value_of l.0.0)
-    fewer m = omega (arith, ap length (steps m))
 
 -- where none of these attributes has a code, no value has it
 pub value_of_none : (x : Context) (specs : List AttributeSpec) (bs : List Attribute) (attribute : ℕ) → AreAttributes x specs bs → declares specs attribute ≡ false → None ≡ value_in (map value_of bs) attribute

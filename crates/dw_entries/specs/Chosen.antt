@@ -1,5 +1,6 @@
 -- State: the attributes of an entry at which a search stops, by how they are declared.
-use Rattle.std.specs.Prelude.{◌≡◌, ℕ, List, ◌∷◌, ◌++◌, Some, false, slice_get}
+use Rattle.std.specs.Prelude.{◌≡◌, ℕ, List, ◌∷◌, ◌++◌, Some, Bool, true, false, slice_get}
+use Rattle.std.specs.List.{list_any}
 use Rattle.dw_forms.specs.declared.decl.AttributeSpec.{AttributeSpec}
 use Rattle.dw_forms.specs.Plans.{is_stop}
 use Rattle.dw_forms.specs.Value.{Datum}
@@ -29,3 +30,11 @@ pub record IsNextOf (Passes : AttributeSpec → Type 0) (items : List (ℕ × Da
   pub passed : List (ℕ × Datum)
   pub parts : items ≡ passed ++ found ∷ behind
   pub are_passed : ArePassed Passes passed
+
+-- the first of these for which the test holds was taken, and those after it are left
+pub record TakesFirst (test : AttributeSpec → Bool) (specs behind : List AttributeSpec) : Type 0 where
+  pub passed : List AttributeSpec
+  pub spec : AttributeSpec
+  pub parts : specs ≡ passed ++ spec ∷ behind
+  pub none_passed : list_any test passed ≡ false
+  pub taken : test spec ≡ true

@@ -23,7 +23,7 @@ use crate::lookup::EntryHead;
 use crate::scanning::read_code;
 use crate::values::{Leading, Values};
 use crate::walk::Record;
-use dw_forms::{Attribute, Attributes, Decl, Tag, Value};
+use dw_forms::{Attribute, Attributes, DeclAt, Tag, Value};
 use std::marker::Model;
 
 #[inline(always)]
@@ -42,7 +42,7 @@ pub struct EntryAt<'e, 'a> {
     entries: &'e Entries<'a>,
     id: EntryId,
     kept: Record,
-    decl: Decl<'e>,
+    decl: DeclAt<'e>,
     /// The number of its unit.
     unit: usize,
     header: UnitHeader,

@@ -15,7 +15,7 @@ use crate::entries::Entries;
 use crate::header::{UnitHeader, UnitType};
 use crate::id::EntryId;
 use crate::values::Values;
-use dw_forms::{Attribute, Decl, Decls, Tag, Value};
+use dw_forms::{Attribute, DeclAt, Decls, Tag, Value};
 
 /// An entry without its attributes.
 #[derive(Clone, Copy, Debug, PartialEq, Eq)]
@@ -66,7 +66,7 @@ impl<'a> Entries<'a> {
     }
 
     /// The declaration of an entry. Its unit is not looked up.
-    pub fn decl(&self, id: EntryId) -> Decl<'_>
+    pub fn decl(&self, id: EntryId) -> DeclAt<'_>
         requires { id < length (all_entries self.now) }
         ensures { IfSome (slice_get (all_entries self.now) id) (λ e. decl_view result ≡ e.head.decl) }
     {

@@ -29,7 +29,7 @@ use crate::unit::take_unit;
 use crate::walk::Kept;
 use dw_elf::Sections;
 use dw_forms::{
-    AbbrevRule, AbbrevTables, Attribute, AttributeSpec, Attributes, Decl, NumberFault, Stop,
+    AbbrevRule, AbbrevTables, Attribute, AttributeSpec, Attributes, DeclAt, NumberFault, Stop,
     ValueFault, read_uleb, skip_value,
 };
 use std::alloc::Global;
@@ -166,7 +166,7 @@ fn skip_each<'b>(
 #[inline(always)]
 fn skip_attributes<'b>(
     context: UnitContext<'_>,
-    decl: Decl<'_>,
+    decl: DeclAt<'_>,
     bytes: &'b [u8],
 ) -> Result<&'b [u8], Failing>
     ensures { Gives (λ rest. rest.now) result
@@ -187,7 +187,7 @@ fn skip_attributes<'b>(
 /// The declaration with this code, and its number.
 #[inline(always)]
 #[tactic(auto, unfolding(crate::specs::Grammar::declared_in))]
-fn find_decl(context: UnitContext<'_>, code: u64) -> Result<(u32, Decl<'_>), Failing>
+fn find_decl(context: UnitContext<'_>, code: u64) -> Result<(u32, DeclAt<'_>), Failing>
     ensures found { IfOk result (λ d. Some (decl_view d.1) ≡ declared_in (context_in context.entry).table code) }
     ensures number { IfOk result (λ d. d.0 ≡ numbers_in context.entry (decl_view d.1).code) }
     ensures none { IfErr result (λ f. None ≡ declared_in (context_in context.entry).table code) }
@@ -208,7 +208,7 @@ fn find_decl(context: UnitContext<'_>, code: u64) -> Result<(u32, Decl<'_>), Fai
 pub fn read_item<'a, 'b>(
     context: UnitContext<'a>,
     bytes: &'b [u8],
-) -> Result<(Option<(u32, Decl<'a>)>, &'b [u8]), Failing>
+) -> Result<(Option<(u32, DeclAt<'a>)>, &'b [u8]), Failing>
     ensures { Gives (λ x. (option_map declared_view x.0, x.1.now)) result
         (seen (numbered_decl (numbers_in context.entry)) (item_at (context_in context.entry) bytes.now)) }
 {
@@ -227,7 +227,7 @@ pub fn read_first<'a, 'b>(
     context: UnitContext<'a>,
     kind: HeaderKind,
     bytes: &'b [u8],
-) -> Result<((u32, Decl<'a>), &'b [u8]), Failing>
+) -> Result<((u32, DeclAt<'a>), &'b [u8]), Failing>
     ensures { Gives (λ x. (Some (declared_view x.0), x.1.now)) result
         (seen (numbered_decl (numbers_in context.entry)) (first_at (context_in context.entry) kind bytes.now)) }
 {

@@ -1,6 +1,6 @@
 //! The attributes of an entry, each value decoded on demand.
 
-ghost use Rattle.std.specs.Prelude.{◌≡◌, Some, IfNone, List, drop, length, IfSome};
+ghost use Rattle.std.specs.Prelude.{◌≡◌, ◌∷◌, [], Some, IfNone, List, drop, length, IfSome, OnSome, MatchOption};
 ghost use Rattle.dw_forms.specs.Suffixes.{numbered, specs_in, Ends};
 ghost use Rattle.dw_forms.specs.Walks.{IsStep};
 ghost use Rattle.dw_forms.specs.declared.decl.AttributeSpec.{AttributeSpec as SpecData};
@@ -24,7 +24,7 @@ pub struct Leading<'e, 'a> {
 
 impl<'a> Leading<'_, 'a> {
     ghost use Rattle.dw_entries.specs.Chosen.{ArePassed, IsNextOf};
-    ghost use Rattle.dw_entries.specs.Leading.{next_form, leading_left, DoesNotLead};
+    ghost use Rattle.dw_entries.specs.Leading.{next_form, leading_left, leading_specs, DoesNotLead, LeadsIn};
     ghost use Rattle.dw_entries.specs.ValuesLeft.{viewed};
 
     /// The form of the next attribute, if one is left.
@@ -43,7 +43,8 @@ impl<'a> Leading<'_, 'a> {
     #[inline(always)]
     pub fn next_in(&mut self, form: Form) -> (Attribute, Value<'a>)
         requires { next_form self.old ≡ Some form }
-        ensures { IsNextOf DoesNotLead (leading_left self.old) (viewed result) (leading_left self.new) }
+        ensures found { IsNextOf DoesNotLead (leading_left self.old) (viewed result) (leading_left self.new) }
+        ensures leads { LeadsIn result.0 form (leading_specs self.old) (leading_specs self.new) }
     {
         let (item, next) = self.values.step_to(self.step, form);
         self.step = next;
@@ -66,10 +67,11 @@ pub struct Values<'e, 'a> {
 impl<'e, 'a> Values<'e, 'a> {
     ghost use Rattle.std.specs.Prelude.{option_map};
     ghost use Rattle.dw_forms.specs.Value.{view};
-    ghost use Rattle.dw_entries.specs.ValuesLeft.{viewed, values_left};
-    ghost use Rattle.dw_entries.specs.Leading.{DoesNotLead};
+    ghost use Rattle.dw_forms.specs.Plans.{is_stop};
+    ghost use Rattle.dw_entries.specs.ValuesLeft.{viewed, values_left, specs_left};
+    ghost use Rattle.dw_entries.specs.Leading.{DoesNotLead, LeadsIn};
     ghost use Rattle.dw_entries.specs.Lookups.{value_in};
-    ghost use Rattle.dw_entries.specs.Chosen.{DoesNotStop, ArePassed, IsNextOf};
+    ghost use Rattle.dw_entries.specs.Chosen.{DoesNotStop, ArePassed, IsNextOf, TakesFirst};
 
     /// The value of the first attribute with this code, if one is left.
     #[inline(always)]
@@ -87,8 +89,9 @@ impl<'e, 'a> Values<'e, 'a> {
     #[inline(always)]
     fn pass(&mut self, to: Attributes<'e>)
         requires { (before : List (Numbered SpecData)) × Ends self.old.attributes to before }
-        ensures { (before : List (Numbered SpecData)) → Ends self.old.attributes to.entry before
+        ensures left { (before : List (Numbered SpecData)) → Ends self.old.attributes to.entry before
             → values_left self.new ≡ drop (length before) (values_left self.old) }
+        ensures attributes { self.new.attributes ≡ to.entry }
     {
         match self
             .attributes
@@ -109,6 +112,7 @@ impl<'e, 'a> Values<'e, 'a> {
         requires step { IsStep (numbered self.old.attributes) step }
         requires form { form_there self.old.attributes step.to ≡ Some form }
         ensures found { IsNextOf DoesNotLead (values_left self.old) (viewed result.0) (values_left self.new) }
+        ensures leads { LeadsIn result.0.0 form (specs_in self.old.attributes) (specs_in self.new.attributes) }
         ensures step { IsStep (numbered self.new.attributes) result.1 }
     {
         let there = self.attributes.stepped(step);
@@ -131,16 +135,38 @@ impl<'e, 'a> Values<'e, 'a> {
         }
     }
 
+    /// Takes the first attribute that is left.
+    #[inline(always)]
+    fn take_first(&mut self) -> Option<(Attribute, Value<'a>)>
+        ensures steps { MatchOption result ((values_left self.old ≡ []) × (values_left self.new ≡ []))
+            (λ item. values_left self.old ≡ viewed item ∷ values_left self.new) }
+        ensures first { OnSome result ((spec : SpecData) × Ends self.old.attributes self.new.attributes
+            (record { number = self.old.attributes.first; item = spec } ∷ [])) }
+    {
+        let Some((spec, after)) = self.attributes.split_first() else {
+            return None;
+        };
+        match read_value(self.version, spec.form, self.address_size, self.bytes) {
+            Ok((value, len)) => {
+                self.attributes = after;
+                self.bytes = &self.bytes[len..];
+                Some((spec.attribute, value))
+            }
+            Err(_) => unreachable!(),
+        }
+    }
+
     /// The next attribute at which a search stops. Values before it, which take no bytes, are skipped.
     #[inline(always)]
     pub fn next_stop(&mut self) -> Option<(Attribute, Value<'a>)>
         ensures some { IfSome result
             (λ found. IsNextOf DoesNotStop (values_left self.old) (viewed found) (values_left self.new)) }
         ensures none { IfNone result (ArePassed DoesNotStop (values_left self.old)) }
+        ensures stop { OnSome result (TakesFirst is_stop (specs_left self.old) (specs_left self.new)) }
     {
         let from = self.attributes.next_stop();
         self.pass(from);
-        self.next()
+        self.take_first()
     }
 }
 
@@ -156,16 +182,6 @@ impl<'e, 'a> Iterator for Values<'e, 'a> {
 
     #[inline(always)]
     fn next(&mut self) -> Option<(Attribute, Value<'a>)> {
-        let Some((spec, after)) = self.attributes.split_first() else {
-            return None;
-        };
-        match read_value(self.version, spec.form, self.address_size, self.bytes) {
-            Ok((value, len)) => {
-                self.attributes = after;
-                self.bytes = &self.bytes[len..];
-                Some((spec.attribute, value))
-            }
-            Err(_) => unreachable!(),
-        }
+        self.take_first()
     }
 }

@@ -17,7 +17,7 @@ use crate::fault::{Broken, Failing, Rule, Section};
 use crate::header::UnitHeader;
 use crate::id::OptionalId;
 use crate::scanning::{read_code, read_first, read_item};
-use dw_forms::{AbbrevTables, Decl, Stop};
+use dw_forms::{AbbrevTables, DeclAt, Stop};
 use std::alloc::{AllocError, Global};
 
 /// Where a unit is, and what its header says. Units are numbered in rising offset.
@@ -77,7 +77,7 @@ fn enter(
     records: &mut Vec<Record>,
     levels: &mut Vec<Level>,
     at: u32,
-    declared: (u32, Decl<'_>),
+    declared: (u32, DeclAt<'_>),
 ) -> Result<(), AllocError>
     requires few_entries { length records.old.items < 0xffffffff }
     requires few_levels { length levels.old.items < 2 ^ 32 }

@@ -3,7 +3,7 @@ use Rattle.dw_forms.specs.Plans.{is_stop}
 use Rattle.dw_forms.proofs.SuffixLaws.{Follow, follow}
 use Rattle.dw_entries.specs.Values.{value_context}
 use Rattle.dw_entries.specs.ValuesLeft.{values_left}
-use Rattle.dw_entries.proofs.ChosenSteps.{before_passed, next_found, none_found}
+use Rattle.dw_entries.proofs.ChosenSteps.{before_passed, next_found, none_found, stop_taken}
 use Rattle.dw_entries.proofs.values.Values.next_stop.Goals as goal
 
 pub pass-requires : goal.pass-requires
@@ -15,12 +15,16 @@ pub returns-clause-some : goal.returns-clause-some
 returns-clause-some c =
     let v = c.args.self.now in
     let f = follow is_stop v.attributes c.next_stop-from.result c.next_stop-from.ensures in
-    next_found _ _ (values_left v) (values_left c.pass.new.self) (values_left c.next.new.self) (length f.before) c.next.result c.next.ensures.steps (c.pass.ensures f.before f.ends)
+    next_found _ _ (values_left v) (values_left c.pass.new.self) (values_left c.take_first.new.self) (length f.before) c.take_first.result c.take_first.ensures.steps (c.pass.ensures.left f.before f.ends)
     (before_passed is_stop (value_context v.version v.address_size) v.attributes c.next_stop-from.result c.next_stop-from.ensures v.left.0.0 v.left.1.are)
 
 pub returns-clause-none : goal.returns-clause-none
 returns-clause-none c =
     let v = c.args.self.now in
     let f = follow is_stop v.attributes c.next_stop-from.result c.next_stop-from.ensures in
-    none_found _ _ _ (values_left v) (values_left c.pass.new.self) (length f.before) c.next.result c.next.ensures.steps (c.pass.ensures f.before f.ends)
+    none_found _ _ _ (values_left v) (values_left c.pass.new.self) (length f.before) c.take_first.result c.take_first.ensures.steps (c.pass.ensures.left f.before f.ends)
     (before_passed is_stop (value_context v.version v.address_size) v.attributes c.next_stop-from.result c.next_stop-from.ensures v.left.0.0 v.left.1.are)
+
+pub returns-clause-stop : goal.returns-clause-stop
+returns-clause-stop c =
+    stop_taken is_stop c.args.self.now.attributes c.next_stop-from.result c.pass.new.self.attributes c.take_first.new.self.attributes c.next_stop-from.ensures c.pass.ensures.attributes c.take_first.result c.take_first.ensures.first

@@ -3,8 +3,8 @@ use Rattle.dw_forms.specs.Suffixes.{specs_in}
 use Rattle.dw_forms.specs.Value.{view}
 use Rattle.dw_forms.proofs.SuffixLaws.{first_specs}
 use Rattle.dw_entries.specs.Values.{value_context}
-use Rattle.dw_entries.proofs.ValueSteps.{next_left, steps, fewer, never_fails, none_left, read_on}
-use Rattle.dw_entries.proofs.values.ValuesIterator.next.Goals as goal
+use Rattle.dw_entries.proofs.ValueSteps.{next_left, steps, never_fails, none_left, read_on}
+use Rattle.dw_entries.proofs.values.Values.take_first.Goals as goal
 
 pub returns-in_default-clause-steps : goal.returns-in_default-clause-steps
 returns-in_default-clause-steps c = search (rules, none_left)
@@ -30,16 +30,5 @@ returns-clause-steps c =
     search (steps (value_context v.version v.address_size) (specs_in v.attributes) c.in-Some.spec (specs_in c.in-Some.after) v.bytes.now v.left
     (first_specs v.attributes c.in-Some.after c.in-Some.spec c.in-Some.ensures) (view c.in-Ok.value) _ (read_on _ _ _ c.in-Ok.ensures.found.within c.in-Ok.ensures.exact))
 
-pub returns-clause-goes : goal.returns-clause-goes
-returns-clause-goes c =
-    let v = c.args.self.now in
-    record {
-      on = λ _. (
-        tt,
-        tt,
-        search (fewer (value_context v.version v.address_size) (specs_in v.attributes) c.in-Some.spec (specs_in c.in-Some.after) v.bytes.now v.left
-            (first_specs v.attributes c.in-Some.after c.in-Some.spec c.in-Some.ensures) (view c.in-Ok.value) _ (read_on _ _ _ c.in-Ok.ensures.found.within c.in-Ok.ensures.exact)),
-      );
-      keeps = tt;
-      rests = λ _. tt;
-    }
+pub returns-clause-first : goal.returns-clause-first
+returns-clause-first c = (c.in-Some.spec, c.in-Some.ensures)
