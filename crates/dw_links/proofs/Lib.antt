@@ -4,6 +4,7 @@ pub mod ClassLaws
 pub mod Reached
 pub mod TargetLaws
 pub mod Asked
+pub mod EndLaws
 pub mod SlotLaws
 pub mod TextLaws
 pub mod TableLaws

@@ -1,4 +1,4 @@
--- Where no rule on strings and addresses fails, texts and addresses lie within their sections.
+-- Where no rule on strings and addresses fails, strings end and addresses lie within their sections.
 use Rattle.std.proofs.Common.{rules, ◌≡◌, ◌≢◌, ℕ, suc, ◌+◌, ◌*◌, ◌<◌, ◌≤◌, ◌==◌, ◌⊎◌, Bool, true, false, List, [], ◌∷◌, length, Option, Some, None, IfSome, refl, sym, ap, ◌∙◌, subst, arith, inl, inr}
 use Rattle.std.specs.Prelude.{slice_get}
 use Rattle.std.proofs.lemmas.Option.{option_and_then_some}
@@ -18,10 +18,11 @@ use Rattle.dw_entries.specs.Asked.{values_of, HasAttribute}
 use Rattle.dw_entries.specs.Lookups.{entry_head, value_in, value_at_entry}
 use Rattle.dw_entries.proofs.EntryFacts.{first_entry}
 use Rattle.dw_entries.proofs.Firsts.{same_some}
-use Rattle.dw_links.specs.Contributions.{IsContribution, slot_count, slot_at, Ends}
+use Rattle.dw_links.specs.Contributions.{IsContribution, slot_count, slot_at}
 use Rattle.dw_links.specs.Bases.{section_offset_in, base_in}
 use Rattle.dw_links.specs.Strings.{IsStringContribution, IsAddressContribution, BaseFails, StringIndexFails, AddressIndexFails, StringFailsIn, StringFailures}
 use Rattle.dw_links.specs.Slots.{IsTextSlot, TextLies, IsAddressSlot, AddressLies}
+use Rattle.dw_links.proofs.EndLaws.{ends_or_not, sure}
 
 -- ---- the attribute that a value is found at
 
@@ -101,15 +102,11 @@ slot_within section slot mark base index size is below = search (rules)
 at_most : (a b : ℕ) → ((b < a) → ⊥) → a ≤ b
 at_most a b never = elim (below_or_not b a) [ inl more ↦ absurd (never more) | inr le ↦ le ]
 
--- a string that begins at an offset does so within the section
-ends_within : (section : List ℕ) (offset : ℕ) → ((Ends section offset → ⊥) → ⊥) → offset ≤ length section
-ends_within section offset ends = at_most offset (length section) (λ more. ends (λ e. let last = e.behind in let within = e.within in omega (arith, last, within, more)))
-
 text_slot : (sections : Sections) (index base : ℕ) → ((rule : Rule) → StringIndexFails sections (Some base) index rule → ⊥) → ((IsStringContribution sections base → ⊥) → ⊥) → IsTextSlot sections index base
 text_slot sections index base never is_sound = record {
   within = at_most (base + 4 * index + 4) (length sections.str_offsets.now) (λ more. is_sound
       (λ c. let lies = slot_within sections.str_offsets.now 4 0 base index (inl refl) c (in_count c) in omega (arith, lies, more)));
-  leads = ends_within sections.str.now (slot_at sections.str_offsets.now 4 base index) (λ endless. is_sound (λ c. never StringEnd (c, in_count c, endless)));
+  leads = sure (ends_or_not sections.str.now (slot_at sections.str_offsets.now 4 base index)) (λ endless. is_sound (λ c. never StringEnd (c, in_count c, endless)));
 }
   where
     in_count : IsStringContribution sections base → index < slot_count sections.str_offsets.now 4 base
@@ -130,9 +127,9 @@ if_each (Some n) P each = each n refl
 pub text_lies : (sections : Sections) (us : List DebugUnit) (id : ℕ) (e : Entry) (p : PlacedUnit) (attribute : ℕ) (v : Datum) → HasNone (StringFailures sections us) → slice_get (entries_of us) id ≡ Some e → slice_get (placed us) e.unit ≡ Some p
     → value_at_entry e attribute ≡ Some v → TextLies sections (base_in (entries_of us) p DW_AT_str_offsets_base) v
 text_lies sections us id e p attribute (str offset) none is is_unit value =
-    ends_within sections.str.now offset (passes_string sections us id e p attribute (str offset) none is is_unit value StringEnd)
+    sure (ends_or_not sections.str.now offset) (passes_string sections us id e p attribute (str offset) none is is_unit value StringEnd)
 text_lies sections us id e p attribute (line_str offset) none is is_unit value =
-    ends_within sections.line_str.now offset (passes_string sections us id e p attribute (line_str offset) none is is_unit value StringEnd)
+    sure (ends_or_not sections.line_str.now offset) (passes_string sections us id e p attribute (line_str offset) none is is_unit value StringEnd)
 text_lies sections us id e p attribute (str_index index) none is is_unit value =
     if_each (base_in (entries_of us) p DW_AT_str_offsets_base) (IsTextSlot sections index) (λ base said. text_slot sections index base
     (λ rule fails. passes_string sections us id e p attribute (str_index index) none is is_unit value rule (subst (λ (o : Option ℕ). StringIndexFails sections o index rule) (sym said) fails))

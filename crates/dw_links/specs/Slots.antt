@@ -1,4 +1,4 @@
--- State: texts and addresses that are within their sections.
+-- State: strings that end, and addresses that are within their sections.
 use Rattle.std.specs.Prelude.{ℕ, ◌+◌, ◌*◌, ◌≤◌, length, Option, IfSome}
 use Rattle.dw_elf.specs.declared.sections.Sections.{Sections}
 use Rattle.dw_forms.specs.Value.{Datum, str, line_str, str_index, addr_index}
@@ -6,17 +6,17 @@ use Rattle.dw_entries.specs.declared.header.UnitHeader.{UnitHeader}
 use Rattle.dw_entries.specs.Header.{IsSize}
 use Rattle.dw_links.specs.declared.texts.TextPlace.{TextPlace}
 use Rattle.dw_links.specs.declared.texts.TextPlace.TheVariants.{Info, Str, LineStr}
-use Rattle.dw_links.specs.Contributions.{slot_at}
+use Rattle.dw_links.specs.Contributions.{slot_at, Ends}
 
--- the slot of an index is within .debug_str_offsets, and the string whose offset is there within .debug_str
+-- the slot of an index is within .debug_str_offsets, and a string of .debug_str begins at the offset that is there
 pub record IsTextSlot (sections : Sections) (index base : ℕ) : Type 0 where
   pub within : base + 4 * index + 4 ≤ length sections.str_offsets.now
-  pub leads : slot_at sections.str_offsets.now 4 base index ≤ length sections.str.now
+  pub leads : Ends sections.str.now (slot_at sections.str_offsets.now 4 base index)
 
--- the text of a value lies within its section, in a unit that has this base
+-- a string begins where a value says, in a unit that has this base
 abbrev pub TextLies : Sections → (base : Option ℕ) → Datum → Type 0
-TextLies sections base (str offset) = offset ≤ length sections.str.now
-TextLies sections base (line_str offset) = offset ≤ length sections.line_str.now
+TextLies sections base (str offset) = Ends sections.str.now offset
+TextLies sections base (line_str offset) = Ends sections.line_str.now offset
 TextLies sections base (str_index index) = IfSome base (IsTextSlot sections index)
 TextLies sections base _ = Unit {0}
 
@@ -25,6 +25,12 @@ abbrev pub IsPlace : Sections → TextPlace → Type 0
 IsPlace sections (Info offset) = offset ≤ length sections.info.now
 IsPlace sections (Str offset) = offset ≤ length sections.str.now
 IsPlace sections (LineStr offset) = offset ≤ length sections.line_str.now
+
+-- a string begins at a place
+abbrev pub BeginsString : Sections → TextPlace → Type 0
+BeginsString sections (Info offset) = Ends sections.info.now offset
+BeginsString sections (Str offset) = Ends sections.str.now offset
+BeginsString sections (LineStr offset) = Ends sections.line_str.now offset
 
 -- the slot of an index lies within .debug_addr
 pub record IsAddressSlot (sections : Sections) (header : UnitHeader) (index base : ℕ) : Type 0 where

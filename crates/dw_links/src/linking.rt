@@ -173,6 +173,7 @@ fn stop_of(alloc: Global, entries: &Entries<'_>, broken: Broken) -> Stop<Fault>
 
 /// The targets of the types of all entries, in their order, or the first failure at a string or an address, or if there
 /// is none, at a reference.
+#[inline(never)]
 pub(crate) fn link_entries<'t>(
     alloc: Global,
     entries: &Entries<'_>,

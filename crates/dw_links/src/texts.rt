@@ -7,7 +7,7 @@ ghost use Rattle.dw_entries.specs.Lookups.{value_at_entry};
 ghost use Rattle.dw_entries.specs.Views.{sections_of, all_entries, all_units, units_of};
 ghost use Rattle.dw_entries.specs.Failures.{HasNone};
 ghost use Rattle.dw_links.specs.Contributions.{string_at, slot_at};
-ghost use Rattle.dw_links.specs.Slots.{IsPlace, AddressLies, TextLies};
+ghost use Rattle.dw_links.specs.Slots.{IsPlace, BeginsString, AddressLies, TextLies};
 ghost use Rattle.dw_links.specs.ValueTexts.{text_there, text_of, address_of};
 ghost use Rattle.dw_links.specs.Strings.{StringFailures};
 ghost use Rattle.dw_links.specs.Tables.{AreTables};
@@ -82,7 +82,7 @@ fn place_of_value(
     requires lies { TextLies (sections_of entries.now) base (view value) }
     ensures text { option_map (text_there (sections_of entries.now)) result
         ≡ text_of (sections_of entries.now) base (view value.entry) }
-    ensures within { IfSome result (IsPlace (sections_of entries.now)) }
+    ensures begins { IfSome result (BeginsString (sections_of entries.now)) }
 {
     match value {
         Value::Text(bytes) => {
@@ -140,6 +140,7 @@ impl LinkTables {
             (λ e. option_map (text_there (sections_of entries.now)) result ≡ text_at (sections_of entries.now)
             (all_entries entries.now) (all_units entries.now) e attribute) }
         ensures within { IfSome result (IsPlace (sections_of entries.now)) }
+        ensures begins { IfSome result (BeginsString (sections_of entries.now)) }
     {
         let value = entries.value(id, attribute)?;
         let base = base_of(self.str_bases.as_slice(), entries, id);

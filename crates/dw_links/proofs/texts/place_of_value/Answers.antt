@@ -3,6 +3,7 @@ use Rattle.dw_forms.specs.declared.value.Value.{Value}
 use Rattle.dw_forms.specs.Value.{view}
 use Rattle.dw_entries.specs.Views.{sections_of}
 use Rattle.dw_links.specs.ValueTexts.{text_of}
+use Rattle.dw_links.proofs.EndLaws.{text_begins}
 use Rattle.dw_links.proofs.TextLaws.{text_is}
 use Rattle.dw_links.proofs.texts.place_of_value.Goals as goal
 
@@ -11,3 +12,7 @@ returns-in-Text-clause-text c =
     let s = sections_of c.args.entries.now in
     ap Some (text_is s.info.now c.text_start-offset.result c.in-Text.bytes.now c.text_start-offset.ensures)
     ∙ ap (λ (v : Value). text_of s c.args.base (view v)) (sym c.in-Text.is)
+
+pub returns-in-Text-clause-begins : goal.returns-in-Text-clause-begins
+returns-in-Text-clause-begins c =
+    text_begins (sections_of c.args.entries.now).info.now c.text_start-offset.result c.in-Text.bytes.now c.text_start-offset.ensures

@@ -7,6 +7,7 @@ use Rattle.dw_entries.specs.Lookups.{value_at_entry}
 use Rattle.dw_links.specs.AttributeTexts.{text_at}
 use Rattle.dw_links.proofs.Skips.{there}
 use Rattle.dw_links.proofs.TableLaws.{entry_unit, kept_base}
+use Rattle.dw_links.proofs.EndLaws.{begins_within}
 use Rattle.dw_links.proofs.SlotLaws.{text_lies}
 use Rattle.dw_links.proofs.links.LinkTables.text_place.Goals as goal
 
@@ -32,3 +33,6 @@ returns-clause-text c =
 pub returns-in_err-value-clause-text : goal.returns-in_err-value-clause-text
 unfolding text_at
 returns-in_err-value-clause-text c = search (rules, entry_unit)
+
+pub returns-clause-within : goal.returns-clause-within
+returns-clause-within c = begins_within (sections_of c.args.entries.now) c.place_of_value.result c.place_of_value.ensures.begins
