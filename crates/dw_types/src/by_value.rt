@@ -22,7 +22,7 @@ use crate::graph::{Packed, StepGraph};
 use crate::numbers::Numbers;
 use crate::size_rules::{LeastFault, check, note};
 use dw_entries::constants::*;
-use dw_entries::{Fault, Rule, Stop};
+use dw_entries::{Entries, Fault, Rule, Stop};
 use dw_links::Links;
 use std::alloc::{AllocError, Global};
 
@@ -212,9 +212,14 @@ pub struct ByValue {
 }
 
 impl ByValue {
-    /// The graph of the steps by value of entries, or the first fault of their shapes. The nodes are the numbers of the
-    /// entries.
-    pub fn new(alloc: Global, links: &Links<'_, '_>) -> Result<Self, Stop<Fault>>
+    /// The graph of the steps by value of entries, by their links, or the first fault of their shapes. The nodes are
+    /// the numbers of the entries.
+    pub fn new(
+        alloc: Global,
+        entries: &Entries<'_>,
+        links: &Links<'_, '_>,
+    ) -> Result<Self, Stop<Fault>>
+        requires entries { links.now.entries.now ≡ entries.now }
         ensures graph { IfOk result (λ it. ⟦<ByValue as StepGraph>⟧.graph it ≡ by_value (all_facts links.now)) }
         ensures steps { IfOk result (λ it. (from to : ℕ)
             → IsStep (⟦<ByValue as StepGraph>⟧.graph it) from to ↔ IsStepByValue (all_facts links.now) from to) }
@@ -222,21 +227,21 @@ impl ByValue {
         ensures sound { OnOk result (HasNone (ShapeFailures (all_facts links.now))) }
         ensures fault { IfErr result (IfPlainFault (IsFirst (ShapeFailures (all_facts links.now)))) }
     {
-        let languages = languages_of(alloc, links.entries)?;
-        let mut entries = FactsList::new(links, &languages);
-        let count = entries.count();
+        let languages = languages_of(alloc, entries)?;
+        let mut facts = FactsList::new(links, &languages);
+        let count = facts.count();
         let mut steps = Numbers::with_room(alloc, count / 2)?;
         let mut ends = Numbers::with_room(alloc, count)?;
         let mut least: LeastFault = None;
         let mut types = 0;
         for node in 0..count {
-            if entries.at(node).is_type() {
+            if facts.at(node).is_type() {
                 types += 1;
-                push_row(&mut entries, &mut steps, &mut least, node)?;
+                push_row(&mut facts, &mut steps, &mut least, node)?;
             }
             ends.push(steps.len())?;
         }
-        check(alloc, &entries, least)?;
+        check(alloc, &facts, least)?;
         let packed = Packed::from_rows(steps, ends);
         Ok(ByValue { packed, types })
     }

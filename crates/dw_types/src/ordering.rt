@@ -218,13 +218,12 @@ fn place_of_least(nodes: &[usize]) -> usize
     ensures place_in { result < length nodes.now }
     ensures least { (k : ℕ) → k < length nodes.now → slice_index nodes.now result ≤ slice_index nodes.now k }
 {
-    let mut least = 0;
-    for (place, node) in nodes.iter().enumerate() {
-        if *node < nodes[least] {
-            least = place;
-        }
-    }
-    least
+    nodes
+        .iter()
+        .enumerate()
+        .min_by_key(|pair| *pair.1)
+        .unwrap()
+        .0
 }
 
 /// A closed walk round a ring of nodes, from the one at a place back to it.

@@ -22,7 +22,7 @@ use crate::kind::Kind;
 use crate::numbers::Numbers;
 use crate::size_rules::{LeastFault, check, note};
 use dw_entries::constants::*;
-use dw_entries::{EntryId, Fault, Stop};
+use dw_entries::{Entries, EntryId, Fault, Stop};
 use dw_links::Links;
 use std::alloc::{AllocError, Global};
 use std::marker::Model;
@@ -237,21 +237,27 @@ fn measure(
 }
 
 /// The one table of sizes, or the first fault of sizes. The order is that of the graph of the entries' steps by value.
-pub fn sizes(alloc: Global, links: &Links<'_, '_>, order: &Order) -> Result<SizeTable, Stop<Fault>>
+pub fn sizes(
+    alloc: Global,
+    entries: &Entries<'_>,
+    links: &Links<'_, '_>,
+    order: &Order,
+) -> Result<SizeTable, Stop<Fault>>
+    requires entries { links.now.entries.now ≡ entries.now }
     requires order { IsOrderOf (by_value (all_facts links.now)) order.now }
     ensures long { IfOk result (λ table. length table ≡ length (entries_held links.now)) }
     ensures only { IfOk result (λ table. IsSizeTable (all_facts links.now) (size_at table)) }
     ensures sound { IfOk result (λ table. HasNone (SizeFailures (all_facts links.now) (size_at table))) }
     ensures fault { IfErr result (IfPlainFault (IsFirstSizeFault (all_facts links.now))) }
 {
-    let languages = languages_of(alloc, links.entries)?;
-    let mut entries = FactsList::new(links, &languages);
-    let mut sizes = SizeTable::none(alloc, entries.count())?;
+    let languages = languages_of(alloc, entries)?;
+    let mut facts = FactsList::new(links, &languages);
+    let mut sizes = SizeTable::none(alloc, facts.count())?;
     let mut least: LeastFault = None;
     for rank in 0..order.count() {
         let node = order.node(rank);
-        measure(alloc, &mut entries, &mut sizes, &mut least, node)?;
+        measure(alloc, &mut facts, &mut sizes, &mut least, node)?;
     }
-    check(alloc, &entries, least)?;
+    check(alloc, &facts, least)?;
     Ok(sizes)
 }

@@ -13,6 +13,6 @@ abbrev pub invariant-loop-node : goal.invariant-loop-node
 invariant-loop-node l =
     PacksUpTo (by_value (all_facts l.fn.links)) l.steps l.ends l.node
     × LeadsBelow l.steps (length (all_facts l.fn.links))
-    × (l.entries ≡ all_facts l.fn.links)
+    × (l.facts ≡ all_facts l.fn.links)
     × IsNoted (fails_shape (all_facts l.fn.links)) (HasSeenShapes (all_facts l.fn.links) l.node) l.least
     × (l.types ≡ type_count (take l.node (all_facts l.fn.links)))
