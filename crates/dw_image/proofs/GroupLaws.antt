@@ -19,7 +19,7 @@ use Rattle.dw_image.proofs.OneFirst.{AreOneAtPlace, one_attribute}
 abbrev HasGroup : ℕ → (Failure → Type 0) → Type 0
 HasGroup n Fails = (f : Failure) → Fails f → group_of f.rule ≡ n
 
-has_group : (s : Sections) (us : List DebugUnit) (group : Group) → HasGroup (turn_of group) (failures_of s us group)
+pub has_group : (s : Sections) (us : List DebugUnit) (group : Group) → HasGroup (turn_of group) (failures_of s us group)
 has_group s us strings f fails = string_failures s us f fails
 has_group s us references f fails = reference_failures us f fails
 has_group s us _ f fails = search rules

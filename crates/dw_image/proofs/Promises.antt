@@ -1,7 +1,7 @@
 -- Where no rule on classes, strings, addresses and references fails, each value has one of its attribute's classes,
 -- each string and address is there, and each reference has its target.
-use Rattle.std.proofs.Common.{rules, ◌≡◌, List, refl, ℕ, zero, suc, ◌+◌, ◌-◌, ◌<◌, ◌≤◌, length, Option, None, Some, sym, ap, ◌∙◌, arith, inl, inr, ◌⊎◌}
-use Rattle.std.specs.Prelude.{slice_get, slice_index}
+use Rattle.std.proofs.Common.{rules, ◌≡◌, List, refl, ℕ, ◌-◌, ◌<◌, ◌≤◌, Option, None, Some, arith, inl, inr}
+use Rattle.std.specs.Prelude.{slice_get}
 use Rattle.dw_elf.specs.declared.sections.Sections.{Sections}
 use Rattle.dw_forms.specs.Codes.{DW_AT_str_offsets_base, DW_AT_addr_base}
 use Rattle.dw_forms.specs.Value.{Datum, str, line_str, str_index, addr_index}
@@ -14,11 +14,12 @@ use Rattle.dw_entries.specs.declared.fault.Rule.{Rule}
 use Rattle.dw_entries.specs.Entries.{Entry, entries_of, PlacedUnit, placed}
 use Rattle.dw_entries.specs.Lookups.{entry_head}
 use Rattle.dw_links.specs.Classes.{class_of, allows_in, ClassFailures}
-use Rattle.dw_links.specs.Contributions.{IsContribution, slot_count, slot_at, Ends}
+use Rattle.dw_links.specs.Contributions.{IsContribution, slot_count, slot_at}
 use Rattle.dw_links.specs.Bases.{base_in}
 use Rattle.dw_links.specs.Strings.{IsStringContribution, IsAddressContribution, StringFailsIn, StringFailures}
 use Rattle.dw_links.specs.References.{ReferenceFailures}
 use Rattle.dw_links.proofs.LinkedEntries.{have_targets, have_types, true_unless}
+use Rattle.dw_links.proofs.EndLaws.{Decided, decide_le, decide_lt, decide_eq, ends_or_not, sure}
 use Rattle.dw_links.proofs.SlotLaws.{passes_at, sound}
 use Rattle.dw_image.specs.Headline.{HasClasses, HasStringAt, HasAddressAt, LeadsToText, HasTexts, HasReferences}
 use Rattle.dw_image.specs.Valid.{SpellsInfo}
@@ -34,52 +35,9 @@ classes_of units none id e is position attribute v has unit in_unit =
       fails = record { position = position; value = v; has = has; place = refl; fails = record { unit = unit; in_unit = in_unit; class = wrong; only = refl } };
     }))
 
--- ---- what can be decided
-
-abbrev Decided : Type 0 → Type 0
-Decided P = P ⊎ (P → ⊥)
-
-decide_le : (a b : ℕ) → Decided (a ≤ b)
-decide_le a b = grind arith
-
-decide_lt : (a b : ℕ) → Decided (a < b)
-decide_lt a b = grind arith
-
-decide_eq : (a b : ℕ) → Decided (a ≡ b)
-decide_eq a b = grind arith
-
--- a string begins at the offset, or none does; so many bytes are left there
-decide_ends : (section : List ℕ) (left offset : ℕ) → offset + left ≡ length section → Decided (Ends section offset)
-decide_ends section zero offset at = inr (λ e. let p = e.behind in let q = e.within in omega (arith, at, p, q))
-decide_ends section (suc left) offset at =
-    elim (decide_eq (slice_index section offset) 0) [
-      | inl is ↦ inl (record { last = offset; behind = omega arith; within = omega (arith, at); is_zero = is })
-      | inr other ↦ elim (decide_ends section left (suc offset) (omega (arith, at))) [
-        | inl e ↦ inl (record { last = e.last; behind = let p = e.behind in omega (arith, p); within = e.within; is_zero = e.is_zero })
-        | inr none ↦ inr (λ e. elim (decide_eq e.last offset) [
-          | inl same ↦ other (ap (slice_index section) (sym same) ∙ e.is_zero)
-          | inr more ↦ none (record { last = e.last; behind = let p = e.behind in let q = not_eq_lt offset e.last p (λ s. more (sym s)) in q; within = e.within; is_zero = e.is_zero })
-        ])
-      ]
-    ]
-  where
-    not_eq_lt : (a b : ℕ) → a ≤ b → (a ≡ b → ⊥) → suc a ≤ b
-    not_eq_lt a b le other = grind (arith, le, other)
-
-pub ends_or_not : (section : List ℕ) (offset : ℕ) → Decided (Ends section offset)
-ends_or_not section offset =
-    elim (decide_le offset (length section)) [
-      | inl le ↦ decide_ends section (length section - offset) offset (omega (arith, le))
-      | inr more ↦ inr (λ e. let p = e.behind in let q = e.within in more (omega (arith, p, q)))
-    ]
-
 -- a contribution is at the base, or none is
 contribution_or_not : (section : List ℕ) (slot mark base : ℕ) → Decided (IsContribution section slot mark base)
 contribution_or_not section slot mark base = search (rules, decide_le, decide_lt, decide_eq)
-
--- what can be decided and is not refuted holds
-sure : {P : Type 0} → Decided P → ((P → ⊥) → ⊥) → P
-sure d not_not = elim d [ inl p ↦ p | inr against ↦ absurd (not_not against) ]
 
 -- ---- what no failure means
 

@@ -12,7 +12,7 @@ ghost use Rattle.dw_image.specs.Measures.{AreMeasures, AreSteps};
 ghost use Rattle.dw_forms.specs.Value.{view};
 ghost use Rattle.dw_entries.specs.Lookups.{nth_of, full_head, value_at_entry};
 ghost use Rattle.dw_entries.specs.Entries.{placed};
-ghost use Rattle.dw_links.specs.Slots.{IsPlace};
+ghost use Rattle.dw_links.specs.Slots.{IsPlace, BeginsString};
 ghost use Rattle.dw_links.specs.Targets.{target_of};
 ghost use Rattle.dw_links.specs.ValueTexts.{text_there};
 ghost use Rattle.dw_types.specs.Children.{children_of, IsChild};
@@ -170,6 +170,7 @@ impl<'a> Image<'a> {
         ensures text { IfSome (slice_get (entries_in self.now) id)
             (λ e. option_map (text_there (sections_in self.now)) result ≡ name_in self.now e) }
         ensures within { IfSome result (IsPlace (sections_in self.now)) }
+        ensures begins { IfSome result (BeginsString (sections_in self.now)) }
     {
         self.tables.text_place(&self.entries, id, DW_AT_name)
     }

@@ -12,4 +12,4 @@ pub use dw_types::NoMemory;
 pub use image::{Children, Image};
 pub use laws::{images_are_sound, one_first_fault, one_list, valid_has_no_fault};
 pub use types::TypeId;
-pub use verifying::{Verdict, verify};
+pub use verifying::{Verdict, verify, verify_scanned};

@@ -76,10 +76,10 @@ fn measure(alloc: Global, links: &Links<'_, '_>) -> Result<(ByValue, SizeTable),
     ensures sizes { IfOk result (λ found. AreMeasures (all_facts links.now) found.1) }
     ensures fault { IfErr result (IfFault (FailsInTypes (sections_of links.now.entries.now) (units_held links.now))) }
 {
-    let steps = ByValue::new(alloc, links)?;
+    let steps = ByValue::new(alloc, links.entries, links)?;
     match order(alloc, &steps) {
         Ok(order) => {
-            let sizes = sizes(alloc, links, &order)?;
+            let sizes = sizes(alloc, links.entries, links, &order)?;
             Ok((steps, sizes))
         }
         Err(OrderFault::Cycle(nodes)) => {
@@ -89,12 +89,11 @@ fn measure(alloc: Global, links: &Links<'_, '_>) -> Result<(ByValue, SizeTable),
     }
 }
 
-/// Checks the groups of rules in their order.
-fn image_of<'a>(alloc: Global, sections: Sections<'a>) -> Result<Image<'a>, Stop<Fault>>
-    ensures sound { IfOk result (IsImageOf sections.entry) }
-    ensures fault { IfErr result (IfFault (IsFaultOf sections.entry)) }
+/// Checks the groups of rules on entries in their order.
+fn image_of<'a>(alloc: Global, entries: Entries<'a>) -> Result<Image<'a>, Stop<Fault>>
+    ensures sound { IfOk result (IsImageOf (sections_of entries.entry)) }
+    ensures fault { IfErr result (IfFault (IsFaultOf (sections_of entries.entry))) }
 {
-    let entries = scan(alloc, &sections)?;
     let links = link(alloc, &entries)?;
     let (steps, sizes) = measure(alloc, &links)?;
     let tables = links.into_tables();
@@ -108,13 +107,24 @@ fn image_of<'a>(alloc: Global, sections: Sections<'a>) -> Result<Image<'a>, Stop
     })
 }
 
+/// Whether sections whose entries were scanned are valid: their image, or the first fault.
+pub fn verify_scanned<'a>(alloc: Global, entries: Entries<'a>) -> Result<Verdict<'a>, NoMemory>
+    ensures { IfOk result (IsVerdictOf (sections_of entries.entry)) }
+{
+    match image_of(alloc, entries) {
+        Ok(image) => Ok(Verdict::Sound(image)),
+        Err(Stop::Fault(fault)) => Ok(Verdict::Fault(fault)),
+        Err(Stop::Memory) => Err(NoMemory),
+    }
+}
+
 /// Whether the sections are valid: their image, or the first fault.
 pub fn verify<'a>(alloc: Global, sections: Sections<'a>) -> Result<Verdict<'a>, NoMemory>
     ensures { IfOk result (IsVerdictOf sections.entry) }
 {
-    match image_of(alloc, sections) {
-        Ok(image) => Ok(Verdict::Sound(image)),
-        Err(Stop::Fault(fault)) => Ok(Verdict::Fault(fault)),
+    match scan(alloc, &sections) {
+        Ok(entries) => verify_scanned(alloc, entries),
+        Err(Stop::Fault(first)) => Ok(Verdict::Fault(first)),
         Err(Stop::Memory) => Err(NoMemory),
     }
 }

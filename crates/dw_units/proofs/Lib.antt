@@ -1,3 +1,5 @@
+pub mod TreeLemmas
+pub mod FirstLemmas
 pub mod MovedEntries
 pub mod TextLemmas
 pub mod ReachLemmas
@@ -7,5 +9,6 @@ pub mod WindowLemmas
 pub mod TypeLemmas
 pub mod WindowSizes
 pub mod JoinLemmas
+pub mod GroupLemmas
 pub mod FormLemmas
 pub mod CountLemmas

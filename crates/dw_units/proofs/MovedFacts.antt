@@ -14,9 +14,10 @@ use Rattle.dw_links.specs.Targets.{target_of}
 use Rattle.dw_types.specs.Entries.{entry_of}
 use Rattle.dw_types.specs.FactsOf.{facts_in, facts_at}
 use Rattle.dw_types.proofs.FactsLemmas.{facts-get}
-use Rattle.dw_units.specs.Alone.{StaysInside, StandsAlone}
+use Rattle.dw_units.specs.Alone.{StaysInside}
+use Rattle.dw_units.specs.ByUnit.{StaysAlone}
 use Rattle.dw_units.proofs.MovedEntries.{moved_number, moved, moved_facts, get}
-use Rattle.dw_units.proofs.TextLemmas.{lone, unit_zero, alone_at}
+use Rattle.dw_units.proofs.TextLemmas.{lone, unit_zero, stays_at}
 use Rattle.dw_units.proofs.ReachLemmas.{reach_moved}
 use Rattle.dw_units.proofs.ReferenceLemmas.{all_units}
 
@@ -51,11 +52,11 @@ module _ (us : List DebugUnit) (rise : OffsetsRise (entries_of us)) (number : �
   facts_moved e of stays = search (rules, target_moved, of_unit, moved_number)
 
 -- the facts of an entry of a unit alone, in the unit's place
-pub facts_get : (s : Sections) (us : List DebugUnit) → AllByRecursion (StandsAlone s) us → (number : ℕ) (p : PlacedUnit)
+pub facts_get : (s : Sections) (us : List DebugUnit) → AllByRecursion (StaysAlone s) us → (number : ℕ) (p : PlacedUnit)
     → slice_get (placed us) number ≡ Some p → (inner : ℕ) (e : Entry) → slice_get (entries_of (p.unit ∷ [])) inner ≡ Some e
     → entry_of (facts_in us) (p.first + inner) ≡ moved_facts p.first p.at (entry_of (facts_in (p.unit ∷ [])) inner)
 facts_get s us all number p is inner e is_e =
-    let alone = alone_at s us number p all is in
+    let alone = stays_at s us number p all is in
     facts-get (entries_of us) (placed us) (p.first + inner) (moved number p.first p.at e) (get us number p inner e is is_e)
     ∙ facts_moved us (entries_rise s.«abbrev».now us (all_units s us all)) number p is (entries_rise s.«abbrev».now (p.unit ∷ []) (alone.is_unit, tt))
     e (unit_zero p.unit inner e is_e) (alone.stays inner e is_e)

@@ -4,7 +4,7 @@ use Rattle.std.proofs.lemmas.Bool.{and_parts, eqb-true}
 use Rattle.std.specs.Prelude.{slice_index, is_some, nat_eq, not}
 use Rattle.dw_entries.specs.declared.fault.Rule.{Rule}
 use Rattle.dw_types.specs.Entries.{entry_of, is_parent, ParentsComeFirst, TargetsAreEntries, Facts}
-use Rattle.dw_types.specs.Graphs.{IsStep, IsClosed}
+use Rattle.dw_types.specs.Graphs.{IsStep, IsClosed, IsCycle}
 use Rattle.dw_types.specs.Kinds.{role_in, parent_role, has_members, passes_type_on, is_declared_type, Role}
 use Rattle.dw_forms.specs.Codes.{DW_TAG_member}
 use Rattle.std.proofs.lemmas.List.{length-map}
@@ -74,6 +74,70 @@ module _ (all alone : List Facts) (first at : ℕ) (w : IsWindow all alone first
       let (k, target, same) = some_moved first (entry_of alone inner).signature_target to (sym (ap (λ (x : Facts). x.signature_target) f) ∙ is) in
       (k, (w.targets inner k).1 target, sym same, by_signature (sym (ap is_declared_type f) ∙ declared) target)
 
+  -- and a step of the entry alone is one from the entry of the window
+  step_in_place : (inner to : ℕ) → inner < length alone → IsStepByValue alone inner to → IsStepByValue all (first + inner) (first + to)
+  step_in_place inner to inside (by_type passes is) =
+      let f = w.facts inner inside in
+      by_type (ap passes_type_on f ∙ passes) (ap (λ (x : Facts). x.type_target) f ∙ ap (moved_number first) is)
+  step_in_place inner to inside (by_member member below plain is) =
+      let f = w.facts member below in
+      let within = w.within in
+      by_member (first + member) (omega (arith, below, within)) (plain_member_same inner member inside below ∙ plain)
+      (ap (λ (x : Facts). x.type_target) f ∙ ap (moved_number first) is)
+  step_in_place inner to inside (by_signature declared is) =
+      let f = w.facts inner inside in
+      by_signature (ap is_declared_type f ∙ declared) (ap (λ (x : Facts). x.signature_target) f ∙ ap (moved_number first) is)
+
+  pub raised : (nodes : List ℕ) (k : ℕ) → k < length nodes → slice_index (map (λ (n : ℕ). first + n) nodes) k ≡ first + slice_index nodes k
+  raised [] k below = absurd (omega arith)
+  raised (n ∷ nodes) zero below = refl
+  raised (n ∷ nodes) (suc k) below = raised nodes k (omega arith)
+
+  -- a cycle of the entries alone is one of the window
+  pub cycle_in_place : (nodes : List ℕ) → IsCycle (by_value alone) nodes → ((k : ℕ) → k < length nodes → slice_index nodes k < length alone)
+      → IsCycle (by_value all) (map (λ (n : ℕ). first + n) nodes)
+  cycle_in_place nodes cycle inside =
+      let two = cycle.closed.two in
+      let long : length (map (λ (n : ℕ). first + n) nodes) ≡ length nodes = length-map nodes (λ (n : ℕ). first + n) in
+      let begins = raised nodes 0 (omega (arith, two)) in
+      record {
+        closed = record {
+          two = omega (arith, two, long);
+          steps = λ k next. step_at k (omega (arith, next, long));
+          closed = begins ∙ ap (λ (n : ℕ). first + n) cycle.closed.closed ∙ sym (raised nodes (length nodes - 1) (omega (arith, two)))
+              ∙ ap (λ (n : ℕ). slice_index (map (λ (m : ℕ). first + m) nodes) (n - 1)) (sym long);
+        };
+        least = λ k below.
+            let within : k < length nodes = omega (arith, below, long) in
+            let least = cycle.least k within in
+            omega (arith, least, begins, raised nodes k within);
+        once = λ i j less below same.
+            let within : j + 1 < length nodes = omega (arith, below, long) in
+            let one = raised nodes i (omega (arith, less, within)) in
+            let other = raised nodes j (omega (arith, within)) in
+            cycle.once i j less within (omega (arith, one, other, same));
+      }
+    where
+      step_at : (k : ℕ) → k + 1 < length nodes
+          → IsStep (by_value all) (slice_index (map (λ (n : ℕ). first + n) nodes) k) (slice_index (map (λ (n : ℕ). first + n) nodes) (k + 1))
+      step_at k next =
+          let here : k < length nodes = omega (arith, next) in
+          let step = by_value-from_step alone (slice_index nodes k) (slice_index nodes (k + 1)) (cycle.closed.steps k next) in
+          let there = step-from_by_value all (first + slice_index nodes k) (first + slice_index nodes (k + 1))
+          (step_in_place (slice_index nodes k) (slice_index nodes (k + 1)) (inside k here) step) in
+          subst (λ (n : ℕ). IsStep (by_value all) n (slice_index (map (λ (x : ℕ). first + x) nodes) (k + 1))) (sym (raised nodes k here))
+          (subst (IsStep (by_value all) (first + slice_index nodes k)) (sym (raised nodes (k + 1) next)) there)
+
+  -- the offsets of entries, in their places
+  pub offsets_moved : (nodes : List ℕ) → ((k : ℕ) → k < length nodes → slice_index nodes k < length alone)
+      → map (λ (offset : ℕ). at + offset) (map (λ (n : ℕ). (entry_of alone n).offset) nodes)
+      ≡ map (λ (n : ℕ). (entry_of all n).offset) (map (λ (n : ℕ). first + n) nodes)
+  offsets_moved [] inside = refl
+  offsets_moved (n ∷ nodes) inside =
+      let here = sym (ap (λ (x : Facts). x.offset) (w.facts n (inside 0 (omega arith)))) in
+      let more = offsets_moved nodes (λ k below. inside (suc k) (omega (arith, below))) in
+      λ i. here i ∷ more i
+
   -- a closed list that begins in the window stays there
   stays_in : (nodes : List ℕ) → IsClosed (by_value all) nodes → (inner : ℕ) → inner < length alone → slice_index nodes 0 ≡ first + inner
       → (k : ℕ) → k < length nodes → (m : ℕ) × (m < length alone) × (slice_index nodes k ≡ first + m)
@@ -117,3 +181,23 @@ module _ (all alone : List Facts) (first at : ℕ) (w : IsWindow all alone first
           (let e : j ≡ slice_index nodes (k + 1) - first = omega (arith, to) in e) ∙ sym (lowered nodes (k + 1) next) in
           subst (λ (n : ℕ). IsStep (by_value alone) n (slice_index (map (λ (x : ℕ). x - first) nodes) (k + 1))) low_from
           (subst (IsStep (by_value alone) m) low_to (step-from_by_value alone m j alone_step))
+
+  -- a cycle that begins in the window is one of the entries alone
+  pub cycle_alone : (nodes : List ℕ) → IsCycle (by_value all) nodes → (inner : ℕ) → inner < length alone → slice_index nodes 0 ≡ first + inner
+      → IsCycle (by_value alone) (map (λ (n : ℕ). n - first) nodes)
+  cycle_alone nodes cycle inner inside begins =
+      let two = cycle.closed.two in
+      let long : length (map (λ (n : ℕ). n - first) nodes) ≡ length nodes = length-map nodes (λ (n : ℕ). n - first) in
+      record {
+        closed = closed_alone nodes cycle.closed inner inside begins;
+        least = λ k below.
+            let within : k < length nodes = omega (arith, below, long) in
+            let least = cycle.least k within in
+            omega (arith, least, lowered nodes 0 (omega (arith, two)), lowered nodes k within);
+        once = λ i j less below same.
+            let within : j + 1 < length nodes = omega (arith, below, long) in
+            let (m, m_in, one) = stays_in nodes cycle.closed inner inside begins i (omega (arith, less, within)) in
+            let (n, n_in, other) = stays_in nodes cycle.closed inner inside begins j (omega (arith, within)) in
+            cycle.once i j less within
+            (omega (arith, one, other, same, lowered nodes i (omega (arith, less, within)), lowered nodes j (omega (arith, within))));
+      }

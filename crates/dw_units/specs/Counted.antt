@@ -4,9 +4,11 @@ use Rattle.std.specs.List.{count_by}
 use Rattle.dw_elf.specs.declared.sections.Sections.{Sections}
 use Rattle.dw_entries.specs.Units.{DebugUnit}
 use Rattle.dw_entries.specs.Entries.{entries_of}
-use Rattle.dw_image.specs.Headline.{IsSoundBy}
+use Rattle.dw_image.specs.Headline.{IsSoundBy, IsFaultOf}
 use Rattle.dw_image.specs.Lookups.{is_type_entry}
 use Rattle.dw_units.specs.declared.counting.Counts.{Counts}
+use Rattle.dw_units.specs.declared.counting.Found.{Found}
+use Rattle.dw_units.specs.declared.counting.Found.TheVariants as found
 
 -- the sections are sound, and these are the counts of their units, entries and types
 pub record AreCounts (s : Sections) (c : Counts) : Type 0 where
@@ -15,3 +17,8 @@ pub record AreCounts (s : Sections) (c : Counts) : Type 0 where
   pub unit_count : c.units ≡ length units
   pub entry_count : c.entries ≡ length (entries_of units)
   pub type_count : c.types ≡ count_by is_type_entry (entries_of units)
+
+-- the sections are sound, and these are their counts; or this is their first fault
+abbrev pub IsFound : Sections → Found → Type 0
+IsFound s (found.Sound c) = AreCounts s c
+IsFound s (found.Fault fault) = IsFaultOf s fault

@@ -1,43 +1,49 @@
 //! Whether each unit may be verified alone, and one unit verified as sections of its own.
 
-ghost use Rattle.std.specs.Prelude.{◌≡◌, None, IfOk, IfSome, ◌<◌, ◌≤◌, length};
+ghost use Rattle.std.specs.Prelude.{◌≡◌, None, IfErr, IfOk, IfSome, ◌<◌, ◌≤◌, length, take};
 ghost use Rattle.std.specs.Bool.{OnTrue, OnFalse};
 ghost use Rattle.dw_entries.specs.Asked.{EachEntry};
 ghost use Rattle.dw_links.specs.Signatures.{type_in};
+ghost use Rattle.dw_entries.specs.Faults.{Fails};
+ghost use Rattle.dw_entries.specs.Stopped.{IfPlainFault};
 ghost use Rattle.dw_entries.specs.Views.{all_entries};
 ghost use Rattle.dw_units.specs.Alone.{may_leave, StaysInside};
-ghost use Rattle.dw_units.specs.Parts.{IsOneAlone, IsAlone};
+ghost use Rattle.dw_units.specs.Parts.{IsWhole, IsOneAlone, IsFoundAlone};
 
 use crate::counting::Counts;
 use byteorder::{ByteOrder, LittleEndian};
 use dw_elf::Sections;
-use dw_entries::{Entries, HeaderKind};
+use dw_entries::{Entries, Fault, HeaderKind, Stop, UnitType, scan};
 use dw_forms::{Form, read_sleb, read_uleb};
-use dw_image::{NoMemory, Verdict, verify};
+use dw_image::{NoMemory, Verdict, verify_scanned};
 use std::alloc::Global;
 
 /// The size of the unit at the front, by its unit_length. None if the bytes end before.
 pub fn unit_size(info: &[u8]) -> Option<usize>
-    ensures { IfSome result (λ n. (0 < n) × (n ≤ length info.now)) }
+    ensures within { IfSome result (λ n. (0 < n) × (n ≤ length info.now)) }
+    ensures whole { IfSome result (λ n. IsWhole (take n info.now)) }
 {
     if info.len() < 4 {
         return None;
     }
-    let length = LittleEndian::read_u32(info) as usize;
+    let length = LittleEndian::read_u32(&info[..4]) as usize;
     if length > info.len() - 4 {
         return None;
     }
     Some(length + 4)
 }
 
-/// Where the abbreviation table of a unit begins (DWARF 4, 7.5.1.1; DWARF 5, 7.5.1). None if it has no such header.
+/// Where the abbreviation table of a unit begins (DWARF 4, 7.5.1.1; DWARF 5, 7.5.1). None if it has no such header, and
+/// for a type unit.
 fn table_offset(unit: &[u8]) -> Option<usize> {
     if unit.len() < 12 {
         return None;
     }
     match unit[4] {
         4 => Some(LittleEndian::read_u32(&unit[6..]) as usize),
-        5 => Some(LittleEndian::read_u32(&unit[8..]) as usize),
+        5 if unit[6] != UnitType::TypeUnit.code() => {
+            Some(LittleEndian::read_u32(&unit[8..]) as usize)
+        }
         _ => None,
     }
 }
@@ -184,14 +190,24 @@ fn is_one_alone(entries: &Entries<'_>) -> bool
     stays_inside(entries)
 }
 
-/// Verifies the bytes of one unit as the whole .debug_info, and counts it. None if they are not valid so, or are not
-/// one unit, or the unit is a type unit or may refer to another unit.
+/// What one unit alone is found to be.
+#[derive(Drop)]
+pub enum Verified {
+    /// It is valid, and these are its counts.
+    Sound(Counts),
+    /// A rule fails on its entries: its first fault, as if it were the whole .debug_info.
+    Fault(Fault),
+}
+
+/// Verifies the bytes of one unit as the whole .debug_info. An error is the fault of a rule of trees, placed as if they
+/// were the whole. None if they are not one unit, and if the unit is a type unit or may refer to another unit.
 pub fn verify_alone<'a>(
     alloc: Global,
     sections: &Sections<'a>,
     part: &'a [u8],
-) -> Result<Option<Counts>, NoMemory>
-    ensures { IfOk result (λ found. IfSome found (IsAlone sections.now part.now)) }
+) -> Result<Option<Verified>, Stop<Fault>>
+    ensures found { IfOk result (λ found. IfSome found (IsFoundAlone sections.now part.now)) }
+    ensures fault { IfErr result (IfPlainFault (Fails sections.now.«abbrev».now part.now)) }
 {
     let own = match Sections::new(
         sections.abbrev,
@@ -204,13 +220,13 @@ pub fn verify_alone<'a>(
         Ok(own) => own,
         Err(_) => return Ok(None),
     };
-    match verify(alloc, own)? {
-        Verdict::Fault(_) => Ok(None),
-        Verdict::Sound(image) => {
-            if !is_one_alone(image.scanned()) {
-                return Ok(None);
-            }
-            Ok(Some(Counts::of(&image)))
-        }
+    let entries = scan(alloc, &own)?;
+    if !is_one_alone(&entries) {
+        return Ok(None);
+    }
+    match verify_scanned(alloc, entries) {
+        Ok(Verdict::Fault(fault)) => Ok(Some(Verified::Fault(fault))),
+        Ok(Verdict::Sound(image)) => Ok(Some(Verified::Sound(Counts::of(&image)))),
+        Err(NoMemory) => Err(Stop::Memory),
     }
 }

@@ -1,14 +1,19 @@
 //! How many units, entries and types sound sections have, counted unit after unit.
 
-ghost use Rattle.std.specs.Prelude.{◌≡◌, ◌+◌, IfOk, IfSome};
+ghost use Rattle.std.specs.Prelude.{◌≡◌, ℕ, ◌+◌, ◌≤◌, List, [], length, map, take, drop, IfOk, IfSome};
+ghost use Rattle.dw_elf.specs.declared.sections.Sections.{Sections};
+ghost use Rattle.dw_entries.specs.Rules.{group_of};
 ghost use Rattle.dw_image.specs.Images.{sections_in};
 ghost use Rattle.dw_units.specs.Alone.{JoinsUnits};
-ghost use Rattle.dw_units.specs.Counted.{AreCounts};
+ghost use Rattle.dw_units.specs.ByUnit.{FirstOfUnits, TreesOfUnits, IsMoved, moved_offset};
+ghost use Rattle.dw_units.specs.Counted.{AreCounts, IsFound};
+ghost use Rattle.dw_units.specs.Parts.{AreSoFar, IsFoundAlone, IsFoundAt, is_less};
 
-use crate::alone::{are_apart, unit_size, verify_alone};
+use crate::alone::{Verified, are_apart, unit_size, verify_alone};
 use dw_elf::Sections;
+use dw_entries::{Fault, Rule, Section, Stop};
 use dw_image::{Image, NoMemory};
-use std::alloc::Global;
+use std::alloc::{AllocError, Global};
 
 /// How many units, entries and types there are.
 #[derive(Clone, Copy, Debug, PartialEq, Eq)]
@@ -59,40 +64,221 @@ fn keep_memory(alloc: Global) {
     let _ = room.reserve(KEPT);
 }
 
-/// The counts of sound sections, if each unit is valid alone and refers to no other unit. None if that is not so, or if
+/// What the units are found to be.
+#[derive(Drop)]
+pub enum Found {
+    /// The sections are sound, and these are their counts.
+    Sound(Counts),
+    /// They are not: the first fault.
+    Fault(Fault),
+}
+
+/// What is known of the units so far.
+#[derive(Drop)]
+pub(crate) struct SoFar {
+    /// How many bytes they have.
+    at: usize,
+    counts: Counts,
+    /// The least fault, in its place.
+    least: Option<Fault>,
+}
+
+/// The number of a rule's group.
+fn group_of(rule: Rule) -> u8
+    ensures { result ≡ group_of rule }
+{
+    match rule {
+        Rule::WrongClass => 2,
+        Rule::BadStrBase | Rule::StrIndex | Rule::StringEnd | Rule::BadAddrBase | Rule::AddrIndex =>
+            3,
+        Rule::NoEntry
+        | Rule::WrongKind
+        | Rule::NotNextSibling
+        | Rule::NoSignature
+        | Rule::SignatureTwice
+        | Rule::BadTypeOffset => 4,
+        Rule::MissingType | Rule::BadCount => 5,
+        Rule::ContainsItself => 6,
+        Rule::NoSize | Rule::SizeTooGreat | Rule::MemberOutside | Rule::EnumSize => 7,
+        _ => 1,
+    }
+}
+
+/// Whether a fault of the rule is less than the least so far.
+fn is_less(least: &Option<Fault>, rule: Rule) -> bool
+    ensures { result ≡ is_less least.now rule }
+{
+    match least {
+        None => true,
+        Some(fault) => group_of(rule) < group_of(fault.rule),
+    }
+}
+
+/// An offset of a unit alone, in the unit's place. None if it exceeds u32.
+fn moved_offset(section: Section, at: u32, offset: u32) -> Option<u32>
+    ensures { IfSome result (λ n. n ≡ moved_offset section at offset) }
+{
+    match section {
+        Section::Abbrev => Some(offset),
+        Section::Info => at.checked_add(offset),
+    }
+}
+
+/// The offsets of a cycle, in the unit's place. None if one exceeds u32.
+fn moved_cycle(alloc: Global, cycle: &[u32], at: u32) -> Result<Option<Vec<u32>>, AllocError>
+    ensures { IfOk result (λ found. IfSome found (λ moved. moved.items ≡ map (λ offset. at + offset) cycle.now)) }
+{
+    let mut moved = Vec::with_capacity(alloc, cycle.len())?;
+    for k in 0..cycle.len() {
+        let offset = match at.checked_add(cycle[k]) {
+            Some(offset) => offset,
+            None => return Ok(None),
+        };
+        moved.push(offset)?;
+    }
+    Ok(Some(moved))
+}
+
+/// The fault of a unit alone, in the unit's place. None if an offset exceeds u32.
+fn moved_fault(alloc: Global, fault: &Fault, at: usize) -> Result<Option<Fault>, NoMemory>
+    ensures { IfOk result (λ found. IfSome found (IsMoved at fault.now)) }
+{
+    if at > 0xffff_ffff {
+        return Ok(None);
+    }
+    let by = at as u32;
+    let place = match moved_offset(fault.section, by, fault.at) {
+        Some(place) => place,
+        None => return Ok(None),
+    };
+    let cycle = match moved_cycle(alloc, fault.cycle.as_slice(), by) {
+        Ok(Some(cycle)) => cycle,
+        Ok(None) => return Ok(None),
+        Err(_) => return Err(NoMemory),
+    };
+    Ok(Some(Fault {
+        rule: fault.rule,
+        section: fault.section,
+        at: place,
+        attribute: fault.attribute,
+        cycle,
+    }))
+}
+
+/// The fault of a unit alone, in the unit's place, is what is found. None if an offset exceeds u32.
+fn found_at(alloc: Global, fault: Fault, at: usize) -> Result<Option<Found>, NoMemory>
+    ensures { IfOk result (λ found. IfSome found (IsFoundAt at fault)) }
+{
+    match moved_fault(alloc, &fault, at)? {
+        Some(moved) => Ok(Some(Found::Fault(moved))),
+        None => Ok(None),
+    }
+}
+
+/// What is known after one unit more, of so many bytes. None if a sum exceeds its type.
+fn one_more(
+    alloc: Global,
+    so_far: SoFar,
+    size: usize,
+    found: Verified,
+) -> Result<Option<SoFar>, NoMemory>
+    ensures { IfOk result (λ after. IfSome after (λ more. (s : Sections) (rest : List ℕ) → AreSoFar s rest so_far
+        → size ≤ length rest → IsFoundAlone s (take size rest) found → AreSoFar s (drop size rest) more)) }
+{
+    let at = match so_far.at.checked_add(size) {
+        Some(at) => at,
+        None => return Ok(None),
+    };
+    match found {
+        Verified::Sound(counts) => match so_far.counts.plus(counts) {
+            Some(counts) => Ok(Some(SoFar {
+                at,
+                counts,
+                least: so_far.least,
+            })),
+            None => Ok(None),
+        },
+        Verified::Fault(fault) => {
+            if !is_less(&so_far.least, fault.rule) {
+                return Ok(Some(SoFar {
+                    at,
+                    counts: so_far.counts,
+                    least: so_far.least,
+                }));
+            }
+            match moved_fault(alloc, &fault, so_far.at)? {
+                Some(least) => Ok(Some(SoFar {
+                    at,
+                    counts: so_far.counts,
+                    least: Some(least),
+                })),
+                None => Ok(None),
+            }
+        }
+    }
+}
+
+/// What is found after the last unit.
+fn found_of(counts: Counts, least: Option<Fault>) -> Found
+    ensures { (s : Sections) (so_far : SoFar) → so_far.counts ≡ counts → so_far.least ≡ least → AreSoFar s [] so_far
+        → IsFound s result }
+{
+    match least {
+        Some(fault) => Found::Fault(fault),
+        None => Found::Sound(counts),
+    }
+}
+
+/// The counts of sound sections or the first fault, if no unit refers to another one. None if that is not so, or if
 /// `verify` costs less: for one unit, and for units whose abbreviation tables are large. None says nothing.
-pub fn count_by_unit<'a>(alloc: Global, sections: &Sections<'a>) -> Result<Option<Counts>, NoMemory>
-    ensures { IfOk result (λ found. IfSome found (AreCounts sections.now)) }
+pub fn verify_by_unit<'a>(alloc: Global, sections: &Sections<'a>) -> Result<Option<Found>, NoMemory>
+    ensures { IfOk result (λ found. IfSome found (IsFound sections.now)) }
 {
     if !are_apart(sections) {
         return Ok(None);
     }
     keep_memory(alloc);
     let mut rest = sections.info;
-    let mut counts = Counts {
-        units: 0,
-        entries: 0,
-        types: 0,
+    let mut so_far = SoFar {
+        at: 0,
+        counts: Counts {
+            units: 0,
+            entries: 0,
+            types: 0,
+        },
+        least: None,
     };
     while !rest.is_empty() {
         let size = match unit_size(rest) {
             Some(size) => size,
             None => return Ok(None),
         };
-        let found = match verify_alone(alloc, sections, &rest[..size])? {
-            Some(found) => found,
-            None => return Ok(None),
+        let found = match verify_alone(alloc, sections, &rest[..size]) {
+            Ok(Some(found)) => found,
+            Ok(None) => return Ok(None),
+            Err(Stop::Fault(fault)) => return found_at(alloc, fault, so_far.at),
+            Err(Stop::Memory) => return Err(NoMemory),
         };
-        counts = match counts.plus(found) {
-            Some(counts) => counts,
+        so_far = match one_more(alloc, so_far, size, found)? {
+            Some(more) => more,
             None => return Ok(None),
         };
         rest = &rest[size..];
     }
-    Ok(Some(counts))
+    Ok(Some(found_of(so_far.counts, so_far.least)))
 }
 
 /// Units that are each valid alone, and refer to no other unit, are valid together.
 pub fn units_join()
     ensures { JoinsUnits }
+{}
+
+/// Whole units, and then bytes at which a rule of trees fails: it fails there in the sections.
+pub fn trees_of_units()
+    ensures { TreesOfUnits }
+{}
+
+/// The first fault of units that refer to no other unit is the least, by group and then by unit, of the units' own.
+pub fn first_of_units()
+    ensures { FirstOfUnits }
 {}

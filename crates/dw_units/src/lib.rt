@@ -4,4 +4,4 @@
 mod alone;
 mod counting;
 
-pub use counting::{Counts, count_by_unit, units_join};
+pub use counting::{Counts, Found, first_of_units, trees_of_units, units_join, verify_by_unit};

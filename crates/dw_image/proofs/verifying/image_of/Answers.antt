@@ -1,3 +1,5 @@
+use Rattle.std.proofs.Common.{refl}
+use Rattle.dw_entries.specs.Views.{sections_of}
 use Rattle.std.proofs.lemmas.Result.{err_from_is_err_and}
 use Rattle.dw_entries.proofs.StopLaws.{faulty_weaker}
 use Rattle.dw_image.proofs.JoinLemmas.{wrong_link, wrong_type, image_of}
@@ -5,21 +7,20 @@ use Rattle.dw_image.proofs.verifying.image_of.Goals as goal
 
 pub returns-in_err-links-clause-fault : goal.returns-in_err-links-clause-fault
 returns-in_err-links-clause-fault c =
-    let p = err_from_is_err_and c.from_residual-in_err-links.result c.from_residual-in_err-links.ensures.1 in
-    rw (p.1, p.2) (faulty_weaker c.in_err-links.field-0.0 (λ fault. wrong_link c.args.sections c.in_ok-entries.entries fault c.in_ok-entries.ensures.same) c.in_err-links.ensures.fault)
+    let p = err_from_is_err_and c.from_residual.result c.from_residual.ensures.1 in
+    rw (p.1, p.2) (faulty_weaker c.in_err-links.field-0.0 (λ fault. wrong_link (sections_of c.args.entries) c.args.entries fault refl) c.in_err-links.ensures.fault)
 
 pub returns-in_err-steps-clause-fault : goal.returns-in_err-steps-clause-fault
 returns-in_err-steps-clause-fault c =
     let p = err_from_is_err_and c.from_residual-in_err-steps.result c.from_residual-in_err-steps.ensures.1 in
-    let entries = c.in_ok-entries in
     let links = c.in_ok-links in
     let fault = rw links.ensures.entries at c.in_err-steps.ensures.fault in
     rw (p.1, p.2) (faulty_weaker c.in_err-steps.field-0.0
-    (λ fault. wrong_type c.args.sections entries.entries fault entries.ensures.same (rw links.ensures.entries at links.links.classes) (rw links.ensures.entries at links.links.strings) (rw links.ensures.entries at links.links.references))
+    (λ fault. wrong_type (sections_of c.args.entries) c.args.entries fault refl (rw links.ensures.entries at links.links.classes) (rw links.ensures.entries at links.links.strings) (rw links.ensures.entries at links.links.references))
     fault)
 
 pub returns-clause-sound : goal.returns-clause-sound
-returns-clause-sound c = image_of c.args.sections _ c.in_ok-entries.ensures.same
+returns-clause-sound c = image_of (sections_of c.args.entries) _ refl
 
 pub invariant_of-result : goal.invariant_of-result
 invariant_of-result c =

@@ -9,3 +9,7 @@ returns-clause-text c = search rules
 pub returns-clause-within : goal.returns-clause-within
 unfolding units_in sections_in
 returns-clause-within c = search rules
+
+pub returns-clause-begins : goal.returns-clause-begins
+unfolding units_in sections_in
+returns-clause-begins c = search rules
