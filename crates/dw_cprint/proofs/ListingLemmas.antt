@@ -1,26 +1,29 @@
 -- The listing: the named types in order, judged one after another, and those that are refused, sorted by offset.
-use Rattle.std.proofs.Common.{rules, ◌≡◌, ◌≢◌, ℕ, zero, suc, ◌+◌, ◌<◌, ◌≤◌, Bool, true, not, List, [], ◌∷◌, ◌++◌, refl, sym, ◌∙◌, ap, subst, inl, inr, length, get_or, arith, append_assoc, drop, take, Some, None}
-use Rattle.std.specs.Prelude.{◌⊎◌, ◌&&◌, All, Contains, AllPairs, IsPermutation, filter, flat_map, nat_lt, if◌then◌else◌}
+use Rattle.std.proofs.Common.{rules, ◌≡◌, ◌≢◌, ℕ, zero, suc, ◌+◌, ◌<◌, ◌≤◌, Bool, true, not, List, [], ◌∷◌, ◌++◌, refl, sym, ◌∙◌, ap, subst, inl, inr, length, get_or, map, arith, append_assoc, append-nil, drop, take, Option, Some, None, nat_eq, slice_get, true≢false, false}
+use Rattle.std.specs.Prelude.{is_none, is_some, IfSome, ◌⊎◌, ◌&&◌, All, Contains, AllPairs, IsPermutation, filter, flat_map, nat_lt, if◌then◌else◌}
 use Rattle.std.specs.List.Sorted.{IsNonDecreasingBy, IsStableByKey, ties}
 use Rattle.std.specs.Ordering.{nat_cmp, is_lt}
-use Rattle.std.specs.List.{range_with_len, filter_map}
-use Rattle.std.proofs.lemmas.Bool.{and_parts, cases_lt}
+use Rattle.std.specs.List.{cons_option, range_with_len, filter_map, list_all}
+use Rattle.std.specs.Map.{keys_of, lookup, values_of}
+use Rattle.indexmap.specs.IndexMap.{IndexMap, insert_entry, values}
+use Rattle.std.proofs.lemmas.Bool.{and_parts, cases_lt, eqb-true, eq-eqb}
 use Rattle.std.proofs.lemmas.Bool.Decides.{nat_tests}
-use Rattle.std.proofs.lemmas.List.{get_or_append_left, get_or_default, get_or-take, drop_more, flat_map_more, length-append, length-take-le, take-append-drop}
+use Rattle.std.proofs.lemmas.List.{get_or_append_left, get_or_default, get_or-take, drop_more, flat_map_more, length-append, length-map, length-take-le, take-append-drop, take_all, take_more}
 use Rattle.std.proofs.Math.Seq.{get_or-append_seam}
-use Rattle.std.proofs.lemmas.List.Elements.{All-contains, Contains-append_left, Contains-append_right, Contains-get_or, Contains-push, Contains-push_cases, filter-append, filter_passes}
-use Rattle.std.proofs.lemmas.List.Kept.{AllPairs-filter}
-use Rattle.std.proofs.lemmas.List.Quantifiers.{all_pairs_push}
+use Rattle.std.proofs.lemmas.List.Elements.{All-contains, All-push, Contains-append_left, Contains-append_right, Contains-get_or, filter-append, filter_map-append, filter_passes}
+use Rattle.std.proofs.lemmas.List.Kept.{AllPairs-cons, AllPairs-filter}
 use Rattle.std.proofs.lemmas.List.Sorted.{IsPermutation-sym, Contains-permutation}
 use Rattle.std.proofs.lemmas.List.FromFn.{get_or-range_with_len, length-range_with_len}
 use Rattle.dw_image.specs.declared.image.Image.{Image}
 use Rattle.dw_image.specs.Images.{entries_in}
 use Rattle.dw_cprint.specs.EntryShapes.{shape_in, subject_in}
-use Rattle.dw_cprint.specs.Judgements.{IsAdded, printed, refused}
-use Rattle.dw_cprint.specs.Listings.{IsNamedType, AreNamedTypes, AreLevels, StandsBefore, IsListing, declared_line, is_named_type, named_number}
+use Rattle.dw_cprint.specs.Judgements.{HasLine, IsAdded, IsJudgement, printed_entry, refused_number, refused_pair}
+use Rattle.dw_cprint.specs.Listings.{text_if, IsNamedType, AreNamedTypes, AreLevels, StandsBefore, IsListing, declared_line, is_named_type, named_number}
 use Rattle.dw_cprint.specs.Refusals.{PrintFault, Refuses, IsPrinted}
+use Rattle.dw_cprint.specs.Declarations.{declaration_of}
+use Rattle.dw_cprint.specs.Shapes.{ShapeOf, SubjectOf}
 use Rattle.dw_cprint.specs.Surveys.{AreAmong}
-use Rattle.dw_cprint.specs.declared.listing.Listing.{Listing}
+use Rattle.dw_cprint.proofs.LevelLemmas.{few-entries}
 use Rattle.dw_cprint.proofs.RefusalLemmas.{one-rule, printed-or-refused}
 
 -- ---- sorting
@@ -74,18 +77,117 @@ by-level level named sorted rising rises stable i j d less w =
           inr (same, still-pairs level (λ a b. a < b) named sorted rising stable i j d less w same)
     ]
 
--- the refused of different entries, sorted by offset
-by-offset : (rs sorted : List (ℕ × PrintFault)) → AllPairs (λ (a b : ℕ × PrintFault). a.0 ≢ b.0) rs
-    → IsNonDecreasingBy (λ (r : ℕ × PrintFault). r.0) sorted → IsStableByKey (λ (r : ℕ × PrintFault). r.0) nat_cmp rs sorted
-    → AllPairs (λ (a b : ℕ × PrintFault). a.0 < b.0) sorted
-by-offset rs sorted apart rises stable i j d less w =
-    let low = rises i j d (omega arith) w in
-    elim (cases_lt (get_or sorted i d).0 (get_or sorted j d).0) [
-      | inl below ↦ below
-      | inr above ↦
-          let same : (get_or sorted i d).0 ≡ (get_or sorted j d).0 = omega arith in
-          absurd (still-pairs (λ (r : ℕ × PrintFault). r.0) (λ (a b : ℕ × PrintFault). a.0 ≢ b.0) rs sorted apart stable i j d less w same same)
-    ]
+-- ---- lists
+
+slice-at : (xs : List ℕ) (k : ℕ) (d : ℕ) → k < length xs → slice_get xs k ≡ Some (get_or xs k d)
+slice-at [] k d w = absurd (omega arith)
+slice-at (x ∷ xs) zero d w = refl
+slice-at (x ∷ xs) (suc k) d w = slice-at xs k d (omega arith)
+
+keys-long : {V : Type 0} (es : List (ℕ × V)) → length (keys_of es) ≡ length es
+keys-long [] = refl
+keys-long (e ∷ es) = ap suc (keys-long es)
+
+key-at : {V : Type 0} (es : List (ℕ × V)) (i : ℕ) (d : ℕ × V) → get_or (keys_of es) i d.0 ≡ (get_or es i d).0
+key-at [] i d = refl
+key-at (e ∷ es) zero d = refl
+key-at (e ∷ es) (suc i) d = key-at es i d
+
+-- what is picked is picked of one
+picked-of : {X Y : Type 0} (f : X → Option Y) (xs : List X) (y : Y) → Contains (filter_map f xs) y → (x : X) × Contains xs x × (f x ≡ Some y)
+picked-of f [] y (k, w, e) = absurd (omega arith)
+picked-of {X = X} {Y = Y} f (x ∷ xs) y has = by (λ there. picked-of f xs y there) (f x) refl
+  where
+    by : (Contains (filter_map f xs) y → (x : X) × Contains xs x × (f x ≡ Some y)) → (o : Option Y) → f x ≡ o → (z : X) × Contains (x ∷ xs) z × (f z ≡ Some y)
+    by deeper o e = at o e
+      where
+        later : Contains (filter_map f xs) y → (z : X) × Contains (x ∷ xs) z × (f z ≡ Some y)
+        later there = (let (z, c, e) = deeper there in (z, Contains-append_right (x ∷ []) xs z c, e))
+
+        first : (v : Y) → f x ≡ Some v → Contains (v ∷ filter_map f xs) y → (z : X) × Contains (x ∷ xs) z × (f z ≡ Some y)
+        first v e (zero, w, same) = (x, Contains-append_left (x ∷ []) xs x (0, omega arith, refl), e ∙ ap Some same)
+        first v e (suc k, w, same) = later (k, omega arith, same)
+
+        at : (o : Option Y) → f x ≡ o → (z : X) × Contains (x ∷ xs) z × (f z ≡ Some y)
+        at None e = later (subst (λ (o : Option Y). Contains (cons_option o (filter_map f xs)) y) e has)
+        at (Some v) e = first v e (subst (λ (o : Option Y). Contains (cons_option o (filter_map f xs)) y) e has)
+
+-- and each is picked
+picked-there : {X Y : Type 0} (f : X → Option Y) (xs : List X) (x : X) (y : Y) → Contains xs x → f x ≡ Some y → Contains (filter_map f xs) y
+picked-there f [] x y (k, w, e) is = absurd (omega arith)
+picked-there {X = X} {Y = Y} f (z ∷ xs) x y (zero, w, e) is =
+    subst (λ (o : Option Y). Contains (cons_option o (filter_map f xs)) y) (sym (ap f e ∙ is)) (0, omega arith, refl)
+picked-there {X = X} {Y = Y} f (z ∷ xs) x y (suc k, w, e) is = by (picked-there f xs x y (k, omega arith, e) is) (f z) refl
+  where
+    by : Contains (filter_map f xs) y → (o : Option Y) → f z ≡ o → Contains (filter_map f (z ∷ xs)) y
+    by there None e = subst (λ (o : Option Y). Contains (cons_option o (filter_map f xs)) y) (sym e) there
+    by there (Some v) e = subst (λ (o : Option Y). Contains (cons_option o (filter_map f xs)) y) (sym e) (Contains-append_right (v ∷ []) (filter_map f xs) y there)
+
+-- what holds of each two of some holds of each two that are picked
+picked-pairs : {X Y : Type 0} (R : X → X → Type 0) (S : Y → Y → Type 0) (f : X → Option Y) (xs : List X)
+    → ((a b : X) (y z : Y) → R a b → f a ≡ Some y → f b ≡ Some z → S y z) → AllPairs R xs → AllPairs S (filter_map f xs)
+picked-pairs R S f [] says all = λ i j d less w. absurd (omega arith)
+picked-pairs {X = X} {Y = Y} R S f (x ∷ xs) says all = by (picked-pairs R S f xs says (λ i j d less w. all (suc i) (suc j) d (omega arith) (omega arith))) (f x) refl
+  where
+    by : AllPairs S (filter_map f xs) → (o : Option Y) → f x ≡ o → AllPairs S (filter_map f (x ∷ xs))
+    by rest None e = subst (λ (o : Option Y). AllPairs S (cons_option o (filter_map f xs))) (sym e) rest
+    by rest (Some v) e = subst (λ (o : Option Y). AllPairs S (cons_option o (filter_map f xs))) (sym e)
+        (AllPairs-cons S v (filter_map f xs) (λ k d w. after (get_or (filter_map f xs) k d) (Contains-get_or (filter_map f xs) k d w)) rest)
+      where
+        after : (y : Y) → Contains (filter_map f xs) y → S v y
+        after y has =
+            let (b, (k, w, same), is) = picked-of f xs y has in
+            let pair : R x (get_or xs k b) = all 0 (suc k) b (omega arith) (omega arith) in
+            says x b v y (subst (R x) same pair) e is
+
+range-rising : (n : ℕ) → AllPairs (λ a b. a < b) (range_with_len 0 n)
+range-rising n i j d less w =
+    (let long = length-range_with_len 0 n in omega (arith, get_or-range_with_len 0 n i d (omega arith), get_or-range_with_len 0 n j d (omega arith)))
+
+range-below : (n k : ℕ) → Contains (range_with_len 0 n) k → k < n
+range-below n k (i, w, e) = (let long = length-range_with_len 0 n in omega (arith, get_or-range_with_len 0 n i k (omega arith), e))
+
+range-there : (n k : ℕ) → k < n → Contains (range_with_len 0 n) k
+range-there n k w = (k, (let long = length-range_with_len 0 n in omega arith), (let at = get_or-range_with_len 0 n k k w in omega arith))
+
+get-mapped : (f : ℕ → ℕ) (xs : List ℕ) (k : ℕ) → k < length xs → get_or (map f xs) k 0 ≡ f (get_or xs k 0)
+get-mapped f [] k w = absurd (omega arith)
+get-mapped f (x ∷ xs) zero w = refl
+get-mapped f (x ∷ xs) (suc k) w = get-mapped f xs k (omega arith)
+
+-- each number is that of a named type
+pub numbers-within : (n : ℕ) (numbers : List ℕ) → IsPermutation (range_with_len 0 n) numbers → (i d : ℕ) → i < length numbers → get_or numbers i d < n
+numbers-within n numbers permuted i d w =
+    range-below n (get_or numbers i d) (Contains-permutation numbers (range_with_len 0 n) (get_or numbers i d) (IsPermutation-sym (range_with_len 0 n) numbers permuted) (Contains-get_or numbers i d w))
+
+-- numbers sorted by level
+pub numbers-by-level : (level : ℕ → ℕ) (n : ℕ) (numbers : List ℕ) → IsNonDecreasingBy level numbers → IsStableByKey level nat_cmp (range_with_len 0 n) numbers
+    → AllPairs (λ j k. StandsBefore level j k) numbers
+numbers-by-level level n numbers rises stable = by-level level (range_with_len 0 n) numbers (range-rising n) rises stable
+
+-- named types in rising offset, by their numbers that are sorted by level
+pub numbers-ranked : (level : ℕ → ℕ) (named own numbers : List ℕ) → AllPairs (λ a b. a < b) named → own ≡ map level named → IsPermutation (range_with_len 0 (length own)) numbers
+    → AllPairs (λ j k. StandsBefore (λ n. get_or own n 0) j k) numbers → IsPermutation (range_with_len 0 (length named)) numbers × AllPairs (λ j k. StandsBefore level (get_or named j 0) (get_or named k 0)) numbers
+numbers-ranked level named own numbers rising is permuted sorted = (all, λ i j d less w. pair i j d less w)
+  where
+    long : length own ≡ length named
+    long = ap length is ∙ length-map named level
+
+    all : IsPermutation (range_with_len 0 (length named)) numbers
+    all = subst (λ (n : ℕ). IsPermutation (range_with_len 0 n) numbers) long permuted
+
+    same : (k : ℕ) → k < length named → get_or own k 0 ≡ level (get_or named k 0)
+    same k w = ap (λ (xs : List ℕ). get_or xs k 0) is ∙ get-mapped level named k w
+
+    pair : (i j d : ℕ) → i < j → j < length numbers → StandsBefore level (get_or named (get_or numbers i d) 0) (get_or named (get_or numbers j d) 0)
+    pair i j d less w =
+        let first = same (get_or numbers i d) (numbers-within (length named) numbers all i d (omega arith)) in
+        let inside = numbers-within (length named) numbers all j d w in
+        let second = same (get_or numbers j d) inside in
+        elim (sorted i j d less w) [
+          | inl below ↦ inl (rw (← first, ← second) below)
+          | inr (level_same, before) ↦ inr (sym first ∙ level_same ∙ second, rising (get_or numbers i d) (get_or numbers j d) 0 before inside)
+        ]
 
 -- ---- judging
 
@@ -99,101 +201,172 @@ stands-apart : (level : ℕ → ℕ) (a b : ℕ) → StandsBefore level a b → 
 stands-apart level a b (inl less) same = (let e = ap level same in omega arith)
 stands-apart level a b (inr (level_same, less)) same = omega arith
 
--- an entry is one of the first so many
-abbrev IsBelow : List ℕ → ℕ → ℕ → Type 0
-IsBelow named count entry = (place : ℕ) × (place < count) × (place < length named) × (get_or named place 0 ≡ entry)
+-- a line is written if there is no refusal
+pub line-written : (shapes : ℕ → ShapeOf) (subject : SubjectOf) (draft : Option (List ℕ)) (refusal : Option PrintFault) (old bytes more new : List ℕ) → IsJudgement shapes subject draft refusal
+    → is_some refusal ≡ false → IfSome draft (λ (text : List ℕ). bytes ≡ text) → more ≡ old ++ bytes → new ≡ more ++ 10 ∷ [] → HasLine shapes subject refusal old new
+line-written shapes subject draft (Some rule) old bytes more new judged none drafted put ended = absurd (cc)
+line-written shapes subject draft None old bytes more new (is, (d, has, drafts)) none drafted put ended =
+    let B : Option (List ℕ) → Type 0 = λ o. IfSome o (λ (text : List ℕ). bytes ≡ text) in
+    let text : bytes ≡ text_if (declaration_of shapes subject) = subst B drafts drafted ∙ sym (ap text_if has) in
+    (is, ended ∙ ap (λ (u : List ℕ). u ++ 10 ∷ []) (put ∙ ap (λ (u : List ℕ). old ++ u) text) ∙ append_assoc old (text_if (declaration_of shapes subject)) (10 ∷ []))
 
--- one entry comes before another
-abbrev ComesBefore : List ℕ → ℕ → ℕ → Type 0
-ComesBefore named a b = (i j : ℕ) × (i < j) × (j < length named) × (get_or named i 0 ≡ a) × (get_or named j 0 ≡ b)
+-- and nothing otherwise
+pub line-kept : (shapes : ℕ → ShapeOf) (subject : SubjectOf) (draft : Option (List ℕ)) (refusal : Option PrintFault) (old new : List ℕ) → IsJudgement shapes subject draft refusal
+    → is_some refusal ≡ true → new ≡ old → HasLine shapes subject refusal old new
+line-kept shapes subject draft (Some rule) old new judged some same = (judged, same)
+line-kept shapes subject draft None old new judged some same = absurd (cc)
 
--- the first so many of some entries are judged
-pub record AreJudged (image : Image) (named : List ℕ) (count : ℕ) (order : List ℕ) (refusals : List (ℕ × PrintFault)) (text : List ℕ) : Type 0 where
-  pub printed_below : (entry : ℕ) → Contains order entry → IsBelow named count entry × IsPrinted (shape_in image) (subject_in image entry)
-  pub refused_below : (r : ℕ × PrintFault) → Contains refusals r → IsBelow named count r.0 × Refuses (shape_in image) (subject_in image r.0) r.1
-  pub each : (place : ℕ) → place < count → Contains order (get_or named place 0) ⊎ ((rule : PrintFault) × Contains refusals (get_or named place 0, rule))
-  pub rising : AllPairs (λ a b. ComesBefore named a b) order
-  pub apart : AllPairs (λ (a b : ℕ × PrintFault). ComesBefore named a.0 b.0) refusals
-  pub lines : text ≡ flat_map (declared_line image) order
+-- why a named type is refused, or none, and it is printed
+abbrev IsVerdict : Image → ℕ → Option PrintFault → Type 0
+IsVerdict image entry None = IsPrinted (shape_in image) (subject_in image entry)
+IsVerdict image entry (Some rule) = Refuses (shape_in image) (subject_in image entry) rule
 
-module _ (image : Image) (named : List ℕ) (count : ℕ) (order : List ℕ) (refusals : List (ℕ × PrintFault)) (text : List ℕ) (h : AreJudged image named count order refusals text) (entry : ℕ) (within : count < length named) (at : get_or named count 0 ≡ entry) where
-  more : (e : ℕ) → IsBelow named count e → IsBelow named (count + 1) e
-  more e (place, w, v, is) = (place, (omega arith), v, is)
+-- the first so many are judged
+pub record AreJudged (image : Image) (named numbers : List ℕ) (count : ℕ) (judged : List (ℕ × Option PrintFault)) (text : List ℕ) : Type 0 where
+  pub keys : keys_of judged ≡ take count numbers
+  pub all : All (λ (e : ℕ × Option PrintFault). IsVerdict image (get_or named e.0 0) e.1) judged
+  pub lines : text ≡ flat_map (declared_line image) (filter_map (printed_entry named) judged)
 
-  last : IsBelow named (count + 1) entry
-  last = (count, (omega arith), within, at)
+-- a number that is not there goes last
+insert-last : (es : List (ℕ × Option PrintFault)) (k : ℕ) (v : Option PrintFault) → (Contains (keys_of es) k → ⊥) → insert_entry nat_eq es k v ≡ es ++ (k, v) ∷ []
+insert-last [] k v absent = refl
+insert-last (e ∷ es) k v absent = by (insert-last es k v (λ has. absent (Contains-append_right (e.0 ∷ []) (keys_of es) k has))) (nat_eq k e.0) refl
+  where
+    by : insert_entry nat_eq es k v ≡ es ++ (k, v) ∷ [] → (b : Bool) → nat_eq k e.0 ≡ b → insert_entry nat_eq (e ∷ es) k v ≡ e ∷ es ++ (k, v) ∷ []
+    by rest true t = absurd (absent (0, omega arith, sym (eqb-true k e.0 t)))
+    by rest false t = ap (λ (b : Bool). if b then (e.0, v) ∷ es else e ∷ insert_entry nat_eq es k v) t ∙ ap (λ (l : List (ℕ × Option PrintFault)). e ∷ l) rest
 
-  before : (e : ℕ) → IsBelow named count e → ComesBefore named e entry
-  before e (place, w, v, is) = (place, count, w, within, is, at)
-
-  each-more : (order' : List ℕ) (refusals' : List (ℕ × PrintFault)) → ((e : ℕ) → Contains order e → Contains order' e) → ((r : ℕ × PrintFault) → Contains refusals r → Contains refusals' r)
-      → Contains order' entry ⊎ ((rule : PrintFault) × Contains refusals' (entry, rule))
-      → (place : ℕ) → place < count + 1 → Contains order' (get_or named place 0) ⊎ ((rule : PrintFault) × Contains refusals' (get_or named place 0, rule))
-  each-more order' refusals' kept stay here place w = elim (cases_lt place count) [
-    | inl less ↦ elim (h.each place less) [ inl p ↦ inl (kept (get_or named place 0) p) | inr (rule, r) ↦ inr (rule, stay (get_or named place 0, rule) r) ]
-    | inr past ↦ search (rules)
-  ]
-
-  judged-printed : IsPrinted (shape_in image) (subject_in image entry) → AreJudged image named (count + 1) (order ++ entry ∷ []) refusals (text ++ declared_line image entry)
-  judged-printed is = record {
-    printed_below = λ e has. elim (Contains-push_cases order entry e has) [
-      | inl old ↦ (let (below, p) = h.printed_below e old in (more e below, p))
-      | inr same ↦ (let P : ℕ → Type 0 = λ n. IsBelow named (count + 1) n × IsPrinted (shape_in image) (subject_in image n) in subst P same (last, is))
-    ];
-    refused_below = λ r has. (let (below, f) = h.refused_below r has in (more r.0 below, f));
-    each = each-more (order ++ entry ∷ []) refusals (λ e has. Contains-append_left order (entry ∷ []) e has) (λ r has. has) (inl (Contains-push order entry));
-    rising = all_pairs_push (λ a b. ComesBefore named a b) order entry h.rising (λ i d w. before (get_or order i d) (h.printed_below (get_or order i d) (Contains-get_or order i d w)).0);
-    apart = h.apart;
-    lines = ap (λ (u : List ℕ). u ++ declared_line image entry) h.lines ∙ flat_map_more (declared_line image) [] order entry;
-  }
-
-  judged-refused : (rule : PrintFault) → Refuses (shape_in image) (subject_in image entry) rule → AreJudged image named (count + 1) order (refusals ++ (entry, rule) ∷ []) text
-  judged-refused rule is = record {
-    printed_below = λ e has. (let (below, p) = h.printed_below e has in (more e below, p));
-    refused_below = λ r has. elim (Contains-push_cases refusals (entry, rule) r has) [
-      | inl old ↦ (let (below, f) = h.refused_below r old in (more r.0 below, f))
-      | inr same ↦ (let P : ℕ × PrintFault → Type 0 = λ x. IsBelow named (count + 1) x.0 × Refuses (shape_in image) (subject_in image x.0) x.1 in subst P same (last, is))
-    ];
-    each = each-more order (refusals ++ (entry, rule) ∷ []) (λ e has. has) (λ r has. Contains-append_left refusals ((entry, rule) ∷ []) r has) (inr (rule, Contains-push refusals (entry, rule)));
-    rising = h.rising;
-    apart = all_pairs_push (λ (a b : ℕ × PrintFault). ComesBefore named a.0 b.0) refusals (entry, rule) h.apart (λ i d w. before (get_or refusals i d).0 (h.refused_below (get_or refusals i d) (Contains-get_or refusals i d w)).0);
-    lines = h.lines;
-  }
+keys-more : (es : List (ℕ × Option PrintFault)) (k : ℕ) (v : Option PrintFault) → keys_of (es ++ (k, v) ∷ []) ≡ keys_of es ++ k ∷ []
+keys-more [] k v = refl
+keys-more (e ∷ es) k v = ap (λ (l : List ℕ). e.0 ∷ l) (keys-more es k v)
 
 -- and the next one
-pub judged-more : (image : Image) (named : List ℕ) (count entry : ℕ) (old new : Listing) → count < length named → get_or named count 0 ≡ entry → IsAdded (shape_in image) entry (subject_in image entry) old new
-    → AreJudged image named count old.order.items old.refused.items old.text.items → AreJudged image named (count + 1) new.order.items new.refused.items new.text.items
-judged-more image named count entry old new within at (printed is order text same) h =
-    rw (order, text, same) (judged-printed image named count old.order.items old.refused.items old.text.items h entry within at is)
-judged-more image named count entry old new within at (refused rule is order text more) h =
-    rw (order, text, more) (judged-refused image named count old.order.items old.refused.items old.text.items h entry within at rule is)
+pub judged-more : (image : Image) (level : ℕ → ℕ) (named numbers : List ℕ) (count number entry : ℕ) (judged judged' : List (ℕ × Option PrintFault)) (text text' : List ℕ)
+    → AllPairs (λ j k. StandsBefore level (get_or named j 0) (get_or named k 0)) numbers
+    → count < length numbers → get_or numbers count 0 ≡ number → number < length named → get_or named number 0 ≡ entry
+    → IsAdded (shape_in image) number (subject_in image entry) judged judged' text text'
+    → AreJudged image named numbers count judged text → AreJudged image named numbers (count + 1) judged' text'
+judged-more image level named numbers count number entry judged judged' text text' ranked within at inside is (refusal, line, inserted) h =
+    rw (inserted ∙ insert-last judged number refusal absent) (more refusal line)
+  where
+    absent : Contains (keys_of judged) number → ⊥
+    absent has =
+        let (i, w, same) : Contains (take count numbers) number = subst (λ (l : List ℕ). Contains l number) h.keys has in
+        let less : i < count = omega (arith, length-take-le count numbers (omega arith)) in
+        let here = get_or-take count numbers i number less in
+        let before = ranked i count 0 less within in
+        let first : get_or numbers i 0 ≡ number = get_or_default numbers i 0 number (omega arith) ∙ sym here ∙ same in
+        stands-apart level (get_or named (get_or numbers i 0) 0) (get_or named (get_or numbers count 0) 0) before (ap (λ (k : ℕ). get_or named k 0) (first ∙ sym at))
+
+    keys' : (r : Option PrintFault) → keys_of (judged ++ (number, r) ∷ []) ≡ take (count + 1) numbers
+    keys' r = keys-more judged number r ∙ ap (λ (l : List ℕ). l ++ number ∷ []) h.keys ∙ ap (λ (k : ℕ). take count numbers ++ k ∷ []) (sym at) ∙ sym (take_more numbers count 0 within)
+
+    verdicts : (r : Option PrintFault) → IsVerdict image entry r → All (λ (e : ℕ × Option PrintFault). IsVerdict image (get_or named e.0 0) e.1) (judged ++ (number, r) ∷ [])
+    verdicts r v = All-push (λ (e : ℕ × Option PrintFault). IsVerdict image (get_or named e.0 0) e.1) judged (number, r) h.all (subst (λ (x : ℕ). IsVerdict image x r) (sym inside-at) v)
+      where
+        inside-at : get_or named number 0 ≡ entry
+        inside-at = is
+
+    named-at : slice_get named number ≡ Some entry
+    named-at = slice-at named number 0 inside ∙ ap Some is
+
+    more : (r : Option PrintFault) → HasLine (shape_in image) (subject_in image entry) r text text' → AreJudged image named numbers (count + 1) (judged ++ (number, r) ∷ []) text'
+    more None (is_printed, written) = record {
+      keys = keys' None;
+      all = verdicts None is_printed;
+      lines = written ∙ ap (λ (u : List ℕ). u ++ declared_line image entry) h.lines ∙ flat_map_more (declared_line image) [] (filter_map (printed_entry named) judged) entry
+          ∙ ap (flat_map (declared_line image)) (ap (λ (o : Option ℕ). filter_map (printed_entry named) judged ++ cons_option o []) (sym named-at) ∙ sym (filter_map-append (printed_entry named) judged ((number, None) ∷ [])));
+    }
+    more (Some rule) (is_refused, same) = record {
+      keys = keys' (Some rule);
+      all = verdicts (Some rule) is_refused;
+      lines = same ∙ h.lines ∙ ap (flat_map (declared_line image)) (sym (filter_map-append (printed_entry named) judged ((number, Some rule) ∷ []) ∙ append-nil (filter_map (printed_entry named) judged)));
+    }
 
 -- ---- the listing
 
-module _ (image : Image) (named sorted : List ℕ) (count : ℕ) (order : List ℕ) (refusals rs : List (ℕ × PrintFault)) (text : List ℕ) (names : AreNamedTypes image named) (permuted : IsPermutation named sorted)
-    (judged : AreJudged image sorted count order refusals text) (moved : IsPermutation refusals rs) where
-  -- each that is judged is a named type
-  is-named : (entry : ℕ) → IsBelow sorted count entry → IsNamedType image entry
-  is-named entry (place, w, v, is) =
-      let C : ℕ → Type 0 = λ n. Contains sorted n in
-      (names.all entry).0 (Contains-permutation sorted named entry (IsPermutation-sym named sorted permuted) (subst C is (Contains-get_or sorted place 0 v)))
+-- the number of each key has an entry
+key-there : (es : List (ℕ × Option PrintFault)) (k : ℕ) → Contains (keys_of es) k → (v : Option PrintFault) × (lookup (nat_eq k) es ≡ Some v)
+key-there [] k (i, w, e) = absurd (omega arith)
+key-there (e ∷ es) k has = by (λ there. key-there es k there) (nat_eq k e.0) refl
+  where
+    by : (Contains (keys_of es) k → (v : Option PrintFault) × (lookup (nat_eq k) es ≡ Some v)) → (b : Bool) → nat_eq k e.0 ≡ b → (v : Option PrintFault) × (lookup (nat_eq k) (e ∷ es) ≡ Some v)
+    by deeper true t = (e.1, ap (λ (b : Bool). if b then Some e.1 else lookup (nat_eq k) es) t)
+    by deeper false t = (let (v, found) = deeper (there has) in (v, ap (λ (b : Bool). if b then Some e.1 else lookup (nat_eq k) es) t ∙ found))
+      where
+        there : Contains (keys_of (e ∷ es)) k → Contains (keys_of es) k
+        there (zero, w, same) = absurd (true≢false (sym (eq-eqb k e.0 (sym same)) ∙ t))
+        there (suc i, w, same) = (i, omega arith, same)
+
+-- what is found is there
+found-there : (es : List (ℕ × Option PrintFault)) (k : ℕ) (v : Option PrintFault) → lookup (nat_eq k) es ≡ Some v → Contains es (k, v)
+found-there [] k v found = absurd (cc)
+found-there (e ∷ es) k v found = by (λ later. found-there es k v later) (nat_eq k e.0) refl
+  where
+    by : (lookup (nat_eq k) es ≡ Some v → Contains es (k, v)) → (b : Bool) → nat_eq k e.0 ≡ b → Contains (e ∷ es) (k, v)
+    by deeper true t =
+        let same : Some e.1 ≡ Some v = sym (ap (λ (b : Bool). if b then Some e.1 else lookup (nat_eq k) es) t) ∙ found in
+        let value : e.1 ≡ v = cc in
+        let key : e.0 ≡ k = sym (eqb-true k e.0 t) in
+        (0, omega arith, ap (λ (x : ℕ). (x, e.1)) key ∙ ap (λ (y : Option PrintFault). (k, y)) value)
+    by deeper false t =
+        Contains-append_right (e ∷ []) es (k, v) (deeper (sym (ap (λ (b : Bool). if b then Some e.1 else lookup (nat_eq k) es) t) ∙ found))
+
+get-at : (xs : List ℕ) (k x : ℕ) → slice_get xs k ≡ Some x → (k < length xs) × (get_or xs k 0 ≡ x)
+get-at [] k x e = absurd (cc)
+get-at (y ∷ xs) zero x e = (omega arith, cc)
+get-at (y ∷ xs) (suc k) x e = (let (w, same) = get-at xs k x e in (omega arith, same))
+
+printed-parts : (named : List ℕ) (e : ℕ × Option PrintFault) (entry : ℕ) → printed_entry named e ≡ Some entry → (e.1 ≡ None) × (slice_get named e.0 ≡ Some entry)
+printed-parts named (k, None) entry is = (refl, is)
+printed-parts named (k, Some rule) entry is = absurd (cc)
+
+refused-parts : (o : Option ℕ) (r : Option (Option PrintFault)) (entry : ℕ) (rule : PrintFault) → refused_pair o r ≡ Some (entry, rule) → (o ≡ Some entry) × (r ≡ Some (Some rule))
+refused-parts None r entry rule is = absurd (cc)
+refused-parts (Some x) None entry rule is = absurd (cc)
+refused-parts (Some x) (Some None) entry rule is = absurd (cc)
+refused-parts (Some x) (Some (Some f)) entry rule is =
+    let pair : (x, f) ≡ (entry, rule) = cc in
+    (ap (λ (p : ℕ × PrintFault). Some p.0) pair, ap (λ (p : ℕ × PrintFault). Some (Some p.1)) pair)
+
+module _ {S : Type 0} (image : Image) (named numbers : List ℕ) (count : ℕ) (judged : IndexMap ℕ (Option PrintFault) S) (text : List ℕ) (names : AreNamedTypes image named)
+    (permuted : IsPermutation (range_with_len 0 (length named)) numbers) (h : AreJudged image named numbers count judged.entries text) where
+  abbrev order : List ℕ
+  order = filter_map (printed_entry named) judged.entries
+
+  abbrev rs : List (ℕ × PrintFault)
+  rs = filter_map (refused_number named judged) (range_with_len 0 (length named))
+
+  -- an entry with a number is a named type
+  is-named : (k entry : ℕ) → slice_get named k ≡ Some entry → IsNamedType image entry
+  is-named k entry is =
+      let (w, at) = get-at named k entry is in
+      (names.all entry).0 (subst (Contains named) at (Contains-get_or named k 0 w))
+
+  verdict : (k entry : ℕ) (r : Option PrintFault) → slice_get named k ≡ Some entry → Contains judged.entries (k, r) → IsVerdict image entry r
+  verdict k entry r is has =
+      let (w, at) = get-at named k entry is in
+      subst (λ (x : ℕ). IsVerdict image x r) at (All-contains (λ (e : ℕ × Option PrintFault). IsVerdict image (get_or named e.0 0) e.1) judged.entries (k, r) h.all has)
 
   printed-there : (entry : ℕ) → Contains order entry → IsNamedType image entry × IsPrinted (shape_in image) (subject_in image entry)
-  printed-there entry has = (let (below, is) = judged.printed_below entry has in (is-named entry below, is))
+  printed-there entry has =
+      let (e, there, is) = picked-of (printed_entry named) judged.entries entry has in
+      let (none, at) = printed-parts named e entry is in
+      let pair : Contains judged.entries (e.0, None) = subst (λ (r : Option PrintFault). Contains judged.entries (e.0, r)) none there in
+      (is-named e.0 entry at, verdict e.0 entry None at pair)
 
   refused-there : (entry : ℕ) (rule : PrintFault) → Contains rs (entry, rule) → IsNamedType image entry × Refuses (shape_in image) (subject_in image entry) rule
   refused-there entry rule has =
-      let (below, is) = judged.refused_below (entry, rule) (Contains-permutation rs refusals (entry, rule) (IsPermutation-sym refusals rs moved) has) in
-      (is-named entry below, is)
+      let (k, there, is) = picked-of (refused_number named judged) (range_with_len 0 (length named)) (entry, rule) has in
+      let (at, found) = refused-parts (slice_get named k) (lookup (nat_eq k) judged.entries) entry rule is in
+      (is-named k entry at, verdict k entry (Some rule) at (found-there judged.entries k (Some rule) found))
 
   -- each that is refused is an entry
   pub refused-within : All (λ (r : ℕ × PrintFault). r.0 < length (entries_in image)) rs
   refused-within k d w = (let r = get_or rs k d in (refused-there r.0 r.1 (Contains-get_or rs k d w)).0.0)
 
-  -- all are judged
-  pub listing-done : (level : ℕ → ℕ) → length sorted ≤ count → AllPairs (λ a b. StandsBefore level a b) sorted → AreLevels image level → IsNonDecreasingBy (λ (r : ℕ × PrintFault). r.0) rs
-      → IsStableByKey (λ (r : ℕ × PrintFault). r.0) nat_cmp refusals rs → IsListing image order rs
-  listing-done level over rising levels rises stable = record {
+  pub listing-done : (level : ℕ → ℕ) → length numbers ≤ count → AllPairs (λ j k. StandsBefore level (get_or named j 0) (get_or named k 0)) numbers → AreLevels image level → IsListing image order rs
+  listing-done level over ranked levels = record {
     level = level;
     levels = levels;
     printed = λ entry. (
@@ -203,7 +376,10 @@ module _ (image : Image) (named sorted : List ℕ) (count : ℕ) (order : List �
         | inr (rule, has) ↦ absurd (printed-or-refused (shape_in image) (subject_in image entry) rule p (refused-there entry rule has).1)
       ],
     );
-    by_level = λ i j d less w. ranked (get_or order i d) (get_or order j d) (judged.rising i j d less w);
+    by_level = picked-pairs (λ (a b : ℕ × Option PrintFault). StandsBefore level (get_or named a.0 0) (get_or named b.0 0)) (λ a b. StandsBefore level a b) (printed_entry named) judged.entries
+        (λ a b y z stands first second. subst (λ (v : ℕ). StandsBefore level y v) (get-at named b.0 z (printed-parts named b z second).1).1
+        (subst (λ (u : ℕ). StandsBefore level u (get_or named b.0 0)) (get-at named a.0 y (printed-parts named a y first).1).1 stands))
+        (keyed-pairs judged.entries (subst (AllPairs (λ j k. StandsBefore level (get_or named j 0) (get_or named k 0))) (sym whole) ranked));
     others = λ entry rule. (
       refused-there entry rule,
       λ (is, f). elim (each-named entry is) [
@@ -213,26 +389,84 @@ module _ (image : Image) (named sorted : List ℕ) (count : ℕ) (order : List �
             subst C (one-rule (shape_in image) (subject_in image entry) other rule (refused-there entry other has).1 f) has
       ],
     );
-    by_offset = by-offset refusals rs (λ i j d less w. stands-apart level (get_or refusals i d).0 (get_or refusals j d).0 (ranked (get_or refusals i d).0 (get_or refusals j d).0 (judged.apart i j d less w))) rises stable;
+    by_offset = picked-pairs (λ (a b : ℕ). a < b) (λ (a b : ℕ × PrintFault). a.0 < b.0) (refused_number named judged) (range_with_len 0 (length named))
+        (λ j k a b less first second.
+        let (wj, aj) = get-at named j a.0 (refused-parts (slice_get named j) (lookup (nat_eq j) judged.entries) a.0 a.1 first).0 in
+        let (wk, ak) = get-at named k b.0 (refused-parts (slice_get named k) (lookup (nat_eq k) judged.entries) b.0 b.1 second).0 in
+        let step = names.rising j k 0 less wk in
+        omega (arith, aj, ak, step))
+        (range-rising (length named));
     each = each-named;
   }
     where
-      ranked : (a b : ℕ) → ComesBefore sorted a b → StandsBefore level a b
-      ranked a b (i, j, less, w, is, same) = rw (← is, ← same) (rising i j 0 less w)
+      whole : keys_of judged.entries ≡ numbers
+      whole = h.keys ∙ take_all count numbers over
+
+      keyed-pairs : (es : List (ℕ × Option PrintFault)) → AllPairs (λ j k. StandsBefore level (get_or named j 0) (get_or named k 0)) (keys_of es)
+          → AllPairs (λ (a b : ℕ × Option PrintFault). StandsBefore level (get_or named a.0 0) (get_or named b.0 0)) es
+      keyed-pairs es pairs i j d less w =
+          let long = keys-long es in
+          let pair = pairs i j d.0 less (omega arith) in
+          rw (key-at es i d, key-at es j d) at pair
 
       each-named : (entry : ℕ) → IsNamedType image entry → Contains order entry ⊎ ((rule : PrintFault) × Contains rs (entry, rule))
       each-named entry is =
-          let (k, w, e) = Contains-permutation named sorted entry permuted ((names.all entry).1 is) in
-          let at : get_or sorted k 0 ≡ entry = get_or_default sorted k 0 entry w ∙ e in
-          elim (judged.each k (omega arith)) [
-            | inl has ↦ (let C : ℕ → Type 0 = λ n. Contains order n in inl (subst C at has))
-            | inr (rule, has) ↦ (let C : ℕ → Type 0 = λ n. Contains rs (n, rule) in inr (rule, subst C at (Contains-permutation refusals rs (get_or sorted k 0, rule) moved has)))
-          ]
+          let (k, w, e) = (names.all entry).1 is in
+          let at : slice_get named k ≡ Some entry = slice-at named k entry w ∙ ap Some e in
+          let here = range-there (length named) k w in
+          let key : Contains (keys_of judged.entries) k = subst (λ (l : List ℕ). Contains l k) (sym whole) (Contains-permutation (range_with_len 0 (length named)) numbers k permuted here) in
+          let (r, found) = key-there judged.entries k key in
+          by k at here r found
+        where
+          by : (k : ℕ) → slice_get named k ≡ Some entry → Contains (range_with_len 0 (length named)) k → (r : Option PrintFault) → lookup (nat_eq k) judged.entries ≡ Some r
+              → Contains order entry ⊎ ((rule : PrintFault) × Contains rs (entry, rule))
+          by k at here None found = inl (picked-there (printed_entry named) judged.entries (k, None) entry (found-there judged.entries k None found) at)
+          by k at here (Some rule) found = inr (
+            rule,
+            picked-there (refused_number named judged) (range_with_len 0 (length named)) k (entry, rule) here
+                (ap (λ (o : Option ℕ). refused_pair o (lookup (nat_eq k) judged.entries)) at ∙ ap (refused_pair (Some entry)) found),
+          )
+
+-- a look-up finds no refusal where there is none
+none-found : (es : List (ℕ × Option PrintFault)) → list_all is_none (values_of es) ≡ true → (k : ℕ) (o : Option ℕ) → refused_pair o (lookup (nat_eq k) es) ≡ None
+none-found [] all k None = refl
+none-found [] all k (Some entry) = refl
+none-found ((key, Some rule) ∷ es) all k o = absurd (cc)
+none-found ((key, None) ∷ es) all k o = by (none-found es all k o) (nat_eq k key)
+  where
+    by : refused_pair o (lookup (nat_eq k) es) ≡ None → (b : Bool) → refused_pair o (if b then Some None else lookup (nat_eq k) es) ≡ None
+    by deeper true = none o
+      where
+        none : (x : Option ℕ) → refused_pair x (Some None) ≡ None
+        none None = refl
+        none (Some entry) = refl
+    by deeper false = deeper
+
+-- so none is listed
+pub none-refused : {S : Type 0} (named : List ℕ) (judged : IndexMap ℕ (Option PrintFault) S) → list_all is_none (values judged) ≡ true → (ks : List ℕ)
+    → filter_map (refused_number named judged) ks ≡ []
+none-refused named judged all [] = refl
+none-refused named judged all (k ∷ ks) =
+    ap (λ (o : Option (ℕ × PrintFault)). cons_option o (filter_map (refused_number named judged) ks)) (none-found judged.entries all k (slice_get named k)) ∙ none-refused named judged all ks
 
 -- each named type is an entry
-pub named-within : (image : Image) (named sorted : List ℕ) → AreNamedTypes image named → IsPermutation named sorted → All (λ id. id < length (entries_in image)) sorted
-named-within image named sorted names permuted k d w =
-    ((names.all (get_or sorted k d)).0 (Contains-permutation sorted named (get_or sorted k d) (IsPermutation-sym named sorted permuted) (Contains-get_or sorted k d w))).0
+pub named-within : (image : Image) (named : List ℕ) → AreNamedTypes image named → All (λ id. id < length (entries_in image)) named
+named-within image named names k d w = ((names.all (get_or named k d)).0 (Contains-get_or named k d w)).0
+
+-- rising numbers are at least their places
+above-place : (xs : List ℕ) → AllPairs (λ a b. a < b) xs → (i : ℕ) → i < length xs → i ≤ get_or xs i 0
+above-place xs rising zero w = omega arith
+above-place xs rising (suc i) w =
+    (let step = rising i (suc i) 0 (omega arith) w in omega (arith, above-place xs rising i (omega arith), step))
+
+-- so there are at most as many named types as entries
+pub few-named : (image : Image) (named : List ℕ) → AreNamedTypes image named → length named < 4294967296
+few-named image [] names = omega arith
+few-named image (x ∷ xs) names =
+    let last = length xs in
+    let high = above-place (x ∷ xs) names.rising last (omega arith) in
+    let within = named-within image (x ∷ xs) names last 0 (omega arith) in
+    omega (arith, few-entries image, high, within)
 
 -- ---- the text
 

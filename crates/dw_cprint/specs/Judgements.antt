@@ -1,12 +1,13 @@
 -- State: the judgement of a named type: it is printed, and its text is written, or the refusal that holds.
-use Rattle.std.specs.Prelude.{◌≡◌, ℕ, List, [], ◌∷◌, ◌++◌, Option, Some, None}
+use Rattle.std.specs.Prelude.{◌≡◌, ℕ, List, [], ◌∷◌, ◌++◌, Option, Some, None, is_some, if◌then◌else◌, nat_eq}
+use Rattle.std.specs.Prelude.{slice_get}
+use Rattle.indexmap.specs.IndexMap.{IndexMap, get, insert_entry}
 use Rattle.dw_cprint.specs.Declarations.{declaration_of}
 use Rattle.dw_cprint.specs.Listings.{text_if}
 use Rattle.dw_cprint.specs.Refusals.{PrintFault, HoldsNoneBelow, Refuses, IsPrinted}
 use Rattle.dw_cprint.specs.Shapes.{ShapeOf, SubjectOf}
 use Rattle.dw_cprint.specs.Terms.{Declaration}
 use Rattle.dw_cprint.specs.Writing.{written}
-use Rattle.dw_cprint.specs.declared.listing.Listing.{Listing}
 
 -- the draft has the text of the declaration
 abbrev pub IsDrafted : (ℕ → ShapeOf) → SubjectOf → Option (List ℕ) → Type 0
@@ -23,11 +24,29 @@ abbrev pub IsJudgement : (ℕ → ShapeOf) → SubjectOf → Option (List ℕ) �
 IsJudgement shapes subject draft None = IsPrinted shapes subject × IsDrafted shapes subject draft
 IsJudgement shapes subject draft (Some rule) = Refuses shapes subject rule
 
--- a listing has one named type more: its line, if it is printed, or else its refusal
-pub data IsAdded (shapes : ℕ → ShapeOf) (entry : ℕ) (subject : SubjectOf) (old new : Listing) : Type 0 where
-  printed : IsPrinted shapes subject → new.order.items ≡ old.order.items ++ entry ∷ []
-      → new.text.items ≡ old.text.items ++ (text_if (declaration_of shapes subject) ++ 10 ∷ [])
-      → new.refused.items ≡ old.refused.items → IsAdded shapes entry subject old new
-  refused : (rule : PrintFault) → Refuses shapes subject rule → new.order.items ≡ old.order.items
-      → new.text.items ≡ old.text.items → new.refused.items ≡ old.refused.items ++ (entry, rule) ∷ []
-      → IsAdded shapes entry subject old new
+-- the text has the line of one named type more, if it is printed, or else its refusal is known
+abbrev pub HasLine : (ℕ → ShapeOf) → SubjectOf → Option PrintFault → (old new : List ℕ) → Type 0
+HasLine shapes subject None old new =
+    IsPrinted shapes subject × (new ≡ old ++ (text_if (declaration_of shapes subject) ++ 10 ∷ []))
+HasLine shapes subject (Some rule) old new = Refuses shapes subject rule × (new ≡ old)
+
+-- one named type more is judged: its number has its refusal, or none and its line is written
+abbrev pub IsAdded : (ℕ → ShapeOf) → ℕ → SubjectOf → (judged judged' : List (ℕ × Option PrintFault))
+    → (text text' : List ℕ) → Type 0
+IsAdded shapes number subject judged judged' text text' =
+    (refusal : Option PrintFault) × HasLine shapes subject refusal text text'
+    × (judged' ≡ insert_entry nat_eq judged number refusal)
+
+-- the named type with a number, if it is printed
+abbrev pub printed_entry : (named : List ℕ) → ℕ × Option PrintFault → Option ℕ
+printed_entry named judged = if is_some judged.1 then None else slice_get named judged.0
+
+-- an entry with a refusal
+abbrev pub refused_pair : Option ℕ → Option (Option PrintFault) → Option (ℕ × PrintFault)
+refused_pair (Some entry) (Some (Some rule)) = Some (entry, rule)
+refused_pair _ _ = None
+
+-- the named type with a number and its refusal, if it is refused
+abbrev pub refused_number : {S : Type 0} → (named : List ℕ) → IndexMap ℕ (Option PrintFault) S → ℕ
+    → Option (ℕ × PrintFault)
+refused_number named judged number = refused_pair (slice_get named number) (get nat_eq judged number)

@@ -63,8 +63,8 @@ pub fn shapes_reached_decide()
         → AreSameFor shapes others subject → HasOneReading shapes subject → HasOneReading others subject }
 {}
 
-/// In a listing, each type comes after those that it contains by value: as its type, as the type of a member, by its
-/// signature, or through others (DWARF 5, chapter 5).
+/// In a listing, each printed type comes after the printed ones that it contains by value: as its type, as the type of
+/// a member, by its signature, or through others (DWARF 5, chapter 5).
 pub fn held_types_come_first()
     ensures { (image : ImageOf) (order : List ℕ) (refused : List (ℕ × PrintFault)) → IsListing image order refused
         → AllPairs (λ a b. HoldsByValue (steps_in image) a b → ⊥) order }

@@ -1,6 +1,7 @@
 //! C declarations of entries: what is printed, what is refused and why, and the listing of all named types.
 #![tactic(auto)]
 
+mod digits;
 mod fault;
 mod laws;
 mod listing;
@@ -16,6 +17,7 @@ mod text;
 mod words;
 mod writing;
 
+pub use digits::{put_decimal, put_hex};
 pub use dw_image::{EntryId, Image, NoMemory};
 pub use fault::PrintFault;
 pub use laws::{
@@ -24,4 +26,4 @@ pub use laws::{
 };
 pub use listing::{Listing, declare, declare_all};
 pub use source::Source;
-pub use words::{Text, digit_of, put_eight_digits};
+pub use words::Text;

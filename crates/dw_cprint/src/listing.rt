@@ -1,10 +1,12 @@
 //! The declaration of one entry, and the listing of all named types.
 
-ghost use Rattle.std.specs.Prelude.{◌≡◌, ◌≢◌, ◌<◌, ◌++◌, length, slice_index, flat_map, All, AllPairs};
-ghost use Rattle.std.specs.Prelude.{IsPermutation, IfOk, OnOk, OnErr, Err};
+ghost use Rattle.std.specs.Prelude.{◌≡◌, ◌≢◌, ◌<◌, ◌++◌, ◌^◌, length, map, slice_index, flat_map, All, AllPairs};
+ghost use Rattle.std.specs.Prelude.{IsPermutation, IfOk, OnOk, OnErr, Err, is_none};
+ghost use Rattle.std.specs.List.{filter_map, list_all, range_with_len};
+ghost use Rattle.indexmap.specs.IndexMap.{values};
 ghost use Rattle.dw_image.specs.Images.{entries_in};
 ghost use Rattle.dw_cprint.specs.EntryShapes.{shape_in, subject_in};
-ghost use Rattle.dw_cprint.specs.Judgements.{IsAdded, IsJudgement};
+ghost use Rattle.dw_cprint.specs.Judgements.{IsAdded, IsJudgement, printed_entry, refused_number};
 ghost use Rattle.dw_cprint.specs.Kept.{WritesDeclaration};
 ghost use Rattle.dw_cprint.specs.Listings.{AreLevels, AreNamedTypes, IsListing, StandsBefore, is_named_type};
 ghost use Rattle.dw_cprint.specs.Listings.{listing_text, named_number, refused_line, refused_line_in};
@@ -15,6 +17,7 @@ ghost use Rattle.dw_cprint.specs.Surveys.{BySurvey};
 ghost use Rattle.dw_cprint.specs.declared.fault.PrintFault.{PrintFault as PrintFaultOf};
 ghost use Rattle.dw_cprint.specs.declared.fault.PrintFault.TheVariants.{Memory};
 
+use crate::digits::put_hex;
 use crate::fault::PrintFault;
 use crate::reaching::all_types;
 use crate::shape::{Name, Shape, Subject};
@@ -22,10 +25,11 @@ use crate::shape_reader::subject_of;
 use crate::source::{Source, flag_at, has_name, tag_at};
 use crate::survey::Survey;
 use crate::text::{Draft, put_enumerators, put_tag};
-use crate::words::{TagKeyword, put_eight_digits};
+use crate::words::TagKeyword;
 use dw_entries::constants::*;
 use dw_image::{EntryId, Image, NoMemory};
 use dw_types::{Numbers, clear_nodes, longest_at, longest_rows};
+use indexmap::IndexMap;
 use std::alloc::{AllocError, Global};
 
 /// The most types on a path that is printed: 64 entries, and void after the last.
@@ -138,7 +142,8 @@ pub fn declare(
 /// The named types of an image: those that are printed, those that are refused, and the text of both.
 #[derive(Drop)]
 pub struct Listing {
-    /// Those that are printed, by rising level and then by rising offset, so each after those that it holds by value.
+    /// Those that are printed, by rising level and then by rising offset, so each after those of them that it holds by
+    /// value.
     pub order: Vec<EntryId>,
     /// A line for each in `order`, its declaration; then a comment line for each in `refused`.
     pub text: Vec<u8>,
@@ -146,28 +151,31 @@ pub struct Listing {
     pub refused: Vec<(EntryId, PrintFault)>,
 }
 
-impl Listing {
-    /// Adds a named type: its declaration and a line feed, or why it is refused.
-    fn add<'a>(
-        &mut self,
-        alloc: Global,
-        survey: &Survey<'a>,
-        entry: EntryId,
-        subject: &Subject<'a>,
-        draft: &mut Draft,
-    ) -> Result<(), AllocError>
-        ensures { OnOk result (BySurvey survey.now (first_steps (view_subject subject.now)) (λ shapes.
-            IsAdded shapes entry (view_subject subject.now) self.old self.new)) }
-    {
-        if let Some(fault) = survey.refusal(alloc, subject, draft)? {
-            self.refused.push((entry, fault))?;
-            return Ok(());
-        }
-        self.order.push(entry)?;
-        self.text.extend_from_slice(draft.bytes())?;
-        self.text.push(b'\n')?;
-        Ok(())
+/// Why each named type is refused, if it is, by the number of the type among those in rising offset, which are 0, 1, 2
+/// and so on: no file chooses a key. The order is that in which the types are judged.
+type Judgements = IndexMap<u32, Option<PrintFault>>;
+
+/// Judges a named type: writes its declaration and a line feed, or keeps why it is refused.
+fn judge<'a>(
+    alloc: Global,
+    judged: &mut Judgements,
+    text: &mut Vec<u8>,
+    survey: &Survey<'a>,
+    number: u32,
+    subject: &Subject<'a>,
+    draft: &mut Draft,
+) -> Result<(), AllocError>
+    ensures { OnOk result (BySurvey survey.now (first_steps (view_subject subject.now)) (λ shapes.
+        IsAdded shapes number (view_subject subject.now) judged.old.entries judged.new.entries text.old.items
+        text.new.items)) }
+{
+    let refusal = survey.refusal(alloc, subject, draft)?;
+    if refusal.is_none() {
+        text.extend_from_slice(draft.bytes())?;
+        text.push(b'\n')?;
     }
+    judged.insert(number, refusal)?;
+    Ok(())
 }
 
 /// Whether an entry is a typedef, or a structure, union or enumeration that is not declared, and has a name.
@@ -212,14 +220,108 @@ fn levels_of(alloc: Global, image: &Image<'_>) -> Result<Numbers, AllocError>
     Ok(levels)
 }
 
-/// Sorts entries, which are in rising offset, by rising level. Those of one level stay in rising offset.
-fn sort_by_level(entries: &mut Vec<EntryId>, levels: &Numbers) -> Result<(), AllocError>
-    requires { AllPairs (λ a b. a < b) entries.old.items }
-    ensures permutation { IsPermutation entries.old.items entries.new.items }
-    ensures sorted { OnOk result (AllPairs (λ a b. StandsBefore (slice_index levels.now) a b) entries.new.items) }
+/// The levels of the named types.
+fn levels_in(alloc: Global, named: &[EntryId], levels: &Numbers) -> Result<Vec<usize>, AllocError>
+    ensures { IfOk result (λ own. own.items ≡ map (slice_index levels.now) named.now) }
 {
-    entries.sort_by_key(|id| longest_at(levels, id.number()))?;
-    Ok(())
+    named
+        .iter()
+        .map(|id| longest_at(levels, id.number()))
+        .collect(alloc)
+}
+
+/// The level of the named type with a number; 0 where there is none.
+#[inline]
+fn level_at(levels: &[usize], number: u32) -> usize
+    ensures { result ≡ slice_index levels.now number }
+{
+    match levels.get(number as usize) {
+        Some(level) => *level,
+        None => 0,
+    }
+}
+
+/// The numbers below a count.
+fn numbers_below(alloc: Global, count: u32) -> Result<Vec<u32>, AllocError>
+    ensures { IfOk result (λ numbers. numbers.items ≡ range_with_len 0 count) }
+{
+    (0..count).collect(alloc)
+}
+
+/// The numbers of the named types, by rising level. Those of one level stay in rising offset.
+fn numbers_by_level(alloc: Global, levels: &[usize]) -> Result<Vec<u32>, AllocError>
+    requires { length levels.now < 2 ^ 32 }
+    ensures all { IfOk result (λ numbers. IsPermutation (range_with_len 0 (length levels.now)) numbers.items) }
+    ensures sorted { IfOk result (λ numbers.
+        AllPairs (λ j k. StandsBefore (slice_index levels.now) j k) numbers.items) }
+{
+    let mut numbers = numbers_below(alloc, levels.len() as u32)?;
+    numbers.sort_by_key(|number| level_at(levels, *number))?;
+    Ok(numbers)
+}
+
+/// The named type with a number, if it is printed.
+#[inline]
+fn printed_at(named: &[EntryId], number: u32, refusal: Option<PrintFault>) -> Option<EntryId>
+    ensures { result ≡ printed_entry named.now (number, refusal) }
+{
+    match refusal {
+        Some(_) => None,
+        None => named.get(number as usize).copied(),
+    }
+}
+
+/// Those that are printed, in the order in which they were judged.
+fn order_of(
+    alloc: Global,
+    named: &[EntryId],
+    judged: &Judgements,
+) -> Result<Vec<EntryId>, AllocError>
+    ensures { IfOk result (λ order. order.items ≡ filter_map (printed_entry named.now) judged.now.entries) }
+{
+    let mut order = Vec::new(alloc);
+    for (number, refusal) in judged {
+        if let Some(id) = printed_at(named, *number, *refusal) {
+            order.push(id)?;
+        }
+    }
+    Ok(order)
+}
+
+/// The named type with a number and why it is refused, if it is.
+fn refused_at(named: &[EntryId], judged: &Judgements, number: u32) -> Option<(EntryId, PrintFault)>
+    ensures { result ≡ refused_number named.now judged.now number }
+{
+    let id = named.get(number as usize)?;
+    match judged.get(&number) {
+        Some(Some(fault)) => Some((*id, *fault)),
+        _ => None,
+    }
+}
+
+/// Whether none is refused.
+fn are_all_printed(judged: &Judgements) -> bool
+    ensures { result ≡ list_all is_none (values judged.now) }
+{
+    judged.values().all(|refusal| refusal.is_none())
+}
+
+/// Those that are refused, in rising offset.
+fn refused_of(
+    alloc: Global,
+    named: &[EntryId],
+    judged: &Judgements,
+) -> Result<Vec<(EntryId, PrintFault)>, AllocError>
+    requires few { length named.now < 2 ^ 32 }
+    ensures { IfOk result (λ refused. refused.items
+        ≡ filter_map (refused_number named.now judged.now) (range_with_len 0 (length named.now))) }
+{
+    if are_all_printed(judged) {
+        return Ok(Vec::new(alloc));
+    }
+    (0..named.len() as u32)
+        .filter_map(|number| refused_at(named, judged, number))
+        .collect(alloc)
 }
 
 /// The line of a named type that is refused.
@@ -227,7 +329,7 @@ fn put_refused(out: &mut Vec<u8>, offset: u32, fault: PrintFault) -> Result<(), 
     ensures { OnOk result (out.new.items ≡ out.old.items ++ refused_line offset fault) }
 {
     out.extend_from_slice(b"/* 0x")?;
-    put_eight_digits(out, offset)?;
+    put_hex(out, offset, 8)?;
     out.push(b' ')?;
     out.extend_from_slice(fault.code().as_bytes())?;
     out.push(b' ')?;
@@ -259,26 +361,38 @@ pub fn declare_all(alloc: Global, image: &Image<'_>) -> Result<Listing, NoMemory
     ensures listing { IfOk result (λ it. IsListing image.now it.order.items it.refused.items) }
     ensures text { IfOk result (λ it. it.text.items ≡ listing_text image.now it.order.items it.refused.items) }
 {
-    let mut named = named_types(alloc, image)?;
+    let named = named_types(alloc, image)?;
     let levels = levels_of(alloc, image)?;
-    sort_by_level(&mut named, &levels)?;
+    let own = levels_in(alloc, &named, &levels)?;
     drop(levels);
+    let numbers = numbers_by_level(alloc, &own)?;
+    drop(own);
     let source = Source::read(alloc, image)?;
     let types = all_types(alloc, image, &named)?;
     let survey = Survey::new(alloc, &source, types)?;
-    let mut listing = Listing {
-        order: Vec::new(alloc),
-        text: Vec::new(alloc),
-        refused: Vec::new(alloc),
-    };
+    let mut judged: Judgements = IndexMap::with_capacity(alloc, named.len())?;
+    let mut text = Vec::new(alloc);
     let mut draft = Draft::new(alloc);
-    for place in 0..named.len() {
-        let id = named[place];
-        let subject = subject_of(alloc, &source, id)?;
-        listing.add(alloc, &survey, id, &subject, &mut draft)?;
+    for place in 0..numbers.len() {
+        let number = numbers[place];
+        let subject = subject_of(alloc, &source, named[number as usize])?;
+        judge(
+            alloc,
+            &mut judged,
+            &mut text,
+            &survey,
+            number,
+            &subject,
+            &mut draft,
+        )?;
     }
-    drop((survey, named));
-    listing.refused.sort_by_key(|one| one.0)?;
-    put_all_refused(&mut listing.text, image, &listing.refused)?;
-    Ok(listing)
+    drop((survey, numbers));
+    let order = order_of(alloc, &named, &judged)?;
+    let refused = refused_of(alloc, &named, &judged)?;
+    put_all_refused(&mut text, image, &refused)?;
+    Ok(Listing {
+        order,
+        text,
+        refused,
+    })
 }

@@ -49,6 +49,7 @@ const NOTHING: Findings = Findings {
 
 impl Findings {
     /// What is found of one and the other.
+    #[inline]
     fn with(self, other: Findings) -> Findings
         ensures either { IsEither self other result }
         ensures depth { result.depth ≡ max self.depth other.depth }

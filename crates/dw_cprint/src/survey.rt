@@ -64,6 +64,7 @@ impl<'a> Survey<'a> {
     }
 
     /// What is known of a type, if it reaches no cycle.
+    #[inline]
     fn summary(&self, at: TypeAt) -> Option<Summary>
         ensures { result ≡ summary_at VOID self.now.places.items self.now.summaries.items at }
     {
@@ -75,6 +76,7 @@ impl<'a> Survey<'a> {
     }
 
     /// What is known of a type.
+    #[inline]
     pub fn known(&self, at: TypeAt) -> Summary
         ensures { result ≡ known_of self.now at }
     {

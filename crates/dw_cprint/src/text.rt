@@ -10,6 +10,7 @@ ghost use Rattle.dw_cprint.specs.Shapes.{view_enumerator, view_name};
 ghost use Rattle.dw_cprint.specs.Tokens.{Blank, TagWord};
 ghost use Rattle.dw_cprint.specs.Writing.{count_tokens, qualifying, name_tokens, value_tokens, bits_tokens};
 
+use crate::digits::put_decimal;
 use crate::shape::{Enumerator, Name};
 use crate::words::{Qualifier, TagKeyword};
 use std::alloc::{AllocError, Global};
@@ -52,6 +53,7 @@ impl Draft {
     }
 
     /// Whether it has more bytes than a declaration may have.
+    #[inline]
     pub fn is_over(&self) -> bool
         ensures { result ≡ is_none self.now }
     {
@@ -72,6 +74,19 @@ impl Draft {
         self.bytes.extend_from_slice(text)
     }
 
+    /// Appends a number in decimal.
+    pub fn put_number(&mut self, n: u128) -> Result<(), AllocError>
+        ensures { OnOk result (self.new ≡ appended self.old (numeral n)) }
+    {
+        if self.over {
+            return Ok(());
+        }
+        let start = self.bytes.len();
+        put_decimal(&mut self.bytes, n)?;
+        self.over = self.bytes.len() - start > LIMIT.saturating_sub(start);
+        Ok(())
+    }
+
     /// Its bytes. Nothing is known of those of a text that is too long.
     pub fn bytes(&self) -> &[u8]
         ensures { IfSome self.now (λ text. result.now ≡ text) }
@@ -80,27 +95,14 @@ impl Draft {
     }
 }
 
-/// A number in decimal.
-#[tactic(auto, using(crate::proofs::LexingLemmas::numeral_low))]
-fn put_number(out: &mut Draft, n: u128) -> Result<(), AllocError>
-    ensures { OnOk result (out.new ≡ appended out.old (numeral n)) }
-{
-    if n < 10 {
-        return out.put(&[b'0' + n as u8]);
-    }
-    put_number(out, n / 10)?;
-    out.put(&[b'0' + (n % 10) as u8])
-}
-
 /// An enumerator's value in decimal.
 fn put_value(out: &mut Draft, value: i128) -> Result<(), AllocError>
     ensures { OnOk result (Writes (value_tokens value) out.old out.new) }
 {
     if value < 0 {
         out.put(b"-")?;
-        return put_number(out, value.unsigned_abs());
     }
-    put_number(out, value.unsigned_abs())
+    out.put_number(value.unsigned_abs())
 }
 
 /// A name, if there is one.
@@ -121,7 +123,7 @@ fn put_count(out: &mut Draft, count: Option<u128>) -> Result<(), AllocError>
         None => out.put(b"[]"),
         Some(n) => {
             out.put(b"[")?;
-            put_number(out, n)?;
+            out.put_number(n)?;
             out.put(b"]")
         }
     }
@@ -223,7 +225,7 @@ pub fn put_bits(out: &mut Draft, bits: Option<u64>) -> Result<(), AllocError>
         None => Ok(()),
         Some(n) => {
             out.put(b" : ")?;
-            put_number(out, u128::from(n))
+            out.put_number(u128::from(n))
         }
     }
 }

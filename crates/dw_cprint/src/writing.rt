@@ -20,6 +20,7 @@ use std::alloc::{AllocError, Global};
 
 impl<'a> Survey<'a> {
     /// The shape that is kept of an entry.
+    #[inline]
     #[tactic(auto, unfolding(crate::specs::Kept::kept))]
     fn kept_shape(&self, entry: usize) -> Option<&Shape<'a>>
         ensures { MatchOption result (kept self.now entry ≡ other)
@@ -30,6 +31,7 @@ impl<'a> Survey<'a> {
     }
 
     /// The shape of an entry, and how deep the types that it names may be.
+    #[inline]
     fn shape_within(&self, entry: usize, depth: usize) -> Option<(&Shape<'a>, usize)>
         ensures below { IfSome result (λ found. found.1 < depth) }
         ensures found { MatchOption result (kept_term self.now depth (Some entry) ≡ None)
@@ -42,6 +44,7 @@ impl<'a> Survey<'a> {
     }
 
     /// Whether brackets after a declarator of the type bind before a star in front of it.
+    #[inline]
     fn is_bracketed(&self, at: TypeAt) -> bool
         ensures { result ≡ is_bracketed (kind_at (kept self.now) at) }
     {
