@@ -55,6 +55,12 @@ pub data SoundReport (s : Sections) : Request → Status → List ℕ → Type 0
   sized : (i : Image) (offset : ℕ) → IsImageOf s i
       → SoundReport s (Size offset) (size_status (type_at_offset i offset)) (size_text i (type_at_offset i offset))
 
+-- what is returned and written of sections: their first fault, or what is requested of sound ones
+pub data SectionsReport (s : Sections) (request : Request) : Status → List ℕ → Type 0 where
+  fault : (f : FirstFault) → IsFaultOf s f → SectionsReport s request Fault (fault_text request f)
+  sound : (status : Status) (text : List ℕ) → SoundReport s request status text
+      → SectionsReport s request status text
+
 -- the exit status of the program
 abbrev pub status_code : Status → ℕ
 status_code Sound = 0
@@ -66,12 +72,10 @@ abbrev pub too_large : ElfFault
 too_large = record { rule = elf_rules.TooLarge; section = 0 }
 
 -- what is returned and written for these bytes of a file, if a file has at most `limit` of them: the fault of a longer
--- file, the first check of the file that fails, the first fault of its sections, or what is requested of sound ones
+-- file, the first check of the file that fails, or what is returned and written of its sections
 pub data Report (limit : ℕ) (request : Request) (bytes : List ℕ) : Status → List ℕ → Type 0 where
   large : limit < length bytes → Report limit request bytes Fault (elf_fault_text request too_large)
   fails : (f : ElfFault) → length bytes ≤ limit → IsFault bytes f
       → Report limit request bytes Fault (elf_fault_text request f)
-  fault : (s : Sections) (f : FirstFault) → length bytes ≤ limit → ChecksPass bytes → AreSections bytes s
-      → IsFaultOf s f → Report limit request bytes Fault (fault_text request f)
-  sound : (s : Sections) (status : Status) (text : List ℕ) → length bytes ≤ limit → ChecksPass bytes
-      → AreSections bytes s → SoundReport s request status text → Report limit request bytes status text
+  of_sections : (s : Sections) (status : Status) (text : List ℕ) → length bytes ≤ limit → ChecksPass bytes
+      → AreSections bytes s → SectionsReport s request status text → Report limit request bytes status text

@@ -1,13 +1,11 @@
-//! The lines of a report, one function a kind of line or part, and the digits of numbers.
+//! The lines of a report, one function a kind of line or part.
 
 ghost use Rattle.std.specs.Prelude.{◌≡◌, ◌++◌, OnOk};
 ghost use Rattle.std.specs.List.{flat_map};
-ghost use Rattle.std.specs.Fmt.{decimal};
-ghost use Rattle.dw_cprint.specs.Digits.{places};
 ghost use Rattle.dw_report.specs.Lines.{offset_text, sound_line, elf_fault_line, fault_lines, cycle_line, cycle_offset};
 ghost use Rattle.dw_report.specs.Lines.{rule_part, place_part, hex};
 
-use dw_cprint::{digit_of, put_eight_digits};
+use dw_cprint::{put_decimal, put_hex};
 use dw_elf::ElfFault;
 use dw_image::Fault;
 use dw_units::Counts;
@@ -19,7 +17,7 @@ pub fn put_offset(text: &mut Vec<u8>, n: u32) -> Result<(), AllocError>
     ensures ok { OnOk result (text.new.items ≡ text.old.items ++ offset_text n) }
 {
     text.extend_from_slice(b"0x")?;
-    put_eight_digits(text, n)
+    put_hex(text, n, 8)
 }
 
 /// `sound: U units, E entries, T types`.
@@ -28,11 +26,11 @@ pub fn put_sound_line(text: &mut Vec<u8>, counts: Counts) -> Result<(), AllocErr
     ensures ok { OnOk result (text.new.items ≡ text.old.items ++ sound_line counts.units counts.entries counts.types) }
 {
     text.extend_from_slice(b"sound: ")?;
-    put_decimal(text, counts.units as u64)?;
+    put_decimal(text, counts.units as u128)?;
     text.extend_from_slice(b" units, ")?;
-    put_decimal(text, counts.entries as u64)?;
+    put_decimal(text, counts.entries as u128)?;
     text.extend_from_slice(b" entries, ")?;
-    put_decimal(text, counts.types as u64)?;
+    put_decimal(text, counts.types as u128)?;
     text.extend_from_slice(b" types\n")
 }
 
@@ -56,7 +54,7 @@ pub fn put_elf_fault_line(text: &mut Vec<u8>, fault: ElfFault) -> Result<(), All
     let name = fault.rule.name().as_bytes();
     put_rule(text, code, name)?;
     text.extend_from_slice(b" at section ")?;
-    put_decimal(text, u64::from(fault.section))?;
+    put_decimal(text, u128::from(fault.section))?;
     text.extend_from_slice(b"\n")
 }
 
@@ -70,7 +68,7 @@ fn put_place(text: &mut Vec<u8>, section: &[u8], at: u32, attribute: u16) -> Res
     text.extend_from_slice(b"+")?;
     put_offset(text, at)?;
     text.extend_from_slice(b" attribute 0x")?;
-    put_hex(text, attribute)
+    put_short_hex(text, attribute)
 }
 
 /// An offset of a cycle, after a space.
@@ -119,56 +117,20 @@ pub fn put_fault_lines(text: &mut Vec<u8>, fault: &Fault) -> Result<(), AllocErr
     put_cycle_line(text, fault.cycle.as_slice())
 }
 
-/// Appends two hexadecimal digits of a number.
-pub fn put_two_digits(text: &mut Vec<u8>, n: u8) -> Result<(), AllocError>
-    ensures ok { OnOk result (text.new.items ≡ text.old.items ++ places 2 n) }
-{
-    let n = u32::from(n);
-    text.extend_from_slice(&[digit_of(n / 0x10 % 16), digit_of(n % 16)])
-}
-
-/// Appends four hexadecimal digits of a number.
-pub fn put_four_digits(text: &mut Vec<u8>, n: u16) -> Result<(), AllocError>
-    ensures ok { OnOk result (text.new.items ≡ text.old.items ++ places 4 n) }
-{
-    let n = u32::from(n);
-    text.extend_from_slice(&[
-        digit_of(n / 0x1000 % 16),
-        digit_of(n / 0x100 % 16),
-        digit_of(n / 0x10 % 16),
-        digit_of(n % 16),
-    ])
-}
-
 /// Appends the hexadecimal digits of a number, without leading zeros.
 #[tactic(auto, unfolding(crate::specs::Lines::hex))]
-fn put_hex(text: &mut Vec<u8>, n: u16) -> Result<(), AllocError>
+fn put_short_hex(text: &mut Vec<u8>, n: u16) -> Result<(), AllocError>
     ensures ok { OnOk result (text.new.items ≡ text.old.items ++ hex n) }
 {
     let n = u32::from(n);
-    let fourth = digit_of(n % 16);
     if n < 0x10 {
-        return text.extend_from_slice(&[fourth]);
+        return put_hex(text, n, 1);
     }
-    let third = digit_of(n / 0x10 % 16);
     if n < 0x100 {
-        return text.extend_from_slice(&[third, fourth]);
+        return put_hex(text, n, 2);
     }
-    let second = digit_of(n / 0x100 % 16);
     if n < 0x1000 {
-        return text.extend_from_slice(&[second, third, fourth]);
+        return put_hex(text, n, 3);
     }
-    text.extend_from_slice(&[digit_of(n / 0x1000 % 16), second, third, fourth])
-}
-
-/// Appends a number in decimal.
-#[tactic(auto, using(std::proofs::lemmas::Fmt::decimal_digit, std::proofs::lemmas::Fmt::decimal_step))]
-pub fn put_decimal(text: &mut Vec<u8>, n: u64) -> Result<(), AllocError>
-    ensures ok { OnOk result (text.new.items ≡ text.old.items ++ decimal n) }
-{
-    if n < 10 {
-        return text.extend_from_slice(&[b'0' + n as u8]);
-    }
-    put_decimal(text, n / 10)?;
-    text.extend_from_slice(&[b'0' + (n % 10) as u8])
+    put_hex(text, n, 4)
 }

@@ -3,7 +3,7 @@
 ghost use Rattle.std.specs.Prelude.{◌≡◌, IfOk, IfSome};
 ghost use Rattle.dw_image.specs.Images.{sections_in};
 ghost use Rattle.dw_report.specs.Reports.{file_limit, fault_text, elf_fault_text, counts_text, AreTypeLines};
-ghost use Rattle.dw_report.specs.Reports.{SoundReport, Report};
+ghost use Rattle.dw_report.specs.Reports.{SoundReport, SectionsReport, Report};
 ghost use Rattle.dw_report.specs.Shown.{show_lines, size_text, size_status, type_at_offset};
 
 use crate::json::{put_elf_fault_object, put_fault_object, put_sound_object};
@@ -12,7 +12,7 @@ use crate::shown::{put_show_lines, put_size_at};
 use dw_cprint::declare_all;
 use dw_elf::{ElfFault, ElfRule, Sections, find};
 use dw_image::{Fault, Image, NoMemory, Verdict, verify};
-use dw_units::{Counts, count_by_unit};
+use dw_units::{Counts, Found, verify_by_unit};
 use std::alloc::{AllocError, Global};
 
 /// What is requested of a file.
@@ -169,21 +169,25 @@ fn answer_of_sound(alloc: Global, request: Request, image: &Image<'_>) -> Result
     }
 }
 
-/// The result if `check` finds the sections sound unit after unit. None for the other requests, and if nothing follows
-/// from the units alone.
+/// The result of `check` unit after unit. None for the other requests, and if nothing follows from the units alone.
 fn answer_by_unit(
     alloc: Global,
     request: Request,
     sections: &Sections<'_>,
 ) -> Result<Option<Answer>, NoMemory>
     ensures { IfOk result (λ found. IfSome found (λ answer.
-        SoundReport sections.now request answer.status answer.text.items)) }
+        SectionsReport sections.now request answer.status answer.text.items)) }
 {
     match request {
-        Request::Check { json } => match count_by_unit(alloc, sections)? {
-            Some(counts) => {
+        Request::Check { json } => match verify_by_unit(alloc, sections)? {
+            Some(Found::Sound(counts)) => {
                 let text = text_of_counts(alloc, json, counts)?;
                 let status = Status::Sound;
+                Ok(Some(Answer { status, text }))
+            }
+            Some(Found::Fault(fault)) => {
+                let text = text_of_fault(alloc, request, &fault)?;
+                let status = Status::Fault;
                 Ok(Some(Answer { status, text }))
             }
             None => Ok(None),
@@ -191,6 +195,30 @@ fn answer_by_unit(
         Request::Show => Ok(None),
         Request::Types => Ok(None),
         Request::Size(_) => Ok(None),
+    }
+}
+
+/// The result for the sections of a file.
+fn answer_of_sections(
+    alloc: Global,
+    request: Request,
+    sections: Sections<'_>,
+) -> Result<Answer, NoMemory>
+    ensures { IfOk result (λ answer. SectionsReport sections.entry request answer.status answer.text.items) }
+{
+    if let Some(answer) = answer_by_unit(alloc, request, &sections)? {
+        return Ok(answer);
+    }
+    match verify(alloc, sections)? {
+        Verdict::Fault(fault) => {
+            let text = text_of_fault(alloc, request, &fault)?;
+            let status = Status::Fault;
+            Ok(Answer { status, text })
+        }
+        Verdict::Sound(image) => {
+            let answer = answer_of_sound(alloc, request, &image)?;
+            Ok(answer)
+        }
     }
 }
 
@@ -220,18 +248,6 @@ pub fn report(
             return Ok(Answer { status, text });
         }
     };
-    if let Some(answer) = answer_by_unit(alloc, request, &sections)? {
-        return Ok(answer);
-    }
-    match verify(alloc, sections)? {
-        Verdict::Fault(fault) => {
-            let text = text_of_fault(alloc, request, &fault)?;
-            let status = Status::Fault;
-            Ok(Answer { status, text })
-        }
-        Verdict::Sound(image) => {
-            let answer = answer_of_sound(alloc, request, &image)?;
-            Ok(answer)
-        }
-    }
+    let answer = answer_of_sections(alloc, request, sections)?;
+    Ok(answer)
 }

@@ -8,8 +8,9 @@ ghost use Rattle.dw_cprint.specs.Digits.{places};
 ghost use Rattle.dw_report.specs.Shown.{glyph, name_part, size_part, entry_part, shown_line, entry_size, entry_line};
 ghost use Rattle.dw_report.specs.Shown.{show_lines, size_line, size_text, size_status, type_at_offset};
 
-use crate::lines::{put_decimal, put_four_digits, put_offset, put_two_digits};
+use crate::lines::put_offset;
 use crate::reporting::Status;
+use dw_cprint::{put_decimal, put_hex};
 use dw_image::{EntryId, Head, Image, TypeId};
 use std::alloc::AllocError;
 
@@ -31,7 +32,7 @@ fn put_entry_part(text: &mut Vec<u8>, offset: u32, depth: usize, tag: u16) -> Re
     text.extend_from_slice(b" ")?;
     put_indent(text, depth)?;
     text.extend_from_slice(b"0x")?;
-    put_four_digits(text, tag)
+    put_hex(text, u32::from(tag), 4)
 }
 
 /// Whether a byte of a name is shown as it is.
@@ -47,7 +48,7 @@ fn put_escape(text: &mut Vec<u8>, byte: u8) -> Result<(), AllocError>
     ensures ok { OnOk result (text.new.items ≡ text.old.items ++ (codes "\\x" ++ places 2 byte)) }
 {
     text.extend_from_slice(b"\\x")?;
-    put_two_digits(text, byte)
+    put_hex(text, u32::from(byte), 2)
 }
 
 /// The index of the first byte of a name that is escaped, if there is one.
@@ -96,7 +97,7 @@ fn put_size(text: &mut Vec<u8>, size: Option<u64>) -> Result<(), AllocError>
         return Ok(());
     };
     text.extend_from_slice(b" size ")?;
-    put_decimal(text, size)
+    put_decimal(text, u128::from(size))
 }
 
 /// An entry's line: its head, its name and its size.
@@ -183,7 +184,7 @@ fn put_size_line(text: &mut Vec<u8>, size: Option<u64>) -> Result<(), AllocError
         return text.extend_from_slice(b"no size\n");
     };
     text.extend_from_slice(b"size ")?;
-    put_decimal(text, size)?;
+    put_decimal(text, u128::from(size))?;
     text.extend_from_slice(b"\n")
 }
 

@@ -1,3 +1,4 @@
 pub mod OutputLemmas
 pub mod ReportLemmas
 pub mod OffsetLemmas
+pub mod WordLemmas

@@ -8,7 +8,7 @@ use Rattle.dw_elf.specs.Sections.{AreSections}
 use Rattle.dw_report.specs.declared.reporting.Request.{Request}
 use Rattle.dw_report.specs.declared.reporting.Status.{Status}
 use Rattle.dwv.specs.Reports.{WritesReport, WritesPrefix}
-use Rattle.dw_report.specs.Reports.{Report, large, fails, fault, sound}
+use Rattle.dw_report.specs.Reports.{Report, large, fails, of_sections}
 
 -- what is read within the limit is all there is
 all_read : (limit : ℕ) (input : List ℕ) → length (take (limit + 1) input) ≤ limit → take (limit + 1) input ≡ input
@@ -27,13 +27,9 @@ Report-of_read limit request input bytes status text e (large lt) =
 Report-of_read limit request input bytes status text e (fails f le x) =
     let all = read_all limit input bytes e le in
     fails f (subst (λ xs. length xs ≤ limit) all le) (subst (λ xs. IsFault xs f) all x)
-Report-of_read limit request input bytes status text e (fault s f le p are x) =
+Report-of_read limit request input bytes status text e (of_sections s _ _ le p are x) =
     let all = read_all limit input bytes e le in
-    fault s f (subst (λ xs. length xs ≤ limit) all le) (subst ChecksPass all p)
-    (subst (λ xs. AreSections xs s) all are) x
-Report-of_read limit request input bytes status text e (sound s _ _ le p are x) =
-    let all = read_all limit input bytes e le in
-    sound s status text (subst (λ xs. length xs ≤ limit) all le) (subst ChecksPass all p)
+    of_sections s status text (subst (λ xs. length xs ≤ limit) all le) (subst ChecksPass all p)
     (subst (λ xs. AreSections xs s) all are) x
 
 pub WritesReport-of_read : (limit : ℕ) (request : Request) (bytes : List ℕ) (status : Status) (text : List ℕ)

@@ -1,6 +1,6 @@
 //! One request over a source and a sink: read, make the whole text, write, and how that ends.
 
-ghost use Rattle.std.specs.Prelude.{◌≡◌, ◌≢◌, ℕ, ◌+◌, ◌<◌, ◌^◌, ◌↔◌, take, IfOk, IfSome, OnOk, OnErr, IsErrOf};
+ghost use Rattle.std.specs.Prelude.{◌≡◌, ◌≢◌, ℕ, ◌+◌, ◌<◌, ◌^◌, ◌↔◌, Err, take, IfOk, IfSome, OnOk, OnErr, IsErrOf};
 ghost use Rattle.std.specs.Io.KnownBytes.{Appends};
 ghost use Rattle.dw_report.specs.Reports.{file_limit};
 ghost use Rattle.dwv.specs.declared.running.RunFault.TheVariants.{Memory};
@@ -15,16 +15,27 @@ use thiserror::Error;
 
 /// Why a request has no result.
 #[derive(Clone, Copy, Debug, PartialEq, Eq, Error)]
+#[error("{}", self.line())]
 pub enum RunFault {
     /// A read returned an error; nothing was written.
-    #[error("reading failed")]
     ReadFailed,
     /// A write returned an error, or took no byte; a prefix of the text was written.
-    #[error("writing failed")]
     WriteFailed,
     /// An allocation failed; nothing was written.
-    #[error("out of memory")]
     Memory,
+}
+
+impl RunFault {
+    /// The line for standard error.
+    fn line(self) -> &'static str
+        ensures { result.now ≡ line_of (Err self) }
+    {
+        match self {
+            RunFault::ReadFailed => "dwv: reading failed",
+            RunFault::WriteFailed => "dwv: writing failed",
+            RunFault::Memory => "dwv: out of memory",
+        }
+    }
 }
 
 impl From<AllocError> for RunFault {
@@ -129,8 +140,7 @@ pub fn ending(outcome: &Result<Status, RunFault>) -> (u8, &'static str)
 {
     match outcome {
         Ok(status) => (status.code(), ""),
-        Err(RunFault::ReadFailed) => (3, "dwv: reading failed"),
-        Err(RunFault::WriteFailed) => (3, "dwv: writing failed"),
-        Err(RunFault::Memory) => (4, "dwv: out of memory"),
+        Err(RunFault::Memory) => (4, RunFault::Memory.line()),
+        Err(fault) => (3, fault.line()),
     }
 }

@@ -1,8 +1,9 @@
-//! Devices that are slow or fail, and the limit of a file. `tests/rows` has what is printed, `tests/endings.py`
-//! has words and endings.
+//! Words and endings, devices that are slow or fail, and the limit of a file. `tests/rows` has what is printed,
+//! `tests/endings.py` the command line and the exit statuses of the program.
 
 use crate::device::Device;
-use crate::running::{RunFault, run};
+use crate::running::{RunFault, ending, run};
+use crate::words::{WordsFault, words};
 use dw_report::{Request, Status, report};
 use std::alloc::Global;
 use std::io;
@@ -225,4 +226,81 @@ fn failing_writes(rt: HostRuntime) -> Result<(), Fail> {
         assert_writes(&rt, rt.alloc(), &file, *request, text)?;
     }
     Ok(())
+}
+
+/// The words after the program's name, and the request and the file's name that they give.
+type Words = (
+    &'static [&'static str],
+    Result<(Request, &'static str), WordsFault>,
+);
+
+const WORDS: [Words; 22] = [
+    (&["check", "f"], Ok((Request::Check { json: false }, "f"))),
+    (
+        &["check", "--json", "f"],
+        Ok((Request::Check { json: true }, "f")),
+    ),
+    (
+        &["check", "f", "--json"],
+        Ok((Request::Check { json: true }, "f")),
+    ),
+    (&["show", "f"], Ok((Request::Show, "f"))),
+    (&["types", "f"], Ok((Request::Types, "f"))),
+    (&["size", "f", "0x1F"], Ok((Request::Size(0x1f), "f"))),
+    (
+        &["size", "f", "0xffffffff"],
+        Ok((Request::Size(u32::MAX), "f")),
+    ),
+    (&["size", "f", "0x"], Err(WordsFault::BadOffset)),
+    (&["size", "f", "1f"], Err(WordsFault::BadOffset)),
+    (&["size", "f", "0x+1"], Err(WordsFault::BadOffset)),
+    (&["size", "f", "0x123456789"], Err(WordsFault::BadOffset)),
+    (&["size", "f", "0x", "g"], Err(WordsFault::BadUsage)),
+    (&["size", "f"], Err(WordsFault::BadUsage)),
+    (&["check"], Err(WordsFault::BadUsage)),
+    (&["check", "f", "g"], Err(WordsFault::BadUsage)),
+    (
+        &["check", "--json", "--json", "f"],
+        Err(WordsFault::BadUsage),
+    ),
+    (&["check", "--json=1", "f"], Err(WordsFault::BadUsage)),
+    (&["show", "--json", "f"], Err(WordsFault::BadUsage)),
+    (&["names", "f"], Err(WordsFault::BadUsage)),
+    (&["help"], Err(WordsFault::BadUsage)),
+    (&["check", "--help"], Err(WordsFault::BadUsage)),
+    (&[], Err(WordsFault::BadUsage)),
+];
+
+#[test]
+fn words_after_the_name(rt: HostRuntime) -> Result<(), Fail> {
+    for (texts, want) in &WORDS {
+        let mut given = Vec::new(rt.alloc());
+        for text in *texts {
+            given.push(String::from_str(rt.alloc(), text)?)?;
+        }
+        let found = words(rt.alloc(), given.as_slice());
+        let found = match &found {
+            Ok((request, file)) => Ok((*request, file.as_str())),
+            Err(fault) => Err(*fault),
+        };
+        assert_eq!(rt; found, *want, "{texts:?}");
+    }
+    Ok(())
+}
+
+/// How requests end, with the exit status and the line for standard error.
+const ENDINGS: [(Result<Status, RunFault>, (u8, &str)); 6] = [
+    (Ok(Status::Sound), (0, "")),
+    (Ok(Status::Fault), (1, "")),
+    (Ok(Status::NotAType), (2, "")),
+    (Err(RunFault::ReadFailed), (3, "dwv: reading failed")),
+    (Err(RunFault::WriteFailed), (3, "dwv: writing failed")),
+    (Err(RunFault::Memory), (4, "dwv: out of memory")),
+];
+
+#[test]
+fn endings(rt: HostRuntime) {
+    for (outcome, want) in &ENDINGS {
+        assert_eq!(rt; ending(outcome), *want);
+    }
 }

@@ -1,11 +1,15 @@
 //! The words of the command line.
 
-ghost use Rattle.std.specs.Prelude.{◌≡◌, SomeIff};
-ghost use Rattle.dwv.specs.Words.{IsOffset, offset_in};
+ghost use Rattle.std.specs.Prelude.{◌≡◌, ◌≢◌, List, ℕ, false, map, codes, IfOk, IsErrOf, SomeIff};
+ghost use Rattle.std.specs.String.{string_bytes};
+ghost use Rattle.clap.specs.Words.{app_of, found_of, kind_of, rows_of, rule_of};
+ghost use Rattle.dw_report.specs.declared.reporting.Request.{Request as RequestOf};
+ghost use Rattle.dwv.specs.Words.{AreRequest, IsBadOffset, HaveBadOffset, IsOffset, IsRequest, offset_in};
+ghost use Rattle.dwv.specs.Words.{command_line, json_option, required_word};
 ghost use Rattle.dwv.specs.declared.words.WordsFault.TheVariants.{Memory};
 
 use clap::error::ErrorKind;
-use clap::{Arg, ArgAction, ArgMatches, Command};
+use clap::{Arg, ArgAction, ArgMatches, Command, Error};
 use dw_report::Request;
 use std::alloc::{AllocError, Global};
 use std::env::FillError;
@@ -31,29 +35,36 @@ impl From<AllocError> for WordsFault {
     }
 }
 
-/// The word that names the file.
-fn file_arg<'a>(alloc: Global) -> Arg<'a> {
-    Arg::new(alloc, "FILE")
-        .required(true)
-        .action(ArgAction::Set)
+/// A word that must be given.
+fn word<'a>(alloc: Global, name: &'a str) -> Arg<'a>
+    ensures rule { rule_of result ≡ required_word name.entry.now }
+    ensures local { result.global ≡ false }
+{
+    Arg::new(alloc, name).required(true).action(ArgAction::Set)
+}
+
+/// The option `--json`.
+fn json<'a>(alloc: Global) -> Arg<'a>
+    ensures rule { rule_of result ≡ json_option }
+    ensures local { result.global ≡ false }
+{
+    Arg::new(alloc, "json")
+        .long("json")
+        .action(ArgAction::SetTrue)
 }
 
 /// The forms of the words.
-fn forms<'a>(alloc: Global) -> Result<Command<'a>, AllocError> {
-    let json = Arg::new(alloc, "json")
-        .long("json")
-        .action(ArgAction::SetTrue);
-    let offset = Arg::new(alloc, "OFFSET")
-        .required(true)
-        .action(ArgAction::Set);
+fn forms<'a>(alloc: Global) -> Result<Command<'a>, AllocError>
+    ensures { IfOk result (λ forms. app_of forms ≡ command_line) }
+{
     let check = Command::new(alloc, "check")
-        .arg(json)?
-        .arg(file_arg(alloc))?;
-    let show = Command::new(alloc, "show").arg(file_arg(alloc))?;
-    let types = Command::new(alloc, "types").arg(file_arg(alloc))?;
+        .arg(json(alloc))?
+        .arg(word(alloc, "FILE"))?;
+    let show = Command::new(alloc, "show").arg(word(alloc, "FILE"))?;
+    let types = Command::new(alloc, "types").arg(word(alloc, "FILE"))?;
     let size = Command::new(alloc, "size")
-        .arg(file_arg(alloc))?
-        .arg(offset)?;
+        .arg(word(alloc, "FILE"))?
+        .arg(word(alloc, "OFFSET"))?;
     Command::new(alloc, "dwv")
         .no_binary_name(true)
         .subcommand(check)?
@@ -74,46 +85,65 @@ fn offset_of(text: &str) -> Option<u32>
     u32::from_str_radix(digits, 16).ok()
 }
 
-/// The request and the file's name that a command and its words give.
-fn request_of<'a>(name: &str, matches: &ArgMatches<'a>) -> Result<(Request, &'a str), WordsFault> {
-    let Some(file) = matches.get_str("FILE") else {
-        return Err(WordsFault::BadUsage);
-    };
-    let request = match name {
-        "check" => Request::Check {
+/// Why words have none of the forms.
+fn refusal(error: &Error) -> WordsFault
+    ensures usage { result ≡ WordsFault.BadUsage → kind_of error.now ≡ ErrorKind.OutOfMemory → ⊥ }
+    ensures not_offset { result ≢ WordsFault.BadOffset }
+{
+    match error.kind() {
+        ErrorKind::OutOfMemory => WordsFault::Memory,
+        _ => WordsFault::BadUsage,
+    }
+}
+
+/// The request that a command and its values are.
+fn request_of(name: &str, matches: &ArgMatches<'_>) -> Result<Request, WordsFault>
+    ensures ok { IfOk result (IsRequest name.now (rows_of (found_of matches.now))) }
+    ensures bad_usage { IsErrOf result WordsFault.BadUsage
+        → (request : RequestOf) → IsRequest name.now (rows_of (found_of matches.now)) request → ⊥ }
+    ensures bad_offset { IsErrOf result WordsFault.BadOffset
+        → IsBadOffset name.now (rows_of (found_of matches.now)) }
+{
+    match name {
+        "check" => Ok(Request::Check {
             json: matches.get_flag("json"),
-        },
-        "show" => Request::Show,
-        "types" => Request::Types,
+        }),
+        "show" => Ok(Request::Show),
+        "types" => Ok(Request::Types),
         "size" => {
             let Some(text) = matches.get_str("OFFSET") else {
                 return Err(WordsFault::BadUsage);
             };
-            let Some(offset) = offset_of(text) else {
-                return Err(WordsFault::BadOffset);
-            };
-            Request::Size(offset)
+            match offset_of(text) {
+                Some(offset) => Ok(Request::Size(offset)),
+                None => Err(WordsFault::BadOffset),
+            }
         }
-        _ => return Err(WordsFault::BadUsage),
-    };
-    Ok((request, file))
+        _ => Err(WordsFault::BadUsage),
+    }
 }
 
-/// The request and the file's name that some words give.
-fn request_in(alloc: Global, words: &[String]) -> Result<(Request, String), WordsFault> {
+/// The request and the file's name that the words after the program's name give.
+pub fn words(alloc: Global, words: &[String]) -> Result<(Request, String), WordsFault>
+    ensures ok { IfOk result (λ found. AreRequest (map string_bytes words.now) found.0 (string_bytes found.1)) }
+    ensures bad_usage { IsErrOf result WordsFault.BadUsage
+        → (request : RequestOf) (file : List ℕ) → AreRequest (map string_bytes words.now) request file → ⊥ }
+    ensures bad_offset { IsErrOf result WordsFault.BadOffset → HaveBadOffset (map string_bytes words.now) }
+{
     let matches = match forms(alloc)?.try_get_matches_from(words) {
         Ok(matches) => matches,
-        Err(error) => {
-            return Err(match error.kind() {
-                ErrorKind::OutOfMemory => WordsFault::Memory,
-                _ => WordsFault::BadUsage,
-            });
-        }
+        Err(error) => return Err(refusal(&error)),
     };
     let Some((name, of_name)) = matches.subcommand() else {
         return Err(WordsFault::BadUsage);
     };
-    let (request, file) = request_of(name, of_name)?;
+    let Some(file) = of_name.get_str("FILE") else {
+        return Err(WordsFault::BadUsage);
+    };
+    let request = match request_of(name, of_name) {
+        Ok(request) => request,
+        Err(fault) => return Err(fault),
+    };
     Ok((request, String::from_str(alloc, file)?))
 }
 
@@ -151,11 +181,11 @@ pub fn read_words<R: Env + AllocGlobal>(rt: &R) -> Result<(Request, String), Wor
             });
         }
     };
-    let mut words = Vec::new(rt.alloc());
+    let mut after_name = Vec::new(rt.alloc());
     for argument in arguments {
-        if words.push(argument).is_err() {
+        if after_name.push(argument).is_err() {
             return Err(WordsFault::Memory);
         }
     }
-    request_in(rt.alloc(), words.as_slice())
+    words(rt.alloc(), after_name.as_slice())
 }

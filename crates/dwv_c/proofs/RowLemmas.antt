@@ -1,5 +1,5 @@
 -- The row of an entry, and the rows that are written so far.
-use Rattle.std.proofs.Common.{rules, ◌≡◌, ℕ, zero, suc, ◌+◌, ◌<◌, ◌≤◌, ◌⊎◌, List, [], ◌∷◌, length, drop, min, Option, Some, None, Err, IfSome, refl, sym, ap, subst, ◌∙◌, arith}
+use Rattle.std.proofs.Common.{rules, ◌≡◌, ℕ, zero, suc, ◌+◌, ◌<◌, ◌≤◌, ◌⊎◌, List, [], ◌∷◌, ◌++◌, length, drop, min, Option, Some, None, Err, IfSome, refl, sym, ap, subst, ◌∙◌, arith}
 use Rattle.std.specs.Prelude.{slice_get, slice_set, option_map}
 use Rattle.std.specs.Option.{IsSomeAnd}
 use Rattle.dw_elf.specs.Sections.{IsAt}
@@ -60,7 +60,7 @@ has_name file None None r is has = has
 has_name file None (Some place) r is has = absurd is
 has_name file (Some text) None r is has = absurd is
 has_name file (Some text) (Some place) r is has =
-    (subst (λ (n : ℕ). IsAt file n text) (sym has.0) is.0, has.1 ∙ is.1, has.2)
+    (subst (λ (n : ℕ). IsAt file n (text ++ 0 ∷ [])) (sym has.0) is.0, has.1 ∙ is.1, has.2)
 
 -- what the look-ups of an entry tell makes its row
 pub row_told : (file : List ℕ) (i : Image) (k : ℕ) (rows : List EntryRow) (found : Option Entry) (offset tag : ℕ)

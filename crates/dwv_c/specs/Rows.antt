@@ -1,5 +1,5 @@
 -- Chapter: the entries of a sound file as rows in an array of the caller.
-use Rattle.std.specs.Prelude.{◌≡◌, ℕ, ◌<◌, ◌≤◌, List, length, drop, min, slice_get, Option, Some, None}
+use Rattle.std.specs.Prelude.{◌≡◌, ℕ, ◌<◌, ◌≤◌, List, [], ◌∷◌, ◌++◌, length, drop, min, slice_get, Option, Some, None}
 use Rattle.std.specs.Option.{IsSomeAnd}
 use Rattle.dw_elf.specs.Sections.{IsAt}
 use Rattle.dw_entries.specs.Entries.{Entry}
@@ -19,10 +19,10 @@ abbrev pub HasSize : Option ℕ → EntryRow → Type 0
 HasSize None r = (r.size ≡ 0) × (r.has_size ≡ 0)
 HasSize (Some n) r = (r.size ≡ n) × (r.has_size ≡ 1)
 
--- a row says where these bytes are in the file, or that there are none
+-- a row says where these bytes are in the file, with a zero byte after them, or that there are none
 abbrev pub HasName : (file : List ℕ) → Option (List ℕ) → EntryRow → Type 0
 HasName file None r = (r.name ≡ 0) × (r.name_length ≡ 0) × (r.has_name ≡ 0)
-HasName file (Some text) r = IsAt file r.name text × (r.name_length ≡ length text) × (r.has_name ≡ 1)
+HasName file (Some text) r = IsAt file r.name (text ++ 0 ∷ []) × (r.name_length ≡ length text) × (r.has_name ≡ 1)
 
 -- the row of the entry with a number: its offset, its depth (or the greatest number, if it does not fit), its tag, its
 -- size, and where its name is in the file

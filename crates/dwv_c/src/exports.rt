@@ -19,7 +19,7 @@ use dw_elf::{Sections, TooLarge, find};
 use dw_forms::Stop;
 use dw_image::{Image, NoMemory, Verdict as Verified, verify};
 use dw_report::{Request, Status, longest_file, report};
-use dw_units::{Counts, count_by_unit};
+use dw_units::{Counts, Found, verify_by_unit};
 use std::alloc::Global;
 
 /// The sections of a file.
@@ -54,12 +54,13 @@ pub fn verify_file<'a>(alloc: Global, file: &'a [u8]) -> Result<Image<'a>, Stop<
     verify_sections(alloc, sections)
 }
 
-/// The counts of sound sections. They are counted unit after unit if the units can be checked alone.
+/// The counts of sound sections. They are verified unit after unit if the units can be verified alone.
 fn count_sections(alloc: Global, sections: Sections<'_>) -> Result<Counts, Stop<Verdict>>
     ensures { MatchResult result (AreCounts sections.entry) (IsErrorOf (IsFaultOfSections sections.entry)) }
 {
-    match count_by_unit(alloc, &sections) {
-        Ok(Some(counts)) => return Ok(counts),
+    match verify_by_unit(alloc, &sections) {
+        Ok(Some(Found::Sound(counts))) => return Ok(counts),
+        Ok(Some(Found::Fault(fault))) => return Err(Stop::Fault(verdict_of_fault(&fault))),
         Ok(None) => {}
         Err(NoMemory) => return Err(Stop::Memory),
     }

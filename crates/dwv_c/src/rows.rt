@@ -1,10 +1,10 @@
 //! The entries of a sound file as rows in an array of the caller, and where the names of entries are in the file.
 
-ghost use Rattle.std.specs.Prelude.{◌≡◌, ◌+◌, ◌<◌, ◌≤◌, Some, length, drop, slice_get, IfOk, IfSome};
+ghost use Rattle.std.specs.Prelude.{◌≡◌, ◌+◌, ◌<◌, ◌≤◌, ◌++◌, ◌∷◌, [], Some, length, drop, slice_get, IfOk, IfSome};
 ghost use Rattle.dw_elf.specs.Checks.{ChecksPass};
 ghost use Rattle.dw_elf.specs.Sections.{AreSections, IsAt};
 ghost use Rattle.dw_image.specs.Images.{entries_in, entry_count, name_in, sections_in};
-ghost use Rattle.dw_image.specs.Slots.{IsPlace};
+ghost use Rattle.dw_image.specs.Slots.{BeginsString};
 ghost use Rattle.dw_image.specs.ValueTexts.{text_there};
 ghost use Rattle.dwv_c.specs.Verdicts.{IsSoundFile, of_image};
 ghost use Rattle.dwv_c.specs.Rows.{HasSize, HaveRows, IsRow, PutsRows};
@@ -55,10 +55,10 @@ impl<'i, 'a> Names<'i, 'a> {
         })
     }
 
-    /// Where a text starts in the file.
+    /// Where a text starts in the file. A zero byte ends it there.
     fn start_of(&self, place: TextPlace) -> usize
-        requires { IsPlace (sections_in self.now.source.image.now) place }
-        ensures { IsAt self.now.file.now result (text_there (sections_in self.now.source.image.now) place) }
+        requires { BeginsString (sections_in self.now.source.image.now) place }
+        ensures { IsAt self.now.file.now result (text_there (sections_in self.now.source.image.now) place ++ 0 ∷ []) }
     {
         match place {
             TextPlace::Info(offset) => self.info_start + offset,
