@@ -2,7 +2,7 @@
 //! the fault that the second reader (`slow_reader`) finds, and if it finds none, they name no rule that it knows.
 
 use crate::elf::{SECTIONS_AT, file_of};
-use crate::vectors::{A, B, FORMS_4, FORMS_5, M, T, TYPE_TABLE, TYPE_UNIT, UNIT_4, UNIT_5};
+use crate::vectors::{A, B, FORMS_4, FORMS_5, M, T, TYPE_TABLE, TYPE_UNIT, UNIT_4, UNIT_5, X1};
 use dw_elf::find;
 use dw_image::{Verdict, verify};
 use slow_reader::check_file;
@@ -85,15 +85,22 @@ fn assert_changes(
     Ok(runs)
 }
 
+// Without 64 bytes there is no header, and without its end no table of sections.
 #[test]
 fn a_file(rt: HostRuntime) -> Result<(), Fail> {
-    let mut file = file_of(rt.alloc(), &A, &B)?;
-    for length in 0..=file.len() {
+    let mut file = Vec::from_slice(rt.alloc(), &X1)?;
+    for length in 0..file.len() {
         let front = file.as_slice().get(..length).ok_or("a longer one")?;
+        let wanted = match length {
+            0..64 => "fault E2 NotElf64 at section 0",
+            _ => "fault E4 SectionTable at section 0",
+        };
+        let answer = answer(rt.alloc(), front)?;
+        assert_eq!(rt; answer.as_str(), wanted, "{length} bytes");
         assert_agrees(&rt, rt.alloc(), front)?;
     }
     let runs = assert_changes(&rt, rt.alloc(), file.as_mut_slice(), 0)?;
-    assert_eq!(rt; runs, 102_912);
+    assert_eq!(rt; runs, 102_400);
     Ok(())
 }
 

@@ -18,6 +18,10 @@ mod image;
 #[cfg(test)]
 mod links;
 #[cfg(test)]
+mod rules;
+#[cfg(test)]
+mod surface;
+#[cfg(test)]
 mod types;
 #[cfg(test)]
 mod vectors;

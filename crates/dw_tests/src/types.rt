@@ -1,4 +1,4 @@
-//! The order of small graphs, each plain and packed.
+//! The order of small graphs and of a long chain, each plain and packed.
 
 ghost use Rattle.std.specs.Prelude.{◌≡◌, length};
 ghost use Rattle.dw_types.specs.Graphs.{LeadsToNodes};
@@ -66,6 +66,19 @@ fn graph_of(alloc: Global, rows: &[&[usize]]) -> Result<Rows, Fail> {
     }
 }
 
+/// A graph with a step from each node to the next.
+fn chain_of(alloc: Global, nodes: usize) -> Result<Rows, Fail> {
+    let mut rows = Vec::new(alloc);
+    for next in 1..nodes {
+        rows.push(Vec::from_slice(alloc, &[next])?)?;
+    }
+    rows.push(Vec::new(alloc))?;
+    match Rows::new(rows) {
+        Some(graph) => Ok(graph),
+        None => Err("no graph".into()),
+    }
+}
+
 /// The turns of a graph's order and after them the rank of each node; or 0 and the nodes of a cycle.
 fn ordered<G: StepGraph>(alloc: Global, graph: &G) -> Result<(u128, Vec<usize>), AllocError> {
     match order(alloc, graph) {
@@ -77,6 +90,15 @@ fn ordered<G: StepGraph>(alloc: Global, graph: &G) -> Result<(u128, Vec<usize>),
             Ok((order.turns(), ranks))
         }
         Err(OrderFault::Cycle(nodes)) => Ok((0, nodes)),
+        Err(OrderFault::Memory) => Err(AllocError),
+    }
+}
+
+/// The turns of a graph's order; or 0 if it has a cycle.
+fn turns_of<G: StepGraph>(alloc: Global, graph: &G) -> Result<u128, AllocError> {
+    match order(alloc, graph) {
+        Ok(order) => Ok(order.turns()),
+        Err(OrderFault::Cycle(_)) => Ok(0),
         Err(OrderFault::Memory) => Err(AllocError),
     }
 }
@@ -104,5 +126,17 @@ fn orders(rt: HostRuntime) -> Result<(), Fail> {
         }
         assert!(rt; graph.looks.get() <= *most);
     }
+    Ok(())
+}
+
+// A chain of 100,000 nodes has 99,999 steps. Its ranks are not looked up: each look-up searches all nodes.
+#[test]
+fn orders_a_chain(rt: HostRuntime) -> Result<(), Fail> {
+    let graph = chain_of(rt.alloc(), 100_000)?;
+    let packed = Packed::new(rt.alloc(), &graph).ok().ok_or("no memory")?;
+    graph.looks.set(0);
+    assert_eq!(rt; turns_of(rt.alloc(), &graph)?, 199_999);
+    assert!(rt; graph.looks.get() <= 99_999);
+    assert_eq!(rt; turns_of(rt.alloc(), &packed)?, 199_999);
     Ok(())
 }
