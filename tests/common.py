@@ -23,6 +23,11 @@ BROKEN = SAMPLE.read_bytes().replace(b"\x02int", b"\x03int")
 DWV = pathlib.Path(os.environ.get("DWV", CRATE / "out/dwv")).absolute()
 sys.path[:0] = [str(TOP / folder) for folder in ("contrib", "bench")]
 
+# What the tests need besides make, python3 and the toolchain: .ci/run installs it. If CI is set, as CI services do, a
+# test fails that lacks one of these. Otherwise it is skipped, as are tests that lack any other tool.
+NEEDED = "ar bash clang g++ gcc git ld nm objcopy pkg-config readelf".split()
+IS_CI = bool(os.environ.get("CI"))
+
 # What readelf prints before a value: its form, and where a text is that is not in the entry itself.
 BEFORE = re.compile(r"(?:\((?:str|line_str|flag|offset|index|indirect|alt)[^)]*\):? *)*")
 # An entry as readelf lists it: its attributes are texts by their names, without DW_AT_.
@@ -49,17 +54,43 @@ def empty_folder():
         yield pathlib.Path(name)
 
 
-def tell(lines):
-    """Prints what is wrong, and returns the exit status of the script."""
-    print("".join(f"{line}\n" for line in lines), end="")
-    return 1 if lines else 0
+def tell(wrong, tried, least):
+    """Prints what is wrong of so many things that were tried, and returns the exit status of the script."""
+    print("".join(f"{line}\n" for line in wrong), end="")
+    tally = Tally(least)
+    tally.passed, tally.failed = max(tried - len(wrong), 0), len(wrong)
+    return tally.end()
 
 
 class Tally:
-    """Counts tests that passed or failed, and prints a line on each."""
+    """Counts tests that passed, failed or were skipped, and prints a line on each.
 
-    def __init__(self):
-        self.passed = self.failed = 0
+    If no tool is missing that they need, there must be `least` tests. A script that does less fails.
+    """
+
+    def __init__(self, least=1):
+        self.passed = self.failed = self.skipped = 0
+        self.least, self.lacks_a_tool = least, False
+
+    def skip(self, what):
+        """A test that can't be run here."""
+        self.skipped += 1
+        print(f"skipped: {what}", flush=True)
+
+    def lack(self, what):
+        """A test that can't be run because what it needs is missing or does not work: it fails in CI."""
+        self.lacks_a_tool = True
+        if IS_CI:
+            self.add("what the tests need", what)
+        else:
+            self.skip(what)
+
+    def has(self, tool):
+        """Whether a tool is installed. If not, a test of it fails or is skipped."""
+        if shutil.which(tool):
+            return True
+        (self.lack if tool in NEEDED else self.skip)(f"{tool} is not installed")
+        return False
 
     def add(self, name, why, more=""):
         """A test that failed for a reason, or passed if that is None or empty. `more` follows the name."""
@@ -73,7 +104,9 @@ class Tally:
 
     def end(self):
         """Prints the counts, and returns the exit status of the script."""
-        print(f"{self.passed} passed, {self.failed} failed")
+        if self.passed + self.failed < self.least and not self.lacks_a_tool:
+            self.add("the count of tests", f"{self.passed + self.failed}, and there are at least {self.least}")
+        print(f"{self.passed} passed, {self.failed} failed, {self.skipped} skipped")
         return 1 if self.failed else 0
 
 
@@ -92,9 +125,21 @@ def run(*words, memory=None, seconds=None, timeout=60, **more):
     return ran.returncode, ran.stdout, ran.stderr
 
 
+def python():
+    """A Python that has pyelftools: the one that runs this, or that of the system. If none has it, the one that runs.
+    """
+    words = ("-c", "import elftools")
+    return next((it for it in (sys.executable, "/usr/bin/python3") if os.path.exists(it) and run(it, *words)[0] == 0),
+                sys.executable)
+
+
 def script(name, *words, **env):
     """The exit status of a script of contrib/ that runs `dwv`, and both texts. It has more variables of `env`."""
-    return run(TOP / "contrib" / name, *words, timeout=None, text=True, env={**os.environ, "DWV": DWV, **env})
+    env = {**os.environ, "DWV": DWV, **env}
+    return run(PYTHON, TOP / "contrib" / name, *words, timeout=None, text=True, errors="replace", env=env)
+
+
+PYTHON = python()
 
 
 def make(folder, *words):
@@ -121,7 +166,7 @@ def compiled(out, command, *sources):
 def readelf_entries(path):
     """The entries of a file, as readelf lists them. A null has no tag."""
     found = []
-    words = ("readelf", "--wide", "--debug-dump=info", path)
+    words = ("readelf", "--wide", "--debug-dump=info,no-follow-links", path)
     for line in run(*words, encoding="utf-8", errors="replace")[1].splitlines():
         if it := re.match(r" *<(\d+)><([0-9a-f]+)>: Abbrev Number: \d+(?: \(DW_TAG_(\w+)\))?", line):
             found.append(Entry(int(it[1]), int(it[2], 16), it[3], {}))

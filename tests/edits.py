@@ -1,122 +1,45 @@
 #!/usr/bin/env python3
 """Tries the edits that the prover must refuse, several in one check, and the controls, which it must prove.
 
-    tests/edits.py [--all] [--only PATTERN] [--jobs N] [CRATE..]
+    tests/edits.py [--all | --tenth] [--only PATTERN] [--jobs N] [CRATE..]
 
-It tries the edits of more-edits/ and the controls, with --all also the edits of must-fail/. With --apply it proves
-nothing: it only looks whether each edit and control can be applied.
+It tries the edits of more-edits/ and the controls, with --all also the edits of must-fail/. With --tenth it tries a
+tenth of them, another one for each commit. With --apply it proves nothing: it only looks whether each edit and control
+can be applied. It ends with 'N passed, N failed, N skipped'.
 
 A function is proved against its own contract and those of the functions that it calls, so edits of different functions
 can be tried together: one check of a copy of the crate, in which each edited function must be refused by itself. Edits
 of more than one file, and of text that is in no function, are tried alone; so is each edit that is not refused beside
 others. A control (controls/NAME.edit) is a right body in the place of the edit NAME and of its shape: that it is proved
 shows that the edit is refused for what it means.
+
+It runs `rt check` in the folder of the crate, and then in copies of the crate and those below it, each with what was
+kept in out/: the proofs of the crate, and the libraries below it.
 """
 import argparse
 import collections
 import concurrent.futures
 import contextlib
-import importlib.machinery
-import importlib.util
+import itertools
 import os
 import pathlib
 import re
 import resource
 import shutil
+import subprocess
 import sys
 import tempfile
 
-TOP = pathlib.Path(__file__).resolve().parent.parent
-FOLDERS = ("must-fail", "more-edits", "controls")
-AT_MOST = 50  # edits in must-fail/, of all crates
+sys.dont_write_bytecode = True
+from common import TOP, Tally, tell
+from edit_files import FOLDERS, Edit, count, functions_of, misplaced, short
+
 TOGETHER = 10  # edits in one check
-IMPL = r"impl(?:<.*?>)? (?:(?P<trait>[\w:]+)(?:<.*?>)? for )?(?P<type>[\w:]+)"
-BLOCK = re.compile(rf"(?:pub )?(?:{IMPL}|trait (?P<name>\w+))")
-FUNCTION = re.compile(r"( *)(?:pub )?(?:pub\(crate\) )?(?:const )?fn (\w+)")
 # Errors of a proof file that only say that the edit took a name away.
-NAMES = re.compile(r"has no field|is not in scope|has no `|was not admitted|there is no goal|no goal ")
+NAMES = re.compile(r"has no field|is not a field|is not in scope|has no `|was not admitted|there is no goal|no goal ")
 WEIGHTS = ("values", "term", "search", "name")
 
-Function = collections.namedtuple("Function", "path first last")
 Outcome = collections.namedtuple("Outcome", "edit is_good text shows_little", defaults=[False])
-
-
-class Edit:
-    """An edit or a control: the pairs of an old and a new text, by file, and the functions that they change."""
-
-    def __init__(self, path):
-        self.crate, self.folder, self.name = path.parent.parent, path.parent.name, path.stem
-        self.label = f"{self.crate.name}/{self.name}"
-        self.is_control = self.folder == "controls"
-        self.pairs, self.why, self.functions = [], None, set()
-        file = old = None
-        for line in path.read_text().split("\n"):
-            word, _, rest = line.partition(":")
-            if word == "file":
-                file = rest.strip()
-            elif word == "old":
-                old = rest.removeprefix(" ")
-            elif word == "new" and file and old:
-                self.pairs.append((file, old, rest.removeprefix(" ")))
-        self.locate()
-
-    def locate(self):
-        """Finds the functions that are changed, or says why the edit can't be applied."""
-        self.why = None if self.pairs else "it has no pair of an old and a new text"
-        for file, old, new in self.pairs:
-            path = self.crate / file
-            text = path.read_text() if path.is_file() else ""
-            if text.count(old) != 1:
-                self.why = f"the text is {text.count(old)} times in {file}, and not once: {old.strip()}"
-                return
-            line = text[: text.index(old)].count("\n")
-            inside = [it.path for it in functions_of(self.crate, file, text) if it.first <= line <= it.last]
-            self.functions.add(inside[0] if inside else None)
-        if old == new and len(self.pairs) == 1:
-            self.why = "it changes nothing"
-
-    def is_alone(self):
-        return None in self.functions or len({file for file, _, _ in self.pairs}) > 1
-
-    def apply(self, texts):
-        for file, old, new in self.pairs:
-            text = texts.get(file) or (self.crate / file).read_text()
-            if text.count(old) != 1:
-                return False
-            texts[file] = text.replace(old, new)
-        return True
-
-
-def functions_of(crate, file, text):
-    """Lists the functions of a file that is laid out by `rt fmt`, each with its path and its lines."""
-    module = file.removeprefix("src/").removesuffix(".rt").split("/")
-    module = [] if module[-1] in ("lib", "main") else module
-    found, block, open_at, free = [], "", None, 0
-    for number, line in enumerate(text.split("\n")):
-        head, function = BLOCK.match(line), FUNCTION.match(line)
-        if head:
-            block = head["name"] or head["type"].split("::")[-1] + (head["trait"] or "").split("::")[-1]
-        elif line == "}":
-            block = block if open_at else ""
-        if function and not open_at:
-            indent, name = function.groups()
-            open_at, has_body = True, line.endswith("{")
-        elif not open_at and (not line or line.endswith(("{", "}", ";"))):
-            free = number + 1  # the line of the comment and the attributes of what follows
-        if open_at:
-            has_body = has_body or line == indent + "{"
-            is_end = line.startswith((indent + "}", indent + "{}")) or line.endswith("{}")
-            if is_end or line.endswith(";") and not has_body:
-                owner = [block] if indent else []
-                found.append(Function(short("::".join([crate.name, *module, *owner, name])), free, number))
-                open_at, free = None, number + 1
-    return found
-
-
-def short(path):
-    """Shortens the path of a method to its crate, its type and its name: a type's methods may be in several modules."""
-    parts = path.split("::")
-    return "::".join([parts[0], *parts[-2:]]) if len(parts) > 2 and parts[-2][0].isupper() else path
 
 
 class Report:
@@ -124,11 +47,12 @@ class Report:
 
     def __init__(self, crate, texts, ran):
         self.status, self.lines = ran.returncode, ran.stdout.rstrip("\n").split("\n")
-        self.is_verdict = self.status == 0 or self.status == 1 and self.lines[-1].startswith("logic=not-proved")
+        self.is_verdict = self.status == 0 or self.status == 1 and re.search(r"(?m)^logic=not-proved", ran.stdout)
         self.texts, self.crate, self.told = texts, crate, collections.defaultdict(list)
         # A function is also proved by itself if only one that it calls is not.
         self.proved = {short(it) for it in re.findall(r"(?m)^fn (\S+): (?:proved$|no proof: it calls )", ran.stdout)}
-        for line in self.lines:
+        # An error may go on in lines that are indented.
+        for line in re.sub(r"\n +", " ", "\n".join(self.lines)).split("\n"):
             self.read(line)
 
     def read(self, line):
@@ -136,7 +60,8 @@ class Report:
         code = re.match(r"(?:note: )?(?:\./)?(src/\S+?):(\d+):\d+: (.*)", line)
         if proof and ("error: " in line or "not admitted" in line):
             function = short("::".join([self.crate.name, *proof[1].split("/")]))
-            self.told[function].append(("name" if NAMES.search(line) else "term", proof[2]))
+            is_name = NAMES.search(line) and "no proof of" not in line
+            self.told[function].append(("name" if is_name else "term", proof[2]))
         elif code and re.search(r"it is not proved|found no proof|: error", line):
             self.told[self.function_at(code[1], int(code[2]) - 1)].append((
                 "values" if "allow values" in line else "search", code[3]))
@@ -183,29 +108,69 @@ def batches_of(edits):
 class Prover:
     """Checks copies of one crate, each over what a check of the crate as it stands proved."""
 
-    def __init__(self, rt, name):
-        self.crate = next(it for it in rt.rtlib.crates_below(str(TOP)) if it.name == name)
-        self.rt, self.folder = rt, TOP / "crates" / name
-        rt.share_work(False)
-        for library in self.crate.below():
-            if library.build_rlib(["--jobs", "1"], anew=False):
-                raise SystemExit(f"{library.name} is not proved")
-        rt.adopt(self.crate, is_alone=False)
-        kept = self.folder / "out/incremental"
-        self.room = rt.seeded(self.crate, ["--jobs", "1"], str(kept) if kept.is_dir() else None)
-        if not self.room:
+    def __init__(self, name, jobs):
+        self.name, self.folder, self.below = name, TOP / "crates" / name, {}
+        uses = re.findall(r"(?m)^((\w+)(?: staticlib)?:(.*))$", (TOP / "crates.txt").read_text())
+        uses = {name: (line, words.split()) for line, name, words in uses}
+        wanted = [name]
+        for it in wanted:
+            if it in uses and it not in self.below:
+                self.below[it] = uses[it][0]
+                wanted += uses[it][1]
+        if checked(self.folder, jobs).returncode:
             raise SystemExit(f"{name} is not proved as it stands")
+
+    def copy(self, top, texts):
+        """Copies the crate with other texts in some files, and the crates below it, each with what its check kept."""
+        pathlib.Path(top, "crates.txt").write_text("".join(f"{line}\n" for line in self.below.values()))
+        for name in self.below:
+            for part in ("src", "specs", "proofs"):
+                if (TOP / "crates" / name / part).is_dir():
+                    shutil.copytree(TOP / "crates" / name / part, f"{top}/crates/{name}/{part}")
+            kept = "out/incremental" if name == self.name else "out/rlib"
+            shutil.copytree(TOP / "crates" / name / kept, f"{top}/crates/{name}/{kept}", copy_function=linked)
+        for file, text in texts.items():
+            pathlib.Path(top, "crates", self.name, file).write_text(text)
 
     def check(self, edits):
         texts = {}
         if not all(edit.apply(texts) for edit in edits):
             return None
-        with tempfile.TemporaryDirectory(prefix="edits-") as over:
-            self.rt.linked(f"{self.room}/seed", f"{over}/seed")
-            return Report(self.folder, texts, self.rt.checked(self.crate, texts, ["--jobs", "1"], f"{over}/seed"))
+        with free_folder() as top:
+            self.copy(top, texts)
+            return Report(self.folder, texts, checked(f"{top}/crates/{self.name}", 1))
 
-    def close(self):
-        shutil.rmtree(self.room, ignore_errors=True)
+
+def checked(folder, jobs):
+    """Runs `rt check` in the folder of a crate."""
+    how = {"stdin": subprocess.DEVNULL, "stdout": subprocess.PIPE, "stderr": subprocess.STDOUT}
+    return subprocess.run(["rt", "check", "--jobs", str(jobs)], cwd=folder, text=True, errors="replace", **how)
+
+
+def linked(one, other):
+    """Links a proof that is kept, which a check replaces and never changes, and copies any other file."""
+    try:
+        if one.endswith(".oantt"):
+            return os.link(one, other)
+    except OSError:
+        pass
+    return shutil.copy2(one, other)
+
+
+@contextlib.contextmanager
+def free_folder():
+    """A folder that no other run has. The next runs take the same few names: `rt` notes in which folders it checked."""
+    for number in itertools.count():
+        top = pathlib.Path(tempfile.gettempdir(), f"edits-{os.getuid()}-{number}")
+        try:
+            top.mkdir()
+        except FileExistsError:
+            continue
+        break
+    try:
+        yield top
+    finally:
+        shutil.rmtree(top, ignore_errors=True)
 
 
 def outcome_of(edit, report, is_alone):
@@ -220,12 +185,15 @@ def outcome_of(edit, report, is_alone):
             return Outcome(edit, True, "proved")
         return Outcome(edit, False, f"NOT PROVED: {goal} ({weight})") if is_alone else None
     if refusal:
-        return Outcome(edit, True, f"refused: {goal} ({weight})", weight == "name")
+        # Where only names are missing, nothing is known of the contract.
+        said = "REFUSED FOR NAMES ALONE" if weight == "name" else "refused"
+        return Outcome(edit, weight != "name", f"{said}: {goal} ({weight})")
     if not is_alone:
         return None
     if report.status == 0:
         return Outcome(edit, False, "NOT REFUSED")
-    return Outcome(edit, True, f"refused only in {', '.join(sorted(report.told))}: {goal} ({weight})", True)
+    elsewhere = f"refused only in {', '.join(sorted(report.told))}: {goal} ({weight})"
+    return Outcome(edit, weight != "name", elsewhere, True)
 
 
 def seconds():
@@ -233,115 +201,99 @@ def seconds():
     return used.ru_utime + used.ru_stime
 
 
-def try_crate(name, edits):
+def try_crate(name, edits, jobs):
     """Tries the edits and controls of a crate, and returns what came of each, and the processor seconds."""
-    rt, began = loaded_rt(), seconds()
-    with contextlib.closing(Prover(rt, name)) as prover:
-        found, floor = [], seconds() - began
-        print(f"{name}: proved as it stands ({floor:.0f} s)", flush=True)
-        rest = [it for kind in (False, True) for it in batches_of([e for e in edits if e.is_control == kind])]
+    began, found = seconds(), []
+    prover = Prover(name, jobs)
+    print(f"{name}: proved as it stands ({seconds() - began:.0f} s)", flush=True)
+    rest = [it for kind in (False, True) for it in batches_of([e for e in edits if e.is_control == kind])]
+    with concurrent.futures.ThreadPoolExecutor(jobs) as pool:
         while rest:
-            batch, before = rest.pop(0), seconds()
-            report = prover.check(batch)
-            spent = seconds() - before
-            outcomes = [outcome_of(edit, report, len(batch) == 1) for edit in batch]
-            for edit, outcome in zip(batch, outcomes):
-                if outcome:
-                    found.append(outcome)
-                    print(f"  {edit.label}{' (control)' * edit.is_control}: {outcome.text}", flush=True)
-                else:
-                    rest.insert(0, [edit])
-            print(f"  {name}: {len(batch)} in one check, {spent:.0f} s", flush=True)
-            keep_output(name, batch, report)
-        return found, seconds() - began
+            again = []
+            for batch, report in zip(rest, pool.map(prover.check, rest)):
+                keep_output(name, batch, report)
+                for edit in batch:
+                    outcome = outcome_of(edit, report, len(batch) == 1)
+                    if outcome:
+                        found.append(outcome)
+                        print(f"  {edit.label}{' (control)' * edit.is_control}: {outcome.text}", flush=True)
+                    else:
+                        again.append([edit])
+            rest = again
+    return found, seconds() - began
 
 
 def keep_output(name, batch, report):
-    """Keeps what the check said, to be read where an edit is not refused."""
-    folder = TOP / "tests/out/edits"
+    """Keeps what the check said, to be read: a control has the name of its edit, so their folders are apart."""
+    folder = TOP / "tests/out/edits" / ("controls" if batch[0].is_control else "edits")
     folder.mkdir(parents=True, exist_ok=True)
     if report:
         (folder / f"{name}-{'-'.join(it.name for it in batch)[:100]}.txt").write_text("\n".join(report.lines))
 
 
-def loaded_rt():
-    """Loads rt, whose functions check an edited copy of a crate as `rt must-fail` does."""
-    path = shutil.which("rt") or sys.exit("rt is not installed")
-    loader = importlib.machinery.SourceFileLoader("rt", os.path.realpath(path))
-    module = importlib.util.module_from_spec(importlib.util.spec_from_loader("rt", loader))
-    sys.modules["rt"] = module
-    loader.exec_module(module)
-    os.chdir(TOP)
-    return module
-
-
-def misplaced(edits):
-    """Lists what is wrong with the edits without a proof: texts, names, counts, and what PROOFS.md lists."""
-    for edit in edits:
-        if edit.why:
-            yield f"{edit.label}: it can't be applied: {edit.why}"
-    names = collections.Counter(it.label for it in edits if not it.is_control)
-    yield from (f"{label}: two edits have this name" for label, count in names.items() if count > 1)
-    yield from (f"{it.label}: this control has no edit" for it in edits if it.is_control and it.label not in names)
-    kept = [it for it in edits if it.folder == "must-fail"]
-    if len(kept) > AT_MOST:
-        yield f"must-fail/ has {len(kept)} edits, and should have at most {AT_MOST}: move some to more-edits/"
-    with_none = {it.crate.name for it in edits} - {it.crate.name for it in kept}
-    yield from (f"{name}: no edit in must-fail/" for name in sorted(with_none))
-    sections = re.split(r"(?m)^## ", (TOP / "docs/PROOFS.md").read_text())
-    listed = {it.partition("\n")[0]: set(re.findall(r"\w+", it)) for it in sections}
-    for edit in edits:
-        if not edit.is_control and edit.crate.name in listed and edit.name not in listed[edit.crate.name]:
-            yield f"{edit.label}: docs/PROOFS.md does not name it"
-
-
-def count(edits):
-    """Prints how many edits and controls each crate has."""
-    counts = collections.Counter((it.crate.name, it.folder) for it in edits)
-    for name in sorted({it.crate.name for it in edits}):
-        print(f"{name:<12}" + "".join(f"{counts[name, folder]:>4} {folder}" for folder in FOLDERS))
-
-
 def main():
     options = argparse.ArgumentParser(description=__doc__.partition("\n")[0])
     options.add_argument("--all", action="store_true", help="also the edits of must-fail/")
+    options.add_argument("--tenth", action="store_true", help="a tenth of them, by the number of commits")
     options.add_argument("--only", metavar="PATTERN", default="", help="only those with such a name, as find|text")
-    options.add_argument("--jobs", metavar="N", type=int, default=1, help="how many crates to try side by side")
+    options.add_argument("--jobs", metavar="N", type=int, default=1, help="how many checks to run side by side")
     options.add_argument("--apply", action="store_true", help="prove nothing")
     options.add_argument("crates", nargs="*", metavar="CRATE")
     given = options.parse_args()
     paths = [it for folder in FOLDERS for it in TOP.glob(f"crates/*/{folder}/*.edit")]
     edits = [Edit(it) for it in sorted(paths)]
     wrong = list(misplaced(edits))
-    print("\n".join(wrong), end="\n" * bool(wrong))
     if given.apply:
         count(edits)
-        return 1 if wrong else 0
+        return tell(wrong, len(edits), 300)
     folders = FOLDERS if given.all else FOLDERS[1:]
-    chosen = collections.defaultdict(list)
+    chosen, tally = collections.defaultdict(list), Tally(1)
+    of_turn = tenth(edits, tally) if given.tenth else {it.label for it in edits}
     for edit in edits:
-        is_asked = edit.folder in folders and re.search(given.only, edit.name)
-        if is_asked and not edit.why and edit.crate.name in (given.crates or [edit.crate.name]):
-            chosen[edit.crate.name].append(edit)
-    with concurrent.futures.ProcessPoolExecutor(given.jobs) as pool:
-        tried = {name: pool.submit(try_crate, name, chosen[name]) for name in chosen}
-        return table({name: it.result() for name, it in tried.items()}) or any(it.why for it in edits)
+        is_asked = edit.folder in folders and re.search(given.only, edit.name) and edit.label in of_turn
+        if is_asked and edit.crate.name in (given.crates or [edit.crate.name]):
+            if edit.why:
+                tally.add(edit.label, edit.why)
+            else:
+                chosen[edit.crate.name].append(edit)
+    with concurrent.futures.ProcessPoolExecutor(min(given.jobs, max(len(chosen), 1))) as pool:
+        jobs = max(given.jobs // max(len(chosen), 1), 1)
+        tried = {name: pool.submit(try_crate, name, chosen[name], jobs) for name in chosen}
+        table({name: it.result() for name, it in tried.items()}, tally)
+    return tally.end()
 
 
-def table(tried):
-    """Prints what came of each crate, and of each edit that failed or shows little; returns the exit status."""
+def tenth(edits, tally):
+    """The names of a tenth of the edits of more-edits/ and the controls: the one whose turn it is at this commit."""
+    labels = sorted({it.label for it in edits if it.folder != "must-fail"})
+    commits = "0"
+    if tally.has("git") and (TOP / ".git").exists():
+        ran = subprocess.run(["git", "-C", TOP, "rev-list", "--count", "HEAD"], capture_output=True, text=True)
+        if ran.returncode:
+            tally.lack(f"git does not count the commits: {ran.stderr.strip()}")
+        commits = ran.stdout or commits
+    turn = int(commits) % 10
+    first, last = (len(labels) * number // 10 for number in (turn, turn + 1))
+    print(f"tenth {turn + 1} of 10, by the number of commits: {labels[first]} to {labels[last - 1]}", flush=True)
+    return set(labels[first:last])
+
+
+def table(tried, tally):
+    """Prints what came of each crate, and of each edit that failed or shows little, and counts them."""
     print(f"\n{'crate':<12}{'edits':>6}{'refused':>8}{'controls':>9}{'proved':>7}{'seconds':>9}")
-    failed = 0
     for name, (found, spent) in tried.items():
         sorts = [[it for it in found if it.edit.is_control == kind] for kind in (False, True)]
         counts = [it for sort in sorts for it in (len(sort), sum(outcome.is_good for outcome in sort))]
         print(f"{name:<12}{counts[0]:>6}{counts[1]:>8}{counts[2]:>9}{counts[3]:>7}{spent:>9.0f}")
-        failed += sum(not it.is_good for it in found)
     for found, _ in tried.values():
         for it in found:
-            if not it.is_good or it.shows_little:
-                print(f"{it.edit.label}{' (control)' * it.edit.is_control}: {it.text}")
-    return 1 if failed else 0
+            label = f"{it.edit.label}{' (control)' * it.edit.is_control}"
+            if it.is_good:
+                tally.passed += 1
+                if it.shows_little:
+                    print(f"{label}: {it.text}")
+            else:
+                tally.add(label, it.text)
 
 
 if __name__ == "__main__":

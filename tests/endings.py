@@ -1,7 +1,7 @@
 #!/usr/bin/env python3
 """Runs the program with good and bad words, and compares its exit status, its standard output and its standard error.
 
-It prints one line a run and ends with 'N passed, M failed'.
+It prints one line a run and ends with 'N passed, N failed, N skipped'.
 """
 import shutil
 import subprocess
@@ -20,7 +20,7 @@ NOT_ELF = "fault E2 NotElf64 at section 0"
 BAD_USAGE = ["", "check \udcff", "check", "show", "types", "size", "x", "raw x x", "check x x", "show x x", "types x x",
              "check --json --json x", "check --jso x", "check --json=1 x", "show --json x", "types --json x", "size x",
              "size x 0x0 x", "size --json x 0x0", "size x 10 --json", "help", "--help", "-V"]
-tally = common.Tally()
+tally = common.Tally(56)
 
 
 def ends(status, text, line, *words, how="plainly", program=common.DWV, out=subprocess.PIPE):

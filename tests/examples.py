@@ -1,17 +1,23 @@
 #!/usr/bin/env python3
 """Runs the program on the smallest file of each rule: the rows in docs/RULES.md.
 
-A row is named after its rule and must print that rule. Each rule in the tables of the page must have a row. It prints
-one line a row and ends with 'N passed, M failed'.
+A row is named after its rule and must print that rule. Each rule in the tables of the page must have a row. A file that
+is too large as a whole is tried too, if there is memory for it. The script prints one line a row and ends with
+'N passed, N failed, N skipped'.
 """
+import os
 import re
+import struct
 import sys
 
 sys.dont_write_bytecode = True
 import common
 import rows
+from common import DWV
 
 RULES = common.TOP / "docs/RULES.md"
+# The most bytes of a file, and the free memory for a run on one that has more.
+FILE_LIMIT, FREE = 2**32, 5 * 10**9
 
 
 def read():
@@ -47,9 +53,38 @@ def rule_of(row):
     return rule if lines and lines[0][0].startswith(f"fault {' '.join(rule)} at ") else None
 
 
+def too_large(tally, row, parts):
+    """Runs the row of E1, whose last section has a gigabyte of zeros, and a file of more than four gigabytes.
+
+    The zeros are at the end of the file, after the section headers, so that they take no place on the disk.
+    """
+    name, kind, zeros = row.more[-1]
+    size = int(re.fullmatch(r"\( 00 \)\*(\d+)", zeros)[1])
+    row.more[-1] = name, kind, ""
+    file = bytearray(next(row.files(parts))[0])
+    headers, count = struct.unpack_from("<Q", file, 40)[0], struct.unpack_from("<H", file, 60)[0]
+    # The last section header is that of the name table.
+    struct.pack_into("<QQ", file, headers + (count - 2) * 64 + 24, len(file), size)
+    fault = f"{row.asked[0][2][0]}\n"
+    with common.empty_folder() as folder:
+        path = folder / "file"
+        path.write_bytes(file)
+        os.truncate(path, len(file) + size)
+        tally.same(f"RULES: {row.name}", common.run(DWV, "check", path, text=True, timeout=300), (1, fault, ""))
+        if os.sysconf("SC_AVPHYS_PAGES") * os.sysconf("SC_PAGE_SIZE") < FREE:
+            tally.skip("E1 TooLarge, a file: it takes 4.2 GB of memory")
+            return
+        os.truncate(path, FILE_LIMIT + 1)
+        fault = "fault E1 TooLarge at section 0\n"
+        tally.same("RULES: E1 TooLarge, a file", common.run(DWV, "check", path, text=True, timeout=300), (1, fault, ""))
+
+
 def main():
     table, parts = read()
-    tally = rows.tried(("RULES", row, parts) for row in table)
+    tally = rows.tried((("RULES", row, parts) for row in table if not row.name.startswith("E1 ")), 107)
+    for row in table:
+        if row.name.startswith("E1 "):
+            too_large(tally, row, parts)
     shown = {rule_of(row) for row in table}
     for rule in rules():
         tally.add(f"RULES: {' '.join(rule)} has an example", None if rule in shown else "no row prints it")

@@ -5,7 +5,8 @@ declarations of many attributes whose values take no bytes, typedefs whose names
 For each the program must print the stated line within the time limit, and no run may crash. Tables that begin inside
 declarations, and entries of one byte with many flags, have limits of their own. The lines of `show` of a deep tree are
 far more bytes than the memory that it may have: it must say so, and write nothing. `types` must print its whole text
-within less memory. The script prints one line a run with the seconds it took, and ends with 'N passed, M failed'.
+within less memory. The script prints one line a run with the seconds it took, and ends with
+'N passed, N failed, N skipped'.
 """
 import os
 import struct
@@ -56,6 +57,10 @@ SIGNED_TIME = 5
 CODES = 300_000
 CODES_MEMORY = 60
 PROGRAM_MEMORY = 16 << 20
+# Units before one with a fault, the typedefs in each of them, and the bytes of memory that such a file may take.
+BEFORE_FAULT = 500
+BEFORE_TYPEDEFS = 1_000
+LATE_MEMORY = 20 << 20
 # Attributes of a declaration that has many.
 WIDE = 50_000
 SECTIONS = 65_000
@@ -110,6 +115,25 @@ def typedefs(first, count):
         out += b"\x03" + struct.pack("<I", to)
         to, at = at, at + 5
     return bytes(out)
+
+
+def late_faults():
+    """Units in a row, of which the last has a fault: the name of each file, its sections, and its fault.
+
+    Their table has no form of a reference to another unit, so that they are verified one after another.
+    """
+    table = TABLE[:TABLE.index(bytes.fromhex("0a340049200000"))] + b"\0"
+    units = unit(b"\x01" + INT + typedefs(FIRST, BEFORE_TYPEDEFS) + b"\0") * BEFORE_FAULT
+    own = FIRST + len(INT)
+    at = len(units) + own
+    for name, items, fault in (
+            ("an undeclared code", b"\x7f", f"G1 UndeclaredCode at .debug_info+0x{at:08x} attribute 0x0\n"),
+            ("a typedef of itself", b"\x03" + struct.pack("<I", own),
+             f"C1 ContainsItself at .debug_info+0x{at:08x} attribute 0x0\ncycle 0x{at:08x} 0x{at:08x}\n"),
+            ("a member outside its structure", b"\x04\x01\x05" + struct.pack("<I", FIRST) + b"\0",
+             f"Z3 MemberOutside at .debug_info+0x{at + 2:08x} attribute 0x0\n")):
+        sections = [(".debug_abbrev", table), (".debug_info", units + unit(b"\x01" + INT + items + b"\0"))]
+        yield f"{BEFORE_FAULT} units, and {name} in the next one", sections, f"fault {fault}"
 
 
 def deep():
@@ -356,13 +380,15 @@ NAMES = bytes.fromhex(
     "0111010000" "02240003080b0b0000" "031600030849130000" "0413010b0b0000" "050d00030849130000" "06260049130000"
     "070f0049130000" "08130103080b0b0000" "091501271949130000" "0a050049130000" "0b26000000" "0c11010308130b0000"
     "0d010149130000" "0e21002f0b0000" "00")
+# The first five alone.
+FIVE = NAMES[:39] + b"\0"
 
 
 class Types:
     """The entries of a unit with the type `int`, and the lines that `types` has to print of them."""
 
-    def __init__(self, first=b"\x01"):
-        self.items, self.printed, self.refused = bytearray(first), [], []
+    def __init__(self, first=b"\x01", table=NAMES):
+        self.items, self.table, self.printed, self.refused = bytearray(first), table, [], []
         self.int = self.add(2, "int", more=b"\x04")
 
     def next(self):
@@ -378,9 +404,9 @@ class Types:
         self.items += more
         return at
 
-    def structure(self, members, name=None):
+    def structure(self, members, name=None, size=8):
         """A structure, whose members are names and where their types stand."""
-        at = self.add(4, more=b"\x08") if name is None else self.add(8, name, more=b"\x08")
+        at = self.add(4 if name is None else 8, name, more=bytes([size]))
         for member, to in members:
             self.add(5, member, to)
         self.items.append(0)
@@ -401,7 +427,7 @@ class Types:
 
     def file(self):
         """The file."""
-        return elf([(".debug_abbrev", NAMES), (".debug_info", unit(bytes(self.items) + b"\0"))])
+        return elf([(".debug_abbrev", self.table), (".debug_info", unit(bytes(self.items) + b"\0"))])
 
     def text(self):
         """What `types` prints of it."""
@@ -460,16 +486,22 @@ def chains():
 
 def bodies():
     """Structures with many members, or much text: the name of each file, and its types."""
-    for levels in (1, 11, 12, 40, 63, 64):
-        types = Types()
+    for levels, rule in ((1, None), (11, None), (12, "P6 TooLong"), (63, "P6 TooLong"), (64, "P5 TooDeep")):
+        types = Types(table=FIVE)
         last, text = types.int, "int"
         for _ in range(levels):
-            last = types.structure([("a", last), ("b", last)])
+            last = types.structure([("a", last), ("b", last)], size=4)
             text = f"struct {{ {text} a; {text} b; }}" if len(text) < 1 << 16 else text
-        rule = "P5 TooDeep" if levels > 63 else "P6 TooLong" if levels > 11 else None
-        for n in range(MANY if levels == 40 else 1):
-            types.typedef(f"t{n}", last, f"{text} t{n}", rule)
+        types.typedef("t", last, f"{text} t", rule)
         yield f"{levels} structures, each with two members of the one before", types
+
+    types = Types()
+    last = types.int
+    for _ in range(40):
+        last = types.structure([("a", last), ("b", last)])
+    for n in range(MANY):
+        types.typedef(f"t{n}", last, rule="P6 TooLong")
+    yield f"40 structures, each with two members of the one before, and {MANY:,} typedefs of the last", types
 
     types = Types()
     wide = types.structure([(f"m{n}", types.int) for n in range(MANY // 10)])
@@ -649,6 +681,8 @@ def runs():
            check_soon, f"sound: 2 units, {2 * MANY + 3} entries, {2 * MANY + 1} types")
     for name, sections, memory in coded():
         yield name, elf(sections), kept_within(memory), "sound: 1 units, 1 entries, 0 types"
+    for name, sections, want in late_faults():
+        yield name, elf(sections), asking("check", memory=LATE_MEMORY), want
     name, row, units, count = inside_attributes()
     yield (name, elf([(".debug_abbrev", row), (".debug_info", units)]),
            asking("check", memory=INSIDE_MEMORY, seconds=SOON_TIME), f"sound: {count} units, {count} entries, 0 types")
@@ -678,7 +712,7 @@ def runs():
 
 
 def main():
-    tally = common.Tally()
+    tally = common.Tally(73)
     with common.empty_folder() as folder:
         path = folder / "file"
         for name, file, ask, want in runs():

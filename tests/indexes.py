@@ -1,9 +1,10 @@
 #!/usr/bin/env python3
-"""Tests that what the tables of docs/DEFINITIONS.md and docs/PROOFS.md name exists, and prints what does not.
+"""Tests that what the tables of docs/DEFINITIONS.md and docs/PROOFS.md name exists.
 
 In a section that is named after a crate, words with a capital letter are files of specs/ or proofs/ of this crate, or
 of another one that the cell names; words in backticks are names of the code or of these files, and of the file itself
-where they are in parentheses after it; and words with an underscore in the last column of PROOFS.md are edits.
+where they are in parentheses after it; and words with an underscore in the last column of PROOFS.md are edits. It
+prints what does not exist, and ends with 'N passed, N failed, N skipped', where a row is counted once.
 """
 import re
 import sys
@@ -46,11 +47,12 @@ def missing(crate, cells):
     yield from set(re.findall(r"(?<!`)\b\w+_\w+", " ".join(cells[4:]))) - EDITS
 
 
-found, crate = [], None
+found, tried, crate = [], 0, None
 for page in ("docs/DEFINITIONS.md", "docs/PROOFS.md"):
     for number, line in enumerate((TOP / page).read_text().splitlines(), 1):
         if line.startswith("## "):
             crate = next((it for it in line.split() if it in CRATES), None)
         elif crate and line.startswith("| ") and not line.startswith(("| Term ", "| Fact ")):
+            tried += 1
             found += [f"{page}:{number}: not there: {name}" for name in sorted(missing(crate, line[2:-2].split(" | ")))]
-sys.exit(tell(found))
+sys.exit(tell(found, tried, 300))

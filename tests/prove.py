@@ -3,15 +3,30 @@
 
 `rt ci` leaves each library in out/ of its crate, but without the sum of the text that it was made from, so that
 `rt lib` would prove all of them once more. This writes the sum where the text is the same as before the run. Libraries
-that earlier runs left are removed first, unless they are all of this text: `rt ci` puts back what it found.
+that earlier runs left are removed first, unless they are all of this text: `rt ci` puts back what it found. No command
+of `rt` does this, so the script takes the sum from the inside of `rt`.
 """
+import importlib.machinery
+import importlib.util
 import os
 import pathlib
 import shutil
 import subprocess
 import sys
 
-from edits import TOP, loaded_rt
+sys.dont_write_bytecode = True
+from common import TOP
+
+
+def loaded_rt():
+    """Loads rt, whose functions list the crates and compute the sums."""
+    path = shutil.which("rt") or sys.exit("rt is not installed")
+    loader = importlib.machinery.SourceFileLoader("rt", os.path.realpath(path))
+    module = importlib.util.module_from_spec(importlib.util.spec_from_loader("rt", loader))
+    sys.modules["rt"] = module
+    loader.exec_module(module)
+    os.chdir(TOP)
+    return module
 
 
 def main():

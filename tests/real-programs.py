@@ -4,8 +4,8 @@
 `check` must print the number of entries, and `show` the depth and the offset of each; `size` must print what `show`
 says of a type. `types` must have one line for each structure, union, enumeration and typedef with a name that is not
 only declared, and no others. Compilers must accept the lines of shapes.c as a C file, with an assertion for each type
-that it has the size that `size` prints. The script prints one line a run and ends with 'N passed, M failed'. What is
-not installed is skipped.
+that it has the size that `size` prints. The script prints one line a run and ends with
+'N passed, N failed, N skipped'.
 """
 import collections
 import itertools
@@ -19,7 +19,7 @@ import common
 WORDS = {"typedef": "typedef", "structure_type": "struct", "union_type": "union", "enumeration_type": "enum"}
 QUALIFIERS = r"(?:(?:const|volatile|restrict|_Atomic) )*"
 REFUSED = re.compile(r"/\* 0x([0-9a-f]{8}) P[1-6] [A-Za-z]+ \*/")
-tally = common.Tally()
+tally = common.Tally(64)
 
 
 def dwv(*words):
@@ -118,7 +118,7 @@ def programs(folder, compilers):
                 for test in tests:
                     test(name, path, entries)
             else:
-                print(f"skipped: {name} does not compile")
+                tally.lack(f"{name} does not compile")
         shapes = folder / "shapes.so"
         if common.compiled(shapes, f"{command} -fPIC -shared", "shapes.c"):
             for other in compilers:
@@ -126,10 +126,10 @@ def programs(folder, compilers):
 
 
 def main():
-    if common.has("readelf"):
+    if tally.has("readelf"):
         common.build()
         with common.empty_folder() as folder:
-            programs(folder, list(filter(common.has, ("gcc", "clang"))))
+            programs(folder, list(filter(tally.has, ("gcc", "clang"))))
     return tally.end()
 
 

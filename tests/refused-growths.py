@@ -2,8 +2,8 @@
 """Makes allocations fail: `dwv` then ends with status 4 and writes nothing, or prints the same as otherwise.
 
 Each allocation that `dwv` makes on a file fails by a malloc of our own (tests/refusing-malloc.c): once alone, and once
-with all allocations after it. The script prints one line a command and ends with 'N passed, M failed'. Without gcc it
-is skipped.
+with all allocations after it. The script prints one line a command and ends with
+'N passed, N failed, N skipped'.
 """
 import os
 import pathlib
@@ -54,14 +54,16 @@ def tried(words, library, folder):
 
 
 def main():
-    tally = common.Tally()
-    if not common.has("gcc"):
+    tally = common.Tally(35)
+    if not tally.has("gcc"):
         return tally.end()
     with common.empty_folder() as folder:
         library, program = folder / "refusing-malloc.so", folder / "program"
         source = HERE / "refusing-malloc.c"
-        subprocess.run(["gcc", "-O1", "-shared", "-fPIC", "-o", library, source, "-ldl"], check=True)
-        common.compiled(program, "gcc -gdwarf-5 -O0", "shapes.c", "calls.c")
+        if not (common.compiled(library, "gcc -O1 -shared -fPIC -Wl,--no-as-needed -ldl", source)
+                and common.compiled(program, "gcc -gdwarf-5 -O0", "shapes.c", "calls.c")):
+            tally.lack("gcc does not compile the malloc that fails, or the program")
+            return tally.end()
         for words in commands([*small(folder), program]):
             requests, ended, wrong = tried(words, library, folder)
             line = " ".join(pathlib.Path(word).name for word in words)

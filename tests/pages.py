@@ -1,0 +1,181 @@
+#!/usr/bin/env python3
+"""Runs the console examples of README, REPORTS, SCRIPTS and LIBRARY, and compares what they print with the pages.
+
+Each example is run in an empty folder with the files that it names: sources are taken from the page, and other files
+are made here. Where a compiler makes the file, its offsets, counts and versions are not compared. The edit that
+CHANGING shows must be the one of its file. It prints one line a command and ends with 'N passed, N failed, N skipped'.
+"""
+import doctest
+import os
+import re
+import shutil
+import sys
+
+sys.dont_write_bytecode = True
+import common
+import compilers
+import rows
+from common import DWV, TOP
+
+LIBRARY = TOP / "out/lib"
+EDIT = "crates/dw_types/{}/accepts_a_negative_count.edit"
+# A unit by the table T of tests/rows: `int`, a typedef `t`, a structure `s`, and a typedef of a pointer to itself.
+LISTING = """unit( 01 "a" 00  02 "int" 00 04 05  03 "t" 00 0f 00 00 00  04 "s" 00 04  05 "x" 00 16 00 00 00 00  00
+    06 2a 00 00 00  02 "char" 00 01 06  02 "short" 00 02 05  02 "float" 00 04 04  03 "v" 00 2a 00 00 00  00 )"""
+tally = common.Tally(28)
+
+
+def app(folder, info):
+    """Makes the file `app` of the table T and these units, by the parts of tests/rows."""
+    parts = {}
+    rows.read(common.HERE / "rows/parts.txt", parts)
+    sections = {"abbrev": rows.Bytes("T", parts).all(), "info": rows.Bytes(info, parts).all()}
+    (folder / "app").write_bytes(rows.elf(sections))
+
+
+def objective_c(folder, page):
+    (folder / "plain.m").write_text(compilers.SOURCES["plain.m"])
+    if program := compilers.compiled(folder, "clang -gdwarf-5", "plain.m"):
+        program.rename(folder / "app")
+
+
+def source(folder, page):
+    """Makes the C file that the page gives in a sentence."""
+    name, text = re.search(r"Here `(\w+\.c)` has\s`([^`]+)`", page).groups()
+    (folder / name).write_text(f"{text}\n")
+
+
+def tree(folder, page):
+    """Makes a folder of files: sound ones, object files, a broken one, an ELF file without information, others."""
+    build, sample = folder / "build", common.SAMPLE.read_bytes()
+    for name in ("lib", "bin"):
+        (build / name).mkdir(parents=True)
+    (build / "lib/libshapes.so").write_bytes(common.BROKEN)
+    for name in ("app", "lib/librings.so"):
+        (build / name).write_bytes(sample)
+    (folder / "rings.c").write_text("struct ring { int first, last; } ring;\n")
+    for name, flags in (("app.o", "-g"), ("lib/rings.o", "-g"), ("bin/small", "-g -m32")):
+        common.run("gcc", *flags.split(), "-c", "-o", build / name, folder / "rings.c")
+    (build / "strip").write_bytes(common.elf([(".text", 1, b"")]))
+    for name in ("Makefile", "log", "lib/README"):
+        (build / name).write_text("text\n")
+
+
+def kinds(folder, page):
+    """Makes a program, its object file, and it with compressed sections and without debugging information."""
+    (folder / "app.c").write_text("struct point { int x, y; } at; int main(void) { return at.x; }\n")
+    for command in ("gcc -g -c -o app.o app.c", "gcc -o app app.o", "objcopy --compress-debug-sections app app.gz",
+                    "objcopy --only-keep-debug app stripped.debug",
+                    "objcopy --strip-debug --add-gnu-debuglink=stripped.debug app stripped"):
+        common.run(*command.split(), cwd=folder)
+
+
+def rust(folder, page):
+    """Makes a program of Rust that has the habit of its compiler."""
+    (folder / "path.rs").write_text('fn main() { println!("{}", std::path::Path::new("a").display()); }\n')
+    common.run("rustc", "-g", "-o", "app", "path.rs", cwd=folder)
+
+
+def example(folder, page):
+    (folder / "example.c").write_text(re.search(r"(?ms)^```c\n(.*?)^```$", page)[1])
+
+
+# For each console example of a page, in their order: what makes its files, and the tools that it needs.
+EXAMPLES = {
+    "README.md": [(None, ()), (source, ("gcc",)), (None, ()), (kinds, ("gcc", "objcopy"))],
+    "docs/REPORTS.md": [
+        (lambda folder, page: app(folder, "F"), ()),
+        (lambda folder, page: app(folder, LISTING), ()),
+    ],
+    "docs/SCRIPTS.md": [
+        (kinds, ("gcc", "objcopy")), (rust, ("rustc",)), (objective_c, ("clang",)), (source, ("gcc", "clang")),
+        (tree, ("gcc",)),
+    ],
+    "docs/LIBRARY.md": [(example, ("gcc", "pkg-config"))],
+}
+
+
+def masked(text, is_compiled):
+    """A text without the time of a run, and without what a compiler chooses."""
+    text = re.sub(r"\d+ bytes in [\d.]+ s, [\d.]+ MB/s", "N bytes in T s, R MB/s", text)
+    if is_compiled:
+        text = re.sub(r"0x[0-9a-f]{8}", "0xN", text)
+        text = re.sub(r"sound: \d+ units, \d+ entries, \d+ types", "sound: N units, N entries, N types", text)
+        text = re.sub(r"(producer  ).*", r"\1NAME", text)
+        text = re.sub(r"\S*/(\w+\.debug\))", r"\1", text)
+        text = re.sub(r"(\w+\.)[0-9a-f]{16}-cgu", r"\1N-cgu", re.sub(r"\s+", " ", text)) if "-cgu" in text else text
+    return text
+
+
+def run(name, folder, block, is_compiled):
+    """Runs the commands of an example one after another. Files in /tmp are in the folder."""
+    for link, to in (("dwv", DWV), ("crates", TOP / "crates"), ("contrib", TOP / "contrib")):
+        (folder / link).symlink_to(to)
+    (folder / "bin").mkdir()
+    (folder / "dwv").rename(folder / "bin/dwv")
+    (folder / "bin/dwv-check").symlink_to(TOP / "contrib/check")
+    (folder / "bin/python3").symlink_to(shutil.which(common.PYTHON))
+    env = {**os.environ, "PATH": f"{folder}/bin:{os.environ['PATH']}", "PKG_CONFIG_PATH": str(LIBRARY / "pkgconfig")}
+    for step in re.split(r"(?m)^\$ ", block)[1:]:
+        command, _, wanted = step.partition("\n")
+        words = ("bash", "-c", command.replace("/tmp/", f"{folder}/"))
+        _, text, errors = common.run(*words, text=True, cwd=folder, env=env)
+        tally.same(f"{name}: {command}", masked(text + errors, is_compiled), masked(wanted, is_compiled))
+
+
+def console():
+    """Runs each example."""
+    for name, examples in EXAMPLES.items():
+        page = (TOP / name).read_text()
+        blocks = re.findall(r"(?ms)^```console\n(.*?)^```$", page)
+        tally.same(f"{name}: how many examples it has", len(blocks), len(examples))
+        if name == "docs/LIBRARY.md" and not (LIBRARY / "libdwv.a").exists():
+            tally.lack("the C library is not built (make lib)")
+            continue
+        for block, (make, tools) in zip(blocks, examples):
+            if all([tally.has(tool) for tool in tools]):
+                with common.empty_folder() as folder:
+                    if make:
+                        make(folder, page)
+                    run(name, folder, block, bool(tools))
+
+
+def python():
+    """Runs the Python example of LIBRARY, on X1."""
+    library = LIBRARY / "libdwv.so.0"
+    if not library.exists():
+        tally.lack("the C library is not built (make lib)")
+        return
+    os.environ["DWV_LIBRARY"] = str(library)
+    sys.path.insert(0, str(TOP / "python"))
+    text = re.search(r"(?ms)^```pycon\n(.*?)^```$", (TOP / "docs/LIBRARY.md").read_text())[1]
+    with common.empty_folder() as folder:
+        os.chdir(folder)
+        shutil.copy(common.SAMPLE, "a.out")
+        said = []
+        test = doctest.DocTestParser().get_doctest(text, {}, "docs/LIBRARY.md", None, 0)
+        results = doctest.DocTestRunner().run(test, out=said.append)
+        os.chdir(TOP)
+    tally.add(f"docs/LIBRARY.md: {results.attempted} lines of Python", "".join(said))
+
+
+def edit():
+    """The edit and the control that CHANGING shows."""
+    page = (TOP / "docs/CHANGING.md").read_text()
+    shown = re.search(r"(?ms)^```text\n(file: .*?)^```$", page)[1]
+    tally.same("docs/CHANGING.md: the edit", shown, (TOP / EDIT.format("must-fail")).read_text())
+    right = re.search(r"has the same shape and is right,\s+here `([^`]+)`", page)[1]
+    control = re.sub(r"(?m)^new: .*", f"new: {right}", shown)
+    tally.same("docs/CHANGING.md: its control", control, (TOP / EDIT.format("controls")).read_text())
+
+
+def main():
+    common.build()
+    console()
+    python()
+    edit()
+    return tally.end()
+
+
+if __name__ == "__main__":
+    sys.exit(main())
