@@ -35,6 +35,10 @@ int main(int argc, char **argv) { return f(argc); }
 enum colour { RED, GREEN } c;
 int main(void) { return at.x + c; }
 """,
+    "nested.c": """struct inner { int x; };
+struct outer { struct inner one; struct inner *other; } out;
+int main(void) { return out.one.x; }
+""",
     "boxes.cpp": """#include <map>
 #include <string>
 #include <variant>
@@ -147,6 +151,7 @@ COMPILED = [
     ("C", f"gcc -gdwarf-5 {TYPES}", "named.c"), ("C", f"gcc -gdwarf-4 {TYPES}", "named.c"),
     ("C, a structure of variable length", "gcc -gdwarf-5", "sized.c"),
     ("C", "gcc -gdwarf-5 -gdwarf64", C), ("C", "gcc -gdwarf-5 -gsplit-dwarf", C),
+    ("C, a structure in another", f"gcc -gdwarf-5 {TYPES}", "nested.c"),
     ("C", "gcc -gdwarf-4 -gsplit-dwarf", C),
     ("C", "gcc -gdwarf-5 -gz", C), ("C", "gcc -g -s", C), ("C, an object file", "gcc -g -c", "named.c"),
     ("assembler", "gcc -g -nostdlib -static", "start.s"), ("assembler", "nasm -f elf64 -g -F dwarf", "start.asm"),

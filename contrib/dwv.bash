@@ -18,13 +18,14 @@ _dwv_script() {
     local word=${COMP_WORDS[COMP_CWORD]} options='--help'
     COMPREPLY=()
     case ${COMP_WORDS[0]##*/} in
-        dwv-c-header) options='--all --assert --help -o' ;;
-        dwv-check-tree) options='--explain --help --ignore --jobs' ;;
-        dwv-explain) options='--help --json' ;;
+        dwv-c-header) options='--all --assert --debuginfod --help -o --version' ;;
+        dwv-check) options='--allow --debuginfod --every --explain --files-from --help --ignore --jobs --json --junit'
+            options+=' --log --memory --merge -o --resume --sarif --seconds --summary --unprepared --version' ;;
+        dwv-explain) options='--debuginfod --help --json --version' ;;
     esac
     if [[ $word == -* ]]; then
         mapfile -t COMPREPLY < <(compgen -W "$options" -- "$word")
     fi
 }
 
-complete -o bashdefault -o default -F _dwv_script dwv-c-header dwv-check-tree dwv-explain
+complete -o bashdefault -o default -F _dwv_script dwv-c-header dwv-check dwv-explain

@@ -2,10 +2,10 @@
 """Runs contrib/c-header on listings that are written here, and on programs; compilers must accept each header.
 
 A listing is given to the script by a stand-in for `dwv`. The headers of programs have an assertion of each size and
-each offset. It prints one line a test and ends with 'N passed, M failed'. What is not installed is skipped.
+each offset. It prints one line a test and ends with 'N passed, N failed, N skipped'.
 """
+import re
 import resource
-import shutil
 import subprocess
 import sys
 
@@ -13,7 +13,6 @@ sys.dont_write_bytecode = True
 import common
 from dwv_tools import c_types, c_writing
 
-COMPILERS = [tool for tool in ("gcc", "clang") if shutil.which(tool)]
 STAND_IN = """#!/bin/sh
 case $1 in
     check) echo "sound: 1 units, 1 entries, 1 types" ;;
@@ -22,7 +21,8 @@ esac
 """
 # The most lines of a listing that must take less than SECONDS of processor time.
 MANY, SECONDS = 20000, 20
-tally = common.Tally()
+tally = common.Tally(52)
+COMPILERS = list(filter(tally.has, ("gcc", "clang")))
 
 # A name, the lines of `dwv types`, texts that the header must have, and after a `!` such as it must not have.
 LISTINGS = [
@@ -105,8 +105,24 @@ struct odd { long double a; __int128 b; _Bool c; max_align_t d; double _Complex 
 struct empty { } empty; struct after { struct empty e; int x; } after;
 va_list *list; struct point { struct { short x, y; }; union { long l; double d; } u[2]; } *points(struct point *);
 struct far { char a; _Alignas(4096) char b; } far;
+typedef float wide_vector __attribute__((vector_size(32)));
+struct has_wide { char a; wide_vector v; int k; } has_wide;
+struct constant { const int a[3]; const char *const names[4]; int n; } constant;
+struct wide_numbers { __int128 a; unsigned __int128 b; } wide_numbers; typedef unsigned __int128 u128; u128 number;
+struct complex { _Complex float f; _Complex double d; _Complex int i; _Complex long double l; } complex_numbers;
+struct user { struct constant one[2]; struct wide_numbers *w; u128 x; struct complex *c; } user;
 int main(void) { return points != 0; }
 struct point *points(struct point *p) { return p; }
+"""
+
+
+# Types that `dwv types` refuses, or does not say as they are.
+WRITTEN = ["struct constant {\n\tconst int a[3];\n\tconst char *const names[4];", "unsigned __int128 b;",
+           "_Complex int i;",
+           "typedef float wide_vector __attribute__((vector_size(32)));", "_Complex long double l;"]
+# Two types of one name with members of the same names.
+ONE, OTHER = """typedef struct { int v[4]; } node; struct s { node items[64]; struct s *next; }; struct s one;
+""", """struct s { int *items; struct s *next; }; struct s two; int main(void) { return 0; }
 """
 
 
@@ -114,11 +130,11 @@ def run(*words, **env):
     return common.script("c-header", *words, **env)
 
 
-def refusals(text):
+def refusals(text, languages=("c",)):
     """What the compilers say against a header that is included twice."""
     said = ""
-    for compiler in COMPILERS:
-        words = [compiler, "-w", "-fsyntax-only", "-x", "c", "-"]
+    for compiler, language in ((compiler, language) for compiler in COMPILERS for language in languages):
+        words = [compiler, "-w", "-fsyntax-only", "-x", language, "-"]
         for more in ("", "\n#undef DWV\n"):
             ran = subprocess.run(words, input=text + more + text, capture_output=True, text=True)
             said += "\n".join(ran.stderr.splitlines()[:3]) if ran.returncode else ""
@@ -156,12 +172,27 @@ def programs(folder):
             for name, source in sources.items():
                 title, path = f"{name}, {compiler} -gdwarf-{version}", folder / name
                 if not common.compiled(path, f"{compiler} -gdwarf-{version} -shared -fPIC", source):
-                    print(f"skipped: {title} does not compile")
+                    tally.lack(f"{title} does not compile")
                     continue
                 status, header, errors = run("--assert", path)
                 guessed = [line for line in header.splitlines() if line.startswith("/* guessed")]
-                lacking = [it for it in ("sizeof", "__builtin_offsetof") if f"_Static_assert({it}" not in header]
-                tally.add(title, errors or status or guessed or refusals(header) or lacking)
+                wanted = [*(f"_Static_assert({it}" for it in ("sizeof", "_Alignof", "__builtin_offsetof")),
+                          *(WRITTEN if name == "layouts" else [])]
+                lacking = [it for it in wanted if it not in header]
+                tally.add(title, errors or status or guessed or refusals(header, ("c", "c++")) or lacking)
+
+
+def two_of_a_name(folder):
+    """Two types of one name, whose members have the same names: each has its own layout."""
+    for compiler in COMPILERS:
+        (folder / "one.c").write_text(ONE)
+        (folder / "other.c").write_text(OTHER)
+        for order in (("one.c", "other.c"), ("other.c", "one.c")):
+            common.compiled(folder / "two", f"{compiler} -g", *(folder / it for it in order))
+            status, header, errors = run("--all", "--assert", folder / "two")
+            sizes = sorted(re.findall(r"sizeof\(struct s\w*\) == (\d+)", header))
+            is_right = status == 0 and sizes == ["1032", "16"] and "___pad" not in header and not refusals(header)
+            tally.add(f"two types of a name, {compiler} {' '.join(order)}", None if is_right else errors or header)
 
 
 def words(folder):
@@ -182,6 +213,7 @@ def main():
         (folder / "dwv").chmod(0o755)
         listings(folder)
         programs(folder)
+        two_of_a_name(folder)
         words(folder)
     return tally.end()
 

@@ -3,7 +3,7 @@
 
 It also compares the texts of rules with docs/RULES.md and docs/dwv.1, the names of tags and attributes with those of
 dw_forms, and the entries that it reads with those that readelf lists. It prints one line a test and ends with
-'N passed, M failed'. What needs a tool that is not installed is skipped.
+'N passed, N failed, N skipped'.
 """
 import json
 import random
@@ -17,7 +17,7 @@ import common
 import compilers
 import examples
 from common import DWV, TOP
-from dwv_tools import dwarf, explaining, names, running
+from dwv_tools import dwarf, explaining, finding, measured, names, running
 
 DOCS = TOP / "docs"
 CHANGES = 200
@@ -28,8 +28,12 @@ FLAGS = [
     ("gcc -gdwarf-5 -gdwarf64", compilers.C, "U2", "-gdwarf32"),
     ("gcc -gdwarf-5 -gsplit-dwarf", compilers.C, "U4", "-gsplit-dwarf"),
     ("gcc -gdwarf-5", "sized.c", "Z1", "variable length"),
+    ("gcc -gdwarf-5", "sized.c", "Z1", "declared sized.c:3"),
+    ("gcc -gdwarf-4", "sized.c", "Z1", "declared sized.c:3"),
+    ("gcc -gdwarf-5 -gz", "sized.c", "Z1", "declared sized.c:3"),
+    ("gcc -gdwarf-5 -fdebug-types-section", "nested.c", "Z1", "-fdebug-types-section"),
+    ("tcc -g", compilers.C, "E9", "stabs"),
     ("gcc -gdwarf-4 -fdebug-types-section", "named.c", "R4", "-fdebug-types-section"),
-    ("gcc -g -c", "named.c", "E3", "shared library"),
     ("gcc -g -s", compilers.C, "E9", "strip"),
     ("clang -gdwarf-5", "plain.m", "Z3", "Objective-C"),
     ("g++ -gdwarf-5 -fdebug-types-section", "boxes.cpp", "Z1", "-fdebug-types-section"),
@@ -37,7 +41,20 @@ FLAGS = [
     ("nasm -f elf64 -g -F dwarf", "start.asm", "U3", "nasm"),
     ("yasm -f elf64 -g dwarf2", "start.asm", "U3", "yasm"),
 ]
-tally = common.Tally()
+# What is changed in a program, and what is found then. The names of a function's parameters are folder and program.
+HEAD = b"\x7fELF\x02\x01\x01".ljust(64, b"\0")
+KINDS = [
+    ("no byte", b"", "The file is empty."), ("a page", b"<!DOCTYPE html><html>", "HTML or XML"),
+    ("an archive", b"!<arch>\n" + bytes(60), "an archive"),
+    ("a file of macOS", b"\xcf\xfa\xed\xfe" + bytes(60), "Mach-O"),
+    ("a file of gzip", b"\x1f\x8b" + bytes(60), "gzip"), ("a text", b"a text of any kind\n", "a text"),
+    ("other bytes", bytes(range(64)), "the bytes 00 01 02 03 04 05 06 07"), ("a piece", HEAD[:40], "has 40 bytes"),
+    ("32 bits", HEAD[:4] + b"\1\1\1" + HEAD[7:], "32-bit little-endian"),
+    ("big-endian", HEAD[:5] + b"\2" + HEAD[6:], "64-bit big-endian"),
+]
+# Rules of which something is always found in their smallest files.
+MEASURED = "E2 E3 E4 E6 A8 U3 U5 U6 G1 R1 R2 R3 S2 Y2 Z1 Z3 Z4".split()
+tally = common.Tally(76)
 
 
 def page_rules():
@@ -93,15 +110,17 @@ def every_rule(folder):
             continue
         path.write_bytes(next(row.files(parts))[0])
         why, what = explained(path)
+        if what.split()[0] in MEASURED and not why:
+            verdict = running.check(str(DWV), path)
+            why = None if measured.found(finding.Place(verdict, path)) else "nothing is found"
         wanted = "sound" if row.name.startswith("sound") else row.name.split(",")[0]
         tally.add(row.name, why or (None if what == wanted else what))
 
 
 def changed(folder):
     """A program with bytes changed in its sections, at random: no change may stop the script."""
-    program = compilers.compiled(folder, "gcc -gdwarf-5", "shapes.c calls.c")
+    program = compiled(folder, "gcc -gdwarf-5", "shapes.c calls.c")
     if program is None:
-        print("skipped: gcc is not installed")
         return
     file, bytes_of, chance, seen = dwarf.File(program), program.read_bytes(), random.Random(1), set()
     path = folder / "changed"
@@ -116,6 +135,31 @@ def changed(folder):
         if why:
             tally.add(f"changed program {number}", why)
     tally.add(f"{CHANGES} changed programs, {len(seen)} rules", None if len(seen) > 8 else seen)
+
+
+def found(folder):
+    """What is found in files of another kind, and in programs that are cut or lost a part."""
+    path = folder / "file"
+    for name, data, word in KINDS:
+        path.write_bytes(data)
+        line = [it for it in run(path)[1].splitlines() if it.startswith("Found: ")]
+        tally.add(f"found: {name}", None if len(line) == 1 and word in line[0] else line)
+    program = compilers.compiled(folder, "gcc -gdwarf-5", compilers.C) if shutil.which("gcc") else None
+    if program is None or not shutil.which("objcopy"):
+        tally.skip("gcc or objcopy is not installed")
+        return
+    data, info = program.read_bytes(), dwarf.File(program).info
+    start = info.start + 300
+    for name, text, word in (("cut", data[:9000], f"{len(data) - 9000} are missing"),
+                             ("a lost block", data[:start] + bytes(200) + data[start + 200 :], "may have been lost")):
+        path.write_bytes(text)
+        said = " ".join(run(path)[1].split())
+        tally.add(f"found: {name}", None if f" {word}" in said else said)
+    subprocess.run(["objcopy", "-R", ".debug_str", program, path])
+    tally.add("found: no strings", None if "there is no section .debug_str." in run(path)[1] else run(path)[1])
+    subprocess.run(["objcopy", "--strip-all", program, path])
+    text = run(path)[1]
+    tally.add("a path is in one line", None if re.search(r"\s/usr/lib/debug/\.build-id/\S+\.debug\.\n", text) else text)
 
 
 def entries(path):
@@ -141,19 +185,36 @@ def run(*words):
     return common.script("explain", *words)
 
 
-def compiled(folder):
+def has_pyelftools():
+    return common.run(common.PYTHON, "-c", "import elftools")[0] == 0
+
+
+def compiled(folder, command, sources):
+    """The program that a command makes of sources, or None after a line that says why."""
+    tool = command.split()[0]
+    if not tally.has(tool):
+        return None
+    program = compilers.compiled(folder, command, sources)
+    if program is None:
+        (tally.lack if tool in common.NEEDED else tally.skip)(f"{command} {sources} does not compile")
+    return program
+
+
+def compilers_write(folder):
     """What compilers make."""
     for command, sources, rule, word in FLAGS:
-        path = compilers.compiled(folder, command, sources) if shutil.which(command.split()[0]) else None
+        path = compiled(folder, command, sources)
         if path is None:
-            print(f"skipped: {command} {sources} does not compile")
+            continue
+        if word.startswith("declared") and not has_pyelftools():
+            tally.skip("pyelftools is not installed")
             continue
         status, text, errors = run(path)
         is_right = text.startswith(f"fault {rule} ") and word in " ".join(text.split()) and status == 1
         tally.add(f"{command} {sources}: {rule}", None if is_right else text + errors)
     for command in ("gcc -gdwarf-5", "gcc -gdwarf-4", "clang -gdwarf-5", "clang -gdwarf-4"):
-        path = compilers.compiled(folder, command, "shapes.c calls.c") if shutil.which(command.split()[0]) else None
-        if path and shutil.which("readelf"):
+        path = compiled(folder, command, "shapes.c calls.c")
+        if path and tally.has("readelf"):
             tally.same(f"{command}: entries as readelf lists them", list(entries(path)), listed(path))
 
 
@@ -166,12 +227,12 @@ def words(folder):
     absent = folder / "none"
     tally.same("no file", run(absent), (3, "", f"explain: {absent}: No such file or directory\n"))
     tally.same("no words", run()[:2], (2, ""))
-    if shutil.which("objcopy"):
+    program = compiled(folder, "gcc -g", compilers.C)
+    if program and tally.has("objcopy") and has_pyelftools():
         packed = folder / "packed"
-        program = compilers.compiled(folder, "gcc -g", compilers.C)
         subprocess.run(["objcopy", "--compress-debug-sections", program, packed])
         status, text, _ = run(packed)
-        is_right = text.startswith("sound: ") and "(of a decompressed copy)" in text and "compressed" in text
+        is_right = text.startswith("sound: ") and "(decompressed)" in text and "Note: " in text
         tally.add("a compressed file", None if is_right and status == 0 else text)
 
 
@@ -182,8 +243,9 @@ def main():
             (folder / source).write_text(text)
         texts()
         every_rule(folder)
-        compiled(folder)
+        compilers_write(folder)
         changed(folder)
+        found(folder)
         words(folder)
     return tally.end()
 

@@ -10,31 +10,10 @@ import re
 
 from dwv_tools import c_types
 from dwv_tools.c_layout import Extent, Layouts, Misfit, enum_extent, sized_enum
+from dwv_tools.c_names import ALIASES, GCC_ONLY, KNOWN
 from dwv_tools.c_types import Array, Body, Enum, Function, Name, Pointer, Qualified, Tag, Void, bare, innermost
 from dwv_tools.c_writing import Writer, plain_name
 
-# Names that gcc and clang know without a declaration, and what they take.
-KNOWN = {"__builtin_va_list": Extent(24, 8), "_Float16": Extent(2, 2), "__bf16": Extent(2, 2)}
-KNOWN |= dict.fromkeys(("__int128", "__int128_t", "__uint128_t", "__float128", "__ibm128"), Extent(16, 16))
-# Names that only gcc knows, what they take, and what they are for clang. It has the decimal ones as words, and refuses
-# them, so that these become macros.
-GCC_ONLY = {
-    "_Float32": (4, "typedef float _Float32;"), "_Float64": (8, "typedef double _Float64;"),
-    "_Float32x": (8, "typedef double _Float32x;"), "_Float64x": (16, "typedef long double _Float64x;"),
-    "_Float128": (16, "typedef __float128 _Float128;"),
-    "_Decimal32": (4, "struct dwv_Decimal32 { unsigned int bits; };\n#define _Decimal32 struct dwv_Decimal32"),
-    "_Decimal64": (8, "struct dwv_Decimal64 { unsigned long bits; };\n#define _Decimal64 struct dwv_Decimal64"),
-    "_Decimal128": (16, "struct dwv_Decimal128 { unsigned long bits[2] __attribute__((aligned(16))); };\n"
-                        "#define _Decimal128 struct dwv_Decimal128"),
-}
-# Base types that C does not have, or only since 2023: what they take, what they are, and where they are written.
-NOT_CPP = "!defined(__cplusplus)"
-ALIASES = {
-    "bool": (1, "_Bool", f"{NOT_CPP} && !defined(bool) && (!defined(__STDC_VERSION__) || __STDC_VERSION__ < 202000L)"),
-    "wchar_t": (4, "__WCHAR_TYPE__", NOT_CPP), "char8_t": (1, "unsigned char", "!defined(__cpp_char8_t)"),
-    "char16_t": (2, "__CHAR16_TYPE__", NOT_CPP), "char32_t": (4, "__CHAR32_TYPE__", NOT_CPP),
-}
-COMPLEX = {8: "_Complex float", 16: "_Complex double", 32: "_Complex long double"}
 MACROS = re.compile(r"\b(?:linux|unix)\b")
 
 
@@ -100,12 +79,13 @@ class Needs:
 
 
 class Header:
-    """The declarations of a header. `shapes` gives what the file says of a declaration: Shapes, or sizes. With
+    """The declarations of a header. `shapes` gives what the file says of a declaration: Shapes, or sizes; `vector_size`
+    the size of a typedef of a vector, or None. With
     `declared`, the nodes of the listing, each further text of a node gets a name of its own. `has_asserts` says whether
     `assertions` is called."""
 
-    def __init__(self, shapes, bases, declared, has_asserts):
-        self.shapes, self.bases, self.declared, self.has_asserts = shapes, bases, declared, has_asserts
+    def __init__(self, shapes, vector_size, declared, has_asserts):
+        self.shapes, self.vector_size, self.declared, self.has_asserts = shapes, vector_size, declared, has_asserts
         self.texts = {}             # from a node to its texts, in the order of the listing
         self.state, self.chosen = {}, {}
         self.parts, self.forward, self.left_out, self.others, self.guessed = [], {}, [], 0, 0
@@ -144,18 +124,12 @@ class Header:
             value = found.needs.value if found else []
             return "which is void or a function" if value is None else [(it, False) for it in value]
         texts = self.texts.get(node, ())
-        if kind == "typedef" and (name in KNOWN or name in GCC_ONLY or not texts and self.alias(name)):
+        if kind == "typedef" and (name in KNOWN or name in GCC_ONLY or not texts and name in ALIASES):
             return []
         if number == len(texts):
             return "which has no declaration in the listing"
         needs = texts[number].needs
         return [*((it, False) for it in needs.before), *((it, True) for it in needs.tags if it[0] == "enum")]
-
-    def alias(self, name):
-        """What is written of a base type that C does not have."""
-        sizes = self.bases.get(name, ()) if name == "complex" else ()
-        size = min(sizes) if len(sizes) == 1 else None
-        return (size, COMPLEX[size], "!defined(complex)") if size in COMPLEX else ALIASES.get(name)
 
     def visit(self, root):
         """Writes what a node needs, each before it, then the node. Depth first, with a stack of its own."""
@@ -230,8 +204,8 @@ class Header:
             self.layouts.of[node] = Extent(size, size)
             self.parts.append(f"#ifdef __clang__\n{text}\n#endif\n")
         elif node not in self.texts:
-            size, text, condition = self.alias(name)
-            self.layouts.of[node] = Extent(size, size // 2 if name == "complex" else size)
+            size, text, condition = ALIASES[name]
+            self.layouts.of[node] = Extent(size, size)
             self.parts.append(f"#if {condition}\ntypedef {text} {name};\n#endif\n")
         else:
             self.emit_text(node, number)
@@ -255,6 +229,11 @@ class Header:
         shapes = shapes if first is None else itertools.chain([first], shapes)
         declaration, note = self.fitted(node, declaration, shapes)
         text = self.writer.declaration(declaration._replace(name=node[1]))
+        size = self.vector_size(declaration) if node[0] == "typedef" and type(declaration.type) is Array else None
+        if size:
+            text = self.writer.declaration(declaration._replace(name=node[1], type=declaration.type.of))
+            text = f"{text[:-1]} __attribute__((vector_size({size})));"
+            self.layouts.of[node] = Extent(size, size)
         if node[0] == "typedef" and node[1] in ALIASES:
             text = f"#if {ALIASES[node[1]][2]}\n{text}\n#endif"
         others = [self.other(node, it, first) for it in self.texts[node][number + 1 :]]
@@ -320,7 +299,7 @@ class Header:
         return declaration, [f"/* guessed: the layout of {self.called(node)}; {reason} */"]
 
     def assertions(self):
-        """Assertions of the sizes of types whose layout is that of the file, and of the offsets of their members."""
+        """Assertions of the sizes and alignments of types whose layout is that of the file, and of members' offsets."""
         for node, t, shape in self.asserted:
             body = bare(t)
             if self.state.get(node) != "done" or type(body) not in (Body, Enum):
@@ -331,6 +310,10 @@ class Header:
             if size is not None and not (type(body) is Enum and body.constants in self.writer.hoisted):
                 yield f'_Static_assert(sizeof({name}) == {size}, "{name}");'
             if type(body) is Body:
+                # gcc gives a structure with a larger vector the alignment that the flags of the processor allow.
+                alignment = shape.alignment or self.layouts.of[node].alignment
+                if shape.alignment or alignment <= 16:
+                    yield f'_Static_assert(_Alignof({name}) == {alignment}, "{name}, alignment");'
                 yield from offsets(name, body, shape)
 
 

@@ -3,7 +3,7 @@ import collections
 
 from dwv_tools.c_types import Array, Basic, Body, Enum, Member, Name, Pointer, Qualified, Tag, innermost, with_innermost
 
-BASIC = {"char": 1, "short": 2, "_Bool": 1, "float": 4, "double": 8, "long": 8}
+BASIC = {"__int128": 16, "char": 1, "short": 2, "_Bool": 1, "float": 4, "double": 8, "long": 8}
 BYTE = Basic(("unsigned", "char"))
 MODES = {1: "QI", 2: "HI", 4: "SI", 8: "DI"}
 LARGEST_ALIGNMENT = 4096
@@ -161,6 +161,9 @@ class Layouts:
                 words, alignment, size = [*words, f"aligned({wanted})"], wanted, rounded(end, wanted)
             if size > shape.size or shape.size % alignment:
                 raise Misfit(f"the file has {shape.size} bytes")
+            if not body.members and shape.size == 0:
+                # In C++ a structure without members has a byte.
+                body = body._replace(members=(self.pad(0),))
             is_open = body.members and type(body.members[-1].type) is Array and body.members[-1].type.count is None
             if size < shape.size and is_open:
                 while size < shape.size and alignment < LARGEST_ALIGNMENT:

@@ -21,7 +21,7 @@ Declaration = collections.namedtuple("Declaration", "kind name type")
 
 TOKEN = re.compile(r"[A-Za-z_]\w*|\d+|\.\.\.|[-*(){}\[\];:,=]")
 QUALIFIERS = {"const", "volatile", "restrict", "_Atomic"}
-WORDS = {"char", "short", "int", "long", "signed", "unsigned", "float", "double", "_Bool", "_Complex"}
+WORDS = {"__int128", "char", "short", "int", "long", "signed", "unsigned", "float", "double", "_Bool", "_Complex"}
 TAGS = {"struct", "union", "enum"}
 
 

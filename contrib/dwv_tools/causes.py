@@ -14,7 +14,7 @@ Cause = collections.namedtuple("Cause", "kind text remedy")
 
 # Tags: structures, a member, what a function is made of. An attribute.
 STRUCTURES, MEMBER, FUNCTIONS = {0x02, 0x13, 0x17}, 0x0D, {0x2E, 0x0B, 0x1D}
-SIGNATURE = 0x69
+SIGNATURE, LINKAGE_NAME = 0x69, 0x6E
 GNU_ALT, GNU_SPLIT = {0x1F20, 0x1F21, 0x1C, 0x1D, 0x24}, {0x1F01, 0x1F02}
 ALT_SECTION, BUILD_ID = ".gnu_debugaltlink", ".note.gnu.build-id"
 
@@ -58,21 +58,33 @@ def debug_file(place):
 
 def without_info(place):
     """The cause of E9."""
+    if place.file.has_section(".stab"):
+        return Cause("limit", "The debugging information is in the format stabs, which tcc and pcc write.",
+                     "Compile with gcc or clang, or with a tcc that knows -gdwarf.")
     at, said = debug_file(place), "The file has no debugging information: it was built without -g, or stripped."
     if at and os.path.exists(at):
-        return Cause("limit", said, f"Its debugging information is in another file. Check that: dwv check {at}")
+        return Cause("limit", said, f"Its debugging information is in another file, which dwv-check finds: {at}")
     more = f" Distributions have it in a package -dbg, -dbgsym or -debuginfo, as {at}." if at else ""
     return Cause("limit", said, f"Build with -g, and check the program before strip.{more}")
 
 
 def compressed(file):
     """The cause of E7."""
-    plain = "objcopy --decompress-debug-sections FILE PLAIN makes a file PLAIN that dwv reads."
+    plain = "dwv-check FILE decompresses it in a copy, and dwv-check -o PLAIN FILE keeps the copy."
     if file.has_section(".go.buildinfo"):
         said = "The linker of Go compresses the debugging information, and dwv does not decompress anything."
         return Cause("limit", said, f"go build -ldflags=-compressdwarf=false, or: {plain}")
     said = "The debugging information is compressed, and dwv does not decompress anything."
     return Cause("limit", said, f"{plain} Or link without -gz and --compress-debug-sections.")
+
+
+def no_elf(file):
+    """The cause of E2."""
+    if bytes(file.data[:4]) == b"\x7fELF" and len(file.data) >= 64:
+        return Cause("limit", "The file is for a 32-bit or a big-endian machine.",
+                     "Only 64-bit little-endian ELF files can be checked.")
+    return Cause("file", "The file is no whole ELF file, as those of Linux are.",
+                 "Check the program, the shared library or the debug file, as the linker or the package has it.")
 
 
 def unit_type(place):
@@ -129,11 +141,24 @@ KNOWN = [
         "No flag helps: -gw2 and -gw3 write versions that dwv does not read (U3). Verify with another tool, such as"
         " llvm-dwarfdump --verify.",
     )),
+    ("A8", lambda it: it.attribute == LINKAGE_NAME and is_by(it, "gnu c"), Cause(
+        "compiler",
+        "gcc 5 to 7 wrote DW_AT_linkage_name twice in some declarations of functions of the C library. Old packages of"
+        " distributions still have it.",
+        "Compile with gcc 8 or later, or without -g.",
+    )),
+    ("Z4", lambda it: is_by(it, "crystal"), Cause(
+        "compiler",
+        "Crystal gives an enumeration another size than that of its base type. One is in its prelude, and so in each"
+        " program.",
+        "No flag helps: verify with another tool, or compile with --no-debug.",
+    )),
     ("E7", None, lambda it: compressed(it.file)),
     ("A7", lambda it: form(it) in GNU_ALT or it.file.has_section(ALT_SECTION), Cause(
         "limit",
         "dwz moved entries of this file into another one (.gnu_debugaltlink), and dwv reads one file at a time.",
-        "Check the file before dwz runs. Packages of distributions are often built so; theirs can't be checked.",
+        "dwv-check joins it with the other file, if that is here or debuginfod has it (--debuginfod); install the"
+        " package's -dbg or -dbgsym package, whole. Or check the file before dwz runs.",
     )),
     ("A7", lambda it: form(it) in GNU_SPLIT, Cause(
         "limit",
@@ -144,8 +169,8 @@ KNOWN = [
         "limit",
         "The file is an object file (.o, .ko, .dwo) or a core dump. In an object file, offsets have values only once it"
         " is linked.",
-        "Check the program or the shared library that is linked from it. A kernel module can't be checked; vmlinux"
-        " can.",
+        "dwv-check applies the relocations of object files and kernel modules for x86-64, AArch64 and RISC-V in a copy."
+        " Of others, check the program or the shared library that is linked from it.",
     )),
     ("U4", lambda it: unit_type(it) in (4, 5, 6), Cause(
         "limit",
@@ -162,16 +187,23 @@ KNOWN = [
         "nasm writes version 3 of DWARF and yasm version 2, and no flag changes that.",
         "Assemble the source file that the unit is made of without -g.",
     )),
+    ("U3", lambda it: is_by(it, "glasgow", "ghc"), Cause(
+        "compiler",
+        "ghc writes version 3 of DWARF, and no flag of ghc 9.0 changes that.",
+        "Compile the modules without -g. Of a program with foreign code, dwv-check --allow compiler passes these.",
+    )),
+    ("U3", lambda it: is_by(it, "gnu as") and it.unit and it.unit.version in (2, 3), Cause(
+        "compiler",
+        "The unit was written by the assembler for the lines of a source file, as of ocamlopt -g and of .s files, in"
+        " version 3 of DWARF or an earlier one.",
+        "Assemble with as --gdwarf-5 (gcc -Wa,--gdwarf-5), or compile this source file without -g.",
+    )),
     ("U3", lambda it: it.unit and it.unit.version in (2, 3), Cause(
         "limit",
         "The unit has version 2 or 3 of DWARF.",
         "Compile with -gdwarf-4 or -gdwarf-5. For assembler files: as --gdwarf-5.",
     )),
-    ("E2", None, Cause(
-        "limit",
-        "The file is for a 32-bit or a big-endian machine, or no ELF file at all (as on Windows and macOS).",
-        "Only 64-bit little-endian ELF files can be checked.",
-    )),
+    ("E2", None, lambda it: no_elf(it.file)),
     ("E1", None, Cause("limit", "The file is larger than dwv reads.", "Split the program, or use less -g (-g1).")),
     ("E9", None, without_info),
     ("E10", None, Cause(

@@ -2,7 +2,8 @@
 import pathlib
 import textwrap
 
-from dwv_tools import causes, dwarf, entries, finding, names, reading
+from dwv_tools import causes, entries, finding, measured, names, reading
+from dwv_tools import lines as line_tables
 from dwv_tools.finding import MOST
 from dwv_tools.running import plain
 
@@ -138,26 +139,26 @@ def unit_lines(place):
     if place.unit is None:
         return []
     rows = [("name", place.unit_name), ("producer", place.producer), ("language", place.language)]
-    declared = [entries.number_of(it, reading.DECL_LINE) for it in [*place.above, place.entry] if it]
-    if lines := [it for it in declared if it is not None]:
-        rows.append(("line", f"{lines[-1]}, of this file or of one that it includes"))
+    if place.declared:
+        rows.append(("declared", line_tables.place_of(place.line_table, place.unit, *place.declared)))
     version = f"version {place.unit.version}" if place.unit.version is not None else "a part of a header"
     return [f"Unit at 0x{place.unit.at:08x}, {version}", *(f"  {what:<9} {plain(text)}" for what, text in rows if text)]
 
 
 def folded(title, text):
     """A text of several lines with a title."""
-    return textwrap.wrap(text, 100, initial_indent=f"{title + ':':<12}", subsequent_indent=" " * 12)
+    return textwrap.wrap(text, 100, initial_indent=f"{title + ':':<12}", subsequent_indent=" " * 12,
+                         break_on_hyphens=False, break_long_words=False)
 
 
 def lines(verdict, path):
     """The explanation of a fault in lines of text, the line of `dwv` first."""
     place = finding.Place(verdict, path)
     text, required = rules()[place.rule]
-    cause = causes.cause(place)
+    cause, found = causes.cause(place), measured.found(place)
     blocks = [
         [f"{place.lines[0]}{place.note}", *place.lines[1:]],
-        [*folded("Rule", text), *folded("Required", required)],
+        [*folded("Rule", text), *folded("Required", required), *(folded("Found", found) if found else [])],
         [*folded("Cause", f"{KINDS[cause.kind]} {cause.text}"), *folded("What to do", cause.remedy)],
         unit_lines(place),
         header_lines(place) if place.section == "file" else entry_lines(place) if place.rule[0] not in "AU" else [],
@@ -168,13 +169,12 @@ def lines(verdict, path):
     return "\n\n".join("\n".join(block) for block in blocks if block).split("\n")
 
 
-def sound(verdict, path):
-    """What is said of a sound file in lines. `path` is the file, which may have compressed sections."""
+def sound(verdict):
+    """What is said of a sound file in lines."""
     if not verdict.note:
         return verdict.lines
-    cause = causes.compressed(dwarf.File(path))
-    return [verdict.lines[0] + verdict.note, "", *folded("Note", f"dwv itself refuses the file (E7). {cause.text}"),
-            *folded("What to do", cause.remedy)]
+    said = "dwv itself does not read the file as it is. The line is true of what was prepared from it."
+    return [verdict.lines[0] + verdict.note, "", *folded("Note", said)]
 
 
 def shown(entry):
@@ -198,5 +198,6 @@ def fields(verdict, path):
         "at": place.at, "attribute": place.attribute, "cycle": place.cycle, "name": place.name, "rule": place.rule,
         "section": place.section, "sound": False, "rule_text": f"{text} Required: {required}", "entry": entry,
         "unit": unit, "producer": place.producer,
+        "found": measured.found(place),
         "hint": {"kind": cause.kind, "cause": cause.text, "remedy": cause.remedy}, "note": place.note.strip(" ()"),
     }

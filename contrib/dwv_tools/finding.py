@@ -2,11 +2,12 @@
 import re
 
 from dwv_tools import dwarf, names, reading
-from dwv_tools.entries import readable, text_of
+from dwv_tools.entries import number_of, readable, text_of
 
 LINE = re.compile(
     r"fault ([A-Z]\d+) (\w+) at (?:section (\d+)|(\.debug_\w+)\+0x([0-9a-f]{8}) attribute 0x([0-9a-f]+))"
 )
+JOINED = re.compile(r"joined with .* from 0x([0-9a-f]{8}) on")
 # How many entries above one are read, and how many attributes, entries of a cycle and fields are shown.
 MOST = 40
 HEADER_RULES = {"U1", "U2", "U3", "U4", "U5", "U6", "U7", "R5", "R6"}
@@ -32,6 +33,19 @@ class Place:
         except reading.Unreadable as error:
             self.entry, self.trouble = error.entry, str(error)
         self.unit_name, self.producer, self.language = self._about_unit()
+        self.declared = self._declared()
+        # In the file that dwz shared, the line tables are others.
+        joined = JOINED.search(verdict.note)
+        is_shared = self.unit and joined and self.unit.at >= int(joined[1], 16)
+        self.line_table = None if is_shared else path
+
+    def _declared(self):
+        """The number of the source file, and the line, of the innermost entry that has a line, or None."""
+        for entry in filter(None, [self.entry, *reversed(self.above)]):
+            line = number_of(entry, reading.DECL_LINE)
+            if line is not None:
+                return number_of(entry, reading.DECL_FILE), line
+        return None
 
     def _find_declaration(self):
         """The first unit of the table that has the place, and what can be read of the declaration there."""

@@ -1,6 +1,5 @@
 """Reads what `dwv types` and `dwv show` print of a file: each line once, and where the entries of its types are."""
 import array
-import collections
 import re
 import subprocess
 
@@ -8,9 +7,9 @@ from dwv_tools import members, reading
 from dwv_tools.running import show_progress
 
 REFUSED = re.compile(rb"/\* 0x([0-9a-f]{8}) (P\d \w+) \*/")
-# In the lines of `dwv show`: a structure, union, enumeration, typedef or base type with a name.
-SHOWN = re.compile(rb'^0x([0-9a-f]{8}) +0x00(13|17|04|16|24) "([^"\n]*)"(?: size (\d+))?$', re.MULTILINE)
-KINDS = {b"13": "struct", b"17": "union", b"04": "enum", b"16": "typedef", b"24": "base type"}
+# In the lines of `dwv show`: a structure, union, enumeration or typedef with a name.
+SHOWN = re.compile(rb'^0x([0-9a-f]{8}) +0x00(13|17|04|16) "([^"\n]*)"(?: size (\d+))?$', re.MULTILINE)
+KINDS = {b"13": "struct", b"17": "union", b"04": "enum", b"16": "typedef"}
 BLOCK = 2**20
 # How many entries of a name are kept: enough for the different types that have it.
 MOST = 8
@@ -50,18 +49,15 @@ class Listing:
 
 
 class Places:
-    """Where the entries of named types are, the names of the refused ones, and the sizes of base types."""
+    """Where the entries of named types are, and the names of the refused ones."""
 
     def __init__(self, dwv, path, file, wanted, refused):
         self.file, self.names = file, {}
-        self.bases, self.at = collections.defaultdict(set), {node: array.array("Q") for node in wanted}
+        self.at = {node: array.array("Q") for node in wanted}
         done = 0
         for block in output(dwv, "show", path):
             for at, tag, name, size in map(re.Match.groups, SHOWN.finditer(block)):
                 kind, name, at = KINDS[tag], name.decode("ascii", "replace"), int(at, 16)
-                if kind == "base type":
-                    self.bases[name].add(int(size or 0))
-                    continue
                 found = self.at.get((kind, name))
                 if found is not None and len(found) < MOST and (size or kind == "typedef"):
                     found.append(at)
@@ -81,3 +77,12 @@ class Places:
             if shape is not None and shape not in seen:
                 seen.append(shape)
                 yield at, shape
+
+    def vector_size(self, declaration):
+        """The size of the vector that a typedef is of, or None."""
+        for at in self.at.get(declaration[:2], ()):
+            try:
+                return members.vector_size_at(self.file, at)
+            except reading.Unreadable:
+                continue
+        return None

@@ -1,8 +1,9 @@
 """Reads the layout of a structure or union from the entries of a sound file."""
 from dwv_tools import dwarf, reading
+from dwv_tools.c_entries import ARRAY, SUBRANGE, count_of, is_vector
 from dwv_tools.c_layout import Shape
 from dwv_tools.c_types import Body, Enum, innermost
-from dwv_tools.entries import name_of, number_of, size_of, target_of
+from dwv_tools.entries import SAME_SIZE, name_of, number_of, size_of, target_of
 
 MEMBER, STRUCTURES = 0x0D, {0x13, 0x17, 0x02}
 # What leads from a type to its innermost one: arrays, pointers, functions, qualifiers.
@@ -20,6 +21,24 @@ def innermost_entry(entry):
     while entry and entry.tag in LEADING:
         entry = type_of(entry)
     return entry
+
+
+def whole_size(entry):
+    """The size of a type, also of an array that has none of its own: the element's by the counts. Or None."""
+    if entry is None or size_of(entry) is not None:
+        return size_of(entry) if entry else None
+    if entry.tag in SAME_SIZE:
+        return whole_size(type_of(entry))
+    if entry.tag != ARRAY:
+        return None
+    size = whole_size(type_of(entry))
+    dimensions = [it for it in entry.unit.children(entry) if it.tag == SUBRANGE]
+    for it in dimensions:
+        count = count_of(it)
+        size = None if None in (size, count) else size * count
+    if is_vector(entry) and size:
+        size = 1 << (size - 1).bit_length()
+    return size if dimensions else None
 
 
 def start_of(entry):
@@ -53,7 +72,9 @@ def shape_of(body, entry):
     for member, it in zip(body.members, found):
         starts.append(start_of(it))
         kind, of = type_of(it), innermost(member.type)
-        sizes.append(size_of(kind) if kind else None)
+        if kind and kind.tag == ARRAY and is_vector(kind):
+            return None
+        sizes.append(whole_size(kind))
         inner.append(inner_of(of, innermost_entry(it)) if type(of) in (Body, Enum) else None)
         if starts[-1] is None or type(of) is Body and inner[-1] is None:
             return None
@@ -74,3 +95,9 @@ def shape_at(file, declaration, at):
         entry = innermost_entry(entry)
         entry = entry if entry and name_of(entry) is None else None
     return inner_of(of, entry)
+
+
+def vector_size_at(file, at):
+    """The size of the vector that a typedef at an offset is of, or None."""
+    of = type_of(file.unit_of(at).entry(at))
+    return whole_size(of) if of and of.tag == ARRAY and is_vector(of) else None

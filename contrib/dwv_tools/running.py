@@ -1,40 +1,51 @@
-"""Runs `dwv check` on files, and on decompressed copies of those with compressed sections."""
+"""Runs `dwv check` on a file, and what the scripts share: their words, what they print, and how far they are."""
 import argparse
 import collections
-import contextlib
 import os
+import pathlib
 import re
 import resource
 import shutil
 import signal
 import subprocess
 import sys
-import tempfile
+
+from . import VERSION
 
 SOUND = re.compile(r"sound: (\d+) units, (\d+) entries, (\d+) types")
 FAULT = re.compile(r"fault ([A-Z]\d+ \w+) at .*")
-# The most bytes of a file that `dwv` accepts.
-LARGEST = 2**32
+# The most bytes of a file and of a section that `dwv` accepts.
+LARGEST, LARGEST_SECTION = 2**32, 2**30
+# Where `make` builds the program, and where `make install` puts it, as seen from this folder.
+BESIDE = ("../../crates/dwv/out/dwv", "../../../bin/dwv")
 
-# What `dwv` says of a file: a rule and its name, or one of the two words below; its lines; what was checked in place of
-# the file, in parentheses; the bytes that were checked; the exit status.
+# What `dwv` says of a file: a rule and its name, or one of the two words below; its lines; what was prepared, in
+# parentheses; the bytes that were checked; the exit status.
 Verdict = collections.namedtuple("Verdict", "what lines note size status")
 IS_SOUND, UNREAD = "sound", "not read"
+# How long `dwv` may take for a file, in seconds, and how much memory, in bytes; None is no limit.
+Limits = collections.namedtuple("Limits", "seconds memory", defaults=(None, None))
 
 
 def parser_of(text):
     """What parses the words of a script. Its help is the text of the script: what it does, and after a line more."""
     about, _, more = text.partition("\n\n")
-    return argparse.ArgumentParser(description=about.partition(":")[0] + ".", epilog=more,
-                                   formatter_class=argparse.RawDescriptionHelpFormatter)
+    parser = argparse.ArgumentParser(description=about.partition(":")[0] + ".", epilog=more,
+                                     formatter_class=argparse.RawDescriptionHelpFormatter)
+    parser.add_argument("--version", action="version", version=f"%(prog)s {VERSION}")
+    return parser
 
 
-def find_tools(parser):
-    """The paths of `dwv` and `objcopy`. The second is None if it is not installed."""
-    dwv = shutil.which(os.environ.get("DWV", "dwv"))
-    if dwv is None:
-        parser.error("there is no program dwv on PATH, or none that DWV names")
-    return dwv, shutil.which(os.environ.get("OBJCOPY", "objcopy"))
+def find_dwv(parser):
+    """The path of `dwv`: the one that DWV names, or the one beside the scripts, or that on PATH."""
+    named = os.environ.get("DWV")
+    here = pathlib.Path(__file__).resolve().parent
+    beside = [str((here / place).resolve()) for place in BESIDE]
+    found = next(filter(None, map(shutil.which, [named] if named else [*beside, "dwv"])), None)
+    if found is None:
+        missing = "there is no program dwv, beside the script or on PATH: run make"
+        parser.error(f"DWV names no program: {named}" if named else missing)
+    return found
 
 
 def prepare():
@@ -48,40 +59,35 @@ def prepare():
         resource.setrlimit(resource.RLIMIT_FSIZE, (LARGEST, most))
 
 
-def check(dwv, path):
+def limited(words, limits):
+    """The words of a command that has a limit of memory."""
+    if limits.memory is None:
+        return words
+    return ["sh", "-c", 'ulimit -v "$0" && exec "$@"', str(limits.memory // 1024), *words]
+
+
+def check(dwv, path, limits=Limits()):
     """The verdict of `dwv` on a file."""
     # The file is standard input, since its name may be no UTF-8.
     with open(path, "rb") as file:
         size = os.fstat(file.fileno()).st_size
-        words = [dwv, "check", "/dev/stdin"]
-        ran = subprocess.run(words, stdin=file, capture_output=True, text=True, errors="replace")
+        if size > LARGEST:
+            return Verdict("E1 TooLarge", ["fault E1 TooLarge at section 0"], " (by its size: it is not read)", size, 1)
+        words = limited([dwv, "check", "/dev/stdin"], limits)
+        try:
+            ran = subprocess.run(words, stdin=file, capture_output=True, text=True, errors="replace",
+                                 timeout=limits.seconds)
+        except subprocess.TimeoutExpired:
+            return Verdict(UNREAD, [f"no verdict within {limits.seconds} s"], "", size, 3)
     lines = ran.stdout.splitlines()
     if ran.returncode == 0 and lines and SOUND.fullmatch(lines[0]):
         return Verdict(IS_SOUND, lines, "", size, 0)
     if ran.returncode == 1 and lines and (fault := FAULT.fullmatch(lines[0])):
         return Verdict(fault[1], lines, "", size, 1)
+    if ran.returncode < 0:
+        return Verdict(UNREAD, [f"dwv was ended by the signal {-ran.returncode}"], "", size, 3)
     status = ran.returncode if ran.returncode in (3, 4) else 3
     return Verdict(UNREAD, [ran.stderr.strip() or f"dwv ended with status {ran.returncode}"], "", size, status)
-
-
-@contextlib.contextmanager
-def checked(dwv, objcopy, path):
-    """The verdict on a file and the path of what was checked: the file, or a decompressed copy of it."""
-    verdict = check(dwv, path)
-    if not verdict.what.startswith("E7 "):
-        yield verdict, path
-    elif objcopy is None:
-        yield verdict._replace(note=" (objcopy is not installed)"), path
-    else:
-        with tempfile.TemporaryDirectory(prefix="dwv-") as folder:
-            copy = os.path.join(folder, "copy")
-            words = [objcopy, "--decompress-debug-sections", "/dev/stdin", copy]
-            with open(path, "rb") as file:
-                ran = subprocess.run(words, stdin=file, capture_output=True)
-            if ran.returncode == 0:
-                yield check(dwv, copy)._replace(note=" (of a decompressed copy)"), copy
-            else:
-                yield verdict._replace(note=" (objcopy does not decompress it)"), path
 
 
 def plain(text):

@@ -1,0 +1,149 @@
+"""C declarations of types by their entries: of those that `dwv types` refuses, though C can say them.
+
+These are arrays of const elements as gcc describes them (a const type over an array), `unsigned __int128`, and
+`_Complex` types, which clang gives one name. The lines are like those of `dwv types`.
+"""
+import re
+
+from dwv_tools import c_types, c_writing, dwarf, names, reading
+from dwv_tools.c_types import (
+    Array, Basic, Body, Declaration, Enum, Function, Member, Name, Pointer, Qualified, Tag, Void, bare,
+)
+from dwv_tools.entries import name_of, number_of, target_of
+
+KINDS = {0x13: "struct", 0x17: "union", 0x04: "enum"}
+QUALIFIERS = {0x26: "const", 0x35: "volatile", 0x37: "restrict", 0x47: "_Atomic"}
+ARRAY, POINTER, FUNCTION, TYPEDEF, BASE, SUBRANGE = 0x01, 0x0F, 0x15, 0x16, 0x24, 0x21
+MEMBER, ENUMERATOR, PARAMETER, UNSPECIFIED = 0x0D, 0x28, 0x05, 0x18
+UPPER, COUNT, ENCODING, CONSTANT, PROTOTYPED, VECTOR = 0x2F, 0x37, 0x3E, 0x1C, 0x27, 0x2107
+# Encodings: complex numbers of floating-point numbers, and of integers as gcc and clang have them.
+COMPLEX_FLOAT, COMPLEX_INTEGER = 0x03, {0x80, 0x81}
+FLOATS, INTEGERS = {8: "float", 16: "double", 32: "long double"}, {2: "char", 4: "short", 8: "int", 16: "long"}
+# The languages that are C, in versions 4 and 5.
+C = {"DW_LANG_C", "DW_LANG_C89", "DW_LANG_C99", "DW_LANG_C11", "DW_LANG_C17"}
+RESERVED = c_types.WORDS | c_types.QUALIFIERS | c_types.TAGS | set(
+    "auto break case continue default do else extern for goto if inline register return sizeof static switch typedef"
+    " void while".split())
+# So deep are types in one another at most.
+DEPTH = 60
+
+
+class Unsaid(Exception):
+    """C can't say this type, or the script does not."""
+
+
+def identifier(entry):
+    name = name_of(entry)
+    if name is None or not re.fullmatch(r"[A-Za-z_]\w*", name, re.ASCII) or name in RESERVED:
+        raise Unsaid("a name that C does not have")
+    return name
+
+
+def base_type(entry):
+    """A base type by its encoding and its size, or by its name."""
+    name, size, encoding = name_of(entry) or "", number_of(entry, reading.BYTE_SIZE), number_of(entry, ENCODING)
+    if encoding == COMPLEX_FLOAT and size in FLOATS:
+        return Basic(("_Complex", *FLOATS[size].split()))
+    if encoding in COMPLEX_INTEGER and "complex" in name and size in INTEGERS:
+        return Basic(("_Complex", *INTEGERS[size].split()))
+    words = tuple(name.split())
+    if words and set(words) <= c_types.WORDS:
+        return Basic(tuple(sorted(words, key=lambda it: it == "__int128")))
+    return Name(identifier(entry))
+
+
+def count_of(entry):
+    """The count of a dimension, or None."""
+    count, upper = number_of(entry, COUNT), number_of(entry, UPPER)
+    count = upper + 1 if count is None and upper is not None else count
+    return None if count is None or count >= 2**63 else count
+
+
+def is_vector(entry):
+    return dwarf.find(entry, VECTOR) is not None
+
+
+def array(entry, depth):
+    if is_vector(entry):
+        raise Unsaid("a vector without a name")
+    found = said(target_of(entry, reading.TYPE), depth)
+    for dimension in reversed([it for it in entry.unit.children(entry) if it.tag == SUBRANGE]):
+        found = Array(count_of(dimension), found)
+    return found
+
+
+def qualified(word, t):
+    """A type with one qualifier more. That of an array is one of its elements."""
+    if type(t) is Array:
+        return t._replace(of=qualified(word, t.of))
+    if type(t) in (Pointer, Qualified):
+        return t if word in t.qualifiers else t._replace(qualifiers=(*t.qualifiers, word))
+    return Qualified((word,), t)
+
+
+def function(entry, depth):
+    children = list(entry.unit.children(entry))
+    found = tuple(said(target_of(it, reading.TYPE), depth) for it in children if it.tag == PARAMETER)
+    is_variadic = any(it.tag == UNSPECIFIED for it in children)
+    has_prototype = found or number_of(entry, PROTOTYPED)
+    return Function(said(target_of(entry, reading.TYPE), depth), found if has_prototype else None,
+                    bool(is_variadic and found))
+
+
+def said(entry, depth=0):
+    """The type of an entry, as it is said in another one."""
+    if depth > DEPTH:
+        raise Unsaid("it is too deep")
+    if entry is None:
+        return Void()
+    if entry.tag in KINDS:
+        return Tag(KINDS[entry.tag], identifier(entry)) if name_of(entry) is not None else body(entry, depth + 1)
+    if entry.tag == BASE:
+        return base_type(entry)
+    if entry.tag == TYPEDEF:
+        return Name(identifier(entry))
+    if entry.tag == ARRAY:
+        return array(entry, depth + 1)
+    if entry.tag == FUNCTION:
+        return function(entry, depth + 1)
+    if entry.tag == POINTER or entry.tag in QUALIFIERS:
+        of = said(target_of(entry, reading.TYPE), depth + 1)
+        return Pointer((), of) if entry.tag == POINTER else qualified(QUALIFIERS[entry.tag], of)
+    raise Unsaid("a type that C does not have")
+
+
+def body(entry, depth):
+    """What is in the braces of a structure, a union or an enumeration."""
+    children = list(entry.unit.children(entry))
+    if KINDS[entry.tag] == "enum":
+        constants = tuple((identifier(it), number_of(it, CONSTANT)) for it in children if it.tag == ENUMERATOR)
+        if not constants or None in (value for _, value in constants):
+            raise Unsaid("an enumeration without values")
+        return Enum(constants)
+    members = []
+    for it in (it for it in children if it.tag == MEMBER):
+        name = identifier(it) if name_of(it) is not None else None
+        t = said(target_of(it, reading.TYPE), depth)
+        if name is None and type(bare(t)) is not Body:
+            raise Unsaid("a member without a name")
+        members.append(Member(name, t, number_of(it, reading.BIT_SIZE)))
+    return Body(KINDS[entry.tag], tuple(members))
+
+
+def line_of(file, at):
+    """The declaration of the named type whose entry is at an offset, as `dwv types` would print it, or None."""
+    try:
+        unit = file.unit_of(at)
+        entry, first = unit.entry(at), unit.entry(unit.first)
+        if names.name("LANG", number_of(first, reading.LANGUAGE) or 0) not in C:
+            return None
+        if entry.tag == TYPEDEF:
+            found = Declaration("typedef", identifier(entry), said(target_of(entry, reading.TYPE)))
+        elif entry.tag in KINDS and not number_of(entry, reading.DECLARATION):
+            found = Declaration(KINDS[entry.tag], identifier(entry), body(entry, 0))
+        else:
+            return None
+        line = c_writing.Writer(True).declaration(found)
+        return line if c_types.read(line) == found else None
+    except (Unsaid, c_types.Malformed, reading.Unreadable, RecursionError):
+        return None

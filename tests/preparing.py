@@ -1,0 +1,342 @@
+#!/usr/bin/env python3
+"""Runs contrib/check on files that it prepares: compressed, shared by dwz, objects, stripped ones, pipes, large ones.
+
+What is prepared has the counts of the file as the linker wrote it, and a file that is changed keeps its fault. It
+prints one line a test and ends with 'N passed, N failed, N skipped'.
+"""
+import os
+import random
+import re
+import shutil
+import struct
+import subprocess
+import sys
+import threading
+
+sys.dont_write_bytecode = True
+import common
+from dwv_tools import dwarf
+
+CHANGES = 30
+TYPES = "-gdwarf-5 -fdebug-types-section"
+SOURCE = """struct point { int x, y; struct point *next; }; __thread int many[3];
+union both { struct point p; long l; } both; enum colour { RED, GREEN = 300 } colour;
+typedef int (*call)(struct point *, ...); call called;
+int sum(struct point *p) { static struct point last; last = *p; return p->x + p->y + many[1]; }
+"""
+tally = common.Tally(60)
+
+
+def run(*words, **env):
+    return common.script("check", *words, **env)
+
+
+def line(path):
+    """What the script says of a file: the line of `dwv`, and the note in parentheses or nothing."""
+    text = run(path)[1].rstrip("\n").removeprefix(f"{path}: ")
+    found = re.fullmatch(r"(.*?)(?: \((.*)\))?", text)
+    return found[1], found[2] or ""
+
+
+def dwv(path):
+    """The line of `dwv` itself."""
+    return common.run(common.DWV, "check", path, text=True)[1].split("\n")[0]
+
+
+def objcopy(*words):
+    return subprocess.run(["objcopy", *words], capture_output=True).returncode == 0
+
+
+def same(name, path, wanted, note):
+    tally.same(name, line(path), (wanted, note))
+
+
+def places(path, names=(".debug_info", ".debug_abbrev", ".debug_str", ".debug_line_str")):
+    """The offset in a file and the size of each section."""
+    file = dwarf.File(path)
+    return {name: (file.section(name).start, file.section(name).size) for name in names if file.section(name).size}
+
+
+def change(path, out, at, data):
+    """Writes a copy of a file with other bytes at an offset."""
+    text = bytearray(path.read_bytes())
+    text[at : at + len(data)] = data
+    out.write_bytes(text)
+    return out
+
+
+def changes(path, seed, barred=()):
+    """Changes at random, the same for a seed: a section, an offset in it and a byte."""
+    chance = random.Random(seed)
+    found = places(path)
+    while True:
+        name = chance.choice([".debug_info", ".debug_info", *found])
+        at = chance.randrange(found[name][1])
+        byte = chance.choice([0, 1, 0x7F, 0x80, 0xFF, chance.randrange(256)])
+        if (name, at) not in barred:
+            yield name, at, bytes([byte])
+
+
+def compressed(folder):
+    """Compressed sections of each kind, and such as can't be decompressed."""
+    program = folder / "program"
+    common.compiled(program, "gcc -gdwarf-5", "shapes.c", "calls.c")
+    wanted = dwv(program)
+    for kind in ("zlib", "zlib-gnu", "zstd"):
+        packed = folder / f"packed-{kind}"
+        if not objcopy(f"--compress-debug-sections={kind}", program, packed):
+            tally.skip(f"objcopy does not know {kind}")
+            continue
+        same(f"sections compressed by {kind}", packed, wanted, "decompressed")
+        same("a copy is written", run("-o", folder / "plain", packed) and folder / "plain", wanted, "")
+        tally.same(f"--unprepared, {kind}", run("--unprepared", packed)[1].split()[1:4:2], ["fault", "Compressed"])
+    packed = folder / "packed-zlib"
+    info, _ = places_of_compressed(packed)
+    for name, at, data, why in (
+        ("a size of 2^40 bytes", info + 8, struct.pack("<Q", 2**40), "would have 1099511627776 bytes"),
+        ("a size that is one too small", info + 8, struct.pack("<Q", size_of(packed, info) - 1), "does not have the"),
+        ("a size that is one too great", info + 8, struct.pack("<Q", size_of(packed, info) + 1), "does not have the"),
+        ("an unknown method", info, struct.pack("<I", 7), "unknown method 7"),
+        ("bytes of something else", info + 24, b"\xff" * 16, "can't be decompressed"),
+    ):
+        said, note = line(change(packed, folder / "bad", at, data))
+        is_right = said.startswith("fault E7 ") and note.startswith("not prepared: .debug_info") and why in note
+        tally.add(name, None if is_right else (said, note))
+    wrong = []
+    for number, (name, at, data) in zip(range(CHANGES), changes(program, 1)):
+        changed = change(program, folder / "changed", places(program)[name][0] + at, data)
+        objcopy("--compress-debug-sections=zlib", changed, folder / "packed")
+        if line(folder / "packed") != (dwv(changed), "decompressed"):
+            wrong.append((number, line(folder / "packed"), dwv(changed)))
+    tally.add(f"{CHANGES} changed programs, compressed", wrong)
+
+
+def places_of_compressed(path):
+    it = next(it for it in dwarf.File(path).sections if it.name == ".debug_info")
+    return it.start, it.size
+
+
+def size_of(path, at):
+    return struct.unpack_from("<Q", path.read_bytes(), at + 8)[0]
+
+
+def count(path):
+    """How many entries readelf lists."""
+    return len(common.readelf_entries(path))
+
+
+def objects(folder):
+    """Object files: what is said of them is what is said of the linked program."""
+    source = folder / "object.c"
+    source.write_text(SOURCE)
+    for command in ("gcc -gdwarf-5", "gcc -gdwarf-4 -O2", "g++ -gdwarf-5", "clang -gdwarf-5", "clang -gdwarf-4",
+                    f"clang++ {TYPES}", "gcc -gdwarf-5 -gz"):
+        if not shutil.which(command.split()[0]):
+            tally.skip(f"{command.split()[0]} is not installed")
+            continue
+        made, linked = folder / "object.o", folder / "linked"
+        common.compiled(made, f"{command} -c", source)
+        common.compiled(linked, f"{command} -shared -fPIC", source)
+        said, note = line(made)
+        more = ", 4 sections .debug_info joined" if TYPES in command else ""
+        plain = dwv(linked) if "-gz" not in command else line(linked)[0]
+        tally.same(f"an object, {command}", (said, note), (plain, f"relocations applied{more}"))
+    if shutil.which("clang"):
+        for machine in ("x86_64", "aarch64", "riscv64"):
+            made = folder / f"{machine}.o"
+            command = f"clang --target={machine}-linux-gnu -gdwarf-5 -c"
+            if not common.compiled(made, command, source):
+                tally.skip(f"clang does not compile for {machine}")
+                continue
+            said, note = line(made)
+            found = re.fullmatch(r"sound: 1 units, (\d+) entries, \d+ types", said)
+            is_right = found and note == "relocations applied" and int(found[1]) == count(made)
+            tally.add(f"an object of {machine}", None if is_right else (said, note, count(made)))
+    without = folder / "without.o"
+    common.compiled(without, "gcc -c", source)
+    said, note = line(without)
+    tally.same("an object without -g", (said.split()[1], note),
+               ("E3", "not prepared: it is an object file without a section .debug_info"))
+
+
+def relocations(path, target=".debug_info"):
+    """Where the relocations of a section are, and in which bytes of the section; where their types are."""
+    it = next(it for it in dwarf.File(path).sections if it.name == f".rela{target}")
+    rows = list(struct.iter_unpack("<QQq", path.read_bytes()[it.start : it.start + it.size]))
+    return it.start, {(target, at + k) for at, _, _ in rows for k in range(8)}
+
+
+def changed_objects(folder):
+    """An object with bytes changed has the fault of the linked file with the same bytes changed."""
+    made, copy = folder / "changed.o", folder / "relocated"
+    common.compiled(made, "gcc -gdwarf-5 -c", "shapes.c")
+    run("-o", copy, made)
+    start, barred = relocations(made)
+    wrong, there, after = [], places(made), places(copy)
+    for number, (name, at, data) in zip(range(CHANGES), changes(made, 2, barred)):
+        changed = change(made, folder / "one", there[name][0] + at, data)
+        wanted = dwv(change(copy, folder / "two", after[name][0] + at, data))
+        if line(changed) != (wanted, "relocations applied"):
+            wrong.append((number, line(changed), wanted))
+    tally.add(f"{CHANGES} changed objects", wrong)
+    for name, at, data, why in (
+        ("an unknown relocation", start + 8, struct.pack("<I", 99), "has a relocation of the unknown type 99"),
+        ("a relocation of no symbol", start + 12, struct.pack("<I", 9999), "outside the section, or of no symbol"),
+        ("a relocation outside", start, struct.pack("<Q", 2**40), "outside the section, or of no symbol"),
+        ("a relocation that is too great", start + 16, struct.pack("<q", 2**40), "does not fit into 4 bytes"),
+    ):
+        said, note = line(change(made, folder / "bad", at, data))
+        tally.same(name, (said.split()[1], why in note), ("E3", True))
+    # The first relocation of .debug_info is of the table's offset.
+    said, note = line(change(made, folder / "bad", start + 16, struct.pack("<q", 10**6)))
+    tally.same("an offset that is wrong in the object", (said.split()[1], note), ("U6", "relocations applied"))
+
+
+def by_dwz(folder):
+    """Files that dwz took entries from."""
+    for words, title in ((["-m"], "dwz"), (["--dwarf-5", "-m"], "dwz --dwarf-5")):
+        one, two, shared = folder / "one", folder / "two", folder / "shared"
+        common.compiled(one, "gcc -gdwarf-5", "shapes.c", "calls.c")
+        shutil.copy(one, two)
+        ran = subprocess.run(["dwz", *words, shared, one, two], capture_output=True)
+        if ran.returncode or not shared.exists():
+            tally.skip(f"{title} makes no shared file")
+            continue
+        tally.same(f"{title}: dwv refuses it", dwv(one).split()[1], "A7")
+        wanted = count(one) + count(shared)
+        for path in (one, two):
+            said, note = line(path)
+            found = re.fullmatch(r"sound: \d+ units, (\d+) entries, \d+ types", said)
+            is_right = found and note.startswith(f"joined with {shared} from 0x")
+            tally.add(f"{title}: {path.name}", None if is_right else (said, note))
+            if found and path == one:
+                tally.same(f"{title}: the entries of both", int(found[1]), wanted)
+        tally.same(f"{title}: the shared file", line(shared)[0].split(":")[0], "sound")
+        changed_by_dwz(folder, title, one, shared)
+        objcopy("--compress-debug-sections", one, folder / "packed")
+        said, note = line(folder / "packed")
+        tally.add(f"{title}, and compressed", None if note.startswith("decompressed, joined with") else (said, note))
+        moved = folder / "moved"
+        shared.rename(moved)
+        wanted = "not prepared: the shared file of dwz is "
+        tally.same(f"{title}: no shared file", line(one)[1], f"{wanted}not here: {shared}")
+        common.compiled(shared, "gcc -g", "shapes.c", "calls.c")
+        tally.same(f"{title}: another one", line(one)[1], f"{wanted}of another build: {shared}")
+        for path in (one, two, shared, moved):
+            path.unlink()
+
+
+def changed_by_dwz(folder, title, one, shared):
+    """A change that is a fault in the joined file is one before it is joined."""
+    copy = folder / "joined"
+    run("-o", copy, one)
+    there, after, wrong, same = places(one), places(copy), [], 0
+    for number, (name, at, data) in zip(range(CHANGES), changes(one, 3)):
+        changed = change(one, folder / "changed", there[name][0] + at, data)
+        said, wanted = line(changed)[0], dwv(change(copy, folder / "two", after[name][0] + at, data))
+        same += said == wanted
+        if wanted.startswith("fault") and not said.startswith("fault"):
+            wrong.append((number, name, at, said, wanted))
+    tally.add(f"{title}: {CHANGES} changed files", wrong or (same < CHANGES // 2 and same))
+    # What is outside of the file itself may not become something in the shared file.
+    for name, at, size, value in outside(one):
+        said, note = line(change(one, folder / "changed", at, value.to_bytes(size, "little")))
+        tally.add(f"{title}: {name}", None if said.startswith("fault") else (said, note))
+
+
+def outside(path):
+    """Changes of a file by which it refers to what follows its own sections."""
+    file = dwarf.File(path)
+    names = {0x0E: ("a string", ".debug_str"), 0x1F: ("a string of lines", ".debug_line_str"),
+             0x10: ("an entry", ".debug_info")}
+    for unit in map(file.unit, file.starts()):
+        entry = unit.entry(unit.first)
+        for it in entry.attributes:
+            if it.form in names:
+                title, section = names.pop(it.form)
+                yield f"{title} outside {section}", file.info.start + it.at, 4, file.section(section).size + 1
+    unit = file.unit(0)
+    yield "a table outside", file.info.start + 8, 4, file.abbrev.size
+    last = file.unit(file.starts()[-1])
+    yield "a unit that is too long", file.info.start + last.at, 4, last.length + 40
+    strings = file.section(".debug_str")
+    if strings.size:
+        yield "a last string without an end", strings.start + strings.size - 1, 1, 65
+
+
+def links(folder):
+    """Stripped files whose debugging information is in another file."""
+    full, stripped, apart = folder / "full", folder / "usr/bin/stripped", folder / "usr/bin/apart.debug"
+    stripped.parent.mkdir(parents=True)
+    common.compiled(full, "gcc -gdwarf-5 -Wl,--build-id", "shapes.c", "calls.c")
+    objcopy("--only-keep-debug", full, apart)
+    objcopy("--strip-all", f"--add-gnu-debuglink={apart}", full, stripped)
+    wanted = dwv(full)
+    same("a file beside it, by .gnu_debuglink", stripped, wanted, f"its debug file {apart}")
+    (stripped.parent / ".debug").mkdir()
+    apart.rename(stripped.parent / ".debug/apart.debug")
+    same("in the folder .debug", stripped, wanted, f"its debug file {stripped.parent}/.debug/apart.debug")
+    objcopy("--compress-debug-sections", stripped.parent / ".debug/apart.debug", apart)
+    (stripped.parent / ".debug/apart.debug").unlink()
+    tally.same("a file with another checksum", line(stripped)[0].split()[1], "E9")
+    note = dwarf.File(full).section(".note.gnu.build-id")
+    number = full.read_bytes()[note.start + 16 : note.start + note.size].hex()
+    by_id = folder / f"usr/lib/debug/.build-id/{number[:2]}/{number[2:]}.debug"
+    by_id.parent.mkdir(parents=True)
+    apart.rename(by_id)
+    same("by the build ID, and compressed", stripped, wanted, f"its debug file {by_id}, decompressed")
+    _, text, _ = run("--summary", stripped, folder / "usr/bin")
+    tally.same("in a folder", text.splitlines()[0].split(), ["1", "sound"])
+    by_id.rename(folder / "served")
+    tally.same("no debug file", line(stripped), ("fault E9 NoInfo at section 0", ""))
+    tool = folder / "tools/debuginfod-find"
+    tool.parent.mkdir()
+    tool.write_text(f'#!/bin/sh\n[ "$*" = "debuginfo {number}" ] && echo "{folder}/served"\n')
+    tool.chmod(0o755)
+    path = f"{tool.parent}:{os.environ['PATH']}"
+    text = run("--debuginfod", stripped, PATH=path)[1]
+    tally.same("by debuginfod", text, f"{stripped}: {wanted} (its debug file {folder}/served, decompressed)\n")
+    tally.same("debuginfod has none", run("--debuginfod", full.with_name("usr"), PATH=path)[0], 0)
+
+
+def sizes(folder):
+    """Files that are not read: too large, a device. And a pipe, which is."""
+    large = folder / "large"
+    with open(large, "wb") as file:
+        file.truncate(5 << 30)
+    said = line(large)
+    tally.same("a file of 5 GB", said, ("fault E1 TooLarge at section 0", "by its size: it is not read"))
+    large.unlink()
+    status, text, errors = run("/dev/zero")
+    tally.same("a device", (status, text, errors), (3, "", "check: /dev/zero: not a regular file\n"))
+    pipe = folder / "pipe"
+    os.mkfifo(pipe)
+    writer = threading.Thread(target=lambda: pipe.write_bytes(common.SAMPLE.read_bytes()))
+    writer.start()
+    same("a pipe", pipe, "sound: 1 units, 2 entries, 1 types", "")
+    writer.join()
+    with open(common.SAMPLE, "rb") as file:
+        words = [common.PYTHON, common.TOP / "contrib/check", "-"]
+        ran = subprocess.run(words, stdin=file, capture_output=True, text=True, env={**os.environ, "DWV": common.DWV})
+    tally.same("standard input", ran.stdout, "-: sound: 1 units, 2 entries, 1 types\n")
+
+
+def main():
+    common.build()
+    if common.run(common.PYTHON, "-c", "import elftools")[0]:
+        tally.skip("pyelftools is not installed")
+        return tally.end()
+    with common.empty_folder() as folder:
+        sizes(folder)
+        if common.has("gcc") and common.has("objcopy"):
+            compressed(folder)
+            if common.has("readelf"):
+                objects(folder)
+                changed_objects(folder)
+                if common.has("dwz"):
+                    by_dwz(folder)
+            links(folder)
+    return tally.end()
+
+
+sys.exit(main())
