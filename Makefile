@@ -15,30 +15,35 @@ kit = $(dir $(shell readlink -f "$$(command -v rt)"))..
 lib:
 	cd crates/dwv_c && rt lib
 	install -d out/lib/pkgconfig out/include
-	ld -r --whole-archive crates/dwv_c/out/libdwv_c.a "$(kit)/c/liblibc_c.a" -o out/lib/dwv.o
+	$(CC) -O2 -fPIC -Iinclude -c include/version.c -o out/lib/version.o
+	ld -r --whole-archive crates/dwv_c/out/libdwv_c.a "$(kit)/c/liblibc_c.a" out/lib/version.o -o out/lib/dwv.o
 	objcopy --wildcard --keep-global-symbol='dwv_*' out/lib/dwv.o
 	rm -f out/lib/libdwv.a
 	ar rcsD out/lib/libdwv.a out/lib/dwv.o
 	$(CC) -shared -o out/lib/libdwv.so.0 out/lib/dwv.o -Wl,-soname,libdwv.so.0 -Wl,-z,defs,-z,relro,-z,now,-z,noexecstack
-	rm out/lib/dwv.o
+	rm out/lib/dwv.o out/lib/version.o
 	install -m 644 include/dwv.h out/include
 	install -m 644 contrib/dwv.pc out/lib/pkgconfig
 
-# How many checks `make test` runs side by side: one a processor, if there are 3 GB of memory for each. With RT_JOBS
-# each has one job, which costs the least processor time: jobs that share a check each load all that it stands on.
+# How many checks `make test` runs side by side: one a processor, if there are 3 GB of memory for each, and at least one.
+# With RT_JOBS each has one job, which costs the least processor time: jobs that share a check each load all that it
+# stands on.
 memory = $(shell awk '/MemAvailable/ { print int($$2 / 3000000) }' /proc/meminfo)
-checks = $(shell printf '%d\n' $$(nproc) $(memory) | sort -n | head -n 1)
+fits = $(shell printf '%d\n' $$(nproc) $(memory) | sort -n | head -n 1)
+checks = $(if $(filter-out 0,$(fits)),$(fits),1)
 
-# Proves everything from nothing, tries the edits of must-fail/, and runs every test.
+# Proves everything from nothing, tries the edits of must-fail/ and a tenth of the others, and runs every test.
 .PHONY: test
 test:
 	tests/dead-names.py
 	tests/reading-order.py
 	tests/indexes.py
 	tests/calling.py
+	tests/versions.py
 	tests/toolchain.sh
 	tests/edits.py --apply
 	RT_JOBS=$(checks) tests/prove.py
+	tests/edits.py --tenth --jobs $(checks)
 	tests/rows.py
 	tests/examples.py
 	tests/real-programs.py
@@ -46,10 +51,13 @@ test:
 	tests/refused-growths.py
 	tests/endings.py
 	tests/install.py
-	tests/check-tree.py
+	tests/integrations.py
+	tests/check.py
+	tests/preparing.py
 	tests/explain.py
 	tests/c-header.py
 	tests/library.sh
+	tests/pages.py
 
 # Proves what changed, in every crate, over what earlier runs kept.
 .PHONY: check
@@ -89,23 +97,28 @@ PREFIX = /usr/local
 bin = $(DESTDIR)$(PREFIX)/bin
 man = $(DESTDIR)$(PREFIX)/share/man/man1
 completions = $(DESTDIR)$(PREFIX)/share/bash-completion/completions
+zsh = $(DESTDIR)$(PREFIX)/share/zsh/site-functions
+fish = $(DESTDIR)$(PREFIX)/share/fish/vendor_completions.d
 share = $(DESTDIR)$(PREFIX)/share/dwv
-scripts = c-header check-tree explain
+scripts = c-header check explain
 lib = $(DESTDIR)$(PREFIX)/lib
 include = $(DESTDIR)$(PREFIX)/include
 library = $(wildcard out/lib/libdwv.a)
 .PHONY: install
 install:
 	@[ -x crates/dwv/out/dwv ] || { echo "crates/dwv/out/dwv is not built: run make first." >&2; exit 1; }
-	install -d "$(bin)" "$(man)" "$(completions)"
+	install -d "$(bin)" "$(man)" "$(completions)" "$(zsh)" "$(fish)"
 	install -m 755 crates/dwv/out/dwv "$(bin)/dwv"
 	install -m 644 docs/dwv.1 "$(man)/dwv.1"
 	install -m 644 contrib/dwv.bash "$(completions)/dwv"
+	install -m 644 contrib/_dwv "$(zsh)/_dwv"
+	install -m 644 contrib/dwv.fish "$(fish)/dwv.fish"
 	install -d "$(share)/dwv_tools"
 	install -m 755 $(scripts:%=contrib/%) "$(share)"
 	install -m 644 contrib/dwv_tools/*.py contrib/dwv_tools/*.txt "$(share)/dwv_tools"
 	for it in $(scripts); do \
-	    ln -sf "../share/dwv/$$it" "$(bin)/dwv-$$it" && ln -sf dwv "$(completions)/dwv-$$it" || exit 1; \
+	    ln -sf "../share/dwv/$$it" "$(bin)/dwv-$$it" && ln -sf dwv "$(completions)/dwv-$$it" && \
+	    ln -sf dwv.1 "$(man)/dwv-$$it.1" || exit 1; \
 	done
 ifneq ($(library),)
 	install -d "$(lib)/pkgconfig" "$(include)"
@@ -119,10 +132,23 @@ endif
 # Removes what `make install` installed, by the same PREFIX and DESTDIR.
 .PHONY: uninstall
 uninstall:
-	rm -f "$(bin)/dwv" "$(man)/dwv.1" "$(completions)/dwv"
-	rm -f $(scripts:%="$(bin)/dwv-%") $(scripts:%="$(completions)/dwv-%")
+	rm -f "$(bin)/dwv" "$(man)/dwv.1" "$(completions)/dwv" "$(zsh)/_dwv" "$(fish)/dwv.fish"
+	rm -f $(scripts:%="$(bin)/dwv-%") $(scripts:%="$(completions)/dwv-%") $(scripts:%="$(man)/dwv-%.1")
 	rm -rf "$(share)"
 	rm -f "$(lib)/libdwv.a" "$(lib)/libdwv.so.0" "$(lib)/libdwv.so" "$(include)/dwv.h" "$(lib)/pkgconfig/dwv.pc"
+
+# Packages of what `make` and `make lib` built, in out/packages: a tarball, a .deb, and a wheel for Python.
+.PHONY: dist
+dist: lib
+	packaging/package.py tarball out/packages
+
+.PHONY: deb
+deb: lib
+	packaging/package.py deb out/packages
+
+.PHONY: wheel
+wheel: lib
+	packaging/package.py wheel out/packages
 
 # Measures the program beside the peers that are installed, and draws docs/performance.svg.
 .PHONY: bench

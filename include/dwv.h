@@ -28,6 +28,9 @@
 #include <stddef.h>
 #include <stdint.h>
 
+/* The version of this header. dwv_version() is that of the library. */
+#define DWV_VERSION "0.9.0"
+
 #ifdef __cplusplus
 extern "C" {
 #endif
@@ -53,11 +56,14 @@ struct dwv_verdict {
 };
 
 /* Checks a file: DWV_SOUND, DWV_FAULT or DWV_NO_MEMORY. */
-uint32_t dwv_check(const uint8_t *file, size_t file_length, struct dwv_verdict *verdict);
+enum dwv_status dwv_check(const uint8_t *file, size_t file_length, struct dwv_verdict *verdict);
+
+/* The version of the library, as "0.9.0". */
+const char *dwv_version(void);
 
 /* Checks six sections, which may come from a file of any format. A section that the file does not have has 0 bytes (and
  * a pointer that is not NULL). */
-uint32_t dwv_check_sections(
+enum dwv_status dwv_check_sections(
     const uint8_t *info, size_t info_length,
     const uint8_t *abbrev, size_t abbrev_length,
     const uint8_t *str, size_t str_length,
@@ -65,6 +71,24 @@ uint32_t dwv_check_sections(
     const uint8_t *str_offsets, size_t str_offsets_length,
     const uint8_t *addr, size_t addr_length,
     struct dwv_verdict *verdict);
+
+/* Six sections. One that the file does not have may be left {0}: here a pointer may be NULL if the length is 0. */
+struct dwv_section {
+    const uint8_t *bytes;
+    size_t length;
+};
+struct dwv_sections {
+    struct dwv_section info, abbrev, str, line_str, str_offsets, addr;
+};
+
+/* Checks six sections, by dwv_check_sections. */
+static inline enum dwv_status dwv_check_six(const struct dwv_sections *six, struct dwv_verdict *verdict) {
+    static const uint8_t none = 0;
+#define DWV_PLACE(section) six->section.length ? six->section.bytes : &none, six->section.length
+    return dwv_check_sections(DWV_PLACE(info), DWV_PLACE(abbrev), DWV_PLACE(str), DWV_PLACE(line_str),
+                              DWV_PLACE(str_offsets), DWV_PLACE(addr), verdict);
+#undef DWV_PLACE
+}
 
 /* What dwv_report writes: the output of a command of the program. */
 enum dwv_request {
@@ -78,7 +102,7 @@ enum dwv_request {
 /* Writes what the program prints, without a zero byte at the end, and how many bytes that is. It returns the program's
  * exit status, or DWV_NO_MEMORY, DWV_TOO_SHORT (`needed` says how many bytes the buffer needs) or DWV_NO_REQUEST. Only
  * DWV_SIZE uses the offset. Each call checks the file anew. */
-uint32_t dwv_report(
+enum dwv_status dwv_report(
     const uint8_t *file, size_t file_length,
     uint32_t request, uint32_t offset,
     uint8_t *buffer, size_t capacity,
@@ -99,7 +123,7 @@ struct dwv_entry {
 /* Checks a file, and writes a row for each entry of a sound one in rising offset, and how many there are: DWV_SOUND,
  * DWV_FAULT, DWV_NO_MEMORY, or DWV_TOO_SHORT if there is no room for all of them. `rows` is not NULL, even if `room` is
  * 0. If the file is not sound, `count` is not written. */
-uint32_t dwv_entries(
+enum dwv_status dwv_entries(
     const uint8_t *file, size_t file_length,
     struct dwv_entry *rows, size_t room,
     size_t *count,

@@ -2,7 +2,7 @@
 """Installs the program into an empty folder by `make install`, tries what is there, and removes it.
 
 It also compares the manual page with docs/RULES.md and docs/REPORTS.md, and runs the checkers of manual pages that are
-installed. It prints one line a check and ends with 'N passed, M failed'.
+installed. It prints one line a check and ends with 'N passed, N failed, N skipped'.
 """
 import os
 import re
@@ -14,11 +14,12 @@ import common
 from common import SAMPLE, TOP
 
 PAGE = TOP / "docs/dwv.1"
-SCRIPTS = ("check-tree", "explain", "c-header")
-INSTALLED = ["644 share/bash-completion/completions/dwv", "644 share/man/man1/dwv.1", "755 bin/dwv"]
+SCRIPTS = ("check", "explain", "c-header")
+INSTALLED = ["644 share/bash-completion/completions/dwv", "644 share/fish/vendor_completions.d/dwv.fish",
+             "644 share/man/man1/dwv.1", "644 share/zsh/site-functions/_dwv", "755 bin/dwv"]
 for script in SCRIPTS:
     INSTALLED += [f"../share/dwv/{script} bin/dwv-{script}", f"755 share/dwv/{script}",
-                  f"dwv share/bash-completion/completions/dwv-{script}"]
+                  f"dwv share/bash-completion/completions/dwv-{script}", f"dwv.1 share/man/man1/dwv-{script}.1"]
 # What bash completes: a name, the function, the words, and what it offers for the last of them.
 COMPLETED = [
     ("completion of no word", "_dwv", ["dwv", ""], "check show types size"),
@@ -28,14 +29,14 @@ COMPLETED = [
     ("names of files after check", "_dwv", ["dwv", "check", "a"], ""),
     ("completion of types", "_dwv", ["dwv", "t"], "types"),
     ("show has no option", "_dwv", ["dwv", "show", "-"], ""),
-    ("completion of dwv-explain", "_dwv_script", ["dwv-explain", "-"], "--help --json"),
+    ("completion of dwv-explain", "_dwv_script", ["dwv-explain", "--"], "--debuginfod --help --json --version"),
     ("completion of dwv-c-header", "_dwv_script", ["dwv-c-header", "--a"], "--all --assert"),
-    ("completion of dwv-check-tree", "_dwv_script", ["dwv-check-tree", "--e"], "--explain"),
+    ("completion of dwv-check", "_dwv_script", ["dwv-check", "--e"], "--every --explain"),
     ("completion of a file", "_dwv_script", ["dwv-explain", "a"], ""),
 ]
 COMPLETE = ('source "$1"; function=$2; shift 2; COMP_WORDS=("$@"); COMP_CWORD=$(($# - 1)); "$function"; '
             'echo "${COMPREPLY[*]}"')
-tally = common.Tally()
+tally = common.Tally(31)
 
 
 def files(folder):
@@ -71,7 +72,7 @@ def page():
     found = sorted(re.findall(r"(?m)^\.It (dwv: .*)", text))
     wanted = sorted(re.findall(r"(?m)^\|.*\| .(dwv: .*). \| [2-4] \|$", reports))
     tally.same("the lines on standard error in the manual page", found, wanted)
-    if common.has("mandoc"):
+    if tally.has("mandoc"):
         _, said, errors = common.run("mandoc", "-T", "lint", "-W", "warning", PAGE, text=True)
         tally.same("mandoc -T lint", said + errors, "")
     # Some systems have a program `man` that only says that there are no pages.
@@ -79,7 +80,7 @@ def page():
         env = {**os.environ, "LC_ALL": "C.UTF-8"}
         tally.same("man --warnings", common.run("man", "--warnings", "-l", "-Tutf8", "-Z", PAGE, env=env)[2], b"")
     else:
-        print("skipped: man is not installed")
+        tally.skip("man is not installed")
 
 
 def main():

@@ -1,8 +1,8 @@
 #!/usr/bin/env bash
 # Proves and links the C library (`make lib`), and tries what dwv.h and docs/LIBRARY.md say of it: the names that it has
 # and needs, the layout of its structs, callers in C, C++, Rust, Python and Go, allocations that fail, threads, and
-# `make install`. Compilers and interpreters that are not installed are skipped, and it says so. It prints one line a
-# check and ends with 'N passed, M failed'.
+# `make install`. It prints one line a check and ends with 'N passed, N failed, N skipped'. A tool that is not installed
+# is skipped, or fails, as in tests/common.py.
 set -u
 cd "$(dirname "$0")/.." || exit 1
 
@@ -13,6 +13,10 @@ tests=tests/library
 sample=crates/dwv/data/X1
 passed=0
 failed=0
+skipped=0
+# How many checks there are at least, if no tool is missing that they need.
+least=47
+lacking=
 
 # is NAME SAID WANTED: the two texts must be the same.
 is() {
@@ -34,34 +38,59 @@ ends() {
     [ "$(tail -n 1 "$folder/log")" ] && tail -n 1 "$folder/log" | sed 's/^/    /'
 }
 
-# has COMMAND: whether it is installed.
+# has COMMAND: whether it is installed. If not, a check that needs it fails in CI and is else skipped, as is each check
+# that could do without it.
 has() {
     command -v "$1" > /dev/null && return
+    case $1 in
+    gcc | clang | g++ | nm | readelf | pkg-config)
+        lacking=$1
+        if [ "${CI:-}" ]; then
+            is 'what the checks need' "$1 is not installed" "$1"
+            return 1
+        fi
+        ;;
+    esac
+    skipped=$((skipped + 1))
     echo "skipped: $1 is not installed"
     return 1
+}
+
+# end: prints the counts, and ends.
+end() {
+    if [ $((passed + failed)) -lt "$least" ] && [ -z "$lacking" ]; then
+        is 'the count of checks' "$((passed + failed))" "at least $least"
+    fi
+    echo "$passed passed, $failed failed, $skipped skipped"
+    [ "$failed" -eq 0 ]
+    exit
 }
 
 [ -x "$dwv" ] || (cd crates/dwv && rt run -- check data/X1)
 make --no-print-directory lib > "$folder/log" 2>&1
 is 'make lib ends' "$?" 0
-[ "$failed" -eq 0 ] || { cat "$folder/log"; echo "$passed passed, $failed failed"; exit 1; }
+[ "$failed" -eq 0 ] || { cat "$folder/log"; end; }
 
 # The names that a file has or needs, of these kinds.
 names() {
     sed -n "s/^[0-9a-f ]* [$1] \\([A-Za-z0-9_.]*\\)\$/\\1/p" | sort -u | xargs
 }
-calls='dwv_check dwv_check_sections dwv_entries dwv_report'
+calls='dwv_check dwv_check_sections dwv_entries dwv_report dwv_version'
 needs='free malloc memcpy memmove memset realloc'
-is 'what libdwv.a has' "$(nm -g out/lib/libdwv.a | names TDBRVWC)" "$calls"
-is 'what libdwv.a needs' "$(nm -g out/lib/libdwv.a | names Uw)" "$needs"
-is 'what libdwv.so.0 has' "$(nm -D out/lib/libdwv.so.0 | sed 's/@.*//' | names TDBRVWC)" "$calls"
-is 'what libdwv.so.0 needs' "$(nm -D out/lib/libdwv.so.0 | sed 's/@.*//' | names U)" "$needs"
+if has nm; then
+    is 'what libdwv.a has' "$(nm -g out/lib/libdwv.a | names TDBRVWC)" "$calls"
+    is 'what libdwv.a needs' "$(nm -g out/lib/libdwv.a | names Uw)" "$needs"
+    is 'what libdwv.so.0 has' "$(nm -D out/lib/libdwv.so.0 | sed 's/@.*//' | names TDBRVWC)" "$calls"
+    is 'what libdwv.so.0 needs' "$(nm -D out/lib/libdwv.so.0 | sed 's/@.*//' | names U)" "$needs"
+fi
 # dynamic KIND: the entries of this kind in the dynamic section.
 dynamic() {
     readelf -d out/lib/libdwv.so.0 | sed -n "s/.*($1).*\\[\\(.*\\)\\]/\\1/p"
 }
-is 'the libraries that libdwv.so.0 needs' "$(dynamic NEEDED)" libc.so.6
-is 'the name of libdwv.so.0' "$(dynamic SONAME)" libdwv.so.0
+if has readelf; then
+    is 'the libraries that libdwv.so.0 needs' "$(dynamic NEEDED)" libc.so.6
+    is 'the name of libdwv.so.0' "$(dynamic SONAME)" libdwv.so.0
+fi
 
 # layout FILE TYPE NAME: of a struct of the sources, a test that the one of dwv.h has the same size and offsets.
 layout() {
@@ -95,13 +124,15 @@ files=("$sample" "$folder/broken")
 for compiler in gcc clang; do
     has "$compiler" || continue
     program="$folder/program-$compiler"
-    "$compiler" -gdwarf-5 -w -o "$program" tests/programs/shapes.c tests/programs/calls.c && files+=("$program")
+    ends "$compiler: a program compiles" \
+        "$compiler" -gdwarf-5 -w -o "$program" tests/programs/shapes.c tests/programs/calls.c
+    [ -e "$program" ] && files+=("$program")
 done
 
 flags=(-std=c11 -g -O1 -Wall -Wextra -Werror -pedantic -Iout/include)
 sanitizers=(-fsanitize=address,undefined -fno-sanitize-recover=all)
 for compiler in gcc clang; do
-    has "$compiler" || continue
+    command -v "$compiler" > /dev/null || continue
     build() {
         "$compiler" "${flags[@]}" "${sanitizers[@]}" "$@" out/lib/libdwv.a
     }
@@ -167,15 +198,14 @@ if has pkg-config && has gcc; then
 fi
 if has python3; then
     export DWV_LIBRARY="$installed/lib/libdwv.so.0"
-    ends 'the tests of dwv.py' env PYTHONDONTWRITEBYTECODE=1 python3 contrib/python/test_dwv.py
+    ends 'the tests of the Python package' env PYTHONDONTWRITEBYTECODE=1 python3 python/test_dwv.py
     ends 'the same answers as the program on the files of all rows' \
-        env PYTHONDONTWRITEBYTECODE=1 PYTHONPATH=contrib/python:tests python3 "$tests/reports.py"
+        env PYTHONDONTWRITEBYTECODE=1 PYTHONPATH=python:tests python3 "$tests/reports.py"
 fi
 if has cargo; then
     ends 'the tests of the Rust crate' env DWV_LIB_DIR="$PWD/out/lib" CARGO_TARGET_DIR="$folder/target" \
-        cargo test --quiet --offline --locked --manifest-path contrib/rust/dwv/Cargo.toml
+        cargo test --quiet --offline --locked --manifest-path rust/dwv/Cargo.toml
 fi
 makes uninstall > "$folder/log" 2>&1
 is 'make uninstall removes every file' "$(cd "$root" && find . ! -type d)" ''
-echo "$passed passed, $failed failed"
-[ "$failed" -eq 0 ]
+end

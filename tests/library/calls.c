@@ -135,6 +135,11 @@ static void sections(void) {
     NEED(CHECK(info, sizeof info, none, 0) == DWV_FAULT);
     NEED(!strcmp(v.rule, "S3") && v.at == 15 && v.attribute == 3 && v.entries == 0);
     NEED(CHECK(none, 0, none, 0) == DWV_SOUND && v.units == 0);
+    struct dwv_sections six = {.info = {info, sizeof info}, .abbrev = {table, sizeof table}, .str = {str, sizeof str}};
+    NEED(dwv_check_six(&six, &v) == DWV_SOUND && v.entries == 2);
+    six.str.length = 0;
+    NEED(dwv_check_six(&six, &v) == DWV_FAULT && !strcmp(v.rule, "S3"));
+    NEED(!strcmp(dwv_version(), DWV_VERSION));
 }
 
 int main(int argc, char **argv) {

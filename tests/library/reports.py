@@ -1,6 +1,6 @@
 """Compares dwv_report and dwv_check of libdwv.so with the program, on the files of all rows.
 
-DWV_LIBRARY=out/lib/libdwv.so.0 PYTHONPATH=contrib/python:tests tests/library/reports.py. It prints how many answers are
+DWV_LIBRARY=out/lib/libdwv.so.0 PYTHONPATH=python:tests tests/library/reports.py. It prints how many answers are
 the same, and each that is not, and ends with status 1 if there is one.
 """
 import json

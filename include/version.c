@@ -1,0 +1,5 @@
+#include "dwv.h"
+
+const char *dwv_version(void) {
+    return DWV_VERSION;
+}

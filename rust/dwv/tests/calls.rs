@@ -1,0 +1,70 @@
+use dwv::{Counts, Entry, Error, Fault, Request, Rule, Section, Sections, Status};
+use std::{collections::BTreeSet, thread};
+
+const SAMPLE: &[u8] = include_bytes!("../../../crates/dwv/data/X1");
+const SOUND: Counts = Counts { units: 1, entries: 2, types: 1 };
+
+#[test]
+fn a_sound_file() {
+    assert_eq!(dwv::check(SAMPLE), Ok(SOUND));
+    assert_eq!(dwv::report(SAMPLE, Request::Types), Ok((Status::Sound, Vec::new())));
+    assert_eq!(dwv::report(SAMPLE, Request::Size(15)), Ok((Status::Sound, b"size 4\n".to_vec())));
+    assert_eq!(dwv::report(SAMPLE, Request::Size(12)), Ok((Status::NotAType, b"not a type\n".to_vec())));
+    assert_eq!(dwv::report(SAMPLE, Request::Check).unwrap().1, format!("{SOUND}\n").as_bytes());
+    let unit = Entry { offset: 12, depth: 0, tag: 0x11, size: None, name: Some(b"a") };
+    let number = Entry { offset: 15, depth: 1, tag: 0x24, size: Some(4), name: Some(b"int") };
+    assert_eq!(dwv::entries(SAMPLE), Ok(vec![unit, number]));
+}
+
+#[test]
+fn a_fault_of_the_sections() {
+    let mut file = SAMPLE.to_vec();
+    let name = file.windows(5).position(|bytes| bytes == b"\x02int\0").unwrap();
+    file[name] = 3;
+    let fault = Fault { rule: Rule::UndeclaredCode, section: Section::Info, at: 15, attribute: 0 };
+    assert_eq!(fault.to_string(), "fault G1 UndeclaredCode at .debug_info+0x0000000f attribute 0x0");
+    assert_eq!(dwv::check(&file), Err(Error::Fault(fault)));
+    assert_eq!(dwv::entries(&file), Err(Error::Fault(fault)));
+    assert_eq!(dwv::report(&file, Request::Types), Ok((Status::Fault, format!("{fault}\n").into_bytes())));
+    assert_eq!(dwv::report(&file, Request::CheckJson).unwrap().0, Status::Fault);
+    assert_eq!(dwv::report(&file, Request::Show).unwrap().1, format!("{fault}\n").as_bytes());
+}
+
+#[test]
+fn sections_alone() {
+    let (abbrev, info) = (&SAMPLE[0x40..0x53], &SAMPLE[0x53..0x6a]);
+    let sections = Sections { abbrev, info, ..Sections::default() };
+    assert_eq!(dwv::check_sections(&sections), Ok(SOUND));
+    let Err(Error::Fault(fault)) = dwv::check_sections(&Sections { info, ..Sections::default() }) else { panic!() };
+    assert_eq!(fault.rule, Rule::BadAbbrevOffset);
+}
+
+#[test]
+fn no_bytes() {
+    let Err(Error::Fault(fault)) = dwv::check(&[]) else { panic!() };
+    assert_eq!(fault, Fault { rule: Rule::NotElf64, section: Section::File, at: 0, attribute: 0 });
+}
+
+#[test]
+fn codes_and_names() {
+    let rules = include_str!("../../../docs/RULES.md");
+    for rule in Rule::ALL {
+        assert_eq!(Rule::from_code(rule.code()), Some(*rule));
+        assert!(rules.contains(&format!("| {} | {} |", rule.code(), rule.name())), "{rule} is not in RULES.md");
+    }
+    let codes: BTreeSet<&str> = rules.lines().filter_map(|line| line.strip_prefix("| ")?.split(' ').next()).collect();
+    let is_rule = |code: &&&str| {
+        let (group, number) = code.split_at(code.len().min(1));
+        "EAUGKSRYCZ".contains(group) && number.bytes().all(|b| b.is_ascii_digit()) && !number.is_empty()
+    };
+    assert_eq!(codes.iter().filter(is_rule).count(), Rule::ALL.len());
+}
+
+#[test]
+fn threads() {
+    thread::scope(|scope| {
+        for _ in 0..8 {
+            scope.spawn(|| (0..1000).for_each(|_| assert!(dwv::check(SAMPLE).is_ok())));
+        }
+    });
+}
