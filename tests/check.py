@@ -18,7 +18,7 @@ import common
 
 SOUND, COUNTS = common.SAMPLE.read_bytes(), "{} files with debugging information, {} ELF files without, {} other files"
 G1 = "fault G1 UndeclaredCode at .debug_info+0x0000000f attribute 0x0"
-tally = common.Tally(54)
+tally = common.Tally(45)
 
 
 def run(name, status, counts, table, listed, *words, last=None, **env):

@@ -207,7 +207,7 @@ def compilers_write(folder):
         if path is None:
             continue
         if word.startswith("declared") and not has_pyelftools():
-            tally.skip("pyelftools is not installed")
+            tally.lack("pyelftools is not installed")
             continue
         status, text, errors = run(path)
         is_right = text.startswith(f"fault {rule} ") and word in " ".join(text.split()) and status == 1

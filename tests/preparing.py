@@ -24,7 +24,7 @@ union both { struct point p; long l; } both; enum colour { RED, GREEN = 300 } co
 typedef int (*call)(struct point *, ...); call called;
 int sum(struct point *p) { static struct point last; last = *p; return p->x + p->y + many[1]; }
 """
-tally = common.Tally(60)
+tally = common.Tally(40)
 
 
 def run(*words, **env):
@@ -324,7 +324,7 @@ def sizes(folder):
 def main():
     common.build()
     if common.run(common.PYTHON, "-c", "import elftools")[0]:
-        tally.skip("pyelftools is not installed")
+        tally.lack("pyelftools is not installed")
         return tally.end()
     with common.empty_folder() as folder:
         sizes(folder)
