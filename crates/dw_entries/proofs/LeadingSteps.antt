@@ -1,5 +1,5 @@
 -- One step of a walk over the values that may lead elsewhere.
-use Rattle.std.proofs.Common.{rules, ◌≡◌, ℕ, zero, suc, ◌-◌, ◌≤◌, ◌⊎◌, true, false, List, [], ◌∷◌, ◌++◌, length, take, drop, map, Some, None, Ok, Err, refl, sym, ap, subst, ◌∙◌, arith}
+use Rattle.std.proofs.Common.{rules, ◌≡◌, ℕ, zero, suc, ◌-◌, ◌≤◌, ◌⊎◌, true, List, [], ◌∷◌, ◌++◌, length, take, drop, map, Some, None, Result, Ok, Err, refl, sym, ap, subst, ◌∙◌, arith}
 use Rattle.std.specs.Prelude.{slice_get, option_map}
 use Rattle.std.proofs.lemmas.Bool.{ltb-false}
 use Rattle.std.proofs.lemmas.List.{take-append-drop}
@@ -16,7 +16,9 @@ use Rattle.dw_forms.specs.Plans.{known_sum, cut_at}
 use Rattle.dw_forms.specs.Suffixes.{nodes_of, numbered, specs_in, Ends}
 use Rattle.dw_forms.specs.Value.{Datum}
 use Rattle.dw_forms.specs.ValueReading.{value_at}
-use Rattle.dw_forms.specs.Walks.{does_lead, IsStep}
+use Rattle.dw_forms.specs.Sizes.{rest_at}
+use Rattle.dw_forms.specs.Steps.{◌>>=◌}
+use Rattle.dw_forms.specs.Walks.{does_lead, lead_of, IsStep}
 use Rattle.dw_forms.proofs.ChainLaws.{chain_none}
 use Rattle.dw_forms.proofs.PartLaws.{known_at}
 use Rattle.dw_forms.proofs.PassSteps.{run, items_append}
@@ -25,17 +27,26 @@ use Rattle.dw_forms.proofs.WalkSteps.{GoesTo, goes_to, step_none, step_within, s
 use Rattle.dw_entries.specs.Asked.{value_of}
 use Rattle.dw_entries.specs.Chosen.{ArePassed, IsNextOf}
 use Rattle.dw_entries.specs.Grammar.{Context, AreAttributes}
-use Rattle.dw_entries.specs.Leading.{DoesNotLead, LeadsIn}
+use Rattle.dw_entries.specs.Leading.{DoesNotLead, LeadsIn, IsPassedBy, lead_with}
 use Rattle.dw_entries.specs.declared.values.Values.{Values}
 use Rattle.dw_entries.specs.Values.{value_context, Left, form_there}
 use Rattle.dw_entries.proofs.ChosenSteps.{front_passed, all_passed}
 use Rattle.dw_entries.proofs.PassLaws.{Passed, those}
 use Rattle.dw_entries.proofs.ScanLaws.{rest_of}
-use Rattle.dw_entries.proofs.ValueSteps.{left_goes, never_fails, next_left, read_on, steps}
+use Rattle.dw_entries.proofs.ValueSteps.{left_goes, never_fails, next_left, first_value, read_on, steps}
 
 -- what was cut off
 cut_is : (len : ℕ) (bytes rest : List ℕ) → cut_at len bytes ≡ Ok rest → (len ≤ length bytes) × (rest ≡ drop len bytes)
 cut_is len bytes rest e = search (rules, ltb-false)
+
+-- a value, by the bytes after it
+value_there : (r : Result (Datum × List ℕ) ValueFault) (rest : List ℕ) → (r >>= λ x. Ok x.1) ≡ Ok rest → (d : Datum) × (r ≡ Ok (d, rest))
+value_there (Ok x) rest e = let same : x.1 ≡ rest = cc in (x.0, ap (λ (b : List ℕ). Ok (x.0, b)) same)
+value_there (Err f) rest e = absurd cc
+
+none_there_at : (r : Result (Datum × List ℕ) ValueFault) (f : ValueFault) → (r >>= λ x. Ok x.1) ≡ Err f → r ≡ Err f
+none_there_at (Ok x) f e = absurd cc
+none_there_at (Err g) f e = let same : g ≡ f = cc in ap (λ (h : ValueFault). Err h) same
 
 -- ---- the attribute that a step goes to
 
@@ -120,6 +131,9 @@ module _ (v : Values) (step : Step) (skip : ℕ) (is : IsStep (numbered v.attrib
   same : spec.form ≡ form
   same = form_is v.attributes step is there nodes_are first_is form spec rest asked ends
 
+  begins : numbered_in (nodes_of v.attributes) step.to ≡ record { number = step.to; item = spec } ∷ numbered_in (nodes_of there) rest.first
+  begins = (λ i. numbered_in (sym nodes_are i) (sym first_is i)) ∙ ends.parts ∙ ap (λ (n : ℕ). record { number = n; item = spec } ∷ numbered_in (nodes_of there) rest.first) first_is
+
   -- it leads elsewhere or its value has no one size, and it has the form that was asked
   pub leads_in : LeadsIn spec.attribute form (specs_in v.attributes) (specs_in rest)
   leads_in = record {
@@ -127,7 +141,7 @@ module _ (v : Values) (step : Step) (skip : ℕ) (is : IsStep (numbered v.attrib
     spec = spec;
     parts = parts_there v.attributes step is there nodes_are first_is g spec rest ends;
     none_leads = g.none_leads;
-    stops = g.stops spec (numbered_in (nodes_of there) rest.first) ((λ i. numbered_in (sym nodes_are i) (sym first_is i)) ∙ ends.parts ∙ ap (λ (n : ℕ). record { number = n; item = spec } ∷ numbered_in (nodes_of there) rest.first) first_is);
+    stops = g.stops spec (numbered_in (nodes_of there) rest.first) begins;
     has_code = refl;
     has_form = same;
   }
@@ -135,8 +149,25 @@ module _ (v : Values) (step : Step) (skip : ℕ) (is : IsStep (numbered v.attrib
   pub allowed : is_allowed v.version form ≡ true
   allowed = rw same at (left_goes x (spec ∷ specs_in rest) spec (specs_in rest) slice left refl).is.allowed
 
+  -- the lead is that of the attribute
+  pub lead_is : lead_of spec ≡ step.lead
+  lead_is =
+      sym (g.leads spec (numbered_in (nodes_of there) rest.first) begins) ∙ sym is.lead
+
+  pub lead_with_is : lead_with spec.attribute form ≡ step.lead
+  lead_with_is = ap (lead_with spec.attribute) (sym same) ∙ lead_is
+
+  -- it is there where the bytes after it are
+  pub skipped : (len : ℕ) → rest_at v.version form v.address_size slice ≡ Ok (drop len slice) → (d : Datum) × (value_at v.version form v.address_size slice ≡ Ok (d, drop len slice))
+  unfolding rest_at
+  skipped len e = value_there (value_at v.version form v.address_size slice) (drop len slice) e
+
   pub never : (f : ValueFault) → value_at v.version form v.address_size slice ≡ Err f → ⊥
   never f read = never_fails x (spec ∷ specs_in rest) spec (specs_in rest) slice left refl f ((λ i. value_at v.version (same i) v.address_size slice) ∙ read)
+
+  pub never_cut : (f : ValueFault) → rest_at v.version form v.address_size slice ≡ Err f → ⊥
+  unfolding rest_at
+  never_cut f e = never f (none_there_at (value_at v.version form v.address_size slice) f e)
 
   module _ (d : Datum) (len : ℕ) (within : len ≤ length slice) (read : value_at v.version form v.address_size slice ≡ Ok (d, drop len slice)) where
     abbrev after : List ℕ
@@ -159,4 +190,14 @@ module _ (v : Values) (step : Step) (skip : ℕ) (is : IsStep (numbered v.attrib
           passed = take k values;
           parts = sym (take-append-drop k values) ∙ ap (λ (xs : List (ℕ × Datum)). take k values ++ xs) (sym here.values ∙ next);
           are_passed = front_passed does_lead x (items_of g.before) (spec ∷ specs_in rest) v.left.0.0 (subst (λ (ss : List AttributeSpec). AreAttributes x ss v.left.0.0) parts v.left.1.are) g.none_leads;
+        }
+
+    -- or it is passed
+    pub passed_by : (m : Left x (specs_in rest) after) → IsPassedBy step.lead (map value_of v.left.0.0) (map value_of m.0.0)
+    passed_by m =
+        let goes = left_goes x (spec ∷ specs_in rest) spec (specs_in rest) slice left refl in
+        record {
+          found = (spec.attribute, d);
+          declared = record { context = x; spec = spec; passes = lead_is; declared = goes.first; is_attribute = goes.is; is_item = first_value x (spec ∷ specs_in rest) spec (specs_in rest) slice left refl d after found_there };
+          next = found m;
         }

@@ -20,6 +20,7 @@ pub mod ValueSteps
 pub mod PassLaws
 pub mod ChosenSteps
 pub mod LeadingSteps
+pub mod LeadValues
 pub mod EntryFacts
 pub mod KeptLaws
 pub mod LeftLaws

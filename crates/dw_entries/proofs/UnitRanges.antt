@@ -137,7 +137,7 @@ firsts_from at first (u ∷ us) (suc i) (suc j) p q le is_p is_q =
 
 module _ (a info : List ℕ) (tables : Tables) (rs : List UnitRecord) (records : List Record) (s : Scanned a info tables rs records) where
   -- what is kept of a unit says where its first entry is
-  kept_first : (n : ℕ) (u : UnitRecord) → slice_get rs n ≡ Some u → (p : PlacedUnit) × (slice_get (placed (found_units s)) n ≡ Some p) × (u.first ≡ p.first)
+  pub kept_first : (n : ℕ) (u : UnitRecord) → slice_get rs n ≡ Some u → (p : PlacedUnit) × (slice_get (placed (found_units s)) n ≡ Some p) × (u.first ≡ p.first)
   kept_first n u is =
       let within = slice_get_within rs n u is in
       let k = kept_unit a info tables rs records s n (omega (arith, within, units_counted a info tables rs records s)) in

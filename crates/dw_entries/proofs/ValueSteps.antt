@@ -43,12 +43,14 @@ module _ (x : Context) (gs : List AttributeSpec) (s : AttributeSpec) (ss : List 
     pub next_left : Left x ss rest
     next_left = ((left_goes.others, l.0.1), record { are = left_goes.are; spelled = sym value_is.1 })
 
+    pub first_value : value_of left_goes.first ≡ (s.attribute, v)
+    first_value = let c : left_goes.first.code ≡ s.attribute = left_goes.is.code in λ i. (c i, value_is.0 i)
+
     pub steps : (m : Left x ss rest) → map value_of l.0.0 ≡ (s.attribute, v) ∷ map value_of m.0.0
     unfolding next_left
     steps m =
         let same : m.0.0 ≡ left_goes.others = ap (λ (z : Left x ss rest). z.0.0) (left_unique x ss rest m next_left) in
-        let one : value_of left_goes.first ≡ (s.attribute, v) = let c : left_goes.first.code ≡ s.attribute = left_goes.is.code in λ i. (c i, value_is.0 i) in
-        ap (map value_of) left_goes.parts ∙ ap (λ (b : List Attribute). value_of left_goes.first ∷ map value_of b) (sym same) ∙ ap (λ (b : ℕ × Datum). b ∷ map value_of m.0.0) one
+        ap (map value_of) left_goes.parts ∙ ap (λ (b : List Attribute). value_of left_goes.first ∷ map value_of b) (sym same) ∙ ap (λ (b : ℕ × Datum). b ∷ map value_of m.0.0) first_value
 
 -- where none of these attributes has a code, no value has it
 pub value_of_none : (x : Context) (specs : List AttributeSpec) (bs : List Attribute) (attribute : ℕ) → AreAttributes x specs bs → declares specs attribute ≡ false → None ≡ value_in (map value_of bs) attribute

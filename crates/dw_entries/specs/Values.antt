@@ -1,5 +1,5 @@
 -- State: the attributes of an entry that are still to be read.
-use Rattle.std.specs.Prelude.{◌≡◌, ℕ, List, [], ◌++◌, Option, option_map, slice_get}
+use Rattle.std.specs.Prelude.{◌≡◌, ℕ, List, [], ◌++◌, Option, Some, option_map, slice_get}
 use Rattle.std.specs.List.{flat_map}
 use Rattle.dw_forms.specs.declared.attributes.Attributes.{Attributes}
 use Rattle.dw_forms.specs.declared.decl.AttributeSpec.{AttributeSpec}
@@ -25,3 +25,7 @@ Left x specs bytes = (found : List Attribute × List ℕ) × Begin x specs bytes
 -- the form of the attribute of this number, among those that are kept
 abbrev pub form_there : Attributes → ℕ → Option Form
 form_there a number = option_map (λ (spec : AttributeSpec). spec.form) (slice_get (list_in (nodes_of a) number) 0)
+
+-- there is an attribute of this number
+abbrev pub IsThere : Attributes → ℕ → Type 0
+IsThere a number = (form : Form) × (form_there a number ≡ Some form)

@@ -67,6 +67,16 @@ impl<'a> Entries<'a> {
             end: 0,
         }
     }
+
+    /// The number of the first entry of a unit, and the number after that of its last entry.
+    pub fn range(&self, unit: usize) -> (usize, usize)
+        requires { unit < length (units_of self.now) }
+        ensures first { IfSome (slice_get (all_units self.now) unit) (λ p. result.0 ≡ p.first) }
+        ensures end { IfSome (slice_get (all_units self.now) unit)
+            (λ p. result.1 ≡ p.first + node_count p.unit.root) }
+    {
+        (self.units[unit].first as usize, end_of(self, unit))
+    }
 }
 
 impl<'e, 'a> Cursor<'e, 'a> {

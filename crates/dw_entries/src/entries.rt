@@ -80,8 +80,8 @@ impl Entries<'_> {
         unit_number(self, id)
     }
 
-    /// How many entries are above an entry. Each of them is looked at.
-    pub(crate) fn depth(&self, id: EntryId) -> usize
+    /// How many entries are above an entry. Each of them is looked at, and no unit is.
+    pub fn depth(&self, id: EntryId) -> usize
         requires { id < length (all_entries self.now) }
         ensures { IfSome (slice_get (all_entries self.now) id) (λ e. result ≡ e.depth) }
     {

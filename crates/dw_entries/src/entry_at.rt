@@ -72,6 +72,16 @@ impl<'a> Entries<'a> {
         EntryAt::new(self, id, unit_number(self, id))
     }
 
+    /// The entry with this number, which is one of this unit. The unit is not looked up.
+    #[inline(always)]
+    pub fn at_in(&self, id: EntryId, unit: usize) -> EntryAt<'_, 'a>
+        requires id { id < length (all_entries self.now) }
+        requires unit { IfSome (slice_get (all_entries self.now) id) (λ e. unit ≡ e.unit) }
+        ensures { result ≡ slice_get (all_entries self.now) id }
+    {
+        EntryAt::new(self, id, unit)
+    }
+
     /// The parent of an entry. None at the first entry of a unit. Its unit is not looked up.
     #[inline(always)]
     pub fn parent(&self, id: EntryId) -> Option<EntryId>

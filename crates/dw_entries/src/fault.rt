@@ -10,7 +10,7 @@ use std::alloc::Global;
 /// A rule. The letter of its code names the group that it belongs to, and the number its place there.
 #[derive(Clone, Copy, Debug, PartialEq, Eq)]
 pub enum Rule {
-    /// A1: a part of a declaration passes the end of .debug_abbrev.
+    /// A1: a part of a declaration, or the end of the table, passes the end of `.debug_abbrev`.
     AbbrevCut,
     /// A2: a number in a table has more than 10 bytes or more than 64 bits.
     AbbrevNumber,
@@ -26,51 +26,56 @@ pub enum Rule {
     UnknownForm,
     /// A8: a declaration has an attribute twice.
     AttributeTwice,
-    /// U1: a unit passes the end of .debug_info, or its header passes the unit's end.
+    /// U1: a unit passes the end of `.debug_info`, or its header passes the unit's end.
     UnitCut,
-    /// U2: the length is one of 64-bit DWARF or reserved.
+    /// U2: the unit's length is 0xfffffff0 or more, which means 64-bit DWARF or is reserved.
     Not32Bit,
     /// U3: the version is neither 4 nor 5.
     BadVersion,
-    /// U4: the unit's type is not compile, type or partial.
+    /// U4: the type of a unit of version 5 is not compile (1), type (2) or partial (3).
     BadUnitType,
     /// U5: an address has neither 4 nor 8 bytes.
     BadAddressSize,
-    /// U6: no byte of .debug_abbrev is at the table's offset.
+    /// U6: no byte of `.debug_abbrev` is at the table's offset.
     BadAbbrevOffset,
     /// U7: a null or nothing is in place of the unit's first entry.
     NoUnitEntry,
     /// U8: the first entry's tag is not the one of the unit's type.
     WrongUnitTag,
-    /// U9: something else than nulls is after the tree.
+    /// U9: something other than nulls follows the unit's tree.
     LeftOver,
-    /// G1: the table has no declaration with the code.
+    /// G1: the unit's table has no declaration with the code.
     UndeclaredCode,
     /// G2: a code or a value passes the unit's end.
     Cut,
     /// G3: a code, or a number in a value, has more than 10 bytes or more than 64 bits.
     BadNumber,
-    /// G4: the value names no form that may come after the form indirect.
+    /// G4: an indirect value names no form, a form that it may not name, or a form that the unit's version does not
+    /// have.
     BadIndirect,
-    /// G5: Version 4 does not have the form.
+    /// G5: the unit has version 4, and version 4 does not have the form of an attribute.
     FormVersion,
-    /// K1: the value's class is none of the attribute's.
+    /// K1: the value has none of the classes that the attribute may have.
     WrongClass,
-    /// S1: the base leads to no contribution of string offsets, or there is none.
+    /// S1: the header before the unit's base in `.debug_str_offsets` is malformed, or the unit names no base and has an
+    /// indexed string.
     BadStrBase,
-    /// S2: the contribution has no string of the index.
+    /// S2: the index of a string is not below the number of slots of the unit's contribution to `.debug_str_offsets`.
     StrIndex,
-    /// S3: no zero byte ends the string.
+    /// S3: a string starts outside its section, or no zero byte ends it there.
     StringEnd,
-    /// S4: the base leads to no contribution of addresses, or there is none.
+    /// S4: the header before the unit's base in `.debug_addr` is malformed, or the unit names no base and has an
+    /// indexed address.
     BadAddrBase,
-    /// S5: the contribution has no address of the index.
+    /// S5: the index of an address is not below the number of slots of the unit's contribution to `.debug_addr`.
     AddrIndex,
-    /// R1: no entry starts where the reference leads.
+    /// R1: no entry starts at the offset that a reference refers to, in its unit or, in form ref_addr, in
+    /// `.debug_info`.
     NoEntry,
-    /// R2: the entry reached is of a kind that the attribute does not permit.
+    /// R2: a reference has a form that its attribute does not permit, or refers to an entry of a kind that it does not
+    /// permit.
     WrongKind,
-    /// R3: a sibling attribute does not lead to the next sibling.
+    /// R3: a sibling attribute refers to another entry than the next sibling, or there is no next sibling.
     NotNextSibling,
     /// R4: no type unit has the signature.
     NoSignature,
@@ -78,19 +83,21 @@ pub enum Rule {
     SignatureTwice,
     /// R6: no type of the type unit starts at its type offset.
     BadTypeOffset,
-    /// Y1: an array or a member has no type.
+    /// Y1: an array or a plain member has neither a type nor a DW_AT_specification nor a DW_AT_abstract_origin.
     MissingType,
-    /// Y2: the count of a dimension is below 0.
+    /// Y2: a dimension has a known count below 0.
     BadCount,
     /// C1: a type contains itself by value.
     ContainsItself,
-    /// Z1: nothing gives the type's size.
+    /// Z1: a base type, or a structure or union that is not declared, has no size; or a byte size that is read, or the
+    /// stride of an array without a byte size, is negative.
     NoSize,
     /// Z2: a size is 2^63 or more.
     SizeTooGreat,
-    /// Z3: a member does not lie in its container.
+    /// Z3: a plain member ends outside its structure or union.
     MemberOutside,
-    /// Z4: the size of an enumeration is unknown, or differs from that of its type.
+    /// Z4: an enumeration that is not declared has neither a byte size nor a type nor a DW_AT_specification nor a
+    /// DW_AT_abstract_origin, or its byte size is not the size of its type.
     EnumSize,
 }
 

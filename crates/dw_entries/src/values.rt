@@ -1,6 +1,6 @@
 //! The attributes of an entry, each value decoded on demand.
 
-ghost use Rattle.std.specs.Prelude.{◌≡◌, ◌∷◌, [], Some, IfNone, List, drop, length, IfSome, OnSome, MatchOption};
+ghost use Rattle.std.specs.Prelude.{◌≡◌, ◌∷◌, [], true, Some, IfNone, List, drop, length, IfSome, OnSome, MatchOption};
 ghost use Rattle.dw_forms.specs.Suffixes.{numbered, specs_in, Ends};
 ghost use Rattle.dw_forms.specs.Walks.{IsStep};
 ghost use Rattle.dw_forms.specs.declared.decl.AttributeSpec.{AttributeSpec as SpecData};
@@ -10,7 +10,7 @@ ghost use Rattle.dw_entries.specs.Values.{value_context, Left, form_there};
 ghost use Rattle.dw_entries.specs.Choices.{size_unique};
 ghost use Rattle.dw_entries.specs.ValueLaws.{left_unique};
 
-use dw_forms::{Attribute, Attributes, Form, Step, Value, read_value};
+use dw_forms::{Attribute, Attributes, Form, Lead, Step, Value, read_value, skip_value};
 
 /// A walk over the values of an entry, up to the last that may lead elsewhere. It reads these, and before the last one
 /// those whose forms have no one size.
@@ -24,7 +24,10 @@ pub struct Leading<'e, 'a> {
 
 impl<'a> Leading<'_, 'a> {
     ghost use Rattle.dw_entries.specs.Chosen.{ArePassed, IsNextOf};
-    ghost use Rattle.dw_entries.specs.Leading.{next_form, leading_left, leading_specs, DoesNotLead, LeadsIn};
+    ghost use Rattle.dw_forms.specs.Value.{view, str, str_index, ref_unit, addr_index};
+    ghost use Rattle.dw_entries.specs.Leading.{next_form, next_lead, leading_left, leading_specs, DoesNotLead, LeadsIn};
+    ghost use Rattle.dw_entries.specs.Leading.{IsTaken, IsPassedBy, IsMade, EndsAtNothing, is_reference_lead};
+    ghost use Rattle.dw_entries.specs.Leading.{LeadsToText, LeadsByIndex1, LeadsByIndex2, LeadsToAddress, LeadsNowhere};
     ghost use Rattle.dw_entries.specs.ValuesLeft.{viewed};
 
     /// The form of the next attribute, if one is left.
@@ -50,6 +53,107 @@ impl<'a> Leading<'_, 'a> {
         self.step = next;
         item
     }
+
+    /// The lead of the next value: what its attribute and its form say about it. `Nothing` if no value is left that
+    /// may lead elsewhere.
+    #[inline(always)]
+    pub fn lead(&self) -> Lead
+        ensures lead { result ≡ next_lead self.now }
+        ensures nothing { EndsAtNothing result (ArePassed DoesNotLead (leading_left self.now)) }
+    {
+        self.step.lead
+    }
+
+    /// The next value, whose form is this one.
+    #[inline(always)]
+    fn take_in(&mut self, form: Form) -> (Attribute, Value<'a>)
+        requires { next_form self.old ≡ Some form }
+        ensures taken { IsTaken (next_lead self.old) (leading_left self.old) (viewed result) (leading_left self.new) }
+        ensures made { IsMade self.old.values.version form self.old.values.address_size (view result.1) }
+    {
+        let (item, after) = self.values.step_to(self.step, form);
+        self.step = after;
+        item
+    }
+
+    /// The next value, which is the offset of a string in .debug_str, and its attribute.
+    #[inline(always)]
+    pub fn take_text(&mut self) -> (Attribute, u32)
+        requires { LeadsToText self.old }
+        ensures { IsTaken (next_lead self.old) (leading_left self.old) (result.0, str result.1)
+            (leading_left self.new) }
+    {
+        let item = self.take_in(Form::Strp);
+        match item.1 {
+            Value::Str(offset) => (item.0, offset),
+            _ => unreachable!(),
+        }
+    }
+
+    /// The next value, which is a reference of four bytes, and its attribute.
+    #[inline(always)]
+    pub fn take_reference(&mut self) -> (Attribute, u64)
+        requires { is_reference_lead (next_lead self.old) ≡ true }
+        ensures { IsTaken (next_lead self.old) (leading_left self.old) (result.0, ref_unit result.1)
+            (leading_left self.new) }
+    {
+        let item = self.take_in(Form::Ref4);
+        match item.1 {
+            Value::RefUnit(offset) => (item.0, offset),
+            _ => unreachable!(),
+        }
+    }
+
+    /// The next value, which is the index of a string in one byte, and its attribute.
+    #[inline(always)]
+    pub fn take_index1(&mut self) -> (Attribute, u64)
+        requires { LeadsByIndex1 self.old }
+        ensures { IsTaken (next_lead self.old) (leading_left self.old) (result.0, str_index result.1)
+            (leading_left self.new) }
+    {
+        let item = self.take_in(Form::Strx1);
+        match item.1 {
+            Value::StrIndex(index) => (item.0, index),
+            _ => unreachable!(),
+        }
+    }
+
+    /// The next value, which is the index of a string in two bytes, and its attribute.
+    #[inline(always)]
+    pub fn take_index2(&mut self) -> (Attribute, u64)
+        requires { LeadsByIndex2 self.old }
+        ensures { IsTaken (next_lead self.old) (leading_left self.old) (result.0, str_index result.1)
+            (leading_left self.new) }
+    {
+        let item = self.take_in(Form::Strx2);
+        match item.1 {
+            Value::StrIndex(index) => (item.0, index),
+            _ => unreachable!(),
+        }
+    }
+
+    /// The next value, which is the index of an address, and its attribute.
+    #[inline(always)]
+    pub fn take_address(&mut self) -> (Attribute, u64)
+        requires { LeadsToAddress self.old }
+        ensures { IsTaken (next_lead self.old) (leading_left self.old) (result.0, addr_index result.1)
+            (leading_left self.new) }
+    {
+        let item = self.take_in(Form::Addrx);
+        match item.1 {
+            Value::AddrIndex(index) => (item.0, index),
+            _ => unreachable!(),
+        }
+    }
+
+    /// Passes the next value, which leads nowhere. It is not decoded.
+    #[inline(always)]
+    pub fn pass(&mut self)
+        requires { LeadsNowhere self.old }
+        ensures { IsPassedBy (next_lead self.old) (leading_left self.old) (leading_left self.new) }
+    {
+        self.step = self.values.step_past(self.step);
+    }
 }
 
 /// The attributes of an entry that are left, in their order. Its values lie in .debug_info.
@@ -69,7 +173,8 @@ impl<'e, 'a> Values<'e, 'a> {
     ghost use Rattle.dw_forms.specs.Value.{view};
     ghost use Rattle.dw_forms.specs.Plans.{is_stop};
     ghost use Rattle.dw_entries.specs.ValuesLeft.{viewed, values_left, specs_left};
-    ghost use Rattle.dw_entries.specs.Leading.{DoesNotLead, LeadsIn};
+    ghost use Rattle.dw_entries.specs.Leading.{DoesNotLead, LeadsIn, IsMade, IsPassedBy, lead_with};
+    ghost use Rattle.dw_entries.specs.Values.{IsThere};
     ghost use Rattle.dw_entries.specs.Lookups.{value_in};
     ghost use Rattle.dw_entries.specs.Chosen.{DoesNotStop, ArePassed, IsNextOf, TakesFirst};
 
@@ -114,6 +219,8 @@ impl<'e, 'a> Values<'e, 'a> {
         ensures found { IsNextOf DoesNotLead (values_left self.old) (viewed result.0) (values_left self.new) }
         ensures leads { LeadsIn result.0.0 form (specs_in self.old.attributes) (specs_in self.new.attributes) }
         ensures step { IsStep (numbered self.new.attributes) result.1 }
+        ensures lead { lead_with result.0.0 form ≡ step.lead }
+        ensures made { IsMade self.old.version form self.old.address_size (view result.0.1) }
     {
         let there = self.attributes.stepped(step);
         let Some((spec, rest, next)) = there.split_step() else {
@@ -151,6 +258,34 @@ impl<'e, 'a> Values<'e, 'a> {
                 self.attributes = after;
                 self.bytes = &self.bytes[len..];
                 Some((spec.attribute, value))
+            }
+            Err(_) => unreachable!(),
+        }
+    }
+
+    /// The step from the attributes after the one that a step goes to, up to which values are skipped.
+    #[inline(always)]
+    pub(crate) fn step_past(&mut self, step: Step) -> Step
+        requires step { IsStep (numbered self.old.attributes) step }
+        requires some { IsThere self.old.attributes step.to }
+        ensures passed { IsPassedBy step.lead (values_left self.old) (values_left self.new) }
+        ensures step { IsStep (numbered self.new.attributes) result }
+    {
+        let stop = self.attributes.stepped(step);
+        let Some((spec, others, next)) = stop.split_step() else {
+            unreachable!();
+        };
+        let skip = if self.address_size == 8 {
+            step.skip_with_8
+        } else {
+            step.skip_with_4
+        };
+        let bytes = &self.bytes[skip as usize..];
+        match skip_value(self.version, spec.form, self.address_size, bytes) {
+            Ok(len) => {
+                self.attributes = others;
+                self.bytes = &bytes[len..];
+                next
             }
             Err(_) => unreachable!(),
         }

@@ -48,11 +48,11 @@ views_same nodes more (k ∷ kept) within =
 pub tables_same : (old new : List Node) (kept : List KeptDecl) → Stay old new → AreWithin old kept → tables_of new kept ≡ tables_of old kept
 tables_same old new kept stay within = ap (λ (nodes : List Node). tables_of nodes kept) stay.1 ∙ ap chains_of (views_same old stay.0 kept within)
 
-pub has_stays : (old new : List Node) (first : ℕ) (step : Step) → Stay old new → HasList old first step → HasList new first step
-has_stays old new first step stay has = search (rules, lists_stay, length-append)
+pub has_stays : (old new : List Node) (first : ℕ) (step : Step) (declared : Option Bool) → Stay old new → HasList old first step declared → HasList new first step declared
+has_stays old new first step declared stay has = search (rules, lists_stay, length-append)
 
 pub within_stays : (old new : List Node) (kept : List KeptDecl) → Stay old new → AreWithin old kept → AreWithin new kept
-within_stays old new kept stay within k d less = has_stays old new _ _ stay (within k d less)
+within_stays old new kept stay within k d less = has_stays old new _ _ _ stay (within k d less)
 
 -- ---- how codes are found
 

@@ -34,5 +34,6 @@ pub mod ValueAnswers
 pub mod PassSteps
 pub mod PassTurns
 pub mod SuffixLaws
+pub mod LeadLaws
 pub mod WalkSteps
 pub mod SpecLaws

@@ -57,7 +57,10 @@ module _ {section : List ℕ} {nodes : List Node} {old : Tables} {offset rest : 
       (twice_none section s.at leads.next (kept_view nodes s.item) (table_in old rest) popped.1.is leads.table.table (code_twice s.item.code (table_in old rest) added.0))
 
   pub turn_new : (starts : List ℕ) → AreNew starts all → NothingAt starts s.at × AreNew (starts ++ s.at ∷ []) left
-  turn_new starts are = search (rules, new_pop, new_stay, popped)
+  turn_new starts are =
+      let (new, nothing) = new_pop starts left s (subst (AreNew starts) parts are) in
+      let (along, is) = popped in
+      (nothing, search (rules, new_stay))
 
   module _ (new : Tables) (number : ℕ) (added : IsAddedTable (kept_view nodes s.item) rest old new (Some number)) where
     pub turn_stay : Stay old new

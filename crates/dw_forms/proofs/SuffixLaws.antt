@@ -1,9 +1,9 @@
 -- Attributes from one on: the first of them, those after it, and those from the next one of a kind on.
 use Rattle.std.proofs.lemmas.Grind.{common_steps}
 use Rattle.std.proofs.Common.{rules, ◌≡◌, ◌≢◌, ℕ, ◌-◌, ◌≤◌, Bool, true, false, List, [], ◌∷◌, ◌++◌, length, take, Result, Ok, Err, refl, sym, ap, subst, ◌∙◌, append_assoc, append-nil, arith}
-use Rattle.std.specs.Prelude.{All}
+use Rattle.std.specs.Prelude.{All, find, Some, None}
 use Rattle.std.specs.List.{list_any, slice_range}
-use Rattle.std.proofs.lemmas.Bool.{eqb-true}
+use Rattle.std.proofs.lemmas.Bool.{eqb-true, or_parts}
 use Rattle.std.proofs.lemmas.List.{length-append, get_or_append_left, get_or_at}
 use Rattle.dw_forms.specs.declared.decl.AttributeSpec.{AttributeSpec}
 use Rattle.dw_forms.specs.declared.attribute_lists.Node.{Node}
@@ -12,7 +12,7 @@ use Rattle.dw_forms.specs.declared.value.ValueFault.{ValueFault}
 use Rattle.dw_forms.specs.AttributeLists.{IsKnown, spec_of, numbered_in, specs_of, has_this}
 use Rattle.dw_forms.specs.Chains.{Numbered, items_of, number_where, number_in, codes_in}
 use Rattle.dw_forms.specs.FirstPlaces.{StandsFirst, ReadsFirst, value_behind}
-use Rattle.dw_forms.specs.Plans.{values_end}
+use Rattle.dw_forms.specs.Plans.{values_end, known_flag, flag_by, flag_in}
 use Rattle.dw_forms.specs.Steps.{◌>>=◌}
 use Rattle.dw_forms.specs.Suffixes.{nodes_of, numbered, specs_in, Ends, IsFrom}
 use Rattle.dw_forms.specs.Value.{Datum}
@@ -99,6 +99,31 @@ module _ (all : Attributes) (code : ℕ) where
 
     pub found_within : found ≤ length (nodes_of all)
     found_within = let w = number_is_within (has_this code) all in omega (arith, found_is, w)
+
+-- ---- a flag, as its form says
+
+find_none : (code : ℕ) (specs : List AttributeSpec) → list_any (has_this code) specs ≡ false → find (has_this code) specs ≡ None
+find_none code [] none = refl
+find_none code (s ∷ specs) none =
+    let parts = or_parts (has_this code s) (list_any (has_this code) specs) none in
+    rw parts.0 (find_none code specs parts.1)
+
+find_first : (code : ℕ) (front : List AttributeSpec) (spec : AttributeSpec) (back : List AttributeSpec) → list_any (has_this code) front ≡ false → has_this code spec ≡ true → find (has_this code) (front ++ spec ∷ back) ≡ Some spec
+find_first code [] spec back none is = rw is refl
+find_first code (s ∷ front) spec back none is =
+    let parts = or_parts (has_this code s) (list_any (has_this code) front) none in
+    rw parts.0 (find_first code front spec back parts.1 is)
+
+module _ (code : ℕ) (all found : Attributes) (is : IsFrom (has_this code) all found) where
+  pub flag_none : specs_in found ≡ [] → flag_in code (specs_in all) ≡ Some false
+  flag_none none = ap flag_by (find_none code (specs_in all) (none_follow (has_this code) all found is none))
+
+  pub flag_some : (spec : AttributeSpec) (rest : Attributes) → Ends found rest (record { number = found.first; item = spec } ∷ []) → flag_in code (specs_in all) ≡ known_flag spec.form
+  flag_some spec rest first =
+      let f = follow (has_this code) all found is in
+      let parts : specs_in all ≡ items_of f.before ++ (spec ∷ specs_in rest) =
+      specs_ends all found f.before f.ends ∙ ap (λ (specs : List AttributeSpec). items_of f.before ++ specs) (first_specs found rest spec first) in
+      ap flag_by (ap (find (has_this code)) parts ∙ find_first code (items_of f.before) spec (specs_in rest) f.none (f.passes spec rest first))
 
 -- ---- its value
 

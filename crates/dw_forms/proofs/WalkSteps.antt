@@ -10,8 +10,10 @@ use Rattle.dw_forms.specs.declared.attribute_lists.Step.{Step}
 use Rattle.dw_forms.specs.AttributeLists.{spec_of, numbered_in, varies, IsKnown, AreKnown, EndsWith}
 use Rattle.dw_forms.specs.Chains.{Numbered, items_of}
 use Rattle.dw_forms.specs.Plans.{does_vary, known_size, known_sum}
-use Rattle.dw_forms.specs.Walks.{does_lead, stops_at, step_in, skip_in, IsStep}
+use Rattle.dw_forms.specs.declared.attribute_lists.Lead.TheVariants.{Nothing}
+use Rattle.dw_forms.specs.Walks.{does_lead, stops_at, step_in, skip_in, lead_of, lead_in, IsStep}
 use Rattle.dw_forms.proofs.ChainLaws.{chain_none}
+use Rattle.dw_forms.proofs.LeadLaws.{lead_says}
 use Rattle.dw_forms.proofs.PartLaws.{known_at, none_both}
 
 -- ---- one attribute
@@ -23,6 +25,14 @@ stops_first n list is = rw is refl
 stops_later : (n : Numbered AttributeSpec) (list : List (Numbered AttributeSpec)) → stops_at (step_in list) n.item ≡ false → step_in (n ∷ list) ≡ step_in list
 unfolding step_in
 stops_later n list is = rw is refl
+
+leads_first : (n : Numbered AttributeSpec) (list : List (Numbered AttributeSpec)) → stops_at (step_in list) n.item ≡ true → lead_in (n ∷ list) ≡ lead_of n.item
+unfolding lead_in
+leads_first n list is = rw is refl
+
+leads_later : (n : Numbered AttributeSpec) (list : List (Numbered AttributeSpec)) → stops_at (step_in list) n.item ≡ false → lead_in (n ∷ list) ≡ lead_in list
+unfolding lead_in
+leads_later n list is = rw is refl
 
 skips_none : (size : ℕ) (n : Numbered AttributeSpec) (list : List (Numbered AttributeSpec)) → stops_at (step_in list) n.item ≡ true → skip_in size (n ∷ list) ≡ 0
 unfolding skip_in
@@ -50,6 +60,11 @@ abbrev pub StopsThere : List Node → ℕ → Type 0
 StopsThere nodes found =
     (spec : AttributeSpec) (list : List (Numbered AttributeSpec)) → numbered_in nodes found ≡ record { number = found; item = spec } ∷ list → (does_lead spec || does_vary spec.form) ≡ true
 
+-- the lead is that of the attribute that the list of the found number begins with
+abbrev pub LeadsTo : List Node → ℕ → ℕ → Type 0
+LeadsTo nodes number found =
+    (spec : AttributeSpec) (list : List (Numbered AttributeSpec)) → numbered_in nodes found ≡ record { number = found; item = spec } ∷ list → lead_in (numbered_in nodes number) ≡ lead_of spec
+
 -- the values before an attribute have one size each and lead nowhere, and so many bytes are those that are passed
 pub record GoesTo (nodes : List Node) (number found : ℕ) : Type 0 where
   pub before : List (Numbered AttributeSpec)
@@ -58,11 +73,13 @@ pub record GoesTo (nodes : List Node) (number found : ℕ) : Type 0 where
   pub none_varies : list_any varies (items_of before) ≡ false
   pub skips : (size : ℕ) → skip_in size (numbered_in nodes number) ≡ known_sum size (items_of before)
   pub stops : StopsThere nodes found
+  pub leads : LeadsTo nodes number found
 
 -- no step is made where no value leads elsewhere, or one is made to an attribute
 pub record Walks (nodes : List Node) (number found : ℕ) : Type 0 where
   pub within : found ≤ number
   pub none : found ≡ 0 → list_any does_lead (items_of (numbered_in nodes number)) ≡ false
+  pub no_lead : found ≡ 0 → lead_in (numbered_in nodes number) ≡ Nothing
   pub goes : (found ≡ 0 → ⊥) → GoesTo nodes number found
 
 first_item : (m n : Numbered AttributeSpec) (ms ns : List (Numbered AttributeSpec)) → ◌≡◌ {A = List (Numbered AttributeSpec)} (m ∷ ms) (n ∷ ns) → m.item ≡ n.item
@@ -77,10 +94,14 @@ module _ (nodes : List Node) (known : AreKnown nodes) where
       let same : ◌≡◌ {A = List (Numbered AttributeSpec)} (record { number = number; item = spec } ∷ list) (record { number = number; item = spec_of n } ∷ numbered_in nodes n.next) = sym begins ∙ is.begins in
       ap (λ (s : AttributeSpec). does_lead s || does_vary s.form) (first_item _ _ list (numbered_in nodes n.next) same)
       ∙ leads_or_varies (does_lead (spec_of n)) (does_vary n.form) (not (step_in (numbered_in nodes n.next) == 0)) stops in
+      let leads : LeadsTo nodes number number = λ spec list begins.
+      let same : ◌≡◌ {A = List (Numbered AttributeSpec)} (record { number = number; item = spec } ∷ list) (record { number = number; item = spec_of n } ∷ numbered_in nodes n.next) = sym begins ∙ is.begins in
+      ap lead_in is.begins ∙ leads_first first (numbered_in nodes n.next) stops ∙ ap lead_of (sym (first_item _ _ list (numbered_in nodes n.next) same)) in
       let found : step_in (numbered_in nodes number) ≡ number = ap step_in is.begins ∙ stops_first first (numbered_in nodes n.next) stops in
       rw found (record {
         within = omega arith;
         none = λ e. absurd (omega (arith, e, some));
+        no_lead = λ e. absurd (omega (arith, e, some));
         goes = λ other. record {
           before = [];
           goes = refl;
@@ -88,6 +109,7 @@ module _ (nodes : List Node) (known : AreKnown nodes) where
           none_varies = refl;
           skips = λ size. ap (skip_in size) is.begins ∙ skips_none size first (numbered_in nodes n.next) stops;
           stops = there;
+          leads = leads;
         };
       })
   walks_here number n false some is stops rest =
@@ -99,6 +121,7 @@ module _ (nodes : List Node) (known : AreKnown nodes) where
       rw found (record {
         within = omega (arith, less, w);
         none = λ e. ap (λ (list : List (Numbered AttributeSpec)). list_any does_lead (items_of list)) is.begins ∙ none_both (does_lead (spec_of n)) (list_any does_lead (items_of (numbered_in nodes n.next))) parts.0 (rest.none e);
+        no_lead = λ e. ap lead_in is.begins ∙ leads_later first (numbered_in nodes n.next) stops ∙ rest.no_lead e;
         goes = λ other.
             let g = rest.goes other in
             record {
@@ -111,11 +134,12 @@ module _ (nodes : List Node) (known : AreKnown nodes) where
                   let here = ap (skip_in size) is.begins ∙ skips_more size first (numbered_in nodes n.next) stops in
                   omega (arith, here, g.skips size, more);
               stops = g.stops;
+              leads = λ spec list begins. ap lead_in is.begins ∙ leads_later first (numbered_in nodes n.next) stops ∙ g.leads spec list begins;
             };
       })
 
   walks_to : (bound number : ℕ) → number ≤ bound → number ≤ length nodes → Walks nodes number (step_in (numbered_in nodes number))
-  unfolding step_in
+  unfolding step_in lead_in
   walks_to bound zero le within = search (rules, chain_none)
   walks_to zero (suc k) le within = absurd (omega (arith, le))
   walks_to (suc bound) (suc k) le within =
@@ -133,6 +157,35 @@ module _ (nodes : List Node) (known : AreKnown nodes) where
     -- where no step is made, no value leads elsewhere
     pub step_none : step.to ≡ 0 → list_any does_lead (items_of (numbered_in nodes number)) ≡ false
     step_none none = walks.none none
+
+    -- the attribute to which it goes has its lead
+    pub record HasLead : Type 0 where
+      pub spec : AttributeSpec
+      pub list : List (Numbered AttributeSpec)
+      pub begins : numbered_in nodes step.to ≡ record { number = step.to; item = spec } ∷ list
+      pub leads : lead_of spec ≡ step.lead
+
+    has_lead : (step.to ≡ 0 → ⊥) → HasLead
+    has_lead some =
+        let (node, at) = known_at nodes known step.to (omega (arith, some)) step_within in
+        record {
+          spec = spec_of node;
+          list = numbered_in nodes node.next;
+          begins = at.begins;
+          leads = sym ((walks.goes some).leads (spec_of node) (numbered_in nodes node.next) at.begins) ∙ sym is.lead;
+        }
+
+    -- where it leads to nothing, no step is made
+    pub step_nothing : step.lead ≡ Nothing → step.to ≡ 0
+    step_nothing nothing = by_number step.to refl
+      where
+        by_number : (n : ℕ) → step.to ≡ n → step.to ≡ 0
+        by_number zero e = e
+        by_number (suc n) e = let h = has_lead (λ none. omega (arith, none, e)) in absurd (lead_says h.spec Nothing (h.leads ∙ nothing))
+
+    -- and where it leads to something, one is
+    pub step_lead : (step.lead ≡ Nothing → ⊥) → HasLead
+    step_lead something = has_lead (λ none. something (is.lead ∙ walks.no_lead none))
 
     pub goes_to : (step.to ≡ 0 → ⊥) → GoesTo nodes number step.to
     goes_to other = walks.goes other

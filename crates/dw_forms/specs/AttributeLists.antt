@@ -9,7 +9,8 @@ use Rattle.dw_forms.specs.declared.attribute_lists.Step.{Step}
 use Rattle.dw_forms.specs.Abbrev.{AreAttributes}
 use Rattle.dw_forms.specs.AbbrevReading.{has_attribute}
 use Rattle.dw_forms.specs.Chains.{Numbered, items_of, chain_in, chains_of, number_where, codes_of}
-use Rattle.dw_forms.specs.Plans.{known_sum, does_vary, is_stop}
+use Rattle.dw_forms.specs.Codes.{DW_AT_declaration}
+use Rattle.dw_forms.specs.Plans.{known_sum, does_vary, is_stop, flag_in}
 use Rattle.dw_forms.specs.Remainders.{HasRemainders}
 use Rattle.dw_forms.specs.Sizes.{are_allowed}
 use Rattle.dw_forms.specs.Walks.{IsStep}
@@ -66,9 +67,10 @@ pub record IsKnown (nodes : List Node) (number : ℕ) (n : Node) : Type 0 where
 abbrev pub AreKnown : List Node → Type 0
 AreKnown nodes = (k : ℕ) (n : Node) → k < length nodes → n ≡ get_or nodes k n → IsKnown nodes (suc k) n
 
--- the list of this number is kept, and this is the first step in it
-pub record HasList (nodes : List Node) (first : ℕ) (s : Step) : Type 0 where
+-- the list of this number is kept, this is the first step in it, and so much is known of DW_AT_declaration
+pub record HasList (nodes : List Node) (first : ℕ) (s : Step) (known : Option Bool) : Type 0 where
   pub within : first ≤ length nodes
+  pub declared : known ≡ flag_in DW_AT_declaration (list_in nodes first)
   pub step : IsStep (numbered_in nodes first) s
 
 -- the links have the codes of the attributes

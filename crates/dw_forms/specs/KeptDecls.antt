@@ -47,7 +47,7 @@ decl_number_in table code = number_where (λ (d : Declaration). d.code == code) 
 
 -- each declaration has a list of attributes that is kept
 abbrev pub AreWithin : List Node → List KeptDecl → Type 0
-AreWithin nodes kept = All (λ (k : KeptDecl). HasList nodes k.first k.step) kept
+AreWithin nodes kept = All (λ (k : KeptDecl). HasList nodes k.first k.step k.declared) kept
 
 -- the links have the codes of the declarations
 abbrev pub HaveDeclCodes : List Link → List KeptDecl → Type 0

@@ -1,6 +1,6 @@
 -- State: what is known of the values of an attribute before any entry is read, and the bytes after values.
 use Rattle.std.specs.Prelude.{ℕ, nat_eq, nat_lt, if◌then◌else◌, Bool, true, List, [], ◌∷◌, length, drop, is_none}
-use Rattle.std.specs.Prelude.{Result, Ok, Err}
+use Rattle.std.specs.Prelude.{Result, Ok, Err, Option, Some, None, false, find, ◌==◌}
 use Rattle.std.specs.Option.{unwrap_or}
 use Rattle.std.specs.List.{sum_by, list_any}
 use Rattle.dw_forms.specs.declared.form.Form.{Form}
@@ -55,6 +55,20 @@ stops_in _ attribute = true
 -- a search stops at the attribute
 abbrev pub is_stop : AttributeSpec → Bool
 is_stop spec = stops_in spec.form spec.attribute
+
+-- what a form says of a flag without a value: flag_present is true (DWARF 5, 7.5.5)
+abbrev pub known_flag : Form → Option Bool
+known_flag FlagPresent = Some true
+known_flag _ = None
+
+-- the same of an attribute, which is false where it is not there (DWARF 5, 7.5.3)
+abbrev pub flag_by : Option AttributeSpec → Option Bool
+flag_by (Some spec) = known_flag spec.form
+flag_by None = Some false
+
+-- whether the flag of this code is true in each entry, as far as its attributes say so without a value
+abbrev pub flag_in : ℕ → List AttributeSpec → Option Bool
+flag_in code specs = flag_by (find (λ (spec : AttributeSpec). spec.attribute == code) specs)
 
 -- the bytes after so many
 abbrev pub cut_at : ℕ → List ℕ → Result (List ℕ) ValueFault

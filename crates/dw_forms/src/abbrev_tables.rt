@@ -16,7 +16,9 @@ ghost use Rattle.dw_forms.specs.Stops.{IfFault, FailsOrMemory};
 
 use crate::abbrev_reader::{code_of, read_table, tag_and_children};
 use crate::attribute_lists::AttributeLists;
+use crate::attributes::Attributes;
 use crate::chains::Chains;
+use crate::constants::DW_AT_declaration;
 use crate::decl::{DeclAt, Decls, KeptDecl};
 use crate::fault::{AbbrevFault, DeclFault, Stop};
 use crate::list_reader::KeptLists;
@@ -52,6 +54,7 @@ fn next_at(
         tag,
         has_children,
         is_type: tag.is_type(),
+        declared: Attributes::new(&lists.lists, first).flag(DW_AT_declaration),
         step: lists.lists.step(first),
         first,
         rest: 0,
@@ -123,7 +126,7 @@ fn push(
     requires rest { rest ≤ length kept.old.items }
     requires few { length kept.old.items < 0xffffffff }
     requires kept { AreReadable codes.old.links.items lists.now.nodes.items kept.old.items }
-    requires list { HasList lists.now.nodes.items decl.first decl.step }
+    requires list { HasList lists.now.nodes.items decl.first decl.step decl.declared }
     ensures kept { OnOk result (AreReadable codes.new.links.items lists.now.nodes.items kept.new.items) }
     ensures added { IfOk result (IsAddedTable (kept_view lists.now.nodes.items decl) rest
         (tables_of lists.now.nodes.items kept.old.items) (tables_of lists.now.nodes.items kept.new.items)) }
@@ -138,6 +141,7 @@ fn push(
         tag: decl.tag,
         has_children: decl.has_children,
         is_type: decl.is_type,
+        declared: decl.declared,
         step: decl.step,
         first: decl.first,
         rest,

@@ -2,7 +2,7 @@
 
 ghost use Rattle.std.specs.Prelude.{◌≡◌, ◌≤◌, ◌%◌, ◌^◌, ◌<◌, ◌∷◌, List, [], length, IfOk, if◌then◌else◌};
 ghost use Rattle.dw_forms.specs.Plans.{known_size, does_vary, is_one_of, is_stop, not_flags, not_constants};
-ghost use Rattle.dw_forms.specs.Walks.{may_lead, does_lead, stops_at, IsStep};
+ghost use Rattle.dw_forms.specs.Walks.{may_lead, does_lead, stops_at, reference_lead, value_lead, lead_of, IsStep};
 ghost use Rattle.dw_forms.specs.declared.decl.AttributeSpec.{AttributeSpec as SpecData};
 ghost use Rattle.dw_forms.specs.Chains.{Numbered};
 ghost use Rattle.dw_forms.specs.Abbrev.{IsCode16};
@@ -122,9 +122,83 @@ pub fn remainder_bit(attribute: Attribute) -> u32
     1 << u32::from(attribute.0 % 32)
 }
 
+/// What an attribute and its form say about the value that a step goes to (DWARF 5, sections 2.3, 2.13.2, 5.1 and
+/// 7.5.5). Each usual kind of value has a lead of its own, so that a walk checks only the rules of that kind.
+#[derive(Clone, Copy, Debug, PartialEq, Eq)]
+pub enum Lead {
+    /// No step is made.
+    Nothing,
+    /// A string by its offset into .debug_str.
+    Text,
+    /// A reference of four bytes to the type of the entry.
+    TypeEntry,
+    /// A reference of four bytes to the next sibling of the entry.
+    Sibling,
+    /// A reference of four bytes to the declaration that the entry completes.
+    Specification,
+    /// A reference of four bytes to another entry. Those of DW_AT_import and DW_AT_signature are `Other`.
+    Entry,
+    /// A string by its index, which has one byte.
+    Index1,
+    /// A string by its index, which has two bytes.
+    Index2,
+    /// An address by its index.
+    Address,
+    /// A value that leads nowhere. It is passed on its own because its form has no one size.
+    Passed,
+    /// Any other value.
+    Other,
+}
+
+/// The lead of a reference of four bytes.
+fn reference_lead(attribute: Attribute) -> Lead
+    ensures { result ≡ reference_lead attribute }
+{
+    match attribute {
+        DW_AT_type => Lead::TypeEntry,
+        DW_AT_sibling => Lead::Sibling,
+        DW_AT_specification => Lead::Specification,
+        DW_AT_import | DW_AT_signature => Lead::Other,
+        _ => Lead::Entry,
+    }
+}
+
+/// The lead of a string or an address whose form has this lead. A type is neither.
+fn value_lead(lead: Lead, attribute: Attribute) -> Lead
+    ensures { result ≡ value_lead lead attribute }
+{
+    if attribute == DW_AT_type {
+        Lead::Other
+    } else {
+        lead
+    }
+}
+
+/// The lead of an attribute that a step goes to.
+fn lead_of(spec: &AttributeSpec) -> Lead
+    ensures { result ≡ lead_of spec.now }
+{
+    match spec.form {
+        Form::Ref4 => reference_lead(spec.attribute),
+        Form::Strp => value_lead(Lead::Text, spec.attribute),
+        Form::Strx1 => value_lead(Lead::Index1, spec.attribute),
+        Form::Strx2 => value_lead(Lead::Index2, spec.attribute),
+        Form::Addrx => value_lead(Lead::Address, spec.attribute),
+        _ => {
+            if does_lead(spec) {
+                Lead::Other
+            } else {
+                Lead::Passed
+            }
+        }
+    }
+}
+
 /// A step to an attribute whose value is read, past values that have one size each.
 #[derive(Clone, Copy, Debug)]
 pub struct Step {
+    /// The lead of the value that it goes to.
+    pub lead: Lead,
     /// The list that begins with the attribute, or 0 where no step is made.
     pub to: u32,
     /// The sum of the sizes of the values that are passed where addresses have 4 bytes.
@@ -138,6 +212,7 @@ pub(crate) fn no_step() -> Step
     ensures { IsStep [] result }
 {
     Step {
+        lead: Lead::Nothing,
         to: 0,
         skip_with_4: 0,
         skip_with_8: 0,
@@ -161,12 +236,14 @@ pub(crate) fn step_before(number: u32, spec: &AttributeSpec, after: Step) -> Ste
 {
     if stops_at(after.to, spec) {
         return Step {
+            lead: lead_of(spec),
             to: number,
             skip_with_4: 0,
             skip_with_8: 0,
         };
     }
     Step {
+        lead: after.lead,
         to: after.to,
         skip_with_4: after.skip_with_4 + known_size(spec.form, 4),
         skip_with_8: after.skip_with_8 + known_size(spec.form, 8),

@@ -6,7 +6,7 @@ ghost use Rattle.dw_forms.specs.declared.decl.AttributeSpec.{AttributeSpec as Sp
 ghost use Rattle.dw_forms.specs.Chains.{Numbered, items_of};
 ghost use Rattle.dw_forms.specs.AttributeLists.{known_of, has_this, IsKnown};
 ghost use Rattle.dw_forms.specs.FirstPlaces.{AnswersFirst};
-ghost use Rattle.dw_forms.specs.Plans.{cut_at, known_sum, values_end, is_stop};
+ghost use Rattle.dw_forms.specs.Plans.{cut_at, flag_in, known_flag, known_sum, values_end, is_stop};
 ghost use Rattle.dw_forms.specs.Sizes.{are_allowed, rest_at};
 ghost use Rattle.dw_forms.specs.ValueReading.{Gives};
 ghost use Rattle.dw_forms.specs.Walks.{IsStep};
@@ -36,6 +36,16 @@ fn known(node: &Node, address_size: u8) -> usize
         node.known_with_8 as usize
     } else {
         node.known_with_4 as usize
+    }
+}
+
+/// Whether a flag of this form is true. None if that depends on its value.
+fn known_flag(form: Form) -> Option<bool>
+    ensures { result ≡ known_flag form }
+{
+    match form {
+        Form::FlagPresent => Some(true),
+        _ => None,
     }
 }
 
@@ -128,6 +138,16 @@ impl<'a> Attributes<'a> {
     {
         let found = self.lists.codes.search(self.first, u64::from(attribute.0));
         Attributes::new(self.lists, found)
+    }
+
+    /// Whether the flag with this code is true in each entry. None if that depends on the entry's value.
+    pub(crate) fn flag(&self, attribute: Attribute) -> Option<bool>
+        ensures { result ≡ flag_in attribute (specs_in self.now) }
+    {
+        match self.find(attribute).split_first() {
+            Some((spec, _)) => known_flag(spec.form),
+            None => Some(false),
+        }
     }
 
     /// The attributes from the first one on at which a search stops, or none: its value takes bytes, or has a class

@@ -24,6 +24,8 @@ pub struct KeptDecl {
     pub(crate) has_children: bool,
     /// Whether entries with the tag are types.
     pub(crate) is_type: bool,
+    /// Whether DW_AT_declaration of each entry is true. None if that depends on the entry's value.
+    pub(crate) declared: Option<bool>,
     /// The step to the first of its attributes at which a walk over values that may lead elsewhere stops.
     pub(crate) step: Step,
     /// The list of its attributes.
@@ -38,7 +40,7 @@ pub struct KeptDecl {
 pub struct DeclAt<'a> {
     pub(crate) kept: &'a KeptDecl,
     pub(crate) lists: &'a AttributeLists,
-    ghost list: { HasList lists.now.nodes.items kept.now.first kept.now.step },
+    ghost list: { HasList lists.now.nodes.items kept.now.first kept.now.step kept.now.declared },
 }
 
 /// The declarations of the tables of a section, each once. They are numbered from 1.
@@ -46,7 +48,7 @@ pub struct DeclAt<'a> {
 pub struct Decls {
     pub(crate) kept: Vec<KeptDecl>,
     pub(crate) lists: AttributeLists,
-    ghost all: { All (λ k. HasList lists.nodes.items k.first k.step) kept.items },
+    ghost all: { All (λ k. HasList lists.nodes.items k.first k.step k.declared) kept.items },
 }
 
 impl Decls {
@@ -80,6 +82,8 @@ impl Decls {
 
 impl<'a> DeclAt<'a> {
     ghost use Rattle.dw_forms.specs.KeptDecls.{decl_view};
+    ghost use Rattle.dw_forms.specs.Codes.{DW_AT_declaration};
+    ghost use Rattle.dw_forms.specs.Plans.{flag_in};
     ghost use Rattle.dw_forms.specs.Sizes.{are_allowed};
     ghost use Rattle.dw_forms.specs.Suffixes.{numbered, numbered_of, specs_in};
     ghost use Rattle.dw_forms.specs.Walks.{IsStep};
@@ -87,7 +91,7 @@ impl<'a> DeclAt<'a> {
     /// A declaration with the lists of its attributes.
     #[inline(always)]
     pub(crate) fn new(kept: &'a KeptDecl, lists: &'a AttributeLists) -> DeclAt<'a>
-        requires { HasList lists.now.nodes.items kept.now.first kept.now.step }
+        requires { HasList lists.now.nodes.items kept.now.first kept.now.step kept.now.declared }
         ensures kept { result.kept.now ≡ kept.now }
         ensures lists { result.lists.now ≡ lists.now }
     {
@@ -140,6 +144,15 @@ impl<'a> DeclAt<'a> {
         ensures { result ≡ is_type_tag (decl_view self.now).tag }
     {
         self.kept.is_type
+    }
+
+    /// Whether DW_AT_declaration of each entry is true: if it has the form DW_FORM_flag_present, it is, and if it is
+    /// absent, it is not (DWARF 5, section 7.5.5). None if that depends on the entry's value.
+    #[inline(always)]
+    pub fn declared(&self) -> Option<bool>
+        ensures { result ≡ flag_in DW_AT_declaration (decl_view self.now).attributes }
+    {
+        self.kept.declared
     }
 
     /// Whether a unit of this version may have all forms of the declaration.

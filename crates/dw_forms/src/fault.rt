@@ -35,21 +35,21 @@ impl<F, T: Drop> From<AllocFailed<T>> for Stop<F> {
 /// The rules of a table, in the order of their numbers. They are checked in the order of the bytes.
 #[derive(Clone, Copy, Debug, PartialEq, Eq)]
 pub enum AbbrevRule {
-    /// A1: a part of a declaration, or the end of the table, is cut by the section's end.
+    /// A1: a part of a declaration, or the end of the table, passes the end of `.debug_abbrev`.
     AbbrevCut,
-    /// A2: a number of a declaration has more than 10 bytes, or more than 64 bits.
+    /// A2: a number in a table has more than 10 bytes or more than 64 bits.
     AbbrevNumber,
-    /// A3: an earlier declaration of the table has this code.
+    /// A3: an earlier declaration of the table has the code.
     CodeTwice,
-    /// A4: the tag is 0 or above 0xffff.
+    /// A4: a tag is 0 or above 0xffff.
     BadTag,
-    /// A5: the byte that says whether entries have children is neither 0 nor 1.
+    /// A5: the byte that says whether there are children is neither 0 nor 1.
     BadChildren,
-    /// A6: one of attribute and form alone is 0, or the attribute is above 0xffff.
+    /// A6: one of an attribute and its form alone is 0, or the attribute is above 0xffff.
     BadPair,
-    /// A7: no form has this code.
+    /// A7: no form has the code.
     UnknownForm,
-    /// A8: the declaration has this attribute already.
+    /// A8: a declaration has an attribute twice.
     AttributeTwice,
 }
 

@@ -22,7 +22,7 @@ mod value_reader;
 pub use abbrev::{AbbrevTable, Decl};
 pub use abbrev_reader::read_table;
 pub use abbrev_tables::AbbrevTables;
-pub use attribute_lists::{AttributeLists, Node, Step};
+pub use attribute_lists::{AttributeLists, Lead, Node, Step};
 pub use attributes::Attributes;
 pub use constants::{Attribute, Language, Tag};
 pub use decl::{AttributeSpec, DeclAt, Decls, KeptDecl};

@@ -62,7 +62,7 @@ pub record Leads (spec : AttributeSpec) : Type 0 where
 pub leads : (spec : AttributeSpec) → DoesNotLead spec → Leads spec
 leads spec not = search (rules, neither)
 
-other_code : (a b : ℕ) → (a == b) ≡ false → a ≡ b → ⊥
+pub other_code : (a b : ℕ) → (a == b) ≡ false → a ≡ b → ⊥
 other_code a b not same = let both : (a == b) ≡ true = ap (λ (n : ℕ). n == b) same ∙ eq-eqb b b refl in let no : true ≡ false = sym both ∙ not in cc
 
 -- it is no string, no address and no base

@@ -12,5 +12,9 @@ pub mod LinkedEntries
 pub mod RuleSteps
 pub mod LinkSteps
 pub mod Transfers
+pub mod Judged
+pub mod LeadSteps
+pub mod After
 pub mod RuleGroups
 pub mod DeclaredLemmas
+pub mod UnitByUnit

@@ -10,7 +10,6 @@ use Rattle.dw_entries.specs.Chosen.{ArePassed, IsNextOf}
 use Rattle.dw_entries.specs.Entries.{Entry}
 use Rattle.dw_entries.specs.declared.entries.Entries.{Entries}
 use Rattle.dw_entries.specs.declared.fault.Broken.{Broken}
-use Rattle.dw_entries.specs.declared.lookup.EntryHead.{EntryHead}
 use Rattle.dw_entries.specs.Leading.{DoesNotLead}
 use Rattle.dw_entries.specs.Lookups.{entry_head, value_in}
 use Rattle.dw_links.specs.Linking.{kept_after, LinksNext, HasFailedNext, IsLinked, HasFailed}
@@ -38,13 +37,13 @@ passed_value (x ∷ items) passed =
     rw other (passed_value items (λ k y is. passed (suc k) y is))
 
 -- this is kept of the first type of what was read, and these are left
-pub record Keeps (reach : Datum → Option ℕ) (items left : List (ℕ × Datum)) (kept : Option (Option ℕ)) : Type 0 where
+pub record HasKept (reach : Datum → Option ℕ) (items left : List (ℕ × Datum)) (kept : Option (Option ℕ)) : Type 0 where
   pub done : List (ℕ × Datum)
   pub parts : items ≡ done ++ left
   pub is_kept : kept ≡ option_map reach (value_in done DW_AT_type)
 
 -- after one attribute more
-keeps_more : (reach : Datum → Option ℕ) (items left behind : List (ℕ × Datum)) (kept : Option (Option ℕ)) (a : ℕ) (v : Datum) → Keeps reach items left kept → IsNextOf DoesNotLead left (a, v) behind → Keeps reach items behind (kept_after kept a (reach v))
+keeps_more : (reach : Datum → Option ℕ) (items left behind : List (ℕ × Datum)) (kept : Option (Option ℕ)) (a : ℕ) (v : Datum) → HasKept reach items left kept → IsNextOf DoesNotLead left (a, v) behind → HasKept reach items behind (kept_after kept a (reach v))
 keeps_more reach items left behind kept a v k n = record {
   done = k.done ++ (n.passed ++ (a, v) ∷ []);
   parts = k.parts ∙ ap (λ (xs : List (ℕ × Datum)). k.done ++ xs) (n.parts ∙ sym (append_assoc n.passed ((a, v) ∷ []) behind)) ∙ sym (append_assoc k.done (n.passed ++ (a, v) ∷ []) behind);
@@ -60,7 +59,7 @@ keeps_more reach items left behind kept a v k n = record {
     by_value None is = by_code (a == DW_AT_type) refl ∙ ap (option_map reach) (sym (back_value k.done (n.passed ++ (a, v) ∷ []) DW_AT_type is ∙ back_value n.passed ((a, v) ∷ []) DW_AT_type (passed_value n.passed n.are_passed)))
 
 -- at the end it is that of the entry's type
-keeps_all : (reach : Datum → Option ℕ) (items left : List (ℕ × Datum)) (kept : Option (Option ℕ)) → Keeps reach items left kept → ArePassed DoesNotLead left → unwrap_or kept None ≡ option_and_then reach (value_in items DW_AT_type)
+keeps_all : (reach : Datum → Option ℕ) (items left : List (ℕ × Datum)) (kept : Option (Option ℕ)) → HasKept reach items left kept → ArePassed DoesNotLead left → unwrap_or kept None ≡ option_and_then reach (value_in items DW_AT_type)
 keeps_all reach items left kept k passed = ap (λ (o : Option (Option ℕ)). unwrap_or o None) k.is_kept ∙ by_value (value_in k.done DW_AT_type) refl ∙ ap (λ (xs : List (ℕ × Datum)). option_and_then reach (value_in xs DW_AT_type)) (sym k.parts)
   where
     by_value : (o : Option Datum) → value_in k.done DW_AT_type ≡ o → unwrap_or (option_map reach o) None ≡ option_and_then reach (value_in (k.done ++ left) DW_AT_type)
@@ -73,7 +72,7 @@ keeps_all reach items left kept k passed = ap (λ (o : Option (Option ℕ)). unw
 pub record SoFar (entries : Entries) (e : Entry) (left : List (ℕ × Datum)) (kept : Option (Option ℕ)) : Type 0 where
   pub strings : Checked (FailsByText entries) (entry_head e) (values_of e.head) left
   pub references : Checked (FailsByTarget entries) (entry_head e) (values_of e.head) left
-  pub keeps : Keeps (target_by entries (entry_head e)) (values_of e.head) left kept
+  pub keeps : HasKept (target_by entries (entry_head e)) (values_of e.head) left kept
 
 module _ (entries : Entries) (e : Entry) (left : List (ℕ × Datum)) where
   pub none_so_far : left ≡ values_of e.head → SoFar entries e left None
@@ -88,18 +87,19 @@ module _ (entries : Entries) (e : Entry) (left : List (ℕ × Datum)) where
     is_target = is ∙ keeps_all (target_by entries (entry_head e)) (values_of e.head) left kept s.keeps passed;
   }
 
-  module _ (kept : Option (Option ℕ)) (s : SoFar entries e left kept) (head : EntryHead) (same : head ≡ entry_head e) where
+  module _ (kept : Option (Option ℕ)) (s : SoFar entries e left kept) where
     -- one attribute more
-    pub more_so_far : (behind : List (ℕ × Datum)) (linked : ℕ × Option ℕ) → LinksNext entries head left behind linked → SoFar entries e behind (kept_after kept linked.0 linked.1)
-    more_so_far behind linked n = record {
-      strings = checked_more (FailsByText entries) DoesNotLead (passes_texts entries) e left behind linked.0 n.value s.strings n.next head same n.strings;
-      references = checked_more (FailsByTarget entries) DoesNotLead (passes_targets entries) e left behind linked.0 n.value s.references n.next head same n.references;
-      keeps =
-          let reached : linked.1 ≡ target_by entries (entry_head e) n.value = n.is_reached ∙ ap (λ (h : EntryHead). target_by entries h n.value) same in
-          rw reached (keeps_more (target_by entries (entry_head e)) (values_of e.head) left behind kept linked.0 n.value s.keeps n.next);
+    pub more_so_far : (behind : List (ℕ × Datum)) (after : Option (Option ℕ)) → LinksNext entries left behind kept after (entry_head e) → SoFar entries e behind after
+    more_so_far behind after n = record {
+      strings = checked_more (FailsByText entries) DoesNotLead (passes_texts entries) e left behind n.attribute n.value s.strings n.next (entry_head e) refl n.keeps.passes.strings;
+      references = checked_more (FailsByTarget entries) DoesNotLead (passes_targets entries) e left behind n.attribute n.value s.references n.next (entry_head e) refl n.keeps.passes.references;
+      keeps = rw n.keeps.is_kept (keeps_more (target_by entries (entry_head e)) (values_of e.head) left behind kept n.attribute n.value s.keeps n.next);
     }
 
     -- where a rule fails, that is the first failure of its group
-    pub fails_so_far : (broken : Broken) → HasFailedNext entries head left broken → HasFailed entries e broken
-    fails_so_far broken (inl n) = inl (checked_fails (FailsByText entries) DoesNotLead (passes_texts entries) e left n.behind n.attribute n.value s.strings n.next head same n.rule broken n.least n.named)
-    fails_so_far broken (inr n) = inr (checked_fails (FailsByTarget entries) DoesNotLead (passes_targets entries) e left n.behind n.attribute n.value s.references n.next head same n.rule broken n.least n.named)
+    pub fails_so_far : (broken : Broken) → HasFailedNext entries left broken (entry_head e) → HasFailed entries e broken
+    fails_so_far broken n =
+        elim n.fails [
+          | inl f ↦ inl (checked_fails (FailsByText entries) DoesNotLead (passes_texts entries) e left n.behind n.attribute n.value s.strings n.next (entry_head e) refl f.rule broken f.least f.named)
+          | inr f ↦ inr (checked_fails (FailsByTarget entries) DoesNotLead (passes_targets entries) e left n.behind n.attribute n.value s.references n.next (entry_head e) refl f.rule broken f.least f.named)
+        ]

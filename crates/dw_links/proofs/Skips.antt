@@ -1,6 +1,6 @@
 -- No rule fails at an entry whose declaration has nothing that the rules are asked of.
 use Rattle.std.proofs.Common.{rules, ◌≡◌, ℕ, zero, suc, ◌+◌, ◌<◌, List, [], ◌∷◌, length, Some, refl, sym, ap, ◌∙◌, arith, subst, map, eq-or-lt_of_le}
-use Rattle.std.specs.Prelude.{Option, None, slice_get, slice_index_or, All, Contains, IfSome, IsSome}
+use Rattle.std.specs.Prelude.{slice_get, slice_index_or, All, Contains, IfSome}
 use Rattle.std.proofs.lemmas.Option.{slice_get_within, slice_get-get_or, get_or_from_slice_get}
 use Rattle.dw_forms.specs.Value.{Datum}
 use Rattle.dw_forms.specs.Abbrev.{Declaration}
@@ -14,11 +14,6 @@ use Rattle.dw_entries.specs.Failures.{HasNone}
 use Rattle.dw_entries.proofs.Firsts.{same_some, none_of_entries}
 use Rattle.dw_entries.proofs.HeadLaws.{head_stands}
 use Rattle.dw_links.specs.Concerns.{Rules, AtHead, Passes, AllPass, PassesAt}
-
--- an entry that was looked up and is there
-pub found : (o : Option Entry) → IsSome o → (e : Entry) × (o ≡ Some e)
-found None is = absurd cc
-found (Some e) is = (e, refl)
 
 -- what is at a place of a list
 pub there : {X : Type 0} (xs : List X) (k : ℕ) → k < length xs → (x : X) × (slice_get xs k ≡ Some x)

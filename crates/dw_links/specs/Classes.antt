@@ -159,7 +159,7 @@ allows_in version attribute class =
     (if is_one_of (DW_AT_str_offsets_base ∷ DW_AT_addr_base ∷ []) attribute then true else allows attribute class)
     else allows attribute class
 
--- WrongClass: the attribute's value has none of its classes
+-- WrongClass: the value has none of the classes that the attribute may have
 pub record ClassFails (units : List PlacedUnit) (head : EntryHead) (attribute : ℕ) (v : Datum) (rule : Rule) :
     Type 0 where
   pub unit : PlacedUnit

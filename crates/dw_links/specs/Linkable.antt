@@ -1,13 +1,17 @@
 -- State: the rules among all entries, and what must be known of the unit at hand while values are followed.
-use Rattle.std.specs.Prelude.{◌≡◌, ℕ, Option}
+use Rattle.std.specs.Prelude.{◌≡◌, ◌≢◌, ◌<◌, ℕ, true, Option, Some, length, slice_get}
+use Rattle.dw_forms.specs.Codes.{is_type_tag}
+use Rattle.dw_forms.specs.declared.attribute_lists.Lead.{Lead}
+use Rattle.dw_forms.specs.declared.attribute_lists.Lead.TheVariants as lead
 use Rattle.dw_forms.specs.Value.{Datum}
 use Rattle.dw_entries.specs.declared.entries.Entries.{Entries}
 use Rattle.dw_entries.specs.declared.lookup.EntryHead.{EntryHead}
+use Rattle.dw_entries.specs.Entries.{Entry}
 use Rattle.dw_entries.specs.Views.{sections_of, all_entries, all_units}
 use Rattle.dw_links.specs.declared.references.References.{References}
 use Rattle.dw_links.specs.Concerns.{Rules}
 use Rattle.dw_links.specs.Ready.{AreTexts}
-use Rattle.dw_links.specs.References.{ReferenceFails}
+use Rattle.dw_links.specs.References.{ReferenceFails, is_declared}
 use Rattle.dw_links.specs.SignedTypes.{HasSignedTypes, AreTyped}
 use Rattle.dw_links.specs.Strings.{StringFails}
 use Rattle.dw_links.specs.Targets.{reach_in_unit, reach_of}
@@ -28,6 +32,10 @@ target_by entries head v = reach_of (all_entries entries) (all_units entries) he
 abbrev pub entries_in : References → Entries
 entries_in it = it.cursor.entries.now
 
+-- the entry with this number
+abbrev pub entry_with : References → (id : ℕ) → Option Entry
+entry_with it id = slice_get (all_entries (entries_in it)) id
+
 -- the entry of the unit at hand that starts so many bytes after the unit's header
 abbrev pub entry_after : References → (offset : ℕ) → Option ℕ
 entry_after it offset =
@@ -44,3 +52,36 @@ pub record IsLinkable (it : References) : Type 0 where
 pub record MayAsk (it : References) (head : EntryHead) : Type 0 where
   pub linkable : IsLinkable it
   pub in_unit : head.unit ≡ it.texts.unit
+
+-- the same, of an entry by its number
+pub record MayLink (it : References) (id : ℕ) : Type 0 where
+  pub within : id < length (all_entries (entries_in it))
+  pub linkable : IsLinkable it
+  pub in_unit : (e : Entry) → entry_with it id ≡ Some e → e.unit ≡ it.texts.unit
+
+-- ---- the entry of the unit at hand that starts so many bytes after the unit's header
+
+-- it is this type
+pub record IsTypeAfter (it : References) (offset target : ℕ) : Type 0 where
+  pub reaches : entry_after it offset ≡ Some target
+  pub is_type : (e : Entry) → entry_with it target ≡ Some e → is_type_tag e.head.decl.tag ≡ true
+
+-- it is the next sibling of an entry
+pub record IsSiblingAfter (it : References) (id offset : ℕ) : Type 0 where
+  pub target : ℕ
+  pub reaches : entry_after it offset ≡ Some target
+  pub is_next : (e : Entry) → entry_with it id ≡ Some e → e.next ≡ Some target
+
+-- it is another entry than this one, and it is a declaration
+pub record IsDeclaredAfter (it : References) (id offset : ℕ) : Type 0 where
+  pub target : ℕ
+  pub reaches : entry_after it offset ≡ Some target
+  pub other : target ≢ id
+  pub declared : (e : Entry) → entry_with it target ≡ Some e → is_declared e ≡ true
+
+-- no rule fails at the reference to it, if that has this lead
+abbrev pub LeadsWell : References → (id offset : ℕ) → Lead → Type 0
+LeadsWell it id offset lead.Sibling = IsSiblingAfter it id offset
+LeadsWell it id offset lead.Specification = IsDeclaredAfter it id offset
+LeadsWell it id offset lead.Entry = (target : ℕ) × (entry_after it offset ≡ Some target)
+LeadsWell it id offset _ = ⊥

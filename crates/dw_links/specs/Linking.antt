@@ -1,5 +1,5 @@
 -- State: what is found at an entry and at its values, while the links of all entries are read.
-use Rattle.std.specs.Prelude.{ℕ, ◌==◌, if◌then◌else◌, Option, None, Some, ◌≡◌, ◌⊎◌, List, map}
+use Rattle.std.specs.Prelude.{ℕ, ◌==◌, ◌≢◌, if◌then◌else◌, Option, None, Some, ◌≡◌, ◌⊎◌, List, map}
 use Rattle.dw_elf.specs.declared.sections.Sections.{Sections}
 use Rattle.dw_forms.specs.Codes.{DW_AT_type}
 use Rattle.dw_forms.specs.Value.{Datum}
@@ -12,10 +12,12 @@ use Rattle.dw_entries.specs.Chosen.{IsNextOf}
 use Rattle.dw_entries.specs.Entries.{Entry}
 use Rattle.dw_entries.specs.Failures.{HasNone, IsFirst, IsLeast}
 use Rattle.dw_entries.specs.Leading.{DoesNotLead}
+use Rattle.dw_entries.specs.Lookups.{entry_head}
 use Rattle.dw_entries.specs.Units.{DebugUnit}
 use Rattle.dw_entries.specs.Views.{sections_of, all_entries, all_units, units_of}
 use Rattle.dw_links.specs.Concerns.{Rules, AtHead}
-use Rattle.dw_links.specs.Linkable.{FailsByText, FailsByTarget, target_by}
+use Rattle.dw_links.specs.declared.references.References.{References}
+use Rattle.dw_links.specs.Linkable.{FailsByText, FailsByTarget, target_by, entries_in, entry_with}
 use Rattle.dw_links.specs.References.{ReferenceFailures}
 use Rattle.dw_links.specs.Strings.{StringFailures}
 use Rattle.dw_links.specs.Tables.{type_target}
@@ -25,29 +27,83 @@ abbrev pub kept_after : Option (Option ℕ) → (attribute : ℕ) → (reached :
 kept_after (Some target) attribute reached = Some target
 kept_after None attribute reached = if attribute == DW_AT_type then Some reached else None
 
--- no rule fails at the next attribute, which has this target, if any; those after it are left
-pub record LinksNext (entries : Entries) (head : EntryHead) (left behind : List (ℕ × Datum)) (linked : ℕ × Option ℕ)
-    : Type 0 where
-  pub value : Datum
-  pub next : IsNextOf DoesNotLead left (linked.0, value) behind
-  pub strings : IsLeast (FailsByText entries head linked.0 value) None
-  pub references : IsLeast (FailsByTarget entries head linked.0 value) None
-  pub is_reached : linked.1 ≡ target_by entries head value
+-- the attribute is no type
+abbrev pub IsNoType : ℕ → Type 0
+IsNoType attribute = attribute ≢ DW_AT_type
 
--- a rule fails at the next attribute
-pub record FailsNext (Fails : Rules) (head : EntryHead) (left : List (ℕ × Datum)) (broken : Broken) : Type 0 where
-  pub attribute : ℕ
-  pub value : Datum
-  pub behind : List (ℕ × Datum)
-  pub next : IsNextOf DoesNotLead left (attribute, value) behind
+-- no rule fails at an attribute with this value
+pub record PassesAs (entries : Entries) (head : EntryHead) (attribute : ℕ) (value : Datum) : Type 0 where
+  pub strings : IsLeast (FailsByText entries head attribute value) None
+  pub references : IsLeast (FailsByTarget entries head attribute value) None
+
+-- a rule fails at an attribute with this value
+pub record FailsAs (Fails : Rules) (head : EntryHead) (attribute : ℕ) (value : Datum) (broken : Broken) : Type 0 where
   pub rule : Rule
   pub least : IsLeast (Fails head attribute value) (Some rule)
   pub named : broken ≡ record { rule = rule; section = Info; at = head.offset; attribute = attribute }
 
 -- the rule is one on strings and addresses, or on references
-abbrev pub HasFailedNext : Entries → EntryHead → (left : List (ℕ × Datum)) → Broken → Type 0
-HasFailedNext entries head left broken =
-    FailsNext (FailsByText entries) head left broken ⊎ FailsNext (FailsByTarget entries) head left broken
+abbrev pub HasFailedAs : Entries → EntryHead → (attribute : ℕ) → Datum → Broken → Type 0
+HasFailedAs entries head attribute value broken =
+    FailsAs (FailsByText entries) head attribute value broken
+    ⊎ FailsAs (FailsByTarget entries) head attribute value broken
+
+-- no rule fails at an attribute, and this is its target, if any
+pub record Reaches (entries : Entries) (attribute : ℕ) (value : Datum) (reached : Option ℕ) (head : EntryHead)
+    : Type 0 where
+  pub passes : PassesAs entries head attribute value
+  pub is_reached : reached ≡ target_by entries head value
+
+-- no rule fails at an attribute, and after it this is kept of the target of the first type
+pub record Keeps (entries : Entries) (attribute : ℕ) (value : Datum) (before after : Option (Option ℕ))
+    (head : EntryHead) : Type 0 where
+  pub passes : PassesAs entries head attribute value
+  pub is_kept : after ≡ kept_after before attribute (target_by entries head value)
+
+-- no rule fails at the next attribute, and those after it are left
+pub record LinksNext (entries : Entries) (left behind : List (ℕ × Datum)) (before after : Option (Option ℕ))
+    (head : EntryHead) : Type 0 where
+  pub attribute : ℕ
+  pub value : Datum
+  pub next : IsNextOf DoesNotLead left (attribute, value) behind
+  pub keeps : Keeps entries attribute value before after head
+
+-- a rule fails at the next attribute
+pub record HasFailedNext (entries : Entries) (left : List (ℕ × Datum)) (broken : Broken) (head : EntryHead)
+    : Type 0 where
+  pub attribute : ℕ
+  pub value : Datum
+  pub behind : List (ℕ × Datum)
+  pub next : IsNextOf DoesNotLead left (attribute, value) behind
+  pub fails : HasFailedAs entries head attribute value broken
+
+-- ---- the same, of an entry by its number
+
+-- this is so of what is told of the entry
+abbrev pub OfEntry : References → (id : ℕ) → (EntryHead → Type 0) → Type 0
+OfEntry it id P = (e : Entry) → entry_with it id ≡ Some e → P (entry_head e)
+
+-- no rule fails at its attribute, and this is the target
+abbrev pub ReachesAt : References → (id attribute : ℕ) → Datum → (reached : Option ℕ) → Type 0
+ReachesAt it id attribute value reached = OfEntry it id (Reaches (entries_in it) attribute value reached)
+
+-- a rule fails at its attribute
+abbrev pub HasFailedAt : References → (id attribute : ℕ) → Datum → Broken → Type 0
+HasFailedAt it id attribute value broken =
+    OfEntry it id (λ head. HasFailedAs (entries_in it) head attribute value broken)
+
+-- no rule fails at its attribute, and this is kept
+abbrev pub KeepsAt : References → (id attribute : ℕ) → Datum → (before after : Option (Option ℕ)) → Type 0
+KeepsAt it id attribute value before after = OfEntry it id (Keeps (entries_in it) attribute value before after)
+
+-- no rule fails at its next attribute, and this is kept
+abbrev pub LinksAt : References → (id : ℕ) → (left behind : List (ℕ × Datum)) → (before after : Option (Option ℕ))
+    → Type 0
+LinksAt it id left behind before after = OfEntry it id (LinksNext (entries_in it) left behind before after)
+
+-- a rule fails at its next attribute
+abbrev pub FailsNextAt : References → (id : ℕ) → (left : List (ℕ × Datum)) → Broken → Type 0
+FailsNextAt it id left broken = OfEntry it id (HasFailedNext (entries_in it) left broken)
 
 -- no rule fails at an entry, and its type has this target
 pub record IsLinked (entries : Entries) (e : Entry) (target : Option ℕ) : Type 0 where

@@ -57,7 +57,7 @@ is_signature _ = false
 abbrev pub permits_form : EntryHead → ℕ → Datum → Bool
 permits_form head attribute v = if is_signed head attribute then is_signature v else true
 
--- NoEntry: no entry is there, by an offset
+-- NoEntry: no entry starts at the offset that a reference refers to, in its unit or, in form ref_addr, in .debug_info
 abbrev pub NoEntryThere : Datum → (reached : Option ℕ) → Type 0
 NoEntryThere v reached = (is_signature v ≡ false) × (reached ≡ None)
 
@@ -69,12 +69,13 @@ pub record ReachesWrong (entries : List Entry) (head : EntryHead) (attribute : �
   pub is_target : slice_get entries id ≡ Some target
   pub wrong : permits head attribute target ≡ false
 
--- WrongKind: its form or its target is not permitted
+-- WrongKind: a reference has a form that its attribute does not permit, or refers to an entry of a kind that it does
+-- not permit
 abbrev pub IsWrongKind : List Entry → EntryHead → ℕ → Datum → (reached : Option ℕ) → Type 0
 IsWrongKind entries head attribute v reached = (permits_form head attribute v ≡ false)
     ⊎ ReachesWrong entries head attribute reached
 
--- NotNextSibling: there is no next sibling, or its target is another entry
+-- NotNextSibling: a sibling attribute refers to another entry than the next sibling, or there is no next sibling
 abbrev pub IsOtherThan : (next reached : Option ℕ) → Type 0
 IsOtherThan None reached = Unit {0}
 IsOtherThan (Some next) reached = (id : ℕ) × (reached ≡ Some id) × (id ≢ next)
@@ -118,7 +119,8 @@ pub record HasType (entries : List Entry) (number offset : ℕ) : Type 0 where
   pub is_type : IsEntryIn entries number offset id
   pub tag : is_type_tag is_type.entry.head.decl.tag ≡ true
 
--- SignatureTwice and BadTypeOffset at the header of a type unit; BadTypeOffset: no type begins at its type offset
+-- the rules at the header of a type unit: SignatureTwice, as above, and
+-- BadTypeOffset: no type of the type unit starts at its type offset
 abbrev pub TypeUnitFails : List Entry → List PlacedUnit → ℕ → (at signature type_offset : ℕ) → Rule → Type 0
 TypeUnitFails entries units number at signature type_offset rule =
     ((rule ≡ SignatureTwice) × IsSignedBefore units number signature)

@@ -3,7 +3,9 @@
 
 mod class;
 mod contribution;
+mod judging;
 mod laws;
+mod leads;
 mod linking;
 mod links;
 mod references;

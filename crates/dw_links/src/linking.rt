@@ -1,37 +1,32 @@
 //! The rules on strings, addresses and references, checked in one pass over the values of all entries, and the targets
 //! of their types.
 
-ghost use Rattle.std.specs.Prelude.{◌≡◌, ◌==◌, ◌<◌, length, Some, IfSome, IsSome, IfOk, IfErr};
+ghost use Rattle.std.specs.Prelude.{◌≡◌, ◌==◌, ◌<◌, length, Some, IfSome, IfOk, IfErr};
 ghost use Rattle.dw_entries.specs.Entries.{Entry};
 ghost use Rattle.dw_entries.specs.Views.{sections_of, all_entries, all_units, units_of};
-ghost use Rattle.dw_entries.specs.Lookups.{entry_head};
-ghost use Rattle.dw_entries.specs.Leading.{next_form, leading_left};
 ghost use Rattle.dw_entries.specs.Failures.{HasNone, IsFirst};
 ghost use Rattle.dw_entries.specs.Rules.{group_of};
 ghost use Rattle.dw_entries.specs.Stopped.{IfPlainFault};
 ghost use Rattle.dw_links.specs.DeclaredEntries.{KeepsDeclared};
-ghost use Rattle.dw_links.specs.Linking.{kept_after, LinksNext, HasFailedNext, IsLinked, HasFailed, IsFirstOfGroup};
+ghost use Rattle.dw_links.specs.Linking.{kept_after, IsLinked, HasFailed, IsFirstOfGroup};
 ghost use Rattle.dw_links.specs.Linking.{AreLinked};
-ghost use Rattle.dw_links.specs.Linkable.{entries_in, MayAsk};
+ghost use Rattle.dw_links.specs.Linkable.{entries_in, entry_with, MayLink};
 ghost use Rattle.dw_links.specs.LinkFaults.{IsFirstOfTargets};
 ghost use Rattle.dw_links.specs.References.{HeaderFailures, ReferenceFailures};
 ghost use Rattle.dw_links.specs.SignedTypes.{HasSignedTypes, AreTyped};
 
-use crate::class::broken_at;
 use crate::contribution::end_of_strings;
 use crate::references::References;
 use crate::strings::{check_strings, keep_texts, read_texts};
 use dw_entries::constants::*;
-use dw_entries::{
-    Broken, Entries, EntryAt, EntryHead, EntryId, Fault, Hints, Leading, OptionalId, Rule, Stop,
-};
-use dw_forms::{Attribute, Form};
+use dw_entries::{Broken, Entries, EntryId, Fault, Hints, OptionalId, Rule, Stop};
+use dw_forms::{Attribute, Lead};
 use std::alloc::Global;
 use std::collections::BTreeMap;
 
 /// The number of an entry, or none.
 #[inline(always)]
-fn number_of(entries: &Entries<'_>, id: &Option<EntryId>) -> OptionalId
+pub(crate) fn number_of(entries: &Entries<'_>, id: &Option<EntryId>) -> OptionalId
     requires { IfSome id.now (λ t. t < length (all_entries entries.now)) }
     ensures { result ≡ id.now }
 {
@@ -43,7 +38,11 @@ fn number_of(entries: &Entries<'_>, id: &Option<EntryId>) -> OptionalId
 
 /// What is kept of an entry's type after one attribute more: the target of the first type.
 #[inline(always)]
-fn keep(kept: Option<OptionalId>, attribute: Attribute, reached: OptionalId) -> Option<OptionalId>
+pub(crate) fn keep(
+    kept: Option<OptionalId>,
+    attribute: Attribute,
+    reached: OptionalId,
+) -> Option<OptionalId>
     ensures { result ≡ kept_after kept attribute reached }
 {
     if kept.is_none() && attribute == DW_AT_type {
@@ -54,83 +53,29 @@ fn keep(kept: Option<OptionalId>, attribute: Attribute, reached: OptionalId) -> 
 }
 
 impl References<'_, '_, '_> {
-    /// The next attribute, whose form is this one, and its target, or the rule that fails there.
-    #[inline(always)]
-    fn link_in(
-        &self,
-        declared: &mut [Option<bool>],
-        head: &EntryHead,
-        leading: &mut Leading<'_, '_>,
-        form: Form,
-    ) -> Result<(Attribute, OptionalId), Broken>
-        requires may { MayAsk self.now head.now }
-        requires kept { KeepsDeclared (entries_in self.now) declared.old }
-        requires form { next_form leading.old ≡ Some form }
-        ensures kept { KeepsDeclared (entries_in self.now) declared.new }
-        ensures ok { IfOk result
-            (LinksNext (entries_in self.now) head.now (leading_left leading.old) (leading_left leading.new)) }
-        ensures err { IfErr result (HasFailedNext (entries_in self.now) head.now (leading_left leading.old)) }
-    {
-        let (attribute, value) = leading.next_in(form);
-        if let Some(rule) = self.texts.ask(head, attribute, &value) {
-            return Err(broken_at(head, attribute, rule));
-        }
-        let reached = self.reach(head, &value);
-        let target = number_of(self.cursor.entries, &reached);
-        match self.ask(declared, head, attribute, &value, reached) {
-            None => Ok((attribute, target)),
-            Some(rule) => Err(broken_at(head, attribute, rule)),
-        }
-    }
-
-    /// The same. Most values have one of two forms, and each of these is read by code of its own.
-    #[inline(always)]
-    fn link_next(
-        &self,
-        declared: &mut [Option<bool>],
-        head: &EntryHead,
-        leading: &mut Leading<'_, '_>,
-        form: Form,
-    ) -> Result<(Attribute, OptionalId), Broken>
-        requires may { MayAsk self.now head.now }
-        requires kept { KeepsDeclared (entries_in self.now) declared.old }
-        requires form { next_form leading.old ≡ Some form }
-        ensures kept { KeepsDeclared (entries_in self.now) declared.new }
-        ensures ok { IfOk result
-            (LinksNext (entries_in self.now) head.now (leading_left leading.old) (leading_left leading.new)) }
-        ensures err { IfErr result (HasFailedNext (entries_in self.now) head.now (leading_left leading.old)) }
-    {
-        match form {
-            Form::Strp => self.link_in(declared, head, leading, Form::Strp),
-            Form::Ref4 => self.link_in(declared, head, leading, Form::Ref4),
-            form => self.link_in(declared, head, leading, form),
-        }
-    }
-
     /// The target of an entry's type, or the first failure at the entry. Each value is decoded once.
     #[inline(always)]
-    fn link_entry(
-        &self,
-        declared: &mut [Option<bool>],
-        entry: &EntryAt<'_, '_>,
-    ) -> Result<OptionalId, Broken>
-        requires found { IsSome entry.now }
-        requires may { (e : Entry) → entry.now ≡ Some e → MayAsk self.now (entry_head e) }
+    fn link_entry(&self, declared: &mut [Option<bool>], id: EntryId) -> Result<OptionalId, Broken>
+        requires may { MayLink self.now id }
         requires kept { KeepsDeclared (entries_in self.now) declared.old }
         ensures kept { KeepsDeclared (entries_in self.now) declared.new }
         ensures ok { IfOk result
-            (λ target. (e : Entry) → entry.now ≡ Some e → IsLinked (entries_in self.now) e target) }
+            (λ target. (e : Entry) → entry_with self.now id ≡ Some e → IsLinked (entries_in self.now) e target) }
         ensures err { IfErr result
-            (λ broken. (e : Entry) → entry.now ≡ Some e → HasFailed (entries_in self.now) e broken) }
+            (λ broken. (e : Entry) → entry_with self.now id ≡ Some e → HasFailed (entries_in self.now) e broken) }
     {
-        let head = entry.head();
+        let entry = self.cursor.entries.at_in(id, self.texts.unit);
         let mut leading = entry.leading();
         let mut kept = None;
-        while let Some(form) = leading.form() {
-            let (attribute, reached) = self.link_next(declared, &head, &mut leading, form)?;
-            kept = keep(kept, attribute, reached);
+        'values: loop {
+            match leading.lead() {
+                Lead::Nothing => return Ok(kept.unwrap_or(OptionalId::none())),
+                _ => {
+                    let after = self.link_next(declared, id, &mut leading, kept)?;
+                    kept = after;
+                }
+            }
         }
-        Ok(kept.unwrap_or(OptionalId::none()))
     }
 }
 
@@ -200,12 +145,16 @@ pub(crate) fn link_entries<'t>(
         signatures,
         hints,
     };
-    for number in 0..entries.count() {
-        let entry = references.cursor.at(entries.id(number));
-        keep_texts(&mut references.texts, entries, entry.unit());
-        match references.link_entry(declared.as_mut_slice(), &entry) {
-            Ok(target) => types.push(target)?,
-            Err(broken) => return Err(stop_of(alloc, entries, broken)),
+    for unit in 0..entries.unit_count() {
+        keep_texts(&mut references.texts, entries, unit);
+        let range = entries.range(unit);
+        references.cursor.at(entries.id(range.0));
+        for number in range.0..range.1 {
+            let id = entries.id(number);
+            match references.link_entry(declared.as_mut_slice(), id) {
+                Ok(target) => types.push(target)?,
+                Err(broken) => return Err(stop_of(alloc, entries, broken)),
+            }
         }
     }
     Ok(types)

@@ -147,19 +147,30 @@ pub struct References<'e, 'd, 't> {
 }
 
 impl References<'_, '_, '_> {
-    /// The entry of the unit at hand that starts so many bytes after the unit's header, if a guess finds it.
+    /// The entry with this number, if it is one of the unit at hand and starts so many bytes after the unit's header.
     #[inline(always)]
-    fn guess_in_unit(&self, offset: u64) -> Option<EntryId>
+    pub(crate) fn starts_after(&self, number: usize, offset: u64) -> Option<EntryId>
         requires { IsLinkable self.now }
-        ensures { IfSome result (λ id. entry_after self.now offset ≡ Some id) }
+        ensures reaches { IfSome result (λ id. entry_after self.now offset ≡ Some id) }
+        ensures number { IfSome result (λ id. id ≡ number) }
     {
         let at = offset.checked_add(u64::from(self.texts.head.offset))?;
-        let id = self.cursor.entries.nth(self.hints.guess(at)?)?;
+        let id = self.cursor.entries.nth(number)?;
         let entry = self.cursor.beside(id)?;
         if u64::from(entry.offset()) != at || entry.unit() != self.texts.unit {
             return None;
         }
         Some(id)
+    }
+
+    /// The entry of the unit at hand that starts so many bytes after the unit's header, if a guess finds it.
+    #[inline(always)]
+    pub(crate) fn guess_in_unit(&self, offset: u64) -> Option<EntryId>
+        requires { IsLinkable self.now }
+        ensures { IfSome result (λ id. entry_after self.now offset ≡ Some id) }
+    {
+        let at = offset.checked_add(u64::from(self.texts.head.offset))?;
+        self.starts_after(self.hints.guess(at)?, offset)
     }
 
     /// The entry of the unit at hand that starts so many bytes after the unit's header.

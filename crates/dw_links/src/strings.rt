@@ -78,9 +78,18 @@ impl UnitTexts<'_> {
         }
     }
 
+    /// The rule at a string by its offset into .debug_str.
+    #[inline(always)]
+    pub(crate) fn ask_text(&self, offset: u32) -> Option<Rule>
+        requires { IsReady self.now }
+        ensures { IsLeast (OffsetFails self.now.sections.str.now offset) result }
+    {
+        ask_offset(self.sections.str, self.str_end, offset)
+    }
+
     /// The rules at an indexed string.
     #[inline(never)]
-    fn ask_string(&self, index: u64) -> Option<Rule>
+    pub(crate) fn ask_string(&self, index: u64) -> Option<Rule>
         requires { IsReady self.now }
         ensures { IsLeast (StringIndexFails self.now.sections self.now.str_base index) result }
     {
@@ -104,7 +113,7 @@ impl UnitTexts<'_> {
 
     /// The rules at an indexed address.
     #[inline(never)]
-    fn ask_address(&self, index: u64) -> Option<Rule>
+    pub(crate) fn ask_address(&self, index: u64) -> Option<Rule>
         requires { IsReady self.now }
         ensures { IsLeast (AddressIndexFails self.now.sections self.now.head.header self.now.addr_base index) result }
     {
@@ -122,7 +131,7 @@ impl UnitTexts<'_> {
         ensures { IsLeast (FailsByTexts self.now head.now attribute (view value.now)) result }
     {
         match *value {
-            Value::Str(offset) => ask_offset(self.sections.str, self.str_end, offset),
+            Value::Str(offset) => self.ask_text(offset),
             Value::LineStr(offset) => ask_offset(self.sections.line_str, self.line_str_end, offset),
             Value::StrIndex(index) => self.ask_string(index),
             Value::AddrIndex(index) => self.ask_address(index),

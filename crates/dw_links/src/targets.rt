@@ -145,7 +145,7 @@ pub fn is_permitted_form(head: &EntryHead, attribute: Attribute, value: &Value<'
 
 /// An entry, sooner if it is one of the unit at hand.
 #[inline(always)]
-fn entry_at<'e, 'a>(cursor: &Cursor<'e, 'a>, id: EntryId) -> EntryAt<'e, 'a>
+pub(crate) fn entry_at<'e, 'a>(cursor: &Cursor<'e, 'a>, id: EntryId) -> EntryAt<'e, 'a>
     requires { id < length (all_entries cursor.now.entries.now) }
     ensures { result ≡ slice_get (all_entries cursor.now.entries.now) id }
 {

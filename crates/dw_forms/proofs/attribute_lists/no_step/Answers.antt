@@ -1,7 +1,7 @@
 use Rattle.std.proofs.Common.{refl, arith}
-use Rattle.dw_forms.specs.Walks.{step_in, skip_in}
+use Rattle.dw_forms.specs.Walks.{step_in, skip_in, lead_in}
 use Rattle.dw_forms.proofs.attribute_lists.no_step.Goals as goal
 
 pub returns : goal.returns
-unfolding step_in skip_in
-returns c = record { to = refl; with_4 = refl; with_8 = refl; small_4 = omega arith; small_8 = omega arith }
+unfolding step_in skip_in lead_in
+returns c = record { lead = refl; to = refl; with_4 = refl; with_8 = refl; small_4 = omega arith; small_8 = omega arith }

@@ -3,7 +3,7 @@ use Rattle.dw_forms.proofs.StepLaws.{step_here, step_past}
 use Rattle.dw_forms.proofs.attribute_lists.step_before.Goals as goal
 
 pub returns-then-stops_at : goal.returns-then-stops_at
-returns-then-stops_at c list is = step_here c.args.number c.args.spec.now list c.args.after is (sym c.stops_at.ensures ∙ c.if-stops_at.true)
+returns-then-stops_at c list is = step_here c.args.number c.args.spec.now list c.args.after is c.lead_of.result c.lead_of.ensures (sym c.stops_at.ensures ∙ c.if-stops_at.true)
 
 pub returns : goal.returns
 returns c list is =

@@ -1,6 +1,6 @@
 use Rattle.std.proofs.Common.{length}
 use Rattle.dw_forms.specs.Plans.{is_stop}
-use Rattle.dw_forms.proofs.SuffixLaws.{Follow, follow}
+use Rattle.dw_forms.proofs.SuffixLaws.{follow}
 use Rattle.dw_entries.specs.Values.{value_context}
 use Rattle.dw_entries.specs.ValuesLeft.{values_left}
 use Rattle.dw_entries.proofs.ChosenSteps.{before_passed, next_found, none_found, stop_taken}

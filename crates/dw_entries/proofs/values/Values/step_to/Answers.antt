@@ -1,6 +1,6 @@
 use Rattle.std.proofs.Common.{inl, inr, arith}
 use Rattle.dw_forms.specs.Value.{view}
-use Rattle.dw_entries.proofs.LeadingSteps.{some_form, skip_within, allowed, never, left_behind, found, leads_in}
+use Rattle.dw_entries.proofs.LeadingSteps.{some_form, skip_within, allowed, never, left_behind, found, leads_in, lead_with_is}
 use Rattle.dw_entries.proofs.values.Values.step_to.Goals as goal
 use Rattle.dw_entries.proofs.values.Values.step_to.Goals.{then-self-eq8, else-self-eq8}
 
@@ -51,5 +51,10 @@ returns-clause-found c = search (found c.args.self.now c.args.step c.if-self-eq8
 
 pub returns-clause-leads : goal.returns-clause-leads
 returns-clause-leads c = leads_in c.args.self.now c.args.step c.if-self-eq8.skip c.requires.step c.stepped-there.result c.stepped-there.ensures.nodes c.stepped-there.ensures.first
+    (elim c.if-self-eq8.branch [ then-self-eq8 w ↦ inl (w.if-self-eq8.true, w.skip-is) | else-self-eq8 w ↦ inr (w.if-self-eq8.false, w.skip-is) ])
+    c.in-Some.spec c.in-Some.rest c.in-Some.ensures.0 c.args.form c.requires.form
+
+pub returns-clause-lead : goal.returns-clause-lead
+returns-clause-lead c = lead_with_is c.args.self.now c.args.step c.if-self-eq8.skip c.requires.step c.stepped-there.result c.stepped-there.ensures.nodes c.stepped-there.ensures.first
     (elim c.if-self-eq8.branch [ then-self-eq8 w ↦ inl (w.if-self-eq8.true, w.skip-is) | else-self-eq8 w ↦ inr (w.if-self-eq8.false, w.skip-is) ])
     c.in-Some.spec c.in-Some.rest c.in-Some.ensures.0 c.args.form c.requires.form

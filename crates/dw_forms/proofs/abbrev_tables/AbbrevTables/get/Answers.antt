@@ -33,7 +33,7 @@ new-requires c =
     let within = found_within a.codes.links.items a.kept.items c.args.table c.args.code c.requires.searchable.coded in
     let some = c.if-number-eq0.false in
     let less : c.find-number.result - 1 < length a.kept.items = omega (arith, c.find-number.ensures, within, some) in
-    subst (λ (k : KeptDecl). HasList a.lists.lists.nodes.items k.first k.step) (sym c.index-kept.ensures) (c.requires.searchable.within (c.find-number.result - 1) c.index-kept.result.now less)
+    subst (λ (k : KeptDecl). HasList a.lists.lists.nodes.items k.first k.step k.declared) (sym c.index-kept.ensures) (c.requires.searchable.within (c.find-number.result - 1) c.index-kept.result.now less)
 
 pub returns-clause-number : goal.returns-clause-number
 returns-clause-number c = search (rules, code_is)

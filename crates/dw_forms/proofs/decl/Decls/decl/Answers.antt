@@ -14,7 +14,7 @@ new-requires c =
     let a = c.args.self.now in
     let some = c.requires.some in
     let within = c.requires.within in
-    subst (λ (k : KeptDecl). HasList a.lists.nodes.items k.first k.step) (sym c.index.ensures) (a.all (c.args.number - 1) c.index.result.now (omega (arith, some, within)))
+    subst (λ (k : KeptDecl). HasList a.lists.nodes.items k.first k.step k.declared) (sym c.index.ensures) (a.all (c.args.number - 1) c.index.result.now (omega (arith, some, within)))
 
 pub returns : goal.returns
 returns c =

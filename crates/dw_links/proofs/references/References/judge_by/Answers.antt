@@ -1,7 +1,7 @@
 use Rattle.std.proofs.Common.{rules}
 use Rattle.dw_links.proofs.TargetLaws.{reach_within}
 use Rattle.dw_links.proofs.Transfers.{least_by_texts}
-use Rattle.dw_links.proofs.references.References.link_in.Goals as goal
+use Rattle.dw_links.proofs.references.References.judge_by.Goals as goal
 
 pub number_of-target-requires : goal.number_of-target-requires
 number_of-target-requires c = search (rules, reach_within)

@@ -1,0 +1,18 @@
+use Rattle.std.proofs.Common.{◌<◌, length, Some, sym, ap, ◌∙◌, arith}
+use Rattle.std.proofs.lemmas.Option.{slice_get-get_or}
+use Rattle.dw_entries.specs.declared.walk.UnitRecord.{UnitRecord}
+use Rattle.dw_entries.proofs.KeptLaws.{units_counted}
+use Rattle.dw_entries.proofs.UnitRanges.{kept_first}
+use Rattle.dw_entries.proofs.entries.Entries.range.Goals as goal
+
+pub index-requires : goal.index-requires
+index-requires c = omega (arith, c.requires, units_counted _ _ _ _ _ c.args.self.now.scanned)
+
+pub returns-clause-first : goal.returns-clause-first
+returns-clause-first c =
+    let it = c.args.self.now in
+    let n = c.args.unit in
+    let within : n < length it.units.items = omega (arith, c.requires, units_counted _ _ _ _ _ it.scanned) in
+    let kept = slice_get-get_or it.units.items n c.index.result.now within ∙ ap (λ (u : UnitRecord). Some u) (sym c.index.ensures) in
+    let (p, is, first) = kept_first _ _ _ _ _ it.scanned n c.index.result.now kept in
+    rw is first

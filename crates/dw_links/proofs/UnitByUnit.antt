@@ -1,0 +1,77 @@
+-- The entries of one unit after another, from the first entry to the last.
+use Rattle.std.proofs.Common.{◌≡◌, ℕ, zero, suc, ◌+◌, ◌<◌, ◌≤◌, List, [], ◌∷◌, ◌++◌, length, length-append, map, take, subst, Option, Some, None, sym, ap, ◌∙◌, arith}
+use Rattle.std.specs.Prelude.{slice_get}
+use Rattle.std.proofs.lemmas.Option.{slice_get_within}
+use Rattle.dw_entries.specs.declared.entries.Entries.{Entries}
+use Rattle.dw_entries.specs.Units.{DebugUnit, unit_bytes}
+use Rattle.dw_entries.specs.Header.{header_size}
+use Rattle.dw_entries.specs.Entries.{Entry, entries_of, entries_from, node_entries, node_count, PlacedUnit, placed, placed_from}
+use Rattle.dw_entries.specs.Views.{all_entries, all_units}
+use Rattle.dw_entries.proofs.EntryFacts.{length-placed_from, length-node_entries, first_entry}
+use Rattle.dw_entries.proofs.UnitRanges.{next_first, last_ends}
+use Rattle.dw_links.specs.Linkable.{FailsByText, FailsByTarget}
+use Rattle.dw_links.specs.Tables.{type_target}
+use Rattle.dw_links.proofs.Skips.{there}
+use Rattle.dw_links.proofs.Transfers.{NoneBelow}
+
+-- the entries before this number are those of the units before this one
+pub record StartsAt (us : List DebugUnit) (unit number : ℕ) : Type 0 where
+  pub begins : (p : PlacedUnit) → slice_get (placed us) unit ≡ Some p → number ≡ p.first
+  pub ends : length us ≤ unit → length (entries_of us) ≤ number
+
+pub unit_there : (us : List DebugUnit) (unit : ℕ) → unit < length us → (p : PlacedUnit) × (slice_get (placed us) unit ≡ Some p)
+unit_there us unit below = there (placed us) unit (omega (arith, below, length-placed_from 0 0 us))
+
+-- a unit begins with one of the entries, and ends with one
+pub begins_within : (us : List DebugUnit) (unit : ℕ) (p : PlacedUnit) → slice_get (placed us) unit ≡ Some p → p.first < length (entries_of us)
+begins_within us unit p is = let has = first_entry us unit p is in slice_get_within (entries_of us) p.first has.entry has.is_entry
+
+ends_from : (unit id at : ℕ) (us : List DebugUnit) (n : ℕ) (p : PlacedUnit) → slice_get (placed_from at id us) n ≡ Some p → p.first + node_count p.unit.root ≤ id + length (entries_from unit id at us)
+ends_from unit id at [] n p is = absurd cc
+ends_from unit id at (u ∷ us) zero p is =
+    let es : List Entry = node_entries unit None 0 None id (at + header_size u.header.kind) u.root in
+    let fs : List Entry = entries_from (suc unit) (id + node_count u.root) (at + length (unit_bytes u)) us in
+    let count = length-node_entries unit None 0 None id (at + header_size u.header.kind) u.root in
+    let len = length-append es fs in
+    let some : ◌≡◌ {A = Option PlacedUnit} (Some (record { at = at; first = id; unit = u })) (Some p) = is in
+    let same : ◌≡◌ {A = PlacedUnit} (record { at = at; first = id; unit = u }) p = cc in
+    let P : PlacedUnit → Type 0 = λ q. q.first + node_count q.unit.root ≤ id + length (es ++ fs) in
+    subst P same (omega (arith, count, len))
+ends_from unit id at (u ∷ us) (suc n) p is =
+    let es : List Entry = node_entries unit None 0 None id (at + header_size u.header.kind) u.root in
+    let fs : List Entry = entries_from (suc unit) (id + node_count u.root) (at + length (unit_bytes u)) us in
+    let count = length-node_entries unit None 0 None id (at + header_size u.header.kind) u.root in
+    let len = length-append es fs in
+    let more = ends_from (suc unit) (id + node_count u.root) (at + length (unit_bytes u)) us n p is in
+    omega (arith, count, len, more)
+
+pub ends_within : (us : List DebugUnit) (unit : ℕ) (p : PlacedUnit) → slice_get (placed us) unit ≡ Some p → p.first + node_count p.unit.root ≤ length (entries_of us)
+ends_within us unit p is = let all = ends_from 0 0 0 us unit p is in omega (arith, all)
+
+pub starts_first : (us : List DebugUnit) → 0 < length us → StartsAt us 0 0
+starts_first us some = record { begins = λ p is. first us p is; ends = λ none. absurd (omega (arith, none, some)) }
+  where
+    first : (us : List DebugUnit) (p : PlacedUnit) → slice_get (placed us) 0 ≡ Some p → 0 ≡ p.first
+    first [] p is = absurd cc
+    first (u ∷ us) p is =
+        let some : ◌≡◌ {A = Option PlacedUnit} (Some (record { at = 0; first = 0; unit = u })) (Some p) = is in
+        let same : ◌≡◌ {A = PlacedUnit} (record { at = 0; first = 0; unit = u }) p = cc in
+        ap (λ (q : PlacedUnit). q.first) same
+
+pub starts_next : (us : List DebugUnit) (unit number : ℕ) (p : PlacedUnit) → slice_get (placed us) unit ≡ Some p → number ≡ p.first + node_count p.unit.root → StartsAt us (unit + 1) number
+starts_next us unit number p is after =
+    let next : unit + 1 ≡ suc unit = omega arith in
+    let within = slice_get_within (placed us) unit p is in
+    record {
+      begins = λ q is_q. after ∙ sym (next_first us unit p q is (ap (slice_get (placed us)) (sym next) ∙ is_q));
+      ends = λ past. omega (arith, after, last_ends us unit p is (omega (arith, past, within, length-placed_from 0 0 us)));
+    }
+
+-- no rule fails at the entries before this one, and these are the targets of their types
+pub record LinkedBelow (entries : Entries) (types : List (Option ℕ)) (number : ℕ) : Type 0 where
+  pub strings : NoneBelow entries (FailsByText entries) number
+  pub references : NoneBelow entries (FailsByTarget entries) number
+  pub types_are : types ≡ map (type_target (all_entries entries) (all_units entries)) (take number (all_entries entries))
+
+pub none_below : (entries : Entries) (types : List (Option ℕ)) → types ≡ [] → LinkedBelow entries types 0
+none_below entries types none = record { strings = λ j below. absurd (omega (arith, below)); references = λ j below. absurd (omega (arith, below)); types_are = none }

@@ -1,0 +1,296 @@
+//! The values of an entry that may lead elsewhere, one after another. The lead of a value says which rules can fail
+//! there, and only these are checked. If one fails, or a guess finds no entry, the value is judged by all rules.
+
+ghost use Rattle.std.specs.Prelude.{◌≡◌, ◌≢◌, true, IfSome, IfOk, IfErr};
+ghost use Rattle.std.specs.Bool.{OnTrue};
+ghost use Rattle.dw_forms.specs.Value.{str_index};
+ghost use Rattle.dw_forms.specs.declared.attribute_lists.Lead.TheVariants.{Nothing as NoLead, TypeEntry};
+ghost use Rattle.dw_entries.specs.Leading.{next_lead, leading_left, is_reference_lead, LeadsToText, LeadsByIndex1};
+ghost use Rattle.dw_entries.specs.Leading.{LeadsByIndex2, LeadsToAddress};
+ghost use Rattle.dw_links.specs.DeclaredEntries.{KeepsDeclared};
+ghost use Rattle.dw_links.specs.Linking.{IsNoType, HasFailedAt, KeepsAt, LinksAt, FailsNextAt};
+ghost use Rattle.dw_links.specs.Linkable.{entries_in, MayLink, IsLinkable, IsTypeAfter, IsSiblingAfter};
+ghost use Rattle.dw_links.specs.Linkable.{IsDeclaredAfter, LeadsWell};
+
+use crate::linking::{keep, number_of};
+use crate::references::References;
+use dw_entries::constants::*;
+use dw_entries::{Broken, EntryId, Leading, OptionalId};
+use dw_forms::{Attribute, Lead, Value};
+
+impl References<'_, '_, '_> {
+    /// The type that starts so many bytes after the unit's header, if a guess finds it.
+    #[inline(always)]
+    fn guess_type(&self, offset: u64) -> Option<EntryId>
+        requires { IsLinkable self.now }
+        ensures { IfSome result (IsTypeAfter self.now offset) }
+    {
+        let id = self.guess_in_unit(offset)?;
+        if !self.cursor.entries.decl(id).is_type() {
+            return None;
+        }
+        Some(id)
+    }
+
+    /// Whether the next sibling of an entry starts so many bytes after the unit's header.
+    #[inline(always)]
+    fn is_sibling(&self, id: EntryId, offset: u64) -> bool
+        requires { MayLink self.now id }
+        ensures { OnTrue result (IsSiblingAfter self.now id offset) }
+    {
+        match self.cursor.entries.next_sibling(id) {
+            Some(next) => self.starts_after(next.number(), offset).is_some(),
+            None => false,
+        }
+    }
+
+    /// Whether another entry, which is a declaration, starts so many bytes after the unit's header. False also if a
+    /// guess does not find it, or if only its own values say whether it is a declaration.
+    #[inline(always)]
+    fn is_completed(&self, id: EntryId, offset: u64) -> bool
+        requires { IsLinkable self.now }
+        ensures { OnTrue result (IsDeclaredAfter self.now id offset) }
+    {
+        let Some(target) = self.guess_in_unit(offset) else {
+            return false;
+        };
+        if target.number() == id.number() {
+            return false;
+        }
+        self.cursor.entries.decl(target).declared().unwrap_or(false)
+    }
+
+    /// Whether no rule fails at a reference with this lead. False also if that takes a search to find out.
+    #[inline(always)]
+    fn leads_well(&self, lead: Lead, id: EntryId, offset: u64) -> bool
+        requires { MayLink self.now id }
+        ensures { OnTrue result (LeadsWell self.now id offset lead) }
+    {
+        match lead {
+            Lead::Sibling => self.is_sibling(id, offset),
+            Lead::Specification => self.is_completed(id, offset),
+            Lead::Entry => self.guess_in_unit(offset).is_some(),
+            _ => false,
+        }
+    }
+
+    /// What is kept of the entry's type after the next value, which is a reference of four bytes to the type; or the
+    /// rule that fails there.
+    #[inline(always)]
+    fn link_type(
+        &self,
+        declared: &mut [Option<bool>],
+        id: EntryId,
+        leading: &mut Leading<'_, '_>,
+        kept: Option<OptionalId>,
+    ) -> Result<Option<OptionalId>, Broken>
+        requires may { MayLink self.now id }
+        requires kept { KeepsDeclared (entries_in self.now) declared.old }
+        requires lead { next_lead leading.old ≡ TypeEntry }
+        ensures kept { KeepsDeclared (entries_in self.now) declared.new }
+        ensures ok { IfOk result (LinksAt self.now id (leading_left leading.old) (leading_left leading.new) kept) }
+        ensures err { IfErr result (FailsNextAt self.now id (leading_left leading.old)) }
+    {
+        let item = leading.take_reference();
+        match self.guess_type(item.1) {
+            Some(target) => {
+                let target = number_of(self.cursor.entries, &Some(target));
+                Ok(keep(kept, DW_AT_type, target))
+            }
+            None => self.judge_next(declared, id, kept, item.0, Value::RefUnit(item.1)),
+        }
+    }
+
+    /// The same, where it is another reference of four bytes.
+    #[inline(always)]
+    fn link_reference(
+        &self,
+        declared: &mut [Option<bool>],
+        id: EntryId,
+        leading: &mut Leading<'_, '_>,
+        kept: Option<OptionalId>,
+    ) -> Result<Option<OptionalId>, Broken>
+        requires may { MayLink self.now id }
+        requires kept { KeepsDeclared (entries_in self.now) declared.old }
+        requires lead { is_reference_lead (next_lead leading.old) ≡ true }
+        ensures kept { KeepsDeclared (entries_in self.now) declared.new }
+        ensures ok { IfOk result (LinksAt self.now id (leading_left leading.old) (leading_left leading.new) kept) }
+        ensures err { IfErr result (FailsNextAt self.now id (leading_left leading.old)) }
+    {
+        let lead = leading.lead();
+        let item = leading.take_reference();
+        if self.leads_well(lead, id, item.1) {
+            return Ok(kept);
+        }
+        self.judge_next(declared, id, kept, item.0, Value::RefUnit(item.1))
+    }
+
+    /// The same, where it is the offset of a string in .debug_str.
+    #[inline(always)]
+    fn link_text(
+        &self,
+        declared: &mut [Option<bool>],
+        id: EntryId,
+        leading: &mut Leading<'_, '_>,
+        kept: Option<OptionalId>,
+    ) -> Result<Option<OptionalId>, Broken>
+        requires may { MayLink self.now id }
+        requires kept { KeepsDeclared (entries_in self.now) declared.old }
+        requires lead { LeadsToText leading.old }
+        ensures kept { KeepsDeclared (entries_in self.now) declared.new }
+        ensures ok { IfOk result (LinksAt self.now id (leading_left leading.old) (leading_left leading.new) kept) }
+        ensures err { IfErr result (FailsNextAt self.now id (leading_left leading.old)) }
+    {
+        let item = leading.take_text();
+        match self.texts.ask_text(item.1) {
+            None => Ok(kept),
+            Some(_) => self.judge_next(declared, id, kept, item.0, Value::Str(item.1)),
+        }
+    }
+
+    /// What is kept of the entry's type after the index of a string, or the rule that fails there.
+    #[inline(always)]
+    fn link_string(
+        &self,
+        declared: &mut [Option<bool>],
+        id: EntryId,
+        kept: Option<OptionalId>,
+        attribute: Attribute,
+        index: u64,
+    ) -> Result<Option<OptionalId>, Broken>
+        requires may { MayLink self.now id }
+        requires kept { KeepsDeclared (entries_in self.now) declared.old }
+        requires other { IsNoType attribute }
+        ensures kept { KeepsDeclared (entries_in self.now) declared.new }
+        ensures ok { IfOk result (KeepsAt self.now id attribute (str_index index) kept) }
+        ensures err { IfErr result (HasFailedAt self.now id attribute (str_index index)) }
+    {
+        match self.texts.ask_string(index) {
+            None => Ok(kept),
+            Some(_) => self.judge_next(declared, id, kept, attribute, Value::StrIndex(index)),
+        }
+    }
+
+    /// The same, where the next value is the index of a string in one byte.
+    #[inline(always)]
+    fn link_index1(
+        &self,
+        declared: &mut [Option<bool>],
+        id: EntryId,
+        leading: &mut Leading<'_, '_>,
+        kept: Option<OptionalId>,
+    ) -> Result<Option<OptionalId>, Broken>
+        requires may { MayLink self.now id }
+        requires kept { KeepsDeclared (entries_in self.now) declared.old }
+        requires lead { LeadsByIndex1 leading.old }
+        ensures kept { KeepsDeclared (entries_in self.now) declared.new }
+        ensures ok { IfOk result (LinksAt self.now id (leading_left leading.old) (leading_left leading.new) kept) }
+        ensures err { IfErr result (FailsNextAt self.now id (leading_left leading.old)) }
+    {
+        let item = leading.take_index1();
+        self.link_string(declared, id, kept, item.0, item.1)
+    }
+
+    /// The same, where it is the index of a string in two bytes.
+    #[inline(always)]
+    fn link_index2(
+        &self,
+        declared: &mut [Option<bool>],
+        id: EntryId,
+        leading: &mut Leading<'_, '_>,
+        kept: Option<OptionalId>,
+    ) -> Result<Option<OptionalId>, Broken>
+        requires may { MayLink self.now id }
+        requires kept { KeepsDeclared (entries_in self.now) declared.old }
+        requires lead { LeadsByIndex2 leading.old }
+        ensures kept { KeepsDeclared (entries_in self.now) declared.new }
+        ensures ok { IfOk result (LinksAt self.now id (leading_left leading.old) (leading_left leading.new) kept) }
+        ensures err { IfErr result (FailsNextAt self.now id (leading_left leading.old)) }
+    {
+        let item = leading.take_index2();
+        self.link_string(declared, id, kept, item.0, item.1)
+    }
+
+    /// The same, where it is the index of an address.
+    #[inline(always)]
+    fn link_address(
+        &self,
+        declared: &mut [Option<bool>],
+        id: EntryId,
+        leading: &mut Leading<'_, '_>,
+        kept: Option<OptionalId>,
+    ) -> Result<Option<OptionalId>, Broken>
+        requires may { MayLink self.now id }
+        requires kept { KeepsDeclared (entries_in self.now) declared.old }
+        requires lead { LeadsToAddress leading.old }
+        ensures kept { KeepsDeclared (entries_in self.now) declared.new }
+        ensures ok { IfOk result (LinksAt self.now id (leading_left leading.old) (leading_left leading.new) kept) }
+        ensures err { IfErr result (FailsNextAt self.now id (leading_left leading.old)) }
+    {
+        let item = leading.take_address();
+        match self.texts.ask_address(item.1) {
+            None => Ok(kept),
+            Some(_) => self.judge_next(declared, id, kept, item.0, Value::AddrIndex(item.1)),
+        }
+    }
+
+    /// The same, whatever the lead of the value is.
+    #[inline(always)]
+    fn link_other(
+        &self,
+        declared: &mut [Option<bool>],
+        id: EntryId,
+        leading: &mut Leading<'_, '_>,
+        kept: Option<OptionalId>,
+    ) -> Result<Option<OptionalId>, Broken>
+        requires may { MayLink self.now id }
+        requires kept { KeepsDeclared (entries_in self.now) declared.old }
+        requires lead { next_lead leading.old ≢ NoLead }
+        ensures kept { KeepsDeclared (entries_in self.now) declared.new }
+        ensures ok { IfOk result (LinksAt self.now id (leading_left leading.old) (leading_left leading.new) kept) }
+        ensures err { IfErr result (FailsNextAt self.now id (leading_left leading.old)) }
+    {
+        match leading.form() {
+            Some(form) => {
+                let item = leading.next_in(form);
+                self.judge_next(declared, id, kept, item.0, item.1)
+            }
+            None => unreachable!(),
+        }
+    }
+
+    /// What is kept of the entry's type after the next value, or the rule that fails there. The lead of the value says
+    /// which rules are checked.
+    #[inline(always)]
+    pub(crate) fn link_next(
+        &self,
+        declared: &mut [Option<bool>],
+        id: EntryId,
+        leading: &mut Leading<'_, '_>,
+        kept: Option<OptionalId>,
+    ) -> Result<Option<OptionalId>, Broken>
+        requires may { MayLink self.now id }
+        requires kept { KeepsDeclared (entries_in self.now) declared.old }
+        requires lead { next_lead leading.old ≢ NoLead }
+        ensures kept { KeepsDeclared (entries_in self.now) declared.new }
+        ensures ok { IfOk result (LinksAt self.now id (leading_left leading.old) (leading_left leading.new) kept) }
+        ensures err { IfErr result (FailsNextAt self.now id (leading_left leading.old)) }
+    {
+        match leading.lead() {
+            Lead::TypeEntry => self.link_type(declared, id, leading, kept),
+            // One arm for each, so that the test of the lead is compiled away.
+            Lead::Sibling => self.link_reference(declared, id, leading, kept),
+            Lead::Specification => self.link_reference(declared, id, leading, kept),
+            Lead::Entry => self.link_reference(declared, id, leading, kept),
+            Lead::Text => self.link_text(declared, id, leading, kept),
+            Lead::Index1 => self.link_index1(declared, id, leading, kept),
+            Lead::Index2 => self.link_index2(declared, id, leading, kept),
+            Lead::Address => self.link_address(declared, id, leading, kept),
+            Lead::Passed => {
+                leading.pass();
+                Ok(kept)
+            }
+            _ => self.link_other(declared, id, leading, kept),
+        }
+    }
+}
