@@ -1,6 +1,6 @@
 -- How a walk begins, and what holds at its end, also where it goes on past cycles: the nodes that are given up reach
 -- one, and those that have ranks reach none.
-use Rattle.std.proofs.Common.{rules, ◌≡◌, ◌≢◌, ℕ, ◌^◌, ◌+◌, ◌<◌, ◌⊎◌, ◌∙◌, true, false, [], length, get_or, replicate, inl, inr, arith, refl, sym, ap, sum, count_by, cond, zero, suc, ◌-◌, List, subst}
+use Rattle.std.proofs.Common.{rules, ◌≡◌, ◌≢◌, ℕ, ◌^◌, ◌+◌, ◌<◌, ◌⊎◌, ◌∙◌, true, false, [], length, get_or, replicate, set, inl, inr, arith, refl, sym, ap, sum, count_by, cond, zero, suc, ◌-◌, List, subst}
 use Rattle.std.proofs.lemmas.Bool.{cases_lt}
 use Rattle.std.proofs.lemmas.List.{length-replicate, get_or-replicate, get_or_past, get_or_default}
 use Rattle.std.proofs.lemmas.List.Sums.{sum_by-cons}
@@ -9,10 +9,11 @@ use Rattle.dw_types.specs.Cycles.{ReachesCycle, Leads, AreClear}
 use Rattle.dw_types.specs.declared.walk.Mark.{Mark}
 use Rattle.dw_types.specs.declared.walk.Mark.TheVariants.{Fresh, Open, Ranked}
 use Rattle.dw_types.specs.Graphs.{Graph, FallsAlong, IsStep, FollowsSteps, step_at}
-use Rattle.dw_types.specs.Walks.{HasStack, IsWalk, KeepsTaken, is_taken, IsAtCycle}
-use Rattle.dw_types.specs.WalkStates.{State, mark_of, taken_up, given_up}
+use Rattle.dw_types.specs.Orders.{IsOrderOf}
+use Rattle.dw_types.specs.Walks.{HasStack, IsKept, IsWalk, KeepsTaken, is_taken, IsAtCycle}
+use Rattle.dw_types.specs.WalkStates.{Kept, State, counted, given_up, mark_in, mark_of, without_stack}
 use Rattle.dw_types.proofs.ListLemmas.{at_set}
-use Rattle.dw_types.proofs.WalkLemmas.{in-graph}
+use Rattle.dw_types.proofs.WalkLemmas.{in-graph, turns-all}
 
 pub get_or-same : {X : Type 0} (n k : ℕ) (x : X) → get_or (replicate n x) k x ≡ x
 get_or-same n k x = elim (cases_lt k n) [ inl below ↦ get_or-replicate n k x x below | inr above ↦ get_or_past (replicate n x) k x (let e = length-replicate n x in omega arith) ]
@@ -25,12 +26,15 @@ count-fresh : (n : ℕ) → count_by is_taken (replicate n Fresh) ≡ 0
 count-fresh zero = refl
 count-fresh (suc n) = let first = sum_by-cons (λ (m : Mark). cond {A = ℕ} (is_taken m) 1 0) Fresh (replicate n Fresh) in let rest = count-fresh n in omega arith
 
--- the walk before its first turn
-abbrev pub start : ℕ → State
-start n = record { marks = replicate n Fresh; next = replicate n 0; ranks = replicate n 0; by_rank = []; stack = []; turns = 0; gave_up = false }
+-- what a walk keeps before its first turn
+abbrev pub start : ℕ → Kept
+start n = record { marks = replicate n Fresh; ranks = replicate n 0; by_rank = []; stack = []; looked = []; turns = 0; gave_up = false }
 
-pub start-walk : (graph : Graph) → length graph < 2 ^ 64 → IsWalk graph (start (length graph))
+start-walk : (graph : Graph) → length graph < 2 ^ 64 → IsWalk graph (counted (start (length graph)) (replicate (length graph) 0))
 start-walk graph few = search (rules, get_or-same, length-replicate, sum-zeros, count-fresh)
+
+pub start-kept : (graph : Graph) → length graph < 2 ^ 64 → IsKept graph (start (length graph))
+start-kept graph few = record { next = replicate (length graph) 0; walk = start-walk graph few; long = refl; looked = λ k below. absurd (omega arith) }
 
 -- with an empty stack, a node that was taken up was ranked, or given up
 end-by_mark : (graph : Graph) (s : State) (node : ℕ) → IsWalk graph s → s.stack ≡ [] → mark_of s node ≢ Fresh → (m : Mark) → mark_of s node ≡ m → (m ≡ Ranked) ⊎ ((s.gave_up ≡ true) × ReachesCycle graph node)
@@ -38,20 +42,35 @@ end-by_mark graph s node h empty taken Fresh e = absurd (taken e)
 end-by_mark graph s node h empty taken Open e = search (rules)
 end-by_mark graph s node h empty taken Ranked e = inl refl
 
-pub end-of_taken : (graph : Graph) (s : State) (node : ℕ) → IsWalk graph s → s.stack ≡ [] → mark_of s node ≢ Fresh → (mark_of s node ≡ Ranked) ⊎ ((s.gave_up ≡ true) × ReachesCycle graph node)
+end-of_taken : (graph : Graph) (s : State) (node : ℕ) → IsWalk graph s → s.stack ≡ [] → mark_of s node ≢ Fresh → (mark_of s node ≡ Ranked) ⊎ ((s.gave_up ≡ true) × ReachesCycle graph node)
 end-of_taken graph s node h empty taken = end-by_mark graph s node h empty taken (mark_of s node) refl
 
 -- so it was ranked, if none was given up
-pub ranked-from_taken : (graph : Graph) (s : State) (node : ℕ) → IsWalk graph s → s.stack ≡ [] → s.gave_up ≡ false → mark_of s node ≢ Fresh → mark_of s node ≡ Ranked
+ranked-from_taken : (graph : Graph) (s : State) (node : ℕ) → IsWalk graph s → s.stack ≡ [] → s.gave_up ≡ false → mark_of s node ≢ Fresh → mark_of s node ≡ Ranked
 ranked-from_taken graph s node h empty kept taken = search (rules, end-of_taken)
 
 -- once each node was ranked, each step leads to a smaller rank
-pub falls-from_ranked : (graph : Graph) (s : State) → IsWalk graph s → ((node : ℕ) → node < length graph → mark_of s node ≡ Ranked) → FallsAlong graph s.ranks
+falls-from_ranked : (graph : Graph) (s : State) → IsWalk graph s → ((node : ℕ) → node < length graph → mark_of s node ≡ Ranked) → FallsAlong graph s.ranks
 falls-from_ranked graph s h all node k in_steps = search (rules, cases_lt, get_or_past)
 
 -- where a node was taken up, and no node that was is fresh again, none up to it is fresh
-pub taken-more : (s new : State) (node : ℕ) → node < length s.marks → KeepsTaken (taken_up s node) new → ((k : ℕ) → k < node → mark_of s k ≢ Fresh) → (k : ℕ) → k < node + 1 → mark_of new k ≢ Fresh
-taken-more s new node inside keeps before = search (rules, at_set)
+pub taken-more : (old new : List Mark) (node : ℕ) → node < length old → KeepsTaken (set old node Open) new → ((k : ℕ) → k < node → mark_in old k ≢ Fresh) → (k : ℕ) → k < node + 1 → mark_in new k ≢ Fresh
+taken-more old new node inside keeps before = search (rules, at_set)
+
+-- the order at the end of a walk in which each node was taken up, and none given up
+pub order-at_end : (graph : Graph) (it : Kept) → IsKept graph it → it.stack ≡ [] → it.gave_up ≡ false → ((node : ℕ) → node < length graph → mark_in it.marks node ≢ Fresh)
+    → IsOrderOf graph (record { ranks = it.ranks; by_rank = it.by_rank; turns = it.turns })
+order-at_end graph it h empty kept taken =
+    let s = counted it h.next in
+    let all : (node : ℕ) → node < length graph → mark_of s node ≡ Ranked = λ node below. ranked-from_taken graph s node h.walk empty kept (taken node below) in
+    let ranks = h.walk.coherent.ranks in
+    record {
+      nodes = h.walk.coherent.places.ranks;
+      falls = falls-from_ranked graph s h.walk all;
+      turns = turns-all graph s h.walk.coherent all;
+      listed = λ node below. (ranks.below node (all node below), ranks.listed node (all node below));
+      ranked = λ k below. let here = ranks.ranked k below in (in-graph graph s _ h.walk.coherent.places (λ fresh. cc), here.1);
+    }
 
 -- one step more at the end
 leads-more : (graph : Graph) (k a b c : ℕ) → Leads graph k a b → IsStep graph b c → Leads graph (suc k) a c
@@ -97,7 +116,7 @@ module _ (graph : Graph) (s : State) (to : ℕ) (h : IsAtCycle graph s to) where
   stacked-reaches : (k : ℕ) → k < length s.stack → ReachesCycle graph (get_or s.stack k 0)
   stacked-reaches k within = reaches-back graph (suc (length s.stack - 1 - k)) (get_or s.stack k 0) to (leads-on k within) to-reaches
 
-  pub given_up-walk : IsWalk graph (given_up s)
+  given_up-walk : IsWalk graph (given_up s)
   given_up-walk =
       let old = h.coherent in
       let stack : HasStack graph (given_up s) = record {
@@ -113,6 +132,10 @@ module _ (graph : Graph) (s : State) (to : ℕ) (h : IsAtCycle graph s to) where
         steps = λ k below. absurd (omega arith);
       } in
       search (rules)
+
+-- what is kept once the nodes on the stack are given up
+pub without_stack-kept : (graph : Graph) (it : Kept) (to : ℕ) → ((next : List ℕ) × IsAtCycle graph (counted it next) to) → IsKept graph (without_stack it)
+without_stack-kept graph it to at = record { next = at.0; walk = given_up-walk graph (counted it at.0) to at.1; long = refl; looked = λ k below. absurd (omega arith) }
 
 -- once each node was taken up, those that have ranks are the clear ones
 pub clear-at_end : (graph : Graph) (s : State) → IsWalk graph s → s.stack ≡ [] → ((node : ℕ) → node < length graph → mark_of s node ≢ Fresh) → AreClear graph s.by_rank

@@ -7,6 +7,7 @@ pub mod CountLemmas
 pub mod RankLemmas
 pub mod WalkLemmas
 pub mod CycleLemmas
+pub mod HandLemmas
 pub mod EndLemmas
 pub mod LongestLemmas
 pub mod PackingLemmas

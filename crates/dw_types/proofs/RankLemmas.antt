@@ -1,18 +1,17 @@
--- A node on top of the stack, all of whose steps were looked at, is ranked, and a fresh node without steps at once;
--- ranks by the nodes in their order.
+-- A node on top of the stack, all of whose steps were looked at, is ranked; ranks by the nodes in their order.
 use Rattle.std.proofs.lemmas.Grind.{common_steps}
-use Rattle.std.proofs.Common.{rules, ◌≡◌, ◌≢◌, None, ℕ, ◌+◌, ◌<◌, List, [], ◌∷◌, ◌++◌, length, get_or, replicate, set, take, suc, arith, refl, sym, ap, ◌∙◌, length-set, get_or-set_same, get_or-set_other, ◌-◌, ◌⊎◌, inl, inr, ◌≤◌}
+use Rattle.std.proofs.Common.{rules, ◌≡◌, ◌≢◌, ℕ, ◌+◌, ◌<◌, List, [], ◌∷◌, ◌++◌, length, get_or, replicate, set, take, suc, arith, refl, sym, ap, ◌∙◌, length-set, get_or-set_same, get_or-set_other, ◌-◌, ◌⊎◌, inl, inr}
 use Rattle.std.proofs.lemmas.List.{length-replicate, length-take-le, take_more, length_push, get_or_push, get_or_append_left, get_or-take}
 use Rattle.std.proofs.lemmas.Bool.{cases_lt}
 use Rattle.std.proofs.lemmas.List.Sums.{sum_by-set}
 use Rattle.std.proofs.Math.Seq.{take-append_seam}
 use Rattle.dw_types.specs.RanksListed.{ranks_from, ranks_listed}
 use Rattle.dw_types.specs.declared.walk.Mark.TheVariants.{Fresh, Open, Ranked}
-use Rattle.dw_types.specs.Graphs.{Graph, LeadsToNodes, steps_of, step_at}
-use Rattle.dw_types.specs.Walks.{HasFollowed, HasNext, HasStack, HasRanks, IsTop, IsWalk, KeepsTaken, IsMet, work_left}
-use Rattle.dw_types.specs.WalkStates.{State, mark_of, with_rank, with_step, taken_up}
+use Rattle.dw_types.specs.Graphs.{Graph, steps_of, step_at}
+use Rattle.dw_types.specs.Walks.{HasStack, HasRanks, IsWalk}
+use Rattle.dw_types.specs.WalkStates.{State, mark_of, with_rank}
 use Rattle.dw_types.proofs.ListLemmas.{at_set, at_push}
-use Rattle.dw_types.proofs.WalkLemmas.{followed-fresh, top-opened, in-graph}
+use Rattle.dw_types.proofs.WalkLemmas.{IsTop, top-opened, in-graph}
 
 ranks_from-push : (ranks : List ℕ) (first : ℕ) (nodes : List ℕ) (node : ℕ) → ranks_from ranks first (nodes ++ node ∷ []) ≡ set (ranks_from ranks first nodes) node (first + length nodes)
 ranks_from-push ranks first [] node = ap (λ (rank : ℕ). set ranks node rank) (let e : first ≡ first + 0 = omega arith in e)
@@ -45,10 +44,10 @@ module _ (nodes node : ℕ) (by_rank : List ℕ) (place : ℕ) (inside : node < 
 -- ranking the node on top of the stack, all of whose steps were looked at
 
 module _ (graph : Graph) (s : State) (node : ℕ) (h : IsWalk graph s) (t : IsTop s node) (all : get_or s.next node 0 ≡ length (steps_of graph node)) where
-  pub done-opened : mark_of s node ≡ Open
+  done-opened : mark_of s node ≡ Open
   done-opened = top-opened graph s node h.coherent.stack t
 
-  pub done-in : node < length graph
+  done-in : node < length graph
   done-in = in-graph graph s node h.coherent.places (λ e. let opened = done-opened in cc)
 
   done-in_marks : node < length s.marks
@@ -103,9 +102,6 @@ module _ (graph : Graph) (s : State) (node : ℕ) (h : IsWalk graph s) (t : IsTo
   done-ranks =
       search (rules, length_push, done-mark, get_or-set_same, done-in_ranks, done-keeps, get_or_push, get_or_append_left, at_push, done-in_marks, done-ranked, done-leads)
 
-  pub done-keeps_taken : KeepsTaken s (with_rank s node)
-  done-keeps_taken = done-fresh
-
   pub done-walk : IsWalk graph (with_rank s node)
   done-walk = record {
     coherent = search (rules, length-set, done-stack, done-fresh, done-mark, done-ranks, sum_by-set, done-in_marks, done-opened);
@@ -115,44 +111,3 @@ module _ (graph : Graph) (s : State) (node : ℕ) (h : IsWalk graph s) (t : IsTo
 -- a list without the element that was just added
 pub take-push : (xs : List ℕ) (x : ℕ) → take (length (xs ++ x ∷ []) - 1) (xs ++ x ∷ []) ≡ xs
 take-push xs x = let long = length_push xs x in let e : length (xs ++ x ∷ []) - 1 ≡ length xs = omega arith in rw e (take-append_seam xs (x ∷ []))
-
-module _ (graph : Graph) (s : State) (node : ℕ) (h : IsWalk graph (taken_up s node)) (none : length (steps_of graph node) ≡ 0) where
-  leaf-top : IsTop (taken_up s node) node
-  leaf-top = search (rules, length_push, get_or_push)
-
-  leaf-all : get_or (taken_up s node).next node 0 ≡ length (steps_of graph node)
-  leaf-all = let within = h.coherent.counters.within node in omega arith
-
-  leaf-walk : IsWalk graph (with_rank (taken_up s node) node)
-  leaf-walk = done-walk graph (taken_up s node) node h leaf-top leaf-all
-
-  leaf-keeps : KeepsTaken (taken_up s node) (with_rank (taken_up s node) node)
-  leaf-keeps = done-keeps_taken graph (taken_up s node) node h leaf-top leaf-all
-
--- what holds where a fresh node was taken up, holds where it was met
-
-module _ (graph : Graph) (s : State) (node : ℕ) (new : State) (h : IsWalk graph (taken_up s node)) (met : IsMet graph s node new) where
-  pub met-walk : IsWalk graph new
-  met-walk = elim met [ inl up ↦ rw up h | inr leaf ↦ rw leaf.1 (leaf-walk graph s node h leaf.0) ]
-
-  pub met-keeps : KeepsTaken (taken_up s node) new
-  met-keeps = elim met [ inl up ↦ rw up (λ a fresh. fresh) | inr leaf ↦ rw leaf.1 (leaf-keeps graph s node h leaf.0) ]
-
-  pub met-gave_up : new.gave_up ≡ s.gave_up
-  met-gave_up = elim met [ inl up ↦ rw up refl | inr leaf ↦ rw leaf.1 refl ]
-
-  pub met-less : work_left graph new ≤ work_left graph (taken_up s node)
-  met-less = search (rules, length_push, take-push)
-
--- the next step goes to a fresh node, which is met
-pub followed-met : (graph : Graph) (s new : State) (node before to : ℕ) → LeadsToNodes graph → IsWalk graph s → HasNext graph s node before → to ≡ step_at graph node before
-    → mark_of s to ≡ Fresh → IsMet graph (with_step s node) to new → HasFollowed graph s new None
-followed-met graph s new node before to inside h n leads fresh met =
-    let up = followed-fresh graph s node before to h n leads fresh (rw (leads, ← n.looked) (inside node _ n.more)) in
-    let most = met-less graph (with_step s node) to new up.comes met in
-    record {
-      comes = met-walk graph (with_step s node) to new up.comes met;
-      taken = λ a is. up.taken a (met-keeps graph (with_step s node) to new up.comes met a is);
-      gave_up = met-gave_up graph (with_step s node) to new up.comes met;
-      less = let less = up.less in omega arith;
-    }

@@ -1,6 +1,6 @@
 -- A node is taken up, or a step looked at: each turn of a walk leads to another state of one, and how many turns a walk
 -- has taken.
-use Rattle.std.proofs.Common.{rules, ◌≡◌, None, Some, ℕ, ◌+◌, ◌^◌, ◌<◌, ◌≤◌, List, [], ◌∷◌, Bool, true, cond, length, get_or, arith, refl, sum, count_by, suc, ◌≢◌, ◌-◌, ◌⊎◌, inl, inr, sym, ap, ◌∙◌, length-set, get_or-set_same}
+use Rattle.std.proofs.Common.{rules, ◌≡◌, Option, None, Some, ℕ, ◌+◌, ◌^◌, ◌<◌, ◌≤◌, List, [], ◌∷◌, Bool, true, cond, length, get_or, arith, refl, sum, count_by, suc, ◌≢◌, ◌-◌, ◌⊎◌, inl, inr, sym, ap, ◌∙◌, length-set, get_or-set_same}
 use Rattle.std.proofs.lemmas.Grind.{common_steps}
 use Rattle.std.specs.List.{sum_by}
 use Rattle.std.proofs.lemmas.List.Sums.{sum_by-cons, sum_by-le, count_by-le-length, sum_by-set}
@@ -9,8 +9,8 @@ use Rattle.std.proofs.lemmas.Bool.{cond-true, cases_lt}
 use Rattle.std.proofs.lemmas.List.{length_push, get_or_push, get_or_past, get_or_append_left}
 use Rattle.dw_types.specs.declared.walk.Mark.TheVariants.{Fresh, Ranked, Open}
 use Rattle.dw_types.specs.Graphs.{Graph, step_count, steps_of, step_at, IsStep}
-use Rattle.dw_types.specs.Walks.{IsCoherent, is_taken, HasPlaces, HasStack, HasCounters, HasFollowed, HasNext, IsTop, IsWalk, LooksUp, LooksUpBut, work_left}
-use Rattle.dw_types.specs.WalkStates.{State, mark_of, taken_up, with_step}
+use Rattle.dw_types.specs.Walks.{IsCoherent, is_taken, HasPlaces, HasStack, HasCounters, IsAbove, IsWalk, LooksUp, stack_step}
+use Rattle.dw_types.specs.WalkStates.{State, mark_of, taken_up, with_steps}
 use Rattle.dw_types.proofs.ListLemmas.{at_set, at_push}
 
 -- a count of a list each of whose elements passes
@@ -21,6 +21,17 @@ count_by-all {X} p (x ∷ xs) d all =
     let rest = count_by-all p xs d (λ k below. all (suc k) (omega arith)) in
     let one : cond {A = ℕ} (p x) 1 0 ≡ 1 = cond-true (p x) 1 0 (all 0 (omega arith)) in
     omega arith
+
+-- the node on top of the stack
+pub record IsTop (s : State) (node : ℕ) : Type 0 where
+  pub some : 0 < length s.stack
+  pub top : get_or s.stack (length s.stack - 1) 0 ≡ node
+
+-- each step that was looked at goes to a node that was ranked, or to one further up the stack, or to the one that stops
+abbrev pub LooksUpBut : Graph → State → Option ℕ → Type 0
+LooksUpBut graph s stop = (place k : ℕ) → place < length s.stack → k < get_or s.next (get_or s.stack place 0) 0
+    → ((mark_of s (stack_step graph s place k) ≡ Ranked) ⊎ IsAbove s place (stack_step graph s place k))
+    ⊎ (stop ≡ Some (stack_step graph s place k))
 
 -- two sums, by their terms
 sum-le : (counts : List ℕ) (graph : Graph) → length counts ≡ length graph → ((k : ℕ) → get_or counts k 0 ≤ length (get_or graph k [])) → sum counts ≤ sum_by length graph
@@ -76,27 +87,32 @@ top-opened graph s node h t = rw (← t.top) (h.opened (length s.stack - 1) (let
 pub in-graph : (graph : Graph) (s : State) (node : ℕ) → HasPlaces graph s → (mark_of s node ≡ Fresh → ⊥) → node < length graph
 in-graph graph s node h ne = search (rules, cases_lt, get_or_past)
 
--- looking at a step
+-- looking at steps of the node on top
 
-look-counters : (graph : Graph) (s : State) (node : ℕ) → IsCoherent graph s → IsTop s node → node < length s.next
-    → get_or s.next node 0 < length (steps_of graph node) → length (steps_of graph node) < 2 ^ 64 → HasCounters graph (with_step s node)
-look-counters graph s node h t in_graph more small = search (rules, top-opened, at_set)
+look-counters : (graph : Graph) (s : State) (node count : ℕ) → IsCoherent graph s → IsTop s node → node < length s.next
+    → get_or s.next node 0 + count ≤ length (steps_of graph node) → get_or s.next node 0 + count < 2 ^ 64 → HasCounters graph (with_steps s node count)
+look-counters graph s node count h t in_graph more small = search (rules, top-opened, at_set)
 
-pub look-coherent : (graph : Graph) (s : State) (node : ℕ) → IsCoherent graph s → IsTop s node → node < length s.next
-    → get_or s.next node 0 < length (steps_of graph node) → length (steps_of graph node) < 2 ^ 64 → IsCoherent graph (with_step s node)
-look-coherent graph s node h t in_graph more small = search (rules, length-set, look-counters, sum_by-set)
+pub look-coherent : (graph : Graph) (s : State) (node count : ℕ) → IsCoherent graph s → IsTop s node → node < length s.next
+    → get_or s.next node 0 + count ≤ length (steps_of graph node) → get_or s.next node 0 + count < 2 ^ 64 → IsCoherent graph (with_steps s node count)
+look-coherent graph s node count h t in_graph more small = search (rules, length-set, look-counters, sum_by-set)
 
-pub look-but : (graph : Graph) (s : State) (node : ℕ) → IsWalk graph s → node < length s.next
-    → LooksUpBut graph (with_step s node) (step_at graph node (get_or s.next node 0))
-look-but graph s node h in_graph place k in_stack seen =
-    elim (at_set s.next node (get_or s.stack place 0) (get_or s.next node 0 + 1) 0 in_graph) [
-      | inl p ↦ search (rules, cases_lt)
+-- each step that is looked at goes to a node that was ranked, or to the one that stops
+pub look-but : (graph : Graph) (s : State) (node count : ℕ) (stop : Option ℕ) → IsWalk graph s → node < length s.next
+    → ((k : ℕ) → get_or s.next node 0 ≤ k → k < get_or s.next node 0 + count → (mark_of s (step_at graph node k) ≡ Ranked) ⊎ (stop ≡ Some (step_at graph node k)))
+    → LooksUpBut graph (with_steps s node count) stop
+look-but graph s node count stop h in_graph known place k in_stack seen =
+    elim (at_set s.next node (get_or s.stack place 0) (get_or s.next node 0 + count) 0 in_graph) [
+      | inl p ↦ elim (cases_lt k (get_or s.next node 0)) [
+        | inl below ↦ inl (h.looks_up place k in_stack (rw p.0 below))
+        | inr above ↦ rw p.0 (elim (known k above (rw p.1 at seen)) [ inl done ↦ inl (inl done) | inr stops ↦ inr stops ])
+      ]
       | inr p ↦ inl (h.looks_up place k in_stack (rw p.1 at seen))
     ]
 
--- where the step leads to a node that was ranked, that is all
-pub looked-ranked : (graph : Graph) (s : State) (to : ℕ) → LooksUpBut graph s to → mark_of s to ≡ Ranked → LooksUp graph s
-looked-ranked graph s to but done place k in_stack seen = search (rules)
+-- where none stops, that is all
+pub looked-all : (graph : Graph) (s : State) → LooksUpBut graph s None → LooksUp graph s
+looked-all graph s but place k in_stack seen = elim (but place k in_stack seen) [ inl known ↦ known | inr stops ↦ absurd cc ]
 
 -- taking up a fresh node
 
@@ -138,58 +154,16 @@ module _ (graph : Graph) (s : State) (node : ℕ) (h : IsCoherent graph s) (in_g
   pub up-coherent : IsCoherent graph (taken_up s node)
   up-coherent = search (rules, length-set, up-stack, was-fresh, was-ranked, up-ranked, sum_by-set)
 
-  pub up-looks_up : LooksUpBut graph s node → LooksUp graph (taken_up s node)
+  pub up-looks_up : LooksUpBut graph s (Some node) → LooksUp graph (taken_up s node)
   up-looks_up but place k in_stack seen =
       elim (at_push s.stack place node 0 in_stack) [
         | inl p ↦ search (rules)
         | inr p ↦
             rw p.1 (elim (but place k p.0 (rw p.1 at seen)) [
               | inl known ↦ search (rules, up-ranked, up-length, get_or_append_left)
-              | inr here ↦ inr (length s.stack, p.0, (let e = up-length in omega arith), get_or_push s.stack node 0 (length s.stack) refl ∙ sym here)
+              | inr here ↦ inr (length s.stack, p.0, (let e = up-length in omega arith), get_or_push s.stack node 0 (length s.stack) refl ∙ (let same : node ≡ stack_step graph s place k = cc in same))
             ])
       ]
-
--- a whole turn: the next step of the node on top is looked at
-
-module _ (graph : Graph) (s : State) (node before to : ℕ) (h : IsWalk graph s) (n : HasNext graph s node before) (leads : to ≡ step_at graph node before) where
-  turn-in : node < length s.next
-  turn-in = search (rules, in-graph, top-opened)
-
-  turn-coherent : IsCoherent graph (with_step s node)
-  turn-coherent = look-coherent graph s node h.coherent n.is_top turn-in n.more n.few
-
-  turn-link : 0 < length s.stack → IsStep graph (get_or s.stack (length s.stack - 1) 0) to
-  turn-link some = rw n.is_top.top (get_or s.next node 0, n.more, rw n.looked (sym leads))
-
-  turn-but : LooksUpBut graph (with_step s node) to
-  turn-but = rw (leads, ← n.looked) (look-but graph s node h turn-in)
-
-  look-less : work_left graph (with_step s node) < work_left graph s
-  look-less = let few = turns-le graph (with_step s node) turn-coherent in omega arith
-
-  -- to a node that was ranked
-  pub followed-ranked : mark_of s to ≡ Ranked → HasFollowed graph s (with_step s node) None
-  followed-ranked done = search (rules, turn-coherent, looked-ranked, turn-but, look-less)
-
-  -- to an open node
-  pub followed-open : mark_of s to ≡ Open → HasFollowed graph s (with_step s node) (Some to)
-  followed-open opened = search (rules, turn-coherent, turn-link, look-less)
-
-  -- to a fresh node, which is taken up
-  module _ (new : mark_of s to ≡ Fresh) (in_graph : to < length graph) where
-    turn-in_marks : to < length s.marks
-    turn-in_marks = let e = h.coherent.places.marks in omega arith
-
-    turn-up : IsCoherent graph (taken_up (with_step s node) to)
-    turn-up = up-coherent graph (with_step s node) to turn-coherent turn-in_marks new turn-link
-
-    pub followed-fresh : HasFollowed graph s (taken_up (with_step s node) to) None
-    followed-fresh = record {
-      comes = record { coherent = turn-up; looks_up = up-looks_up graph (with_step s node) to turn-coherent turn-in_marks new turn-link turn-but };
-      taken = was-fresh graph (with_step s node) to turn-coherent turn-in_marks new turn-link;
-      gave_up = refl;
-      less = let few = turns-le graph (taken_up (with_step s node) to) turn-up in let long = length_push s.stack to in omega arith;
-    }
 
 -- a walk with an empty stack takes up a fresh node
 module _ (graph : Graph) (s : State) (node : ℕ) (h : IsWalk graph s) (empty : s.stack ≡ []) (in_graph : node < length graph) (new : mark_of s node ≡ Fresh) where

@@ -1,12 +1,12 @@
 -- State: what holds of the state of a walk over a graph before and after each turn.
-use Rattle.std.specs.Prelude.{◌≡◌, ◌≢◌, ℕ, ◌+◌, ◌-◌, ◌*◌, ◌^◌, ◌<◌, ◌≤◌, ◌⊎◌, Bool, true, false, [], length}
-use Rattle.std.specs.Prelude.{slice_index}
+use Rattle.std.specs.Prelude.{◌≡◌, ◌≢◌, ℕ, ◌+◌, ◌-◌, ◌^◌, ◌<◌, ◌≤◌, ◌⊎◌, Bool, true, false, List, [], length}
+use Rattle.std.specs.Prelude.{slice_index, slice_set}
 use Rattle.std.specs.Prelude.{Option, Some, None, sum, count_by}
 use Rattle.dw_types.specs.Cycles.{ReachesCycle}
 use Rattle.dw_types.specs.declared.walk.Mark.{Mark}
 use Rattle.dw_types.specs.declared.walk.Mark.TheVariants.{Fresh, Open, Ranked}
-use Rattle.dw_types.specs.Graphs.{Graph, steps_of, step_at, FollowsSteps, IsStep, step_count}
-use Rattle.dw_types.specs.WalkStates.{State, mark_of, taken_up, with_rank}
+use Rattle.dw_types.specs.Graphs.{Graph, steps_of, step_at, FollowsSteps, IsStep}
+use Rattle.dw_types.specs.WalkStates.{State, Kept, counted, mark_in, mark_of}
 
 -- marks, counters and ranks have a place for each node
 pub record HasPlaces (graph : Graph) (s : State) : Type 0 where
@@ -72,12 +72,6 @@ abbrev pub LooksUp : Graph → State → Type 0
 LooksUp graph s = (place k : ℕ) → place < length s.stack → k < slice_index s.next (slice_index s.stack place)
     → (mark_of s (stack_step graph s place k) ≡ Ranked) ⊎ IsAbove s place (stack_step graph s place k)
 
--- the same, but for steps to one node
-abbrev pub LooksUpBut : Graph → State → ℕ → Type 0
-LooksUpBut graph s to = (place k : ℕ) → place < length s.stack → k < slice_index s.next (slice_index s.stack place)
-    → ((mark_of s (stack_step graph s place k) ≡ Ranked) ⊎ IsAbove s place (stack_step graph s place k))
-    ⊎ (stack_step graph s place k ≡ to)
-
 -- the state is one that a walk over the graph comes to
 pub record IsWalk (graph : Graph) (s : State) : Type 0 where
   pub coherent : IsCoherent graph s
@@ -90,46 +84,45 @@ pub record IsAtCycle (graph : Graph) (s : State) (to : ℕ) : Type 0 where
   pub closes : IsStep graph (slice_index s.stack (length s.stack - 1)) to
   pub opened : mark_of s to ≡ Open
 
--- the walk goes on, or a step goes to an open node
-abbrev pub ComesTo : Graph → State → Option ℕ → Type 0
-ComesTo graph s None = IsWalk graph s
-ComesTo graph s (Some to) = IsAtCycle graph s to
+-- what is kept is that of a state that a walk over the graph comes to
+pub record IsKept (graph : Graph) (it : Kept) : Type 0 where
+  pub next : List ℕ
+  pub walk : IsWalk graph (counted it next)
+  pub long : length it.looked ≡ length it.stack
+  pub looked : (k : ℕ) → k < length it.stack → slice_index it.looked k ≡ slice_index next (slice_index it.stack k)
+
+-- the walk goes on with an empty stack, or a step goes to an open node
+abbrev pub ComesTo : Graph → Kept → Option ℕ → Type 0
+ComesTo graph it None = IsKept graph it × (it.stack ≡ [])
+ComesTo graph it (Some to) = (next : List ℕ) × IsAtCycle graph (counted it next) to
 
 -- a node that was taken up is not fresh again
-abbrev pub KeepsTaken : State → State → Type 0
-KeepsTaken old new = (node : ℕ) → mark_of new node ≡ Fresh → mark_of old node ≡ Fresh
+abbrev pub KeepsTaken : (old new : List Mark) → Type 0
+KeepsTaken old new = (node : ℕ) → mark_in new node ≡ Fresh → mark_in old node ≡ Fresh
 
--- a fresh node was put on the stack, or ranked at once if it has no steps
-abbrev pub IsMet : Graph → State → ℕ → State → Type 0
-IsMet graph old node new =
-    (new ≡ taken_up old node) ⊎ ((length (steps_of graph node) ≡ 0) × (new ≡ with_rank (taken_up old node) node))
+-- steps of a node from one on, up to another one, go to nodes that were ranked
+abbrev pub GoToRanked : Graph → List Mark → ℕ → (from end : ℕ) → Type 0
+GoToRanked graph marks node from end =
+    (k : ℕ) → from ≤ k → k < end → mark_in marks (step_at graph node k) ≡ Ranked
 
--- how far the turns are from their number, and the stack from empty
-abbrev pub work_left : Graph → State → ℕ
-work_left graph s = 2 * (length graph + step_count graph - s.turns) + length s.stack
+-- the step is the first of a node, from one on, that goes to a node that was not ranked: to this one
+pub record IsFirstOther (graph : Graph) (marks : List Mark) (node from last to : ℕ) : Type 0 where
+  pub after : from ≤ last
+  pub step_in : last < length (steps_of graph node)
+  pub earlier : GoToRanked graph marks node from last
+  pub leads : to ≡ step_at graph node last
+  pub other : mark_in marks to ≢ Ranked
 
--- the node on top of the stack
-pub record IsTop (s : State) (node : ℕ) : Type 0 where
-  pub some : 0 < length s.stack
-  pub top : slice_index s.stack (length s.stack - 1) ≡ node
-
--- the node on top of the stack has a next step, after so many that were looked at
-pub record HasNext (graph : Graph) (s : State) (node before : ℕ) : Type 0 where
-  pub is_top : IsTop s node
-  pub looked : slice_index s.next node ≡ before
-  pub more : slice_index s.next node < length (steps_of graph node)
-  pub few : length (steps_of graph node) < 2 ^ 64
-
--- one more step was looked at: the walk goes on, or the step goes to an open node; less work is left
-pub record HasFollowed (graph : Graph) (old new : State) (stop : Option ℕ) : Type 0 where
-  pub comes : ComesTo graph new stop
-  pub taken : KeepsTaken old new
-  pub gave_up : new.gave_up ≡ old.gave_up
-  pub less : work_left graph new < work_left graph old
+-- how many steps of a node are looked at, once those from one on are, up to the first that goes to a node that was not
+-- ranked, if there is one
+abbrev pub LooksOn : Graph → List Mark → (node from looked : ℕ) → Option ℕ → Type 0
+LooksOn graph marks node from looked None =
+    (looked ≡ length (steps_of graph node)) × GoToRanked graph marks node from looked
+LooksOn graph marks node from looked (Some to) =
+    (last : ℕ) × (looked ≡ last + 1) × IsFirstOther graph marks node from last to
 
 -- a fresh node was taken up: each node that was taken up from there has its rank, or a step goes to an open node
-pub record HasWalked (graph : Graph) (old : State) (start : ℕ) (new : State) (stop : Option ℕ) : Type 0 where
+pub record HasWalked (graph : Graph) (old : Kept) (start : ℕ) (new : Kept) (stop : Option ℕ) : Type 0 where
   pub comes : ComesTo graph new stop
-  pub empty : stop ≡ None → new.stack ≡ []
-  pub taken : KeepsTaken (taken_up old start) new
+  pub taken : KeepsTaken (slice_set old.marks start Open) new.marks
   pub gave_up : new.gave_up ≡ old.gave_up

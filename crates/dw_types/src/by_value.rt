@@ -235,7 +235,7 @@ impl ByValue {
         let mut least: LeastFault = None;
         let mut types = 0;
         for node in 0..count {
-            if facts.at(node).is_type() {
+            if facts.is_type(node) {
                 types += 1;
                 push_row(&mut facts, &mut steps, &mut least, node)?;
             }

@@ -208,6 +208,16 @@ impl<'r, 'a> FactsList<'r, 'a> {
         entries.offset(entries.id(node))
     }
 
+    /// Whether the entry with a number is a type. Its unit is not looked up.
+    #[inline(always)]
+    pub(crate) fn is_type(&self, node: usize) -> bool
+        requires { node < length self.now }
+        ensures { result ≡ is_type_tag (entry_of self.now node).tag }
+    {
+        let entries = self.links.entries;
+        entries.decl(entries.id(node)).is_type()
+    }
+
     /// The entry with a number.
     #[inline(always)]
     pub(crate) fn at(&mut self, node: usize) -> FactsAt<'r, 'a>

@@ -51,6 +51,7 @@ impl Numbers {
     }
 
     /// How many numbers there are.
+    #[inline(always)]
     pub fn len(&self) -> usize
         ensures { result ≡ length self.now }
     {
@@ -58,6 +59,7 @@ impl Numbers {
     }
 
     /// The number at a place.
+    #[inline(always)]
     pub fn get(&self, place: usize) -> usize
         requires { place < length self.now }
         ensures { result ≡ slice_index self.now place }
@@ -66,6 +68,7 @@ impl Numbers {
     }
 
     /// The number so many places after another.
+    #[inline(always)]
     pub(crate) fn get_behind(&self, start: usize, count: usize) -> usize
         requires { start + count < length self.now }
         ensures { result ≡ slice_index self.now (start + count) }
@@ -80,6 +83,7 @@ impl Numbers {
     }
 
     /// Adds a number at the end.
+    #[inline(always)]
     pub fn push(&mut self, number: usize) -> Result<(), AllocError>
         ensures { OnOk result (self.new ≡ self.old ++ number ∷ []) }
     {
@@ -92,13 +96,15 @@ impl Numbers {
     }
 
     /// Takes the last number away, if there is one.
-    pub(crate) fn pop(&mut self)
-        ensures { self.new ≡ take (length self.old - 1) self.old }
+    pub(crate) fn pop(&mut self) -> Option<usize>
+        ensures { MatchOption result ((self.old ≡ []) × (self.new ≡ [])) (λ last. self.old ≡ self.new ++ last ∷ []) }
     {
-        if self.large.is_empty() {
-            let _ = self.small.pop();
-        } else {
-            let _ = self.large.pop();
+        if let Some(last) = self.large.pop() {
+            return Some(last);
+        }
+        match self.small.pop() {
+            Some(last) => Some(last as usize),
+            None => None,
         }
     }
 
@@ -108,19 +114,6 @@ impl Numbers {
     {
         self.small.clear();
         self.large.clear();
-    }
-
-    /// The last number, if there is one.
-    pub(crate) fn last(&self) -> Option<usize>
-        ensures { MatchOption result (self.now ≡ [])
-            (λ last. (0 < length self.now) × (slice_index self.now (length self.now - 1) ≡ last)) }
-    {
-        let count = self.len();
-        if count == 0 {
-            None
-        } else {
-            Some(self.get(count - 1))
-        }
     }
 
     /// The numbers in eight bytes each.
@@ -136,6 +129,7 @@ impl Numbers {
     }
 
     /// Writes a number at a place.
+    #[inline(always)]
     pub fn set(&mut self, alloc: Global, place: usize, number: usize) -> Result<(), AllocError>
         requires { place < length self.old }
         ensures { OnOk result (self.new ≡ slice_set self.old place number) }

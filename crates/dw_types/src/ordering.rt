@@ -7,14 +7,14 @@ ghost use Rattle.dw_types.specs.Graphs.{steps_of, step_at, FollowsSteps, IsStep,
 ghost use Rattle.dw_types.specs.LongestRows.{AreLongest, IsOneMore};
 ghost use Rattle.dw_types.specs.OrderFaults.{IsFaultOf};
 ghost use Rattle.dw_types.specs.Orders.{IsOrderOf};
-ghost use Rattle.dw_types.specs.Walks.{HasFollowed, HasNext, HasWalked, IsMet, IsWalk};
-ghost use Rattle.dw_types.specs.WalkStates.{mark_of};
+ghost use Rattle.dw_types.specs.Walks.{HasWalked, IsKept, LooksOn};
+ghost use Rattle.dw_types.specs.WalkStates.{mark_in};
 ghost use Rattle.dw_types.specs.declared.ordering.OrderFault.TheVariants.{Memory};
 ghost use Rattle.dw_types.specs.declared.walk.Mark.TheVariants.{Fresh};
 
 use crate::graph::{Order, StepGraph};
 use crate::numbers::Numbers;
-use crate::walk::{Mark, Walk};
+use crate::walk::{Hand, Mark, Walk};
 use std::alloc::{AllocError, Global};
 
 /// Why a graph has no order.
@@ -46,7 +46,7 @@ pub fn order<G: StepGraph>(alloc: Global, graph: &G) -> Result<Order, OrderFault
     let mut walk = Walk::new(alloc, nodes)?;
     for start in 0..nodes {
         if let Mark::Fresh = walk.mark(start) {
-            if let Some(to) = walk_from(alloc, graph, &mut walk, start)? {
+            if let Some(to) = walk_from(graph, &mut walk, start)? {
                 let cycle = cycle_to(alloc, graph, walk.stack(), to)?;
                 return Err(OrderFault::Cycle(cycle));
             }
@@ -64,7 +64,7 @@ pub fn clear_nodes<G: StepGraph>(alloc: Global, graph: &G) -> Result<Order, Allo
     let mut walk = Walk::new(alloc, nodes)?;
     for start in 0..nodes {
         if let Mark::Fresh = walk.mark(start) {
-            if let Some(_) = walk_from(alloc, graph, &mut walk, start)? {
+            if let Some(_) = walk_from(graph, &mut walk, start)? {
                 walk.give_up();
             }
         }
@@ -121,67 +121,56 @@ fn one_above<G: StepGraph>(graph: &G, counts: &Numbers, node: usize) -> usize
 
 /// Walks on from a fresh node until each node that was taken up has its rank, or until a step closes a cycle. Then it
 /// returns the node that the step leads to.
+#[inline(always)]
 fn walk_from<G: StepGraph>(
-    alloc: Global,
     graph: &G,
     walk: &mut Walk,
     start: usize,
 ) -> Result<Option<usize>, AllocError>
-    requires is_walk { IsWalk (G.graph graph.now) walk.old }
+    requires kept { IsKept (G.graph graph.now) walk.old }
     requires empty { walk.old.stack ≡ [] }
     requires start { start < length (G.graph graph.now) }
-    requires fresh { mark_of walk.old start ≡ Fresh }
+    requires fresh { mark_in walk.old.marks start ≡ Fresh }
     ensures { IfOk result (HasWalked (G.graph graph.now) walk.old start walk.new) }
 {
-    meet_fresh(graph, walk, start)?;
-    while let Some(node) = walk.top() {
-        let before = walk.next(node);
-        if before < graph.steps(node) {
-            if let Some(to) = follow_step(alloc, graph, walk, node, before)? {
-                return Ok(Some(to));
+    let mut at = Some(walk.take_up(start));
+    while let Some(hand) = at {
+        let (looked, other) = look_on(graph, walk, hand.node, hand.looked);
+        walk.count(looked - hand.looked);
+        at = match other {
+            None => {
+                walk.rank(hand.node)?;
+                walk.pop()
             }
-        } else {
-            walk.rank_top(node)?;
+            Some(to) => {
+                walk.push(Hand { looked, ..hand })?;
+                match walk.mark(to) {
+                    Mark::Fresh => Some(walk.take_up(to)),
+                    _ => return Ok(Some(to)),
+                }
+            }
+        };
+    }
+    Ok(None)
+}
+
+/// Looks at the steps of a node from one on, up to the first that leads to a node without a rank. Returns how many of
+/// its steps are looked at then, and the node that this one leads to, if there is one.
+#[inline(always)]
+fn look_on<G: StepGraph>(graph: &G, walk: &Walk, node: usize, from: usize) -> (usize, Option<usize>)
+    requires node { node < length (G.graph graph.now) }
+    requires from { from ≤ length (steps_of (G.graph graph.now) node) }
+    requires marks { length walk.now.marks ≡ length (G.graph graph.now) }
+    ensures { LooksOn (G.graph graph.now) walk.now.marks node from result.0 result.1 }
+{
+    let steps = graph.steps(node);
+    for k in from..steps {
+        let to = graph.step(node, k);
+        if !matches!(walk.mark(to), Mark::Ranked) {
+            return (k + 1, Some(to));
         }
     }
-    Ok(None)
-}
-
-/// Puts a fresh node on the stack. One without steps gets its rank at once instead.
-fn meet_fresh<G: StepGraph>(graph: &G, walk: &mut Walk, node: usize) -> Result<(), AllocError>
-    requires node_in { node < length (G.graph graph.now) }
-    requires marks { node < length walk.old.marks }
-    requires room { walk.old.turns + 1 < 2 ^ 128 }
-    ensures { OnOk result (IsMet (G.graph graph.now) walk.old node walk.new) }
-{
-    if graph.steps(node) == 0 {
-        walk.rank_fresh(node)
-    } else {
-        walk.take_up(node)
-    }
-}
-
-/// Looks at the next step of the node on top of the stack, by how many were looked at before, and takes up
-/// the node that it leads to, if that is fresh. Returns that node if it is open.
-fn follow_step<G: StepGraph>(
-    alloc: Global,
-    graph: &G,
-    walk: &mut Walk,
-    node: usize,
-    before: usize,
-) -> Result<Option<usize>, AllocError>
-    requires is_walk { IsWalk (G.graph graph.now) walk.old }
-    requires next { HasNext (G.graph graph.now) walk.old node before }
-    ensures { IfOk result (HasFollowed (G.graph graph.now) walk.old walk.new) }
-{
-    let to = graph.step(node, before);
-    walk.count_step(alloc, node, before)?;
-    match walk.mark(to) {
-        Mark::Fresh => meet_fresh(graph, walk, to)?,
-        Mark::Open => return Ok(Some(to)),
-        Mark::Ranked => {}
-    }
-    Ok(None)
+    (steps, None)
 }
 
 /// The cycle that a step from the top of the stack to a node on it closes, turned to begin with its least node.

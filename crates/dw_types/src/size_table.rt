@@ -2,6 +2,7 @@
 
 ghost use Rattle.std.specs.Prelude.{◌≡◌, ◌<◌, ◌≤◌, ◌^◌, ◌⊎◌, ℕ, List, None, Some, Bool, true, length, replicate};
 ghost use Rattle.std.specs.Prelude.{slice_set, IfOk, IfErr, IfSome, OnOk};
+ghost use Rattle.dw_forms.specs.Codes.{is_type_tag};
 ghost use Rattle.dw_entries.specs.Failures.{HasNone};
 ghost use Rattle.dw_entries.specs.Stopped.{IfPlainFault};
 ghost use Rattle.dw_types.specs.Sizes.{size_to, array_size, size_line, IsSizeTable};
@@ -204,7 +205,38 @@ fn note_members(
     }
 }
 
-/// Writes the size of an entry, by those of what it holds by value, and notes what is wrong with it and its members.
+/// Writes the size of a type, by those of what it holds by value, and notes what is wrong with it and its members.
+fn measure_type(
+    alloc: Global,
+    entries: &mut FactsList<'_, '_>,
+    sizes: &mut SizeTable,
+    least: &mut LeastFault,
+    node: usize,
+) -> Result<(), AllocError>
+    requires places { HasSizePlaces entries.old sizes.old node }
+    requires untyped { OnlyTypesAreSized entries.old (size_at sizes.old) }
+    requires typed { is_type_tag (entry_of entries.old node).tag ≡ true }
+    ensures same { OnOk result (entries.new ≡ entries.old) }
+    ensures size { OnOk result (sizes.new
+        ≡ slice_set sizes.old node (cap_size (2 ^ 63) (size_line entries.old (size_at sizes.old) node))) }
+    ensures noted { OnOk result ((seen : ℕ → Bool)
+        → IsNoted (fails_size entries.old (size_at sizes.new)) (λ k. seen k ≡ true) least.old
+        → IsNoted (fails_size entries.old (size_at sizes.new))
+        (λ k. (seen k ≡ true) ⊎ (asked_at entries.old k ≡ node)) least.new) }
+{
+    let entry = entries.at(node);
+    let size = capped_size(entries, sizes, node, &entry);
+    sizes.set(alloc, node, size)?;
+    note(least, node, entry.broken_size(size, sizes));
+    if !entry.has_members() {
+        return Ok(());
+    }
+    note_members(entries, sizes, least, node, size);
+    Ok(())
+}
+
+/// Writes the size of an entry if it is a type, and notes what is wrong with it and its members.
+#[inline(always)]
 fn measure(
     alloc: Global,
     entries: &mut FactsList<'_, '_>,
@@ -222,18 +254,10 @@ fn measure(
         → IsNoted (fails_size entries.old (size_at sizes.new))
         (λ k. (seen k ≡ true) ⊎ (asked_at entries.old k ≡ node)) least.new) }
 {
-    let entry = entries.at(node);
-    if !entry.is_type() {
+    if !entries.is_type(node) {
         return Ok(());
     }
-    let size = capped_size(entries, sizes, node, &entry);
-    sizes.set(alloc, node, size)?;
-    note(least, node, entry.broken_size(size, sizes));
-    if !entry.has_members() {
-        return Ok(());
-    }
-    note_members(entries, sizes, least, node, size);
-    Ok(())
+    measure_type(alloc, entries, sizes, least, node)
 }
 
 /// The one table of sizes, or the first fault of sizes. The order is that of the graph of the entries' steps by value.

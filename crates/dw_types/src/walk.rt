@@ -1,8 +1,7 @@
 //! The state of a walk over a graph.
 
-ghost use Rattle.std.specs.Prelude.{◌≡◌, ◌+◌, ◌-◌, ◌^◌, ◌<◌, [], false, length, replicate, slice_index, IfOk, OnOk};
-ghost use Rattle.std.specs.Prelude.{MatchOption};
-ghost use Rattle.dw_types.specs.WalkStates.{mark_of, taken_up, with_step, with_rank, given_up};
+ghost use Rattle.std.specs.Prelude.{◌≡◌, ◌+◌, ◌^◌, ◌<◌, [], false, length, replicate, IfOk, MatchOption, OnOk};
+ghost use Rattle.dw_types.specs.WalkStates.{mark_in, opened, ranked, turned, with_hand, without_stack};
 
 use crate::graph::Order;
 use crate::numbers::Numbers;
@@ -20,31 +19,39 @@ pub(crate) enum Mark {
     Ranked,
 }
 
-/// A walk over a graph, which keeps its way in a stack. Nodes are given up if they reach a cycle: they stay open, but
-/// are not on the stack.
+/// A node that was taken up and has no rank yet, and how many of its steps were looked at.
+#[derive(Clone, Copy)]
+pub(crate) struct Hand {
+    pub node: usize,
+    pub looked: usize,
+}
+
+/// A walk over a graph, which keeps its way in a stack: the nodes that wait for the one that it is at. Nodes are given
+/// up if they reach a cycle: they stay open, but are not on the stack.
 #[derive(Drop)]
 pub(crate) struct Walk {
     marks: Vec<Mark>,
-    next: Numbers,
     nodes: usize,
     by_rank: Numbers,
     stack: Numbers,
+    /// How many steps of each node on the stack were looked at.
+    looked: Numbers,
     turns: u128,
     gave_up: bool,
 }
 
 impl Model for Walk {
     ghost use Rattle.dw_types.specs.RanksListed.{ranks_listed};
-    ghost use Rattle.dw_types.specs.WalkStates.{State};
+    ghost use Rattle.dw_types.specs.WalkStates.{Kept};
 
-    ghost Value = { State };
+    ghost Value = { Kept };
 
     ghost view = { λ w. record {
       marks = w.marks.items;
-      next = w.next;
       ranks = ranks_listed w.nodes w.by_rank;
       by_rank = w.by_rank;
       stack = w.stack;
+      looked = w.looked;
       turns = w.turns;
       gave_up = w.gave_up;
     } };
@@ -56,39 +63,32 @@ impl Walk {
         ensures { IfOk result (λ walk. walk
             ≡ record {
               marks = replicate nodes Mark.Fresh;
-              next = replicate nodes 0;
               ranks = replicate nodes 0;
               by_rank = [];
               stack = [];
+              looked = [];
               turns = 0;
               gave_up = false;
             }) }
     {
         Ok(Walk {
             marks: vec![in alloc; Mark::Fresh; nodes]?,
-            next: Numbers::zeros(alloc, nodes)?,
             nodes,
             by_rank: Numbers::with_room(alloc, nodes)?,
             stack: Numbers::with_room(alloc, 0)?,
+            looked: Numbers::with_room(alloc, 0)?,
             turns: 0,
             gave_up: false,
         })
     }
 
     /// How far it has come with a node.
+    #[inline(always)]
     pub(crate) fn mark(&self, node: usize) -> Mark
         requires { node < length self.now.marks }
-        ensures { result ≡ mark_of self.now node }
+        ensures { result ≡ mark_in self.now.marks node }
     {
         self.marks[node]
-    }
-
-    /// How many steps of a node were looked at.
-    pub(crate) fn next(&self, node: usize) -> usize
-        requires { node < length self.now.next }
-        ensures { result ≡ slice_index self.now.next node }
-    {
-        self.next.get(node)
     }
 
     /// The nodes that were taken up and have no rank yet, each a step from the one before.
@@ -98,73 +98,66 @@ impl Walk {
         &self.stack
     }
 
-    /// The node on top of the stack.
-    pub(crate) fn top(&self) -> Option<usize>
-        ensures { MatchOption result (self.now.stack ≡ [])
-            (λ node. (0 < length self.now.stack) × (slice_index self.now.stack (length self.now.stack - 1) ≡ node)) }
-    {
-        self.stack.last()
-    }
-
-    /// Puts a node on the stack.
-    pub(crate) fn take_up(&mut self, node: usize) -> Result<(), AllocError>
+    /// Takes up a node, none of whose steps was looked at.
+    #[inline(always)]
+    pub(crate) fn take_up(&mut self, node: usize) -> Hand
         requires node_in { node < length self.old.marks }
         requires room { self.old.turns + 1 < 2 ^ 128 }
-        ensures { OnOk result (self.new ≡ taken_up self.old node) }
+        ensures state { self.new ≡ opened self.old node }
+        ensures hand { result ≡ record { node = node; looked = 0 } }
     {
-        self.stack.push(node)?;
         self.marks[node] = Mark::Open;
         self.turns += 1;
-        Ok(())
+        Hand { node, looked: 0 }
     }
 
-    /// Gives the next rank to a fresh node at once, as if it had been put on the stack for it.
-    pub(crate) fn rank_fresh(&mut self, node: usize) -> Result<(), AllocError>
-        requires node_in { node < length self.old.marks }
-        requires room { self.old.turns + 1 < 2 ^ 128 }
-        ensures { OnOk result (self.new ≡ with_rank (taken_up self.old node) node) }
+    /// Counts so many steps as looked at.
+    #[inline(always)]
+    pub(crate) fn count(&mut self, steps: usize)
+        requires { self.old.turns + steps < 2 ^ 128 }
+        ensures { self.new ≡ turned self.old steps }
+    {
+        self.turns += steps as u128;
+    }
+
+    /// Puts a node on the stack, which waits for the one that its last step leads to.
+    #[inline(always)]
+    pub(crate) fn push(&mut self, hand: Hand) -> Result<(), AllocError>
+        ensures { OnOk result (self.new ≡ with_hand self.old hand.node hand.looked) }
+    {
+        self.stack.push(hand.node)?;
+        self.looked.push(hand.looked)
+    }
+
+    /// Takes the last node off the stack, if there is one.
+    #[inline(always)]
+    pub(crate) fn pop(&mut self) -> Option<Hand>
+        requires { length self.old.looked ≡ length self.old.stack }
+        ensures { MatchOption result ((self.old.stack ≡ []) × (self.new ≡ self.old))
+            (λ hand. self.old ≡ with_hand self.new hand.node hand.looked) }
+    {
+        let node = self.stack.pop()?;
+        let looked = self.looked.pop()?;
+        Some(Hand { node, looked })
+    }
+
+    /// Gives the next rank to a node that is not on the stack.
+    #[inline(always)]
+    pub(crate) fn rank(&mut self, node: usize) -> Result<(), AllocError>
+        requires { node < length self.old.marks }
+        ensures { OnOk result (self.new ≡ ranked self.old node) }
     {
         self.by_rank.push(node)?;
         self.marks[node] = Mark::Ranked;
-        self.turns += 1;
-        Ok(())
-    }
-
-    /// Counts the next step of a node as looked at, by how many were looked at before.
-    pub(crate) fn count_step(
-        &mut self,
-        alloc: Global,
-        node: usize,
-        before: usize,
-    ) -> Result<(), AllocError>
-        requires node_in { node < length self.old.next }
-        requires before { slice_index self.old.next node ≡ before }
-        requires step_fits { before + 1 < 2 ^ 64 }
-        requires room { self.old.turns + 1 < 2 ^ 128 }
-        ensures { OnOk result (self.new ≡ with_step self.old node) }
-    {
-        self.next.set(alloc, node, before + 1)?;
-        self.turns += 1;
-        Ok(())
-    }
-
-    /// Gives the next rank to the node on top of the stack, and takes it off.
-    pub(crate) fn rank_top(&mut self, node: usize) -> Result<(), AllocError>
-        requires marks { node < length self.old.marks }
-        requires ranks { node < length self.old.ranks }
-        ensures { OnOk result (self.new ≡ with_rank self.old node) }
-    {
-        self.by_rank.push(node)?;
-        self.marks[node] = Mark::Ranked;
-        self.stack.pop();
         Ok(())
     }
 
     /// Gives up the nodes on the stack.
     pub(crate) fn give_up(&mut self)
-        ensures { self.new ≡ given_up self.old }
+        ensures { self.new ≡ without_stack self.old }
     {
         self.stack.clear();
+        self.looked.clear();
         self.gave_up = true;
     }
 

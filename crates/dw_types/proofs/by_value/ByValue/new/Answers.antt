@@ -26,8 +26,7 @@ loop-node-preserved c =
     let node = c.loop-node.node in
     let test : Facts → Bool = λ entry. is_type_tag entry.tag in
     let below : node < length entries = rw (← c.new-facts.ensures.same, ← c.count-count.ensures) c.loop-node-test.true in
-    let same : c.at.new.self ≡ entries = c.at.ensures.same ∙ c.loop-node.invariant.2 in
-    let is : c.is_type.result ≡ is_type_tag (entry_of entries node).tag = rw (← c.loop-node.invariant.2, ← c.at.ensures.found) c.is_type.ensures in
+    let is : c.is_type.result ≡ is_type_tag (entry_of entries node).tag = rw (← c.loop-node.invariant.2) c.is_type.ensures in
     let row = steps_by_value entries node in
     let turn : (c.if-is_type.steps ≡ steps ++ row) × (c.if-is_type.facts ≡ entries) × IsNoted (fails_shape entries) (HasSeenShapes entries (node + 1)) c.if-is_type.least
     × (c.if-is_type.types ≡ type_count (take (node + 1) entries)) = elim c.if-is_type.branch [
