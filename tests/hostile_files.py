@@ -1,12 +1,13 @@
 #!/usr/bin/env python3
-"""Runs `dwv check` on files that are small and mean work: deep trees, long chains, one string with many names,
-declarations of many attributes whose values take no bytes, typedefs whose names share their bytes.
+"""Runs `dwv` on files that are small and mean work: deep trees, long chains, one string with many names, declarations
+of many attributes whose values take no bytes, typedefs whose names share their bytes.
 
-For each the program must print the stated line within the time limit, and no run may crash. Tables that begin inside
-declarations, and entries of one byte with many flags, have limits of their own. The lines of `show` of a deep tree are
-far more bytes than the memory that it may have: it must say so, and write nothing. `types` must print its whole text
-within less memory. The script prints one line a run with the seconds it took, and ends with
-'N passed, N failed, N skipped'.
+usage: hostile_files.py [--list]
+
+For each the program must print the stated line, or `types` its whole text, within limits of time and memory, and no run
+may crash. The lines of `show` of a deep tree are far more bytes than the memory that it may have: it must say so, and
+write nothing. The script prints one line a run with the seconds it took, and ends with 'N passed, N failed, N skipped'.
+With --list it runs nothing, and prints each file with its limits.
 """
 import os
 import struct
@@ -375,11 +376,13 @@ def coded():
 # 1 compile unit, 2 base type with a name and a size, 3 typedef with a name and a type, 4 structure with a size,
 # 5 member with a name and a type, 6 const with a type, 7 pointer with a type, 8 structure with a name and a size,
 # 9 prototyped subroutine with a type, 10 parameter with a type, 11 const, 12 compile unit with a name and a language,
-# 13 array with a type, 14 dimension with an upper bound of a byte
+# 13 array with a type, 14 dimension with an upper bound of a byte, 15 enumeration with a size, 16 enumerator with a
+# name and a value, 17 volatile with a type, 18 member with a name, a type and a size in bits
 NAMES = bytes.fromhex(
     "0111010000" "02240003080b0b0000" "031600030849130000" "0413010b0b0000" "050d00030849130000" "06260049130000"
     "070f0049130000" "08130103080b0b0000" "091501271949130000" "0a050049130000" "0b26000000" "0c11010308130b0000"
-    "0d010149130000" "0e21002f0b0000" "00")
+    "0d010149130000" "0e21002f0b0000" "0f04010b0b0000" "10280003081c0d0000" "11350049130000"
+    "120d00030849130d0b0000" "00")
 # The first five alone.
 FIVE = NAMES[:39] + b"\0"
 
@@ -557,6 +560,106 @@ def texts():
     yield f"{MANY // 100:,} typedefs of a pointer to a function that returns such a pointer, 30 deep", types
 
 
+# The most bytes of a declaration, and how many typedefs there are of a type whose text has more.
+DECLARATION = 65_536
+HIDDEN = 200_000
+
+
+def hidden():
+    """Typedefs of a type whose text is too long, which its names and its children do not show: the name of each file,
+    and its types."""
+    for what in ("a structure of 256 members", "a pointer each to a structure of 256 members"):
+        types = Types()
+        last = types.int
+        for _ in range(50):
+            last = types.add(6, to=last)
+        wide = types.structure([("m", last)] * 256)
+        for _ in range(HIDDEN):
+            to = wide if what.startswith("a structure") else types.add(7, to=wide)
+            types.typedef("t", to, rule="P6 TooLong")
+        yield f"{HIDDEN:,} typedefs of {what} with 50 qualifiers", types
+
+
+def enumerators(types):
+    """An enumeration: where it is, and its text before and after a name."""
+    at, texts = types.add(15, more=b"\4"), []
+    for n in range(3000):
+        types.add(16, f"e{n}", more=bytes([n % 128]))
+        texts.append(f"e{n} = {n % 128 - n % 128 // 64 * 128}")
+    types.items.append(0)
+    return at, f"enum {{ {', '.join(texts)} }} ", ""
+
+
+def parameters(types):
+    """A function of many parameters."""
+    at = types.add(9, to=types.int)
+    for _ in range(9000):
+        types.add(10, to=types.int)
+    types.items.append(0)
+    return at, "int ", f"({', '.join(['int'] * 9000)})"
+
+
+def dimensions(types):
+    """An array of many dimensions."""
+    at = types.add(13, to=types.int, more=b"\x0e\0" * 15000 + b"\0")
+    return at, "int ", "[1]" * 15000
+
+
+def nested_structure(types):
+    """A structure in a structure."""
+    inner = types.structure([(f"m{n}", types.int) for n in range(4000)])
+    text = "".join(f"int m{n}; " for n in range(4000))
+    return types.structure([("a", inner)]), f"struct {{ struct {{ {text}}} a; }} ", ""
+
+
+def forms(types):
+    """Types of many forms: where each is, and its text before and after a name."""
+    const = types.add(6, to=types.int)
+    pointer = types.add(7, to=types.int)
+    fixed = types.add(6, to=pointer)
+    array = types.add(13, to=const, more=b"\x0e\x09\x0e\0\0")
+    row = types.add(7, to=array)
+    made = [(types.int, "int ", ""), (const, "const int ", ""), (pointer, "int *", ""), (fixed, "int *const ", ""),
+            (types.add(6, to=types.add(17, to=types.int)), "const volatile int ", ""),
+            (types.add(17, to=fixed), "int *volatile const ", ""),
+            (types.add(7, to=types.add(11)), "const void *", ""),
+            (row, "const int (*", ")[10][1]"), (types.add(6, to=row), "const int (*const ", ")[10][1]")]
+    function = types.add(9, to=pointer)
+    for to, _, _ in made:
+        types.add(10, to=to)
+    types.items.append(0)
+    texts = ", ".join(f"{before.rstrip()}{after}" for _, before, after in made)
+    made += [(types.add(7, to=function), "int *(*", f")({texts})"),
+             (types.add(13, to=row, more=b"\x0e\0\0"), "const int (*", "[1])[10][1]"),
+             (array, "const int ", "[10][1]")]
+    return made
+
+
+def members(types):
+    """A structure of members of many forms."""
+    made = forms(types)
+    at, texts = types.add(4, more=b"\xff"), []
+    for n in range(40000 // sum(len(f"{before}m000{after}; ") for _, before, after in made)):
+        for to, before, after in made:
+            types.add(5, f"m{n}", to)
+            texts.append(f"{before}m{n}{after}; ")
+        types.add(18, f"b{n}", types.int, bytes([n % 30 + 1]))
+        texts.append(f"int b{n} : {n % 30 + 1}; ")
+    types.items.append(0)
+    return at, f"struct {{ {''.join(texts)}}} ", ""
+
+
+def sides():
+    """Types whose declaration has as many bytes as it may have, and one more: the name of each file, and its types."""
+    for make in (enumerators, parameters, dimensions, nested_structure, members):
+        for more in (0, 1):
+            types = Types(b"\x0c\0\x0c")
+            at, before, after = make(types)
+            name = "n" * (DECLARATION + more - len(f"typedef {before}{after};"))
+            types.typedef(name, at, f"{before}{name}{after}", "P6 TooLong" if more else None)
+            yield f"{make.__name__} whose declaration has {DECLARATION + more:,} bytes", types
+
+
 # 1 compile unit, 2 typedef with a name, 3 const
 SMALL = bytes.fromhex("0111010000" "02160003080000" "0326000000" "00")
 # Seconds of processor time that `types` may take for typedefs whose numbers collide, or that share a long name.
@@ -600,12 +703,18 @@ def shared_names():
         yield name, elf(sections), "".join(f"/* 0x{FIRST + 5 * n:08x} {rule} */\n" for n, rule in enumerate(rules))
 
 
+def limits_of(seconds=LIMIT, memory=None):
+    """The limits of a run as text."""
+    return f"{seconds} s" + (f" and {memory / 2**20:.0f} MiB" if memory else "")
+
+
 def asking(command, *words, **limits):
     """What asks `dwv` of a file within these limits, and returns both texts and the status."""
     def ask(path):
         status, text, errors = common.run(DWV, command, path, *words, timeout=LIMIT, text=True, **limits)
         return f"{text}{errors}status {status}\n"
 
+    ask.limits = limits_of(**limits)
     return ask
 
 
@@ -621,6 +730,7 @@ def kept_within(memory, seconds=LIMIT):
             return f"{had} bytes of memory\n"
         return text if took <= seconds else f"{took:.1f} seconds\n"
 
+    ask.limits = limits_of(seconds, memory)
     return ask
 
 
@@ -697,6 +807,10 @@ def runs():
     for some in (chains(), bodies(), texts()):
         for name, made in some:
             yield f"types of {name}", made.file(), types, f"{made.text()}status 0\n"
+    for name, made in hidden():
+        yield f"types of {name}", made.file(), types_soon, f"{made.text()}status 0\n"
+    for name, made in sides():
+        yield f"types of {name}", made.file(), types, f"{made.text()}status 0\n"
     file, want = collisions()
     yield f"types of {COLLISIONS:,} typedefs whose numbers collide", file, types_soon, f"{want}status 0\n"
     for name, file, want in shared_names():
@@ -712,7 +826,11 @@ def runs():
 
 
 def main():
-    tally = common.Tally(73)
+    if sys.argv[1:] == ["--list"]:
+        for name, _, ask, _ in runs():
+            print(f"{name} (within {ask.limits})")
+        return 0
+    tally = common.Tally(85)
     with common.empty_folder() as folder:
         path = folder / "file"
         for name, file, ask, want in runs():

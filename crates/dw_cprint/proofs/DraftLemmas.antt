@@ -1,5 +1,5 @@
 -- One text after another, up to the limit.
-use Rattle.std.proofs.Common.{rules, ◌≡◌, ℕ, ◌-◌, ◌<◌, ◌≤◌, true, false, List, [], ◌++◌, Option, Some, None, refl, sym, ap, ◌∙◌, length, length-append, append_assoc, append-nil, arith, ltb-true, ltb-false}
+use Rattle.std.proofs.Common.{rules, ◌≡◌, ℕ, ◌-◌, ◌<◌, ◌≤◌, true, List, [], ◌++◌, Option, Some, None, refl, sym, ap, ◌∙◌, length, length-append, append_assoc, append-nil, arith, ltb-true, ltb-false}
 use Rattle.std.specs.Prelude.{is_none}
 use Rattle.std.proofs.lemmas.Bool.{le-ltb, lt-ltb}
 use Rattle.dw_cprint.specs.Drafts.{appended}
@@ -28,17 +28,7 @@ over-stays old new more is same = same ∙ is ∙ ap (λ (o : Option (List ℕ))
 pub over-before : (old out : Option (List ℕ)) (rest all : List ℕ) → out ≡ None → appended out rest ≡ appended old all → out ≡ appended old all
 over-before old out rest all is so_far = is ∙ ap (λ (o : Option (List ℕ)). appended o rest) (sym is) ∙ so_far
 
--- a text that is too long by itself, and one that is not
-pub none-over : (text : List ℕ) → appended (Some []) text ≡ None → 65536 < length text
-none-over text is = search (rules, ltb-true)
-
-pub there-whole : (o : Option (List ℕ)) (text : List ℕ) → o ≡ appended (Some []) text → (o ≡ None → ⊥) → o ≡ Some text
-there-whole o text is there = search (rules)
-
+-- what a test of a draft tells
 pub none-is : (o : Option (List ℕ)) → is_none o ≡ true → o ≡ None
 none-is None is = refl
 none-is (Some text) is = absurd (cc)
-
-pub there-is : (o : Option (List ℕ)) → is_none o ≡ false → o ≡ None → ⊥
-there-is None is e = absurd (cc)
-there-is (Some text) is e = absurd (cc)

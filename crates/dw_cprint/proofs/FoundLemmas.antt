@@ -1,5 +1,5 @@
 -- What is found of types, of an entry and of the declared entry, by what is found of those that they lead to.
-use Rattle.std.proofs.Common.{◌≡◌, ℕ, false, List, [], ◌∷◌, Some, refl, sym, subst, ◌∙◌, ◌⊎◌, inl, inr, arith, zero, suc, ◌++◌, ◌+◌, ◌<◌, ◌≤◌, min, max}
+use Rattle.std.proofs.Common.{◌≡◌, ℕ, false, List, [], ◌∷◌, Some, refl, sym, subst, ◌∙◌, ◌⊎◌, inl, inr, arith, zero, suc, ◌++◌, ◌+◌, ◌≤◌, min, max}
 use Rattle.std.proofs.lemmas.Bool.{cases_lt}
 use Rattle.std.specs.Prelude.{IsTrue, All, ◌↔◌, Contains}
 use Rattle.std.proofs.lemmas.List.Elements.{Contains-append_left, Contains-append_right, Contains-append_cases}
@@ -8,7 +8,7 @@ use Rattle.dw_cprint.specs.Steps.{types_declared, types_reached, entries_of, ste
 use Rattle.dw_cprint.specs.Summaries.{IsSummary, Knows, is_own_unspeakable, is_unspeakable, kind_known, Findings, Summary, ReachesOne, IsForeign, AreFound, AreFoundOf, IsDepth, IsEither, IsOwn}
 use Rattle.dw_cprint.specs.declared.survey.Survey.{Survey}
 use Rattle.dw_cprint.specs.Wrong.{has_bad_name, has_own_bad_name, IsUnspeakable, HasBadName, is_foreign, is_own_foreign}
-use Rattle.dw_cprint.specs.Refusals.{Holds, own_name, name_reached, own_child, foreign_reached, own_shape, shape_reached, deep, TooLong, HoldsNoneBelow}
+use Rattle.dw_cprint.specs.Refusals.{own_name, name_reached, own_child, foreign_reached, own_shape, shape_reached, deep}
 use Rattle.dw_cprint.proofs.ReachLemmas.{entries-append}
 use Rattle.dw_cprint.proofs.FaultLemmas.{either, test-itself, test-same, names-known, own-names-known, unspeakable-known, own-unspeakable-known}
 
@@ -146,23 +146,22 @@ module _ (shapes : ℕ → ShapeOf) where
   }
 
   -- of an entry, by its own shape and by what is known of the types that it names
-  pub found-shape : (known : Survey) (first : ℕ) (own under all : Findings) (bytes : ℕ) → All (Knows shapes known) (types_reached (shapes first))
-      → IsOwn (has_bad_name (kind_known known) (shapes first)) (is_foreign (shapes first)) (is_unspeakable known (shapes first)) bytes own
+  pub found-shape : (known : Survey) (first : ℕ) (own under all : Findings) → All (Knows shapes known) (types_reached (shapes first))
+      → IsOwn (has_bad_name (kind_known known) (shapes first)) (is_foreign (shapes first)) (is_unspeakable known (shapes first)) own
       → AreFound shapes (types_reached (shapes first)) under → IsEither own under all → all.depth ≡ min (under.depth + 1) 4294967295
       → AreFound shapes (Some first ∷ []) all
-  found-shape known first own under all bytes knows mine rest both depth = record {
+  found-shape known first own under all knows mine rest both depth = record {
     bad_name = either own.bad_name under.bad_name all.bad_name (test-itself own.bad_name _ (mine.bad_name ∙ names-known shapes known (shapes first) knows)) rest.bad_name both.bad_name (one-entry (HasBadName shapes) shapes first);
     foreign_type = either own.foreign under.foreign all.foreign (test-itself own.foreign _ mine.foreign_type) rest.foreign_type both.foreign_type (one-entry IsForeign shapes first);
     unspeakable = either own.unspeakable under.unspeakable all.unspeakable (test-same own.unspeakable _ mine.unspeakable (unspeakable-known shapes known (shapes first) knows)) rest.unspeakable both.unspeakable (one-entry (IsUnspeakable shapes) shapes first);
     deep = depth-entry shapes first under.depth all.depth depth rest.deep;
   }
 
-  pub found-subject : (known : Survey) (subject : SubjectOf) (own under all : Findings) (bytes : ℕ)
+  pub found-subject : (known : Survey) (subject : SubjectOf) (own under all : Findings)
       → All (Knows shapes known) (types_declared subject)
-      → IsOwn (has_own_bad_name (kind_known known) subject) (is_own_foreign subject) (is_own_unspeakable known subject) bytes own
-      → AreFound shapes (types_declared subject) under → IsEither own under all → all.depth ≡ under.depth
-      → (65536 < all.least → HoldsNoneBelow 6 shapes subject → Holds shapes subject TooLong) → AreFoundOf shapes subject all
-  found-subject known subject own under all bytes knows mine rest is depth long = record {
+      → IsOwn (has_own_bad_name (kind_known known) subject) (is_own_foreign subject) (is_own_unspeakable known subject) own
+      → AreFound shapes (types_declared subject) under → IsEither own under all → all.depth ≡ under.depth → AreFoundOf shapes subject all
+  found-subject known subject own under all knows mine rest is depth = record {
     bad_name = either own.bad_name under.bad_name all.bad_name (test-itself own.bad_name _ (mine.bad_name ∙ own-names-known shapes known subject knows)) rest.bad_name is.bad_name
         (λ s. elim s [ inl h ↦ own_name h | inr h ↦ name_reached h.0 h.1 h.2 ], λ h. elim h [ own_name x ↦ inl x | name_reached e r x ↦ inr (e, r, x) ]);
     foreign_type = either own.foreign under.foreign all.foreign (test-itself own.foreign _ mine.foreign_type) rest.foreign_type is.foreign_type
@@ -173,7 +172,6 @@ module _ (shapes : ℕ → ShapeOf) where
         let few : 65 ≤ 65 = omega arith in
         let far = rest.deep 65 few in
         (λ over. deep (far.1 (omega (arith, depth, over))), λ h. elim h [ deep path ↦ omega (arith, depth, far.0 path) ]);
-    long = long;
   }
 
 pub same-summary : {shapes : ℕ → ShapeOf} {at : TypeAt} {s known : Summary} → s ≡ known → IsSummary shapes at known

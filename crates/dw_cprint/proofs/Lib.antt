@@ -22,5 +22,5 @@ pub mod RefusalLemmas
 pub mod KindLemmas
 pub mod FaultLemmas
 pub mod FoundLemmas
-pub mod LeastLemmas
+pub mod LengthLemmas
 pub mod SummaryLemmas

@@ -1,26 +1,27 @@
 -- The least refusal that holds, by the tests of each.
-use Rattle.std.proofs.Common.{rules, ◌≡◌, ℕ, suc, ◌<◌, ◌≤◌, true, false, List, [], Option, Some, sym, ◌∙◌, ap, arith}
-use Rattle.std.specs.Prelude.{All, is_none}
+use Rattle.std.proofs.Common.{rules, ◌≡◌, ℕ, suc, ◌<◌, ◌≤◌, true, List, [], Option, Some, ◌∙◌, ap, arith}
+use Rattle.std.specs.Prelude.{All, length}
 use Rattle.std.proofs.lemmas.Bool.{cases_lt}
 use Rattle.dw_cprint.specs.Declarations.{declaration_by, declaration_of, term_at}
 use Rattle.dw_cprint.specs.Drafts.{appended}
+use Rattle.dw_cprint.specs.Judgements.{IsDrafted}
 use Rattle.dw_cprint.specs.Kept.{WritesDeclaration}
 use Rattle.dw_cprint.specs.Refusals.{PrintFault, NotPrintable, TooDeep, TooLong, Memory, IsLonger, Holds, other_kind, cycle, deep, long, HoldsNoneBelow, Refuses, IsPrinted, number_of}
 use Rattle.dw_cprint.specs.Shapes.{ShapeOf, SubjectOf}
 use Rattle.dw_cprint.specs.Steps.{first_steps, types_declared, ReachACycle}
-use Rattle.dw_cprint.specs.Summaries.{Knows, least_known}
+use Rattle.dw_cprint.specs.Summaries.{Knows, known_of}
 use Rattle.dw_cprint.specs.Surveys.{AreAmong, IsSurveyOf}
 use Rattle.dw_cprint.specs.Terms.{Declaration}
 use Rattle.dw_cprint.specs.Writing.{written}
 use Rattle.dw_cprint.specs.Wrong.{is_other_kind}
 use Rattle.dw_cprint.specs.declared.survey.Survey.{Survey}
-use Rattle.dw_cprint.specs.Least.{least_declared}
-use Rattle.dw_cprint.proofs.DraftLemmas.{appended-over, none-is, none-over, there-is, there-whole}
+use Rattle.dw_cprint.specs.Lengths.{capped, declared_bytes}
+use Rattle.dw_cprint.proofs.DraftLemmas.{appended-fits}
 use Rattle.dw_cprint.proofs.LegibleLemmas.{subject_some}
 use Rattle.dw_cprint.proofs.SameLemmas.{declaration-kept}
-use Rattle.dw_cprint.proofs.LeastLemmas.{declared-least}
+use Rattle.dw_cprint.proofs.LengthLemmas.{declared-length}
 use Rattle.dw_cprint.proofs.OptionLemmas.{some_value}
-use Rattle.dw_cprint.proofs.SummaryLemmas.{knows-counts}
+use Rattle.dw_cprint.proofs.SummaryLemmas.{knows-lengths}
 
 -- ---- one refusal
 
@@ -66,32 +67,32 @@ module _ (shapes : ℕ → ShapeOf) (subject : SubjectOf) where
 
   -- ---- the length of its text
 
-  -- it is too long, if it has at least a number of bytes that is greater than the limit
-  pub long-by-least : (s : Survey) (n : ℕ) → All (Knows shapes s) (types_declared subject) → n ≤ least_declared (least_known s) subject → 65536 < n
-      → HoldsNoneBelow 6 shapes subject → Holds shapes subject TooLong
+  -- the text has as many bytes as are counted, up to the limit
+  counted : (s : Survey) → All (Knows shapes s) (types_declared subject) → HoldsNoneBelow 6 shapes subject
+      → (d : Declaration) × (declaration_of shapes subject ≡ Some d) × (capped (declared_bytes (known_of s) subject) ≡ capped (length (written d)))
   unfolding declaration_of
-  long-by-least s n known under over none =
+  counted s known none =
       let (d, is) = there-declared none in
-      let least = declared-least (term_at 65 shapes) (least_known s) subject d (knows-counts shapes s 65 (types_declared subject) known) is in
-      long (d, is, (omega arith))
+      (d, is, declared-length (term_at 65 shapes) (known_of s) subject d (knows-lengths shapes s 65 (types_declared subject) known) is)
 
-  module _ (roots : List ℕ) (s : Survey) (survey : IsSurveyOf shapes roots s) (among : AreAmong (first_steps subject) roots) (none : HoldsNoneBelow 6 shapes subject)
-      (old new : Option (List ℕ)) (empty : old ≡ Some []) (writes : WritesDeclaration s subject old new) where
-    own : (d : Declaration) → declaration_of shapes subject ≡ Some d → new ≡ appended (Some []) (written d)
-    own d is = writes d (declaration-kept shapes roots s subject survey among ∙ is) ∙ ap (λ (o : Option (List ℕ)). appended o (written d)) empty
+  -- it is too long, if a number of bytes above the limit is counted
+  pub too-long : (s : Survey) (n : ℕ) → All (Knows shapes s) (types_declared subject) → n ≡ capped (declared_bytes (known_of s) subject) → 65536 < n
+      → HoldsNoneBelow 6 shapes subject → Refuses shapes subject TooLong
+  too-long s n known same over none =
+      let (d, is, count) = counted s known none in
+      record { holds = long (d, is, omega (arith, same, count, over)); least = none }
 
-    -- or if it does not fit into a draft
-    pub long-by-draft : is_none new ≡ true → Refuses shapes subject TooLong
-    long-by-draft over =
-        let (d, is) = there-declared none in
-        record { holds = long (d, is, none-over (written d) (sym (own d is) ∙ none-is new over)); least = none }
-
-    -- and else the draft has it
-    pub short-by-draft : is_none new ≡ false
-        → IsPrinted shapes subject × ((d : Declaration) × (declaration_of shapes subject ≡ Some d) × (new ≡ Some (written d)))
-    short-by-draft fits =
-        let (d, is) = there-declared none in
-        (none-more TooLong none (λ h. elim h [ long far ↦ too-long far ]), (d, is, there-whole new (written d) (own d is) (there-is new fits)))
-      where
-        too-long : IsLonger 65536 shapes subject → ⊥
-        too-long (d, is, far) = there-is new fits (own d is ∙ appended-over [] (written d) (omega arith))
+  -- and else it is written
+  pub not-too-long : (roots : List ℕ) (s : Survey) (n : ℕ) (old new : Option (List ℕ)) → IsSurveyOf shapes roots s → AreAmong (first_steps subject) roots
+      → All (Knows shapes s) (types_declared subject) → n ≡ capped (declared_bytes (known_of s) subject) → n ≤ 65536 → HoldsNoneBelow 6 shapes subject
+      → old ≡ Some [] → WritesDeclaration s subject old new → IsPrinted shapes subject × IsDrafted shapes subject new
+  not-too-long roots s n old new survey among known same under none empty writes =
+      let (d, is, count) = counted s known none in
+      let short : length (written d) ≤ 65536 = omega (arith, same, count, under) in
+      let text = writes d (declaration-kept shapes roots s subject survey among ∙ is) ∙ ap (λ (o : Option (List ℕ)). appended o (written d)) empty in
+      (none-more TooLong none (λ h. elim h [ long far ↦ fits d is short far ]), (d, is, text ∙ appended-fits [] (written d) (omega arith)))
+    where
+      fits : (d : Declaration) → declaration_of shapes subject ≡ Some d → length (written d) ≤ 65536 → IsLonger 65536 shapes subject → ⊥
+      fits d is short (e, is_e, over) =
+          let same : d ≡ e = cc in
+          omega (arith, short, over, ap (λ (x : Declaration). length (written x)) same)

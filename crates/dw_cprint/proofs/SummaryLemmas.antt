@@ -8,8 +8,8 @@ use Rattle.std.proofs.lemmas.List.Elements.{Contains-push, Contains-append_left,
 use Rattle.dw_cprint.specs.Declarations.{term_at, term_by}
 use Rattle.dw_cprint.specs.Shapes.{Qualifier, TypeAt, ShapeOf, qualified, view_shape}
 use Rattle.dw_cprint.specs.Steps.{entries_of, types_reached}
-use Rattle.dw_cprint.specs.Least.{IsLeast}
-use Rattle.dw_cprint.specs.Summaries.{TypeKind, Summary, AreFound, IsBase, IsSummary, least_known, Knows, AreNodes, HaveSummaries, summary_at}
+use Rattle.dw_cprint.specs.Lengths.{IsLength, base_in}
+use Rattle.dw_cprint.specs.Summaries.{TypeKind, Summary, AreFound, IsBase, IsSummary, known_of, Knows, AreNodes, HaveSummaries, summary_at}
 use Rattle.dw_cprint.specs.Terms.{Term, Void}
 use Rattle.dw_cprint.specs.declared.survey.Survey.{Survey}
 use Rattle.dw_cprint.specs.Wrong.{kind_in, nothing, itself, below}
@@ -17,7 +17,7 @@ use Rattle.dw_cprint.specs.declared.shape.Shape.{Shape}
 use Rattle.dw_cprint.specs.declared.shape.Shape.TheVariants as shape
 use Rattle.dw_cprint.specs.declared.summary.TheConstants.{VOID}
 use Rattle.dw_cprint.proofs.FoundLemmas.{found-none}
-use Rattle.dw_cprint.proofs.LeastLemmas.{Counts, void-least}
+use Rattle.dw_cprint.proofs.LengthLemmas.{Tells, void-length}
 
 -- ---- void
 
@@ -28,15 +28,15 @@ void_summary shapes =
       is_kind = refl;
       is_base = (None, nothing, refl);
       are_found = record { bad_name = none.bad_name; foreign_type = none.foreign_type; unspeakable = none.unspeakable; deep = none.deep };
-      is_least = λ k t e. of_term k t e;
+      is_length = λ k t e. of_term k t e;
     }
   where
-    of_term : (k : ℕ) (t : Term) → term_at k shapes None ≡ Some t → IsLeast t VOID.findings.least
+    of_term : (k : ℕ) (t : Term) → term_at k shapes None ≡ Some t → IsLength t VOID.kind VOID.base VOID.length
     of_term zero t e = absurd (cc)
     of_term (suc k) t e =
         let same : Void ≡ t = cc in
-        let P : Term → Type 0 = λ u. IsLeast u VOID.findings.least in
-        subst P same void-least
+        let P : Term → Type 0 = λ u. IsLength u VOID.kind VOID.base VOID.length in
+        subst P same void-length
 
 -- a fact of types holds of void, and of each entry among them
 pub all-types : (P : TypeAt → Type 0) → P None → (types : List TypeAt) → ((to : ℕ) → Contains (entries_of types) to → P (Some to)) → All P types
@@ -59,20 +59,25 @@ base_itself shapes entry s b is plain same =
     unqualified (shape.Qualified r to) plain q at e = plain r to refl
     unqualified _ plain q at e = cc
 
+-- it is the base of its shape too
+pub base_plain : (known : TypeAt → Summary) (s : Shape) → ((q : Qualifier) (at : TypeAt) → s ≡ shape.Qualified q at → ⊥) → kind_in (Some (view_shape s)) ≡ base_in known (view_shape s)
+base_plain known (shape.Qualified q at) plain = absurd (plain q at refl)
+base_plain known _ plain = refl
+
 -- ---- one entry
 
 pub entry_summary : (shapes : ℕ → ShapeOf) (entry : ℕ) (s : ShapeOf) (known : Summary) → shapes entry ≡ s → known.kind ≡ kind_in (Some s) → IsBase shapes (Some entry) known.base
-    → AreFound shapes (Some entry ∷ []) known.findings → ((k : ℕ) (t : Term) → term_by (term_at k shapes) s ≡ Some t → IsLeast t known.findings.least) → IsSummary shapes (Some entry) known
-entry_summary shapes entry s known is kind base found least =
-    record { is_kind = kind ∙ ap (λ (x : ShapeOf). kind_in (Some x)) (sym is); is_base = base; are_found = found; is_least = of_term }
+    → AreFound shapes (Some entry ∷ []) known.findings → ((k : ℕ) (t : Term) → term_by (term_at k shapes) s ≡ Some t → IsLength t known.kind known.base known.length) → IsSummary shapes (Some entry) known
+entry_summary shapes entry s known is kind base found long =
+    record { is_kind = kind ∙ ap (λ (x : ShapeOf). kind_in (Some x)) (sym is); is_base = base; are_found = found; is_length = of_term }
   where
-    of_term : (k : ℕ) (t : Term) → term_at k shapes (Some entry) ≡ Some t → IsLeast t known.findings.least
+    of_term : (k : ℕ) (t : Term) → term_at k shapes (Some entry) ≡ Some t → IsLength t known.kind known.base known.length
     of_term zero t e = absurd (cc)
-    of_term (suc k) t e = least k t (ap (term_by (term_at k shapes)) (sym is) ∙ e)
+    of_term (suc k) t e = long k t (ap (term_by (term_at k shapes)) (sym is) ∙ e)
 
--- what is counted for some types is right
-pub knows-counts : (shapes : ℕ → ShapeOf) (s : Survey) (k : ℕ) (types : List TypeAt) → All (Knows shapes s) types → All (Counts (term_at k shapes) (least_known s)) types
-knows-counts shapes s k types all = All-weaker (Knows shapes s) (Counts (term_at k shapes) (least_known s)) (λ at known t is. known.is_least k t is) types all
+-- what is known of the lengths of some types is right
+pub knows-lengths : (shapes : ℕ → ShapeOf) (s : Survey) (k : ℕ) (types : List TypeAt) → All (Knows shapes s) types → All (Tells (term_at k shapes) (known_of s)) types
+knows-lengths shapes s k types all = All-weaker (Knows shapes s) (Tells (term_at k shapes) (known_of s)) (λ at known t is. known.is_length k t is) types all
 
 -- ---- all nodes
 

@@ -50,9 +50,11 @@ is_specifier _ = true
 pub record IsSpecifier (t : Term) : Type 0 where
   pub front : (qs : List Qualifier) (inside : Bool) → qualifying qs ++ (core t ++ gap inside) ≡ before qs t inside
   pub back : after t ≡ []
+  pub not_opened : opened t ≡ []
+  pub not_closed : closed t ≡ []
 
 specifier-named : (name : List ℕ) → IsSpecifier (Named name)
-specifier-named name = record { front = λ qs inside. refl; back = refl }
+specifier-named name = record { front = λ qs inside. refl; back = refl; not_opened = refl; not_closed = refl }
 
 specifier-base : (name : List ℕ) (t : Term) → base_term name ≡ Some t → IsSpecifier t
 specifier-base name t e = search (rules, specifier-named)
@@ -60,16 +62,16 @@ specifier-base name t e = search (rules, specifier-named)
 pub specifier-of : (term : TypeAt → Option Term) (s : ShapeOf) (t : Term) → is_specifier s ≡ true → term_by term s ≡ Some t → IsSpecifier t
 specifier-of term (base (Some name)) t is e = specifier-base name t e
 specifier-of term (typedef (Some name)) t is e = let same : Named name ≡ t = cc in subst IsSpecifier same (specifier-named name)
-specifier-of term (tagged word name) t is e = let same : Tagged word name ≡ t = cc in subst IsSpecifier same (record { front = λ qs inside. refl; back = refl })
+specifier-of term (tagged word name) t is e = let same : Tagged word name ≡ t = cc in subst IsSpecifier same (record { front = λ qs inside. refl; back = refl; not_opened = refl; not_closed = refl })
 specifier-of term (body word odd ms) t is e = search (rules, map_inverted, append_assoc)
 specifier-of term (enumeration odd es) t is e = search (rules, map_inverted, append_assoc)
 specifier-of term _ t is e = absurd (cc)
 
-before-arrays : (counts : List (Option ℕ)) (u : Term) → before [] (arrays counts u) true ≡ before [] u true
+pub before-arrays : (counts : List (Option ℕ)) (u : Term) → before [] (arrays counts u) true ≡ before [] u true
 before-arrays [] u = refl
 before-arrays (c ∷ cs) u = before-arrays cs u
 
-after-arrays : (counts : List (Option ℕ)) (u : Term) → flat_map count_tokens counts ++ after u ≡ after (arrays counts u)
+pub after-arrays : (counts : List (Option ℕ)) (u : Term) → flat_map count_tokens counts ++ after u ≡ after (arrays counts u)
 after-arrays [] u = refl
 after-arrays (c ∷ cs) u = append_assoc (count_tokens c) (flat_map count_tokens cs) (after u) ∙ ap (λ (v : List Token). count_tokens c ++ v) (after-arrays cs u)
 

@@ -20,7 +20,7 @@ pub mod Declarators
 pub mod Regular
 pub mod SameShapes
 pub mod Reach
-pub mod Least
+pub mod Lengths
 pub mod Summaries
 pub mod Drafts
 pub mod Kept

@@ -1,12 +1,12 @@
 -- State: what a survey keeps of a type that reaches no cycle: its kind, what is wrong with it, how long the longest
--- path from it is, and how many bytes its text has at least.
+-- path from it is, and how many bytes its text has.
 use Rattle.std.specs.Prelude.{◌≡◌, ℕ, ◌<◌, ◌≤◌, ◌↔◌, true, IsTrue, List, [], ◌∷◌, Option, Some}
 use Rattle.std.specs.Prelude.{None, length, slice_get, slice_index, slice_index_or, is_none, option_and_then, unwrap_or}
 use Rattle.std.specs.Prelude.{Contains, Bool, false, ◌||◌}
 use Rattle.std.specs.List.{list_any}
 use Rattle.dw_cprint.specs.Declarations.{term_at}
-use Rattle.dw_cprint.specs.Least.{IsLeast}
-use Rattle.dw_cprint.specs.Refusals.{Holds, HoldsNoneBelow, BadName, Foreign, Unspeakable, TooDeep, TooLong}
+use Rattle.dw_cprint.specs.Lengths.{IsLength}
+use Rattle.dw_cprint.specs.Refusals.{Holds, BadName, Foreign, Unspeakable, TooDeep}
 use Rattle.dw_cprint.specs.Shapes.{TypeAt, ShapeOf, qualified, SubjectOf, typedef_subject, variable_subject}
 use Rattle.dw_cprint.specs.Shapes.{tag_subject, view_shape}
 use Rattle.dw_cprint.specs.Steps.{entries_of, steps_reached, IsReachedFrom, HasPathFrom}
@@ -42,21 +42,19 @@ pub record AreFound (shapes : ℕ → ShapeOf) (types : List TypeAt) (found : Fi
   pub unspeakable : IsTrue found.unspeakable ↔ ReachesOne (IsUnspeakable shapes) shapes types
   pub deep : IsDepth shapes (entries_of types) found.depth
 
--- which of the second to the fifth refusal holds for the declared entry, and whether it is known that the sixth does
+-- which of the second to the fifth refusal holds for the declared entry
 pub record AreFoundOf (shapes : ℕ → ShapeOf) (subject : SubjectOf) (found : Findings) : Type 0 where
   pub bad_name : IsTrue found.bad_name ↔ Holds shapes subject BadName
   pub foreign_type : IsTrue found.foreign ↔ Holds shapes subject Foreign
   pub unspeakable : IsTrue found.unspeakable ↔ Holds shapes subject Unspeakable
   pub deep : (64 < found.depth) ↔ Holds shapes subject TooDeep
-  pub long : 65536 < found.least → HoldsNoneBelow 6 shapes subject → Holds shapes subject TooLong
 
--- the tests of an entry itself, and how many bytes of its text are its own
-pub record IsOwn (name foreign words : Bool) (bytes : ℕ) (own : Findings) : Type 0 where
+-- the tests of an entry itself
+pub record IsOwn (name foreign words : Bool) (own : Findings) : Type 0 where
   pub bad_name : own.bad_name ≡ name
   pub foreign_type : own.foreign ≡ foreign
   pub unspeakable : own.unspeakable ≡ words
   pub shallow : own.depth ≡ 0
-  pub short : own.least ≤ bytes
 
 -- what is wrong with the one or with the other
 pub record IsEither (one other both : Findings) : Type 0 where
@@ -75,7 +73,7 @@ pub record IsSummary (shapes : ℕ → ShapeOf) (at : TypeAt) (known : Summary) 
   pub is_kind : known.kind ≡ kind_at shapes at
   pub is_base : IsBase shapes at known.base
   pub are_found : AreFound shapes (at ∷ []) known.findings
-  pub is_least : (k : ℕ) (t : Term) → term_at k shapes at ≡ Some t → IsLeast t known.findings.least
+  pub is_length : (k : ℕ) (t : Term) → term_at k shapes at ≡ Some t → IsLength t known.kind known.base known.length
 
 -- what is listed for an entry, by the place of that entry
 abbrev pub found_at : {X : Type 0} → List ℕ → List X → ℕ → Option X
@@ -122,10 +120,6 @@ abbrev pub is_own_unspeakable : Survey → SubjectOf → Bool
 is_own_unspeakable s (typedef_subject name at) = false
 is_own_unspeakable s (variable_subject name at) = is_void (base_known s at)
 is_own_unspeakable s (tag_subject name shape) = is_unspeakable s shape || is_declared_enumeration shape
-
--- how many bytes it tells the text of a type to have at least
-abbrev pub least_known : Survey → TypeAt → ℕ
-least_known s at = (known_of s at).findings.least
 
 -- nodes, each after those that its steps lead to; the entry of each node; and the shapes that are kept of them
 pub record AreNodes (shapes : ℕ → ShapeOf) (places found : List ℕ) (kept : List Shape) (clear : List ℕ) : Type 0 where

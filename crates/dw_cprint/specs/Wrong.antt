@@ -72,6 +72,11 @@ is_bracketed (kind.Array unknown) = true
 is_bracketed kind.Function = true
 is_bracketed _ = false
 
+-- a pointer
+abbrev pub is_pointer : TypeKind → Bool
+is_pointer kind.Pointer = true
+is_pointer _ = false
+
 -- an array or a pointer
 abbrev pub is_address : TypeKind → Bool
 is_address (kind.Array unknown) = true

@@ -9,17 +9,18 @@ use std::alloc::{AllocError, AllocFailed};
 /// Why an entry is not printed. If several reasons hold, it is the first of them in this order.
 #[derive(Clone, Copy, Debug, PartialEq, Eq)]
 pub enum PrintFault {
-    /// It is no typedef, variable, structure, union or enumeration, or its spelling steps reach a cycle.
+    /// P1: the entry is not a typedef, variable, structure, union or enumeration, or what it uses has a cycle.
     NotPrintable,
-    /// A name that is printed is absent or no name of C.
+    /// P2: a name that is printed is missing, or is not valid in C.
     BadName,
-    /// A type of another language or an unspecified type is reached, or a body has an inheritance or a variant part.
+    /// P3: the entry uses a type of another language or an unspecified type, or a body has a base class or a variant
+    /// part.
     Foreign,
-    /// C has no declaration for it.
+    /// P4: C has no such type.
     Unspeakable,
-    /// A path from the entry has more than 64 spelling steps.
+    /// P5: a path from the entry has more than 64 steps.
     TooDeep,
-    /// The text has more than 65,536 bytes.
+    /// P6: the text has more than 65,536 bytes.
     TooLong,
     /// An allocation failed.
     Memory,

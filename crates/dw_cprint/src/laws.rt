@@ -2,7 +2,7 @@
 
 ghost use Rattle.std.specs.Prelude.{◌≡◌, ◌<◌, ◌++◌, ℕ, List, Some, length, All, AllPairs, IsSome};
 ghost use Rattle.dw_cprint.specs.Declarations.{declaration_of};
-ghost use Rattle.dw_cprint.specs.EntryShapes.{shape_in};
+ghost use Rattle.dw_cprint.specs.EntryShapes.{shape_in, subject_in};
 ghost use Rattle.dw_cprint.specs.Listings.{HoldsByValue, IsListing};
 ghost use Rattle.dw_cprint.specs.Refusals.{HasOneReading, HoldsNoneBelow, IsPrinted, Refuses};
 ghost use Rattle.dw_cprint.specs.Regular.{AreRegular};
@@ -49,6 +49,12 @@ pub fn declared_if_not_refused()
         → AreRegular shapes subject → (d : Declaration) → declaration_of shapes subject ≡ Some d → IsDeclaration d }
     ensures one { (shapes : ℕ → ShapeOf) (subject : SubjectOf) → HoldsNoneBelow 5 shapes subject
         → AreRegular shapes subject → HasOneReading shapes subject }
+{}
+
+/// A declaration that is printed of an image has one reading: no other legible declaration has its text.
+pub fn printed_ones_have_one_reading()
+    ensures { (image : ImageOf) (id : ℕ) → IsPrinted (shape_in image) (subject_in image id)
+        → HasOneReading (shape_in image) (subject_in image id) }
 {}
 
 /// Declarations and refusals depend only on the shapes of the entries that are reached.

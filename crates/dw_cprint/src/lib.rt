@@ -4,6 +4,7 @@
 mod digits;
 mod fault;
 mod laws;
+mod lengths;
 mod listing;
 mod names;
 mod reaching;
@@ -21,8 +22,8 @@ pub use digits::{put_decimal, put_hex};
 pub use dw_image::{EntryId, Image, NoMemory};
 pub use fault::PrintFault;
 pub use laws::{
-    declared_if_not_refused, held_types_come_first, one_reading, shapes_reached_decide,
-    text_in_parts, types_are_entries,
+    declared_if_not_refused, held_types_come_first, one_reading, printed_ones_have_one_reading,
+    shapes_reached_decide, text_in_parts, types_are_entries,
 };
 pub use listing::{Listing, declare, declare_all};
 pub use source::Source;

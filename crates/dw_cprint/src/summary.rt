@@ -1,23 +1,22 @@
 //! What is known of a type that reaches no cycle, by the types that it names: its kind, and what is found of it.
 
-ghost use Rattle.std.specs.Prelude.{◌≡◌, ◌<◌, ◌≤◌, ◌+◌, ℕ, List, Some, false, length, map, max, sum_by, All, IfOk};
+ghost use Rattle.std.specs.Prelude.{◌≡◌, ◌<◌, ℕ, List, Some, length, max, All, IfOk};
 ghost use Rattle.dw_cprint.specs.Judgements.{IsRefusalBelow};
-ghost use Rattle.dw_cprint.specs.Least.{name_size, own_size, own_size_declared};
+ghost use Rattle.dw_cprint.specs.Lengths.{base_in};
 ghost use Rattle.dw_cprint.specs.Refusals.{HoldsNoneBelow};
-ghost use Rattle.dw_cprint.specs.Shapes.{ShapeOf, SubjectOf, body, enumeration, view_enumerator, view_shape};
-ghost use Rattle.dw_cprint.specs.Shapes.{view_subject, view_member, view_name, Struct};
+ghost use Rattle.dw_cprint.specs.Shapes.{ShapeOf, SubjectOf, view_shape, view_subject};
 ghost use Rattle.dw_cprint.specs.Steps.{types_declared, types_reached};
 ghost use Rattle.dw_cprint.specs.Summaries.{AreFound, AreFoundOf, AreNodes, AreRight, HaveSummaries, IsBase, IsEither};
 ghost use Rattle.dw_cprint.specs.Summaries.{IsOwn, IsSummary, Knows, is_own_unspeakable, is_unspeakable, kind_known};
-ghost use Rattle.dw_cprint.specs.Summaries.{least_known};
+ghost use Rattle.dw_cprint.specs.Summaries.{known_of};
 ghost use Rattle.dw_cprint.specs.Wrong.{has_bad_name, has_own_bad_name, is_foreign, is_own_foreign};
 
 use crate::fault::PrintFault;
+use crate::lengths::length_of;
 use crate::reaching::put_reached_types;
 use crate::refusals::{TypeKind, has_bad_name, has_void, is_unspeakable, kind_of, lacks_name};
-use crate::shape::{Enumerator, Member, Name, Shape, Subject, TypeAt};
+use crate::shape::{Shape, Subject, TypeAt};
 use crate::survey::Survey;
-use crate::text::LIMIT;
 use crate::words::TagKeyword;
 use dw_types::Order;
 use std::alloc::{AllocError, Global};
@@ -34,8 +33,6 @@ pub struct Findings {
     pub unspeakable: bool,
     /// How many steps the longest path has that begins with one to it.
     pub depth: u32,
-    /// How many bytes its text has at least.
-    pub least: u32,
 }
 
 /// What is found where there is no entry.
@@ -44,7 +41,6 @@ const NOTHING: Findings = Findings {
     foreign: false,
     unspeakable: false,
     depth: 0,
-    least: 0,
 };
 
 impl Findings {
@@ -53,14 +49,12 @@ impl Findings {
     fn with(self, other: Findings) -> Findings
         ensures either { IsEither self other result }
         ensures depth { result.depth ≡ max self.depth other.depth }
-        ensures least { result.least ≤ self.least + other.least }
     {
         Findings {
             bad_name: self.bad_name || other.bad_name,
             foreign: self.foreign || other.foreign,
             unspeakable: self.unspeakable || other.unspeakable,
             depth: self.depth.max(other.depth),
-            least: self.least.saturating_add(other.least),
         }
     }
 
@@ -81,9 +75,6 @@ impl Findings {
         if self.depth > STEP_LIMIT {
             return Some(PrintFault::TooDeep);
         }
-        if self.least as usize > LIMIT {
-            return Some(PrintFault::TooLong);
-        }
         None
     }
 }
@@ -95,71 +86,23 @@ pub struct Summary {
     /// The kind of the type under its row of qualifiers, or its own, if it is no qualifier.
     pub base: TypeKind,
     pub findings: Findings,
+    /// How many bytes its text has without a declarator, or the limit plus one if there are more than the limit.
+    pub length: u32,
 }
 
 /// What is known of void.
 pub const VOID: Summary = Summary {
     kind: TypeKind::Void,
     base: TypeKind::Void,
-    findings: Findings {
-        least: 4,
-        ..NOTHING
-    },
+    findings: NOTHING,
+    length: 4,
 };
-
-/// The bytes of a name, if there is one.
-fn name_size(name: Name<'_>) -> usize
-    ensures { result ≡ name_size (view_name name.entry) }
-{
-    name.map_or(0, |name| name.bytes.len())
-}
-
-/// How many bytes members have at least besides those of their types, and some more.
-fn members_size(members: &[Member<'_>]) -> usize
-    ensures { result ≤ own_size (body Struct false (map view_member members.now)) }
-{
-    let mut bytes: usize = 4;
-    for member in members {
-        bytes = bytes
-            .saturating_add(name_size(member.name))
-            .saturating_add(2);
-    }
-    bytes
-}
-
-/// How many bytes enumerators have at least, and some more.
-fn enumerators_size(enumerators: &[Enumerator<'_>]) -> usize
-    ensures { result ≤ own_size (enumeration false (map view_enumerator enumerators.now)) }
-{
-    let mut bytes: usize = 4;
-    for enumerator in enumerators {
-        bytes = bytes
-            .saturating_add(name_size(enumerator.name))
-            .saturating_add(5);
-    }
-    bytes
-}
-
-/// How many bytes the text of a shape has at least besides those of the types that it names.
-fn own_size(shape: &Shape<'_>) -> usize
-    ensures { result ≤ own_size (view_shape shape.now) }
-{
-    match shape {
-        Shape::Base(name) | Shape::Typedef(name) => name_size(*name),
-        Shape::Array(counts, _, _) => counts.len(),
-        Shape::Tagged(_, name) => name.bytes.len(),
-        Shape::Body(_, _, members) => members_size(members),
-        Shape::Enumeration(_, enumerators) => enumerators_size(enumerators),
-        _ => 0,
-    }
-}
 
 /// What is found of an entry itself that is reached. `types` are those that it leads to.
 fn own_findings(survey: &Survey<'_>, shape: &Shape<'_>, types: &[TypeAt]) -> Findings
     requires { types.now ≡ types_reached (view_shape shape.now) }
     ensures { IsOwn (has_bad_name (kind_known survey.now) (view_shape shape.now))
-        (is_foreign (view_shape shape.now)) (is_unspeakable survey.now (view_shape shape.now))
-        (own_size (view_shape shape.now)) result }
+        (is_foreign (view_shape shape.now)) (is_unspeakable survey.now (view_shape shape.now)) result }
 {
     Findings {
         bad_name: has_bad_name(survey, shape),
@@ -169,7 +112,6 @@ fn own_findings(survey: &Survey<'_>, shape: &Shape<'_>, types: &[TypeAt]) -> Fin
         ),
         unspeakable: is_unspeakable(survey, shape, types),
         depth: 0,
-        least: own_size(shape).min(LIMIT + 1) as u32,
     }
 }
 
@@ -177,8 +119,7 @@ fn own_findings(survey: &Survey<'_>, shape: &Shape<'_>, types: &[TypeAt]) -> Fin
 fn own_findings_declared(survey: &Survey<'_>, subject: &Subject<'_>, types: &[TypeAt]) -> Findings
     requires { types.now ≡ types_declared (view_subject subject.now) }
     ensures { IsOwn (has_own_bad_name (kind_known survey.now) (view_subject subject.now))
-        (is_own_foreign (view_subject subject.now)) (is_own_unspeakable survey.now (view_subject subject.now))
-        (own_size_declared (view_subject subject.now)) result }
+        (is_own_foreign (view_subject subject.now)) (is_own_unspeakable survey.now (view_subject subject.now)) result }
 {
     match subject {
         Subject::Typedef(name, _) => Findings {
@@ -207,9 +148,7 @@ fn own_findings_declared(survey: &Survey<'_>, subject: &Subject<'_>, types: &[Ty
 
 /// What is found of some types.
 fn findings_under(survey: &Survey<'_>, types: &[TypeAt]) -> Findings
-    ensures found { (shapes : ℕ → ShapeOf) → All (Knows shapes survey.now) types.now
-        → AreFound shapes types.now result }
-    ensures least { result.least ≤ sum_by (least_known survey.now) types.now }
+    ensures { (shapes : ℕ → ShapeOf) → All (Knows shapes survey.now) types.now → AreFound shapes types.now result }
 {
     let mut findings = NOTHING;
     for at in types {
@@ -229,7 +168,8 @@ pub fn findings_declared(survey: &Survey<'_>, subject: &Subject<'_>, types: &[Ty
 
 /// The kind of the type under the row of qualifiers that begins with this shape.
 fn base_of(survey: &Survey<'_>, shape: &Shape<'_>) -> TypeKind
-    ensures { (shapes : ℕ → ShapeOf) (entry : ℕ) → shapes entry ≡ view_shape shape.now
+    ensures same { result ≡ base_in (known_of survey.now) (view_shape shape.now) }
+    ensures under { (shapes : ℕ → ShapeOf) (entry : ℕ) → shapes entry ≡ view_shape shape.now
         → All (Knows shapes survey.now) (types_reached (view_shape shape.now)) → IsBase shapes (Some entry) result }
 {
     match shape {
@@ -254,6 +194,7 @@ fn summary_of(alloc: Global, survey: &Survey<'_>, shape: &Shape<'_>) -> Result<S
             depth: all.depth.saturating_add(1),
             ..all
         },
+        length: length_of(survey, shape) as u32,
     })
 }
 

@@ -1,7 +1,7 @@
 //! What some declarations need, found once for all of them: what they reach, what of that reaches a cycle, and what is
 //! known of the rest.
 
-ghost use Rattle.std.specs.Prelude.{◌≡◌, ◌<◌, length, All, IfOk};
+ghost use Rattle.std.specs.Prelude.{◌≡◌, ◌<◌, length, All, IfOk, IfSome};
 ghost use Rattle.std.specs.List.{list_any};
 ghost use Rattle.dw_image.specs.Images.{entries_in};
 ghost use Rattle.dw_cprint.specs.EntryShapes.{shape_in};
@@ -13,11 +13,12 @@ ghost use Rattle.dw_cprint.specs.Surveys.{BySurvey, IsSurveyOf, lacks_summary};
 ghost use Rattle.dw_cprint.specs.Wrong.{is_other_kind};
 
 use crate::fault::PrintFault;
+use crate::lengths::length_declared;
 use crate::reaching::{put_declared_types, reach};
 use crate::shape::{Shape, Subject, TypeAt};
 use crate::source::Source;
 use crate::summary::{Summary, VOID, findings_declared, summarize};
-use crate::text::Draft;
+use crate::text::{Draft, LIMIT};
 use dw_image::Image;
 use dw_types::clear_nodes;
 use std::alloc::{AllocError, Global};
@@ -110,24 +111,25 @@ impl<'a> Survey<'a> {
         Ok(findings_declared(self, subject, &types).refusal())
     }
 
-    /// Why a declaration is refused, if it is. Otherwise its text is written to the draft.
+    /// Why a declaration is refused, if it is. Otherwise its text is written to the draft, and no other text is.
     pub fn refusal(
         &self,
         alloc: Global,
         subject: &Subject<'a>,
         draft: &mut Draft,
     ) -> Result<Option<PrintFault>, AllocError>
-        ensures { IfOk result (λ r. BySurvey self.now (first_steps (view_subject subject.now)) (λ shapes.
+        ensures judged { IfOk result (λ r. BySurvey self.now (first_steps (view_subject subject.now)) (λ shapes.
             IsJudgement shapes (view_subject subject.now) draft.new r)) }
+        ensures unwritten { IfOk result (λ r. IfSome r (λ fault. draft.new ≡ draft.old)) }
     {
         if let Some(fault) = self.refusal_before_text(alloc, subject)? {
             return Ok(Some(fault));
         }
-        draft.clear();
-        self.put_declaration(alloc, draft, subject)?;
-        if draft.is_over() {
+        if length_declared(self, subject) > LIMIT {
             return Ok(Some(PrintFault::TooLong));
         }
+        draft.clear();
+        self.put_declaration(alloc, draft, subject)?;
         Ok(None)
     }
 }

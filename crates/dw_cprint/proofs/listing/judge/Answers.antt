@@ -7,7 +7,7 @@ use Rattle.dw_cprint.proofs.listing.judge.Goals as goal
 
 pub returns : goal.returns
 returns c = λ shapes roots survey among.
-    let judged = c.in_ok-refusal.ensures shapes roots survey among in (
+    let judged = c.in_ok-refusal.ensures.judged shapes roots survey among in (
       c.in_ok-refusal.refusal,
       elim c.if-is_none.branch [
         | then-is_none+in_ok-extend_from_slice+in_ok-push w ↦

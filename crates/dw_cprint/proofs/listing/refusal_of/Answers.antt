@@ -22,4 +22,4 @@ returns c =
     let J : Option PrintFault → SubjectOf → Type 0 = λ r s. IsJudgement shapes s c.refusal.new.draft r in
     IfOk-weaker c.refusal.result _ (λ r. J r (subject_in c.args.source.now.image.now c.args.id))
     (λ r judged. subst (J r) c.in_ok-subject.ensures (judged shapes (first_steps (subject_in c.args.source.now.image.now c.args.id)) surveyed (λ entry has. rw c.in_ok-subject.ensures at has)))
-    c.refusal.ensures
+    c.refusal.ensures.judged

@@ -1,9 +1,8 @@
-use Rattle.std.proofs.Common.{List, subst, ap, arith, sum_by}
+use Rattle.std.proofs.Common.{List, subst, arith}
 use Rattle.std.specs.Prelude.{All}
 use Rattle.dw_cprint.specs.Shapes.{TypeAt, view_subject}
-use Rattle.dw_cprint.specs.Summaries.{Knows, AreFound, least_known}
+use Rattle.dw_cprint.specs.Summaries.{Knows, AreFound}
 use Rattle.dw_cprint.proofs.FoundLemmas.{found-subject}
-use Rattle.dw_cprint.proofs.RefusalLemmas.{long-by-least}
 use Rattle.dw_cprint.proofs.summary.findings_declared.Goals as goal
 
 pub returns : goal.returns
@@ -13,8 +12,6 @@ returns c = λ shapes known.
     let P : List TypeAt → Type 0 = λ ts. All (Knows shapes s) ts in
     let Q : List TypeAt → Type 0 = λ ts. AreFound shapes ts c.findings_under.result in
     let declared = subst P c.requires known in
-    let sum = ap (λ (ts : List TypeAt). sum_by (least_known s) ts) c.requires in
     let own = c.own_findings_declared.ensures in
-    found-subject shapes s subject c.own_findings_declared.result c.findings_under.result c.with.result _ declared own (subst Q c.requires (c.findings_under.ensures.found shapes known)) c.with.ensures.either
+    found-subject shapes s subject c.own_findings_declared.result c.findings_under.result c.with.result declared own (subst Q c.requires (c.findings_under.ensures shapes known)) c.with.ensures.either
     (omega (arith, own.shallow, c.with.ensures.depth))
-    (long-by-least shapes subject s c.with.result.least declared (omega (arith, own.short, c.with.ensures.least, c.findings_under.ensures.least, sum)))

@@ -1,28 +1,24 @@
-use Rattle.std.proofs.Common.{◌≡◌, List, subst, ap, arith, rules, sum_by}
+use Rattle.std.proofs.Common.{◌≡◌, List, subst, arith, rules}
 use Rattle.std.specs.Prelude.{All}
 use Rattle.dw_cprint.specs.Declarations.{term_at}
-use Rattle.dw_cprint.specs.Least.{least_in}
 use Rattle.dw_cprint.specs.Shapes.{TypeAt, view_shape}
 use Rattle.dw_cprint.specs.Steps.{types_reached}
-use Rattle.dw_cprint.specs.Summaries.{AreFound, Knows, least_known}
+use Rattle.dw_cprint.specs.Summaries.{AreFound, Knows, known_of}
 use Rattle.dw_cprint.proofs.FoundLemmas.{found-shape}
-use Rattle.dw_cprint.proofs.LeastLemmas.{fewer-least, shape-least}
-use Rattle.dw_cprint.proofs.SummaryLemmas.{entry_summary, knows-counts}
+use Rattle.dw_cprint.proofs.LengthLemmas.{shape-length, same-length}
+use Rattle.dw_cprint.proofs.SummaryLemmas.{entry_summary, knows-lengths}
 use Rattle.dw_cprint.proofs.summary.summary_of.Goals as goal
 
 pub returns : goal.returns
 returns c = λ shapes entry is known.
     let s = c.args.survey.now in
     let shape = view_shape c.args.shape.now in
-    let n = least_known s in
     let same : c.deref-2.result.now ≡ types_reached shape = search rules in
     let P : List TypeAt → Type 0 = λ ts. All (Knows shapes s) ts → AreFound shapes ts c.findings_under.result in
-    let rest : AreFound shapes (types_reached shape) c.findings_under.result = subst P same (c.findings_under.ensures.found shapes) known in
+    let rest : AreFound shapes (types_reached shape) c.findings_under.result = subst P same (c.findings_under.ensures shapes) known in
     let both = c.with-all.ensures.either in
-    let sum = ap (λ (ts : List TypeAt). sum_by n ts) same in
-    entry_summary shapes entry shape _ is c.kind_of.ensures (c.base_of.ensures shapes entry is known)
-    (found-shape shapes s entry c.own_findings.result c.findings_under.result _ _ (rw (← is) at known) (rw (← is) at c.own_findings.ensures) (rw (← is) at rest)
+    entry_summary shapes entry shape _ is c.kind_of.ensures (c.base_of.ensures.under shapes entry is known)
+    (found-shape shapes s entry c.own_findings.result c.findings_under.result _ (rw (← is) at known) (rw (← is) at c.own_findings.ensures) (rw (← is) at rest)
     (record { bad_name = both.bad_name; foreign_type = both.foreign_type; unspeakable = both.unspeakable })
     (omega (arith, c.own_findings.ensures.shallow, c.with-all.ensures.depth, c.saturating_add.ensures)))
-    (λ k t e. fewer-least t (least_in n shape) c.with-all.result.least (omega (arith, sum, c.own_findings.ensures.short, c.with-all.ensures.least, c.findings_under.ensures.least))
-    (shape-least (term_at k shapes) n shape t (knows-counts shapes s k (types_reached shape) known) e))
+    (λ k t e. same-length t _ _ _ _ _ _ c.kind_of.ensures c.base_of.ensures.same c.length_of.ensures (shape-length (term_at k shapes) (known_of s) shape t (knows-lengths shapes s k (types_reached shape) known) e))

@@ -1,21 +1,26 @@
-use Rattle.std.proofs.Common.{sym, subst, ◌∙◌}
+use Rattle.std.proofs.Common.{subst, arith}
 use Rattle.dw_cprint.specs.Judgements.{IsRefusalBelow}
+use Rattle.dw_cprint.specs.Refusals.{NotPrintable, cycle}
 use Rattle.dw_cprint.specs.Shapes.{view_subject}
-use Rattle.dw_cprint.proofs.RefusalLemmas.{long-by-draft, short-by-draft}
+use Rattle.dw_cprint.specs.Steps.{types_declared}
+use Rattle.dw_cprint.proofs.RefusalLemmas.{too-long, not-too-long}
+use Rattle.dw_cprint.proofs.SurveyLemmas.{types-known}
 use Rattle.dw_cprint.proofs.survey.Survey.refusal.Goals as goal
 
-pub returns-in-Some : goal.returns-in-Some
-returns-in-Some c = λ shapes roots survey among.
+pub returns-in-Some-clause-judged : goal.returns-in-Some-clause-judged
+returns-in-Some-clause-judged c = λ shapes roots survey among.
     subst (IsRefusalBelow 6 shapes (view_subject c.args.subject.now)) c.in-Some.is (c.in_ok-fault.ensures shapes roots survey among)
 
-pub returns-then-is_over : goal.returns-then-is_over
-returns-then-is_over c = λ shapes roots survey among.
-    let none = subst (IsRefusalBelow 6 shapes (view_subject c.args.subject.now)) c.in_default.is (c.in_ok-fault.ensures shapes roots survey among) in
-    long-by-draft shapes (view_subject c.args.subject.now) roots c.args.self.now survey among none
-    c.clear.new.self c.put_declaration.new.out c.clear.ensures c.in_ok-put_declaration.ensures (sym c.is_over.ensures ∙ c.if-is_over.true)
+pub returns-then-length_declared-gt-LIMIT-clause-judged : goal.returns-then-length_declared-gt-LIMIT-clause-judged
+returns-then-length_declared-gt-LIMIT-clause-judged c = λ shapes roots survey among.
+    let x = view_subject c.args.subject.now in
+    let none = subst (IsRefusalBelow 6 shapes x) c.in_default.is (c.in_ok-fault.ensures shapes roots survey among) in
+    let known = types-known shapes roots c.args.self.now survey (types_declared x) among (λ r. none NotPrintable (omega arith) (cycle r.0 r.1 r.2)) in
+    too-long shapes x c.args.self.now c.length_declared.result known c.length_declared.ensures c.if-length_declared-gt-LIMIT.true none
 
-pub returns : goal.returns
-returns c = λ shapes roots survey among.
-    let none = subst (IsRefusalBelow 6 shapes (view_subject c.args.subject.now)) c.in_default.is (c.in_ok-fault.ensures shapes roots survey among) in
-    short-by-draft shapes (view_subject c.args.subject.now) roots c.args.self.now survey among none
-    c.clear.new.self c.put_declaration.new.out c.clear.ensures c.in_ok-put_declaration.ensures (sym c.is_over.ensures ∙ c.if-is_over.false)
+pub returns-clause-judged : goal.returns-clause-judged
+returns-clause-judged c = λ shapes roots survey among.
+    let x = view_subject c.args.subject.now in
+    let none = subst (IsRefusalBelow 6 shapes x) c.in_default.is (c.in_ok-fault.ensures shapes roots survey among) in
+    let known = types-known shapes roots c.args.self.now survey (types_declared x) among (λ r. none NotPrintable (omega arith) (cycle r.0 r.1 r.2)) in
+    not-too-long shapes x roots c.args.self.now c.length_declared.result c.clear.new.self c.put_declaration.new.out survey among known c.length_declared.ensures c.if-length_declared-gt-LIMIT.false none c.clear.ensures c.in_ok-put_declaration.ensures

@@ -1,0 +1,283 @@
+//! How many bytes the text of a type has, from those of the types that it names. A number above the limit is kept as
+//! the limit plus one.
+
+ghost use Rattle.std.specs.Prelude.{◌≡◌, ◌+◌, Option, false, length, map, sum_by, if◌then◌else◌};
+ghost use Rattle.dw_cprint.specs.Digits.{numeral};
+ghost use Rattle.dw_cprint.specs.Lengths.{bytes_around, byte_count, capped, declared_bytes, enumerator_bytes};
+ghost use Rattle.dw_cprint.specs.Lengths.{enumerators_bytes, has_gap, member_bytes, members_bytes, name_bytes};
+ghost use Rattle.dw_cprint.specs.Lengths.{named_bytes, parameter_bytes, parameters_bytes, qualifier_bytes, shape_bytes};
+ghost use Rattle.dw_cprint.specs.Lengths.{space, tag_bytes, value_bytes};
+ghost use Rattle.dw_cprint.specs.Shapes.{tag_subject, view_enumerator, view_member, view_name, view_shape};
+ghost use Rattle.dw_cprint.specs.Shapes.{view_subject};
+ghost use Rattle.dw_cprint.specs.Summaries.{known_of};
+ghost use Rattle.dw_cprint.specs.Tokens.{qualifier_spelling};
+ghost use Rattle.dw_cprint.specs.Writing.{bits_tokens, count_tokens};
+
+use crate::refusals::TypeKind;
+use crate::shape::{Enumerator, Member, Name, Parameter, Shape, Subject, TypeAt};
+use crate::summary::Summary;
+use crate::survey::Survey;
+use crate::text::LIMIT;
+use crate::words::{Qualifier, TagKeyword};
+
+/// The sum of two numbers of bytes, or the limit plus one if it is above the limit.
+#[inline]
+pub fn plus(one: usize, other: usize) -> usize
+    ensures { result ≡ capped (one + other) }
+{
+    one.saturating_add(other).min(LIMIT + 1)
+}
+
+/// The bytes of a space, if there is one.
+#[inline]
+fn space(there: bool) -> usize
+    ensures { result ≡ space there }
+{
+    if there { 1 } else { 0 }
+}
+
+/// Whether a space comes between a type and a declarator that is not empty.
+#[inline]
+fn has_gap(known: Summary) -> bool
+    ensures { result ≡ has_gap known.kind known.base }
+{
+    !(known.base.is_bracketed() || matches!(known.kind, TypeKind::Pointer))
+}
+
+/// The bytes that a qualifier adds to a type without a declarator.
+fn qualifier_length(known: Summary, qualifier: Qualifier) -> usize
+    ensures { result ≡ qualifier_bytes known.kind known.base qualifier false }
+{
+    if known.base.is_bracketed() {
+        return 0;
+    }
+    let word = qualifier.text().len();
+    if matches!(known.kind, TypeKind::Pointer) {
+        return word;
+    }
+    word + 1
+}
+
+/// The bytes of a type with a declarator that is not empty, without those of the declarator.
+#[inline]
+fn length_around(survey: &Survey<'_>, at: TypeAt) -> usize
+    ensures { result ≡ capped (bytes_around (known_of survey.now) at) }
+{
+    let known = survey.known(at);
+    plus(known.length as usize, space(has_gap(known)))
+}
+
+/// The bytes of a type with a declarator that is a name, or with none.
+#[inline]
+fn named_length(survey: &Survey<'_>, at: TypeAt, name: Name<'_>) -> usize
+    ensures { capped result ≡ capped (named_bytes (known_of survey.now) at (view_name name.entry)) }
+{
+    match name {
+        None => survey.known(at).length as usize,
+        Some(name) => plus(length_around(survey, at), name.bytes.len()),
+    }
+}
+
+/// The bytes of a name, if there is one.
+#[inline]
+fn name_length(name: Name<'_>) -> usize
+    ensures { result ≡ name_bytes (view_name name.entry) }
+{
+    name.map_or(0, |name| name.bytes.len())
+}
+
+/// The bytes of the word before a tag, a space, and the tag.
+fn tag_length(word: TagKeyword, name: Name<'_>) -> usize
+    ensures { result ≡ capped (tag_bytes word (view_name name.entry)) }
+{
+    plus(word.text().len() + 1, name_length(name))
+}
+
+/// How many decimal digits a number has.
+#[tactic(auto, using(crate::proofs::LexingLemmas::numeral_low))]
+fn digit_count(n: u128) -> usize
+    ensures { result ≡ capped (length (numeral n)) }
+{
+    if n < 10 {
+        1
+    } else {
+        plus(digit_count(n / 10), 1)
+    }
+}
+
+/// The bytes of a member's size in bits, if it has one.
+#[inline]
+fn bits_length(bits: Option<u64>) -> usize
+    ensures { result ≡ capped (byte_count (bits_tokens bits)) }
+{
+    match bits {
+        None => 0,
+        Some(n) => plus(3, digit_count(u128::from(n))),
+    }
+}
+
+/// The bytes of a member.
+#[inline]
+fn member_length(survey: &Survey<'_>, member: &Member<'_>) -> usize
+    ensures { result ≡ capped (member_bytes (known_of survey.now) (view_member member.now)) }
+{
+    let typed = named_length(survey, member.type_at, member.name);
+    plus(plus(typed, bits_length(member.bits)), 2)
+}
+
+/// The bytes of members, in braces.
+fn members_length(survey: &Survey<'_>, members: &[Member<'_>]) -> usize
+    ensures { result ≡ capped (members_bytes (known_of survey.now) (map view_member members.now)) }
+{
+    let mut bytes = 3;
+    for member in members {
+        bytes = plus(bytes, member_length(survey, member));
+    }
+    bytes
+}
+
+/// The bytes of an enumerator's value.
+fn value_length(value: Option<i128>) -> usize
+    ensures { result ≡ capped (value_bytes value) }
+{
+    match value {
+        None => 0,
+        Some(value) => {
+            let digits = digit_count(value.unsigned_abs());
+            if value < 0 { plus(1, digits) } else { digits }
+        }
+    }
+}
+
+/// The bytes of an enumerator and its value, and of the comma or the brace before it and a space.
+fn enumerator_length(enumerator: &Enumerator<'_>) -> usize
+    ensures { result ≡ capped (enumerator_bytes (view_enumerator enumerator.now)) }
+{
+    plus(
+        plus(name_length(enumerator.name), 5),
+        value_length(enumerator.value),
+    )
+}
+
+/// The bytes of enumerators, in braces.
+fn enumerators_length(enumerators: &[Enumerator<'_>]) -> usize
+    ensures { result ≡ capped (enumerators_bytes (map view_enumerator enumerators.now)) }
+{
+    if enumerators.is_empty() {
+        return 4;
+    }
+    let mut bytes = 2;
+    for enumerator in enumerators {
+        bytes = plus(bytes, enumerator_length(enumerator));
+    }
+    bytes
+}
+
+/// The bytes of a parameter, and of the comma and the space or the parentheses around the first.
+fn parameter_length(survey: &Survey<'_>, parameter: Parameter) -> usize
+    ensures { result ≡ capped (parameter_bytes (known_of survey.now) parameter) }
+{
+    match parameter {
+        Parameter::Typed(at) => plus(survey.known(at).length as usize, 2),
+        Parameter::More => 5,
+    }
+}
+
+/// The bytes of the parameters of a function, in parentheses.
+fn parameters_length(survey: &Survey<'_>, parameters: &[Parameter]) -> usize
+    ensures { result ≡ capped (parameters_bytes (known_of survey.now) parameters.now) }
+{
+    if parameters.is_empty() {
+        return 6;
+    }
+    let mut bytes = 0;
+    for parameter in parameters {
+        bytes = plus(bytes, parameter_length(survey, *parameter));
+    }
+    bytes
+}
+
+/// The bytes of the brackets of a dimension.
+fn count_length(count: Option<u128>) -> usize
+    ensures { result ≡ capped (byte_count (count_tokens count)) }
+{
+    match count {
+        None => 2,
+        Some(n) => plus(2, digit_count(n)),
+    }
+}
+
+/// The bytes of the brackets of dimensions.
+fn counts_length(counts: &[Option<u128>]) -> usize
+    ensures { result ≡ capped (sum_by (λ n. byte_count (count_tokens n)) counts.now) }
+{
+    let mut bytes = 0;
+    for count in counts {
+        bytes = plus(bytes, count_length(*count));
+    }
+    bytes
+}
+
+/// The bytes of the text of a shape without a declarator.
+pub fn length_of(survey: &Survey<'_>, shape: &Shape<'_>) -> usize
+    ensures { result ≡ capped (shape_bytes (known_of survey.now) (view_shape shape.now)) }
+{
+    match shape {
+        Shape::Base(name) | Shape::Typedef(name) => name_length(*name).min(LIMIT + 1),
+        Shape::Qualified(qualifier, at) => {
+            let known = survey.known(*at);
+            plus(known.length as usize, qualifier_length(known, *qualifier))
+        }
+        Shape::Pointer(to) => {
+            let kind = survey.known(*to).kind;
+            let star = if kind.is_bracketed() { 3 } else { 1 };
+            plus(length_around(survey, *to), star)
+        }
+        Shape::Array(counts, _, at) => plus(length_around(survey, *at), counts_length(counts)),
+        Shape::Function(at, None) => plus(length_around(survey, *at), 2),
+        Shape::Function(at, Some(parameters)) => {
+            plus(
+                length_around(survey, *at),
+                parameters_length(survey, parameters),
+            )
+        }
+        Shape::Tagged(word, name) => tag_length(*word, Some(*name)),
+        Shape::Body(word, _, members) => {
+            plus(tag_length(*word, None), members_length(survey, members))
+        }
+        Shape::Enumeration(_, enumerators) => plus(5, enumerators_length(enumerators)),
+        _ => 0,
+    }
+}
+
+/// The bytes of the declaration of a structure, union or enumeration.
+fn tag_declaration_length(survey: &Survey<'_>, name: Name<'_>, shape: &Shape<'_>) -> usize
+    ensures { result
+        ≡ capped (declared_bytes (known_of survey.now) (tag_subject (view_name name.entry) (view_shape shape.now))) }
+{
+    match shape {
+        Shape::Body(word, _, members) => {
+            plus(
+                plus(tag_length(*word, name), 2),
+                members_length(survey, members),
+            )
+        }
+        Shape::Enumeration(_, enumerators) => {
+            let tag = plus(tag_length(TagKeyword::Enum, name), 2);
+            plus(tag, enumerators_length(enumerators))
+        }
+        Shape::Tagged(word, name) => plus(tag_length(*word, Some(*name)), 1),
+        _ => 0,
+    }
+}
+
+/// The bytes of a declaration.
+pub fn length_declared(survey: &Survey<'_>, subject: &Subject<'_>) -> usize
+    ensures { result ≡ capped (declared_bytes (known_of survey.now) (view_subject subject.now)) }
+{
+    match subject {
+        Subject::Typedef(name, at) => plus(named_length(survey, *at, *name), 9),
+        Subject::Variable(name, at) => plus(named_length(survey, *at, *name), 1),
+        Subject::Tag(name, shape) => tag_declaration_length(survey, *name, shape),
+    }
+}
