@@ -6,31 +6,37 @@ ghost use Rattle.std.specs.Prelude.{◌≡◌};
 /// .debug_info, .debug_str, .debug_line_str, .debug_str_offsets and .debug_addr.
 #[derive(Clone, Copy, Debug, PartialEq, Eq)]
 pub enum ElfRule {
-    /// One of the six sections has more than `SECTION_LIMIT` bytes.
+    /// E1: the file has more than 4,294,967,296 bytes, or one of the six sections has more than 1,073,741,824.
+    ///
+    /// `find` looks at the sections alone: their limit is `SECTION_LIMIT`.
     TooLarge,
-    /// The file has fewer than 64 bytes, or does not start like a 64-bit little-endian ELF file of
+    /// E2: the file has fewer than 64 bytes, or the first seven are not those of a 64-bit little-endian ELF file of
     /// version 1.
     NotElf64,
-    /// The file is neither an executable nor a shared object (`e_type`).
+    /// E3: the file is neither an executable (type 2) nor a shared object (type 3).
     NotLinked,
-    /// There are no section headers, they don't have 64 bytes each, they pass the file's end, or the
-    /// name table is missing: its number is 0 or not that of a header, or the table has no bytes
-    /// (SHT_NOBITS) or bytes past the file's end.
+    /// E4: there are no section headers, they do not have 64 bytes each, they pass the file's end, or the section of
+    /// names is missing: its number is 0 or not that of a header, or it has type 8 or passes the file's end.
     SectionTable,
-    /// A section's name does not start inside the name table, or no zero byte ends it there. This is
-    /// checked for every section header except number 0.
+    /// E5: the name of a section starts outside the section of names, or no zero byte ends it there.
+    ///
+    /// This is checked for every section header except number 0.
     SectionName,
-    /// One of the six sections has bytes past the file's end.
+    /// E6: one of the six sections passes the file's end.
     SectionRange,
-    /// One of the six sections has compressed bytes (SHF_COMPRESSED), or a name starts with
-    /// `.zdebug_`. Compressed bytes are never decompressed. This project's choice: such a name is refused, whatever
+    /// E7: one of the six sections is compressed (its flags have 0x800), or the name of a section starts with
+    /// `.zdebug_`.
+    ///
+    /// Compressed bytes are never decompressed. This project's choice: a name that starts so is refused, whatever
     /// follows the prefix.
     Compressed,
-    /// One of the six sections has the name of a section before it.
+    /// E8: one of the six sections has the name of an earlier one.
     SectionTwice,
-    /// No section is named .debug_info. This project's choice: each other of the six may be missing.
+    /// E9: no section is named `.debug_info`.
+    ///
+    /// This project's choice: each other of the six may be missing.
     NoInfo,
-    /// One of the six sections has no bytes in the file (SHT_NOBITS).
+    /// E10: one of the six sections has no bytes in the file (type 8).
     NoBits,
 }
 

@@ -23,7 +23,7 @@ use dw_entries::{Attribute, Entries, EntryId, Head, Tag, Value};
 use dw_links::{LinkTables, TextPlace};
 use dw_types::{ByValue, Constant, SizeTable, first_child};
 
-/// The image of valid sections. Only `verify` makes one.
+/// The image of valid sections. Only `verify` and `verify_scanned` make one.
 #[derive(Drop)]
 pub struct Image<'a> {
     pub(crate) entries: Entries<'a>,
@@ -131,6 +131,15 @@ impl<'a> Image<'a> {
         ensures { IfSome (slice_get (entries_in self.now) id) (λ e. result ≡ e.head.decl.tag) }
     {
         self.entries.tag(id)
+    }
+
+    /// How many entries are above an entry. Each of them is looked at.
+    #[tactic(auto, unfolding(crate::specs::Images::units_in))]
+    pub fn depth(&self, id: EntryId) -> usize
+        requires { id < length (entries_in self.now) }
+        ensures { IfSome (slice_get (entries_in self.now) id) (λ e. result ≡ e.depth) }
+    {
+        self.entries.depth(id)
     }
 
     /// The parent of an entry. None at the first entry of a unit.

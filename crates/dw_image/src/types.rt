@@ -54,7 +54,7 @@ impl Image<'_> {
         ensures exact { result ≡ type_number (entries_in self.now) id }
         ensures within { IfSome result (λ it. it < length (entries_in self.now)) }
     {
-        if self.entries.at(id).is_type() {
+        if self.entries.decl(id).is_type() {
             Some(TypeId::new(id))
         } else {
             None

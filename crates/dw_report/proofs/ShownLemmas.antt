@@ -4,13 +4,12 @@ use Rattle.std.specs.Prelude.{slice_get}
 use Rattle.std.specs.List.{enumerate_from, flat_map, All}
 use Rattle.std.proofs.lemmas.List.{take-append-drop, drop_more}
 use Rattle.std.proofs.lemmas.List.Concat.{flat_map-append}
-use Rattle.dw_entries.specs.declared.lookup.Head.{Head}
 use Rattle.dw_entries.specs.Entries.{Entry}
-use Rattle.dw_entries.specs.Lookups.{full_head}
 use Rattle.dw_image.specs.declared.image.Image.{Image}
 use Rattle.dw_image.specs.Images.{name_in}
 use Rattle.dw_image.proofs.LookupLemmas.{slice_get_none}
-use Rattle.dw_report.specs.Shown.{glyph, shown_line, entry_size, entry_line}
+use Rattle.dw_report.specs.Lines.{line}
+use Rattle.dw_report.specs.Shown.{glyph, entry_part, name_part, size_part, shown_line, entry_size, entry_line}
 
 -- bytes that are shown as they are
 pub glyphs_plain : (xs : List ℕ) → All (λ b. glyph b ≡ b ∷ []) xs → flat_map glyph xs ≡ xs
@@ -37,13 +36,35 @@ glyphs_split text copied new escape rest at within plain escaped is_copied is_ne
     ∙ append_assoc text (take at rest) (escape ++ after)
     ∙ ap (λ u. text ++ u) (sym parts)
 
+-- the two parts of a line
+line_in_parts : (offset depth tag : ℕ) (name : Option (List ℕ)) (size : Option ℕ) (old mid new : List ℕ)
+    → mid ≡ old ++ entry_part offset depth tag → new ≡ mid ++ line (name_part name ++ size_part size)
+    → new ≡ old ++ shown_line offset depth tag name size
+unfolding shown_line
+line_in_parts offset depth tag name size old mid new first last =
+    let begun = entry_part offset depth tag in
+    let ended = name_part name ++ size_part size in
+    last ∙ ap (λ u. u ++ line ended) first ∙ append_assoc old begun (line ended)
+    ∙ ap (λ u. old ++ u) (sym (append_assoc begun ended (10 ∷ [])))
+    ∙ ap (λ u. old ++ (u ++ 10 ∷ [])) (sym (append_assoc begun (name_part name) (size_part size)))
+
 -- what the look-ups of an entry tell makes its line
-pub entry_line_told : (i : Image) (number : ℕ) (found : Option Entry) (head : Head) (name : Option (List ℕ)) (size : Option ℕ)
-    (old new : List ℕ) → IfSome found (λ e. head ≡ full_head e) → IfSome found (λ e. name ≡ name_in i e) → IfSome found (λ e. size ≡ entry_size i number e)
-    → new ≡ old ++ shown_line head.offset head.depth head.tag name size → IfSome found (λ e. new ≡ old ++ entry_line i (number, e))
+pub entry_line_told : (i : Image) (number : ℕ) (found : Option Entry) (offset depth tag : ℕ) (name : Option (List ℕ))
+    (size : Option ℕ) (old mid new : List ℕ)
+    → IfSome found (λ e. offset ≡ e.at) → IfSome found (λ e. depth ≡ e.depth)
+    → IfSome found (λ e. tag ≡ e.head.decl.tag) → IfSome found (λ e. name ≡ name_in i e)
+    → IfSome found (λ e. size ≡ entry_size i number e)
+    → mid ≡ old ++ entry_part offset depth tag → new ≡ mid ++ line (name_part name ++ size_part size)
+    → IfSome found (λ e. new ≡ old ++ entry_line i (number, e))
 unfolding entry_line
-entry_line_told i number None head name size old new is_head is_name is_size is = tt
-entry_line_told i number (Some e) head name size old new is_head is_name is_size is = search (rules)
+entry_line_told i number None offset depth tag name size old mid new is_at is_deep is_tag is_name is_size first last = tt
+entry_line_told i number (Some e) offset depth tag name size old mid new is_at is_deep is_tag is_name is_size first last =
+    line_in_parts offset depth tag name size old mid new first last
+    ∙ ap (λ u. old ++ shown_line u depth tag name size) is_at
+    ∙ ap (λ u. old ++ shown_line e.at u tag name size) is_deep
+    ∙ ap (λ u. old ++ shown_line e.at e.depth u name size) is_tag
+    ∙ ap (λ u. old ++ shown_line e.at e.depth e.head.decl.tag u size) is_name
+    ∙ ap (λ u. old ++ shown_line e.at e.depth e.head.decl.tag (name_in i e) u) is_size
 
 -- one item more of a numbered list
 more_lines : (f : ℕ × Entry → List ℕ) (es : List Entry) (n k : ℕ) (e : Entry) → slice_get es k ≡ Some e

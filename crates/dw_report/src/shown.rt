@@ -5,13 +5,14 @@ ghost use Rattle.std.specs.Prelude.{replicate, option_copied, All, MatchBool, If
 ghost use Rattle.std.specs.List.{flat_map};
 ghost use Rattle.dw_image.specs.Images.{entries_in};
 ghost use Rattle.dw_cprint.specs.Digits.{places};
-ghost use Rattle.dw_report.specs.Shown.{glyph, name_part, size_part, entry_part, shown_line, entry_size, entry_line};
+ghost use Rattle.dw_report.specs.Shown.{glyph, name_part, size_part, entry_part, entry_size, entry_line};
+ghost use Rattle.dw_report.specs.Lines.{line};
 ghost use Rattle.dw_report.specs.Shown.{show_lines, size_line, size_text, size_status, type_at_offset};
 
 use crate::lines::put_offset;
 use crate::reporting::Status;
 use dw_cprint::{put_decimal, put_hex};
-use dw_image::{EntryId, Head, Image, TypeId};
+use dw_image::{EntryId, Image, Tag, TypeId};
 use std::alloc::AllocError;
 
 /// Two spaces for each depth.
@@ -25,14 +26,14 @@ fn put_indent(text: &mut Vec<u8>, depth: usize) -> Result<(), AllocError>
 
 /// An entry's offset, two spaces for each depth, and its tag.
 #[tactic(auto, unfolding(crate::specs::Shown::entry_part))]
-fn put_entry_part(text: &mut Vec<u8>, offset: u32, depth: usize, tag: u16) -> Result<(), AllocError>
+fn put_entry_part(text: &mut Vec<u8>, offset: u32, depth: usize, tag: Tag) -> Result<(), AllocError>
     ensures ok { OnOk result (text.new.items ≡ text.old.items ++ entry_part offset depth tag) }
 {
     put_offset(text, offset)?;
     text.extend_from_slice(b" ")?;
     put_indent(text, depth)?;
     text.extend_from_slice(b"0x")?;
-    put_hex(text, u32::from(tag), 4)
+    put_hex(text, u32::from(tag.0), 4)
 }
 
 /// Whether a byte of a name is shown as it is.
@@ -100,18 +101,15 @@ fn put_size(text: &mut Vec<u8>, size: Option<u64>) -> Result<(), AllocError>
     put_decimal(text, u128::from(size))
 }
 
-/// An entry's line: its head, its name and its size.
-#[tactic(auto, unfolding(crate::specs::Shown::shown_line))]
-fn put_shown_line(
+/// The end of an entry's line: its name and its size.
+fn put_line_end(
     text: &mut Vec<u8>,
-    head: Head,
     name: Option<&[u8]>,
     size: Option<u64>,
 ) -> Result<(), AllocError>
     ensures ok { OnOk result (text.new.items
-        ≡ text.old.items ++ shown_line head.offset head.depth head.tag (option_copied name.entry) size) }
+        ≡ text.old.items ++ line (name_part (option_copied name.entry) ++ size_part size)) }
 {
-    put_entry_part(text, head.offset, head.depth, head.tag.0)?;
     put_name(text, name)?;
     put_size(text, size)?;
     text.extend_from_slice(b"\n")
@@ -135,10 +133,13 @@ fn put_entry_line(text: &mut Vec<u8>, image: &Image<'_>, id: EntryId) -> Result<
     ensures ok { OnOk result (IfSome (slice_get (entries_in image.now) id) (λ e.
         text.new.items ≡ text.old.items ++ entry_line image.now (id, e))) }
 {
-    let head = image.head(id);
+    let offset = image.offset(id);
+    let depth = image.depth(id);
+    let tag = image.tag(id);
+    put_entry_part(text, offset, depth, tag)?;
     let name = image.name_of(id);
     let size = size_of_entry(image, id);
-    put_shown_line(text, head, name, size)
+    put_line_end(text, name, size)
 }
 
 /// The line of the entry with a number.

@@ -4,7 +4,9 @@ use Rattle.std.specs.List.{count_by}
 use Rattle.dw_elf.specs.declared.sections.Sections.{Sections}
 use Rattle.dw_entries.specs.Units.{DebugUnit}
 use Rattle.dw_entries.specs.Entries.{entries_of}
+use Rattle.dw_image.specs.declared.image.Image.{Image}
 use Rattle.dw_image.specs.Headline.{IsSoundBy, IsFaultOf}
+use Rattle.dw_image.specs.Images.{unit_count, entry_count, type_count}
 use Rattle.dw_image.specs.Lookups.{is_type_entry}
 use Rattle.dw_units.specs.declared.counting.Counts.{Counts}
 use Rattle.dw_units.specs.declared.counting.Found.{Found}
@@ -17,6 +19,10 @@ pub record AreCounts (s : Sections) (c : Counts) : Type 0 where
   pub unit_count : c.units ≡ length units
   pub entry_count : c.entries ≡ length (entries_of units)
   pub type_count : c.types ≡ count_by is_type_entry (entries_of units)
+
+-- the counts of an image
+abbrev pub counts_of : Image → Counts
+counts_of i = record { units = unit_count i; entries = entry_count i; types = type_count i }
 
 -- the sections are sound, and these are their counts; or this is their first fault
 abbrev pub IsFound : Sections → Found → Type 0

@@ -6,7 +6,7 @@ ghost use Rattle.dw_entries.specs.Rules.{group_of};
 ghost use Rattle.dw_image.specs.Images.{sections_in};
 ghost use Rattle.dw_units.specs.Alone.{JoinsUnits};
 ghost use Rattle.dw_units.specs.ByUnit.{FirstOfUnits, TreesOfUnits, IsMoved, moved_offset};
-ghost use Rattle.dw_units.specs.Counted.{AreCounts, IsFound};
+ghost use Rattle.dw_units.specs.Counted.{AreCounts, IsFound, counts_of};
 ghost use Rattle.dw_units.specs.Parts.{AreSoFar, IsFoundAlone, IsFoundAt, is_less};
 
 use crate::alone::{Verified, are_apart, unit_size, verify_alone};
@@ -27,7 +27,8 @@ pub struct Counts {
 impl Counts {
     /// The counts of an image.
     pub fn of(image: &Image<'_>) -> Counts
-        ensures { AreCounts (sections_in image.now) result }
+        ensures counts { AreCounts (sections_in image.now) result }
+        ensures same { result ≡ counts_of image.now }
     {
         Counts {
             units: image.units(),
@@ -229,7 +230,7 @@ fn found_of(counts: Counts, least: Option<Fault>) -> Found
     }
 }
 
-/// The counts of sound sections or the first fault, if no unit refers to another one. None if that is not so, or if
+/// The counts of sound sections or the first fault, if no unit may refer to another one. None if one may, or if
 /// `verify` costs less: for one unit, and for units whose abbreviation tables are large. None says nothing.
 pub fn verify_by_unit<'a>(alloc: Global, sections: &Sections<'a>) -> Result<Option<Found>, NoMemory>
     ensures { IfOk result (λ found. IfSome found (IsFound sections.now)) }
@@ -268,7 +269,7 @@ pub fn verify_by_unit<'a>(alloc: Global, sections: &Sections<'a>) -> Result<Opti
     Ok(Some(found_of(so_far.counts, so_far.least)))
 }
 
-/// Units that are each valid alone, and refer to no other unit, are valid together.
+/// Units that are each valid alone, and have no value that may refer to another unit, are valid together.
 pub fn units_join()
     ensures { JoinsUnits }
 {}
@@ -278,7 +279,7 @@ pub fn trees_of_units()
     ensures { TreesOfUnits }
 {}
 
-/// The first fault of units that refer to no other unit is the least, by group and then by unit, of the units' own.
+/// The first fault of units without such values is the least, by group and then by unit, of the units' own.
 pub fn first_of_units()
     ensures { FirstOfUnits }
 {}

@@ -202,12 +202,9 @@ fn put_counts(image: &Image<'_>, count: &mut usize, verdict: &mut Verdict)
     ensures count { count.new ≡ entry_count image.now }
     ensures verdict { verdict.new ≡ of_image image.now }
 {
-    *count = image.entries();
-    *verdict = verdict_of_counts(Counts {
-        units: image.units(),
-        entries: image.entries(),
-        types: image.types(),
-    });
+    let counts = Counts::of(image);
+    *count = counts.entries;
+    *verdict = verdict_of_counts(counts);
 }
 
 /// Writes the rows of all entries if there is room for them, how many there are, and the verdict.

@@ -15,7 +15,7 @@ returns-in_ok-text-in-Check c =
     let text = c.in_ok-text-in-Check.text.items in
     subst (λ (r : Request). SoundReport s r Sound text) (sym c.in-Check.is)
     (subst (SoundReport s (Check c.in-Check.json) Sound) (sym c.in_ok-text-in-Check.ensures)
-    (counted c.in-Check.json c.of.result c.of.ensures))
+    (counted c.in-Check.json c.of.result c.of.ensures.counts))
 
 pub returns-in_ok-text-in-Show : goal.returns-in_ok-text-in-Show
 returns-in_ok-text-in-Show c =

@@ -6,7 +6,10 @@ use Rattle.dw_report.proofs.shown.put_entry_line.Goals as goal
 
 pub returns : goal.returns
 returns c = record {
-  ok = on_ok_weaker c.put_shown_line.result (entry_line_told c.args.image.now c.args.id (slice_get (entries_in c.args.image.now) c.args.id)
-      c.head-head.result (option_copied c.name_of-name.result) c.size_of_entry-size.result c.args.text.now.items c.put_shown_line.new.text.items
-      c.head-head.ensures c.name_of-name.ensures c.size_of_entry-size.ensures) c.put_shown_line.ensures.ok;
+  ok = on_ok_weaker c.put_line_end.result (entry_line_told c.args.image.now c.args.id
+      (slice_get (entries_in c.args.image.now) c.args.id)
+      c.offset-offset.result c.depth-depth.result c.tag-tag.result (option_copied c.name_of-name.result)
+      c.size_of_entry-size.result c.args.text.now.items c.put_entry_part.new.text.items c.put_line_end.new.text.items
+      c.offset-offset.ensures c.depth-depth.ensures c.tag-tag.ensures c.name_of-name.ensures c.size_of_entry-size.ensures
+      c.in_ok-put_entry_part.ensures.ok) c.put_line_end.ensures.ok;
 }

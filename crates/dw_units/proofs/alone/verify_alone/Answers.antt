@@ -26,4 +26,4 @@ returns-in-Ok-Sound-clause-found c =
     (shares_by c.args.sections.now c.in-Ok.own own.«abbrev» own.str own.line_str own.str_offsets own.addr)
     c.in_ok-entries.entries c.in-Ok-Sound.image c.args.part.now c.of.result (ap (λ (b : Bor (List ℕ)). b.now) own.info)
     c.in_ok-entries.ensures.same c.in_ok-entries.ensures.only (rw c.in-Ok-Sound.field-0-is at c.in-Ok-Sound.ensures)
-    (rw c.if-not-is_one_alone.false at c.is_one_alone.ensures) c.of.ensures
+    (rw c.if-not-is_one_alone.false at c.is_one_alone.ensures) c.of.ensures.counts

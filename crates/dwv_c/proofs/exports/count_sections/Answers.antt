@@ -12,4 +12,4 @@ returns-in-Ok-Some-Fault c =
     (c.in-Ok-Some-Fault.fault, found, rw c.in-Ok-Some-Fault.field-0-0-is at c.verdict_of_fault.ensures)
 
 pub returns : goal.returns
-returns c = subst (λ s. AreCounts s c.of.result) c.in_ok-image.ensures.sections c.of.ensures
+returns c = subst (λ s. AreCounts s c.of.result) c.in_ok-image.ensures.sections c.of.ensures.counts

@@ -2,9 +2,9 @@ use Rattle.dw_image.specs.Images.{units_in, type_count}
 use Rattle.dw_image.proofs.JoinLemmas.{sound_image}
 use Rattle.dw_units.proofs.counting.Counts.of.Goals as goal
 
-pub returns : goal.returns
+pub returns-clause-counts : goal.returns-clause-counts
 unfolding type_count
-returns c = record {
+returns-clause-counts c = record {
   units = units_in c.args.image.now;
   sound = (sound_image c.args.image.now).sound;
   unit_count = c.units.ensures;
