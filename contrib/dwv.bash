@@ -21,7 +21,7 @@ _dwv_script() {
         dwv-c-header) options='--all --assert --debuginfod --help -o --version' ;;
         dwv-check) options='--allow --debuginfod --every --explain --files-from --help --ignore --jobs --json --junit'
             options+=' --log --memory --merge -o --resume --sarif --seconds --summary --unprepared --version' ;;
-        dwv-explain) options='--debuginfod --help --json --version' ;;
+        dwv-explain) options='--debuginfod --help --html --json --version' ;;
     esac
     if [[ $word == -* ]]; then
         mapfile -t COMPREPLY < <(compgen -W "$options" -- "$word")

@@ -107,7 +107,11 @@ va_list *list; struct point { struct { short x, y; }; union { long l; double d; 
 struct far { char a; _Alignas(4096) char b; } far;
 typedef float wide_vector __attribute__((vector_size(32)));
 struct has_wide { char a; wide_vector v; int k; } has_wide;
-struct constant { const int a[3]; const char *const names[4]; int n; } constant;
+typedef int near_vector __attribute__((vector_size(16), aligned(1))); struct near { char a; near_vector v; } near;
+struct bare_vector { char a; float __attribute__((vector_size(32))) v; int k;
+    short __attribute__((vector_size(8))) w[3]; } bare_vector;
+typedef int __attribute__((vector_size(16))) *to_vector; struct no_vector { char a; float v[8]; } no_vector;
+to_vector some; struct constant { const int a[3]; const char *const names[4]; int n; } constant;
 struct wide_numbers { __int128 a; unsigned __int128 b; } wide_numbers; typedef unsigned __int128 u128; u128 number;
 struct complex { _Complex float f; _Complex double d; _Complex int i; _Complex long double l; } complex_numbers;
 struct user { struct constant one[2]; struct wide_numbers *w; u128 x; struct complex *c; } user;
@@ -118,8 +122,13 @@ struct point *points(struct point *p) { return p; }
 
 # Types that `dwv types` refuses, or does not say as they are.
 WRITTEN = ["struct constant {\n\tconst int a[3];\n\tconst char *const names[4];", "unsigned __int128 b;",
-           "_Complex int i;",
-           "typedef float wide_vector __attribute__((vector_size(32)));", "_Complex long double l;"]
+           "_Complex int i;", "_Complex long double l;",
+           "typedef float __attribute__((vector_size(32))) wide_vector;",
+           "\tfloat __attribute__((vector_size(32))) v;\n\tint k;", "\tfloat v[8];",
+           " __attribute__((vector_size(8))) w[3];",
+           "typedef int __attribute__((vector_size(16))) *to_vector;"]
+# The alignment of a type is in version 5 alone.
+ALIGNED = "typedef int __attribute__((vector_size(16), aligned(1))) near_vector;"
 # Two types of one name with members of the same names.
 ONE, OTHER = """typedef struct { int v[4]; } node; struct s { node items[64]; struct s *next; }; struct s one;
 """, """struct s { int *items; struct s *next; }; struct s two; int main(void) { return 0; }
@@ -177,7 +186,8 @@ def programs(folder):
                 status, header, errors = run("--assert", path)
                 guessed = [line for line in header.splitlines() if line.startswith("/* guessed")]
                 wanted = [*(f"_Static_assert({it}" for it in ("sizeof", "_Alignof", "__builtin_offsetof")),
-                          *(WRITTEN if name == "layouts" else [])]
+                          *(WRITTEN if name == "layouts" else []),
+                          *([ALIGNED] if name == "layouts" and version == 5 else [])]
                 lacking = [it for it in wanted if it not in header]
                 tally.add(title, errors or status or guessed or refusals(header, ("c", "c++")) or lacking)
 

@@ -79,7 +79,7 @@ def faults():
     run("all rules that are ignored", 0, (1, 0, 0), {"E2 NotElf64 (ignored)": 1}, {}, *words)
     run("a link on the command line", 1, (1, 0, 0), {"G1 UndeclaredCode": 1}, {"link": G1}, "link")
     _, text, _ = common.script("check", "--summary", "--explain", "./-o", "link")
-    wanted = f"link\n  {G1}\n\n    Rule:       The unit's abbreviation table does not declare the code of an entry."
+    wanted = f"link\n  {G1}\n\n    Rule:       The unit's table has no declaration with the code."
     tally.same("a fault that is explained", re.findall(r"(?ms)^link$.*?^    Rule: .*?$", text), [wanted])
     tally.same("what is not explained", text.count("\n    Rule: "), 1)
 
@@ -199,8 +199,10 @@ def limits(folder):
     run("a limit of memory", 3, (1, 0, 0), {"not read": 1}, {"file 0": "dwv: out of memory"}, "file 0", "--memory",
         "64", DWV=no_memory(folder))
     words = [common.PYTHON, common.TOP / "contrib/check", "--jobs", "1", "--log", "cut", *names]
+    # A shell starts what it runs in the background with this signal ignored.
     ran = subprocess.Popen(words, stdout=subprocess.PIPE, stderr=subprocess.PIPE, text=True,
-                           env={**os.environ, "DWV": str(slow)})
+                           env={**os.environ, "DWV": str(slow)},
+                           preexec_fn=lambda: signal.signal(signal.SIGINT, signal.default_int_handler))
     ran.stdout.readline()
     ran.send_signal(signal.SIGINT)
     _, errors = ran.communicate()
@@ -216,27 +218,47 @@ def no_memory(folder):
     return path
 
 
+def is_valid(schema, path):
+    """Whether xmllint says that a file has a schema, or what it says."""
+    words = ("xmllint", "--nonet", "--noout", "--schema", common.HERE / "schemas" / schema, path)
+    status, _, errors = common.run(*words, text=True)
+    return status == 0 or errors
+
+
 def formats():
     """SARIF and JUnit, against their schemas; in the folder of the logs."""
     write("odd & <name>\n\udcff", common.BROKEN)
-    words = ("--summary", "--sarif", "out.sarif", "--junit", "out.xml", "--ignore", "E2", ".")
-    tally.same("--sarif and --junit", common.script("check", *words, "none")[0], 3)
+    words = ("--summary", "--explain", "--sarif", "out.sarif", "--junit", "out.xml", "--ignore", "E2")
+    tally.same("--sarif and --junit", common.script("check", *words, ".", "none")[0], 3)
     found = json.loads(pathlib.Path("out.sarif").read_text())
     results = found["runs"][0]["results"]
     tally.same("the results of SARIF", [it["ruleId"] for it in results], ["unread", "G1", "G1"])
+    places = [it["locations"][0]["physicalLocation"]["artifactLocation"]["uri"] for it in results]
+    tally.same("names in URIs", sorted(places), ["file%203", "none", "odd%20%26%20%3Cname%3E%0A%FF"])
     suite = ElementTree.parse("out.xml").getroot()[0]
-    tally.same("the counts of JUnit", [suite.get(it) for it in ("tests", "failures", "errors")], ["8", "2", "1"])
+    counts = ("tests", "failures", "errors", "skipped")
+    tally.same("the counts of JUnit", [suite.get(it) for it in counts], ["8", "2", "1", None])
+    write("piece", SOUND[:20])
+    common.script("check", "--sarif", "more.sarif", "--junit", "more.xml", "--ignore", "E2", "piece")
+    common.script("check", "--sarif", "none.sarif", "--junit", "none.xml", "file 0")
+    skipped = ElementTree.parse("more.xml").getroot()[0]
+    tally.same("a rule that is ignored, in JUnit", [skipped.get(it) for it in counts], ["1", "0", "0", "1"])
     try:
         import jsonschema
 
-        schema = json.loads((common.HERE / "schemas/sarif.json").read_text())
-        errors = jsonschema.Draft7Validator(schema).iter_errors(found)
-        tally.same("SARIF by its schema", [it.message for it in errors], [])
+        schema = json.loads((common.HERE / "schemas/sarif-2.1.0.json").read_text())
+        for name in ("out", "more", "none"):
+            found = json.loads(pathlib.Path(f"{name}.sarif").read_text())
+            errors = jsonschema.Draft7Validator(schema).iter_errors(found)
+            tally.same(f"SARIF by its schema, {name}.sarif", [it.message for it in errors], [])
     except ImportError:
         tally.skip("the Python package jsonschema is not installed")
-    if common.has("xmllint"):
-        words = ("xmllint", "--noout", "--schema", common.HERE / "schemas/junit.xsd", "out.xml")
-        tally.same("JUnit by its schema", common.run(*words)[0], 0)
+    if tally.has("xmllint"):
+        for name in ("out", "more", "none"):
+            is_right = is_valid("junit-jenkins.xsd", f"{name}.xml")
+            tally.same(f"JUnit by the schema of Jenkins, {name}.xml", is_right, True)
+        for name in ("out", "none"):
+            tally.same(f"JUnit by the schema of Ant, {name}.xml", is_valid("junit-ant.xsd", f"{name}.xml"), True)
 
 
 def units(folder):

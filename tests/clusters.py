@@ -5,7 +5,6 @@ It starts the daemons of Slurm (slurm-wlm and munge of Debian; it must run as th
 part of `make test`. It prints one line a test and ends with 'N passed, M failed'. What is not installed is skipped.
 """
 import contextlib
-import json
 import os
 import re
 import shutil
@@ -54,6 +53,16 @@ if __name__ == "__main__":
         for row in client.gather(client.map(check, sys.argv[1:])):
             print(row["path"], row["verdict"])
 """
+# The same by the Python module, as the page says of files that need not be prepared.
+MODULE = """import sys, dwv
+from dask.distributed import Client
+
+if __name__ == "__main__":
+    with Client(n_workers=2, threads_per_worker=1, dashboard_address=None) as client:
+        for path, verdict in zip(sys.argv[1:], client.gather(client.map(dwv.check, sys.argv[1:]))):
+            print(path, verdict, bool(verdict))
+"""
+LIBRARY = os.environ.get("DWV_LIBRARY") or str(common.TOP / "out/lib/libdwv.so.0")
 tally = common.Tally(1)
 
 
@@ -132,7 +141,8 @@ def slurm(folder, env):
     submit, _, merge = text.replace("1-100", f"1-{TASKS}").replace("/100", f"/{TASKS}").partition("\ndwv-check")
     with daemons(folder, env):
         if not is_ready(env):
-            tally.add("slurm", common.run("tail", "-n", "3", folder / "slurmctld.out", folder / "slurmd.out", text=True)[1])
+            logs = (folder / "slurmctld.out", folder / "slurmd.out")
+            tally.add("slurm", common.run("tail", "-n", "3", *logs, text=True)[1])
             return
         status, _, errors = shell(submit, folder, env)
         tally.same("sbatch -W ends with the status of the task that failed", (status, errors), (1, ""))
@@ -177,6 +187,22 @@ def dask(folder, env):
     tally.add("dask", None if status == 0 and len(rows) == FILES - 1 and "G1 UndeclaredCode" in said else errors[-500:])
 
 
+def module(folder, env):
+    """The Python module in the workers of Dask: verdicts go from one process to another."""
+    if not os.path.exists(LIBRARY):
+        tally.skip("the C library is not built (make lib)")
+        return
+    (folder / "module_check.py").write_text(MODULE)
+    names = sorted(it.name for it in folder.glob("file *"))
+    env = {**env, "DWV_LIBRARY": LIBRARY, "PYTHONPATH": str(common.TOP / "python")}
+    status, said, errors = common.run("/usr/bin/python3", "module_check.py", *names, text=True, cwd=folder, env=env,
+                                      timeout=300)
+    rows = [line for line in said.splitlines() if line.endswith(" True")]
+    faults = [line for line in said.splitlines() if line.startswith("file 7 fault G1 ") and line.endswith(" False")]
+    is_right = (status, len(rows), len(faults)) == (0, FILES - 1, 1)
+    tally.add("dask, by the Python module", None if is_right else errors[-500:] or said)
+
+
 def main():
     common.build()
     with common.empty_folder() as folder:
@@ -191,6 +217,7 @@ def main():
             tally.skip("GNU parallel is not installed")
         if common.run("/usr/bin/python3", "-c", "import distributed")[0] == 0:
             dask(folder, env)
+            module(folder, env)
         else:
             tally.skip("Dask (python3-distributed) is not installed")
     return tally.end()

@@ -1,9 +1,8 @@
 #!/usr/bin/env python3
 """Runs contrib/explain on the smallest file of each rule, on what compilers make, and on programs that are changed.
 
-It also compares the texts of rules with docs/RULES.md and docs/dwv.1, the names of tags and attributes with those of
-dw_forms, and the entries that it reads with those that readelf lists. It prints one line a test and ends with
-'N passed, N failed, N skipped'.
+It also compares the names of tags and attributes with those of dw_forms, and the entries that it reads with those that
+readelf lists. It prints one line a test and ends with 'N passed, N failed, N skipped'.
 """
 import json
 import random
@@ -19,7 +18,6 @@ import examples
 from common import DWV, TOP
 from dwv_tools import dwarf, explaining, finding, measured, names, running
 
-DOCS = TOP / "docs"
 CHANGES = 200
 KEYS = "at attribute cycle name rule section sound".split()
 # The flags that lead to a fault, its rule, and a word of what is said.
@@ -32,7 +30,7 @@ FLAGS = [
     ("gcc -gdwarf-4", "sized.c", "Z1", "declared sized.c:3"),
     ("gcc -gdwarf-5 -gz", "sized.c", "Z1", "declared sized.c:3"),
     ("gcc -gdwarf-5 -fdebug-types-section", "nested.c", "Z1", "-fdebug-types-section"),
-    ("tcc -g", compilers.C, "E9", "stabs"),
+    ("tcc -g", "named.c", "E9", "stabs"),
     ("gcc -gdwarf-4 -fdebug-types-section", "named.c", "R4", "-fdebug-types-section"),
     ("gcc -g -s", compilers.C, "E9", "strip"),
     ("clang -gdwarf-5", "plain.m", "Z3", "Objective-C"),
@@ -40,6 +38,9 @@ FLAGS = [
     ("rustc -g", "tails.rs", "Z3", "debuginfo=1"),
     ("nasm -f elf64 -g -F dwarf", "start.asm", "U3", "nasm"),
     ("yasm -f elf64 -g dwarf2", "start.asm", "U3", "yasm"),
+    ("ghc -g", "areas.hs", "U3", "ghc writes version 3"),
+    ("ocamlopt -g", "joined.ml", "U3", "ocamlopt -g leaves the unit to the assembler"),
+    ("crystal build --debug", "colours.cr", "Z4", "without --debug"),
 ]
 # What is changed in a program, and what is found then. The names of a function's parameters are folder and program.
 HEAD = b"\x7fELF\x02\x01\x01".ljust(64, b"\0")
@@ -54,34 +55,14 @@ KINDS = [
 ]
 # Rules of which something is always found in their smallest files.
 MEASURED = "E2 E3 E4 E6 A8 U3 U5 U6 G1 R1 R2 R3 S2 Y2 Z1 Z3 Z4".split()
-tally = common.Tally(76)
-
-
-def page_rules():
-    """The rules of the manual page, each with its sentence as text."""
-    found = {}
-    items = re.findall(r"^\.It Sy ([A-Z]\d+ \w+)\n((?:(?!\.It|\.El).*\n)*)", (DOCS / "dwv.1").read_text(), re.M)
-    for title, text in items:
-        text = re.sub(r"^\.\w\w ", "", text, flags=re.M)
-        found[title] = re.sub(r" ([.,])(?= |$)", r"\1", " ".join(text.split()))
-    return {title: text for title, text in found.items() if title[0] != "P"}
+tally = common.Tally(74)
 
 
 def texts():
-    table = [line.split(" | ") for line in explaining.RULES.read_text().splitlines() if not line.startswith("#")]
-    rules = [" ".join(rule) for rule in sorted_rules()]
-    tally.same("the rules are those of RULES.md", [row[0] for row in table], rules)
-    tally.same("the rules say what the manual page says", {row[0]: row[1] for row in table}, page_rules())
     code = (TOP / "crates/dw_forms/src/constants.rt").read_text()
     found = re.findall(r"pub const DW_([A-Z]+)_(\w+): \w+ = \w+\((0x[0-9a-f]+)\)", code)
     odd = [word for kind, word, number in found if names.name(kind, int(number, 16)) != f"DW_{kind}_{word}"]
     tally.same("the names are those of dw_forms", (len(found) > 70, odd), (True, []))
-
-
-def sorted_rules():
-    """The rules of RULES.md, in the order of the manual page: by group and number."""
-    groups = "EAUGKSRYCZ"
-    return sorted(examples.rules(), key=lambda rule: (groups.index(rule[0][0]), int(rule[0][1:])))
 
 
 def explained(path):
@@ -212,6 +193,10 @@ def compilers_write(folder):
         status, text, errors = run(path)
         is_right = text.startswith(f"fault {rule} ") and word in " ".join(text.split()) and status == 1
         tally.add(f"{command} {sources}: {rule}", None if is_right else text + errors)
+        # What refers to a type unit that was left out is doubtful.
+        if "A habit of your compiler" in text and "types-section" not in command:
+            status, text, errors = common.script("check", "--allow", "compiler", path)
+            tally.add(f"{command} {sources}: allowed", None if status == 0 else text + errors)
     for command in ("gcc -gdwarf-5", "gcc -gdwarf-4", "clang -gdwarf-5", "clang -gdwarf-4"):
         path = compiled(folder, command, "shapes.c calls.c")
         if path and tally.has("readelf"):

@@ -4,14 +4,18 @@
 What is prepared has the counts of the file as the linker wrote it, and a file that is changed keeps its fault. It
 prints one line a test and ends with 'N passed, N failed, N skipped'.
 """
+import contextlib
 import os
 import random
 import re
 import shutil
+import socket
 import struct
 import subprocess
 import sys
 import threading
+import time
+import urllib.request
 
 sys.dont_write_bytecode = True
 import common
@@ -279,8 +283,7 @@ def links(folder):
     objcopy("--compress-debug-sections", stripped.parent / ".debug/apart.debug", apart)
     (stripped.parent / ".debug/apart.debug").unlink()
     tally.same("a file with another checksum", line(stripped)[0].split()[1], "E9")
-    note = dwarf.File(full).section(".note.gnu.build-id")
-    number = full.read_bytes()[note.start + 16 : note.start + note.size].hex()
+    number = number_of(full)
     by_id = folder / f"usr/lib/debug/.build-id/{number[:2]}/{number[2:]}.debug"
     by_id.parent.mkdir(parents=True)
     apart.rename(by_id)
@@ -293,10 +296,95 @@ def links(folder):
     tool.parent.mkdir()
     tool.write_text(f'#!/bin/sh\n[ "$*" = "debuginfo {number}" ] && echo "{folder}/served"\n')
     tool.chmod(0o755)
-    path = f"{tool.parent}:{os.environ['PATH']}"
-    text = run("--debuginfod", stripped, PATH=path)[1]
+    env = {"PATH": f"{tool.parent}:{os.environ['PATH']}", "DEBUGINFOD_URLS": "http://127.0.0.1"}
+    text = run("--debuginfod", stripped, **env)[1]
     tally.same("by debuginfod", text, f"{stripped}: {wanted} (its debug file {folder}/served, decompressed)\n")
-    tally.same("debuginfod has none", run("--debuginfod", full.with_name("usr"), PATH=path)[0], 0)
+    tally.same("debuginfod has none", run("--debuginfod", full.with_name("usr"), **env)[0], 0)
+    common.compiled(folder / "served", "gcc -gdwarf-5 -O1 -Wl,--build-id", "shapes.c", "calls.c")
+    why = f"not prepared: debuginfod-find has a file of another build ID: {folder}/served"
+    tally.same("debuginfod has a file of another build", run("--debuginfod", stripped, **env)[1],
+               f"{stripped}: fault E9 NoInfo at section 0 ({why})\n")
+    tally.same("no server is named", run("--debuginfod", stripped, **env | {"DEBUGINFOD_URLS": ""})[1],
+               f"{stripped}: fault E9 NoInfo at section 0 (not prepared: DEBUGINFOD_URLS names no server)\n")
+
+
+def number_of(path):
+    """The build ID of a file in hexadecimal."""
+    note = dwarf.File(path).section(".note.gnu.build-id")
+    return path.read_bytes()[note.start + 16 : note.start + note.size].hex()
+
+
+@contextlib.contextmanager
+def server(folder, numbers):
+    """The address of debuginfod for the files of a folder, which it serves while the block runs; None if it does not
+    have the debug files of these build IDs within a minute."""
+    with socket.socket() as it:
+        it.bind(("127.0.0.1", 0))
+        port = it.getsockname()[1]
+    address, words = f"http://127.0.0.1:{port}", ["-F", "-d", ":memory:", "-p", str(port), "-c", "1"]
+    with open(folder.parent / "debuginfod.out", "wb") as out:
+        process = subprocess.Popen(["debuginfod", *words, folder], stdout=out, stderr=out)
+    try:
+        end, left = time.monotonic() + 60, list(numbers)
+        while left and time.monotonic() < end:
+            try:
+                urllib.request.build_opener(urllib.request.ProxyHandler({})).open(
+                    f"{address}/buildid/{left[0]}/debuginfo", timeout=10).close()
+                left.pop(0)
+            except OSError:
+                time.sleep(0.2)
+        yield None if left else address
+    finally:
+        process.terminate()
+        process.wait()
+
+
+def served(folder):
+    """A stripped file and one of dwz, whose other files a real debuginfod has."""
+    if not all(map(shutil.which, ("debuginfod", "debuginfod-find"))):
+        tally.skip("debuginfod is not installed")
+        return
+    place, here = folder / "served-files", folder / "here"
+    place.mkdir(), here.mkdir()
+    full, stripped = here / "full", here / "stripped"
+    common.compiled(full, "gcc -gdwarf-5 -Wl,--build-id", "shapes.c", "calls.c")
+    objcopy("--only-keep-debug", "--compress-debug-sections=zlib", full, place / "full.debug")
+    objcopy("--strip-all", full, stripped)
+    wanted, numbers, shared = dwv(full), [number_of(full)], here / "shared"
+    if shutil.which("dwz"):
+        one, two = here / "one", here / "two"
+        common.compiled(one, "gcc -gdwarf-5 -Wl,--build-id", "shapes.c", "calls.c")
+        shutil.copy(one, two)
+        subprocess.run(["dwz", "-m", shared, one, two], capture_output=True)
+    joined = line(one)[0] if shared.exists() else None
+    if joined:
+        numbers.append(number_of(shared))
+        shared.rename(place / "shared.debug")
+    with server(place, numbers) as address:
+        if address is None:
+            tally.add("debuginfod", (folder / "debuginfod.out").read_text(errors="replace")[-500:])
+            return
+        env = {"DEBUGINFOD_URLS": address, "DEBUGINFOD_CACHE_PATH": str(folder / "cache"), "no_proxy": "127.0.0.1"}
+        cached = f"{folder}/cache/{number_of(full)}/debuginfo"
+        tally.same("a stripped file, by a debuginfod that runs", run("--debuginfod", stripped, **env)[:2],
+                   (0, f"{stripped}: {wanted} (its debug file {cached}, decompressed)\n"))
+        tally.same("without --debuginfod", run(stripped, **env)[1], f"{stripped}: fault E9 NoInfo at section 0\n")
+        tally.same("explain --debuginfod", common.script("explain", "--debuginfod", stripped, **env)[1].split(" (")[0],
+                   wanted)
+        if joined is None:
+            tally.skip("dwz makes no shared file")
+            return
+        status, text, _ = run("--debuginfod", one, **env)
+        cached = f"{folder}/cache/{numbers[1]}/debuginfo"
+        is_right = text.startswith(f"{one}: {joined} (joined with {cached} from 0x") and status == 0
+        tally.add("the shared file of dwz, by debuginfod", None if is_right and joined[:5] == "sound" else text)
+        env["DEBUGINFOD_CACHE_PATH"] = str(folder / "other-cache")
+        common.compiled(full, "gcc -gdwarf-5 -O1 -Wl,--build-id", "shapes.c", "calls.c")
+        objcopy("--strip-all", full, stripped)
+        why = "not prepared: debuginfod-find has no file of the build ID: "
+        text = run("--debuginfod", stripped, **env)[1]
+        is_right = text.startswith(f"{stripped}: fault E9 NoInfo at section 0 ({why}")
+        tally.add("debuginfod that does not have it", None if is_right else text)
 
 
 def sizes(folder):
@@ -336,6 +424,7 @@ def main():
                 if common.has("dwz"):
                     by_dwz(folder)
             links(folder)
+            served(folder)
     return tally.end()
 
 

@@ -1,21 +1,21 @@
-"""C declarations of types by their entries: of those that `dwv types` refuses, though C can say them.
+"""C declarations of types by their entries: of those that `dwv types` refuses, or does not say as they are.
 
-These are arrays of const elements as gcc describes them (a const type over an array), `unsigned __int128`, and
-`_Complex` types, which clang gives one name. The lines are like those of `dwv types`.
+These are arrays of const elements as gcc describes them (a const type over an array), `unsigned __int128`, `_Complex`
+types, which clang gives one name, and vectors, which `dwv types` prints as arrays. The lines are like those of `dwv
+types`, and a vector has its attribute.
 """
 import re
 
-from dwv_tools import c_types, c_writing, dwarf, names, reading
+from dwv_tools import c_types, c_writing, names, reading
 from dwv_tools.c_types import (
-    Array, Basic, Body, Declaration, Enum, Function, Member, Name, Pointer, Qualified, Tag, Void, bare,
+    Array, Basic, Body, Declaration, Enum, Function, Member, Name, Pointer, Qualified, Tag, Vector, Void, bare,
 )
-from dwv_tools.entries import name_of, number_of, target_of
+from dwv_tools.entries import ARRAY, POINTER, SUBRANGE, count_of, is_vector, name_of, number_of, target_of, whole_size
 
 KINDS = {0x13: "struct", 0x17: "union", 0x04: "enum"}
 QUALIFIERS = {0x26: "const", 0x35: "volatile", 0x37: "restrict", 0x47: "_Atomic"}
-ARRAY, POINTER, FUNCTION, TYPEDEF, BASE, SUBRANGE = 0x01, 0x0F, 0x15, 0x16, 0x24, 0x21
-MEMBER, ENUMERATOR, PARAMETER, UNSPECIFIED = 0x0D, 0x28, 0x05, 0x18
-UPPER, COUNT, ENCODING, CONSTANT, PROTOTYPED, VECTOR = 0x2F, 0x37, 0x3E, 0x1C, 0x27, 0x2107
+FUNCTION, TYPEDEF, BASE, MEMBER, ENUMERATOR, PARAMETER, UNSPECIFIED = 0x15, 0x16, 0x24, 0x0D, 0x28, 0x05, 0x18
+ENCODING, CONSTANT, PROTOTYPED = 0x3E, 0x1C, 0x27
 # Encodings: complex numbers of floating-point numbers, and of integers as gcc and clang have them.
 COMPLEX_FLOAT, COMPLEX_INTEGER = 0x03, {0x80, 0x81}
 FLOATS, INTEGERS = {8: "float", 16: "double", 32: "long double"}, {2: "char", 4: "short", 8: "int", 16: "long"}
@@ -52,21 +52,13 @@ def base_type(entry):
     return Name(identifier(entry))
 
 
-def count_of(entry):
-    """The count of a dimension, or None."""
-    count, upper = number_of(entry, COUNT), number_of(entry, UPPER)
-    count = upper + 1 if count is None and upper is not None else count
-    return None if count is None or count >= 2**63 else count
-
-
-def is_vector(entry):
-    return dwarf.find(entry, VECTOR) is not None
-
-
 def array(entry, depth):
-    if is_vector(entry):
-        raise Unsaid("a vector without a name")
     found = said(target_of(entry, reading.TYPE), depth)
+    if is_vector(entry):
+        size = whole_size(entry)
+        if type(found) not in (Basic, Name) or not size:
+            raise Unsaid("a vector of elements without a size")
+        return Vector(size, None, found)
     for dimension in reversed([it for it in entry.unit.children(entry) if it.tag == SUBRANGE]):
         found = Array(count_of(dimension), found)
     return found
@@ -130,20 +122,39 @@ def body(entry, depth):
     return Body(KINDS[entry.tag], tuple(members))
 
 
-def line_of(file, at):
-    """The declaration of the named type whose entry is at an offset, as `dwv types` would print it, or None."""
+def declaration_at(file, at):
+    """The declaration of the named type whose entry is at an offset."""
+    entry = file.unit_of(at).entry(at)
+    if entry.tag == TYPEDEF:
+        t, alignment = said(target_of(entry, reading.TYPE)), number_of(entry, reading.ALIGNMENT)
+        is_aligned = type(t) is Vector and alignment not in (None, t.size)
+        return Declaration("typedef", identifier(entry), t._replace(alignment=alignment) if is_aligned else t)
+    if entry.tag in KINDS and not number_of(entry, reading.DECLARATION):
+        return Declaration(KINDS[entry.tag], identifier(entry), body(entry, 0))
+    raise Unsaid("no named type")
+
+
+def line_at(file, at):
+    """The declaration of the named type whose entry is at an offset, as a line of `dwv types`, or None."""
     try:
-        unit = file.unit_of(at)
-        entry, first = unit.entry(at), unit.entry(unit.first)
-        if names.name("LANG", number_of(first, reading.LANGUAGE) or 0) not in C:
-            return None
-        if entry.tag == TYPEDEF:
-            found = Declaration("typedef", identifier(entry), said(target_of(entry, reading.TYPE)))
-        elif entry.tag in KINDS and not number_of(entry, reading.DECLARATION):
-            found = Declaration(KINDS[entry.tag], identifier(entry), body(entry, 0))
-        else:
-            return None
+        found = declaration_at(file, at)
         line = c_writing.Writer(True).declaration(found)
         return line if c_types.read(line) == found else None
     except (Unsaid, c_types.Malformed, reading.Unreadable, RecursionError):
         return None
+
+
+def line_of(file, at):
+    """The same for an entry of a unit in C."""
+    try:
+        unit = file.unit_of(at)
+        language = number_of(unit.entry(unit.first), reading.LANGUAGE)
+    except reading.Unreadable:
+        return None
+    return line_at(file, at) if names.name("LANG", language or 0) in C else None
+
+
+def has_vectors(file):
+    """Whether a declaration of the file may have DW_AT_GNU_vector."""
+    abbrev = file.abbrev
+    return file.data.find(b"\x87\x42", abbrev.start, abbrev.start + abbrev.size) >= 0

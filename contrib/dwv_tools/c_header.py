@@ -11,7 +11,9 @@ import re
 from dwv_tools import c_types
 from dwv_tools.c_layout import Extent, Layouts, Misfit, enum_extent, sized_enum
 from dwv_tools.c_names import ALIASES, GCC_ONLY, KNOWN
-from dwv_tools.c_types import Array, Body, Enum, Function, Name, Pointer, Qualified, Tag, Void, bare, innermost
+from dwv_tools.c_types import (
+    Array, Body, Enum, Function, Name, Pointer, Qualified, Tag, Vector, Void, bare, innermost,
+)
 from dwv_tools.c_writing import Writer, plain_name
 
 MACROS = re.compile(r"\b(?:linux|unix)\b")
@@ -64,6 +66,8 @@ class Needs:
                 self.visit(parameter, False, True)
             is_whole = type(t) is Array or is_whole and type(t) is Qualified
             t = t.of
+        if type(t) is Vector:
+            t, is_whole = t.of, True
         if type(t) is Name:
             self.before[("typedef", t.name)] = True
             if is_whole:
@@ -79,13 +83,12 @@ class Needs:
 
 
 class Header:
-    """The declarations of a header. `shapes` gives what the file says of a declaration: Shapes, or sizes; `vector_size`
-    the size of a typedef of a vector, or None. With
+    """The declarations of a header. `shapes` gives what the file says of a declaration: Shapes, or sizes. With
     `declared`, the nodes of the listing, each further text of a node gets a name of its own. `has_asserts` says whether
     `assertions` is called."""
 
-    def __init__(self, shapes, vector_size, declared, has_asserts):
-        self.shapes, self.vector_size, self.declared, self.has_asserts = shapes, vector_size, declared, has_asserts
+    def __init__(self, shapes, declared, has_asserts):
+        self.shapes, self.declared, self.has_asserts = shapes, declared, has_asserts
         self.texts = {}             # from a node to its texts, in the order of the listing
         self.state, self.chosen = {}, {}
         self.parts, self.forward, self.left_out, self.others, self.guessed = [], {}, [], 0, 0
@@ -229,11 +232,6 @@ class Header:
         shapes = shapes if first is None else itertools.chain([first], shapes)
         declaration, note = self.fitted(node, declaration, shapes)
         text = self.writer.declaration(declaration._replace(name=node[1]))
-        size = self.vector_size(declaration) if node[0] == "typedef" and type(declaration.type) is Array else None
-        if size:
-            text = self.writer.declaration(declaration._replace(name=node[1], type=declaration.type.of))
-            text = f"{text[:-1]} __attribute__((vector_size({size})));"
-            self.layouts.of[node] = Extent(size, size)
         if node[0] == "typedef" and node[1] in ALIASES:
             text = f"#if {ALIASES[node[1]][2]}\n{text}\n#endif"
         others = [self.other(node, it, first) for it in self.texts[node][number + 1 :]]

@@ -1,16 +1,19 @@
 """Sizes and places as gcc and clang give them on 64-bit machines, and the padding and attributes that give others."""
 import collections
 
-from dwv_tools.c_types import Array, Basic, Body, Enum, Member, Name, Pointer, Qualified, Tag, innermost, with_innermost
+from dwv_tools.c_types import (
+    Array, Basic, Body, Enum, Member, Name, Pointer, Qualified, Tag, Vector, innermost, with_innermost,
+)
 
 BASIC = {"__int128": 16, "char": 1, "short": 2, "_Bool": 1, "float": 4, "double": 8, "long": 8}
 BYTE = Basic(("unsigned", "char"))
 MODES = {1: "QI", 2: "HI", 4: "SI", 8: "DI"}
 LARGEST_ALIGNMENT = 4096
 
-# What a file says of the body of a structure or union: its size, its alignment or None, the bit at which each member
-# starts, the size of its type or None, and the shape of a body in it, or the size of an enumeration without a name.
-Shape = collections.namedtuple("Shape", "size alignment starts sizes inner")
+# What a file says of the body of a structure or union: its size, its alignment or None, the largest alignment of a
+# member or 1, the bit at which each member starts, the size of its type or None, and the shape of a body in it, or the
+# size of an enumeration without a name.
+Shape = collections.namedtuple("Shape", "size alignment least starts sizes inner")
 # What a body or a type takes: its size and its alignment.
 Extent = collections.namedtuple("Extent", "size alignment")
 
@@ -68,6 +71,8 @@ class Layouts:
             return element and Extent((t.count or 0) * element.size, element.alignment)
         if type(t) is Basic:
             return basic_extent(t.words)
+        if type(t) is Vector:
+            return Extent(t.size, t.alignment or t.size)
         if type(t) is Name:
             return self.of.get(("typedef", t.name))
         if type(t) is Tag:
@@ -104,10 +109,16 @@ class Layouts:
 
     def fitted(self, body, shape):
         """A body with the padding and the attributes that give it a shape, and what it takes."""
+        pads = self.pads
         try:
-            return self.placed(body, shape)
+            found = self.placed(body, shape)
+            if shape is None or shape.alignment in (None, found[1].alignment):
+                return found
         except Misfit:
-            return self.placed(body, shape, is_packed=True)
+            pass
+        # A packed type may also have less alignment than its members.
+        self.pads = pads
+        return self.placed(body, shape, is_packed=True)
 
     def placed(self, body, shape, is_packed=False):
         """A body whose members are placed one after the other, packed or not."""
@@ -156,7 +167,7 @@ class Layouts:
         words = ["packed"] if is_packed else []
         size = rounded(end, alignment)
         if shape:
-            wanted = shape.alignment or 1
+            wanted = shape.alignment or shape.least
             if wanted > alignment and shape.size % wanted == 0:
                 words, alignment, size = [*words, f"aligned({wanted})"], wanted, rounded(end, wanted)
             if size > shape.size or shape.size % alignment:

@@ -3,10 +3,12 @@ import collections
 import re
 import sys
 
-# A type is one of these, and `Void()`. `of` is the type that a pointer, an array, a function or a qualifier is of.
+# A type is one of these, and `Void()`. `of` is the type that a pointer, an array, a function or a qualifier is of, and
+# that of a vector's elements. The alignment of a vector is None if it is that of its size.
 Void = collections.namedtuple("Void", "")
 Name = collections.namedtuple("Name", "name")
 Basic = collections.namedtuple("Basic", "words")
+Vector = collections.namedtuple("Vector", "size alignment of")
 Tag = collections.namedtuple("Tag", "kind name")
 Body = collections.namedtuple("Body", "kind members attribute", defaults=("",))
 Enum = collections.namedtuple("Enum", "constants attribute", defaults=("",))
@@ -46,6 +48,15 @@ def innermost(t):
 def with_innermost(t, new):
     """A type with another innermost one."""
     return t._replace(of=with_innermost(t.of, new)) if type(t) in (Qualified, Pointer, Array, Function) else new
+
+
+def is_same(t, other):
+    """Whether two types or declarations are the same, if the vectors of the other one were arrays."""
+    if type(other) is Vector and type(t) is Array:
+        return t.of == other.of
+    if type(t) is not type(other) or not isinstance(t, tuple):
+        return t == other
+    return len(t) == len(other) and all(map(is_same, t, other))
 
 
 class Reader:
@@ -98,7 +109,20 @@ class Reader:
             found = self.body(kind) if self.tokens[self.at] == "{" else Tag(kind, self.identifier())
         else:
             found = Name(self.identifier())
+        if self.has("__attribute__", "(", "(", "vector_size", "("):
+            found = Vector(int(self.take()), self.alignment(), found)
         return Qualified(qualifiers, found) if qualifiers else found
+
+    def alignment(self):
+        """The alignment in the attribute of a vector, after its size, or None."""
+        self.take(")")
+        found = None
+        if self.has(",", "aligned", "("):
+            found = int(self.take())
+            self.take(")")
+        self.take(")")
+        self.take(")")
+        return found
 
     def body(self, kind):
         self.take("{")

@@ -1,5 +1,5 @@
 """Writes types as C declarations: of one line, as `dwv types` prints them, or with a line for each member."""
-from dwv_tools.c_types import Array, Body, Enum, Function, Name, Pointer, Qualified, Tag, Void
+from dwv_tools.c_types import Array, Body, Enum, Function, Name, Pointer, Qualified, Tag, Vector, Void
 
 # Words that C does not have, but gcc and clang do unless -std=c11 is given.
 GNU_WORDS = {"asm", "typeof"}
@@ -86,6 +86,9 @@ class Writer:
             return "void"
         if type(t) is Name:
             return self.plain(t.name)
+        if type(t) is Vector:
+            aligned = "" if t.alignment is None else f", aligned({t.alignment})"
+            return f"{self.core(t.of, depth)} __attribute__((vector_size({t.size}){aligned}))"
         if type(t) is Tag:
             return f"{t.kind} {self.plain(self.tag(t.kind, t.name))}"
         if type(t) is Body:

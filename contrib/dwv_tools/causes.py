@@ -6,7 +6,7 @@ that fit, the first of the list counts.
 import collections
 import os
 
-from dwv_tools import dwarf
+from dwv_tools import dwarf, entries
 
 # `kind` is "compiler" for what a compiler always writes, "limit" for what `dwv` does not read, "file" if the file is
 # not what the standard says and no reason is known.
@@ -30,6 +30,12 @@ def tag(place):
 
 def is_below(place, tags):
     return any(entry.tag in tags for entry in place.above)
+
+
+def is_foreign_member(place):
+    """Whether the entry is a member of a type of a `lib` of Crystal, and not its first one."""
+    is_later = tag(place) == MEMBER and place.above and place.at != place.above[-1].end
+    return is_later and "::" in (entries.name_of(place.above[-1]) or "")
 
 
 def form(place):
@@ -150,8 +156,16 @@ KNOWN = [
     ("Z4", lambda it: is_by(it, "crystal"), Cause(
         "compiler",
         "Crystal gives an enumeration another size than that of its base type. One is in its prelude, and so in each"
-        " program.",
-        "No flag helps: verify with another tool, or compile with --no-debug.",
+        " program that is built with --debug.",
+        "Build without --debug: then the program has functions and lines, but no types. Or pass such faults by"
+        " dwv-check --allow compiler.",
+    )),
+    ("Z3", lambda it: is_by(it, "crystal") and is_foreign_member(it), Cause(
+        "compiler",
+        "Crystal gives some members of a union of C (lib) an offset that has nothing to do with it; it differs from one"
+        " build to the next.",
+        "Build without --debug: then the program has functions and lines, but no types. Or pass such faults by"
+        " dwv-check --allow compiler.",
     )),
     ("E7", None, lambda it: compressed(it.file)),
     ("A7", lambda it: form(it) in GNU_ALT or it.file.has_section(ALT_SECTION), Cause(
@@ -190,12 +204,19 @@ KNOWN = [
     ("U3", lambda it: is_by(it, "glasgow", "ghc"), Cause(
         "compiler",
         "ghc writes version 3 of DWARF, and no flag of ghc 9.0 changes that.",
-        "Compile the modules without -g. Of a program with foreign code, dwv-check --allow compiler passes these.",
+        "Compile the modules without -g, or pass such faults by dwv-check --allow compiler.",
+    )),
+    ("U3", lambda it: is_by(it, "gnu as") and (it.unit_name or "").endswith((".ml", ".mlp")), Cause(
+        "compiler",
+        "ocamlopt -g leaves the unit to the assembler, which writes version 3 of DWARF for it. The units of OCaml's own"
+        " library are so too, in each program that is linked with it.",
+        "No flag of ocamlopt helps, because the library is there already: compile without -g, or pass such faults by"
+        " dwv-check --allow compiler.",
     )),
     ("U3", lambda it: is_by(it, "gnu as") and it.unit and it.unit.version in (2, 3), Cause(
         "compiler",
-        "The unit was written by the assembler for the lines of a source file, as of ocamlopt -g and of .s files, in"
-        " version 3 of DWARF or an earlier one.",
+        "The unit was written by the assembler for the lines of a source file, in version 3 of DWARF or an earlier"
+        " one.",
         "Assemble with as --gdwarf-5 (gcc -Wa,--gdwarf-5), or compile this source file without -g.",
     )),
     ("U3", lambda it: it.unit and it.unit.version in (2, 3), Cause(

@@ -37,13 +37,21 @@ def by_id(path, number):
     return [f"{root}/.build-id/{number[:2]}/{number[2:]}.debug" for root in roots(path)] if number else []
 
 
-def fetched(name):
-    """The file that debuginfod has for a build ID or the program at a path, or None."""
+def fetched(number, number_of=build_id):
+    """The file that debuginfod has for a build ID. It must have that ID itself."""
     tool = shutil.which("debuginfod-find")
     if tool is None:
         raise Refused("debuginfod-find is not installed")
-    ran = subprocess.run([tool, "debuginfo", name], capture_output=True, text=True)
-    return ran.stdout.strip() or None
+    if not os.environ.get("DEBUGINFOD_URLS"):
+        raise Refused("DEBUGINFOD_URLS names no server")
+    ran = subprocess.run([tool, "debuginfo", number], capture_output=True, text=True, errors="replace")
+    place = ran.stdout.strip()
+    if ran.returncode or not place:
+        said = ran.stderr.strip().splitlines()
+        raise Refused(f"debuginfod-find has no file of the build ID: {said[-1] if said else 'it gives no reason'}")
+    if number_of(open_elf(place)) != number:
+        raise Refused(f"debuginfod-find has a file of another build ID: {place}")
+    return place
 
 
 def has_crc(path, wanted):
@@ -115,8 +123,10 @@ def shared_file(elf, path, use_debuginfod=False):
         if number_of(open_elf(place), is_supplement) == number:
             return place
         others += 1
-    found = fetched(number) if use_debuginfod and number else None
-    if found is None:
-        why = "of another build" if others else "not here"
-        raise Refused(f"the shared file of dwz is {why}: {name}")
-    return found
+    why = f"the shared file of dwz is {'of another build' if others else 'not here'}: {name}"
+    if not (use_debuginfod and number):
+        raise Refused(why)
+    try:
+        return fetched(number, lambda it: number_of(it, is_supplement))
+    except Refused as error:
+        raise Refused(f"{why}; {error}") from None

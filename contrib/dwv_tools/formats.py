@@ -1,6 +1,8 @@
 """Writes the rows of many files for tools: SARIF 2.1.0 (code scanning) and JUnit XML (test reports)."""
+import datetime
 import json
 import os
+import socket
 import urllib.parse
 from xml.etree import ElementTree
 
@@ -50,13 +52,29 @@ def plain_text(text):
     return "\n".join(map(plain, text.split("\n")))
 
 
-def junit(rows, ignored):
-    """A test case for each file that was checked."""
+def suite_of(rows):
+    """The element of a run: what tells it from others, without counts."""
     suites = ElementTree.Element("testsuites")
-    suite = ElementTree.SubElement(suites, "testsuite", name="dwv-check")
+    now = datetime.datetime.now(datetime.timezone.utc).strftime("%Y-%m-%dT%H:%M:%S")
+    suite = ElementTree.SubElement(suites, "testsuite", id="0", package="dwv", name="dwv-check", timestamp=now,
+                                   hostname=socket.gethostname() or "localhost")
+    suite.set("time", seconds_of(sum(it.get("seconds", 0) for it in rows)))
+    ElementTree.SubElement(ElementTree.SubElement(suite, "properties"), "property", name="version",
+                           value=running.VERSION)
+    return suites, suite
+
+
+def seconds_of(seconds):
+    return f"{seconds:.3f}"
+
+
+def junit(rows, ignored):
+    """A test case for each file that was checked. A file that does not count is one that is skipped."""
+    suites, suite = suite_of(rows)
     counts = dict.fromkeys(("tests", "failures", "errors", "skipped"), 0)
     for it in checked(rows):
-        case = ElementTree.SubElement(suite, "testcase", classname="dwv", name=plain(it["path"]))
+        case = ElementTree.SubElement(suite, "testcase", classname="dwv", name=plain(it["path"]),
+                                      time=seconds_of(it.get("seconds", 0)))
         counts["tests"] += 1
         said = plain(f"{it['line']}{it['note']}")
         if it["verdict"] == UNREAD:
@@ -68,8 +86,12 @@ def junit(rows, ignored):
             more.text = plain_text("\n".join([*it.get("lines", []), *it.get("explanation", [])]))
         elif it["sound"] is False:
             counts["skipped"] += 1
-            ElementTree.SubElement(case, "skipped", message=said)
+            ElementTree.SubElement(case, "skipped").text = said
     for key, count in counts.items():
-        suite.set(key, str(count))
+        # Apache Ant's format has no test that is skipped.
+        if count or key != "skipped":
+            suite.set(key, str(count))
+    for name in ("system-out", "system-err"):
+        ElementTree.SubElement(suite, name)
     ElementTree.indent(suites)
     return ElementTree.tostring(suites, encoding="unicode", xml_declaration=True) + "\n"

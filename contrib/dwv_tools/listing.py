@@ -77,12 +77,3 @@ class Places:
             if shape is not None and shape not in seen:
                 seen.append(shape)
                 yield at, shape
-
-    def vector_size(self, declaration):
-        """The size of the vector that a typedef is of, or None."""
-        for at in self.at.get(declaration[:2], ()):
-            try:
-                return members.vector_size_at(self.file, at)
-            except reading.Unreadable:
-                continue
-        return None

@@ -1,9 +1,8 @@
 """Reads the layout of a structure or union from the entries of a sound file."""
 from dwv_tools import dwarf, reading
-from dwv_tools.c_entries import ARRAY, SUBRANGE, count_of, is_vector
 from dwv_tools.c_layout import Shape
-from dwv_tools.c_types import Body, Enum, innermost
-from dwv_tools.entries import SAME_SIZE, name_of, number_of, size_of, target_of
+from dwv_tools.c_types import Body, Enum, Vector, innermost
+from dwv_tools.entries import ARRAY, SAME_SIZE, is_vector, name_of, number_of, target_of, whole_size
 
 MEMBER, STRUCTURES = 0x0D, {0x13, 0x17, 0x02}
 # What leads from a type to its innermost one: arrays, pointers, functions, qualifiers.
@@ -21,24 +20,6 @@ def innermost_entry(entry):
     while entry and entry.tag in LEADING:
         entry = type_of(entry)
     return entry
-
-
-def whole_size(entry):
-    """The size of a type, also of an array that has none of its own: the element's by the counts. Or None."""
-    if entry is None or size_of(entry) is not None:
-        return size_of(entry) if entry else None
-    if entry.tag in SAME_SIZE:
-        return whole_size(type_of(entry))
-    if entry.tag != ARRAY:
-        return None
-    size = whole_size(type_of(entry))
-    dimensions = [it for it in entry.unit.children(entry) if it.tag == SUBRANGE]
-    for it in dimensions:
-        count = count_of(it)
-        size = None if None in (size, count) else size * count
-    if is_vector(entry) and size:
-        size = 1 << (size - 1).bit_length()
-    return size if dimensions else None
 
 
 def start_of(entry):
@@ -61,24 +42,39 @@ def start_of(entry):
     return None if storage is None else 8 * (at + storage) - before - bits
 
 
+def own_alignment(entry):
+    """The alignment that a member itself asks for, or 1. clang also writes that of its type, which packing takes away.
+    """
+    found, of = number_of(entry, reading.ALIGNMENT) or 1, type_of(entry)
+    while of and number_of(of, reading.ALIGNMENT) is None and of.tag in {ARRAY, *SAME_SIZE}:
+        of = type_of(of)
+    return 1 if of and number_of(of, reading.ALIGNMENT) == found else found
+
+
 def shape_of(body, entry):
     """The shape of a body by its entry, or None if the entry has other members."""
-    if entry is None or entry.tag not in STRUCTURES or number_of(entry, reading.BYTE_SIZE) is None:
+    size = number_of(entry, reading.BYTE_SIZE) if entry else None
+    if size is None or entry.tag not in STRUCTURES:
         return None
     found = [it for it in entry.unit.children(entry) if it.tag == MEMBER and not number_of(it, reading.DECLARATION)]
     if [it.name for it in body.members] != [name_of(it) or None for it in found]:
         return None
-    starts, sizes, inner = [], [], []
+    starts, sizes, inner, least = [], [], [], 1
     for member, it in zip(body.members, found):
         starts.append(start_of(it))
         kind, of = type_of(it), innermost(member.type)
-        if kind and kind.tag == ARRAY and is_vector(kind):
+        if kind and is_vector(kind) and type(of) is not Vector:
             return None
         sizes.append(whole_size(kind))
         inner.append(inner_of(of, innermost_entry(it)) if type(of) in (Body, Enum) else None)
         if starts[-1] is None or type(of) is Body and inner[-1] is None:
             return None
-    return Shape(number_of(entry, reading.BYTE_SIZE), number_of(entry, reading.ALIGNMENT), starts, sizes, inner)
+        own = own_alignment(it)
+        least = max(least, own if starts[-1] % (8 * own) == size % own == 0 else 1)
+    alignment = number_of(entry, reading.ALIGNMENT)
+    # clang writes what the attribute of a structure says, also if a member has more.
+    alignment = alignment and max(alignment, least)
+    return Shape(size, alignment, least, starts, sizes, inner)
 
 
 def inner_of(of, entry):
@@ -95,9 +91,3 @@ def shape_at(file, declaration, at):
         entry = innermost_entry(entry)
         entry = entry if entry and name_of(entry) is None else None
     return inner_of(of, entry)
-
-
-def vector_size_at(file, at):
-    """The size of the vector that a typedef at an offset is of, or None."""
-    of = type_of(file.unit_of(at).entry(at))
-    return whole_size(of) if of and of.tag == ARRAY and is_vector(of) else None

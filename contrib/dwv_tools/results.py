@@ -3,6 +3,7 @@ import collections
 import json
 import os
 import shutil
+import time
 
 from dwv_tools import every, explaining, finding, preparing
 from dwv_tools.running import IS_SOUND, SOUND, UNREAD, plain
@@ -53,7 +54,7 @@ class Checker:
 
     def __call__(self, path):
         """The row of a file."""
-        words = self.words
+        words, begin = self.words, time.monotonic()
         try:
             prepared = preparing.checked(self.dwv, path, words.debuginfod, self.limits, not words.unprepared)
             with prepared as (verdict, at):
@@ -65,7 +66,7 @@ class Checker:
                         made |= self.units(at)
                     if words.explain:
                         made["explanation"] = explaining.lines(verdict, at)[len(verdict.lines) :]
-                return made
+                return made | {"seconds": round(time.monotonic() - begin, 3)}
         except OSError as error:
             return unread(path, error.strerror or str(error))
 
