@@ -25,9 +25,9 @@ lib:
 	install -m 644 include/dwv.h out/include
 	install -m 644 contrib/dwv.pc out/lib/pkgconfig
 
-# How many checks `make test` runs side by side: one a processor, if there are 3 GB of memory for each, and at least one.
-# With RT_JOBS each has one job, which costs the least processor time: jobs that share a check each load all that it
-# stands on.
+# How many checks `make test` runs side by side: one a processor, if there are 3 GB of memory for each, and at least
+# one. With RT_JOBS each has one job, which costs the least processor time: jobs that share a check each load all that
+# it depends on.
 memory = $(shell awk '/MemAvailable/ { print int($$2 / 3000000) }' /proc/meminfo)
 fits = $(shell printf '%d\n' $$(nproc) $(memory) | sort -n | head -n 1)
 checks = $(if $(filter-out 0,$(fits)),$(fits),1)
@@ -38,8 +38,9 @@ test:
 	tests/dead-names.py
 	tests/reading-order.py
 	tests/indexes.py
+	tests/made.py
 	tests/calling.py
-	tests/versions.py
+	$(MAKE) --no-print-directory pytest TESTS=tests/versions.py
 	tests/toolchain.sh
 	tests/edits.py --apply
 	RT_JOBS=$(checks) tests/prove.py
@@ -50,14 +51,24 @@ test:
 	tests/hostile_files.py
 	tests/refused-growths.py
 	tests/endings.py
-	tests/install.py
-	tests/integrations.py
 	tests/check.py
 	tests/preparing.py
 	tests/explain.py
+	tests/explain-html.py
 	tests/c-header.py
+	tests/layouts.py
 	tests/library.sh
-	tests/pages.py
+	$(MAKE) --no-print-directory pytest
+
+# The tests that pytest runs, in whichever Python has it, side by side if that has the module xdist too:
+# `make pytest TESTS=tests/install.py`.
+TESTS = $(addprefix tests/,binding.py install.py integrations.py packages.py pages.py)
+pythons = $(foreach it,python3 /usr/bin/python3,$(shell $(it) -c 'import pytest' 2> /dev/null && echo $(it)))
+python = $(or $(firstword $(pythons)),python3)
+parallel = $(shell $(python) -c 'import xdist' 2> /dev/null && echo --numprocesses=$(checks))
+.PHONY: pytest
+pytest:
+	PYTHONDONTWRITEBYTECODE=1 $(python) -m pytest $(parallel) $(TESTS)
 
 # Proves what changed, in every crate, over what earlier runs kept.
 .PHONY: check
@@ -90,9 +101,10 @@ NEW = crates/dwv/out/dwv
 same-answers:
 	tests/same-answers.py $(OLD) $(NEW)
 
-# Installs the program that `make` built, the scripts beside it (as dwv-explain, ..), the manual page and the completion
-# in bash, and the C library if `make lib` built it: `make install PREFIX=$HOME/.local` chooses the folder. It builds and
-# proves nothing. DESTDIR is put before all paths, as packages need it.
+# Installs the program that `make` built, the scripts beside it (as dwv-explain, ..), the manual page, the completions,
+# the integrations (in share/dwv/integrations), and the C library if `make lib` built it. `make install
+# PREFIX=$HOME/.local` chooses the folder. It builds and proves nothing. DESTDIR is put before all paths, as packages
+# need it.
 PREFIX = /usr/local
 bin = $(DESTDIR)$(PREFIX)/bin
 man = $(DESTDIR)$(PREFIX)/share/man/man1
@@ -101,6 +113,7 @@ zsh = $(DESTDIR)$(PREFIX)/share/zsh/site-functions
 fish = $(DESTDIR)$(PREFIX)/share/fish/vendor_completions.d
 share = $(DESTDIR)$(PREFIX)/share/dwv
 scripts = c-header check explain
+integrations = $(patsubst contrib/%,%,$(wildcard contrib/integrations/*/*))
 lib = $(DESTDIR)$(PREFIX)/lib
 include = $(DESTDIR)$(PREFIX)/include
 library = $(wildcard out/lib/libdwv.a)
@@ -116,6 +129,10 @@ install:
 	install -d "$(share)/dwv_tools"
 	install -m 755 $(scripts:%=contrib/%) "$(share)"
 	install -m 644 contrib/dwv_tools/*.py contrib/dwv_tools/*.txt "$(share)/dwv_tools"
+	for it in $(integrations); do \
+	    install -d "$(share)/$$(dirname $$it)" && \
+	    install -m $$([ -x contrib/$$it ] && echo 755 || echo 644) contrib/$$it "$(share)/$$it" || exit 1; \
+	done
 	for it in $(scripts); do \
 	    ln -sf "../share/dwv/$$it" "$(bin)/dwv-$$it" && ln -sf dwv "$(completions)/dwv-$$it" && \
 	    ln -sf dwv.1 "$(man)/dwv-$$it.1" || exit 1; \
@@ -137,7 +154,7 @@ uninstall:
 	rm -rf "$(share)"
 	rm -f "$(lib)/libdwv.a" "$(lib)/libdwv.so.0" "$(lib)/libdwv.so" "$(include)/dwv.h" "$(lib)/pkgconfig/dwv.pc"
 
-# Packages of what `make` and `make lib` built, in out/packages: a tarball, a .deb, and a wheel for Python.
+# Packages of what `make` and `make lib` built, in out/packages: a tarball, three .debs, and a wheel for Python.
 .PHONY: dist
 dist: lib
 	packaging/package.py tarball out/packages
@@ -169,6 +186,12 @@ bench-library:
 .PHONY: compare
 compare:
 	bench/compare.py
+
+# Writes what pages and code say of each rule, from docs/rules.tsv, and draws docs/verdict.svg.
+.PHONY: docs
+docs:
+	docs/make-rules.py
+	docs/make-picture.py
 
 # Lays out every source file.
 .PHONY: fmt

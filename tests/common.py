@@ -110,6 +110,22 @@ class Tally:
         return 1 if self.failed else 0
 
 
+def lack(what, **more):
+    """Ends a test of pytest that lacks what it needs: it fails in CI."""
+    import pytest
+    if IS_CI:
+        pytest.fail(what)
+    pytest.skip(f"lacking: {what}", **more)
+
+
+def needs(*tools):
+    """Ends a test of pytest if a tool is not installed. It fails in CI if NEEDED has the tool, and is else skipped."""
+    import pytest
+    for tool in tools:
+        if not shutil.which(tool):
+            (lack if tool in NEEDED else pytest.skip)(f"{tool} is not installed")
+
+
 def run(*words, memory=None, seconds=None, timeout=60, **more):
     """The exit status of a program, and both texts: bytes, unless `more` has `text`, as for subprocess.run.
 

@@ -6,6 +6,7 @@ is too large as a whole is tried too, if there is memory for it. The script prin
 'N passed, N failed, N skipped'.
 """
 import os
+import pathlib
 import re
 import struct
 import sys
@@ -53,6 +54,11 @@ def rule_of(row):
     return rule if lines and lines[0][0].startswith(f"fault {' '.join(rule)} at ") else None
 
 
+def available():
+    """How many bytes of memory a program can have, those of the system's caches among them."""
+    return int(re.search(r"MemAvailable: *(\d+) kB", pathlib.Path("/proc/meminfo").read_text())[1]) * 1024
+
+
 def too_large(tally, row, parts):
     """Runs the row of E1, whose last section has a gigabyte of zeros, and a file of more than four gigabytes.
 
@@ -71,7 +77,7 @@ def too_large(tally, row, parts):
         path.write_bytes(file)
         os.truncate(path, len(file) + size)
         tally.same(f"RULES: {row.name}", common.run(DWV, "check", path, text=True, timeout=300), (1, fault, ""))
-        if os.sysconf("SC_AVPHYS_PAGES") * os.sysconf("SC_PAGE_SIZE") < FREE:
+        if available() < FREE:
             tally.skip("E1 TooLarge, a file: it takes 4.2 GB of memory")
             return
         os.truncate(path, FILE_LIMIT + 1)
@@ -81,7 +87,7 @@ def too_large(tally, row, parts):
 
 def main():
     table, parts = read()
-    tally = rows.tried((("RULES", row, parts) for row in table if not row.name.startswith("E1 ")), 107)
+    tally = rows.tried((("RULES", row, parts) for row in table if not row.name.startswith("E1 ")), 106)
     for row in table:
         if row.name.startswith("E1 "):
             too_large(tally, row, parts)

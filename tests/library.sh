@@ -15,7 +15,7 @@ passed=0
 failed=0
 skipped=0
 # How many checks there are at least, if no tool is missing that they need.
-least=47
+least=45
 lacking=
 
 # is NAME SAID WANTED: the two texts must be the same.
@@ -161,6 +161,17 @@ block c > "$folder/example.c"
 block c++ > "$folder/example.cc"
 block go > "$folder/example.go"
 
+# What the Rust example with gimli prints of a file.
+read_by_gimli() {
+    local verdict shown
+    verdict=$("$dwv" check "$1")
+    shown=$("$dwv" show "$1")
+    case $verdict in
+    sound*) verdict+="; gimli reads $(wc -l <<< "$shown") entries, $(grep -c '"' <<< "$shown") of them with a name" ;;
+    esac
+    echo "$1: $verdict"
+}
+
 # The library as `make install` leaves it, with no `rt`.
 root="$folder/root"
 mkdir "$folder/bin" "$root"
@@ -196,15 +207,31 @@ if has pkg-config && has gcc; then
         is 'the Go example' "$(LD_LIBRARY_PATH="$installed/lib" "$folder/example" "$sample" "$folder/broken")" "$wanted"
     fi
 fi
-if has python3; then
-    export DWV_LIBRARY="$installed/lib/libdwv.so.0"
-    ends 'the tests of the Python package' env PYTHONDONTWRITEBYTECODE=1 python3 python/test_dwv.py
-    ends 'the same answers as the program on the files of all rows' \
-        env PYTHONDONTWRITEBYTECODE=1 PYTHONPATH=python:tests python3 "$tests/reports.py"
-fi
 if has cargo; then
-    ends 'the tests of the Rust crate' env DWV_LIB_DIR="$PWD/out/lib" CARGO_TARGET_DIR="$folder/target" \
-        cargo test --quiet --offline --locked --manifest-path rust/dwv/Cargo.toml
+    export DWV_LIB_DIR="$PWD/out/lib" CARGO_TARGET_DIR="$folder/target" RUSTDOCFLAGS='-D warnings'
+    crate() {
+        ends "the Rust crate: cargo $*" \
+            cargo "$1" --quiet --offline --locked --manifest-path rust/dwv/Cargo.toml "${@:2}"
+    }
+    crate test
+    crate doc
+    crate package --allow-dirty
+    if has cargo-clippy; then
+        crate clippy --all-targets -- -D warnings
+    fi
+    # gimli and object as Debian's librust-gimli-dev and librust-object-dev install them.
+    registry=/usr/share/cargo/registry
+    if compgen -G "$registry/gimli-0.27.*" > /dev/null && compgen -G "$registry/object-0.30.*" > /dev/null; then
+        cp -r rust "$folder/rust"
+        ends 'the Rust example with gimli compiles' cargo build --quiet --offline \
+            --manifest-path "$folder/rust/gimli/Cargo.toml" --config 'source.crates-io.replace-with="debian"' \
+            --config "source.debian.directory=\"$registry\""
+        is 'the Rust example with gimli' "$("$folder/target/debug/dwv-gimli" "${files[@]}"; echo "$?")" \
+            "$(for file in "${files[@]}"; do read_by_gimli "$file"; done; echo 1)"
+    else
+        skipped=$((skipped + 1))
+        echo 'skipped: librust-gimli-dev or librust-object-dev is not installed'
+    fi
 fi
 makes uninstall > "$folder/log" 2>&1
 is 'make uninstall removes every file' "$(cd "$root" && find . ! -type d)" ''

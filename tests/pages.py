@@ -1,28 +1,26 @@
-#!/usr/bin/env python3
 """Runs the console examples of README, REPORTS, SCRIPTS and LIBRARY, and compares what they print with the pages.
 
 Each example is run in an empty folder with the files that it names: sources are taken from the page, and other files
 are made here. Where a compiler makes the file, its offsets, counts and versions are not compared. The edit that
-CHANGING shows must be the one of its file. It prints one line a command and ends with 'N passed, N failed, N skipped'.
+CHANGING shows must be the one of its file.
 """
 import doctest
 import os
 import re
 import shutil
-import sys
 
-sys.dont_write_bytecode = True
 import common
 import compilers
+import pytest
 import rows
 from common import DWV, TOP
 
+LEAST = 16
 LIBRARY = TOP / "out/lib"
 EDIT = "crates/dw_types/{}/accepts_a_negative_count.edit"
 # A unit by the table T of tests/rows: `int`, a typedef `t`, a structure `s`, and a typedef of a pointer to itself.
 LISTING = """unit( 01 "a" 00  02 "int" 00 04 05  03 "t" 00 0f 00 00 00  04 "s" 00 04  05 "x" 00 16 00 00 00 00  00
     06 2a 00 00 00  02 "char" 00 01 06  02 "short" 00 02 05  02 "float" 00 04 04  03 "v" 00 2a 00 00 00  00 )"""
-tally = common.Tally(28)
 
 
 def app(folder, info):
@@ -82,7 +80,7 @@ def example(folder, page):
 
 # For each console example of a page, in their order: what makes its files, and the tools that it needs.
 EXAMPLES = {
-    "README.md": [(None, ()), (source, ("gcc",)), (None, ()), (kinds, ("gcc", "objcopy"))],
+    "README.md": [(source, ("gcc",)), (None, ()), (kinds, ("gcc", "objcopy"))],
     "docs/REPORTS.md": [
         (lambda folder, page: app(folder, "F"), ()),
         (lambda folder, page: app(folder, LISTING), ()),
@@ -107,75 +105,57 @@ def masked(text, is_compiled):
     return text
 
 
-def run(name, folder, block, is_compiled):
+def blocks(name, language):
+    """The texts of a page in a language."""
+    return re.findall(rf"(?ms)^```{language}\n(.*?)^```$", (TOP / name).read_text())
+
+
+def needs_library(name):
+    if name == "docs/LIBRARY.md" and not (LIBRARY / "libdwv.a").exists():
+        common.lack("the C library is not built (make lib)")
+
+
+@pytest.mark.parametrize("name", EXAMPLES)
+def test_count(name):
+    assert len(blocks(name, "console")) == len(EXAMPLES[name])
+
+
+@pytest.mark.parametrize("name, number", [(name, number) for name in EXAMPLES for number in range(len(EXAMPLES[name]))])
+def test_console(tmp_path, name, number):
     """Runs the commands of an example one after another. Files in /tmp are in the folder."""
-    for link, to in (("dwv", DWV), ("crates", TOP / "crates"), ("contrib", TOP / "contrib")):
-        (folder / link).symlink_to(to)
-    (folder / "bin").mkdir()
-    (folder / "dwv").rename(folder / "bin/dwv")
-    (folder / "bin/dwv-check").symlink_to(TOP / "contrib/check")
-    (folder / "bin/python3").symlink_to(shutil.which(common.PYTHON))
-    env = {**os.environ, "PATH": f"{folder}/bin:{os.environ['PATH']}", "PKG_CONFIG_PATH": str(LIBRARY / "pkgconfig")}
-    for step in re.split(r"(?m)^\$ ", block)[1:]:
+    make, tools = EXAMPLES[name][number]
+    needs_library(name)
+    common.needs(*tools)
+    common.build()
+    if make:
+        make(tmp_path, (TOP / name).read_text())
+    (tmp_path / "bin").mkdir()
+    for link, to in (("bin/dwv", DWV), ("crates", TOP / "crates"), ("contrib", TOP / "contrib"),
+                     ("bin/dwv-check", TOP / "contrib/check"), ("bin/python3", shutil.which(common.PYTHON))):
+        (tmp_path / link).symlink_to(to)
+    env = {**os.environ, "PATH": f"{tmp_path}/bin:{os.environ['PATH']}", "PKG_CONFIG_PATH": str(LIBRARY / "pkgconfig")}
+    for step in re.split(r"(?m)^\$ ", blocks(name, "console")[number])[1:]:
         command, _, wanted = step.partition("\n")
-        words = ("bash", "-c", command.replace("/tmp/", f"{folder}/"))
-        _, text, errors = common.run(*words, text=True, cwd=folder, env=env)
-        tally.same(f"{name}: {command}", masked(text + errors, is_compiled), masked(wanted, is_compiled))
+        words = ("bash", "-c", command.replace("/tmp/", f"{tmp_path}/"))
+        _, text, errors = common.run(*words, text=True, cwd=tmp_path, env=env)
+        assert masked(text + errors, bool(tools)) == masked(wanted, bool(tools)), command
 
 
-def console():
-    """Runs each example."""
-    for name, examples in EXAMPLES.items():
-        page = (TOP / name).read_text()
-        blocks = re.findall(r"(?ms)^```console\n(.*?)^```$", page)
-        tally.same(f"{name}: how many examples it has", len(blocks), len(examples))
-        if name == "docs/LIBRARY.md" and not (LIBRARY / "libdwv.a").exists():
-            tally.lack("the C library is not built (make lib)")
-            continue
-        for block, (make, tools) in zip(blocks, examples):
-            if all([tally.has(tool) for tool in tools]):
-                with common.empty_folder() as folder:
-                    if make:
-                        make(folder, page)
-                    run(name, folder, block, bool(tools))
-
-
-def python():
+def test_python(tmp_path, monkeypatch):
     """Runs the Python example of LIBRARY, on X1."""
-    library = LIBRARY / "libdwv.so.0"
-    if not library.exists():
-        tally.lack("the C library is not built (make lib)")
-        return
-    os.environ["DWV_LIBRARY"] = str(library)
-    sys.path.insert(0, str(TOP / "python"))
-    text = re.search(r"(?ms)^```pycon\n(.*?)^```$", (TOP / "docs/LIBRARY.md").read_text())[1]
-    with common.empty_folder() as folder:
-        os.chdir(folder)
-        shutil.copy(common.SAMPLE, "a.out")
-        said = []
-        test = doctest.DocTestParser().get_doctest(text, {}, "docs/LIBRARY.md", None, 0)
-        results = doctest.DocTestRunner().run(test, out=said.append)
-        os.chdir(TOP)
-    tally.add(f"docs/LIBRARY.md: {results.attempted} lines of Python", "".join(said))
+    needs_library("docs/LIBRARY.md")
+    monkeypatch.setenv("DWV_LIBRARY", str(LIBRARY / "libdwv.so.0"))
+    monkeypatch.chdir(tmp_path)
+    shutil.copy(common.SAMPLE, "a.out")
+    said = []
+    test = doctest.DocTestParser().get_doctest(*blocks("docs/LIBRARY.md", "pycon"), {}, "docs/LIBRARY.md", None, 0)
+    assert doctest.DocTestRunner().run(test, out=said.append).failed == 0, "".join(said)
 
 
-def edit():
+def test_edit():
     """The edit and the control that CHANGING shows."""
     page = (TOP / "docs/CHANGING.md").read_text()
     shown = re.search(r"(?ms)^```text\n(file: .*?)^```$", page)[1]
-    tally.same("docs/CHANGING.md: the edit", shown, (TOP / EDIT.format("must-fail")).read_text())
+    assert shown == (TOP / EDIT.format("must-fail")).read_text()
     right = re.search(r"has the same shape and is right,\s+here `([^`]+)`", page)[1]
-    control = re.sub(r"(?m)^new: .*", f"new: {right}", shown)
-    tally.same("docs/CHANGING.md: its control", control, (TOP / EDIT.format("controls")).read_text())
-
-
-def main():
-    common.build()
-    console()
-    python()
-    edit()
-    return tally.end()
-
-
-if __name__ == "__main__":
-    sys.exit(main())
+    assert re.sub(r"(?m)^new: .*", f"new: {right}", shown) == (TOP / EDIT.format("controls")).read_text()

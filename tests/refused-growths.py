@@ -7,7 +7,6 @@ with all allocations after it. The script prints one line a command and ends wit
 """
 import os
 import pathlib
-import subprocess
 import sys
 
 sys.dont_write_bytecode = True

@@ -1,12 +1,11 @@
-#!/usr/bin/env python3
 """Compares the version in each file that has one with the file VERSION."""
 import re
-import sys
 
-sys.dont_write_bytecode = True
-import common
+import pytest
 from common import TOP
 
+LEAST = 11
+VERSION = (TOP / "VERSION").read_text().strip()
 PLACES = [
     ("include/dwv.h", r'#define DWV_VERSION "(.*)"'),
     ("contrib/dwv.pc", r"(?m)^Version: (.*)$"),
@@ -14,20 +13,24 @@ PLACES = [
     ("python/dwv/__init__.py", r'__version__ = "(.*)"'),
     ("rust/dwv/Cargo.toml", r'(?m)^version = "(.*)"$'),
     ("rust/dwv/Cargo.lock", r'name = "dwv"\nversion = "(.*)"'),
+    ("rust/gimli/Cargo.toml", r'(?m)^version = "(.*)"$'),
     ("docs/dwv.1", r'\.Os "dwv (.*)"'),
     ("CHANGELOG.md", r"(?m)^## (\d.*)$"),
 ]
-tally = common.Tally(9)
 
 
-def main():
-    version = (TOP / "VERSION").read_text().strip()
-    for path, pattern in PLACES:
-        found = re.search(pattern, (TOP / path).read_text())
-        tally.same(f"the version in {path}", found and found[1], version)
-    soname = re.search(r"-soname,libdwv\.so\.(\d+)", (TOP / "Makefile").read_text())
-    tally.same("the first number of the library's name", soname and soname[1], version.partition(".")[0])
-    return tally.end()
+def found(path, pattern):
+    return re.search(pattern, (TOP / path).read_text())[1]
 
 
-sys.exit(main())
+@pytest.mark.parametrize("path, pattern", PLACES, ids=[path for path, _ in PLACES])
+def test_version(path, pattern):
+    assert found(path, pattern) == VERSION
+
+
+@pytest.mark.parametrize("path, pattern", [
+    ("Makefile", r"-soname,libdwv\.so\.(\d+)"),
+    ("python/pyproject.toml", r'"libdwv\.so\.(\d+)"'),
+])
+def test_name_of_the_library(path, pattern):
+    assert found(path, pattern) == VERSION.partition(".")[0]

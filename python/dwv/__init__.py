@@ -203,7 +203,8 @@ def _loaded():
         # ctypes.CDLL releases the lock of the interpreter during a call; PyDLL would not.
         library = ctypes.CDLL(os.fspath(path))
     except OSError as error:
-        raise ImportError(f"{error}: install the library of dwv, or set DWV_LIBRARY to the path of libdwv.so.0") from None
+        what = f"{error}: install the library of dwv, or set DWV_LIBRARY to the path of libdwv.so.0"
+        raise ImportError(what) from None
     size, pointer = ctypes.c_size_t, ctypes.POINTER
     library.dwv_check.argtypes = [ctypes.c_char_p, size, pointer(_Verdict)]
     library.dwv_check_sections.argtypes = [ctypes.c_char_p, size] * 6 + [pointer(_Verdict)]

@@ -31,57 +31,73 @@ macro_rules! rules {
 }
 
 rules! {
-    E1 TooLarge "the file or a section is over the limit."
-    E2 NotElf64 "no ELF64 file in little-endian order."
-    E3 NotLinked "neither a program nor a shared library."
-    E4 SectionTable "the section headers are missing or malformed."
-    E5 SectionName "the name of a section can't be read."
-    E6 SectionRange "a section passes the end of the file."
-    E7 Compressed "a section is compressed."
-    E8 SectionTwice "two sections have one name."
-    E9 NoInfo "there is no .debug_info."
-    E10 NoBits "a section has no bytes in the file."
-    A1 AbbrevCut "an abbreviation declaration is cut."
-    A2 AbbrevNumber "a number of a declaration is malformed."
-    A3 CodeTwice "a table has a code twice."
-    A4 BadTag "the tag is 0 or above 0xffff."
-    A5 BadChildren "the byte on children is neither 0 nor 1."
-    A6 BadPair "an attribute or a form is 0, or the attribute is above 0xffff."
-    A7 UnknownForm "the form is unknown."
+    E1 TooLarge "the file has more than 4,294,967,296 bytes, or one of the six sections has more than \
+        1,073,741,824."
+    E2 NotElf64 "the file has fewer than 64 bytes, or the first seven are not those of a 64-bit little-endian ELF \
+        file of version 1."
+    E3 NotLinked "the file is neither an executable (type 2) nor a shared object (type 3)."
+    E4 SectionTable "there are no section headers, they do not have 64 bytes each, they pass the file's end, or \
+        the section of names is missing: its number is 0 or not that of a header, or it has type 8 or passes the \
+        file's end."
+    E5 SectionName "the name of a section starts outside the section of names, or no zero byte ends it there."
+    E6 SectionRange "one of the six sections passes the file's end."
+    E7 Compressed "one of the six sections is compressed (its flags have 0x800), or the name of a section starts \
+        with `.zdebug_`."
+    E8 SectionTwice "one of the six sections has the name of an earlier one."
+    E9 NoInfo "no section is named `.debug_info`."
+    E10 NoBits "one of the six sections has no bytes in the file (type 8)."
+    A1 AbbrevCut "a part of a declaration, or the end of the table, passes the end of `.debug_abbrev`."
+    A2 AbbrevNumber "a number in a table has more than 10 bytes or more than 64 bits."
+    A3 CodeTwice "an earlier declaration of the table has the code."
+    A4 BadTag "a tag is 0 or above 0xffff."
+    A5 BadChildren "the byte that says whether there are children is neither 0 nor 1."
+    A6 BadPair "one of an attribute and its form alone is 0, or the attribute is above 0xffff."
+    A7 UnknownForm "no form has the code."
     A8 AttributeTwice "a declaration has an attribute twice."
-    U1 UnitCut "a unit is cut."
-    U2 Not32Bit "a unit is in the 64-bit format."
+    U1 UnitCut "a unit passes the end of `.debug_info`, or its header passes the unit's end."
+    U2 Not32Bit "the unit's length is 0xfffffff0 or more, which means 64-bit DWARF or is reserved."
     U3 BadVersion "the version is neither 4 nor 5."
-    U4 BadUnitType "no compile, type or partial unit."
+    U4 BadUnitType "the type of a unit of version 5 is not compile (1), type (2) or partial (3)."
     U5 BadAddressSize "an address has neither 4 nor 8 bytes."
-    U6 BadAbbrevOffset "the abbreviation table is outside its section."
-    U7 NoUnitEntry "a unit has no entry."
-    U8 WrongUnitTag "the first entry has another tag than the unit's type."
-    U9 LeftOver "something follows the tree of a unit."
-    G1 UndeclaredCode "an entry's code is not declared."
+    U6 BadAbbrevOffset "no byte of `.debug_abbrev` is at the table's offset."
+    U7 NoUnitEntry "a null or nothing is in place of the unit's first entry."
+    U8 WrongUnitTag "the first entry's tag is not the one of the unit's type."
+    U9 LeftOver "something other than nulls follows the unit's tree."
+    G1 UndeclaredCode "the unit's table has no declaration with the code."
     G2 Cut "a code or a value passes the unit's end."
-    G3 BadNumber "a number is malformed."
-    G4 BadIndirect "an indirect value names no permitted form."
-    G5 FormVersion "a form of version 5 in a unit of version 4."
-    K1 WrongClass "a value has a class that its attribute may not have."
-    S1 BadStrBase "the base of string offsets has no valid header."
-    S2 StrIndex "the index of a string has no slot."
-    S3 StringEnd "a string is outside its section, or does not end in it."
-    S4 BadAddrBase "the base of addresses has no valid header."
-    S5 AddrIndex "the index of an address has no slot."
-    R1 NoEntry "a reference refers to no entry."
-    R2 WrongKind "a reference refers to an entry of another kind."
-    R3 NotNextSibling "a sibling attribute does not refer to the next sibling."
+    G3 BadNumber "a code, or a number in a value, has more than 10 bytes or more than 64 bits."
+    G4 BadIndirect "an indirect value names no form, a form that it may not name, or a form that the unit's \
+        version does not have."
+    G5 FormVersion "the unit has version 4, and version 4 does not have the form of an attribute."
+    K1 WrongClass "the value has none of the classes that the attribute may have."
+    S1 BadStrBase "the header before the unit's base in `.debug_str_offsets` is malformed, or the unit names no \
+        base and has an indexed string."
+    S2 StrIndex "the index of a string is not below the number of slots of the unit's contribution to \
+        `.debug_str_offsets`."
+    S3 StringEnd "a string starts outside its section, or no zero byte ends it there."
+    S4 BadAddrBase "the header before the unit's base in `.debug_addr` is malformed, or the unit names no base and \
+        has an indexed address."
+    S5 AddrIndex "the index of an address is not below the number of slots of the unit's contribution to \
+        `.debug_addr`."
+    R1 NoEntry "no entry starts at the offset that a reference refers to, in its unit or, in form ref_addr, in \
+        `.debug_info`."
+    R2 WrongKind "a reference has a form that its attribute does not permit, or refers to an entry of a kind that \
+        it does not permit."
+    R3 NotNextSibling "a sibling attribute refers to another entry than the next sibling, or there is no next \
+        sibling."
     R4 NoSignature "no type unit has the signature."
-    R5 SignatureTwice "two type units have one signature."
-    R6 BadTypeOffset "the type offset of a unit refers to no type."
-    Y1 MissingType "an array or a member has no type."
-    Y2 BadCount "a dimension has a count below 0."
+    R5 SignatureTwice "an earlier type unit has the signature."
+    R6 BadTypeOffset "no type of the type unit starts at its type offset."
+    Y1 MissingType "an array or a plain member has neither a type nor a DW_AT_specification nor a \
+        DW_AT_abstract_origin."
+    Y2 BadCount "a dimension has a known count below 0."
     C1 ContainsItself "a type contains itself by value."
-    Z1 NoSize "nothing gives the size of a type."
+    Z1 NoSize "a base type, or a structure or union that is not declared, has no size; or a byte size that is \
+        read, or the stride of an array without a byte size, is negative."
     Z2 SizeTooGreat "a size is 2^63 or more."
-    Z3 MemberOutside "a member ends outside its structure."
-    Z4 EnumSize "nothing gives the size of an enumeration, or two sizes differ."
+    Z3 MemberOutside "a plain member ends outside its structure or union."
+    Z4 EnumSize "an enumeration that is not declared has neither a byte size nor a type nor a DW_AT_specification \
+        nor a DW_AT_abstract_origin, or its byte size is not the size of its type."
 }
 
 impl Rule {
