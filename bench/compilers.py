@@ -11,6 +11,7 @@ import re
 import shutil
 import subprocess
 import sys
+import textwrap
 
 sys.dont_write_bytecode = True
 sys.path.insert(0, str(pathlib.Path(__file__).resolve().parent.parent / "tests"))
@@ -129,6 +130,16 @@ begin
 end.
 """,
     "list.d": "import std.stdio;\nstruct S { int[] a; string b; }\nvoid main() { S s; s.a ~= 1; writeln(s); }\n",
+    "areas.hs": """module Main where
+data Shape = Circle Double | Square Double deriving Show
+area :: Shape -> Double
+area (Circle r) = r * r
+area (Square s) = s * s
+main :: IO ()
+main = print (map area [Circle 1, Square 2])
+""",
+    "joined.ml": "let () = print_endline (String.concat \",\" (List.map string_of_int [1; 2]))\n",
+    "colours.cr": "enum Colour\n  Red\n  Green\nend\nputs Colour::Red\n",
     "start.s": """        .globl _start
         .text
 _start: mov $60, %eax
@@ -170,6 +181,8 @@ COMPILED = [
     ("Go", "go build", "list.go"), ("Go", "go build -ldflags=-compressdwarf=false", "list.go"),
     ("D", "gdc -gdwarf-5", "list.d"),
     ("Pascal", "fpc -v0 -gw4", "sets.pas"), ("Pascal", "fpc -v0 -gw3", "sets.pas"),
+    ("C", "tcc -g", "named.c"), ("Haskell", "ghc -g", "areas.hs"), ("OCaml", "ocamlopt -g", "joined.ml"),
+    ("Crystal", "crystal build", "colours.cr"), ("Crystal", "crystal build --debug", "colours.cr"),
 ]
 # What is said of a refused type.
 REFUSED = re.compile(r"/\* 0x[0-9a-f]{8} (P\d) \w+ \*/")
@@ -217,7 +230,7 @@ def shared(dwv, folder):
 def known(text):
     """The rows of the table as it was, by their first two cells, and the versions of the tools above it."""
     kept = {tuple(line.split(" | ")[:2]): line for line in text.splitlines() if line.startswith("| ")}
-    return kept, dict(re.findall(r"(\S+) (\d+(?:\.\d+)+)", text.partition("|")[0]))
+    return kept, dict(re.findall(r"(\S+)\s(\d+(?:\.\d+)+)", text.partition("|")[0]))
 
 
 def main():
@@ -257,7 +270,8 @@ def main():
     if absent:
         about += f" Not installed, or not able to: {', '.join(sorted(absent))}."
     head = ["| Language | Command | `dwv check` | `dwv types` | Why, and what to do |", "|---|---|---|---|---|"]
-    common.rewrite(PAGE, [about, "", *head, *table])
+    lines = textwrap.wrap(about, 120, break_on_hyphens=False)
+    common.rewrite(PAGE, [*lines, "", *head, *table])
 
 
 if __name__ == "__main__":
