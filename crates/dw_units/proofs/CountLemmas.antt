@@ -1,49 +1,28 @@
--- One unit alone among the sections, and one more unit after those so far.
-use Rattle.std.proofs.Common.{rules, ◌≡◌, ℕ, ◌+◌, suc, ◌<◌, ◌≤◌, true, false, List, [], ◌∷◌, ◌++◌, length, map, take, drop, Option, Some, None, Result, Ok, Err, IfOk, IfSome, Bor, refl, sym, ap, subst, ◌∙◌, arith, append_assoc, append-nil, length-append, take-append-drop}
-use Rattle.std.specs.Prelude.{slice_get, cond}
+-- One more unit after those so far: what is known of them then, and after the last one.
+use Rattle.std.proofs.Common.{rules, ◌≡◌, ℕ, ◌+◌, suc, ◌<◌, ◌≤◌, true, false, List, [], ◌∷◌, ◌++◌, length, map, take, drop, Option, Some, None, Result, Ok, Err, IfOk, IfSome, refl, sym, ap, subst, ◌∙◌, arith, append_assoc, append-nil, length-append, take-append-drop}
+use Rattle.std.specs.Prelude.{cond}
 use Rattle.std.specs.List.{AllByRecursion, count_by}
 use Rattle.std.proofs.lemmas.List.Sums.{sum_by-append, sum_by-cons}
 use Rattle.std.proofs.lemmas.Grind.{flat_map-append}
 use Rattle.std.proofs.lemmas.List.{length-map, length-take-le}
 use Rattle.std.proofs.lemmas.Bool.{ltb-true, ltb-false}
 use Rattle.dw_elf.specs.declared.sections.Sections.{Sections}
-use Rattle.dw_forms.specs.Value.{Datum}
-use Rattle.dw_forms.specs.Codes.{DW_AT_str_offsets_base, DW_AT_addr_base}
-use Rattle.dw_entries.specs.declared.header.UnitHeader.{UnitHeader}
-use Rattle.dw_entries.specs.declared.fault.Rule.{Rule}
-use Rattle.dw_entries.specs.declared.lookup.EntryHead.{EntryHead}
 use Rattle.dw_entries.specs.Units.{DebugUnit, IsUnit, unit_bytes, units_bytes}
 use Rattle.dw_entries.specs.Header.{header_size}
-use Rattle.dw_entries.specs.Entries.{Entry, node_count, node_entries, entries_from, entries_of, PlacedUnit, placed}
-use Rattle.dw_entries.specs.Failures.{Failure, HasNone, broken_of, IsPlainFault}
+use Rattle.dw_entries.specs.Entries.{Entry, node_count, node_entries, entries_from, entries_of}
+use Rattle.dw_entries.specs.Failures.{HasNone, broken_of, IsPlainFault}
 use Rattle.dw_entries.specs.Faults.{Fails}
 use Rattle.dw_entries.proofs.HeadLaws.{all-append}
-use Rattle.dw_links.specs.Bases.{base_in}
-use Rattle.dw_entries.specs.Lookups.{entry_head}
-use Rattle.dw_links.specs.Strings.{StringIndexFails, AddressIndexFails, BaseFails, StringFailsIn, StringFailures}
 use Rattle.dw_units.specs.declared.counting.Counts.{Counts}
-use Rattle.dw_image.specs.declared.image.Image.{Image}
 use Rattle.dw_image.specs.Lookups.{is_type_entry}
-use Rattle.dw_entries.specs.Views.{all_entries, units_of}
-use Rattle.dw_entries.specs.declared.entries.Entries.{Entries}
-use Rattle.dw_image.specs.Images.{sections_in}
-use Rattle.dw_image.specs.Headline.{IsImageOf}
-use Rattle.dw_image.specs.Valid.{IsValidBy}
 use Rattle.dw_image.proofs.JoinLemmas.{sound_by}
-use Rattle.dw_entries.specs.Asked.{EachEntry}
-use Rattle.dw_links.specs.Signatures.{type_in}
-use Rattle.dw_entries.specs.Units.{Spells}
 use Rattle.dw_entries.specs.Rules.{group_of}
 use Rattle.dw_entries.specs.declared.fault.Fault.{Fault}
 use Rattle.dw_entries.specs.declared.fault.Broken.{Broken}
-use Rattle.dw_entries.specs.Views.{sections_of}
-use Rattle.dw_entries.proofs.FaultLaws.{no_list}
 use Rattle.dw_types.specs.FactsOf.{facts_in}
-use Rattle.dw_image.specs.Valid.{SpellsInfo}
-use Rattle.dw_image.specs.First.{Group, classes, strings, references, shapes, cycles, sizes, turn_of, failures_of, IsFirstIn, IsFirstFault, FailsInTrees, in_trees, in_group}
+use Rattle.dw_image.specs.First.{Group, classes, strings, references, shapes, cycles, sizes, turn_of, failures_of, FailsInTrees, in_trees}
 use Rattle.dw_image.specs.Headline.{IsFaultOf}
 use Rattle.dw_image.proofs.MeasureLemmas.{no_cycle_holds}
-use Rattle.dw_image.proofs.GroupLaws.{has_group}
 use Rattle.dw_image.proofs.JoinLemmas.{fault_of}
 use Rattle.dw_units.specs.declared.counting.SoFar.{SoFar}
 use Rattle.dw_units.specs.ByUnit.{StaysAlone, IsMoved, moved_broken, PassesBelow, PassesThrough, IsMeasured}
@@ -51,16 +30,15 @@ use Rattle.dw_units.specs.Parts.{IsWhole, IsFoundAt, IsFaultAlone, HasLeast, Are
 use Rattle.dw_units.proofs.TreeLemmas.{trees_first, fails_with_more}
 use Rattle.dw_units.proofs.TextLemmas.{each_of}
 use Rattle.dw_units.proofs.GroupLemmas.{first_by_unit}
-use Rattle.dw_units.specs.Alone.{StaysInside, StandsAlone}
-use Rattle.dw_units.specs.Parts.{IsOneAlone, IsAlone}
+use Rattle.dw_units.specs.Alone.{StandsAlone}
+use Rattle.dw_units.specs.Parts.{IsAlone}
 use Rattle.dw_units.specs.Counted.{AreCounts, IsFound}
 use Rattle.dw_units.specs.declared.counting.Found.{Found}
 use Rattle.dw_units.specs.declared.counting.Found.TheVariants as found
 use Rattle.dw_types.specs.declared.numbers.NoMemory.{NoMemory}
-use Rattle.dw_forms.specs.declared.fault.Stop.{Stop}
-use Rattle.dw_entries.specs.Stopped.{IfPlainFault}
 use Rattle.dw_units.proofs.MovedEntries.{moved, unit_moved}
 use Rattle.dw_units.proofs.JoinLemmas.{none_by_table, join}
+use Rattle.dw_units.proofs.AloneLemmas.{one_unit}
 
 -- ---- the counts of one unit more
 
@@ -78,197 +56,6 @@ entries_more unit id at (v ∷ us) u =
       ap (λ (xs : List Entry). es ++ xs) same
           ∙ sym (append_assoc es (entries_from (suc unit) (id + node_count v.root) (at + length (unit_bytes v)) us) (map (moved n first place) (entries_of (u ∷ [])))),
     )
-
-one_unit : (us : List DebugUnit) → length us ≡ 1 → (u : DebugUnit) × (us ≡ u ∷ [])
-one_unit [] is = absurd (omega (arith, is))
-one_unit (u ∷ []) is = (u, refl)
-one_unit (u ∷ v ∷ us) is = absurd (omega (arith, is))
-
-pub one_alone : (entries : Entries) → length (units_of entries) ≡ 1
-    → ((p : PlacedUnit) → slice_get (placed (units_of entries)) 0 ≡ Some p → type_in p.unit.header.kind ≡ None)
-    → EachEntry StaysInside (all_entries entries) → IsOneAlone entries
-one_alone entries one kind stays =
-    let (u, is) = one_unit (units_of entries) one in
-    record {
-      unit = u;
-      one = is;
-      no_type_unit = kind (record { at = 0; first = 0; unit = u }) (ap (λ (us : List DebugUnit). slice_get (placed us) 0) is);
-      stays = stays;
-    }
-
--- ---- the rules on strings of two sections that differ in .debug_info alone
-
-pub record Shares (s own : Sections) : Type 0 where
-  pub abbrev_same : own.«abbrev».now ≡ s.«abbrev».now
-  pub str_same : own.str.now ≡ s.str.now
-  pub line_str_same : own.line_str.now ≡ s.line_str.now
-  pub str_offsets_same : own.str_offsets.now ≡ s.str_offsets.now
-  pub addr_same : own.addr.now ≡ s.addr.now
-
-module _ (s own : Sections) (shares : Shares s own) where
-  string_index_in : (base : Option ℕ) (index : ℕ) (rule : Rule) → StringIndexFails s base index rule → StringIndexFails own base index rule
-  string_index_in base index rule fails = search rules
-
-  address_index_in : (header : UnitHeader) (base : Option ℕ) (index : ℕ) (rule : Rule) → AddressIndexFails s header base index rule → AddressIndexFails own header base index rule
-  address_index_in header base index rule fails = search rules
-
-  base_in_own : (header : UnitHeader) (attribute base : ℕ) (rule : Rule) → BaseFails s header attribute base rule → BaseFails own header attribute base rule
-  base_in_own header attribute base rule is = search rules
-
-  string_in_own : (header : UnitHeader) (texts addresses : Option ℕ) (head : EntryHead) (attribute : ℕ) (v : Datum) (rule : Rule)
-      → StringFailsIn s header texts addresses head attribute v rule → StringFailsIn own header texts addresses head attribute v rule
-  string_in_own header texts addresses head attribute v rule fails = search (rules, string_index_in, address_index_in, base_in_own)
-
-  strings_own : (us : List DebugUnit) (f : Failure) → StringFailures s us f → StringFailures own us f
-  strings_own us f fails = record {
-    number = fails.number;
-    item = fails.item;
-    is_item = fails.is_item;
-    fails = record {
-      position = fails.fails.position;
-      value = fails.fails.value;
-      has = fails.fails.has;
-      place = fails.fails.place;
-      fails = record {
-        unit = fails.fails.fails.unit;
-        in_unit = fails.fails.fails.in_unit;
-        fails = string_in_own fails.fails.fails.unit.unit.header (base_in (entries_of us) fails.fails.fails.unit DW_AT_str_offsets_base)
-            (base_in (entries_of us) fails.fails.fails.unit DW_AT_addr_base) (entry_head fails.item) f.attribute fails.fails.value f.rule fails.fails.fails.fails;
-      };
-    };
-  }
-
-pub shares_by : (s own : Sections) → own.«abbrev» ≡ s.«abbrev» → own.str ≡ s.str → own.line_str ≡ s.line_str → own.str_offsets ≡ s.str_offsets
-    → own.addr ≡ s.addr → Shares s own
-shares_by s own a b c d e = record {
-  abbrev_same = ap (λ (bytes : Bor (List ℕ)). bytes.now) a;
-  str_same = ap (λ (bytes : Bor (List ℕ)). bytes.now) b;
-  line_str_same = ap (λ (bytes : Bor (List ℕ)). bytes.now) c;
-  str_offsets_same = ap (λ (bytes : Bor (List ℕ)). bytes.now) d;
-  addr_same = ap (λ (bytes : Bor (List ℕ)). bytes.now) e;
-}
-
-shares_back : (s own : Sections) → Shares s own → Shares own s
-shares_back s own shares = record {
-  abbrev_same = sym shares.abbrev_same;
-  str_same = sym shares.str_same;
-  line_str_same = sym shares.line_str_same;
-  str_offsets_same = sym shares.str_offsets_same;
-  addr_same = sym shares.addr_same;
-}
-
--- a group that fails at a unit has its rank by the rule that is named
-rank_of : (s : Sections) (us : List DebugUnit) (group : Group) (fault : Fault) → IsFirstIn s us group fault → group_of fault.rule ≡ turn_of group
-rank_of s us cycles fault first = ap (λ (b : Broken). group_of b.rule) first.named
-rank_of s us classes fault first = ap group_of first.holds.named.rule ∙ has_group s us classes first.holds.failure first.holds.fails
-rank_of s us strings fault first = ap group_of first.holds.named.rule ∙ has_group s us strings first.holds.failure first.holds.fails
-rank_of s us references fault first = ap group_of first.holds.named.rule ∙ has_group s us references first.holds.failure first.holds.fails
-rank_of s us shapes fault first = ap group_of first.holds.named.rule ∙ has_group s us shapes first.holds.failure first.holds.fails
-rank_of s us sizes fault first = ap group_of first.holds.named.rule ∙ has_group s us sizes first.holds.failure first.holds.fails
-
-module _ (s own : Sections) (shares : Shares s own) where
-  measured_by : (group : Group) (fault : Fault) (u : DebugUnit) → IsFirstIn s (u ∷ []) group fault → IsMeasured group u
-  measured_by sizes fault u first = (first.holds.fails.table, first.holds.fails.one)
-  measured_by classes fault u first = tt
-  measured_by strings fault u first = tt
-  measured_by references fault u first = tt
-  measured_by shapes fault u first = tt
-  measured_by cycles fault u first = tt
-
-  -- the groups ask the same of both
-  none_own : (us : List DebugUnit) (group : Group) → HasNone (failures_of own us group) → HasNone (failures_of s us group)
-  none_own us strings none = λ f fails. none f (strings_own s own shares us f fails)
-  none_own us classes none = none
-  none_own us references none = none
-  none_own us shapes none = none
-  none_own us cycles none = none
-  none_own us sizes none = none
-
-  first_own : (us : List DebugUnit) (group : Group) (fault : Fault) → IsFirstIn own us group fault → IsFirstIn s us group fault
-  first_own us strings fault first = record {
-    holds = record {
-      failure = first.holds.failure;
-      fails = strings_own own s (shares_back s own shares) us first.holds.failure first.holds.fails;
-      named = first.holds.named;
-      first = λ g fails precedes. first.holds.first g (strings_own s own shares us g fails) precedes;
-    };
-    cycle = first.cycle;
-  }
-  first_own us classes fault first = first
-  first_own us references fault first = first
-  first_own us shapes fault first = first
-  first_own us cycles fault first = first
-  first_own us sizes fault first = first
-
-  -- the image of one unit as sections of its own
-  pub alone_of : (entries : Entries) (image : Image) (part : List ℕ) (c : Counts) → own.info.now ≡ part → sections_of entries ≡ own
-      → ((units : List DebugUnit) → Spells own.«abbrev».now units own.info.now → units ≡ units_of entries)
-      → IsImageOf (sections_of entries) image → IsOneAlone entries → AreCounts (sections_in image) c → IsAlone s part c
-  alone_of entries image part c info of_own only is_scanned one of_image =
-      let is = subst (λ (t : Sections). IsImageOf t image) of_own is_scanned in
-      let sound = is.sound in
-      let units_same : sound.valid.0 ≡ one.unit ∷ [] = only sound.valid.0 sound.valid.1.trees ∙ one.one in
-      let valid = subst (IsValidBy own) units_same sound.valid.1 in
-      let counts = subst (λ (t : Sections). AreCounts t c) is.sections of_image in
-      let units_are : counts.units ≡ one.unit ∷ [] = only counts.units counts.sound.trees.spelled ∙ one.one in
-      record {
-        unit = one.unit;
-        alone = record {
-          is_unit = subst (λ (a : List ℕ). IsUnit a one.unit) shares.abbrev_same valid.trees.are.0;
-          classes = valid.classes;
-          strings = none_own (one.unit ∷ []) strings valid.strings;
-          references = valid.references;
-          shapes = valid.shapes;
-          contained = valid.contained;
-          sizes = valid.sizes;
-          no_type_unit = one.no_type_unit;
-          stays = subst (λ (us : List DebugUnit). EachEntry StaysInside (entries_of us)) one.one one.stays;
-        };
-        bytes = sym info ∙ valid.trees.parts ∙ append-nil (unit_bytes one.unit);
-        unit_count = counts.unit_count ∙ ap length units_are;
-        entry_count = counts.entry_count ∙ ap (λ (us : List DebugUnit). length (entries_of us)) units_are;
-        type_count = counts.type_count ∙ ap (λ (us : List DebugUnit). count_by is_type_entry (entries_of us)) units_are;
-      }
-
-  -- the fault of trees in sections of their own
-  pub trees_own : (part : List ℕ) (stop : Stop Fault) → own.info.now ≡ part → IfPlainFault (Fails own.«abbrev».now own.info.now) stop
-      → IfPlainFault (Fails s.«abbrev».now part) stop
-  trees_own part stop info fails =
-      subst (λ (xs : List ℕ). IfPlainFault (Fails xs part) stop) shares.abbrev_same
-      (subst (λ (xs : List ℕ). IfPlainFault (Fails own.«abbrev».now xs) stop) info fails)
-
-  -- the fault of one unit as sections of its own
-  pub fault_alone_of : (entries : Entries) (part : List ℕ) (fault : Fault) → own.info.now ≡ part → sections_of entries ≡ own
-      → ((units : List DebugUnit) → Spells own.«abbrev».now units own.info.now → units ≡ units_of entries)
-      → IsOneAlone entries → IsFaultOf (sections_of entries) fault → IsFaultAlone s part fault
-  fault_alone_of entries part fault info of_own only one is =
-      let spells = subst (λ (t : Sections). SpellsInfo t (units_of entries)) of_own entries.scanned.1.spells in
-      let spelled = subst (λ (us : List DebugUnit). SpellsInfo own us) one.one spells in
-      let first = subst (λ (t : Sections). IsFirstFault t fault) of_own is.first in
-      go spelled first
-    where
-      go : SpellsInfo own (one.unit ∷ []) → IsFirstFault own fault → IsFaultAlone s part fault
-      go spelled (in_trees fails cycle) = absurd (no_list own.«abbrev».now own.info.now (one.unit ∷ []) (broken_of fault) spelled fails)
-      go spelled (in_group group fails) =
-          let same : fails.units ≡ one.unit ∷ [] = only fails.units fails.spelled ∙ one.one in
-          let before = subst (λ (us : List DebugUnit). (earlier : Group) → turn_of earlier < turn_of group → HasNone (failures_of own us earlier)) same fails.before in
-          let first = subst (λ (us : List DebugUnit). IsFirstIn own us group fault) same fails.first in
-          record {
-            unit = one.unit;
-            stays = record {
-              is_unit = subst (λ (a : List ℕ). IsUnit a one.unit) shares.abbrev_same spelled.are.0;
-              no_type_unit = one.no_type_unit;
-              stays = subst (λ (us : List DebugUnit). EachEntry StaysInside (entries_of us)) one.one one.stays;
-            };
-            bytes = sym info ∙ spelled.parts ∙ append-nil (unit_bytes one.unit);
-            group = group;
-            fails = record {
-              below = λ earlier less. none_own (one.unit ∷ []) earlier (before earlier less);
-              first = first_own (one.unit ∷ []) group fault first;
-            };
-            measured = measured_by group fault one.unit (first_own (one.unit ∷ []) group fault first);
-            rank = rank_of s (one.unit ∷ []) group fault (first_own (one.unit ∷ []) group fault first);
-          }
 
 -- ---- one unit more
 

@@ -11,4 +11,5 @@ pub mod WindowSizes
 pub mod JoinLemmas
 pub mod GroupLemmas
 pub mod FormLemmas
+pub mod AloneLemmas
 pub mod CountLemmas

@@ -3,7 +3,7 @@ use Rattle.std.specs.Bool.{OnTrue}
 use Rattle.dw_entries.specs.declared.lookup.UnitHead.{UnitHead}
 use Rattle.dw_entries.specs.Lookups.{unit_head}
 use Rattle.dw_links.specs.Signatures.{type_in}
-use Rattle.dw_units.proofs.CountLemmas.{one_alone}
+use Rattle.dw_units.proofs.AloneLemmas.{one_alone}
 use Rattle.dw_units.proofs.alone.is_one_alone.Goals as goal
 
 pub unit-unit-requires : goal.unit-unit-requires

@@ -1,6 +1,6 @@
 use Rattle.std.proofs.Common.{ap, List, ℕ, Bor}
 use Rattle.std.proofs.lemmas.Result.{err_from_is_err_and}
-use Rattle.dw_units.proofs.CountLemmas.{shares_by, alone_of, trees_own, fault_alone_of}
+use Rattle.dw_units.proofs.AloneLemmas.{shares_by, alone_of, trees_own, fault_alone_of}
 use Rattle.dw_units.proofs.alone.verify_alone.Goals as goal
 
 pub returns-in_err-entries-clause-fault : goal.returns-in_err-entries-clause-fault
